@@ -1,0 +1,63 @@
+//! An exchange, from its receipt to its place in the archive.
+use crate::{Bytes, Text};
+
+/// The SHA-1 digest of a payload (FIPS 180-4).
+pub type Digest = [u8; 20];
+
+/// An exchange as it was received, to be stored.
+#[derive(Debug, PartialEq, Eq, Drop)]
+pub struct Taken {
+    /// The request's method.
+    pub method: Text,
+    /// The target that the client sent, in absolute form.
+    pub uri: Text,
+    /// When it was fetched, by the one clock answer of the exchange.
+    pub date: u64,
+    /// The message that was sent to the origin.
+    pub request: Bytes,
+    /// The origin's response up to and including its first empty line.
+    pub head: Bytes,
+    /// The response's body as it stood on the wire.
+    pub wire: Bytes,
+}
+
+/// What a capture keeps of its body.
+#[derive(Debug, PartialEq, Eq, Drop)]
+pub enum Kept {
+    /// The body as it stood on the wire.
+    Wire(Bytes),
+    /// Nothing: its payload is that of the capture with this number, which keeps its wire.
+    Same(u32),
+}
+
+/// A capture in an archive.
+#[derive(Debug, PartialEq, Eq, Drop)]
+pub struct Stored {
+    /// The request's method.
+    pub method: Text,
+    /// The target that the client sent, in absolute form.
+    pub uri: Text,
+    /// When it was fetched.
+    pub date: u64,
+    /// The message that was sent to the origin.
+    pub request: Bytes,
+    /// The origin's response up to and including its first empty line.
+    pub head: Bytes,
+    /// The body, or the capture that has its payload.
+    pub kept: Kept,
+}
+
+/// A capture as it is replayed.
+#[derive(Debug, PartialEq, Eq, Drop)]
+pub struct Brought {
+    /// The request's method.
+    pub method: Text,
+    /// The target that the client sent, in absolute form.
+    pub uri: Text,
+    /// When it was fetched.
+    pub date: u64,
+    /// The origin's response up to and including its first empty line.
+    pub head: Bytes,
+    /// The body without its transfer coding.
+    pub payload: Bytes,
+}
