@@ -1,0 +1,10 @@
+//! Tables of names that are looked up with ASCII case ignored, and a macro for tables of an enum's
+//! variants.
+#![tactic(auto)]
+
+mod header_fields;
+mod match_rows;
+mod table;
+
+pub use header_fields::{hop, kept};
+pub use table::NameTable;

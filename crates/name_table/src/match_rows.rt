@@ -1,0 +1,35 @@
+/// Gives the row of an enum's value in a table with one row for each variant, whatever its fields.
+///
+/// `match_rows!(fault, Fault; Closed => "closed", Full | Late => "busy")` is a `match`, so a variant
+/// with no row doesn't compile. It takes a value or a reference.
+#[macro_export]
+macro_rules! match_rows {
+    ($value:expr, $name:ident; $($($variant:ident)|+ => $row:expr),+ $(,)?) => {
+        match $value {
+            $($($name::$variant { .. })|+ => $row,)+
+        }
+    };
+}
+
+#[cfg(test)]
+mod tests {
+    enum Fault {
+        Closed,
+        Full { count: u32, limit: u32 },
+        Late(u64),
+    }
+
+    fn status(fault: &Fault) -> (u16, &'static str) {
+        match_rows!(fault, Fault;
+            Closed => (502, "Bad Gateway"),
+            Full | Late => (507, "Insufficient Storage"),
+        )
+    }
+
+    #[test]
+    fn gives_the_row_of_a_variant(rt: HostRuntime) {
+        assert_eq!(rt; status(&Fault::Closed), (502, "Bad Gateway"));
+        assert_eq!(rt; status(&Fault::Full { count: 3, limit: 3 }).0, 507);
+        assert_eq!(rt; status(&Fault::Late(1)).0, 507);
+    }
+}
