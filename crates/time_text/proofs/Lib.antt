@@ -1,0 +1,9 @@
+pub mod BlankLemmas
+pub mod Dates
+pub mod Days
+pub mod DigitLemmas
+pub mod Earliest
+pub mod HttpLemmas
+pub mod Laws
+pub mod Moments
+pub mod WarcLemmas

@@ -1,0 +1,9 @@
+use Rattle.std.proofs.Common.{refl}
+use Rattle.time_text.specs.Texts.{warc_date}
+use Rattle.time_text.proofs.warc.write_warc.Goals as goal
+
+pub returns : goal.returns
+unfolding warc_date
+returns c =
+    let shown = c.in_ok-civil.ensures.value in
+    (shown.0, rw (← shown.1, c.digits_of.ensures, c.digits_of-2.ensures, c.digits_of-3.ensures, c.digits_of-4.ensures, c.digits_of-5.ensures, c.digits_of-6.ensures, c.digits_of-7.ensures) refl)

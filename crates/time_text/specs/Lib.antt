@@ -1,0 +1,4 @@
+pub mod Calendar
+pub mod Texts
+pub mod Blanks
+pub mod Reading
