@@ -1,0 +1,14 @@
+pub mod Calls
+pub mod Dialer
+pub mod Echo
+pub mod EchoDialer
+pub mod EchoLink
+pub mod Gate
+pub mod Link
+pub mod MemoryClock
+pub mod MemoryDialer
+pub mod MemoryGate
+pub mod MemoryLink
+pub mod MemorySink
+pub mod Records
+pub mod Source

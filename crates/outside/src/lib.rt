@@ -1,0 +1,35 @@
+//! The world outside the proxy: its clients, origins, clock and output, each with a count of faults.
+#![tactic(auto)]
+
+mod calls;
+mod clock;
+mod dialer;
+mod echo;
+mod echo_dialer;
+mod echo_link;
+mod gate;
+mod link;
+mod memory_clock;
+mod memory_dialer;
+mod memory_gate;
+mod memory_link;
+mod memory_sink;
+mod records;
+mod sink;
+mod source;
+#[cfg(test)]
+mod tests;
+
+pub use capture::Failed;
+pub use clock::Clock;
+pub use dialer::{DialError, Dialer, Transcript};
+pub use echo_dialer::EchoDialer;
+pub use echo_link::EchoLink;
+pub use gate::{Accepted, Gate, Heard};
+pub use link::Link;
+pub use memory_clock::MemoryClock;
+pub use memory_dialer::MemoryDialer;
+pub use memory_gate::MemoryGate;
+pub use memory_link::MemoryLink;
+pub use memory_sink::MemorySink;
+pub use sink::Sink;
