@@ -1,0 +1,3 @@
+mod Pending
+mod Steps
+mod Stops

@@ -1,0 +1,9 @@
+pub mod Changes
+pub mod ChangesLaws
+pub mod Crash
+pub mod CrashLaws
+pub mod Device
+pub mod Image
+pub mod ImageLaws
+pub mod Moments
+pub mod Synced

@@ -1,0 +1,99 @@
+//! Which changes of a record are durable, found in one pass from its end.
+ghost use Rattle.std.specs.Prelude.{◌≡◌, ◌||◌, ◌&&◌, ◌==◌, ℕ, List, [], ◌∷◌, false, get_or, IfOk, OnOk};
+ghost use Rattle.disk_model.specs.Changes.{is_kind, is_pending, pending_of};
+ghost use Rattle.disk_model.specs.Synced.{is_marked, Marks};
+ghost use Rattle.disk_model.specs.declared.change.Change.{Change};
+ghost use Rattle.disk_model.specs.declared.kind.Kind.{Kind};
+
+use crate::Kind;
+use crate::change::Change;
+use capture::Memory;
+use std::alloc::Global;
+
+/// The files that are synced by the changes seen so far, by their numbers.
+#[derive(Drop)]
+pub struct Synced {
+    warc: Vec<bool>,
+    cdxj: Vec<bool>,
+}
+
+impl Synced {
+    fn none(alloc: Global) -> Synced
+        ensures { Marks result [] }
+    {
+        Synced {
+            warc: Vec::new(alloc),
+            cdxj: Vec::new(alloc),
+        }
+    }
+
+    fn has(&self, kind: Kind, file: u32) -> bool
+        ensures { result ≡ is_marked self.now kind file }
+    {
+        match kind {
+            Kind::Warc => is_in(self.warc.as_slice(), file),
+            Kind::Cdxj => is_in(self.cdxj.as_slice(), file),
+        }
+    }
+
+    fn add(&mut self, kind: Kind, file: u32) -> Result<(), Memory>
+        ensures { OnOk result ((k : Kind) (f : ℕ) → is_marked self.new k f ≡
+            ((is_kind k kind && (f == file)) || is_marked self.old k f)) }
+    {
+        match kind {
+            Kind::Warc => add_to(&mut self.warc, file),
+            Kind::Cdxj => add_to(&mut self.cdxj, file),
+        }
+    }
+
+    // Whether a change is pending, by the changes after it, which were seen before it.
+    fn see(&mut self, change: &Change) -> Result<bool, Memory>
+        ensures pending { IfOk result (λ pending. (later : List Change) → Marks self.old later →
+            pending ≡ is_pending change.now later) }
+        ensures marks { OnOk result ((later : List Change) → Marks self.old later → Marks self.new
+            (change.now ∷ later)) }
+    {
+        match change {
+            Change::Wrote { kind, file, .. } => Ok(!self.has(*kind, *file)),
+            Change::Shortened { kind, file, .. } => Ok(!self.has(*kind, *file)),
+            Change::Made { .. } => Ok(false),
+            Change::Synced { kind, file } => {
+                self.add(*kind, *file)?;
+                Ok(false)
+            }
+        }
+    }
+}
+
+fn is_in(marks: &[bool], file: u32) -> bool
+    ensures { result ≡ get_or marks.now file false }
+{
+    let number = file as usize;
+    number < marks.len() && marks[number]
+}
+
+fn add_to(marks: &mut Vec<bool>, file: u32) -> Result<(), Memory>
+    ensures { OnOk result ((f : ℕ) → get_or marks.new.items f false ≡
+        ((f == file) || get_or marks.old.items f false)) }
+{
+    let number = file as usize;
+    while marks.len() <= number {
+        marks.push(false)?;
+    }
+    marks[number] = true;
+    Ok(())
+}
+
+/// Whether each change of a record is pending.
+pub fn pending_marks(alloc: Global, changes: &[Change]) -> Result<Vec<bool>, Memory>
+    ensures { IfOk result (λ marks. marks.items ≡ pending_of changes.now) }
+{
+    let mut synced = Synced::none(alloc);
+    let mut marks = vec![in alloc; false; changes.len()]?;
+    let mut i = changes.len();
+    while i > 0 {
+        i -= 1;
+        marks[i] = synced.see(&changes[i])?;
+    }
+    Ok(marks)
+}
