@@ -1,0 +1,4 @@
+pub mod Fronts
+pub mod IdLaws
+pub mod LengthLaws
+pub mod PrefixLaws

@@ -1,0 +1,24 @@
+//! The WARC text of an archive (ISO 28500, WARC 1.1), composed from what it holds.
+//!
+//! A volume's file begins with its `warcinfo` record. A group for each of its captures follows: the
+//! record of the response, or of a revisit where an earlier capture has the same payload, and the
+//! record of the request. Nothing is written here that isn't one of these.
+#![tactic(auto)]
+
+mod group;
+mod id;
+mod info;
+mod kind;
+mod laws;
+mod lengths;
+mod lines;
+mod put;
+mod same_of;
+#[cfg(test)]
+mod tests;
+
+pub use group::{group_len, group_text};
+pub use id::{IdKind, id_of};
+pub use info::{info_len, info_text};
+pub use laws::{groups_are_prefix_free, groups_tell_their_captures};
+pub use same_of::SameOf;

@@ -1,0 +1,13 @@
+//! The capture that a revisit refers to.
+use capture::Text;
+
+/// What a revisit record says of the capture whose payload it has.
+#[derive(Debug, PartialEq, Eq, Drop)]
+pub struct SameOf {
+    /// That capture's number.
+    pub number: u32,
+    /// Its target, in absolute form.
+    pub uri: Text,
+    /// When it was fetched.
+    pub date: u64,
+}
