@@ -1,0 +1,4 @@
+mod Joined
+mod KeyLemmas
+mod LabelLemmas
+mod SortedUnique

@@ -1,0 +1,15 @@
+//! The key under which the captures of a URL are looked up: a narrowed form of SURT (Sort-friendly URI Reordering
+//! Transform), which begins with the host's labels in reverse and so stands beside the keys of the same domain.
+#![tactic(auto)]
+
+mod fault;
+mod host_labels;
+mod key;
+mod pieces;
+#[cfg(test)]
+mod tests;
+mod url_key;
+
+pub use fault::KeyFault;
+pub use key::Key;
+pub use url_key::key_of;
