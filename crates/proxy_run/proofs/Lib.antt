@@ -1,0 +1,16 @@
+mod AimLemmas
+mod AwaitLaws
+mod BlankLaws
+mod FeedLaws
+mod FilterLemmas
+mod FramingLemmas
+mod GrammarLaws
+mod MemberLemmas
+mod ParseLaws
+mod PlainLemmas
+mod PrepareLaws
+mod ReceiveLaws
+mod SeekLaws
+mod SendLaws
+mod ServeLaws
+mod WordsLemmas

@@ -1,0 +1,80 @@
+-- What one connection was, from one moment to its end.
+use Rattle.std.specs.Prelude.{◌≡◌, ◌≢◌, ℕ, ◌⊎◌, Bool, true, false, ◌||◌, List, [], ◌++◌, ⊤}
+use Rattle.std.specs.List.{flat_map}
+use Rattle.outside.specs.declared.dialer.Transcript.{Transcript}
+use Rattle.outside.specs.declared.gate.Heard.{Heard}
+use Rattle.capture.specs.declared.book.Book.{Book}
+use Rattle.capture.specs.declared.site.Site.{Site}
+use Rattle.capture.specs.Faults.{RoseBy}
+use Rattle.capture.specs.Head.{after_line_ends}
+use Rattle.proxy_run.specs.declared.session.Served.{Served}
+use Rattle.proxy_run.specs.declared.session.Served.TheVariants.{Done, ClientBroke, ClientEndedEarly, ClientRefused, WantOfMemory}
+use Rattle.proxy_run.specs.FirstRequest.{IsUndecided}
+use Rattle.proxy_run.specs.Rounds.{Round, IsCourse, course_text, is_closed, has_rounds, origin_faults}
+use Rattle.proxy_run.specs.WireFront.{StaysAccounted}
+use Rattle.proxy_run.specs.WireText.{GrowsByFront}
+
+-- what went over a link so far, as its type tells it
+abbrev pub heard_of : {L : Type 0} → (L → List ℕ) → (L → Bool) → (L → List ℕ) → (L → ℕ) → L → Heard
+heard_of given ended taken faults link = record {
+  given = given link;
+  ended = ended link;
+  written = taken link;
+  faults = faults link;
+}
+
+-- A text was written, or a front of it where the link failed. Nothing was read.
+pub record Writes (text : List ℕ) (then now : Heard) : Type 0 where
+  pub same_given : now.given ≡ then.given
+  pub same_end : now.ended ≡ then.ended
+  pub front : GrowsByFront then.written now.written text
+  pub whole : now.faults ≡ 0 → now.written ≡ then.written ++ text
+
+-- The client was read to its end, and what stands behind the last answer is no request and isn't refused.
+pub record WasReadToItsEnd (later : Bool) (heard : Heard) (rest : List ℕ) : Type 0 where
+  pub ended : heard.ended ≡ true
+  pub undecided : IsUndecided later rest
+
+-- The client's end was met inside a message.
+pub record EndsInside (heard : Heard) (rounds : List Round) (rest : List ℕ) : Type 0 where
+  pub whole : heard.faults ≡ 0
+  pub not_closed : is_closed rounds ≡ false
+  pub ended : heard.ended ≡ true
+  pub inside : after_line_ends rest ≢ []
+
+-- The client was served to its end, or up to the answer that closes.
+pub record EndsWell (heard : Heard) (rounds : List Round) (rest : List ℕ) : Type 0 where
+  pub whole : heard.faults ≡ 0
+  pub outside : EndsInside heard rounds rest → ⊥
+
+-- How the connection ended has its cause; want of memory is free.
+abbrev pub EndsAs : Served → Heard → List Round → List ℕ → Type 0
+EndsAs Done heard rounds rest = EndsWell heard rounds rest
+EndsAs ClientBroke heard rounds rest = heard.faults ≢ 0
+EndsAs ClientEndedEarly heard rounds rest = EndsInside heard rounds rest
+EndsAs (ClientRefused refusal) heard rounds rest = EndsWell heard rounds rest
+EndsAs WantOfMemory heard rounds rest = ⊤
+
+-- Lawful rounds and a rest are what the client gave from a moment on, and what was written to it. They come first on
+-- the connection or behind an answer; pending is what was given before that moment and not used yet.
+pub record GoesOn (site : Site) (later : Bool) (before after : Book) (pending : List ℕ) (then now : Heard) (transcripts : List Transcript) (faults : ℕ) (served : Served) : Type 0 where
+  pub rounds : List Round
+  pub rest : List ℕ
+  pub accounts : StaysAccounted then.given pending now.given (flat_map (λ r. r.wire) rounds ++ rest)
+  pub lawful : IsCourse site later before rounds after
+  pub logged : flat_map (λ r. r.transcripts) rounds ≡ transcripts
+  pub faulted : origin_faults rounds ≡ faults
+  -- the answers, or a front of them where the client's link failed
+  pub front : GrowsByFront then.written now.written (course_text rounds)
+  pub whole : now.faults ≡ 0 → now.written ≡ then.written ++ course_text rounds
+  -- the client was read to its end, or up to the answer that closes, unless its link failed
+  pub read : now.faults ≡ 0 → (is_closed rounds ≡ true) ⊎ WasReadToItsEnd (later || has_rounds rounds) now rest
+  pub ends : EndsAs served now rounds rest
+
+-- A whole connection, over the transcripts that a dialer's log gained, and with its faults.
+pub record IsConnection (site : Site) (before after : Book) (pending : List ℕ) (then now : Heard) (old new : List Transcript) (faults_before faults_now : ℕ) (served : Served) : Type 0 where
+  pub transcripts : List Transcript
+  pub faults : ℕ
+  pub logged : new ≡ old ++ transcripts
+  pub rose : RoseBy faults faults_before faults_now
+  pub goes : GoesOn site false before after pending then now transcripts faults served

@@ -1,0 +1,23 @@
+-- What a run of the program leaves.
+use Rattle.std.specs.Prelude.{◌≡◌, ℕ, ◌≤◌, ◌⊎◌, List, ◌++◌, codes, map}
+use Rattle.std.specs.Borrow.{Bor}
+use Rattle.capture.specs.Faults.{Rose}
+use Rattle.proxy_run.specs.declared.status.Status.{Status}
+use Rattle.proxy_run.specs.declared.status.Status.TheVariants.{Words, Outside}
+use Rattle.proxy_run.specs.WireText.{GrowsByFront}
+
+-- the texts of words
+abbrev pub texts : List (Bor (List ℕ)) → List (List ℕ)
+texts words = map (λ word. word.now) words
+
+-- the usage and a line end
+abbrev pub usage : List ℕ
+usage = codes "usage: memproxy pipe NS, serve NS BASE WORKERS, check, trial COUNT NUMBER\n"
+
+-- The words are faulty, unless the sink failed.
+abbrev pub IsUsage : Status → ℕ → ℕ → Type 0
+IsUsage status before now = ((status ≡ Words) × (now ≡ before)) ⊎ ((status ≡ Outside) × Rose before now)
+
+-- The usage was printed, or a front of it where the sink failed.
+abbrev pub Prints : Status → List ℕ → List ℕ → Type 0
+Prints status before now = ((status ≡ Words) × (now ≡ before ++ usage)) ⊎ ((status ≡ Outside) × GrowsByFront before now usage)

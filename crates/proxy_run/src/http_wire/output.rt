@@ -1,0 +1,51 @@
+//! Writes whole texts.
+ghost use Rattle.std.specs.Prelude.{◌≡◌, ◌++◌, IsTrue, OnOk, OnErr};
+ghost use Rattle.capture.specs.Faults.{CountsFaults};
+ghost use Rattle.proxy_run.specs.WireText.{GrowsByFront};
+
+use capture::Failed;
+use outside::{Link, Sink};
+
+/// Writes the whole text to a link. Where the link fails, a front of the text was taken.
+pub fn write_all<L: Link>(link: &mut L, text: &[u8]) -> Result<(), Failed>
+    ensures takes { IsTrue L.tells → OnOk result (L.taken link.new ≡ L.taken link.old ++ text.now) }
+    ensures takes_front { IsTrue L.tells → OnErr result (GrowsByFront (L.taken link.old) (L.taken link.new) text.now) }
+    ensures counts { CountsFaults (L.faults link.old) (L.faults link.new) result }
+
+    ensures same_given { IsTrue L.tells → L.given link.new ≡ L.given link.old }
+    ensures same_end { IsTrue L.tells → L.ended link.new ≡ L.ended link.old }
+    ensures same_host { IsTrue L.tells → L.host link.new ≡ L.host link.old }
+    ensures same_port { IsTrue L.tells → L.port link.new ≡ L.port link.old }
+{
+    let mut rest = text;
+    'writing: while !rest.is_empty() {
+        match link.write(rest) {
+            Ok(n) => {
+                let (_, others) = rest.split_at(n);
+                rest = others;
+            }
+            Err(Failed) => return Err(Failed),
+        }
+    }
+    Ok(())
+}
+
+/// Prints the whole text. Where the sink fails, a front of the text was written.
+pub fn print_all<S: Sink>(sink: &mut S, text: &[u8]) -> Result<(), Failed>
+    ensures writes { IsTrue S.tells → OnOk result (S.written sink.new ≡ S.written sink.old ++ text.now) }
+    ensures writes_front { IsTrue S.tells →
+        OnErr result (GrowsByFront (S.written sink.old) (S.written sink.new) text.now) }
+    ensures counts { CountsFaults (S.faults sink.old) (S.faults sink.new) result }
+{
+    let mut rest = text;
+    'printing: while !rest.is_empty() {
+        match sink.write(rest) {
+            Ok(n) => {
+                let (_, others) = rest.split_at(n);
+                rest = others;
+            }
+            Err(Failed) => return Err(Failed),
+        }
+    }
+    Ok(())
+}

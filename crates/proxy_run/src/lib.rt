@@ -1,0 +1,13 @@
+//! The call that the program makes, and the parts that serve one connection.
+#![tactic(auto)]
+
+mod exchange;
+mod http_wire;
+mod piping;
+mod running;
+mod session;
+mod status;
+mod words;
+
+pub use running::{CREW, Crew, Ran, run};
+pub use status::Status;

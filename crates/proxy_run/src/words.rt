@@ -1,0 +1,51 @@
+//! The words of the command line.
+ghost use Rattle.std.specs.Prelude.{◌≡◌, map, option_copied};
+ghost use Rattle.proxy_run.specs.Words as spec;
+
+use uuid::Uuid;
+
+/// What the words ask for.
+#[derive(Clone, Copy, Debug, PartialEq, Eq)]
+pub enum Command {
+    /// Serve one connection, with an archive of this namespace.
+    Pipe(Uuid),
+}
+
+/// What the words ask for, where they ask for something.
+pub fn command_of(words: &[&str]) -> Option<Command>
+    ensures { result ≡ spec.command_of (map (λ word. word.now) words.now) }
+{
+    if words.len() != 2 {
+        return None;
+    }
+    command_of_two(words[0], words[1])
+}
+
+fn command_of_two(name: &str, namespace: &str) -> Option<Command>
+    ensures { result ≡ spec.command_of_two name.now namespace.now }
+{
+    if name != "pipe" {
+        return None;
+    }
+    match namespace_of(namespace) {
+        Some(namespace) => Some(Command::Pipe(namespace)),
+        None => None,
+    }
+}
+
+/// The UUID that is written so in lower case with hyphens (RFC 9562, section 4).
+fn namespace_of(text: &str) -> Option<Uuid>
+    ensures { result ≡ spec.namespace_of text.now }
+{
+    match Uuid::parse_str(text) {
+        Ok(namespace) => {
+            let mut buffer = [0u8; 36];
+            if namespace.hyphenated().encode_lower(&mut buffer) == text {
+                Some(namespace)
+            } else {
+                None
+            }
+        }
+        Err(_) => None,
+    }
+}
