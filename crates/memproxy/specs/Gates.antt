@@ -1,0 +1,25 @@
+-- Gates of the system.
+use Rattle.std.specs.Prelude.{ℕ, [], Bool, true, false, Some, None}
+use Rattle.memproxy.specs.declared.real_gate.RealGate.{RealGate}
+use Rattle.memproxy.specs.declared.real_gate.RealGate.TheVariants.{Once, Tcp}
+use Rattle.outside.specs.declared.gate.Heard.{Heard}
+
+-- how often an accept has failed: the standard streams are given without fail
+abbrev pub gate_faults : {R I S L : Type 0} → RealGate R I S L → ℕ
+gate_faults (Once system) = 0
+gate_faults (Tcp system host port listener faults) = faults
+
+-- whether a gate gives no connection any more: the standard streams are given once
+abbrev pub is_closed : {R I S L : Type 0} → RealGate R I S L → Bool
+is_closed (Once (Some system)) = false
+is_closed (Once None) = true
+is_closed (Tcp system host port listener faults) = false
+
+-- what a connection keeps that tells nothing
+abbrev pub nothing_heard : Heard
+nothing_heard = record { given = []; ended = false; written = []; faults = 0 }
+
+-- whether a gate gives the standard streams
+abbrev pub is_once : {R I S L : Type 0} → RealGate R I S L → Bool
+is_once (Once system) = true
+is_once (Tcp system host port listener faults) = false

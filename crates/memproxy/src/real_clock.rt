@@ -1,0 +1,90 @@
+//! The system's clock.
+ghost use Rattle.std.specs.Prelude.{◌≡◌, ◌/◌, false, []};
+ghost use Rattle.std.specs.Time.{system_time_nanos};
+
+use outside::Clock;
+use std::time::{Clock as SystemClock, SystemTime, UNIX_EPOCH};
+
+/// Answers the system's time. It doesn't tell its answers.
+#[derive(Drop)]
+pub struct RealClock<R> {
+    system: R,
+}
+
+impl<R: SystemClock> RealClock<R> {
+    /// The clock of this system.
+    pub fn new(system: R) -> RealClock<R> {
+        RealClock { system }
+    }
+}
+
+impl<R: SystemClock> Clock for RealClock<R> {
+    ghost tells = { false };
+
+    ghost answers = { λ _. [] };
+
+    /// Where the system's clock can't be read or stands before 1970, the greatest number.
+    fn now(&mut self) -> u64 {
+        match SystemTime::now(&self.system) {
+            Ok(time) => seconds_of(time),
+            Err(_) => u64::MAX,
+        }
+    }
+}
+
+/// Whole seconds since 1970.
+fn seconds_of(time: SystemTime) -> u64
+    ensures { result ≡ system_time_nanos time / 1_000_000_000 }
+{
+    match time.duration_since(UNIX_EPOCH) {
+        Ok(since) => since.as_secs(),
+        Err(_) => u64::MAX,
+    }
+}
+
+#[cfg(test)]
+mod tests {
+    use super::*;
+    use std::io;
+    use std::io::ErrorKind;
+    use std::time::Duration;
+
+    /// A clock that can't be read.
+    #[derive(Drop)]
+    struct Stopped;
+
+    impl SystemClock for Stopped {
+        fn monotonic(&self) -> io::Result<Duration> {
+            Err(io::Error::from(ErrorKind::Unsupported))
+        }
+
+        fn since_1970(&self) -> io::Result<Duration> {
+            Err(io::Error::from(ErrorKind::Unsupported))
+        }
+    }
+
+    /// A clock that shows half a second past a known time.
+    #[derive(Drop)]
+    struct Shows(u64);
+
+    impl SystemClock for Shows {
+        fn monotonic(&self) -> io::Result<Duration> {
+            Ok(Duration::from_secs(self.0))
+        }
+
+        fn since_1970(&self) -> io::Result<Duration> {
+            Ok(Duration::from_millis(self.0))
+        }
+    }
+
+    #[test]
+    fn tells_whole_seconds(rt: HostRuntime) {
+        assert_eq!(rt;
+            RealClock::new(Shows(1_700_000_000_500)).now(),
+            1_700_000_000
+        );
+        assert_eq!(rt; RealClock::new(Stopped).now(), u64::MAX);
+        let now = RealClock::new(rt).now();
+        assert!(rt; 1_700_000_000 < now && now < 253_402_300_800);
+    }
+}

@@ -1,0 +1,150 @@
+//! Reads and writes of the system's streams.
+ghost use Rattle.std.specs.Prelude.{◌≡◌, ◌==◌, ◌<◌, ◌≤◌, true, false, length, take, IfOk, OnErr};
+ghost use Rattle.std.specs.Io.{ReadsAtMost};
+ghost use Rattle.std.specs.Io.KnownBytes.{ReadConsumes, Appends};
+
+use std::io;
+use std::io::{ErrorKind, Read, Write};
+
+/// How often one call may be interrupted by signals before it gives up.
+const MOST_TRIES: u32 = 1_000;
+
+/// Input whose end stays. A terminal may give more after its end.
+#[derive(Drop)]
+pub struct EndingInput<S> {
+    stream: S,
+    ended: bool,
+}
+
+impl<S: Read> EndingInput<S> {
+    /// The input of a stream that wasn't read yet.
+    pub(crate) fn new(stream: S) -> EndingInput<S>
+        ensures { result.ended ≡ false }
+    {
+        EndingInput {
+            stream,
+            ended: false,
+        }
+    }
+
+    /// Reads once, and answers 0 from the end on.
+    pub(crate) fn read(&mut self, into: &mut [u8]) -> io::Result<usize>
+        ensures bound { ReadsAtMost result into.new }
+        ensures meets_end { IfOk result (λ n. self.new.ended ≡ (n == 0)) }
+        ensures stays_ended { self.old.ended ≡ true → result ≡ Ok 0 }
+        ensures same_end { OnErr result (self.new.ended ≡ self.old.ended) }
+    {
+        if self.ended {
+            return Ok(0);
+        }
+        let n = read_some(&mut self.stream, into)?;
+        self.ended = n == 0;
+        Ok(n)
+    }
+}
+
+/// Reads once, and again where a signal interrupted it.
+pub(crate) fn read_some<S: Read>(from: &mut S, into: &mut [u8]) -> io::Result<usize>
+    ensures bound { ReadsAtMost result into.new }
+    ensures bytes { ReadConsumes (S.remaining from.old) (S.remaining from.new) result into.new }
+{
+    for _ in 0..MOST_TRIES {
+        match from.read(into) {
+            Ok(n) => return Ok(n),
+            Err(error) => {
+                if error.kind() != ErrorKind::Interrupted {
+                    return Err(error);
+                }
+            }
+        }
+    }
+    Err(io::Error::from(ErrorKind::Interrupted))
+}
+
+/// Writes once, and again where a signal interrupted it. A write that takes nothing is a failure.
+pub(crate) fn write_some<S: Write>(to: &mut S, piece: &[u8]) -> io::Result<usize>
+    ensures some { IfOk result (λ n. 0 < n) }
+    ensures fits { IfOk result (λ n. n ≤ length piece.now) }
+    ensures bytes { IfOk result (λ n. Appends (S.contents to.old) (S.contents to.new) (take n piece.now)) }
+{
+    for _ in 0..MOST_TRIES {
+        match to.write(piece) {
+            Ok(0) => return Err(io::Error::from(ErrorKind::WriteZero)),
+            Ok(n) => {
+                to.flush()?;
+                return Ok(n);
+            }
+            Err(error) => {
+                if error.kind() != ErrorKind::Interrupted {
+                    return Err(error);
+                }
+            }
+        }
+    }
+    Err(io::Error::from(ErrorKind::Interrupted))
+}
+
+#[cfg(test)]
+mod tests {
+    use super::*;
+
+    /// A stream whose calls are interrupted so often, and then give or take so much.
+    #[derive(Drop)]
+    struct Interrupted {
+        often: u32,
+        then: usize,
+    }
+
+    impl Interrupted {
+        fn answer(&mut self, most: usize) -> io::Result<usize>
+            ensures { IfOk result (λ n. n ≤ most) }
+        {
+            if self.often == 0 {
+                return Ok(self.then.min(most));
+            }
+            self.often -= 1;
+            Err(io::Error::from(ErrorKind::Interrupted))
+        }
+    }
+
+    impl Read for Interrupted {
+        fn read(&mut self, buf: &mut [u8]) -> io::Result<usize> {
+            self.answer(buf.len())
+        }
+    }
+
+    impl Write for Interrupted {
+        fn write(&mut self, buf: &[u8]) -> io::Result<usize> {
+            self.answer(buf.len())
+        }
+
+        fn flush(&mut self) -> io::Result<()> {
+            Ok(())
+        }
+    }
+
+    #[test]
+    fn tries_again(rt: HostRuntime) {
+        let mut into = [0u8; 4];
+        for (often, then, read, written) in [
+            (0, 3, Some(3), Some(3)),
+            (2, 9, Some(4), Some(4)),
+            (2, 0, Some(0), None),
+            (1_000, 3, None, None),
+        ] {
+            let n = read_some(&mut Interrupted { often, then }, &mut into).ok();
+            assert_eq!(rt; n, read);
+            let n = write_some(&mut Interrupted { often, then }, b"four").ok();
+            assert_eq!(rt; n, written);
+        }
+    }
+
+    #[test]
+    fn stays_at_its_end(rt: HostRuntime) {
+        let mut into = [0u8; 4];
+        let mut input = EndingInput::new(Interrupted { often: 0, then: 0 });
+        assert_eq!(rt; input.read(&mut into).ok(), Some(0));
+        input.stream.then = 3;
+        assert_eq!(rt; input.read(&mut into).ok(), Some(0));
+    }
+}
