@@ -1,7 +1,9 @@
 pub mod Faults
 pub mod Fields
 pub mod Framing
+pub mod Growth
 pub mod Head
 pub mod Message
 pub mod Payload
 pub mod Target
+pub mod WellFormed
