@@ -41,11 +41,11 @@ digest_length h zero = refl
 digest_length h (suc n) =
     length-append (digest_bytes h n) (bytes_high_first 4 (slice_index h n)) ∙ omega (arith, digest_length h n, word_length 4 (slice_index h n))
 
-sha1_length : (m : List ℕ) → length (sha1 m) ≡ 20
+pub sha1_length : (m : List ℕ) → length (sha1 m) ≡ 20
 unfolding sha1
 sha1_length m = digest_length _ 5
 
-sha1_small : (m : List ℕ) → AreSmall (sha1 m)
+pub sha1_small : (m : List ℕ) → AreSmall (sha1 m)
 unfolding sha1
 sha1_small m = digest_small _ 5
 
@@ -63,7 +63,7 @@ name_based_small namespace name =
     let small : AreSmall (take 16 hash) = All-take (λ b. b < 256) 16 hash (sha1_small (namespace ++ name)) in
     All-set (λ b. b < 256) _ 6 _ (omega arith) (All-set (λ b. b < 256) (take 16 hash) 8 _ (omega arith) small)
 
-uuid_text_told : (a b : List ℕ) → length a ≡ 16 → length b ≡ 16 → AreSmall a → AreSmall b → uuid_text a ≡ uuid_text b → a ≡ b
+pub uuid_text_told : (a b : List ℕ) → length a ≡ 16 → length b ≡ 16 → AreSmall a → AreSmall b → uuid_text a ≡ uuid_text b → a ≡ b
 unfolding uuid_text
 uuid_text_told a b long long₂ small small₂ same =
     let parsed : Some a ≡ Some b = parses_hyphenated_text lower a (inl refl) long small ∙ ap parsed_hyphenated same ∙ sym (parses_hyphenated_text lower b (inl refl) long₂ small₂) in

@@ -163,7 +163,7 @@ length-software_lines : length software_lines ≡ 40
 unfolding software_lines field
 length-software_lines = refl
 
-length-info_block : (namespace : List ℕ) (volume : ℕ) → length (info_block namespace volume) ≡ 115 + length (decimal volume)
+pub length-info_block : (namespace : List ℕ) (volume : ℕ) → length (info_block namespace volume) ≡ 115 + length (decimal volume)
 unfolding info_block namespace_line volume_line
 length-info_block namespace volume =
     sum3 software_lines (field (codes "archive-namespace") (uuid_text namespace)) (field (codes "archive-volume") (decimal volume))

@@ -30,7 +30,7 @@ spread3 : (a b c x : List ℕ) → (a ++ b ++ c) ++ x ≡ a ++ (b ++ (c ++ x))
 spread3 a b c x = append_assoc (a ++ b) c x ∙ append_assoc a b (c ++ x)
 
 -- a field's value of a known length
-field_value : (name u v : List ℕ) → length u ≡ length v → field name u ≡ field name v → u ≡ v
+pub field_value : (name u v : List ℕ) → length u ≡ length v → field name u ≡ field name v → u ≡ v
 unfolding field
 field_value name u v long same =
     let front = name ++ codes ": " in
@@ -49,7 +49,7 @@ date_line_told : (d e : ℕ) → date_line d ≡ date_line e → d ≡ e
 unfolding date_line
 date_line_told d e same = date_field_told (codes "WARC-Date") d e same
 
-opening_date : (kind : RecordKind) (i : List ℕ) (d e : ℕ) → opening kind i d ≡ opening kind i e → d ≡ e
+pub opening_date : (kind : RecordKind) (i : List ℕ) (d e : ℕ) → opening kind i d ≡ opening kind i e → d ≡ e
 unfolding opening
 opening_date kind i d e same =
     let front = version_line ++ type_line kind ++ id_line i in

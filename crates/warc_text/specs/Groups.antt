@@ -1,7 +1,8 @@
 -- What tells a group from another of its number.
-use Rattle.std.specs.Prelude.{◌≡◌, ◌≢◌, ℕ, ◌<◌, ◌^◌, List, ◌++◌, length, All, Option, Some, None, IfSome}
+use Rattle.std.specs.Prelude.{◌≡◌, ◌≢◌, ℕ, ◌<◌, ◌^◌, List, [], ◌++◌, length, All, Option, Some, None, IfSome}
 use Rattle.httparse.specs.Ascii.{carriage_return}
 use Rattle.digest32.specs.Base32.{IsDigest}
+use Rattle.capture.specs.WellFormed.{IsRequestOf, IsResponseTo}
 use Rattle.capture.specs.declared.captured.Taken.{Taken}
 use Rattle.warc_text.specs.declared.same_of.SameOf.{SameOf}
 use Rattle.warc_text.specs.declared.id.IdKind.TheVariants.{Response}
@@ -52,6 +53,43 @@ GroupsTellTheirCaptures =
     → IsWritable x d s → IsWritable y e t
     → group_text namespace number x d s ≡ group_text namespace number y e t
     → SayTheSame x y d e s t
+
+-- the request is whole, and of a group that refers to nothing the response is
+pub record HasWholeMessages (taken : Taken) (same : Option SameOf) : Type 0 where
+  pub request : IsRequestOf taken.method taken.request
+  pub response : same ≡ None → IsResponseTo taken.method taken.head taken.wire
+
+-- a capture without its wire, which is all that a revisit has of it
+abbrev pub without_wire : Taken → Taken
+without_wire taken = record {
+  method = taken.method;
+  uri = taken.uri;
+  date = taken.date;
+  request = taken.request;
+  head = taken.head;
+  wire = [];
+}
+
+-- the captures are equal, but for the wire where they refer to another
+abbrev pub AreOneCapture : Option SameOf → Taken → Taken → Type 0
+AreOneCapture None x y = x ≡ y
+AreOneCapture (Some same) x y = without_wire x ≡ without_wire y
+
+-- the groups are of equal captures, with one digest, and refer to one capture or to none
+pub record AreOfEqualCaptures (x y : Taken) (d e : List ℕ) (s t : Option SameOf) : Type 0 where
+  pub captures : AreOneCapture s x y
+  pub payload_digest : d ≡ e
+  pub refers : s ≡ t
+
+-- where the ids differ and the messages are whole, group texts of one number are equal only for equal captures
+abbrev pub EqualGroupsAreOfEqualCaptures : Type 0
+EqualGroupsAreOfEqualCaptures =
+    (namespace : List ℕ) (count number : ℕ) (x y : Taken) (d e : List ℕ) (s t : Option SameOf)
+    → IdsDiffer namespace count → RefersBelow count s → RefersBelow count t
+    → IsWritable x d s → IsWritable y e t
+    → HasWholeMessages x s → HasWholeMessages y t
+    → group_text namespace number x d s ≡ group_text namespace number y e t
+    → AreOfEqualCaptures x y d e s t
 
 -- with the number given, no group's text is a proper prefix of another's: where texts that begin with one are equal,
 -- the groups are equal, and so is what follows them

@@ -4,4 +4,5 @@ pub mod Ids
 pub mod Lengths
 pub mod Lines
 pub mod Records
+pub mod Sound
 pub mod StandsFor

@@ -1,7 +1,9 @@
 -- Which book a list of Warc files stands for.
 use Rattle.std.specs.Prelude.{◌≡◌, ◌≢◌, ◌⊎◌, ℕ, ◌+◌, ◌<◌, ◌≤◌, List, [], ◌++◌, length, slice_index, slice_index_or}
 use Rattle.capture.specs.declared.book.Book.{Book}
-use Rattle.warc_text.specs.Books.{IsVolumeText}
+use Rattle.warc_text.specs.Books.{captures, IsVolumeText}
+use Rattle.warc_text.specs.Groups.{IdsDiffer}
+use Rattle.warc_text.specs.Sound.{IsSound}
 
 -- the byte that a finished record begins with: `W`, which is written last
 abbrev pub open_gate : ℕ
@@ -32,3 +34,23 @@ pub record StandsFor (files : List (List ℕ)) (book : Book) : Type 0 where
   pub sealed : (k : ℕ) → k + 1 < length book.volumes → IsVolumeText book k (slice_index_or files k [])
   pub last : (k : ℕ) → k + 1 ≡ length book.volumes → IsLastFile book k (slice_index_or files k [])
   pub further : (k : ℕ) → k < length files → length book.volumes ≤ k → IsRest (slice_index_or files k [])
+
+-- the files are settled for the book: the Warc files stand for it
+pub record IsSettled (files : List (List ℕ)) (book : Book) : Type 0 where
+  pub stands : StandsFor files book
+
+-- the ids of the book's responses differ
+abbrev pub IdsDifferIn : Book → Type 0
+IdsDifferIn book = IdsDiffer book.namespace (length (captures book))
+
+-- where the ids differ, files stand for one sound book at most, if that has a volume
+abbrev pub FilesStandForOneBook : Type 0
+FilesStandForOneBook =
+    (files : List (List ℕ)) (a b : Book) → IsSound a → IsSound b → IdsDifferIn a
+    → StandsFor files a → StandsFor files b → 0 < length a.volumes → a ≡ b
+
+-- files that stand for a book without volumes stand for such books alone
+abbrev pub FilesStandForNoVolume : Type 0
+FilesStandForNoVolume =
+    (files : List (List ℕ)) (a b : Book) → StandsFor files a → StandsFor files b → length a.volumes ≡ 0
+    → length b.volumes ≡ 0

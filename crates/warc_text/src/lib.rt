@@ -20,5 +20,8 @@ mod tests;
 pub use group::{group_len, group_text};
 pub use id::{IdKind, id_of};
 pub use info::{info_len, info_text};
-pub use laws::{groups_are_prefix_free, groups_tell_their_captures};
+pub use laws::{
+    equal_groups_are_of_equal_captures, files_stand_for_one_book, groups_are_prefix_free,
+    groups_tell_their_captures,
+};
 pub use same_of::SameOf;
