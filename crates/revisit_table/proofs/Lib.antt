@@ -1,0 +1,4 @@
+pub mod Rising
+pub mod Searches
+pub mod MapLemmas
+pub mod TableLemmas

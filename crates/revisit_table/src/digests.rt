@@ -1,0 +1,125 @@
+//! The table of digests.
+ghost use Rattle.std.specs.Prelude.{◌≡◌, ℕ, ◌<◌, ◌≤◌, not, ◌==◌, nat_le, Some, map, filter, All, IfSome, IfNone, remove, length, OnOk, OnErr};
+ghost use Rattle.std.specs.List.Sorted.{IsStrictlyIncreasing};
+ghost use Rattle.revisit_table.specs.Table.{empty_table, numbers_of, with_room, with_added, with_taken_back, without};
+
+use crate::lists::{add_at, reserve_at, take_at};
+use capture::{Digest, Memory};
+use std::alloc::Global;
+use std::collections::BTreeMap;
+use std::marker::Model;
+
+/// Which captures have which digest. A clause sees the list of what was added and not taken back,
+/// each digest with a capture's number, and the digest for which room is reserved.
+///
+/// The numbers of that list rise strictly. Only `reserve` takes memory.
+#[derive(Debug, Drop)]
+pub struct Digests {
+    kept: Vec<(Digest, u32)>,
+    lists: BTreeMap<Digest, Vec<u32>>,
+    reserved: Option<Digest>,
+}
+
+impl Model for Digests {
+    ghost use Rattle.revisit_table.specs.Lists.{AreListsOf};
+    ghost use Rattle.revisit_table.specs.Table.{Table};
+
+    ghost Value = { Table };
+
+    ghost view = { λ table. record { kept = table.kept.items; reserved = table.reserved } };
+
+    ghost invariant = { λ table. AreListsOf table.kept table.lists table.reserved };
+}
+
+impl Digests {
+    /// No digests. Takes no memory.
+    pub fn new(alloc: Global) -> Digests
+        ensures { result ≡ empty_table }
+    {
+        Digests {
+            kept: Vec::new(alloc),
+            lists: BTreeMap::new(alloc),
+            reserved: None,
+        }
+    }
+
+    /// The numbers of the captures that have this digest, which rise strictly.
+    ///
+    /// One look-up in an ordered map. It takes no memory.
+    pub fn candidates(&self, digest: &Digest) -> &[u32]
+        ensures numbers { result.now ≡ numbers_of digest.now self.now.kept }
+        ensures rising { IsStrictlyIncreasing result.now }
+    {
+        match self.lists.get(digest) {
+            Some(numbers) => numbers.as_slice(),
+            None => &[],
+        }
+    }
+
+    /// Those of the candidates that are at least `least`, which rise strictly.
+    ///
+    /// One look-up in an ordered map and a binary search. It takes no memory.
+    pub fn candidates_from(&self, digest: &Digest, least: u32) -> &[u32]
+        ensures numbers { result.now ≡ filter (λ number. nat_le least number) (numbers_of digest.now self.now.kept) }
+        ensures rising { IsStrictlyIncreasing result.now }
+    {
+        let numbers = self.candidates(digest);
+        from_least(numbers, least)
+    }
+
+    /// Makes room for one more capture of this digest, in the place of room that was reserved before.
+    ///
+    /// The only call that takes memory. After `Memory` the table is as it was.
+    pub fn reserve(&mut self, alloc: Global, digest: &Digest) -> Result<(), Memory>
+        ensures ok { OnOk result (self.new ≡ with_room self.old digest.now) }
+        ensures err { OnErr result (self.new ≡ self.old) }
+    {
+        self.kept.reserve(1)?;
+        reserve_at(&mut self.lists, alloc, digest)?;
+        self.reserved = Some(*digest);
+        Ok(())
+    }
+
+    /// Adds a capture of this digest, in the room that was reserved for it. Takes no memory.
+    pub fn add(&mut self, digest: &Digest, number: u32)
+        requires reserved { self.old.reserved ≡ Some digest.now }
+        requires above { All (λ entry. entry.1 < number) self.old.kept }
+        ensures { self.new ≡ with_added self.old digest.now number }
+    {
+        self.kept.push_reserved((*digest, number));
+        add_at(&mut self.lists, digest, number);
+        self.reserved = None;
+    }
+
+    /// Takes the capture of this number back. One that isn't there changes nothing.
+    ///
+    /// Room that is reserved stays reserved. Takes no memory.
+    pub fn take_back(&mut self, number: u32)
+        ensures { self.new ≡ with_taken_back self.old number }
+    {
+        if let Some(place) = place_of(self.kept.as_slice(), number) {
+            let (digest, _) = self.kept.remove(place);
+            take_at(&mut self.lists, &digest, number);
+        }
+    }
+}
+
+/// The numbers that are at least `least`, of numbers that rise.
+fn from_least(numbers: &[u32], least: u32) -> &[u32]
+    requires { IsStrictlyIncreasing numbers.now }
+    ensures numbers { result.now ≡ filter (λ number. nat_le least number) numbers.now }
+    ensures rising { IsStrictlyIncreasing result.now }
+{
+    let start = numbers.partition_point(|number| *number < least);
+    &numbers[start..]
+}
+
+/// The place of the entry with this number, if it's there.
+fn place_of(kept: &[(Digest, u32)], number: u32) -> Option<usize>
+    requires { IsStrictlyIncreasing (map (λ entry. entry.1) kept.now) }
+    ensures within { IfSome result (λ place. place < length kept.now) }
+    ensures found { IfSome result (λ place. without number kept.now ≡ remove kept.now place) }
+    ensures absent { IfNone result (without number kept.now ≡ kept.now) }
+{
+    kept.binary_search_by_key(&number, |entry| entry.1).ok()
+}

@@ -1,0 +1,9 @@
+//! The captures whose payload has a digest, so that a payload that is there already is stored once.
+#![tactic(auto)]
+
+mod digests;
+mod lists;
+#[cfg(test)]
+mod tests;
+
+pub use digests::Digests;

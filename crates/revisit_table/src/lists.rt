@@ -1,0 +1,68 @@
+//! The lists of numbers by digest.
+ghost use Rattle.std.specs.Prelude.{◌≡◌, ℕ, ◌<◌, ◌≤◌, not, ◌==◌, List, [], ◌∷◌, ◌++◌, filter, vec_len, OnOk, if◌then◌else◌};
+ghost use Rattle.std.specs.List.Sorted.{IsStrictlyIncreasing};
+ghost use Rattle.std.specs.Str.{bytes_eq};
+ghost use Rattle.std.specs.Vec.{vec_capacity};
+ghost use Rattle.revisit_table.specs.Lists.{numbers_at, spare_at};
+
+use capture::{Digest, Memory};
+use std::alloc::Global;
+use std::collections::BTreeMap;
+
+/// Makes room for one more number at the digest.
+pub(crate) fn reserve_at(
+    lists: &mut BTreeMap<Digest, Vec<u32>>,
+    alloc: Global,
+    digest: &Digest,
+) -> Result<(), Memory>
+    ensures ok { OnOk result (0 < spare_at lists.new digest.now) }
+    ensures same { (other : List ℕ) → numbers_at lists.new other ≡ numbers_at lists.old other }
+    ensures spare { (other : List ℕ) → spare_at lists.old other ≤ spare_at lists.new other }
+{
+    if let Some(numbers) = lists.get_mut(digest) {
+        numbers.reserve(1)?;
+        return Ok(());
+    }
+    let numbers = Vec::with_capacity(alloc, 1)?;
+    lists.insert(*digest, numbers)?;
+    Ok(())
+}
+
+/// Adds a number at the digest, in the room that is there.
+pub(crate) fn add_at(lists: &mut BTreeMap<Digest, Vec<u32>>, digest: &Digest, number: u32)
+    requires { 0 < spare_at lists.old digest.now }
+    ensures { (other : List ℕ) → numbers_at lists.new other
+        ≡ numbers_at lists.old other ++ (if bytes_eq digest.now other then number ∷ [] else []) }
+{
+    if let Some(numbers) = lists.get_mut(digest) {
+        numbers.push_reserved(number);
+    }
+}
+
+/// Takes a number out at the digest, if it's there.
+pub(crate) fn take_at(lists: &mut BTreeMap<Digest, Vec<u32>>, digest: &Digest, number: u32)
+    requires { IsStrictlyIncreasing (numbers_at lists.old digest.now) }
+    ensures same { (other : List ℕ) → numbers_at lists.new other
+        ≡ (if bytes_eq digest.now other then filter (λ n. not (n == number)) (numbers_at lists.old other)
+        else numbers_at lists.old other) }
+    ensures spare { (other : List ℕ) → spare_at lists.old other ≤ spare_at lists.new other }
+{
+    if let Some(numbers) = lists.get_mut(digest) {
+        take_out(numbers, number);
+    }
+}
+
+/// Takes a number out of a list, if it's there.
+fn take_out(numbers: &mut Vec<u32>, number: u32)
+    requires { IsStrictlyIncreasing numbers.old.items }
+    ensures items { numbers.new.items ≡ filter (λ n. not (n == number)) numbers.old.items }
+    ensures len { vec_len numbers.new ≤ vec_len numbers.old }
+    ensures capacity { vec_capacity numbers.new ≡ vec_capacity numbers.old }
+{
+    match numbers.binary_search(&number) {
+        Ok(place) => {
+            numbers.remove(place);
+        }
+        Err(_) => {}
+    }
+}
