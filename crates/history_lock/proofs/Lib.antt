@@ -1,0 +1,10 @@
+pub mod Views
+pub mod Keeps
+pub mod Noting
+pub mod Turns
+pub mod Closing
+pub mod Merging
+pub mod Ends
+pub mod Opening
+pub mod Joining
+pub mod Making
