@@ -1,7 +1,7 @@
 -- Bytes that end with a whole head are more than line ends.
-use Rattle.std.proofs.Common.{◌≡◌, ◌≢◌, ℕ, ◌+◌, Bool, true, false, List, [], ◌∷◌, Option, Some, None, cond, refl, sym, ◌∙◌, ap, inl, inr}
+use Rattle.std.proofs.Common.{◌≡◌, ℕ, Bool, true, false, List, [], ◌∷◌, None, cond, refl, sym, ◌∙◌, ap, inl, inr}
 use Rattle.httparse.specs.Ascii.{carriage_return}
-use Rattle.capture.specs.Head.{Front, Head, TooLong, Nothing, More, front_of, front_by, front_without_head, head_end, head_len, after_line_ends, line_ends_len}
+use Rattle.capture.specs.Head.{Head, TooLong, Nothing, More, front_of, front_by, head_end, head_len, after_line_ends}
 use Rattle.proxy_run.specs.HeadReading.{EndsWithHead, MayBeBlank}
 
 no_head_of : (a b : Bool) (k : ℕ) (t : List ℕ) → cond a TooLong (cond b Nothing More) ≡ Head k t → ⊥

@@ -5,12 +5,16 @@ mod FeedLaws
 mod FilterLemmas
 mod FramingLemmas
 mod GrammarLaws
+mod KeepLaws
 mod MemberLemmas
 mod ParseLaws
+mod PipeLaws
 mod PlainLemmas
 mod PrepareLaws
 mod ReceiveLaws
 mod SeekLaws
 mod SendLaws
 mod ServeLaws
+mod StoringLaws
+mod WholeAnswers
 mod WordsLemmas

@@ -1,5 +1,5 @@
 -- What receiving an answer shows of the bytes that the link gave.
-use Rattle.std.proofs.Common.{◌≡◌, ℕ, ◌<◌, ◌≤◌, ◌⊎◌, Bool, true, List, [], ◌∷◌, ◌++◌, length, Option, Some, None, Err, refl, sym, ◌∙◌, ap, inl, inr, arith, append_assoc}
+use Rattle.std.proofs.Common.{◌≡◌, ℕ, ◌<◌, Bool, true, List, [], ◌++◌, length, Some, Err, sym, ◌∙◌, ap, inl, inr, arith, append_assoc}
 use Rattle.std.proofs.lemmas.List.{append-nil}
 use Rattle.capture.specs.declared.framing.Framing.TheVariants.{Length}
 use Rattle.capture.specs.Head.{after_line_ends}
@@ -8,8 +8,8 @@ use Rattle.proxy_run.specs.declared.exchange.fetching.FetchFault.{FetchFault}
 use Rattle.proxy_run.specs.declared.exchange.fetching.FetchFault.TheVariants.{DialFault, OriginFault, OriginEnded, NotBuilt, Memory}
 use Rattle.proxy_run.specs.declared.http_wire.head.ResponseHead.{ResponseHead}
 use Rattle.proxy_run.specs.Fetching.{Receives, EndsInHead}
-use Rattle.proxy_run.specs.FirstAnswer.{IsAnswer, IsNoAnswer, BeginsNoAnswer, IsPartOfAnswer, LacksBody, FillsHead, IsOtherAnswer, IsNoResponseHead, EndsWithResponse, told_length}
-use Rattle.proxy_run.specs.HeadReading.{IsOpen, EndsWithHead, IsTooLong}
+use Rattle.proxy_run.specs.FirstAnswer.{IsAnswer, IsNoAnswer, BeginsNoAnswer, IsPartOfAnswer, told_length}
+use Rattle.proxy_run.specs.HeadReading.{IsOpen, EndsWithHead}
 use Rattle.proxy_run.specs.Heads.{HoldsResponse}
 use Rattle.proxy_run.specs.WireBody.{EndsBefore}
 use Rattle.proxy_run.specs.WireFront.{StaysAccounted}

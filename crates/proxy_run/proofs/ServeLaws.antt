@@ -1,49 +1,60 @@
 -- What a connection is, put together from its rounds.
-use Rattle.std.proofs.Common.{◌≡◌, ◌≢◌, ℕ, ◌+◌, ◌≤◌, ◌⊎◌, Bool, true, false, ◌||◌, List, [], ◌∷◌, ◌++◌, Option, Some, None, refl, sym, ◌∙◌, ap, inl, inr, arith, append_assoc, add-zero}
+use Rattle.std.proofs.Common.{◌≡◌, ◌≢◌, ℕ, ◌+◌, ◌⊎◌, Bool, true, false, ◌||◌, List, [], ◌∷◌, ◌++◌, Some, None, refl, sym, ◌∙◌, ap, inl, inr, arith, append_assoc, add-zero, length}
 use Rattle.std.specs.List.{flat_map}
 use Rattle.std.proofs.lemmas.List.{append-nil}
 use Rattle.outside.specs.declared.dialer.Transcript.{Transcript}
 use Rattle.outside.specs.declared.gate.Heard.{Heard}
 use Rattle.capture.specs.declared.book.Book.{Book}
+use Rattle.capture.specs.declared.book.Volume.{Volume}
 use Rattle.capture.specs.declared.site.Site.{Site}
 use Rattle.proxy_run.specs.declared.session.Served.{Served}
 use Rattle.proxy_run.specs.declared.session.Served.TheVariants.{Done, ClientBroke, ClientEndedEarly, ClientRefused, WantOfMemory}
 use Rattle.capture.specs.declared.refusal.Refusal.{Refusal}
-use Rattle.capture.specs.Faults.{Rose, RoseBy}
+use Rattle.capture.specs.Faults.{Rose}
+use Rattle.capture.specs.Growth.{Grows}
 use Rattle.proxy_run.specs.declared.exchange.aim.Target.{Target}
 use Rattle.proxy_run.specs.declared.http_wire.head.RequestHead.{RequestHead}
 use Rattle.proxy_run.specs.declared.session.replies.Prepared.{Prepared}
 use Rattle.proxy_run.specs.Connection.{GoesOn, EndsAs, EndsWell, EndsInside, WasReadToItsEnd, Writes, IsConnection}
 use Rattle.proxy_run.specs.FirstRequest.{IsAsked, IsRefused}
+use Rattle.proxy_run.specs.Gains.{Gains, Gained, Told, no_gains, both_gains}
 use Rattle.proxy_run.specs.Refusals.{refusal_text, memory_text}
-use Rattle.proxy_run.specs.Serving.{IsRefusing, IsPrepared, EndsBy}
-use Rattle.proxy_run.specs.Rounds.{Round, Outcome, Refused, Replied, NoMemory, Reply, IsOutcome, IsReplied, IsRound, closes_outcome, closes_reply, is_closed, course_text, faults_of}
+use Rattle.proxy_run.specs.Serving.{IsRefusing, IsPrepared, LacksReply, EndsBy}
+use Rattle.proxy_run.specs.Rounds.{Round, Outcome, Refused, Replied, NoMemory, Reply, Fails, Passes, LacksMemory, Traces, IsOutcome, IsReply, IsReplied, closes_outcome, closes_reply, is_closed, course_text, gains_by, no_traces}
 use Rattle.proxy_run.specs.WireFront.{StaysAccounted}
-use Rattle.proxy_run.specs.WireText.{IsFrontOf, GrowsByFront}
+use Rattle.proxy_run.specs.WireText.{GrowsByFront}
 
--- one round over an unchanged archive
-abbrev pub round_of : Book → List ℕ → Outcome → List Transcript → List ℕ → Round
-round_of book wire outcome transcripts text = record {
-  wire = wire;
-  outcome = outcome;
+-- a round of these parts
+abbrev pub round_of : List ℕ → Outcome → Traces → List ℕ → Round
+round_of wire outcome traces text = record { wire = wire; outcome = outcome; traces = traces; text = text }
+
+abbrev gains_with : List ℕ → List Transcript → ℕ → ℕ → Gains
+gains_with times transcripts origin_faults disk_faults = record {
+  times = times;
   transcripts = transcripts;
-  text = text;
-  before = book;
-  after = book;
+  origin_faults = origin_faults;
+  disk_faults = disk_faults;
 }
+
+-- nothing more is gained
+no_more : (gains : Gains) → both_gains gains no_gains ≡ gains
+no_more gains =
+    ap (λ (t : List ℕ). gains_with t (gains.transcripts ++ []) (gains.origin_faults + 0) (gains.disk_faults + 0)) (append-nil gains.times)
+    ∙ ap (λ (t : List Transcript). gains_with gains.times t (gains.origin_faults + 0) (gains.disk_faults + 0)) (append-nil gains.transcripts)
+    ∙ ap (λ (n : ℕ). gains_with gains.times gains.transcripts n (gains.disk_faults + 0)) (add-zero gains.origin_faults)
+    ∙ ap (λ (n : ℕ). gains_with gains.times gains.transcripts gains.origin_faults n) (add-zero gains.disk_faults)
 
 -- a connection with no round
 pub no_round : (site : Site) (later : Bool) (book : Book) (pending rest : List ℕ) (then now : Heard) (served : Served)
     → StaysAccounted then.given pending now.given rest → now.written ≡ then.written
     → (now.faults ≡ 0 → WasReadToItsEnd (later || false) now rest) → EndsAs served now [] rest
-    → GoesOn site later book book pending then now [] 0 served
+    → GoesOn site later book book pending then now no_gains served
 no_round site later book pending rest then now served accounts written read ends = record {
   rounds = [];
   rest = rest;
   accounts = accounts;
   lawful = refl;
-  logged = refl;
-  faulted = refl;
+  gained = refl;
   front = ([], ([], refl), written ∙ sym (append-nil then.written));
   whole = λ _. written ∙ sym (append-nil then.written);
   read = λ z. inr (read z);
@@ -59,19 +70,18 @@ pub ends_closed : (now : Heard) (rounds : List Round) (rest : List ℕ) → now.
 ends_closed now rounds rest whole closed = record { whole = whole; outside = λ inside. let no : ⊥ = cc (closed, inside.not_closed) in no }
 
 -- a connection with one round that closes it, or in which the client's link failed
-pub one_round : (site : Site) (later : Bool) (book : Book) (pending wire rest text : List ℕ) (then now : Heard) (outcome : Outcome)
-    (transcripts : List Transcript) (served : Served) → StaysAccounted then.given pending now.given (wire ++ rest)
-    → IsOutcome site later wire outcome transcripts text → GrowsByFront then.written now.written text
+pub one_round : (site : Site) (later : Bool) (pending wire rest text : List ℕ) (then now : Heard) (outcome : Outcome)
+    (traces : Traces) (served : Served) → StaysAccounted then.given pending now.given (wire ++ rest)
+    → IsOutcome site later wire outcome traces text → GrowsByFront then.written now.written text
     → (now.faults ≡ 0 → now.written ≡ then.written ++ text) → (closes_outcome outcome ≡ true) ⊎ (now.faults ≢ 0)
-    → EndsAs served now (round_of book wire outcome transcripts text ∷ []) rest
-    → GoesOn site later book book pending then now transcripts (faults_of outcome) served
-one_round site later book pending wire rest text then now outcome transcripts served accounts lawful front whole closes ends = record {
-  rounds = round_of book wire outcome transcripts text ∷ [];
+    → EndsAs served now (round_of wire outcome traces text ∷ []) rest
+    → GoesOn site later traces.before traces.after pending then now (gains_by outcome traces) served
+one_round site later pending wire rest text then now outcome traces served accounts lawful front whole closes ends = record {
+  rounds = round_of wire outcome traces text ∷ [];
   rest = rest;
   accounts = λ done e. accounts done e ∙ ap (λ w. done ++ (w ++ rest)) (sym (append-nil wire));
-  lawful = (record { lawful = lawful; same_book = refl }, refl, (λ _. refl), refl);
-  logged = append-nil transcripts;
-  faulted = add-zero (faults_of outcome);
+  lawful = (lawful, refl, (λ _. refl), refl);
+  gained = no_more (gains_by outcome traces);
   front = rw (append-nil text) front;
   whole = λ z. whole z ∙ ap (λ t. then.written ++ t) (sym (append-nil text));
   read = λ z. closed_or_failed (closes_outcome outcome) now.faults closes z;
@@ -120,23 +130,23 @@ grows_on a b c text more e (front, (rest, r), g) = (
 )
 
 -- a first round that doesn't close, whose text was written whole, and what comes behind it
-pub then_on : (site : Site) (book : Book) (pending wire text : List ℕ) (then mid now : Heard) (outcome : Outcome)
-    (transcripts : List Transcript) (served : Served) → IsOutcome site false wire outcome transcripts text → closes_outcome outcome ≡ false
-    → mid.given ≡ then.given → mid.written ≡ then.written ++ text → GoesOn site true book book pending mid now [] 0 served
-    → GoesOn site false book book (wire ++ pending) then now transcripts (faults_of outcome) served
-then_on site book pending wire text then mid now outcome transcripts served lawful stays same written g = record {
-  rounds = round_of book wire outcome transcripts text ∷ g.rounds;
+pub then_on : (site : Site) (pending wire text : List ℕ) (then mid now : Heard) (outcome : Outcome)
+    (traces : Traces) (served : Served) → IsOutcome site false wire outcome traces text → closes_outcome outcome ≡ false
+    → mid.given ≡ then.given → mid.written ≡ then.written ++ text
+    → GoesOn site true traces.after traces.after pending mid now no_gains served
+    → GoesOn site false traces.before traces.after (wire ++ pending) then now (gains_by outcome traces) served
+then_on site pending wire text then mid now outcome traces served lawful stays same written g = record {
+  rounds = round_of wire outcome traces text ∷ g.rounds;
   rest = g.rest;
   accounts = λ done e. g.accounts (done ++ wire) (same ∙ e ∙ sym (append_assoc done wire pending))
       ∙ append_assoc done wire (flat_map (λ r. r.wire) g.rounds ++ g.rest)
       ∙ ap (λ x. done ++ x) (sym (append_assoc wire (flat_map (λ r. r.wire) g.rounds) g.rest));
-  lawful = (record { lawful = lawful; same_book = refl }, refl, (λ closes. let no : ⊥ = cc (stays, closes) in absurd no), g.lawful);
-  logged = ap (λ x. transcripts ++ x) g.logged ∙ append-nil transcripts;
-  faulted = ap (λ n. faults_of outcome + n) g.faulted ∙ add-zero (faults_of outcome);
+  lawful = (lawful, refl, (λ closes. let no : ⊥ = cc (stays, closes) in absurd no), g.lawful);
+  gained = ap (λ (more : Gains). both_gains (gains_by outcome traces) more) g.gained ∙ no_more (gains_by outcome traces);
   front = grows_on then.written mid.written now.written text (course_text g.rounds) written g.front;
   whole = λ z. g.whole z ∙ ap (λ x. x ++ course_text g.rounds) written ∙ append_assoc then.written text (course_text g.rounds);
   read = λ z. rw (same_closed (closes_outcome outcome) (is_closed g.rounds) stays) (g.read z);
-  ends = ends_behind now (round_of book wire outcome transcripts text) g.rounds g.rest stays served g.ends;
+  ends = ends_behind now (round_of wire outcome traces text) g.rounds g.rest stays served g.ends;
 }
 
 -- all that is accounted for was taken, where nothing is pending
@@ -162,9 +172,9 @@ accounts_behind given pending mid now left e accounts = λ done given_is. e ∙ 
 -- want of memory after these bytes were taken
 pub gave_up : (site : Site) (later : Bool) (book : Book) (pending wire rest : List ℕ) (then mid now : Heard)
     → StaysAccounted then.given pending mid.given (wire ++ rest) → mid.written ≡ then.written → Writes memory_text mid now
-    → GoesOn site later book book pending then now [] 0 WantOfMemory
+    → GoesOn site later book book pending then now no_gains WantOfMemory
 gave_up site later book pending wire rest then mid now accounts same w =
-    one_round site later book pending wire rest memory_text then now NoMemory [] WantOfMemory
+    one_round site later pending wire rest memory_text then now NoMemory (no_traces book) WantOfMemory
     (accounts_behind then.given pending mid.given now.given (wire ++ rest) w.same_given accounts) (refl, refl)
     (grows_behind then.written mid.written now.written memory_text same w.front)
     (λ z. whole_behind then.written mid.written now.written memory_text same (w.whole z)) (inl refl) tt
@@ -173,15 +183,15 @@ gave_up site later book pending wire rest then mid now accounts same w =
 pub refused : (site : Site) (later : Bool) (book : Book) (pending wire rest : List ℕ) (then mid now : Heard) (refusal : Refusal) (served : Served)
     → StaysAccounted then.given pending mid.given (wire ++ rest) → mid.written ≡ then.written → mid.faults ≡ 0
     → IsRefused site later wire refusal → IsRefusing refusal served mid now
-    → GoesOn site later book book pending then now [] 0 served
+    → GoesOn site later book book pending then now no_gains served
 refused site later book pending wire rest then mid now refusal (ClientRefused told) accounts same none is (e, w, f) =
-    one_round site later book pending wire rest (refusal_text refusal true) then now (Refused refusal) [] (ClientRefused told)
+    one_round site later pending wire rest (refusal_text refusal true) then now (Refused refusal) (no_traces book) (ClientRefused told)
     (accounts_behind then.given pending mid.given now.given (wire ++ rest) w.same_given accounts) (is, refl, refl)
     (grows_behind then.written mid.written now.written (refusal_text refusal true) same w.front)
     (λ z. whole_behind then.written mid.written now.written (refusal_text refusal true) same (w.whole z)) (inl refl)
     (ends_closed now _ rest (f ∙ none) refl)
 refused site later book pending wire rest then mid now refusal ClientBroke accounts same none is (w, broke) =
-    one_round site later book pending wire rest (refusal_text refusal true) then now (Refused refusal) [] ClientBroke
+    one_round site later pending wire rest (refusal_text refusal true) then now (Refused refusal) (no_traces book) ClientBroke
     (accounts_behind then.given pending mid.given now.given (wire ++ rest) w.same_given accounts) (is, refl, refl)
     (grows_behind then.written mid.written now.written (refusal_text refusal true) same w.front)
     (λ z. whole_behind then.written mid.written now.written (refusal_text refusal true) same (w.whole z)) (inr broke) broke
@@ -190,32 +200,65 @@ refused site later book pending wire rest then mid now refusal WantOfMemory acco
 refused site later book pending wire rest then mid now refusal Done accounts same none is h = absurd h
 refused site later book pending wire rest then mid now refusal ClientEndedEarly accounts same none is h = absurd h
 
--- a connection over which the dialer did nothing
-pub undialed : (site : Site) (book : Book) (pending : List ℕ) (then now : Heard) (old new : List Transcript) (before after : ℕ) (served : Served)
-    → new ≡ old → after ≡ before → GoesOn site false book book pending then now [] 0 served
-    → IsConnection site book book pending then now old new before after served
-undialed site book pending then now old new before after served e f g = record {
-  transcripts = [];
-  faults = 0;
-  logged = e ∙ sym (append-nil old);
-  rose = omega arith;
-  goes = g;
+-- a book has grown into itself
+pub grows_none : (book : Book) → Grows book book
+grows_none book = record {
+  namespace = refl;
+  sealed = λ k lt. refl;
+  last = λ k volume e placed. record { volume = volume; placed = placed; grown = record { added = []; born = refl; captures = sym (append-nil volume.captures) } };
 }
 
+-- a book without a volume grows into each of its namespace
+pub grows_first : (old new : Book) → old.volumes ≡ [] → new.namespace ≡ old.namespace → Grows old new
+grows_first old new none same = record {
+  namespace = same;
+  sealed = λ k lt. let no : length old.volumes ≡ 0 = ap (λ (l : List Volume). length l) none in let bad : ⊥ = omega (arith, lt, no) in absurd bad;
+  last = λ k volume e placed. let no : length old.volumes ≡ 0 = ap (λ (l : List Volume). length l) none in let bad : ⊥ = omega (arith, e, no) in absurd bad;
+}
+
+-- nothing was asked of the outside
+pub nothing_gained : (clock_tells : Bool) (told : Told) → Gained clock_tells told told no_gains
+nothing_gained clock_tells told = record {
+  asked = λ t few. sym (append-nil told.answers);
+  logged = sym (append-nil told.log);
+  dialer_rose = omega arith;
+  disk_rose = omega arith;
+}
+
+-- a connection over which nothing was asked of the outside
+pub unasked : (clock_tells : Bool) (site : Site) (book : Book) (pending : List ℕ) (then now : Heard) (told : Told) (Left : Book → Type 0) (served : Served)
+    → Left book → GoesOn site false book book pending then now no_gains served
+    → IsConnection clock_tells site book pending then now told told Left served
+unasked clock_tells site book pending then now told Left served left g = record {
+  after = book;
+  gains = no_gains;
+  gained = nothing_gained clock_tells told;
+  goes = g;
+  grown = grows_none book;
+  left = left;
+}
+
+-- the archive has grown by a reply
+grown_by : (head : RequestHead) (target : Target) (reply : Reply) (traces : Traces) → IsReply head target reply traces → Grows traces.before traces.after
+grown_by head target (Fails refusal) traces (is, same) = rw same (grows_none traces.before)
+grown_by head target (Passes received) traces p = grows_first traces.before traces.after p.none_before (ap (λ (b : Book). b.namespace) p.stored)
+grown_by head target LacksMemory traces (is, same) = rw same (grows_none traces.before)
+
 -- a request that was replied to, where the reply was written in part or closes the connection
-pub replied : (site : Site) (book : Book) (pending wire : List ℕ) (then now : Heard) (head : RequestHead) (target : Target) (reply : Reply)
-    (transcripts old new : List Transcript) (before after : ℕ) (text : List ℕ) (served : Served) → IsAsked site wire head target
-    → IsReplied head target reply transcripts text → new ≡ old ++ transcripts → RoseBy (faults_of (Replied head reply)) before after
+pub replied : (clock_tells : Bool) (site : Site) (pending wire : List ℕ) (then now : Heard) (was is : Told) (Left : Book → Type 0) (head : RequestHead) (target : Target)
+    (reply : Reply) (traces : Traces) (text : List ℕ) (served : Served) → IsAsked site wire head target
+    → IsReplied head target reply traces text → Gained clock_tells was is (gains_by (Replied head reply) traces) → Left traces.after
     → Writes text then now → (closes_reply head reply ≡ true) ⊎ (now.faults ≢ 0)
-    → EndsAs served now (round_of book wire (Replied head reply) transcripts text ∷ []) pending
-    → IsConnection site book book (wire ++ pending) then now old new before after served
-replied site book pending wire then now head target reply transcripts old new before after text served asked is logged rose w closes ends = record {
-  transcripts = transcripts;
-  faults = faults_of (Replied head reply);
-  logged = logged;
-  rose = rose;
-  goes = one_round site false book (wire ++ pending) wire pending text then now (Replied head reply) transcripts served
-      (λ done e. w.same_given ∙ e) (refl, record { target = target; asked = asked; replied = is }) w.front w.whole closes ends;
+    → EndsAs served now (round_of wire (Replied head reply) traces text ∷ []) pending
+    → IsConnection clock_tells site traces.before (wire ++ pending) then now was is Left served
+replied clock_tells site pending wire then now was is Left head target reply traces text served asked has gained left w closes ends = record {
+  after = traces.after;
+  gains = gains_by (Replied head reply) traces;
+  gained = gained;
+  goes = one_round site false (wire ++ pending) wire pending text then now (Replied head reply) traces served
+      (λ done e. w.same_given ∙ e) (refl, record { target = target; asked = asked; replied = has }) w.front w.whole closes ends;
+  grown = grown_by head target reply traces has.follows;
+  left = left;
 }
 
 -- how a connection ends with a reply that closes it
@@ -234,54 +277,83 @@ closes_with_reply closes ClientBroke e = absurd e
 closes_with_reply closes ClientEndedEarly e = absurd e
 closes_with_reply closes WantOfMemory e = absurd e
 
+-- a connection that begins with the same contents of the archive
+begins_so : (clock_tells : Bool) (site : Site) (begun book : Book) (pending : List ℕ) (then now : Heard) (was is : Told) (Left : Book → Type 0) (served : Served)
+    → begun ≡ book → IsConnection clock_tells site begun pending then now was is Left served
+    → IsConnection clock_tells site book pending then now was is Left served
+begins_so clock_tells site begun book pending then now was is Left served e c = rw e at c
+
 -- a reply that closes the connection
-pub closed_by_reply : (site : Site) (book : Book) (pending wire : List ℕ) (then now : Heard) (head : RequestHead) (target : Target) (prepared : Prepared)
-    (old new : List Transcript) (before after : ℕ) (served : Served) → IsAsked site wire head target → prepared.end ≡ Some served
-    → IsPrepared head target prepared old new before after → Writes prepared.text then now → now.faults ≡ 0
-    → IsConnection site book book (wire ++ pending) then now old new before after served
-closed_by_reply site book pending wire then now head target prepared old new before after served asked is_end p w none =
+pub closed_by_reply : (clock_tells : Bool) (site : Site) (book : Book) (pending wire : List ℕ) (then now : Heard) (was is : Told) (Left : Book → Type 0)
+    (head : RequestHead) (target : Target) (prepared : Prepared) (served : Served) → IsAsked site wire head target → prepared.end ≡ Some served
+    → IsPrepared clock_tells head target prepared book was is Left → Writes prepared.text then now → now.faults ≡ 0
+    → IsConnection clock_tells site book (wire ++ pending) then now was is Left served
+closed_by_reply clock_tells site book pending wire then now was is Left head target prepared served asked is_end p w none =
     let e = rw is_end at p.ends in
-    replied site book pending wire then now head target p.reply p.transcripts old new before after prepared.text served asked p.replied
-    p.logged p.rose w (inl (closes_with_reply _ served e))
-    (ends_with_reply _ served now _ pending e none (λ c. closed_by_first (closes_reply head p.reply) c))
+    begins_so clock_tells site p.traces.before book (wire ++ pending) then now was is Left served p.begins
+    (replied clock_tells site pending wire then now was is Left head target p.reply p.traces prepared.text served asked p.replied
+    p.gained p.left w (inl (closes_with_reply _ served e))
+    (ends_with_reply _ served now _ pending e none (λ c. closed_by_first (closes_reply head p.reply) c)))
+
+-- a reply that was written in part, since the client's link failed
+pub broken_in_reply : (clock_tells : Bool) (site : Site) (book : Book) (pending wire : List ℕ) (then now : Heard) (was is : Told) (Left : Book → Type 0)
+    (head : RequestHead) (target : Target) (prepared : Prepared) → IsAsked site wire head target
+    → IsPrepared clock_tells head target prepared book was is Left → Writes prepared.text then now → now.faults ≢ 0
+    → IsConnection clock_tells site book (wire ++ pending) then now was is Left ClientBroke
+broken_in_reply clock_tells site book pending wire then now was is Left head target prepared asked p w broke =
+    begins_so clock_tells site p.traces.before book (wire ++ pending) then now was is Left ClientBroke p.begins
+    (replied clock_tells site pending wire then now was is Left head target p.reply p.traces prepared.text ClientBroke asked p.replied
+    p.gained p.left w (inr broke) broke)
+
+-- want of memory for a reply
+pub lacked_reply : (clock_tells : Bool) (site : Site) (book : Book) (pending wire : List ℕ) (then now : Heard) (was is : Told) (Left : Book → Type 0)
+    (head : RequestHead) (target : Target) → IsAsked site wire head target
+    → LacksReply clock_tells head target book was is Left → Writes memory_text then now
+    → IsConnection clock_tells site book (wire ++ pending) then now was is Left WantOfMemory
+lacked_reply clock_tells site book pending wire then now was is Left head target asked p w =
+    begins_so clock_tells site p.traces.before book (wire ++ pending) then now was is Left WantOfMemory p.begins
+    (replied clock_tells site pending wire then now was is Left head target LacksMemory p.traces memory_text WantOfMemory asked
+    (record { follows = p.follows; text_is = refl }) p.gained p.left w (inl refl) tt)
 
 -- a reply behind which the connection goes on
-pub open_behind_reply : (site : Site) (book : Book) (pending wire : List ℕ) (then mid now : Heard) (head : RequestHead) (target : Target)
-    (prepared : Prepared) (old new : List Transcript) (before after : ℕ) (served : Served) → IsAsked site wire head target → prepared.end ≡ None
-    → IsPrepared head target prepared old new before after → Writes prepared.text then mid → mid.faults ≡ 0
-    → GoesOn site true book book pending mid now [] 0 served
-    → IsConnection site book book (wire ++ pending) then now old new before after served
-open_behind_reply site book pending wire then mid now head target prepared old new before after served asked no_end p w none g = record {
-  transcripts = p.transcripts;
-  faults = faults_of (Replied head p.reply);
-  logged = p.logged;
-  rose = p.rose;
-  goes = then_on site book pending wire prepared.text then mid now (Replied head p.reply) p.transcripts served
-      (refl, record { target = target; asked = asked; replied = p.replied }) (rw no_end at p.ends) w.same_given (w.whole none) g;
-}
+pub open_behind_reply : (clock_tells : Bool) (site : Site) (book : Book) (pending wire : List ℕ) (then mid now : Heard) (was is : Told) (Left : Book → Type 0)
+    (head : RequestHead) (target : Target) (prepared : Prepared) (served : Served) → IsAsked site wire head target → prepared.end ≡ None
+    → IsPrepared clock_tells head target prepared book was is Left → Writes prepared.text then mid → mid.faults ≡ 0
+    → ((after : Book) → GoesOn site true after after pending mid now no_gains served)
+    → IsConnection clock_tells site book (wire ++ pending) then now was is Left served
+open_behind_reply clock_tells site book pending wire then mid now was is Left head target prepared served asked no_end p w none g =
+    begins_so clock_tells site p.traces.before book (wire ++ pending) then now was is Left served p.begins (record {
+      after = p.traces.after;
+      gains = gains_by (Replied head p.reply) p.traces;
+      gained = p.gained;
+      goes = then_on site pending wire prepared.text then mid now (Replied head p.reply) p.traces served
+          (refl, record { target = target; asked = asked; replied = p.replied }) (rw no_end at p.ends) w.same_given (w.whole none) (g p.traces.after);
+      grown = grown_by head target p.reply p.traces p.replied.follows;
+      left = p.left;
+    })
 
 -- a connection of which something was read first
-pub read_first : (site : Site) (book : Book) (pending taken : List ℕ) (then mid now : Heard) (old new : List Transcript) (before after : ℕ)
+pub read_first : (clock_tells : Bool) (site : Site) (book : Book) (pending taken : List ℕ) (then mid now : Heard) (was is : Told) (Left : Book → Type 0)
     (served : Served) → StaysAccounted then.given pending mid.given taken → mid.written ≡ then.written
-    → IsConnection site book book taken mid now old new before after served
-    → IsConnection site book book pending then now old new before after served
-read_first site book pending taken then mid now old new before after served accounts same c = record {
-  transcripts = c.transcripts;
-  faults = c.faults;
-  logged = c.logged;
-  rose = c.rose;
+    → IsConnection clock_tells site book taken mid now was is Left served
+    → IsConnection clock_tells site book pending then now was is Left served
+read_first clock_tells site book pending taken then mid now was is Left served accounts same c = record {
+  after = c.after;
+  gains = c.gains;
+  gained = c.gained;
   goes = record {
     rounds = c.goes.rounds;
     rest = c.goes.rest;
     accounts = λ done e. c.goes.accounts done (accounts done e);
     lawful = c.goes.lawful;
-    logged = c.goes.logged;
-    faulted = c.goes.faulted;
+    gained = c.goes.gained;
     front = grows_behind then.written mid.written now.written (course_text c.goes.rounds) same c.goes.front;
     whole = λ z. whole_behind then.written mid.written now.written (course_text c.goes.rounds) same (c.goes.whole z);
     read = c.goes.read;
     ends = c.goes.ends;
   };
+  grown = c.grown;
+  left = c.left;
 }
 
 -- nothing was taken and nothing is pending

@@ -1,5 +1,5 @@
 -- Lists of two words, and of other lengths.
-use Rattle.std.proofs.Common.{◌≡◌, ℕ, ◌+◌, List, [], ◌∷◌, length, map, get_or, arith, refl, Option, Some, None, Bor}
+use Rattle.std.proofs.Common.{◌≡◌, ℕ, List, [], ◌∷◌, length, map, get_or, arith, refl, Option, Some, None, Bor}
 use Rattle.proxy_run.specs.Words.{command_of, command_of_two}
 
 pub command_of-two : (words : List (Bor (List ℕ))) (d e : Bor (List ℕ)) → length words ≡ 2

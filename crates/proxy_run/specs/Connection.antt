@@ -1,16 +1,16 @@
 -- What one connection was, from one moment to its end.
 use Rattle.std.specs.Prelude.{◌≡◌, ◌≢◌, ℕ, ◌⊎◌, Bool, true, false, ◌||◌, List, [], ◌++◌, ⊤}
 use Rattle.std.specs.List.{flat_map}
-use Rattle.outside.specs.declared.dialer.Transcript.{Transcript}
 use Rattle.outside.specs.declared.gate.Heard.{Heard}
 use Rattle.capture.specs.declared.book.Book.{Book}
 use Rattle.capture.specs.declared.site.Site.{Site}
-use Rattle.capture.specs.Faults.{RoseBy}
+use Rattle.capture.specs.Growth.{Grows}
 use Rattle.capture.specs.Head.{after_line_ends}
 use Rattle.proxy_run.specs.declared.session.Served.{Served}
 use Rattle.proxy_run.specs.declared.session.Served.TheVariants.{Done, ClientBroke, ClientEndedEarly, ClientRefused, WantOfMemory}
 use Rattle.proxy_run.specs.FirstRequest.{IsUndecided}
-use Rattle.proxy_run.specs.Rounds.{Round, IsCourse, course_text, is_closed, has_rounds, origin_faults}
+use Rattle.proxy_run.specs.Gains.{Gains, Gained, Told}
+use Rattle.proxy_run.specs.Rounds.{Round, IsCourse, course_text, is_closed, has_rounds, gains_of}
 use Rattle.proxy_run.specs.WireFront.{StaysAccounted}
 use Rattle.proxy_run.specs.WireText.{GrowsByFront}
 
@@ -57,13 +57,12 @@ EndsAs WantOfMemory heard rounds rest = ⊤
 
 -- Lawful rounds and a rest are what the client gave from a moment on, and what was written to it. They come first on
 -- the connection or behind an answer; pending is what was given before that moment and not used yet.
-pub record GoesOn (site : Site) (later : Bool) (before after : Book) (pending : List ℕ) (then now : Heard) (transcripts : List Transcript) (faults : ℕ) (served : Served) : Type 0 where
+pub record GoesOn (site : Site) (later : Bool) (before after : Book) (pending : List ℕ) (then now : Heard) (gains : Gains) (served : Served) : Type 0 where
   pub rounds : List Round
   pub rest : List ℕ
   pub accounts : StaysAccounted then.given pending now.given (flat_map (λ r. r.wire) rounds ++ rest)
   pub lawful : IsCourse site later before rounds after
-  pub logged : flat_map (λ r. r.transcripts) rounds ≡ transcripts
-  pub faulted : origin_faults rounds ≡ faults
+  pub gained : gains_of rounds ≡ gains
   -- the answers, or a front of them where the client's link failed
   pub front : GrowsByFront then.written now.written (course_text rounds)
   pub whole : now.faults ≡ 0 → now.written ≡ then.written ++ course_text rounds
@@ -71,10 +70,12 @@ pub record GoesOn (site : Site) (later : Bool) (before after : Book) (pending : 
   pub read : now.faults ≡ 0 → (is_closed rounds ≡ true) ⊎ WasReadToItsEnd (later || has_rounds rounds) now rest
   pub ends : EndsAs served now rounds rest
 
--- A whole connection, over the transcripts that a dialer's log gained, and with its faults.
-pub record IsConnection (site : Site) (before after : Book) (pending : List ℕ) (then now : Heard) (old new : List Transcript) (faults_before faults_now : ℕ) (served : Served) : Type 0 where
-  pub transcripts : List Transcript
-  pub faults : ℕ
-  pub logged : new ≡ old ++ transcripts
-  pub rose : RoseBy faults faults_before faults_now
-  pub goes : GoesOn site false before after pending then now transcripts faults served
+-- A whole connection, over what the objects beside the client tell. It begins with these contents of the archive, which
+-- only grow, and the disk is left as those that it ends with say.
+pub record IsConnection (clock_tells : Bool) (site : Site) (before : Book) (pending : List ℕ) (then now : Heard) (was is : Told) (Left : Book → Type 0) (served : Served) : Type 0 where
+  pub after : Book
+  pub gains : Gains
+  pub gained : Gained clock_tells was is gains
+  pub goes : GoesOn site false before after pending then now gains served
+  pub grown : Grows before after
+  pub left : Left after

@@ -1,5 +1,5 @@
 -- The first form of a request, and what a connection's bytes ask while only that form is served.
-use Rattle.std.specs.Prelude.{◌≡◌, ◌≢◌, ℕ, ◌⊎◌, Bool, true, false, List, [], map, Ok}
+use Rattle.std.specs.Prelude.{◌≡◌, ℕ, ◌⊎◌, Bool, true, false, List, map, Ok}
 use Rattle.httparse.specs.Grammar as grammar
 use Rattle.capture.specs.Head.{after_line_ends}
 use Rattle.capture.specs.Message.{IsRequestHeadText}

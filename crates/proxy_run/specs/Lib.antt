@@ -4,6 +4,7 @@ pub mod ExchangeForms
 pub mod Fetching
 pub mod FirstAnswer
 pub mod FirstRequest
+pub mod Gains
 pub mod HeadReading
 pub mod HeadSeek
 pub mod HeadSpans
@@ -13,6 +14,7 @@ pub mod Refusals
 pub mod Rounds
 pub mod Run
 pub mod Serving
+pub mod Storing
 pub mod Texts
 pub mod WireBody
 pub mod WireFront

@@ -1,21 +1,26 @@
 -- One connection, as rounds of a request and its answer.
-use Rattle.std.specs.Prelude.{◌≡◌, ℕ, ◌+◌, ◌⊎◌, Bool, true, false, ◌||◌, List, [], ◌∷◌, ◌++◌, map}
+use Rattle.std.specs.Prelude.{◌≡◌, ℕ, ◌⊎◌, Bool, true, false, ◌||◌, List, [], ◌∷◌, map, ⊤}
 use Rattle.std.specs.List.{flat_map}
 use Rattle.outside.specs.declared.dialer.Transcript.{Transcript}
 use Rattle.capture.specs.declared.book.Book.{Book}
+use Rattle.capture.specs.declared.captured.Taken.{Taken}
 use Rattle.capture.specs.declared.framing.Framing.TheVariants.{Empty}
 use Rattle.capture.specs.declared.refusal.Refusal.{Refusal}
-use Rattle.capture.specs.declared.refusal.Refusal.TheVariants.{DialFault, OriginFault, OriginEnded, NotBuilt}
+use Rattle.capture.specs.declared.refusal.Refusal.TheVariants.{ClockRange, DialFault, OriginFault, OriginEnded, NotBuilt, DiskFault}
 use Rattle.capture.specs.declared.site.Site.{Site}
 use Rattle.proxy_run.specs.declared.exchange.aim.Target.{Target}
 use Rattle.proxy_run.specs.declared.http_wire.head.Received.{Received}
 use Rattle.proxy_run.specs.declared.http_wire.head.RequestHead.{RequestHead}
 use Rattle.proxy_run.specs.declared.http_wire.head.Version.{Version}
 use Rattle.proxy_run.specs.declared.http_wire.head.Version.TheVariants.{Http10, Http11}
+use Rattle.time_text.specs.Texts.{InRange}
+use Rattle.warc_text.specs.Books.{KeepsPayload}
 use Rattle.proxy_run.specs.FirstRequest.{IsAsked, IsRefused}
 use Rattle.proxy_run.specs.FirstAnswer.{IsAnswer, IsNoAnswer, IsPartOfAnswer}
+use Rattle.proxy_run.specs.Gains.{Gains, no_gains, both_gains}
 use Rattle.proxy_run.specs.Heads.{minor_of, named_value}
 use Rattle.proxy_run.specs.Refusals.{refusal_text, memory_text}
+use Rattle.proxy_run.specs.Storing.{with_wire, with_first}
 use Rattle.proxy_run.specs.Texts.{forwarded, answered}
 use Rattle.proxy_run.specs.WireText.{IsFrontOf}
 
@@ -33,15 +38,25 @@ pub data Outcome : Type 0 where
   Replied : (request : RequestHead) (reply : Reply) → Outcome
   NoMemory : Outcome
 
--- One request and its answer: the client's bytes that it took, what came of them, the transcripts of the links that
--- were hung up, the text of the answer, and the archive's contents before and after.
+-- What an exchange leaves outside of its connection: the clock's answers, the transcripts of the links that were hung
+-- up, and the archive's contents before and after.
+pub record Traces : Type 0 where
+  pub times : List ℕ
+  pub transcripts : List Transcript
+  pub before : Book
+  pub after : Book
+
+-- nothing was asked, and the archive is as it was
+abbrev pub no_traces : Book → Traces
+no_traces book = record { times = []; transcripts = []; before = book; after = book }
+
+-- One request and its answer: the client's bytes that it took, what came of them, what that left outside, and the text
+-- of the answer.
 pub record Round : Type 0 where
   pub wire : List ℕ
   pub outcome : Outcome
-  pub transcripts : List Transcript
+  pub traces : Traces
   pub text : List ℕ
-  pub before : Book
-  pub after : Book
 
 -- what the origin gets of a request without a body
 abbrev pub sent_of : RequestHead → Target → List ℕ
@@ -65,20 +80,37 @@ pub record WasAskedInPart (head : RequestHead) (target : Target) (t : Transcript
   pub port : t.port ≡ target.port
   pub sent : IsFrontOf t.sent (sent_of head target)
 
--- one transcript, which has P
-pub record OneTranscript (P : Transcript → Type 0) (transcripts : List Transcript) : Type 0 where
-  pub t : Transcript
-  pub only : transcripts ≡ t ∷ []
-  pub holds : P t
+-- The whole request went to the target, which answered in the form that is passed on.
+pub record WasAnswered (head : RequestHead) (target : Target) (received : Received) (t : Transcript) : Type 0 where
+  pub asked : WasAsked head target t
+  pub answer : IsAnswer t.given received
+
+-- the list has one item, which has P
+pub record Single {A : Type 0} (P : A → Type 0) (list : List A) : Type 0 where
+  pub item : A
+  pub only : list ≡ item ∷ []
+  pub holds : P item
+
+-- the capture of an exchange: what the client asked and when, what went to the origin, and what came back
+abbrev pub taken_of : RequestHead → Target → ℕ → Received → Taken
+taken_of head target date received = record {
+  method = head.method;
+  uri = head.target;
+  date = date;
+  request = sent_of head target;
+  head = received.head.text;
+  wire = received.wire;
+}
 
 -- HTTP/1.0 has one request a connection
 abbrev pub is_last_by_version : Version → Bool
 is_last_by_version Http10 = true
 is_last_by_version Http11 = false
 
--- a refusal of the form of an answer closes the connection, and so does want of memory
+-- a refusal of the form of an answer closes the connection, and so do a fault of the disk and want of memory
 abbrev pub closes_by : Reply → Bool
 closes_by (Fails NotBuilt) = true
+closes_by (Fails DiskFault) = true
 closes_by (Fails other) = false
 closes_by (Passes received) = false
 closes_by LacksMemory = true
@@ -86,22 +118,45 @@ closes_by LacksMemory = true
 abbrev pub closes_reply : RequestHead → Reply → Bool
 closes_reply head reply = closes_by reply || is_last_by_version head.version
 
--- a refusal has its cause in the link to the origin
-abbrev pub IsFailure : RequestHead → Target → Refusal → List Transcript → Type 0
-IsFailure head target DialFault transcripts = transcripts ≡ []
-IsFailure head target OriginFault transcripts = OneTranscript (WasAskedInPart head target) transcripts
-IsFailure head target OriginEnded transcripts =
-    OneTranscript (λ t. WasAsked head target t × IsPartOfAnswer t.given × (t.ended ≡ true)) transcripts
-IsFailure head target NotBuilt transcripts = OneTranscript (λ t. WasAsked head target t × IsNoAnswer t.given) transcripts
-IsFailure head target other transcripts = ⊥
+-- a refusal has its cause in the clock, in the link to the origin, or in the disk
+abbrev pub IsFailure : RequestHead → Target → Refusal → Traces → Type 0
+IsFailure head target (ClockRange now) traces =
+    (traces.times ≡ now ∷ []) × (InRange now → ⊥) × (traces.transcripts ≡ [])
+IsFailure head target DialFault traces = Single InRange traces.times × (traces.transcripts ≡ [])
+IsFailure head target OriginFault traces =
+    Single InRange traces.times × Single (WasAskedInPart head target) traces.transcripts
+IsFailure head target OriginEnded traces =
+    Single InRange traces.times
+    × Single (λ t. WasAsked head target t × IsPartOfAnswer t.given × (t.ended ≡ true)) traces.transcripts
+IsFailure head target NotBuilt traces =
+    Single InRange traces.times × Single (λ t. WasAsked head target t × IsNoAnswer t.given) traces.transcripts
+IsFailure head target DiskFault traces =
+    Single InRange traces.times
+    × Single (λ t. (received : Received) × WasAnswered head target received t) traces.transcripts
+IsFailure head target other traces = ⊥
 
--- the reply follows from what went over the link
-abbrev pub IsReply : RequestHead → Target → Reply → List Transcript → Type 0
-IsReply head target (Fails refusal) transcripts = IsFailure head target refusal transcripts
-IsReply head target (Passes received) transcripts =
-    OneTranscript (λ t. WasAsked head target t × IsAnswer t.given received) transcripts
-IsReply head target LacksMemory transcripts =
-    (transcripts ≡ []) ⊎ OneTranscript (WasAskedInPart head target) transcripts
+-- The origin's response was passed on: it is the archive's first capture, with the clock's answer as its date, and its
+-- payload there is the body that the link gave.
+pub record IsPassedOn (head : RequestHead) (target : Target) (received : Received) (traces : Traces) : Type 0 where
+  pub date : ℕ
+  pub timed : traces.times ≡ date ∷ []
+  pub in_range : InRange date
+  pub fetched : Single (WasAnswered head target received) traces.transcripts
+  pub none_before : traces.before.volumes ≡ []
+  pub stored : traces.after ≡ with_first traces.before.namespace (taken_of head target date received)
+  pub payload : KeepsPayload traces.after 0 (with_wire (taken_of head target date received)) received.wire received.wire
+
+-- There was no memory: the clock was asked, and an origin perhaps.
+pub record RanOut (head : RequestHead) (target : Target) (traces : Traces) : Type 0 where
+  pub timed : Single (λ date. ⊤) traces.times
+  pub perhaps_asked : (traces.transcripts ≡ [])
+      ⊎ (Single InRange traces.times × Single (WasAskedInPart head target) traces.transcripts)
+
+-- the reply follows from what the exchange left, and the archive gains a capture only where a response is passed on
+abbrev pub IsReply : RequestHead → Target → Reply → Traces → Type 0
+IsReply head target (Fails refusal) traces = IsFailure head target refusal traces × (traces.after ≡ traces.before)
+IsReply head target (Passes received) traces = IsPassedOn head target received traces
+IsReply head target LacksMemory traces = RanOut head target traces × (traces.after ≡ traces.before)
 
 -- the text of a reply
 abbrev pub reply_text : Reply → Bool → List ℕ
@@ -109,29 +164,32 @@ reply_text (Fails refusal) closes = refusal_text refusal closes
 reply_text (Passes received) closes = passed_on received closes
 reply_text LacksMemory closes = memory_text
 
--- The reply follows from what went over the link, and the text from the reply.
-pub record IsReplied (head : RequestHead) (target : Target) (reply : Reply) (transcripts : List Transcript) (text : List ℕ) : Type 0 where
-  pub follows : IsReply head target reply transcripts
+-- The reply follows from what the exchange left, and the text from the reply.
+pub record IsReplied (head : RequestHead) (target : Target) (reply : Reply) (traces : Traces) (text : List ℕ) : Type 0 where
+  pub follows : IsReply head target reply traces
   pub text_is : text ≡ reply_text reply (closes_reply head reply)
 
 -- The bytes are a request to an origin, which was replied to so.
-pub record IsRequestReplied (site : Site) (wire : List ℕ) (head : RequestHead) (reply : Reply) (transcripts : List Transcript) (text : List ℕ) : Type 0 where
+pub record IsRequestReplied (site : Site) (wire : List ℕ) (head : RequestHead) (reply : Reply) (traces : Traces) (text : List ℕ) : Type 0 where
   pub target : Target
   pub asked : IsAsked site wire head target
-  pub replied : IsReplied head target reply transcripts text
+  pub replied : IsReplied head target reply traces text
+
+-- nothing was asked, and the archive is as it was
+abbrev pub IsUntouched : Traces → Type 0
+IsUntouched traces = traces ≡ no_traces traces.before
 
 -- What came of the bytes is what the definitions say.
-abbrev pub IsOutcome : Site → Bool → List ℕ → Outcome → List Transcript → List ℕ → Type 0
-IsOutcome site later wire (Refused refusal) transcripts text =
-    IsRefused site later wire refusal × (transcripts ≡ []) × (text ≡ refusal_text refusal true)
-IsOutcome site later wire (Replied head reply) transcripts text =
-    (later ≡ false) × IsRequestReplied site wire head reply transcripts text
-IsOutcome site later wire NoMemory transcripts text = (transcripts ≡ []) × (text ≡ memory_text)
+abbrev pub IsOutcome : Site → Bool → List ℕ → Outcome → Traces → List ℕ → Type 0
+IsOutcome site later wire (Refused refusal) traces text =
+    IsRefused site later wire refusal × IsUntouched traces × (text ≡ refusal_text refusal true)
+IsOutcome site later wire (Replied head reply) traces text =
+    (later ≡ false) × IsRequestReplied site wire head reply traces text
+IsOutcome site later wire NoMemory traces text = IsUntouched traces × (text ≡ memory_text)
 
--- A lawful round, the first of its connection or a later one. Nothing is stored.
-pub record IsRound (site : Site) (later : Bool) (r : Round) : Type 0 where
-  pub lawful : IsOutcome site later r.wire r.outcome r.transcripts r.text
-  pub same_book : r.after ≡ r.before
+-- A lawful round, the first of its connection or a later one.
+abbrev pub IsRound : Site → Bool → Round → Type 0
+IsRound site later r = IsOutcome site later r.wire r.outcome r.traces r.text
 
 -- whether the connection ends with this
 abbrev pub closes_outcome : Outcome → Bool
@@ -143,8 +201,8 @@ closes_outcome NoMemory = true
 abbrev pub IsCourse : Site → Bool → Book → List Round → Book → Type 0
 IsCourse site later before [] after = after ≡ before
 IsCourse site later before (r ∷ rounds) after =
-    IsRound site later r × (r.before ≡ before) × (closes_outcome r.outcome ≡ true → rounds ≡ [])
-    × IsCourse site true r.after rounds after
+    IsRound site later r × (r.traces.before ≡ before) × (closes_outcome r.outcome ≡ true → rounds ≡ [])
+    × IsCourse site true r.traces.after rounds after
 
 -- all answers
 abbrev pub course_text : List Round → List ℕ
@@ -161,16 +219,34 @@ has_rounds [] = false
 has_rounds (r ∷ rounds) = true
 
 -- a fault of the dialer or of one of its links was answered
-abbrev pub faults_of : Outcome → ℕ
-faults_of (Refused refusal) = 0
-faults_of (Replied head (Fails DialFault)) = 1
-faults_of (Replied head (Fails OriginFault)) = 1
-faults_of (Replied head (Fails other)) = 0
-faults_of (Replied head (Passes received)) = 0
-faults_of (Replied head LacksMemory) = 0
-faults_of NoMemory = 0
+abbrev pub origin_fault : Outcome → ℕ
+origin_fault (Refused refusal) = 0
+origin_fault (Replied head (Fails DialFault)) = 1
+origin_fault (Replied head (Fails OriginFault)) = 1
+origin_fault (Replied head (Fails other)) = 0
+origin_fault (Replied head (Passes received)) = 0
+origin_fault (Replied head LacksMemory) = 0
+origin_fault NoMemory = 0
 
--- how many rounds were refused for a fault of the dialer or of its links
-abbrev pub origin_faults : List Round → ℕ
-origin_faults [] = 0
-origin_faults (r ∷ rounds) = faults_of r.outcome + origin_faults rounds
+-- a fault of the disk was answered
+abbrev pub disk_fault : Outcome → ℕ
+disk_fault (Refused refusal) = 0
+disk_fault (Replied head (Fails DiskFault)) = 1
+disk_fault (Replied head (Fails other)) = 0
+disk_fault (Replied head (Passes received)) = 0
+disk_fault (Replied head LacksMemory) = 0
+disk_fault NoMemory = 0
+
+-- what an outcome with these traces gained of the outside
+abbrev pub gains_by : Outcome → Traces → Gains
+gains_by outcome traces = record {
+  times = traces.times;
+  transcripts = traces.transcripts;
+  origin_faults = origin_fault outcome;
+  disk_faults = disk_fault outcome;
+}
+
+-- what rounds gained of the outside
+abbrev pub gains_of : List Round → Gains
+gains_of [] = no_gains
+gains_of (r ∷ rounds) = both_gains (gains_by r.outcome r.traces) (gains_of rounds)

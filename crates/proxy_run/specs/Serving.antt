@@ -1,15 +1,18 @@
 -- What the steps of serving a connection leave.
-use Rattle.std.specs.Prelude.{◌≡◌, ◌≢◌, ℕ, ◌≤◌, Bool, true, false, List, [], ◌++◌, Option, Some, None, Result, Ok, Err, ⊤}
-use Rattle.outside.specs.declared.dialer.Transcript.{Transcript}
+use Rattle.std.specs.Prelude.{◌≡◌, ◌≢◌, ℕ, ◌≤◌, ◌⊎◌, Bool, true, false, List, ◌++◌, codes, Option, Some, None, Result, Ok, Err, ⊤}
+use Rattle.std.specs.Str.{bytes_eq}
 use Rattle.outside.specs.declared.gate.Heard.{Heard}
 use Rattle.capture.specs.declared.refusal.Refusal.{Refusal}
 use Rattle.capture.specs.declared.memory.Memory.{Memory}
-use Rattle.capture.specs.Faults.{Rose, RoseBy}
+use Rattle.capture.specs.declared.book.Book.{Book}
+use Rattle.capture.specs.declared.captured.Taken.{Taken}
+use Rattle.capture.specs.Faults.{Rose}
 use Rattle.capture.specs.Message.{IsRequestHeadText}
-use Rattle.capture.specs.declared.refusal.Refusal.TheVariants.{Malformed, NotBuilt}
+use Rattle.capture.specs.declared.refusal.Refusal.TheVariants.{Malformed, NotBuilt, DiskFault}
 use Rattle.httparse.specs.Grammar as grammar
 use Rattle.capture.specs.declared.site.Site.{Site}
 use Rattle.proxy_run.specs.declared.exchange.aim.Target.{Target}
+use Rattle.proxy_run.specs.declared.http_wire.head.Received.{Received}
 use Rattle.proxy_run.specs.declared.http_wire.head.RequestHead.{RequestHead}
 use Rattle.proxy_run.specs.declared.session.Served.{Served}
 use Rattle.proxy_run.specs.declared.session.Served.TheVariants.{Done, ClientBroke, ClientEndedEarly, ClientRefused, WantOfMemory}
@@ -21,7 +24,10 @@ use Rattle.proxy_run.specs.declared.session.waiting.Awaited.TheVariants as await
 use Rattle.proxy_run.specs.FirstRequest.{IsAsked, IsRefused, IsFirstForm, IsOtherFormText, HasBegun}
 use Rattle.proxy_run.specs.HeadReading.{IsOpen, IsBlank, MayBeBlank}
 use Rattle.proxy_run.specs.Heads.{HoldsRequest}
-use Rattle.proxy_run.specs.Rounds.{Reply, LacksMemory, IsReply, IsReplied, closes_reply, faults_of, Replied}
+use Rattle.proxy_run.specs.Gains.{Gained, Told}
+use Rattle.proxy_run.specs.Rounds.{Reply, LacksMemory, IsReply, IsReplied, Traces, closes_reply, gains_by, Replied, passed_on, taken_of}
+use Rattle.proxy_run.specs.Storing.{empty_book, with_first, with_wire}
+use Rattle.warc_text.specs.Books.{KeepsPayload}
 use Rattle.proxy_run.specs.WireFront.{StaysAccounted}
 use Rattle.proxy_run.specs.Connection.{Writes}
 use Rattle.proxy_run.specs.Refusals.{refusal_text, memory_text}
@@ -108,14 +114,15 @@ EndsBy closes (Some ClientBroke) = ⊥
 EndsBy closes (Some ClientEndedEarly) = ⊥
 EndsBy closes (Some WantOfMemory) = ⊥
 
--- The reply that was made ready, and the transcripts that it stands on.
-pub record IsPrepared (head : RequestHead) (target : Target) (prepared : Prepared) (old new : List Transcript) (before now : ℕ) : Type 0 where
+-- The reply that was made ready, what it stands on, and what it left.
+pub record IsPrepared (clock_tells : Bool) (head : RequestHead) (target : Target) (prepared : Prepared) (before : Book) (was now : Told) (Left : Book → Type 0) : Type 0 where
   pub reply : Reply
-  pub transcripts : List Transcript
-  pub logged : new ≡ old ++ transcripts
-  pub replied : IsReplied head target reply transcripts prepared.text
+  pub traces : Traces
+  pub begins : traces.before ≡ before
+  pub replied : IsReplied head target reply traces prepared.text
   pub ends : EndsBy (closes_reply head reply) prepared.end
-  pub rose : RoseBy (faults_of (Replied head reply)) before now
+  pub gained : Gained clock_tells was now (gains_by (Replied head reply) traces)
+  pub left : Left traces.after
 
 -- a reply is ready, with how the connection ends with it
 abbrev pub IsEnd : Option Served → Type 0
@@ -126,16 +133,50 @@ IsEnd (Some ClientBroke) = ⊥
 IsEnd (Some ClientEndedEarly) = ⊥
 IsEnd (Some WantOfMemory) = ⊥
 
--- There was no memory for a reply, and the transcripts that were gained by then.
-pub record LacksReply (head : RequestHead) (target : Target) (old new : List Transcript) (before now : ℕ) : Type 0 where
-  pub transcripts : List Transcript
-  pub logged : new ≡ old ++ transcripts
-  pub rose : RoseBy 0 before now
-  pub follows : IsReply head target LacksMemory transcripts
+-- There was no memory for a reply, and what was left by then.
+pub record LacksReply (clock_tells : Bool) (head : RequestHead) (target : Target) (before : Book) (was now : Told) (Left : Book → Type 0) : Type 0 where
+  pub traces : Traces
+  pub begins : traces.before ≡ before
+  pub follows : IsReply head target LacksMemory traces
+  pub gained : Gained clock_tells was now (gains_by (Replied head LacksMemory) traces)
+  pub left : Left traces.after
 
-abbrev pub Prepares : RequestHead → Target → Result Prepared Memory → List Transcript → List Transcript → ℕ → ℕ → Type 0
-Prepares head target (Ok prepared) old new before now = IsPrepared head target prepared old new before now
-Prepares head target (Err e) old new before now = LacksReply head target old new before now
+abbrev pub Prepares : Bool → RequestHead → Target → Result Prepared Memory → Book → Told → Told → (Book → Type 0) → Type 0
+Prepares clock_tells head target (Ok prepared) before was now Left = IsPrepared clock_tells head target prepared before was now Left
+Prepares clock_tells head target (Err e) before was now Left = LacksReply clock_tells head target before was now Left
+
+-- The response is ready, and the exchange is stored.
+pub record IsKept (prepared : Prepared) (received : Received) (closes : Bool) (taken : Taken) (namespace : List ℕ) (before now : ℕ) (Left : Book → Type 0) : Type 0 where
+  pub text : prepared.text ≡ passed_on received closes
+  pub ends : EndsBy closes prepared.end
+  pub same_count : now ≡ before
+  pub payload : KeepsPayload (with_first namespace taken) 0 (with_wire taken) received.wire received.wire
+  pub left : Left (with_first namespace taken)
+
+-- The disk failed, and the refusal that says so is ready.
+pub record IsDiskRefusal (prepared : Prepared) (book : Book) (before now : ℕ) (Left : Book → Type 0) : Type 0 where
+  pub text : prepared.text ≡ refusal_text DiskFault true
+  pub ends : EndsBy true prepared.end
+  pub rose : Rose before now
+  pub left : Left book
+
+-- There was no memory, and nothing is stored.
+pub record IsUnkept (book : Book) (before now : ℕ) (Left : Book → Type 0) : Type 0 where
+  pub later : before ≤ now
+  pub left : Left book
+
+-- What storing an exchange leaves.
+abbrev pub Keeping : RequestHead → Target → ℕ → Received → Bool → List ℕ → ℕ → ℕ → (Book → Type 0) → Result Prepared Memory → Type 0
+Keeping head target date received closes namespace before now Left (Ok prepared) =
+    IsKept prepared received closes (taken_of head target date received) namespace before now Left
+    ⊎ IsDiskRefusal prepared (empty_book namespace) before now Left
+Keeping head target date received closes namespace before now Left (Err e) =
+    IsUnkept (empty_book namespace) before now Left
+
+-- The request is a GET, and the target is the one that it asks.
+pub record IsGetOf (head : RequestHead) (target : Target) : Type 0 where
+  pub no_head : bytes_eq head.method (codes "HEAD") ≡ false
+  pub uri : target.uri ≡ head.target
 
 -- What refusing bytes for themselves leaves, by how the connection ended.
 abbrev pub IsRefusing : Refusal → Served → Heard → Heard → Type 0

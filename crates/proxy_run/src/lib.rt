@@ -1,12 +1,14 @@
 //! The call that the program makes, and the parts that serve one connection.
 #![tactic(auto)]
 
+mod archive;
 mod exchange;
 mod http_wire;
 mod piping;
 mod running;
 mod session;
 mod status;
+mod storing;
 mod words;
 
 pub use running::{CREW, Crew, Ran, run};

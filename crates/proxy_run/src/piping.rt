@@ -1,28 +1,41 @@
 //! The command `pipe`: the gate's first connection.
-ghost use Rattle.std.specs.Prelude.{◌≡◌, ◌<◌, ◌≤◌, ◌⊎◌, [], List, ℕ, IsTrue, IfOk};
-ghost use Rattle.capture.specs.declared.book.Book.{Book};
+ghost use Rattle.std.specs.Prelude.{◌≡◌, ◌<◌, ◌≤◌, ◌⊎◌, [], IsTrue, IfOk};
 ghost use Rattle.outside.specs.Link.{IsFresh};
 ghost use Rattle.proxy_run.specs.Connection.{IsConnection, heard_of};
+ghost use Rattle.proxy_run.specs.Gains.{told_of};
 ghost use Rattle.proxy_run.specs.Pipe as spec;
 ghost use Rattle.proxy_run.specs.Pipe.{pipe_site, Serves, ServesOne};
+ghost use Rattle.proxy_run.specs.Storing.{Keeps, empty_book};
 
+use crate::archive::Archive;
 use crate::session::{Served, give_up, serve};
 use crate::status::Status;
 use capture::{Memory, Site, Text};
-use outside::{Accepted, Dialer, Gate, Link};
+use disk_model::Disk;
+use outside::{Accepted, Clock, Dialer, Gate, Link};
 use std::alloc::Global;
 
-/// Serves the gate's first connection with the dialer, and hangs it up.
-pub fn pipe<G: Gate, N: Dialer>(alloc: Global, gate: &mut G, dialer: &mut N) -> Status
-    ensures serves { IsTrue G.Link.tells → IsTrue N.Link.tells → (namespace : List ℕ) → Serves namespace
+/// Serves the gate's first connection with the dialer and the clock, from an empty archive, and hangs it up.
+pub fn pipe<D: Disk, G: Gate, N: Dialer, C: Clock>(
+    alloc: Global,
+    archive: &mut Archive<D>,
+    gate: &mut G,
+    dialer: &mut N,
+    clock: &mut C,
+) -> Status
+    requires empty { IsTrue D.tells → (D.reading archive.old.disk).warc ≡ [] }
+    ensures serves { IsTrue G.Link.tells → IsTrue N.Link.tells → Serves C.tells archive.old.namespace
         (G.closed gate.old) (G.faults gate.old) (G.faults gate.new) (G.log gate.old) (G.log gate.new)
-        (N.log dialer.old) (N.log dialer.new) (N.faults dialer.old) (N.faults dialer.new) result }
+        (told_of C.answers N.log N.faults D.faults clock.old dialer.old archive.old.disk)
+        (told_of C.answers N.log N.faults D.faults clock.new dialer.new archive.new.disk)
+        (Keeps D.tells (D.faults archive.old.disk) (D.faults archive.new.disk) (D.reading archive.new.disk) (D.images archive.new.disk)
+        (empty_book archive.old.namespace)) result }
     ensures ends { spec.IsEnd result }
     ensures gate_failed { (result ≡ Status.Outside) ⊎ (G.faults gate.new ≡ G.faults gate.old) }
     ensures later { G.faults gate.old ≤ G.faults gate.new }
 {
     match gate.accept() {
-        Accepted::Connection(link) => serve_link(alloc, gate, link, dialer),
+        Accepted::Connection(link) => serve_link(alloc, archive, gate, link, dialer, clock),
         Accepted::Closed => Status::Done,
         Accepted::Failed => Status::Outside,
         Accepted::Memory => Status::Memory,
@@ -30,36 +43,52 @@ pub fn pipe<G: Gate, N: Dialer>(alloc: Global, gate: &mut G, dialer: &mut N) -> 
 }
 
 /// Serves a fresh connection, and hangs it up.
-fn serve_link<G: Gate, N: Dialer>(
+fn serve_link<D: Disk, G: Gate, N: Dialer, C: Clock>(
     alloc: Global,
+    archive: &mut Archive<D>,
     gate: &mut G,
     link: G::Link,
     dialer: &mut N,
+    clock: &mut C,
 ) -> Status
+    requires empty { IsTrue D.tells → (D.reading archive.old.disk).warc ≡ [] }
     requires out { IsTrue G.Link.tells → 0 < G.out gate.old }
     requires no_fault { G.Link.faults link ≡ 0 }
     requires fresh { IsTrue G.Link.tells → IsFresh G.Link.given G.Link.taken G.Link.ended link }
-    ensures serves { IsTrue G.Link.tells → IsTrue N.Link.tells → (namespace : List ℕ) → ServesOne namespace
+    ensures serves { IsTrue G.Link.tells → IsTrue N.Link.tells → ServesOne C.tells archive.old.namespace
         (G.log gate.old) (G.log gate.new)
-        (N.log dialer.old) (N.log dialer.new) (N.faults dialer.old) (N.faults dialer.new) result }
+        (told_of C.answers N.log N.faults D.faults clock.old dialer.old archive.old.disk)
+        (told_of C.answers N.log N.faults D.faults clock.new dialer.new archive.new.disk)
+        (Keeps D.tells (D.faults archive.old.disk) (D.faults archive.new.disk) (D.reading archive.new.disk) (D.images archive.new.disk)
+        (empty_book archive.old.namespace)) result }
     ensures ends { spec.IsEnd result }
     ensures same_faults { G.faults gate.new ≡ G.faults gate.old }
 {
     let mut link = link;
-    let served = serve_site(alloc, &mut link, dialer);
+    let served = serve_site(alloc, archive, &mut link, dialer, clock);
     gate.hang_up(G::end(link));
     status_of(served)
 }
 
 /// Serves a connection by the site of `pipe`.
-fn serve_site<L: Link, N: Dialer>(alloc: Global, client: &mut L, dialer: &mut N) -> Served
-    requires { L.faults client.old ≡ 0 }
-    ensures serves { IsTrue L.tells → IsTrue N.Link.tells → (book : Book) → IsConnection pipe_site book book []
+fn serve_site<D: Disk, L: Link, N: Dialer, C: Clock>(
+    alloc: Global,
+    archive: &mut Archive<D>,
+    client: &mut L,
+    dialer: &mut N,
+    clock: &mut C,
+) -> Served
+    requires no_fault { L.faults client.old ≡ 0 }
+    requires empty { IsTrue D.tells → (D.reading archive.old.disk).warc ≡ [] }
+    ensures serves { IsTrue L.tells → IsTrue N.Link.tells → IsConnection C.tells pipe_site (empty_book archive.old.namespace) []
         (heard_of L.given L.ended L.taken L.faults client.old) (heard_of L.given L.ended L.taken L.faults client.new)
-        (N.log dialer.old) (N.log dialer.new) (N.faults dialer.old) (N.faults dialer.new) result }
+        (told_of C.answers N.log N.faults D.faults clock.old dialer.old archive.old.disk)
+        (told_of C.answers N.log N.faults D.faults clock.new dialer.new archive.new.disk)
+        (Keeps D.tells (D.faults archive.old.disk) (D.faults archive.new.disk) (D.reading archive.new.disk) (D.images archive.new.disk)
+        (empty_book archive.old.namespace)) result }
 {
     match site_of_pipe(alloc) {
-        Ok(site) => serve(alloc, client, dialer, &site),
+        Ok(site) => serve(alloc, archive, client, dialer, clock, &site),
         Err(Memory) => give_up(client),
     }
 }

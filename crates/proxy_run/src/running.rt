@@ -1,20 +1,23 @@
 //! The call that the program makes.
 ghost use Rattle.std.specs.Prelude.{◌≡◌, ◌⊎◌, List, ℕ, None, Some, length, drop, slice_index_or, IsTrue};
-ghost use Rattle.proxy_run.specs.Pipe.{Serves, IsEnd};
-ghost use Rattle.proxy_run.specs.Run.{texts, IsUsage, Prints};
+ghost use Rattle.proxy_run.specs.Gains.{told_of};
+ghost use Rattle.proxy_run.specs.Pipe.{Serves, RefusesArchive, OpensEmpty};
+ghost use Rattle.proxy_run.specs.Run.{texts, usage, IsToldAs, Prints};
+ghost use Rattle.proxy_run.specs.Storing.{Keeps, empty_book};
 ghost use Rattle.proxy_run.specs.Words.{command_of};
 ghost use Rattle.proxy_run.specs.declared.words.Command.TheVariants.{Pipe};
 
 #[cfg(test)]
 mod tests;
 
+use crate::archive::Archive;
 use crate::http_wire::print_all;
 use crate::piping::pipe;
 use crate::status::Status;
 use crate::words;
 use crate::words::Command;
 use capture::Failed;
-use disk_model::Disk;
+use disk_model::{Disk, Kind};
 use outside::{Clock, Dialer, Gate, Sink};
 use std::alloc::Global;
 use std::sync::Wait;
@@ -24,6 +27,10 @@ use std::thread::Threads;
 pub const CREW: usize = 16;
 
 const USAGE: &[u8] = b"usage: memproxy pipe NS, serve NS BASE WORKERS, check, trial COUNT NUMBER\n";
+
+const NOT_EMPTY: &[u8] = b"archive not empty\n";
+
+const DISK_FAULT: &[u8] = b"disk fault\n";
 
 /// Dialers, each with a clock of its own. `pipe` uses the first.
 #[derive(Debug, Drop)]
@@ -38,8 +45,9 @@ pub struct Ran<D> {
     pub disk: D,
 }
 
-/// Does what the words say. `pipe NS` serves the gate's first connection with the first member's dialer; NS is a
-/// UUID, in lower case with hyphens. All other words print the usage.
+/// Does what the words say. `pipe NS` serves the gate's first connection with the first member's dialer and clock, over
+/// a disk without a Warc file; NS is the archive's namespace, a UUID in lower case with hyphens. What the client is given
+/// of an origin stands on the disk first. All other words print the usage.
 pub fn run<R, D, G, N, C, O>(
     rt: &R,
     alloc: Global,
@@ -62,45 +70,65 @@ where
 
     // Faulty words print the usage, and nothing else happens.
     ensures words { result.status ≡ Status.Words → command_of (texts words.now) ≡ None }
-    ensures usage { command_of (texts words.now) ≡ None → IsUsage result.status (O.faults out.old) (O.faults out.new) }
-    ensures prints { IsTrue O.tells → command_of (texts words.now) ≡ None → Prints result.status (O.written out.old) (O.written out.new) }
+    ensures usage { command_of (texts words.now) ≡ None → IsToldAs Status.Words result.status (O.faults out.old) (O.faults out.new) }
+    ensures prints { IsTrue O.tells → command_of (texts words.now) ≡ None
+        → Prints Status.Words usage result.status (O.written out.old) (O.written out.new) }
     ensures idle_gate { command_of (texts words.now) ≡ None → gate.new ≡ gate.old }
     ensures idle_crew { command_of (texts words.now) ≡ None → crew.new.members.items ≡ crew.old.members.items }
+    ensures idle_disk { command_of (texts words.now) ≡ None → result.disk ≡ disk }
 
-    // `pipe` serves the gate's first connection, and prints nothing.
-    ensures serves { IsTrue G.Link.tells → IsTrue N.Link.tells → (namespace : List ℕ) (d : N × C)
-        → command_of (texts words.now) ≡ Some (Pipe namespace) → Serves namespace
+    // `pipe` refuses an archive that isn't empty, or serves the gate's first connection and prints nothing.
+    ensures pipes { (namespace : List ℕ) (d : N × C) → command_of (texts words.now) ≡ Some (Pipe namespace)
+        → RefusesArchive D.tells (D.reading disk).warc (D.faults disk) (D.faults result.disk)
+        O.tells (O.faults out.old) (O.faults out.new) (O.written out.old) (O.written out.new)
+        (D.reading result.disk ≡ D.reading disk)
+        ((gate.new ≡ gate.old) × (crew.new.members.items ≡ crew.old.members.items)) result.status
+        ⊎ OpensEmpty D.tells (D.reading disk).warc (out.new ≡ out.old) (G.faults gate.new ≡ G.faults gate.old)
+        (IsTrue G.Link.tells → IsTrue N.Link.tells → Serves C.tells namespace
         (G.closed gate.old) (G.faults gate.old) (G.faults gate.new) (G.log gate.old) (G.log gate.new)
-        (N.log (slice_index_or crew.old.members.items 0 d).0) (N.log (slice_index_or crew.new.members.items 0 d).0)
-        (N.faults (slice_index_or crew.old.members.items 0 d).0) (N.faults (slice_index_or crew.new.members.items 0 d).0) result.status }
-    ensures ends { (namespace : List ℕ) → command_of (texts words.now) ≡ Some (Pipe namespace) → IsEnd result.status }
-    ensures gate_failed { (namespace : List ℕ) → command_of (texts words.now) ≡ Some (Pipe namespace)
-        → (result.status ≡ Status.Outside) ⊎ (G.faults gate.new ≡ G.faults gate.old) }
-    ensures same_clock { (d : N × C) → (slice_index_or crew.new.members.items 0 d).1 ≡ (slice_index_or crew.old.members.items 0 d).1 }
+        (told_of C.answers N.log N.faults D.faults (slice_index_or crew.old.members.items 0 d).1 (slice_index_or crew.old.members.items 0 d).0 disk)
+        (told_of C.answers N.log N.faults D.faults (slice_index_or crew.new.members.items 0 d).1 (slice_index_or crew.new.members.items 0 d).0 result.disk)
+        (Keeps D.tells (D.faults disk) (D.faults result.disk) (D.reading result.disk) (D.images result.disk) (empty_book namespace))
+        result.status) result.status }
     ensures same_others { drop 1 crew.new.members.items ≡ drop 1 crew.old.members.items }
-    ensures same_sink { (namespace : List ℕ) → command_of (texts words.now) ≡ Some (Pipe namespace) → out.new ≡ out.old }
-
-    ensures same_disk { result.disk ≡ disk }
 {
-    let status = match words::command_of(words) {
-        Some(Command::Pipe(_)) => pipe(alloc, gate, &mut crew.members[0].0),
-        None => {
+    let Some(command) = words::command_of(words) else {
+        return Ran {
+            status: print_as(out, USAGE, Status::Words),
+            disk,
+        };
+    };
+    let mut archive = Archive::of(disk, command);
+    match archive.disk.files(Kind::Warc) {
+        Ok(0) => {}
+        Ok(_) => {
             return Ran {
-                status: print_usage(out),
-                disk,
+                status: print_as(out, NOT_EMPTY, Status::Archive),
+                disk: archive.into_disk(),
             };
         }
-    };
-    Ran { status, disk }
+        Err(Failed) => {
+            return Ran {
+                status: print_as(out, DISK_FAULT, Status::Archive),
+                disk: archive.into_disk(),
+            };
+        }
+    }
+    let member = &mut crew.members[0];
+    let status = pipe(alloc, &mut archive, gate, &mut member.0, &mut member.1);
+    Ran {
+        status,
+        disk: archive.into_disk(),
+    }
 }
 
-/// Prints what the words may be.
-fn print_usage<O: Sink>(out: &mut O) -> Status
-    ensures usage { IsUsage result (O.faults out.old) (O.faults out.new) }
-    ensures prints { IsTrue O.tells → Prints result (O.written out.old) (O.written out.new) }
+/// Prints why nothing is served. The status says so, unless the sink failed.
+fn print_as<O: Sink>(out: &mut O, text: &[u8], status: Status) -> Status
+    ensures status { IsToldAs status result (O.faults out.old) (O.faults out.new) }
+    ensures prints { IsTrue O.tells → Prints status text.now result (O.written out.old) (O.written out.new) }
 {
-    match print_all(out, USAGE) {
-        Ok(()) => Status::Words,
+    match print_all(out, text) {
+        Ok(()) => status,
         Err(Failed) => Status::Outside,
     }
 }

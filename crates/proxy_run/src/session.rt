@@ -5,18 +5,24 @@ ghost use Rattle.capture.specs.declared.site.Site.{Site};
 ghost use Rattle.capture.specs.Faults.{Rose, CountsFaults};
 ghost use Rattle.proxy_run.specs.Connection.{IsConnection, GoesOn, Writes, heard_of};
 ghost use Rattle.proxy_run.specs.FirstRequest.{IsAsked};
+ghost use Rattle.proxy_run.specs.Gains.{no_gains, told_of};
 ghost use Rattle.proxy_run.specs.Refusals.{memory_text};
 ghost use Rattle.proxy_run.specs.Serving.{IsRefusing};
+ghost use Rattle.proxy_run.specs.Storing.{Keeps, empty_book};
 
+mod keeping;
+mod preparing;
 mod replies;
 mod requests;
 mod waiting;
 
+use crate::archive::Archive;
 use crate::exchange::{Target, memory_text, refusal_text};
 use crate::http_wire::{RequestHead, Window, write_all};
 use capture::{Failed, Memory, Refusal, Site};
-use outside::{Dialer, Link};
-use replies::prepare;
+use disk_model::Disk;
+use outside::{Clock, Dialer, Link};
+use preparing::prepare;
 use requests::{Requested, read_request};
 use std::alloc::Global;
 use waiting::{Awaited, await_request};
@@ -36,17 +42,24 @@ pub enum Served {
     WantOfMemory,
 }
 
-/// Serves one connection: one request of the first form, and a refusal of what comes behind its answer.
-pub fn serve<L: Link, N: Dialer>(
+/// Serves one connection: one request of the first form, whose exchange is stored before it is answered, and a refusal of
+/// what comes behind its answer.
+pub fn serve<D: Disk, L: Link, N: Dialer, C: Clock>(
     alloc: Global,
+    archive: &mut Archive<D>,
     client: &mut L,
     dialer: &mut N,
+    clock: &mut C,
     site: &Site,
 ) -> Served
-    requires { L.faults client.old ≡ 0 }
-    ensures serves { IsTrue L.tells → IsTrue N.Link.tells → (book : Book) → IsConnection site.now book book []
+    requires no_fault { L.faults client.old ≡ 0 }
+    requires empty { IsTrue D.tells → (D.reading archive.old.disk).warc ≡ [] }
+    ensures serves { IsTrue L.tells → IsTrue N.Link.tells → IsConnection C.tells site.now (empty_book archive.old.namespace) []
         (heard_of L.given L.ended L.taken L.faults client.old) (heard_of L.given L.ended L.taken L.faults client.new)
-        (N.log dialer.old) (N.log dialer.new) (N.faults dialer.old) (N.faults dialer.new) result }
+        (told_of C.answers N.log N.faults D.faults clock.old dialer.old archive.old.disk)
+        (told_of C.answers N.log N.faults D.faults clock.new dialer.new archive.new.disk)
+        (Keeps D.tells (D.faults archive.old.disk) (D.faults archive.new.disk) (D.reading archive.new.disk) (D.images archive.new.disk)
+        (empty_book archive.old.namespace)) result }
     ensures later { L.faults client.old ≤ L.faults client.new }
     ensures broke { result ≡ Served.ClientBroke → Rose (L.faults client.old) (L.faults client.new) }
 {
@@ -54,7 +67,18 @@ pub fn serve<L: Link, N: Dialer>(
         return give_up(client);
     };
     match read_request(alloc, client, &mut window, site) {
-        Requested::Asks(head, target) => answer(alloc, client, dialer, &mut window, head, target),
+        Requested::Asks(head, target) => {
+            answer(
+                alloc,
+                archive,
+                client,
+                dialer,
+                clock,
+                &mut window,
+                head,
+                target,
+            )
+        }
         Requested::Refused(refusal) => refuse(alloc, client, refusal),
         Requested::Ended => Served::Done,
         Requested::EndedEarly => Served::ClientEndedEarly,
@@ -64,23 +88,29 @@ pub fn serve<L: Link, N: Dialer>(
 }
 
 /// Answers a request, and goes on behind the answer.
-fn answer<L: Link, N: Dialer>(
+fn answer<D: Disk, L: Link, N: Dialer, C: Clock>(
     alloc: Global,
+    archive: &mut Archive<D>,
     client: &mut L,
     dialer: &mut N,
+    clock: &mut C,
     window: &mut Window,
     head: RequestHead,
     target: Target,
 ) -> Served
-    requires { L.faults client.old ≡ 0 }
-    ensures serves { IsTrue L.tells → IsTrue N.Link.tells → (site : Site) (book : Book) (wire : List ℕ) → IsAsked site wire head target
-        → IsConnection site book book (wire ++ window.old)
+    requires no_fault { L.faults client.old ≡ 0 }
+    requires empty { IsTrue D.tells → (D.reading archive.old.disk).warc ≡ [] }
+    ensures serves { IsTrue L.tells → IsTrue N.Link.tells → (site : Site) (wire : List ℕ) → IsAsked site wire head target
+        → IsConnection C.tells site (empty_book archive.old.namespace) (wire ++ window.old)
         (heard_of L.given L.ended L.taken L.faults client.old) (heard_of L.given L.ended L.taken L.faults client.new)
-        (N.log dialer.old) (N.log dialer.new) (N.faults dialer.old) (N.faults dialer.new) result }
+        (told_of C.answers N.log N.faults D.faults clock.old dialer.old archive.old.disk)
+        (told_of C.answers N.log N.faults D.faults clock.new dialer.new archive.new.disk)
+        (Keeps D.tells (D.faults archive.old.disk) (D.faults archive.new.disk) (D.reading archive.new.disk) (D.images archive.new.disk)
+        (empty_book archive.old.namespace)) result }
     ensures later { L.faults client.old ≤ L.faults client.new }
     ensures broke { result ≡ Served.ClientBroke → Rose (L.faults client.old) (L.faults client.new) }
 {
-    let prepared = match prepare(alloc, dialer, head, &target) {
+    let prepared = match prepare(alloc, archive, dialer, clock, head, target) {
         Ok(prepared) => prepared,
         Err(Memory) => return give_up(client),
     };
@@ -99,7 +129,7 @@ fn go_on<L: Link>(alloc: Global, client: &mut L, window: &mut Window) -> Served
     requires { L.faults client.old ≡ 0 }
     ensures goes { IsTrue L.tells → (site : Site) (book : Book) → GoesOn site true book book window.old
         (heard_of L.given L.ended L.taken L.faults client.old) (heard_of L.given L.ended L.taken L.faults client.new)
-        [] 0 result }
+        no_gains result }
     ensures later { L.faults client.old ≤ L.faults client.new }
     ensures broke { result ≡ Served.ClientBroke → Rose (L.faults client.old) (L.faults client.new) }
 {

@@ -2,6 +2,8 @@
 ghost use Rattle.std.specs.Prelude.{IfOk, All};
 ghost use Rattle.outside.specs.MemoryLink.{IsNew};
 
+mod stored;
+
 use super::*;
 use disk_model::MemoryDisk;
 use outside::{MemoryClock, MemoryDialer, MemoryGate, MemoryLink, MemorySink};
@@ -38,18 +40,26 @@ const ORIGIN_FAULT: &[u8] =
 const ORIGIN_ENDED: &[u8] =
     b"HTTP/1.1 502 Bad Gateway\r\nContent-Type: text/plain\r\nContent-Length: 12\r\n\r\nOriginEnded\n";
 
+const CLOCK_RANGE: &[u8] =
+    b"HTTP/1.1 500 Internal Server Error\r\nContent-Type: text/plain\r\nContent-Length: 24\r\n\r\nClockRange 253402300800\n";
+
+const DISK_FAULT: &[u8] =
+    b"HTTP/1.1 507 Insufficient Storage\r\nContent-Type: text/plain\r\nContent-Length: 10\r\nConnection: close\r\n\r\nDiskFault\n";
+
 const USAGE: &[u8] = b"usage: memproxy pipe NS, serve NS BASE WORKERS, check, trial COUNT NUMBER\n";
 
-/// What one connection is made of: what the client and the origin give, whether a call moves one byte at most, and
-/// the numbers of the calls that fail on the client's link, in dialing and on the origin's link.
+/// What one connection is made of: what the client, the origin and the clock give, whether a call moves one byte at
+/// most, and the numbers of the calls that fail on the client's link, in dialing, on the origin's link and on the disk.
 #[derive(Clone, Copy)]
 struct Case {
     client: &'static [u8],
     origin: &'static [u8],
+    clock: &'static [u64],
     by_the_byte: bool,
     client_fails: &'static [u64],
     dial_fails: &'static [u64],
     origin_fails: &'static [u64],
+    disk_fails: &'static [u64],
 }
 
 /// A case in which nothing fails.
@@ -57,10 +67,12 @@ const fn plain(client: &'static [u8], origin: &'static [u8]) -> Case {
     Case {
         client,
         origin,
+        clock: &[],
         by_the_byte: false,
         client_fails: &[],
         dial_fails: &[],
         origin_fails: &[],
+        disk_fails: &[],
     }
 }
 
@@ -90,10 +102,13 @@ fn dialer_of(alloc: Global, case: &Case) -> Result<MemoryDialer, AllocError> {
     Ok(MemoryDialer::new(alloc, links, case.dial_fails.to_vec(alloc)?))
 }
 
-/// A crew whose first member dials the case's origin.
+/// A crew whose first member dials the case's origin and asks the case's clock.
 fn crew_of(alloc: Global, case: &Case) -> Result<Crew<MemoryDialer, MemoryClock>, AllocError> {
     let mut members = Vec::new(alloc);
-    members.push((dialer_of(alloc, case)?, MemoryClock::new(Vec::new(alloc))))?;
+    members.push((
+        dialer_of(alloc, case)?,
+        MemoryClock::new(case.clock.to_vec(alloc)?),
+    ))?;
     for _ in 1..CREW {
         members.push((
             MemoryDialer::new(alloc, Vec::new(alloc), Vec::new(alloc)),
@@ -145,7 +160,7 @@ fn runs<R: Threads + Wait + Sync>(
         return Ok(false);
     }
     let mut out = MemorySink::new(alloc, Vec::new(alloc));
-    let disk = MemoryDisk::new(alloc, Vec::new(alloc));
+    let disk = MemoryDisk::new(alloc, case.disk_fails.to_vec(alloc)?);
     let ran = run(rt, alloc, words, disk, &mut gate, &mut crew, &mut out);
     Ok(
         ran.status == status
@@ -270,6 +285,27 @@ fn faults_are_answered_or_end_the_connection(rt: HostRuntime) -> Result<(), Fail
             "{:?} {:?}",
             case.dial_fails,
             case.origin_fails
+        );
+    }
+    Ok(())
+}
+
+#[test]
+fn a_time_past_the_year_9999_is_refused_undialed(rt: HostRuntime) -> Result<(), Fail> {
+    let last = Case {
+        clock: &[253402300799],
+        ..plain(REQUEST, HELLO)
+    };
+    let past = Case {
+        clock: &[253402300800],
+        ..plain(REQUEST, HELLO)
+    };
+    let cases = [(last, ANSWER, Some(SENT)), (past, CLOCK_RANGE, None)];
+    for (case, written, sent) in cases {
+        assert!(rt;
+            pipes(&rt, rt.alloc(), &case, Status::Done, written, sent)?,
+            "{:?}",
+            case.clock
         );
     }
     Ok(())

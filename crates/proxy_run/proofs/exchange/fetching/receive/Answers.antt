@@ -1,5 +1,5 @@
 -- The bytes that the link gave are those of the head, of the body and those left in the window.
-use Rattle.std.proofs.Common.{◌≡◌, ◌++◌, sym, ◌∙◌, inl, inr, ap, Err}
+use Rattle.std.proofs.Common.{sym, inl, inr, ap, Err}
 use Rattle.proxy_run.proofs.ReceiveLaws.{from_start, no_answer, ended_in_head, whole_answer, lacks_body}
 use Rattle.proxy_run.proofs.exchange.fetching.receive.Goals as goal
 

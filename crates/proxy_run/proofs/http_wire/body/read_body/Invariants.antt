@@ -1,5 +1,5 @@
 -- The body so far and the pending bytes are what the link gave.
-use Rattle.std.proofs.Common.{◌≡◌, ℕ, ◌-◌, ◌≤◌, ◌++◌, IsTrue, vec_len}
+use Rattle.std.proofs.Common.{◌≡◌, ◌-◌, ◌≤◌, ◌++◌, IsTrue, vec_len}
 use Rattle.proxy_run.specs.WireFront.{StaysAccounted}
 use Rattle.proxy_run.proofs.http_wire.body.read_body.Given as goal
 
