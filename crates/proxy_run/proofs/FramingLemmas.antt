@@ -58,7 +58,7 @@ nowhere p q implies (f ∷ fields) h =
     ap (λ b. b || list_any p fields) (never (p f) (λ yes. clash (q f) (implies f yes) parts.0))
     ∙ nowhere p q implies fields parts.1
 
-no_coding : (fields : List NamedValue) → has_hop fields ≡ false → has_field transfer_encoding fields ≡ false
+pub no_coding : (fields : List NamedValue) → has_hop fields ≡ false → has_field transfer_encoding fields ≡ false
 no_coding fields h = nowhere (is_named transfer_encoding) (λ f. is_hop f.0) hop_transfer_encoding fields h
 
 -- ---- a text of digits

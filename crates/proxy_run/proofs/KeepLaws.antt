@@ -1,25 +1,22 @@
 -- What storing an exchange leaves.
-use Rattle.std.proofs.Common.{◌≡◌, ℕ, ◌≤◌, Bool, true, List, ◌++◌, Result, Ok, Err, IfOk, length, codes, refl, sym, subst, inl, inr}
+use Rattle.std.proofs.Common.{◌≡◌, ℕ, Bool, List, ◌++◌, Ok, length, codes, refl, sym, subst, inl}
 use Rattle.std.specs.Str.{bytes_eq}
 use Rattle.httparse.specs.Grammar as grammar
 use Rattle.capture.specs.declared.book.Book.{Book}
 use Rattle.capture.specs.declared.captured.Taken.{Taken}
 use Rattle.capture.specs.declared.framing.Framing.{Framing}
 use Rattle.capture.specs.declared.framing.Framing.TheVariants.{Length}
-use Rattle.capture.specs.declared.memory.Memory.{Memory}
-use Rattle.capture.specs.declared.refusal.Refusal.TheVariants.{DiskFault}
-use Rattle.capture.specs.Faults.{Rose}
 use Rattle.capture.specs.Message.{IsWholeResponse}
 use Rattle.proxy_run.specs.declared.exchange.aim.Target.{Target}
 use Rattle.proxy_run.specs.declared.http_wire.head.Received.{Received}
 use Rattle.proxy_run.specs.declared.http_wire.head.RequestHead.{RequestHead}
 use Rattle.proxy_run.specs.declared.session.replies.Prepared.{Prepared}
 use Rattle.proxy_run.specs.FirstAnswer.{IsAnswer}
-use Rattle.proxy_run.specs.Refusals.{refusal_text}
 use Rattle.proxy_run.specs.Rounds.{taken_of, passed_on}
 use Rattle.proxy_run.specs.Serving.{IsGetOf, Keeping, EndsBy}
-use Rattle.proxy_run.specs.Storing.{empty_book, with_first}
+use Rattle.proxy_run.specs.Storing.{with_first}
 use Rattle.proxy_run.proofs.StoringLaws.{keeps_payload}
+use Rattle.proxy_run.proofs.WellFormedLaws.{taken_of_get}
 use Rattle.proxy_run.proofs.WholeAnswers.{whole_of_answer}
 
 -- the taken capture's head and wire are one whole response to its method
@@ -50,16 +47,7 @@ stored head target date given received closes namespace before now Left taken pa
       text = text;
       ends = ends;
       same_count = same;
+      well_formed = taken_of_get head target date given received get answer;
       payload = keeps_payload namespace (taken_of head target date received) received.wire v.0 (Length (length received.wire)) v.1;
       left = subst (λ (t : Taken). Left (with_first namespace t)) is (left w.0 (Length (length taken.wire)) whole);
     })
-
--- an exchange that wasn't stored for a fault of the disk
-pub disk_failed : (head : RequestHead) (target : Target) (date : ℕ) (received : Received) (closes : Bool) (namespace : List ℕ) (before now : ℕ)
-    (Left : Book → Type 0) (result : Result Prepared Memory) → IfOk result (λ p. p.text ≡ refusal_text DiskFault true)
-    → IfOk result (λ p. EndsBy true p.end) → before ≤ now → Rose before now → Left (empty_book namespace)
-    → Keeping head target date received closes namespace before now Left result
-disk_failed head target date received closes namespace before now Left (Ok prepared) text ends later rose left =
-    inr (record { text = text; ends = ends; rose = rose; left = left })
-disk_failed head target date received closes namespace before now Left (Err e) text ends later rose left =
-    record { later = later; left = left }

@@ -1,10 +1,12 @@
 mod AimLemmas
+mod AimedTargets
 mod AwaitLaws
 mod BlankLaws
 mod FeedLaws
 mod FilterLemmas
 mod FramingLemmas
 mod GrammarLaws
+mod HostBytes
 mod KeepLaws
 mod MemberLemmas
 mod ParseLaws
@@ -14,7 +16,9 @@ mod PrepareLaws
 mod ReceiveLaws
 mod SeekLaws
 mod SendLaws
+mod SentLaws
 mod ServeLaws
 mod StoringLaws
+mod WellFormedLaws
 mod WholeAnswers
 mod WordsLemmas

@@ -244,6 +244,7 @@ answered head target request date received closes namespace old new before now d
           fetched = single _ logs.t (record { asked = w; answer = logs.fetch.received });
           none_before = refl;
           stored = refl;
+          well_formed = kept.well_formed;
           payload = kept.payload;
         };
         text_is = kept.text ∙ ap (λ c. reply_text (Passes received) c) c;

@@ -2,6 +2,7 @@
 use Rattle.std.specs.Prelude.{◌≡◌, ℕ, ◌⊎◌, Bool, true, false, ◌||◌, List, [], ◌∷◌, map, ⊤}
 use Rattle.std.specs.List.{flat_map}
 use Rattle.outside.specs.declared.dialer.Transcript.{Transcript}
+use Rattle.capture.specs.WellFormed.{IsWellFormed}
 use Rattle.capture.specs.declared.book.Book.{Book}
 use Rattle.capture.specs.declared.captured.Taken.{Taken}
 use Rattle.capture.specs.declared.framing.Framing.TheVariants.{Empty}
@@ -135,8 +136,8 @@ IsFailure head target DiskFault traces =
     × Single (λ t. (received : Received) × WasAnswered head target received t) traces.transcripts
 IsFailure head target other traces = ⊥
 
--- The origin's response was passed on: it is the archive's first capture, with the clock's answer as its date, and its
--- payload there is the body that the link gave.
+-- The origin's response was passed on: it is the archive's first capture, and a well-formed one, with the clock's answer
+-- as its date, and its payload there is the body that the link gave.
 pub record IsPassedOn (head : RequestHead) (target : Target) (received : Received) (traces : Traces) : Type 0 where
   pub date : ℕ
   pub timed : traces.times ≡ date ∷ []
@@ -144,6 +145,7 @@ pub record IsPassedOn (head : RequestHead) (target : Target) (received : Receive
   pub fetched : Single (WasAnswered head target received) traces.transcripts
   pub none_before : traces.before.volumes ≡ []
   pub stored : traces.after ≡ with_first traces.before.namespace (taken_of head target date received)
+  pub well_formed : IsWellFormed (taken_of head target date received)
   pub payload : KeepsPayload traces.after 0 (with_wire (taken_of head target date received)) received.wire received.wire
 
 -- There was no memory: the clock was asked, and an origin perhaps.

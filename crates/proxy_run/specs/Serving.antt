@@ -1,5 +1,5 @@
 -- What the steps of serving a connection leave.
-use Rattle.std.specs.Prelude.{◌≡◌, ◌≢◌, ℕ, ◌≤◌, ◌⊎◌, Bool, true, false, List, ◌++◌, codes, Option, Some, None, Result, Ok, Err, ⊤}
+use Rattle.std.specs.Prelude.{◌≡◌, ◌≢◌, ℕ, ◌≤◌, ◌⊎◌, Bool, true, false, List, ◌++◌, codes, Option, Some, None, Result, Ok, Err, IsTrue, ⊤}
 use Rattle.std.specs.Str.{bytes_eq}
 use Rattle.outside.specs.declared.gate.Heard.{Heard}
 use Rattle.capture.specs.declared.refusal.Refusal.{Refusal}
@@ -8,6 +8,8 @@ use Rattle.capture.specs.declared.book.Book.{Book}
 use Rattle.capture.specs.declared.captured.Taken.{Taken}
 use Rattle.capture.specs.Faults.{Rose}
 use Rattle.capture.specs.Message.{IsRequestHeadText}
+use Rattle.capture.specs.Target.{is_accepted_uri}
+use Rattle.capture.specs.WellFormed.{IsRequestOf, IsWellFormed}
 use Rattle.capture.specs.declared.refusal.Refusal.TheVariants.{Malformed, NotBuilt, DiskFault}
 use Rattle.httparse.specs.Grammar as grammar
 use Rattle.capture.specs.declared.site.Site.{Site}
@@ -25,7 +27,7 @@ use Rattle.proxy_run.specs.FirstRequest.{IsAsked, IsRefused, IsFirstForm, IsOthe
 use Rattle.proxy_run.specs.HeadReading.{IsOpen, IsBlank, MayBeBlank}
 use Rattle.proxy_run.specs.Heads.{HoldsRequest}
 use Rattle.proxy_run.specs.Gains.{Gained, Told}
-use Rattle.proxy_run.specs.Rounds.{Reply, LacksMemory, IsReply, IsReplied, Traces, closes_reply, gains_by, Replied, passed_on, taken_of}
+use Rattle.proxy_run.specs.Rounds.{Reply, LacksMemory, IsReply, IsReplied, Traces, closes_reply, gains_by, Replied, passed_on, sent_of, taken_of}
 use Rattle.proxy_run.specs.Storing.{empty_book, with_first, with_wire}
 use Rattle.warc_text.specs.Books.{KeepsPayload}
 use Rattle.proxy_run.specs.WireFront.{StaysAccounted}
@@ -145,11 +147,12 @@ abbrev pub Prepares : Bool → RequestHead → Target → Result Prepared Memory
 Prepares clock_tells head target (Ok prepared) before was now Left = IsPrepared clock_tells head target prepared before was now Left
 Prepares clock_tells head target (Err e) before was now Left = LacksReply clock_tells head target before was now Left
 
--- The response is ready, and the exchange is stored.
+-- The response is ready, and the exchange is stored, as a well-formed capture.
 pub record IsKept (prepared : Prepared) (received : Received) (closes : Bool) (taken : Taken) (namespace : List ℕ) (before now : ℕ) (Left : Book → Type 0) : Type 0 where
   pub text : prepared.text ≡ passed_on received closes
   pub ends : EndsBy closes prepared.end
   pub same_count : now ≡ before
+  pub well_formed : IsWellFormed taken
   pub payload : KeepsPayload (with_first namespace taken) 0 (with_wire taken) received.wire received.wire
   pub left : Left (with_first namespace taken)
 
@@ -173,10 +176,13 @@ Keeping head target date received closes namespace before now Left (Ok prepared)
 Keeping head target date received closes namespace before now Left (Err e) =
     IsUnkept (empty_book namespace) before now Left
 
--- The request is a GET, and the target is the one that it asks.
+-- The request is a GET, the target is the one that it asks and is accepted, and what goes to its origin is one whole
+-- request.
 pub record IsGetOf (head : RequestHead) (target : Target) : Type 0 where
   pub no_head : bytes_eq head.method (codes "HEAD") ≡ false
   pub uri : target.uri ≡ head.target
+  pub accepted : IsTrue (is_accepted_uri head.target)
+  pub sent : IsRequestOf head.method (sent_of head target)
 
 -- What refusing bytes for themselves leaves, by how the connection ended.
 abbrev pub IsRefusing : Refusal → Served → Heard → Heard → Type 0

@@ -2,7 +2,7 @@
 use Rattle.std.proofs.Common.{◌∙◌}
 use Rattle.proxy_run.specs.Connection.{heard_of}
 use Rattle.proxy_run.proofs.ServeLaws.{rose_above, closed_by_reply, broken_in_reply, lacked_reply, open_behind_reply}
-use Rattle.proxy_run.proofs.WholeAnswers.{get_of_asked}
+use Rattle.proxy_run.proofs.WellFormedLaws.{get_of_asked}
 use Rattle.proxy_run.proofs.session.answer.Goals as goal
 
 pub returns-in-Err-clause-serves : goal.returns-in-Err-clause-serves
