@@ -1,1 +1,9 @@
+mod HeadLaws
+mod LineFeeds
 mod TargetLemmas
+mod ChunkLaws
+mod CutLaws
+mod GrowthLaws
+mod PayloadLaws
+mod CutResponseLaws
+mod Rows

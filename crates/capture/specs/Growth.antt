@@ -4,7 +4,7 @@ use Rattle.capture.specs.declared.book.Book.{Book}
 use Rattle.capture.specs.declared.book.Volume.{Volume}
 use Rattle.capture.specs.declared.captured.Stored.{Stored}
 
--- The volume was the last one, and gained captures at its end.
+-- A volume has gained captures at its end.
 pub record HasGrown (old new : Volume) : Type 0 where
   pub added : List Stored
   pub born : new.born ≡ old.born

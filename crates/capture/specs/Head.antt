@@ -34,13 +34,26 @@ head_len (b ∷ bytes) =
     if b == line_feed && nat_lt 0 (empty_line_len bytes) then Some (1 + empty_line_len bytes)
     else option_map (λ n. 1 + n) (head_len bytes)
 
+-- how many bytes go up to and with the empty line that ends a trailer section, which may be the first line (RFC 9112,
+-- section 7.1.2)
+abbrev pub section_len : List ℕ → Option ℕ
+section_len bytes = if nat_lt 0 (empty_line_len bytes) then Some (empty_line_len bytes) else head_len bytes
+
 -- where the head ends in the stream, skipped line ends among what is counted
 abbrev pub head_end : List ℕ → Option ℕ
 head_end stream = option_map (λ n. line_ends_len stream + n) (head_len (after_line_ends stream))
 
+-- how many lines a text has, by their LF
+abbrev pub line_count : List ℕ → ℕ
+line_count text = count_by (λ b. b == line_feed) text
+
 -- how many lines a head has between its first line and its empty line
 abbrev pub field_lines : List ℕ → ℕ
-field_lines head = count_by (λ b. b == line_feed) head - 2
+field_lines head = line_count head - 2
+
+-- how many lines a trailer section has before its empty line
+abbrev pub trailer_lines : List ℕ → ℕ
+trailer_lines section = line_count section - 1
 
 -- What the front of a stream is: a head within the limits, with the length of what is skipped before it and its
 -- text; more than a head may be; nothing but line ends; or a head that isn't whole yet.

@@ -5,7 +5,7 @@ use uuid::Uuid;
 /// A run of captures that share one file.
 #[derive(Debug, PartialEq, Eq, Drop)]
 pub struct Volume {
-    /// When the volume was begun, as the clock told it.
+    /// When the volume was begun, as the clock told it, in milliseconds since 1970.
     pub born: u64,
     /// Its captures, in the order in which they were stored.
     pub captures: Items<Stored>,

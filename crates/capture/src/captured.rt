@@ -11,7 +11,7 @@ pub struct Taken {
     pub method: Text,
     /// The target that the client sent, in absolute form.
     pub uri: Text,
-    /// When it was fetched, by the one clock answer of the exchange.
+    /// When it was fetched, by the one clock answer of the exchange, in milliseconds since 1970.
     pub date: u64,
     /// The message that was sent to the origin.
     pub request: Bytes,
@@ -19,15 +19,19 @@ pub struct Taken {
     pub head: Bytes,
     /// The response's body as it stood on the wire.
     pub wire: Bytes,
+    /// Whether the origin ended inside the body, so that `wire` is only as much as came.
+    pub cut: bool,
 }
 
 /// What a capture keeps of its body.
 #[derive(Debug, PartialEq, Eq, Drop)]
 pub enum Kept {
-    /// The body as it stood on the wire.
+    /// The body as it stood on the wire, whole.
     Wire(Bytes),
-    /// Nothing: its payload is that of the capture with this number, which keeps its wire.
+    /// Nothing: its payload is that of the capture with this number, which keeps its whole wire.
     Same(u32),
+    /// The body as far as it came before the origin ended.
+    Cut(Bytes),
 }
 
 /// A capture in an archive.
@@ -37,7 +41,7 @@ pub struct Stored {
     pub method: Text,
     /// The target that the client sent, in absolute form.
     pub uri: Text,
-    /// When it was fetched.
+    /// When it was fetched, in milliseconds since 1970.
     pub date: u64,
     /// The message that was sent to the origin.
     pub request: Bytes,
@@ -54,7 +58,7 @@ pub struct Brought {
     pub method: Text,
     /// The target that the client sent, in absolute form.
     pub uri: Text,
-    /// When it was fetched.
+    /// When it was fetched, in milliseconds since 1970.
     pub date: u64,
     /// The origin's response up to and including its first empty line.
     pub head: Bytes,

@@ -1,4 +1,4 @@
-//! How long a message's body is.
+//! How long a message's body is, and why no message is there.
 
 /// What tells a body's length (RFC 9112, section 6.3).
 #[derive(Clone, Copy, Debug, PartialEq, Eq)]
@@ -11,4 +11,26 @@ pub enum Framing {
     Chunked,
     /// All bytes until the connection ends.
     ToEnd,
+}
+
+/// Why a head tells no framing.
+#[derive(Clone, Copy, Debug, PartialEq, Eq)]
+pub enum FramingFault {
+    /// The fields contradict one another or the version, or a length is no number.
+    Malformed,
+    /// The transfer coding isn't `chunked` alone.
+    CodingRefused,
+}
+
+/// Why no message can stand at the front of a stream.
+#[derive(Clone, Copy, Debug, PartialEq, Eq)]
+pub enum MessageFault {
+    /// A head, a size line, the end of a chunk or a trailer isn't one of HTTP/1.1, or a head tells no framing.
+    Malformed,
+    /// The head, or the trailer section, passes a limit.
+    HeadTooLong,
+    /// The body passes its limit, or is sure to.
+    BodyTooLong,
+    /// The transfer coding isn't `chunked` alone.
+    CodingRefused,
 }

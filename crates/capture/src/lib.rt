@@ -7,8 +7,10 @@ mod captured;
 mod failed;
 mod framing;
 mod items;
+mod laws;
 mod limits;
 mod memory;
+mod put;
 mod refusal;
 mod site;
 mod target;
@@ -20,11 +22,16 @@ pub use book::{Book, Volume};
 pub use bytes::Bytes;
 pub use captured::{Brought, Digest, Kept, Stored, Taken};
 pub use failed::Failed;
-pub use framing::Framing;
+pub use framing::{Framing, FramingFault, MessageFault};
 pub use items::Items;
-pub use limits::{BODY_LIMIT, FIELD_LIMIT, HEAD_LIMIT, Limits};
+pub use laws::{
+    captures_have_one_payload, chunked_bodies_split_one_way, ended_bodies_are_cut,
+    growth_keeps_captures, heads_end_at_the_first_empty_line, wires_have_one_payload,
+};
+pub use limits::{BODY_LIMIT, FIELD_LIMIT, HEAD_LIMIT, INTERIM_LIMIT, Limits, SIZE_LINE_LIMIT};
 pub use memory::Memory;
+pub use put::{put_all, put_number};
 pub use refusal::Refusal;
 pub use site::Site;
-pub use target::{accepted_uri, accepted_url};
+pub use target::{accepted_uri, accepted_url, authority_len, is_target_text};
 pub use text::Text;

@@ -17,3 +17,9 @@ pub const FIELD_LIMIT: usize = 128;
 
 /// The greatest length in bytes of a body as it stands on the wire.
 pub const BODY_LIMIT: u64 = 67_108_864;
+
+/// The greatest length in bytes of a chunk's size line, its LF among them.
+pub const SIZE_LINE_LIMIT: usize = 1_024;
+
+/// The greatest number of interim responses of one exchange.
+pub const INTERIM_LIMIT: usize = 8;

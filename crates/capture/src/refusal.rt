@@ -27,7 +27,7 @@ pub enum Refusal {
     BodyTooLong,
     /// The request's head, or its trailer section, passes a limit.
     HeadTooLong,
-    /// The clock's answer, in seconds since 1970, is past the year 9999.
+    /// The clock's answer, in milliseconds since 1970, is past the year 9999.
     ClockRange {
         now: u64,
     },
@@ -41,9 +41,9 @@ pub enum Refusal {
     DialFault,
     /// The link to the origin failed.
     OriginFault,
-    /// The origin ended before its response was whole.
+    /// The origin ended before the head of its final response was whole.
     OriginEnded,
-    /// The origin's response isn't one of HTTP/1.1.
+    /// The origin's response isn't one of HTTP/1.1, or has a transfer coding that isn't `chunked` alone.
     OriginMalformed,
     /// The origin's response passes a limit.
     OriginTooLong,

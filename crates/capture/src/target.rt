@@ -58,7 +58,9 @@ fn begins_with_http(target: &[u8]) -> bool
     scheme.eq_ignore_ascii_case(HTTP)
 }
 
-fn is_target_text(target: &[u8]) -> bool
+/// Whether each byte is one of a target: a visible one of ASCII, but for those that would break the address of a
+/// memento.
+pub fn is_target_text(target: &[u8]) -> bool
     ensures { result ≡ spec.is_target_text target.now }
 {
     target.iter().all(|b| is_target_byte(*b))
@@ -76,7 +78,9 @@ fn is_authority_byte(b: u8) -> bool
     !(b == b'/' || b == b'?')
 }
 
-fn authority_len(rest: &[u8]) -> usize
+/// The length of the authority at the front of what follows `http://`, in bytes: up to the first `/` or `?`
+/// (RFC 3986, section 3.2).
+pub fn authority_len(rest: &[u8]) -> usize
     ensures value { result ≡ spec.authority_len rest.now }
     ensures within { result ≤ length rest.now }
 {
@@ -108,6 +112,9 @@ mod tests {
             (b"http://a.test/ x", false),
             (b"http://a.test/\xC3\xA9", false),
             (b"http://a.test:99999/", false),
+            (b"http://[::1/", false),
+            (b"http://256.1.1.1/", false),
+            (b"http://a%2Fb/", false),
             (b"https://a.test/", false),
             (b"/x", false),
             (b"", false),
