@@ -33,14 +33,14 @@ given_parts c x is =
     (is.given.0 ∙ year, ap unsigned_abs (is.given.1 ∙ month), ap unsigned_abs (is.given.2 ∙ day))
 
 -- the day number of the day that a date shows
-pub number_of_shown : (c : Civil) (x : Date) (date : ℕ) → IsGiven c x → civil_at date ≡ c → epoch_day x ≡ pos (date / 86_400)
+pub number_of_shown : (c : Civil) (x : Date) (date : ℕ) → IsGiven c x → civil_at date ≡ c → epoch_day x ≡ pos (date / 86_400_000)
 unfolding civil_at
 number_of_shown c x date is e =
     let p = given_parts c x is in
-    let today = number-at (date / 86_400) in
-    let year : (day_at (date / 86_400)).year ≡ c.year = ap (λ (v : Civil). v.year) e in
-    let month : (day_at (date / 86_400)).month ≡ c.month = ap (λ (v : Civil). v.month) e in
-    let day : (day_at (date / 86_400)).day ≡ c.day = ap (λ (v : Civil). v.day) e in
+    let today = number-at (date / 86_400_000) in
+    let year : (day_at (date / 86_400_000)).year ≡ c.year = ap (λ (v : Civil). v.year) e in
+    let month : (day_at (date / 86_400_000)).month ≡ c.month = ap (λ (v : Civil). v.month) e in
+    let day : (day_at (date / 86_400_000)).day ≡ c.day = ap (λ (v : Civil). v.day) e in
     rw (p.0, p.1, p.2, ← year, ← month, ← day) today
 
 pub nonnegative : (z : ℤ) → pos 0 ≤ℤ z → z ≡ pos (unsigned_abs z)
@@ -52,15 +52,15 @@ pos_same m n e = ap unsigned_abs e
 
 -- the date that shows it
 pub shown_at : (c : Civil) (x : Date) (days : ℕ) → IsGiven c x → days ≤ 2_932_896 → epoch_day x ≡ pos days → c.hour < 24 → c.minute < 60 → c.second < 60
-    → civil_at (days * 86_400 + (c.hour * 3600 + c.minute * 60 + c.second)) ≡ c
-shown_at c x days is small e hour minute second =
-    let date : ℕ = days * 86_400 + (c.hour * 3600 + c.minute * 60 + c.second) in
+    → c.millisecond < 1000 → civil_at (days * 86_400_000 + (c.hour * 3600 + c.minute * 60 + c.second) * 1000 + c.millisecond) ≡ c
+shown_at c x days is small e hour minute second millisecond =
+    let date : ℕ = days * 86_400_000 + (c.hour * 3600 + c.minute * 60 + c.second) * 1000 + c.millisecond in
     let p = given_parts c x is in
     let same = date_is_day x days small e in
-    let back : date / 86_400 ≡ days = omega arith in
+    let back : date / 86_400_000 ≡ days = omega arith in
     sym (civil_is c date
     (rw back (pos_same _ _ (sym p.0 ∙ same.0))) (rw back (sym p.1 ∙ same.1)) (rw back (sym p.2 ∙ same.2))
-    (clock date c.hour c.minute c.second hour minute second (omega arith)))
+    (clock date c.hour c.minute c.second c.millisecond hour minute second millisecond (omega arith)))
 
 -- jiff's date of a day number, with its year as a cast leaves it
 pub record IsDateOf (x : Date) (days : ℕ) : Type 0 where

@@ -4,6 +4,6 @@ pub mod Days
 pub mod DigitLemmas
 pub mod Earliest
 pub mod HttpLemmas
-pub mod Laws
+pub mod DateLaws
 pub mod Moments
 pub mod WarcLemmas

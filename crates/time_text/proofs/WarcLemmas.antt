@@ -1,65 +1,118 @@
 -- The digits and the marks of a WARC-Date.
-use Rattle.std.proofs.Common.{◌≡◌, ℕ, List, [], ◌∷◌, length, get_or, refl, sym, ap, ◌∙◌, Result, Ok, Err, Bool, true, false, not}
-use Rattle.std.specs.Prelude.{MatchResult, IfOk, codes, bytes_eq}
-use Rattle.std.proofs.lemmas.Bool.{not-true, not-false, both_ways}
-use Rattle.std.proofs.lemmas.Slice.Eq.{bytes_eq-Decides}
-use Rattle.time_text.specs.Texts.{InRange, time_digits, warc_date}
-use Rattle.time_text.proofs.DigitLemmas.{elements, time_digits_injective}
+use Rattle.std.proofs.Common.{◌≡◌, ℕ, ◌%◌, ◌⊎◌, inl, inr, List, [], ◌∷◌, length, get_or, refl, sym, ap, ◌∙◌, arith}
+use Rattle.std.proofs.lemmas.Bool.Decides.{eqb_tells}
+use Rattle.time_text.specs.Texts.{InRange, digits_of, warc_of, warc_date}
+use Rattle.time_text.specs.Calendar.{civil_at, HasDigits}
+use Rattle.time_text.specs.declared.civil.Civil.{Civil}
+use Rattle.time_text.proofs.Moments.{HasDigits-at, millisecond-at}
+use Rattle.time_text.proofs.DigitLemmas.{digits_injective}
 
+-- the digits of a text with a fraction
 abbrev pub digits_in : List ℕ → List ℕ
 digits_in t =
     get_or t 0 0 ∷ get_or t 1 0 ∷ get_or t 2 0 ∷ get_or t 3 0 ∷ get_or t 5 0 ∷ get_or t 6 0 ∷ get_or t 8 0 ∷ get_or t 9 0
-    ∷ get_or t 11 0 ∷ get_or t 12 0 ∷ get_or t 14 0 ∷ get_or t 15 0 ∷ get_or t 17 0 ∷ get_or t 18 0 ∷ []
+    ∷ get_or t 11 0 ∷ get_or t 12 0 ∷ get_or t 14 0 ∷ get_or t 15 0 ∷ get_or t 17 0 ∷ get_or t 18 0 ∷ get_or t 20 0 ∷ get_or t 21 0 ∷ get_or t 22 0 ∷ []
 
-abbrev pub marks_in : List ℕ → List ℕ
-marks_in t = get_or t 4 0 ∷ get_or t 7 0 ∷ get_or t 10 0 ∷ get_or t 13 0 ∷ get_or t 16 0 ∷ get_or t 19 0 ∷ []
+-- and of one without
+abbrev pub digits_in_whole : List ℕ → List ℕ
+digits_in_whole t =
+    get_or t 0 0 ∷ get_or t 1 0 ∷ get_or t 2 0 ∷ get_or t 3 0 ∷ get_or t 5 0 ∷ get_or t 6 0 ∷ get_or t 8 0 ∷ get_or t 9 0
+    ∷ get_or t 11 0 ∷ get_or t 12 0 ∷ get_or t 14 0 ∷ get_or t 15 0 ∷ get_or t 17 0 ∷ get_or t 18 0 ∷ 48 ∷ 48 ∷ 48 ∷ []
 
-pub digits_in-warc_date : (date : ℕ) → digits_in (warc_date date) ≡ time_digits date
-unfolding warc_date time_digits
-digits_in-warc_date date = refl
+-- the two forms of a WARC-Date
+pub record IsWhole (c : Civil) : Type 0 where
+  pub second : c.millisecond ≡ 0
+  pub long : length (warc_of c) ≡ 20
+  pub digits : digits_in_whole (warc_of c) ≡ digits_of c
+  pub last : get_or (warc_of c) 19 0 ≡ 90
 
-pub marks_in-warc_date : (date : ℕ) → marks_in (warc_date date) ≡ codes "--T::Z"
+pub record HasFraction (c : Civil) : Type 0 where
+  pub second : ¬ (c.millisecond ≡ 0)
+  pub long : length (warc_of c) ≡ 24
+  pub digits : digits_in (warc_of c) ≡ digits_of c
+  pub last : get_or (warc_of c) 19 0 ≡ 46
+
+pub warc_cases : (c : Civil) → IsWhole c ⊎ HasFraction c
+warc_cases c =
+    elim (eqb_tells c.millisecond 0) [
+      | inl h ↦ inl (record { second = h.1; long = rw h.0 refl; digits = rw h.1 refl; last = rw h.0 refl })
+      | inr h ↦ inr (record { second = h.1; long = rw h.0 refl; digits = rw h.0 refl; last = rw h.0 refl })
+    ]
+
+pub digits_from_warc : (a b : Civil) → warc_of a ≡ warc_of b → digits_of a ≡ digits_of b
+digits_from_warc a b e =
+    elim (warc_cases a) [
+      | inl is ↦ elim (warc_cases b) [
+        | inl was ↦ sym is.digits ∙ ap digits_in_whole e ∙ was.digits
+        | inr was ↦ absurd (omega (arith, ap length e, is.long, was.long))
+      ]
+      | inr is ↦ elim (warc_cases b) [
+        | inl was ↦ absurd (omega (arith, ap length e, is.long, was.long))
+        | inr was ↦ sym is.digits ∙ ap digits_in e ∙ was.digits
+      ]
+    ]
+
+pub warc_of_injective : (a b : Civil) → warc_of a ≡ warc_of b → a ≡ b
+warc_of_injective a b e = digits_injective a b (digits_from_warc a b e)
+
+-- the digits of a text of 20 bytes, of 24, and of another length
+pub whole_text : (text : List ℕ) → length text ≡ 20 → (c : Civil) → text ≡ warc_of c → digits_in_whole text ≡ digits_of c
+whole_text text long c e =
+    elim (warc_cases c) [
+      | inl is ↦ ap digits_in_whole e ∙ is.digits
+      | inr is ↦ absurd (omega (arith, ap length e, long, is.long))
+    ]
+
+pub fraction_text : (text : List ℕ) → length text ≡ 24 → (c : Civil) → text ≡ warc_of c → digits_in text ≡ digits_of c
+fraction_text text long c e =
+    elim (warc_cases c) [
+      | inl is ↦ absurd (omega (arith, ap length e, long, is.long))
+      | inr is ↦ ap digits_in e ∙ is.digits
+    ]
+
+pub other_text : (text : List ℕ) → ¬ (length text ≡ 20) → ¬ (length text ≡ 24) → (c : Civil) → ¬ (text ≡ warc_of c)
+other_text text short long c e =
+    elim (warc_cases c) [
+      | inl is ↦ short (ap length e ∙ is.long)
+      | inr is ↦ long (ap length e ∙ is.long)
+    ]
+
+pub length-warc_date_whole : (date : ℕ) → date % 1000 ≡ 0 → length (warc_date date) ≡ 20
 unfolding warc_date
-marks_in-warc_date date = refl
+length-warc_date_whole date whole =
+    elim (warc_cases (civil_at date)) [
+      | inl is ↦ is.long
+      | inr is ↦ absurd (is.second (millisecond-at date ∙ whole))
+    ]
 
-pub length-warc_date : (date : ℕ) → length (warc_date date) ≡ 20
+pub length-warc_date_fraction : (date : ℕ) → ¬ (date % 1000 ≡ 0) → length (warc_date date) ≡ 24
 unfolding warc_date
-length-warc_date date = refl
+length-warc_date_fraction date part =
+    elim (warc_cases (civil_at date)) [
+      | inl is ↦ absurd (part (sym (millisecond-at date) ∙ is.second))
+      | inr is ↦ is.long
+    ]
 
--- digits with marks between them
-abbrev woven : List ℕ → List ℕ → List ℕ
-woven d m =
-    get_or d 0 0 ∷ get_or d 1 0 ∷ get_or d 2 0 ∷ get_or d 3 0 ∷ get_or m 0 0 ∷ get_or d 4 0 ∷ get_or d 5 0 ∷ get_or m 1 0 ∷ get_or d 6 0 ∷ get_or d 7 0
-    ∷ get_or m 2 0 ∷ get_or d 8 0 ∷ get_or d 9 0 ∷ get_or m 3 0 ∷ get_or d 10 0 ∷ get_or d 11 0 ∷ get_or m 4 0 ∷ get_or d 12 0 ∷ get_or d 13 0 ∷ get_or m 5 0 ∷ []
+-- the digits that stand in a text, if it is the text of a date
+abbrev pub AreDigitsOf : List ℕ → List ℕ → Type 0
+AreDigitsOf text digits = (c : Civil) → text ≡ warc_of c → digits ≡ digits_of c
 
-woven_parts : (text : List ℕ) → length text ≡ 20 → text ≡ woven (digits_in text) (marks_in text)
-woven_parts text long = elements 20 text long
+-- a text is no date's: it has other digits, they are no date's, or it has other marks
+pub other_digits : (text digits : List ℕ) → AreDigitsOf text digits → ((c : Civil) → HasDigits c → ¬ (digits ≡ digits_of c)) → (date : ℕ) → InRange date → ¬ (text ≡ warc_date date)
+unfolding warc_date
+other_digits text digits are none date fits e = none (civil_at date) (HasDigits-at date fits) (are (civil_at date) e)
 
-pub warc_from_parts : (text : List ℕ) (date : ℕ) → length text ≡ 20 → digits_in text ≡ time_digits date → marks_in text ≡ codes "--T::Z" → text ≡ warc_date date
-warc_from_parts text date long digits marks =
-    woven_parts text long ∙ ap (λ (d : List ℕ). woven d (marks_in text)) (digits ∙ sym (digits_in-warc_date date))
-    ∙ ap (λ (m : List ℕ). woven (digits_in (warc_date date)) m) (marks ∙ sym (marks_in-warc_date date))
-    ∙ sym (woven_parts (warc_date date) (length-warc_date date))
+pub other_date : (text digits : List ℕ) (c : Civil) → AreDigitsOf text digits → digits ≡ digits_of c → ((date : ℕ) → InRange date → ¬ (civil_at date ≡ c))
+    → (date : ℕ) → InRange date → ¬ (text ≡ warc_date date)
+unfolding warc_date
+other_date text digits c are is none date fits e = none date fits (digits_injective (civil_at date) c (sym (are (civil_at date) e) ∙ is))
 
--- what reading the digits says of the text
-pub record IsRead {E : Type 0} (text : List ℕ) (r : Result ℕ E) : Type 0 where
-  pub read : IfOk r (λ date. InRange date × (text ≡ warc_date date))
-  pub reads_back : (date : ℕ) → InRange date → text ≡ warc_date date → r ≡ Ok date
+pub other_marks : (text digits : List ℕ) (c : Civil) → AreDigitsOf text digits → digits ≡ digits_of c → ¬ (warc_of c ≡ text)
+    → (date : ℕ) → InRange date → ¬ (text ≡ warc_date date)
+unfolding warc_date
+other_marks text digits c are is other date fits e =
+    other (ap warc_of (digits_injective c (civil_at date) (sym is ∙ are (civil_at date) e)) ∙ sym e)
 
-pub read_digits : {E : Type 0} (r : Result ℕ E) (text : List ℕ) → length text ≡ 20 → marks_in text ≡ codes "--T::Z"
-    → MatchResult r (λ date. InRange date × (digits_in text ≡ time_digits date)) (λ _. (date : ℕ) → InRange date → ¬ (digits_in text ≡ time_digits date)) → IsRead text r
-read_digits (Ok date) text long marks h = record {
-  read = (h.0, warc_from_parts text date long h.1 marks);
-  reads_back = λ other fits e. ap Ok (time_digits_injective date other (sym h.1 ∙ ap digits_in e ∙ digits_in-warc_date other));
-}
-read_digits (Err x) text long marks h = record {
-  read = tt;
-  reads_back = λ other fits e. absurd (h other fits (ap digits_in e ∙ digits_in-warc_date other));
-}
-
--- the test of the marks
-pub marks_from_test : (text : List ℕ) (t : Bool) → t ≡ not (bytes_eq (marks_in text) (codes "--T::Z")) → t ≡ false → marks_in text ≡ codes "--T::Z"
-marks_from_test text t is h = (bytes_eq-Decides (marks_in text) (codes "--T::Z")).0 (not-false _ (sym is ∙ h))
-
-pub no_marks_from_test : (text : List ℕ) (t : Bool) → t ≡ not (bytes_eq (marks_in text) (codes "--T::Z")) → t ≡ true → ¬ (marks_in text ≡ codes "--T::Z")
-no_marks_from_test text t is h = λ marks. both_ways (bytes_eq (marks_in text) (codes "--T::Z")) (not-true _ (sym is ∙ h)) (ap (λ (m : List ℕ). bytes_eq m (codes "--T::Z")) marks)
+pub same_marks : (text : List ℕ) (c : Civil) (date : ℕ) → civil_at date ≡ c → warc_of c ≡ text → text ≡ warc_date date
+unfolding warc_date
+same_marks text c date is e = sym (ap warc_of is ∙ e)

@@ -30,20 +30,21 @@ unfoldable pub day_at : ℕ → Day
 day_at zero = record { year = 1970; month = 1; day = 1 }
 day_at (suc n) = day_after (day_at n)
 
--- what calendar and clock show so many seconds after 1970-01-01T00:00:00
+-- what calendar and clock show so many milliseconds after 1970-01-01T00:00:00
 unfoldable pub civil_at : ℕ → Civil
-civil_at seconds =
-    let today = day_at (seconds / 86_400) in
+civil_at date =
+    let today = day_at (date / 86_400_000) in
     record {
       year = today.year;
       month = today.month;
       day = today.day;
-      hour = seconds % 86_400 / 3600;
-      minute = seconds % 3600 / 60;
-      second = seconds % 60;
+      hour = date % 86_400_000 / 3_600_000;
+      minute = date % 3_600_000 / 60_000;
+      second = date % 60_000 / 1000;
+      millisecond = date % 1000;
     }
 
--- four digits have room for the year, and two for each of the others
+-- four digits have room for the year, three for the millisecond, and two for each of the others
 pub record HasDigits (c : Civil) : Type 0 where
   pub year : c.year ≤ 9999
   pub month : c.month ≤ 99
@@ -51,3 +52,4 @@ pub record HasDigits (c : Civil) : Type 0 where
   pub hour : c.hour ≤ 99
   pub minute : c.minute ≤ 99
   pub second : c.second ≤ 99
+  pub millisecond : c.millisecond ≤ 999

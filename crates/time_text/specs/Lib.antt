@@ -1,4 +1,5 @@
 pub mod Calendar
+pub mod Bytes
 pub mod Texts
 pub mod Blanks
 pub mod Reading

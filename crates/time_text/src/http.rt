@@ -2,7 +2,7 @@
 
 ghost use Rattle.std.specs.Prelude.{◌≡◌, ◌≤◌, ℕ, Ok, IfOk, OnErr};
 ghost use Rattle.std.specs.Result.{OkIff};
-ghost use Rattle.time_text.specs.Texts.{InRange, http_date};
+ghost use Rattle.time_text.specs.Texts.{InRange, whole_second, http_date};
 ghost use Rattle.time_text.specs.Blanks as Blanks;
 ghost use Rattle.time_text.specs.Blanks.{trim_start, trim_end, trim_blanks};
 ghost use Rattle.time_text.specs.Reading.{IsHttpDate};
@@ -10,12 +10,12 @@ ghost use Rattle.time_text.specs.Reading.{IsHttpDate};
 use crate::{NotATime, Range};
 use httpdate::HttpDate;
 
-/// The HTTP date of a date, an IMF-fixdate (RFC 9110, 5.6.7). `Range` where the date is later than
-/// `LATEST`.
+/// The HTTP date of a date, an IMF-fixdate (RFC 9110, 5.6.7), which drops the fraction of a second.
+/// `Range` where the date is later than `LATEST`.
 pub fn write_http(date: u64) -> Result<[u8; 29], Range>
     ensures { OkIff result (InRange date) (http_date date) }
 {
-    let Ok(date) = HttpDate::from_unix_secs(date) else {
+    let Ok(date) = HttpDate::from_unix_secs(date / 1000) else {
         return Err(Range);
     };
     Ok(date.to_bytes())
@@ -28,12 +28,12 @@ pub fn read_http(text: &[u8]) -> Result<u64, NotATime>
     ensures read { IfOk result (IsHttpDate (trim_blanks text.now)) }
     ensures refused { OnErr result ((date : ℕ) → ¬ (IsHttpDate (trim_blanks text.now) date)) }
     ensures reads_back { (date : ℕ) → InRange date → text.now ≡ http_date date → result
-        ≡ Ok date }
+        ≡ Ok (whole_second date) }
 {
     let Ok(date) = HttpDate::parse_ascii(without_blanks(text)) else {
         return Err(NotATime);
     };
-    Ok(date.unix_secs())
+    Ok(date.unix_secs() * 1000)
 }
 
 #[tactic(auto, unfolding(crate::specs::Blanks::trim_blanks))]

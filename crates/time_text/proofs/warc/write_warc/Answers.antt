@@ -1,9 +1,7 @@
-use Rattle.std.proofs.Common.{refl}
-use Rattle.time_text.specs.Texts.{warc_date}
+use Rattle.std.proofs.Common.{ap, ◌∙◌}
+use Rattle.time_text.specs.Texts.{warc_of, warc_date}
 use Rattle.time_text.proofs.warc.write_warc.Goals as goal
 
 pub returns : goal.returns
 unfolding warc_date
-returns c =
-    let shown = c.in_ok-civil.ensures.value in
-    (shown.0, rw (← shown.1, c.digits_of.ensures, c.digits_of-2.ensures, c.digits_of-3.ensures, c.digits_of-4.ensures, c.digits_of-5.ensures, c.digits_of-6.ensures, c.digits_of-7.ensures) refl)
+returns c = (c.in_ok-civil.ensures.value.0, c.of.ensures ∙ ap warc_of c.in_ok-civil.ensures.value.1)

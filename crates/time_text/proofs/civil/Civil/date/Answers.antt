@@ -38,5 +38,5 @@ returns c =
     rw whole (
       omega arith,
       shown_at c.args.self c.in-Ok.day days given small (sym c.to_unix_epoch_day-days.ensures.value ∙ plain)
-          (omega (arith, c.if-self-gt23.false)) (omega (arith, c.if-self-gt59.false)) (omega (arith, c.if-self-gt59-2.false)),
+          (omega (arith, c.if-self-gt23.false)) (omega (arith, c.if-self-gt59.false)) (omega (arith, c.if-self-gt59-2.false)) (omega (arith, c.requires.millisecond)),
     )
