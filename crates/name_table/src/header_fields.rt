@@ -9,7 +9,7 @@ use super::NameTable;
 ///
 /// The fields that a Connection field lists aren't passed on either, and stand in no table.
 #[tactic(auto, unfolding(crate::specs::HeaderFields::hop_by_hop))]
-pub fn hop() -> NameTable<10>
+pub fn hop_by_hop_fields() -> NameTable<10>
     ensures { result ≡ hop_by_hop }
 {
     NameTable::new([
@@ -29,7 +29,7 @@ pub fn hop() -> NameTable<10>
 /// The header fields that keep their own name in a memento (RFC 7089), since they hold of the replayed
 /// response too.
 #[tactic(auto, unfolding(crate::specs::HeaderFields::kept_in_memento))]
-pub fn kept() -> NameTable<4>
+pub fn memento_fields() -> NameTable<4>
     ensures { result ≡ kept_in_memento }
 {
     NameTable::new([
@@ -46,7 +46,7 @@ mod tests {
 
     #[test]
     fn finds_each_hop_by_hop_field_in_any_case(rt: HostRuntime) {
-        let table = hop();
+        let table = hop_by_hop_fields();
         let names = [
             b"CONNECTION".as_slice(),
             b"EXPECT",
@@ -68,7 +68,7 @@ mod tests {
 
     #[test]
     fn finds_no_other_field(rt: HostRuntime) {
-        let table = hop();
+        let table = hop_by_hop_fields();
         let names = [
             b"".as_slice(),
             b"a",
@@ -90,7 +90,7 @@ mod tests {
 
     #[test]
     fn keeps_the_fields_of_the_body(rt: HostRuntime) {
-        let table = kept();
+        let table = memento_fields();
         for name in [
             b"Content-Encoding".as_slice(),
             b"Content-Language",

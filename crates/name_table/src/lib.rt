@@ -6,5 +6,5 @@ mod header_fields;
 mod match_rows;
 mod table;
 
-pub use header_fields::{hop, kept};
+pub use header_fields::{hop_by_hop_fields, memento_fields};
 pub use table::NameTable;
