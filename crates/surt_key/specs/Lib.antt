@@ -1,3 +1,4 @@
 pub mod Key
 pub mod Labels
 pub mod Sorted
+pub mod Spaces

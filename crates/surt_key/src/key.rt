@@ -1,5 +1,5 @@
 //! A key, which owns its memory.
-ghost use Rattle.std.specs.Prelude.{◌≡◌, nat_eq, Some, IfOk, refl};
+ghost use Rattle.std.specs.Prelude.{◌≡◌, ◌≤◌, length, nat_eq, take, Some, IfOk, refl};
 ghost use Rattle.std.specs.Ordering.{nat_cmp};
 ghost use Rattle.std.specs.Cmp.{partial_equiv_from_equiv};
 ghost use Rattle.std.specs.Cmp.Lexicographic.{pointwise, slice_cmp, nat_list_eq_equiv, nat_list_cmp_total, texts_po, texts_ties};
@@ -40,7 +40,16 @@ impl Key {
     pub fn copy(&self) -> Result<Key, Memory>
         ensures { IfOk result (λ key. key ≡ self.now) }
     {
-        let bytes = Vec::from_slice(*self.bytes.allocator(), self.bytes.as_slice())?;
+        self.prefix(self.bytes.len())
+    }
+
+    /// The first `len` bytes, with which the keys of a path, a host or a domain begin, in memory of
+    /// their own.
+    pub fn prefix(&self, len: usize) -> Result<Key, Memory>
+        requires { len ≤ length self.now }
+        ensures { IfOk result (λ key. key ≡ take len self.now) }
+    {
+        let bytes = Vec::from_slice(*self.bytes.allocator(), &self.as_slice()[..len])?;
         Ok(Key { bytes })
     }
 }

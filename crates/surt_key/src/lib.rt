@@ -5,6 +5,7 @@
 mod fault;
 mod host_labels;
 mod key;
+mod laws;
 mod pieces;
 #[cfg(test)]
 mod tests;
@@ -12,4 +13,5 @@ mod url_key;
 
 pub use fault::KeyFault;
 pub use key::Key;
+pub use laws::keys_hold_no_space;
 pub use url_key::key_of;

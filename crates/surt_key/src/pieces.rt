@@ -1,10 +1,10 @@
 //! Texts that are cut at a byte, and joined by one.
-ghost use Rattle.std.specs.Prelude.{◌≡◌, ◌++◌, ◌==◌, map, IfOk, OnOk};
+ghost use Rattle.std.specs.Prelude.{◌≡◌, ◌++◌, ◌==◌, ◌≤◌, drop, length, map, take, IfOk, OnOk};
 ghost use Rattle.std.specs.List.{slice_split, join_with_byte};
 ghost use Rattle.capture.specs.Fields.{lowered};
 ghost use Rattle.surt_key.specs.Sorted.{sorted};
 
-use capture::Memory;
+use capture::{Memory, put_all};
 use std::alloc::Global;
 
 /// The pieces of the text between the delimiters, of which there is one more than there are delimiters.
@@ -21,14 +21,6 @@ pub fn sort(pieces: &mut Vec<&[u8]>)
     pieces.sort_unstable();
 }
 
-/// Puts the text behind what is written.
-pub fn put(out: &mut Vec<u8>, text: &[u8]) -> Result<(), Memory>
-    ensures { OnOk result (out.new.items ≡ out.old.items ++ text.now) }
-{
-    out.extend_from_slice(text)?;
-    Ok(())
-}
-
 /// Puts the pieces behind what is written, with the delimiter between each two.
 pub fn put_joined(out: &mut Vec<u8>, pieces: &[&[u8]], delimiter: u8) -> Result<(), Memory>
     ensures { OnOk result (out.new.items ≡ out.old.items ++ join_with_byte delimiter (map (λ p. p.now) pieces.now)) }
@@ -36,10 +28,10 @@ pub fn put_joined(out: &mut Vec<u8>, pieces: &[&[u8]], delimiter: u8) -> Result<
     let [first, others @ ..] = pieces else {
         return Ok(());
     };
-    put(out, first)?;
+    put_all(out, first)?;
     for piece in others {
         out.push(delimiter)?;
-        put(out, piece)?;
+        put_all(out, piece)?;
     }
     Ok(())
 }
@@ -48,8 +40,19 @@ pub fn put_joined(out: &mut Vec<u8>, pieces: &[&[u8]], delimiter: u8) -> Result<
 pub fn put_lowered(out: &mut Vec<u8>, text: &[u8]) -> Result<(), Memory>
     ensures { OnOk result (out.new.items ≡ out.old.items ++ lowered text.now) }
 {
-    let lowered = lower(*out.allocator(), text)?;
-    put(out, lowered.as_slice())
+    let start = out.len();
+    put_all(out, text)?;
+    lower_from(out.as_mut_slice(), start);
+    Ok(())
+}
+
+/// Lowers the bytes from this place on, in ASCII.
+fn lower_from(bytes: &mut [u8], start: usize)
+    requires { start ≤ length bytes.old }
+    ensures { bytes.new ≡ take start bytes.old ++ lowered (drop start bytes.old) }
+{
+    let (_, tail) = bytes.split_at_mut(start);
+    tail.make_ascii_lowercase();
 }
 
 /// The text, lowered in ASCII.

@@ -5,9 +5,9 @@ ghost use Rattle.surt_key.specs.Key as spec;
 ghost use Rattle.surt_key.specs.Key.{host_text_of, sorted_query, surt_key};
 
 use crate::host_labels::reversed_labels;
-use crate::pieces::{lower, put, put_joined, put_lowered, sort, split};
+use crate::pieces::{lower, put_joined, put_lowered, sort, split};
 use crate::{Key, KeyFault};
-use capture::Memory;
+use capture::{Memory, put_all};
 use std::alloc::Global;
 use url::{ParseError, Position, Url};
 
@@ -46,7 +46,7 @@ fn key_of_url(alloc: Global, url: &Url) -> Result<Key, Memory>
 {
     let mut out = Vec::with_capacity(alloc, url.as_str().len())?;
     put_host(&mut out, url)?;
-    put(&mut out, port_text(url).as_bytes())?;
+    put_all(&mut out, port_text(url).as_bytes())?;
     out.push(b')')?;
     put_lowered(&mut out, url.path().as_bytes())?;
     put_query(&mut out, url.query())?;
@@ -61,7 +61,7 @@ fn put_host(out: &mut Vec<u8>, url: &Url) -> Result<(), Memory>
         return put_joined(out, labels.as_slice(), b',');
     }
     match url.host_str() {
-        Some(address) => put(out, address.as_bytes()),
+        Some(address) => put_all(out, address.as_bytes()),
         None => Ok(()),
     }
 }

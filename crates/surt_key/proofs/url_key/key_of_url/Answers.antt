@@ -12,10 +12,10 @@ returns c =
     let url = c.args.url.now in
     c.of.ensures
     ∙ five_put (host_text_of (nonempty_host url)) (port_text url.port) (codes ")") (lowered url.path) (query_text url.query)
-    c.in_ok-out.out.items c.put_host.new.out.items c.put.new.out.items c.push.new.self.items c.put_lowered.new.out.items c.put_query.new.out.items
+    c.in_ok-out.out.items c.put_host.new.out.items c.put_all.new.out.items c.push.new.self.items c.put_lowered.new.out.items c.put_query.new.out.items
     c.in_ok-out.ensures.items
     c.in_ok-put_host.ensures
-    (c.in_ok-put.ensures ∙ ap (λ t. c.put_host.new.out.items ++ t) (c.as_bytes.ensures.value ∙ c.port_text.ensures))
+    (c.in_ok-put_all.ensures ∙ ap (λ t. c.put_host.new.out.items ++ t) (c.as_bytes.ensures.value ∙ c.port_text.ensures))
     c.in_ok-push.ensures.items
     (c.in_ok-put_lowered.ensures ∙ ap (λ t. c.push.new.self.items ++ lowered t) (c.as_bytes-2.ensures.value ∙ c.path.ensures.value))
     (c.in_ok-put_query.ensures ∙ ap (λ t. c.put_lowered.new.out.items ++ query_text t) c.query.ensures.value)
