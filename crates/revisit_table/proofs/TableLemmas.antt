@@ -1,10 +1,11 @@
 -- The numbers of a digest in a table that changes.
-use Rattle.std.proofs.Common.{◌≡◌, ℕ, ◌<◌, Bool, true, false, not, cond, List, [], ◌∷◌, ◌++◌, map, length, get_or, refl, sym, ◌∙◌, ap}
+use Rattle.std.proofs.Common.{◌≡◌, ◌≢◌, ℕ, ◌<◌, ◌⊎◌, Bool, true, false, not, cond, List, [], ◌∷◌, ◌++◌, map, length, get_or, Some, refl, sym, ◌∙◌, ap, append-nil, true≢false, inl, inr}
 use Rattle.std.specs.Prelude.{◌==◌, filter}
 use Rattle.std.specs.List.{remove}
 use Rattle.std.specs.List.Sorted.{IsStrictlyIncreasing}
 use Rattle.std.specs.Str.{bytes_eq}
 use Rattle.std.proofs.lemmas.Bool.{cond_both}
+use Rattle.std.proofs.lemmas.Slice.Eq.{bytes_eq-Decides}
 use Rattle.revisit_table.specs.Table.{numbers_of, without}
 use Rattle.revisit_table.proofs.Rising.{increasing-filter, filter-remove}
 
@@ -49,3 +50,29 @@ numbers-taken other kept i number entry stands within taken =
     cond_both (bytes_eq entry.0 other) (filter (λ n. not (n == number)) (numbers_of other kept)) (numbers_of other kept) (λ l. numbers_of other (remove kept i) ≡ l)
     (λ yes. ap (numbers_of other) (sym taken) ∙ numbers-without other number kept)
     (λ no. numbers-remove other kept i entry within (ap (λ (e : List ℕ × ℕ). bytes_eq e.0 other) (sym stands) ∙ no))
+
+-- ---- which digests have a list
+
+-- two digests that differ are reserved apart
+pub somes_apart : (a b : List ℕ) → bytes_eq a b ≡ false → Some a ≢ Some b
+somes_apart a b differ same = true≢false (sym ((bytes_eq-Decides a b).1 (inside same)) ∙ differ)
+  where
+    inside : Some a ≡ Some b → a ≡ b
+    inside e = cc
+
+-- a digest is this one, or differs from it
+pub this_or_apart : (a b : List ℕ) → (a ≡ b) ⊎ (bytes_eq a b ≡ false)
+this_or_apart a b = by_test (bytes_eq a b) refl
+  where
+    by_test : (test : Bool) → bytes_eq a b ≡ test → (a ≡ b) ⊎ (bytes_eq a b ≡ false)
+    by_test true e = inl ((bytes_eq-Decides a b).0 e)
+    by_test false e = inr e
+
+-- a list that is empty when a number may have been put behind it has got none, and was empty
+pub none_added : (test : Bool) (number : ℕ) (old new : List ℕ) → new ≡ old ++ cond test (number ∷ []) [] → new ≡ [] → (test ≡ false) × (old ≡ [])
+none_added true number old new is none = absurd (some_is_there old (sym is ∙ none))
+  where
+    some_is_there : (xs : List ℕ) → xs ++ number ∷ [] ≡ [] → ⊥
+    some_is_there [] e = cc
+    some_is_there (x ∷ xs) e = cc
+none_added false number old new is none = (refl, sym (append-nil old) ∙ sym is ∙ none)

@@ -3,7 +3,7 @@ ghost use Rattle.std.specs.Prelude.{◌≡◌, ℕ, ◌<◌, ◌≤◌, not, ◌
 ghost use Rattle.std.specs.List.Sorted.{IsStrictlyIncreasing};
 ghost use Rattle.revisit_table.specs.Table.{empty_table, numbers_of, with_room, with_added, with_taken_back, without};
 
-use crate::lists::{add_at, reserve_at, take_at};
+use crate::lists::{add_at, drop_unused, reserve_at, take_at};
 use capture::{Digest, Memory};
 use std::alloc::Global;
 use std::collections::BTreeMap;
@@ -68,6 +68,7 @@ impl Digests {
     }
 
     /// Makes room for one more capture of this digest, in the place of room that was reserved before.
+    /// Of a digest for which room was reserved and no capture added, nothing is kept then.
     ///
     /// The only call that takes memory. After `Memory` the table is as it was.
     pub fn reserve(&mut self, alloc: Global, digest: &Digest) -> Result<(), Memory>
@@ -76,7 +77,9 @@ impl Digests {
     {
         self.kept.reserve(1)?;
         reserve_at(&mut self.lists, alloc, digest)?;
-        self.reserved = Some(*digest);
+        if let Some(before) = self.reserved.replace(*digest) {
+            drop_unused(&mut self.lists, &before, self.reserved);
+        }
         Ok(())
     }
 
@@ -100,6 +103,7 @@ impl Digests {
         if let Some(place) = place_of(self.kept.as_slice(), number) {
             let (digest, _) = self.kept.remove(place);
             take_at(&mut self.lists, &digest, number);
+            drop_unused(&mut self.lists, &digest, self.reserved);
         }
     }
 }

@@ -1,9 +1,9 @@
 //! The lists of numbers by digest.
-ghost use Rattle.std.specs.Prelude.{◌≡◌, ℕ, ◌<◌, ◌≤◌, not, ◌==◌, List, [], ◌∷◌, ◌++◌, filter, vec_len, OnOk, if◌then◌else◌};
+ghost use Rattle.std.specs.Prelude.{◌≡◌, ◌≢◌, ℕ, ◌<◌, ◌≤◌, false, not, ◌==◌, List, [], ◌∷◌, ◌++◌, filter, vec_len, Some, OnOk, OnErr, if◌then◌else◌};
 ghost use Rattle.std.specs.List.Sorted.{IsStrictlyIncreasing};
 ghost use Rattle.std.specs.Str.{bytes_eq};
 ghost use Rattle.std.specs.Vec.{vec_capacity};
-ghost use Rattle.revisit_table.specs.Lists.{numbers_at, spare_at};
+ghost use Rattle.revisit_table.specs.Lists.{has_list, numbers_at, spare_at};
 
 use capture::{Digest, Memory};
 use std::alloc::Global;
@@ -18,6 +18,8 @@ pub(crate) fn reserve_at(
     ensures ok { OnOk result (0 < spare_at lists.new digest.now) }
     ensures same { (other : List ℕ) → numbers_at lists.new other ≡ numbers_at lists.old other }
     ensures spare { (other : List ℕ) → spare_at lists.old other ≤ spare_at lists.new other }
+    ensures others { (other : List ℕ) → bytes_eq digest.now other ≡ false → has_list lists.new other ≡ has_list lists.old other }
+    ensures err { OnErr result ((other : List ℕ) → has_list lists.new other ≡ has_list lists.old other) }
 {
     if let Some(numbers) = lists.get_mut(digest) {
         numbers.reserve(1)?;
@@ -31,8 +33,9 @@ pub(crate) fn reserve_at(
 /// Adds a number at the digest, in the room that is there.
 pub(crate) fn add_at(lists: &mut BTreeMap<Digest, Vec<u32>>, digest: &Digest, number: u32)
     requires { 0 < spare_at lists.old digest.now }
-    ensures { (other : List ℕ) → numbers_at lists.new other
+    ensures numbers { (other : List ℕ) → numbers_at lists.new other
         ≡ numbers_at lists.old other ++ (if bytes_eq digest.now other then number ∷ [] else []) }
+    ensures lists { (other : List ℕ) → has_list lists.new other ≡ has_list lists.old other }
 {
     if let Some(numbers) = lists.get_mut(digest) {
         numbers.push_reserved(number);
@@ -46,9 +49,32 @@ pub(crate) fn take_at(lists: &mut BTreeMap<Digest, Vec<u32>>, digest: &Digest, n
         ≡ (if bytes_eq digest.now other then filter (λ n. not (n == number)) (numbers_at lists.old other)
         else numbers_at lists.old other) }
     ensures spare { (other : List ℕ) → spare_at lists.old other ≤ spare_at lists.new other }
+    ensures lists { (other : List ℕ) → has_list lists.new other ≡ has_list lists.old other }
 {
     if let Some(numbers) = lists.get_mut(digest) {
         take_out(numbers, number);
+    }
+}
+
+/// Leaves no empty list at the digest, unless the digest is the reserved one.
+pub(crate) fn drop_unused(
+    lists: &mut BTreeMap<Digest, Vec<u32>>,
+    digest: &Digest,
+    reserved: Option<Digest>,
+)
+    ensures same { (other : List ℕ) → numbers_at lists.new other ≡ numbers_at lists.old other }
+    ensures spare { (other : List ℕ) → reserved ≡ Some other → spare_at lists.new other ≡ spare_at lists.old other }
+    ensures others { (other : List ℕ) → bytes_eq digest.now other ≡ false → has_list lists.new other ≡ has_list lists.old other }
+    ensures unused { reserved ≢ Some digest.now → numbers_at lists.old digest.now ≡ [] → has_list lists.new digest.now ≡ false }
+{
+    if reserved == Some(*digest) {
+        return;
+    }
+    match lists.get(digest) {
+        Some(numbers) if numbers.is_empty() => {
+            lists.remove(digest);
+        }
+        _ => {}
     }
 }
 

@@ -1,4 +1,4 @@
-use Rattle.std.proofs.Common.{◌≡◌, ◌≤◌, ◌==◌, not, rules, arith, cond, [], refl}
+use Rattle.std.proofs.Common.{◌≡◌, ◌≤◌, ◌==◌, not, rules, arith, cond, [], refl, true, false}
 use Rattle.std.specs.Prelude.{filter, ◌-◌, vec_len}
 use Rattle.std.specs.Str.{bytes_eq}
 use Rattle.std.specs.Vec.{vec_capacity}
@@ -25,3 +25,9 @@ returns-in-Some-clause-spare c = λ other.
     (λ old new. old ≤ new) other
     (λ yes. grind (arith, common_steps))
     (λ no. omega arith)
+
+pub returns-in-Some-clause-lists : goal.returns-in-Some-clause-lists
+returns-in-Some-clause-lists c = λ other.
+    let w = c.take_out.new.numbers in
+    related (λ numbers. true) false c.args.lists.now (c.get_mut.follows.lender w) c.args.digest.now w ((c.get_mut.follows.holds w).3 (search rules))
+    (λ old new. new ≡ old) other (λ yes. grind (arith, common_steps)) (λ no. refl)
