@@ -1,9 +1,9 @@
 -- What a stop leaves is one of the images that a crash may leave.
-use Rattle.std.proofs.Common.{◌≡◌, ◌≢◌, ◌⊎◌, ◌-◌, ℕ, zero, suc, Bool, true, false, not, ◌||◌, nat_le, if◌then◌else◌, List, [], ◌∷◌, ◌++◌, length, take, get_or, refl, sym, ap, ◌∙◌, subst, arith, inl, inr, ⊎_elim, length-append, length-take}
+use Rattle.std.proofs.Common.{◌≡◌, ◌-◌, ℕ, zero, suc, Bool, true, false, not, ◌||◌, nat_le, if◌then◌else◌, List, [], ◌∷◌, ◌++◌, length, take, refl, sym, ap, ◌∙◌, subst, arith, ⊎_elim, length-append, length-take}
 use Rattle.std.specs.List.{list_any}
-use Rattle.std.proofs.lemmas.Bool.{cases_eq, cases_lt, eq-eqb, leb-false}
-use Rattle.disk_model.specs.Image.{Image, files_of, file_count, file_of, with_file, with_new, written}
-use Rattle.disk_model.specs.ImageLaws.{file_of-with_file, file_of-with_file_number, files_of-with_file_kind, file_count-with_file, with_file_past, files_of-with_new, files_of-with_new_kind}
+use Rattle.std.proofs.lemmas.Bool.{cases_lt, eq-eqb, leb-false}
+use Rattle.disk_model.specs.Image.{Image, IsApart, file_count, file_of, with_file, written}
+use Rattle.disk_model.specs.ImageLaws.{file_of-with_file, file_count-with_file, with_file_past, same_or_apart, others_stay, bytes_stay}
 use Rattle.disk_model.specs.Crash.{Torn, Cut}
 use Rattle.disk_model.specs.CrashLaws.{torn_none, torn_written, cut_none, cut_done, on_file_none}
 use Rattle.disk_model.specs.Changes.{done, replayed, left_by, left_after, may_leave, is_sync_of, is_pending, durable_changes, torn_changes, stopped_changes}
@@ -12,48 +12,6 @@ use Rattle.disk_model.specs.declared.kind.Kind.{Kind}
 use Rattle.disk_model.specs.declared.kind.Kind.TheVariants.{Warc, Cdxj}
 use Rattle.disk_model.specs.declared.change.Change.{Change}
 use Rattle.disk_model.specs.declared.change.Change.TheVariants.{Wrote, Shortened, Made, Synced}
-
--- a file is another: of another kind or number
-abbrev Apart : Kind → ℕ → Kind → ℕ → Type 0
-Apart kind file k f = (k ≢ kind) ⊎ (f ≢ file)
-
-same_or_apart : (kind : Kind) (file : ℕ) (k : Kind) (f : ℕ) → ((k ≡ kind) × (f ≡ file)) ⊎ Apart kind file k f
-same_or_apart Warc file Warc f = ⊎_elim (λ same. inl (refl, same)) (λ apart. inr (inr apart)) (cases_eq f file)
-same_or_apart Warc file Cdxj f = inr (inl (λ same. cc))
-same_or_apart Cdxj file Warc f = inr (inl (λ same. cc))
-same_or_apart Cdxj file Cdxj f = ⊎_elim (λ same. inl (refl, same)) (λ apart. inr (inr apart)) (cases_eq f file)
-
-kinds : (k kind : Kind) → (k ≡ kind) ⊎ (k ≢ kind)
-kinds Warc Warc = inl refl
-kinds Warc Cdxj = inr (λ same. cc)
-kinds Cdxj Warc = inr (λ same. cc)
-kinds Cdxj Cdxj = inl refl
-
--- a change of a file leaves the others
-others : (image : Image) (kind : Kind) (file : ℕ) (bytes : List ℕ) (k : Kind) (f : ℕ) → Apart kind file k f → file_of (with_file image kind file bytes) k f ≡ file_of image k f
-unfolding file_of
-others image kind file bytes k f (inl apart) = ap (λ (files : List (List ℕ)). get_or files f []) (files_of-with_file_kind image kind file bytes k apart)
-others image kind file bytes k f (inr apart) =
-    ⊎_elim
-    (λ same. subst (λ (kk : Kind). file_of (with_file image kind file bytes) kk f ≡ file_of image kk f) (sym same) (file_of-with_file_number image kind file bytes f apart))
-    (λ other. ap (λ (files : List (List ℕ)). get_or files f []) (files_of-with_file_kind image kind file bytes k other))
-    (kinds k kind)
-
--- a new file changes no bytes
-new_file : (image : Image) (kind : Kind) (k : Kind) (f : ℕ) → file_of (with_new image kind) k f ≡ file_of image k f
-unfolding file_of
-new_file image kind k f =
-    ⊎_elim
-    (λ same. subst (λ (kk : Kind). get_or (files_of (with_new image kind) kk) f [] ≡ get_or (files_of image kk) f []) (sym same)
-    (ap (λ (files : List (List ℕ)). get_or files f []) (files_of-with_new image kind) ∙ push_empty (files_of image kind) f))
-    (λ other. ap (λ (files : List (List ℕ)). get_or files f []) (files_of-with_new_kind image kind k other))
-    (kinds k kind)
-  where
-    push_empty : (files : List (List ℕ)) (n : ℕ) → get_or (files ++ [] ∷ []) n [] ≡ get_or files n []
-    push_empty [] zero = refl
-    push_empty [] (suc n) = refl
-    push_empty (x ∷ files) zero = refl
-    push_empty (x ∷ files) (suc n) = push_empty files n
 
 -- images with as many files
 abbrev SameCounts : Image → Image → Type 0
@@ -76,14 +34,14 @@ changed_alike one two kind file f k n counts same =
     ∙ same
     ∙ sym (ap (λ (i : Image). file_of i k n) (with_file_past two kind file (f (file_of two kind file)) (omega (arith, past, counts kind)))))
     (cases_lt file (file_count one kind)))
-    (λ apart. others one kind file (f (file_of one kind file)) k n apart ∙ same ∙ sym (others two kind file (f (file_of two kind file)) k n apart))
+    (λ apart. others_stay one kind file (f (file_of one kind file)) k n apart ∙ same ∙ sym (others_stay two kind file (f (file_of two kind file)) k n apart))
     (same_or_apart kind file k n)
 
 -- a change made of two images with the same file leaves the same file
 done_alike : (change : Change) (one two : Image) (k : Kind) (n : ℕ) → SameCounts one two → file_of one k n ≡ file_of two k n → file_of (done change one) k n ≡ file_of (done change two) k n
 done_alike (Wrote kind file at bytes) one two k n counts same = changed_alike one two kind file (λ (old : List ℕ). written old at bytes) k n counts same
 done_alike (Shortened kind file len) one two k n counts same = changed_alike one two kind file (λ (old : List ℕ). take len old) k n counts same
-done_alike (Made kind) one two k n counts same = new_file one kind k n ∙ same ∙ sym (new_file two kind k n)
+done_alike (Made kind) one two k n counts same = bytes_stay one kind k n ∙ same ∙ sym (bytes_stay two kind k n)
 done_alike (Synced kind file) one two k n counts same = same
 
 counts_alike : (change : Change) (one two : Image) → SameCounts one two → SameCounts (done change one) (done change two)
@@ -109,7 +67,7 @@ both_agree change later image reading counts agree k n synced =
     done_alike change image reading k n counts (agree k n (or_right (is_sync_of k n change) (list_any (is_sync_of k n) later) synced))
 
 -- a file that isn't synced later is none of those that are
-pending_apart : (kind : Kind) (file : ℕ) (k : Kind) (n : ℕ) (later : List Change) → not (list_any (is_sync_of kind file) later) ≡ true → list_any (is_sync_of k n) later ≡ true → Apart kind file k n
+pending_apart : (kind : Kind) (file : ℕ) (k : Kind) (n : ℕ) (later : List Change) → not (list_any (is_sync_of kind file) later) ≡ true → list_any (is_sync_of k n) later ≡ true → IsApart kind file k n
 pending_apart kind file k n later pending synced =
     ⊎_elim
     (λ same.
@@ -124,7 +82,7 @@ pending_agree : (kind : Kind) (file : ℕ) (change : Change) (later : List Chang
     → Agree (change ∷ later) image reading → Agree later (with_file image kind file one) (with_file reading kind file two)
 pending_agree kind file change later image reading one two pending agree k n synced =
     let apart = pending_apart kind file k n later pending synced in
-    others image kind file one k n apart ∙ agree k n (or_right (is_sync_of k n change) (list_any (is_sync_of k n) later) synced) ∙ sym (others reading kind file two k n apart)
+    others_stay image kind file one k n apart ∙ agree k n (or_right (is_sync_of k n change) (list_any (is_sync_of k n) later) synced) ∙ sym (others_stay reading kind file two k n apart)
 
 -- a change that isn't made is one of what a crash may leave of it
 skipped : (change : Change) (later : List Change) (image reading : Image) (images : Image → Type 0) → is_pending change later ≡ true → images image → left_by change reading images image
@@ -141,9 +99,9 @@ skipped_counts (Synced kind file) later image reading pending counts k = absurd 
 
 skipped_agree : (change : Change) (later : List Change) (image reading : Image) → is_pending change later ≡ true → Agree (change ∷ later) image reading → Agree later image (done change reading)
 skipped_agree (Wrote kind file at bytes) later image reading pending agree k n synced =
-    agree k n synced ∙ sym (others reading kind file _ k n (pending_apart kind file k n later pending synced))
+    agree k n synced ∙ sym (others_stay reading kind file _ k n (pending_apart kind file k n later pending synced))
 skipped_agree (Shortened kind file len) later image reading pending agree k n synced =
-    agree k n synced ∙ sym (others reading kind file _ k n (pending_apart kind file k n later pending synced))
+    agree k n synced ∙ sym (others_stay reading kind file _ k n (pending_apart kind file k n later pending synced))
 skipped_agree (Made kind) later image reading pending agree k n synced = absurd (cc)
 skipped_agree (Synced kind file) later image reading pending agree k n synced = absurd (cc)
 

@@ -79,6 +79,10 @@ pub left_only_now : (changes : List Change) (first : Image) (image : Image) → 
 left_only_now changes first image left =
     subst (λ (some : List Change). may_leave some first image) (take_all left.0 changes left.1) left.3
 
+-- an image since a later moment is one since an earlier moment
+pub left_earlier : (changes : List Change) (first : Image) (t s : ℕ) (image : Image) → t ≤ s → left_since changes first s image → left_since changes first t image
+left_earlier changes first t s image le left = (left.0, omega (arith, le, left.1), left.2, left.3)
+
 -- a change is one moment more
 pub elapses-push : (changes : List Change) (change : Change) (first : Image)
     → Elapses (length changes) (length (changes ++ change ∷ [])) (left_since changes first) (left_since (changes ++ change ∷ []) first) (may_leave (changes ++ change ∷ []) first)

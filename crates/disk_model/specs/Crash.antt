@@ -36,9 +36,13 @@ pub record HasFile (kind : Kind) (file : ℕ) (bytes : List ℕ) (image : Image)
 abbrev pub Within : (Image → Type 0) → (Image → Type 0) → Type 0
 Within old new = (image : Image) → new image → old image
 
+-- an image that a step makes of one of these
+abbrev pub Stepped : (Image → Image → Type 0) → (Image → Type 0) → Image → Type 0
+Stepped Step old image = (before : Image) × old before × Step before image
+
 -- Each image that a crash may leave now is one that it might have left before, after a step.
 abbrev pub Follows : (Image → Image → Type 0) → (Image → Type 0) → (Image → Type 0) → Type 0
-Follows Step old new = (image : Image) → new image → (before : Image) × old before × Step before image
+Follows Step old new = (image : Image) → new image → Stepped Step old image
 
 -- Each image that a crash may leave has P.
 abbrev pub Leaves : (Image → Type 0) → (Image → Type 0) → Type 0

@@ -1,7 +1,7 @@
 -- Laws of torn writes, of cuts and of time.
-use Rattle.std.proofs.Common.{◌≡◌, ◌<◌, ◌≤◌, ◌+◌, ◌-◌, ℕ, min, List, ◌++◌, length, take, drop, refl, sym, ap, ◌∙◌, arith, inl, ⊎_elim, length-append, length-take, length-drop, take-append-drop}
+use Rattle.std.proofs.Common.{◌≡◌, ◌<◌, ◌≤◌, ◌+◌, ◌-◌, ℕ, min, List, [], ◌∷◌, ◌++◌, length, take, drop, get_or, refl, sym, ap, ◌∙◌, arith, inl, ⊎_elim, append_assoc, length-append, length-take, length-drop, take-append-drop}
 use Rattle.std.proofs.lemmas.Bool.{cases_lt}
-use Rattle.std.proofs.lemmas.List.{take_all, take_min, drop_all, take-take, take-append-le, drop-drop, drop_at}
+use Rattle.std.proofs.lemmas.List.{append-nil, take_all, take_at, take_min, drop_all, take-take, take-append-le, drop-drop, drop_at, drop_more, drop-take}
 use Rattle.disk_model.specs.Image.{Image, written, file_of}
 use Rattle.disk_model.specs.ImageLaws.{with_file-file_of}
 use Rattle.disk_model.specs.Crash.{Torn, Cut, OnFile, Elapses}
@@ -77,6 +77,49 @@ torn_parts at n old new le torn =
     ∙ ap (λ (l : List ℕ). take at new ++ l) (sym (take-append-drop n (drop at new)) ∙ ap (λ (l : List ℕ). take n (drop at new) ++ l) (drop-drop n at new ∙ torn.after))
     ∙ ap (λ (l : List ℕ). l ++ (take n (drop at new) ++ drop (at + n) old)) (torn_before at n old new le torn)
 
+-- a write at the end leaves what was there, and of its bytes as many as it has at most
+abbrev pub TornAppendStandsBehind : Type 0
+TornAppendStandsBehind =
+    (n : ℕ) (old new : List ℕ) → Torn (length old) n old new → (rest : List ℕ) × (new ≡ old ++ rest) × (length rest ≤ n)
+
+pub torn_append : TornAppendStandsBehind
+torn_append n old new torn = (
+  drop (length old) new,
+  sym (take-append-drop (length old) new)
+      ∙ ap (λ (l : List ℕ). l ++ drop (length old) new) (torn_before (length old) n old new (omega arith) torn ∙ take_all (length old) old (omega arith)),
+  omega (arith, length-drop (length old) new, torn.no_longer),
+)
+
+-- a write of one byte in a file leaves all but that byte, which may be any
+abbrev pub TornByteIsAlone : Type 0
+TornByteIsAlone =
+    (at : ℕ) (old new : List ℕ) → at < length old → Torn at 1 old new
+    → (byte : ℕ) × (new ≡ take at old ++ byte ∷ drop (at + 1) old)
+
+pub torn_byte : TornByteIsAlone
+torn_byte at old new inside torn =
+    let before : take at new ≡ take at old = torn_before at 1 old new (omega (arith, inside)) torn in
+    let rest : drop at new ≡ get_or new at 0 ∷ drop (at + 1) old =
+    drop_more new at 0 (omega (arith, inside, torn.no_shorter)) ∙ ap (λ (l : List ℕ). get_or new at 0 ∷ l) torn.after in
+    (get_or new at 0, sym (take-append-drop at new) ∙ (λ i. before i ++ rest i))
+
+-- bytes written at the end stand behind those that were there
+abbrev pub WrittenAtTheEndStandsBehind : Type 0
+WrittenAtTheEndStandsBehind = (old bytes : List ℕ) → written old (length old) bytes ≡ old ++ bytes
+
+pub written_at_end : WrittenAtTheEndStandsBehind
+written_at_end old bytes =
+    let front : take (length old) old ≡ old = take_all (length old) old (omega arith) in
+    let rest : drop (length old + length bytes) old ≡ [] = drop_all (length old + length bytes) old (omega arith) in
+    (λ i. front i ++ bytes ++ rest i) ∙ append-nil (old ++ bytes)
+
+-- one byte that is written takes the place of one
+abbrev pub WrittenByteIsAlone : Type 0
+WrittenByteIsAlone = (old : List ℕ) (at byte : ℕ) → written old at (byte ∷ []) ≡ take at old ++ byte ∷ drop (at + 1) old
+
+pub written_byte : WrittenByteIsAlone
+written_byte old at byte = append_assoc (take at old) (byte ∷ []) (drop (at + 1) old)
+
 -- a cut that wasn't begun
 pub cut_none : (n : ℕ) (old : List ℕ) → Cut n old old
 cut_none n old = record { no_shorter = omega arith; no_longer = omega arith; same = refl }
@@ -94,6 +137,29 @@ cut_done n old = record {
 -- a cut of a file that is long enough leaves a front of it
 pub cut_front : (n : ℕ) (old new : List ℕ) → n ≤ length old → Cut n old new → new ≡ take (length new) old
 cut_front n old new le cut = sym (take_all (length old) new (omega (arith, cut.no_longer))) ∙ cut.same
+
+-- a cut at the end of a text leaves it, and a front of what stood behind it
+abbrev pub CutLeavesAFrontBehind : Type 0
+CutLeavesAFrontBehind =
+    (text rest new : List ℕ) → Cut (length text) (text ++ rest) new → (k : ℕ) × (new ≡ text ++ take k rest)
+
+pub cut_behind : CutLeavesAFrontBehind
+cut_behind text rest new cut =
+    let sum : length (text ++ rest) ≡ length text + length rest = length-append text rest in
+    let k : ℕ = length new - length text in
+    let long : length new ≡ length text + k = omega (arith, sum, cut.no_shorter) in (
+      k,
+      cut_front (length text) (text ++ rest) new (omega (arith, sum)) cut
+          ∙ ap (λ (n : ℕ). take n (text ++ rest)) long
+          ∙ sym (take-append-drop (length text) (take (length text + k) (text ++ rest)))
+          ∙ (λ i. front k i ++ behind k i),
+    )
+  where
+    front : (k : ℕ) → take (length text) (take (length text + k) (text ++ rest)) ≡ text
+    front k = take-take (length text) (length text + k) (text ++ rest) (omega arith) ∙ take_at text rest (length text) refl
+
+    behind : (k : ℕ) → drop (length text) (take (length text + k) (text ++ rest)) ≡ take k rest
+    behind k = drop-take (length text) k (text ++ rest) ∙ ap (λ (l : List ℕ). take k l) (drop_at text rest (length text) refl)
 
 -- a step that may do nothing to the file may do nothing to the image
 pub on_file_none : (kind : Kind) (file : ℕ) (Step : List ℕ → List ℕ → Type 0) (image : Image) → Step (file_of image kind file) (file_of image kind file) → OnFile kind file Step image image

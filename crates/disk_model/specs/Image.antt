@@ -1,5 +1,5 @@
 -- What a disk holds: files of two kinds, each kind numbered from 0, each file a list of bytes.
-use Rattle.std.specs.Prelude.{ℕ, ◌+◌, List, [], ◌∷◌, ◌++◌, length, take, drop, get_or, set}
+use Rattle.std.specs.Prelude.{◌≢◌, ◌⊎◌, ℕ, ◌+◌, List, [], ◌∷◌, ◌++◌, length, take, drop, get_or, set}
 use Rattle.disk_model.specs.declared.kind.Kind.{Kind}
 use Rattle.disk_model.specs.declared.kind.Kind.TheVariants.{Warc, Cdxj}
 
@@ -29,6 +29,10 @@ file_count image kind = length (files_of image kind)
 -- the bytes of a file; none where it isn't there
 unfoldable pub file_of : Image → Kind → ℕ → List ℕ
 file_of image kind file = get_or (files_of image kind) file []
+
+-- a file is another: of another kind, or of another number
+abbrev pub IsApart : Kind → ℕ → Kind → ℕ → Type 0
+IsApart kind file other number = (other ≢ kind) ⊎ (number ≢ file)
 
 -- the image with these bytes in a file; the same image where the file isn't there
 unfoldable pub with_file : Image → Kind → ℕ → List ℕ → Image

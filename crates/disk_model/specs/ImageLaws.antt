@@ -1,9 +1,10 @@
 -- Laws of images: what a change of one file does to it, and that it leaves the other files.
-use Rattle.std.proofs.Common.{◌≡◌, ◌≢◌, ◌<◌, ◌≤◌, ◌+◌, ℕ, List, [], ◌∷◌, ◌++◌, length, get_or, refl, sym, ap, ◌∙◌, arith, get_or-set_same, get_or-set_other}
+use Rattle.std.proofs.Common.{◌≡◌, ◌≢◌, ◌⊎◌, ◌<◌, ◌≤◌, ◌+◌, ◌-◌, ℕ, zero, suc, List, [], ◌∷◌, ◌++◌, length, get_or, refl, sym, ap, ◌∙◌, subst, inl, inr, ⊎_elim, arith, get_or-set_same, get_or-set_other}
 use Rattle.std.proofs.lemmas.List.{length-set, set-set, set-get_or, set_past, get_or_append_left, get_or_push, length_push, same_lists, get_or_default}
+use Rattle.std.proofs.lemmas.Bool.{cases_eq, cases_lt}
 use lib.ListN.{set}
-use Rattle.disk_model.specs.Image.{Image, files_of, with_files, file_count, file_of, with_file, with_new}
-use Rattle.disk_model.specs.Crash.{OnFile, HasFile}
+use Rattle.disk_model.specs.Image.{Image, files_of, with_files, file_count, file_of, with_file, with_new, IsApart}
+use Rattle.disk_model.specs.Crash.{OnFile, HasFile, MayCreate}
 use Rattle.disk_model.specs.declared.kind.Kind.{Kind}
 use Rattle.disk_model.specs.declared.kind.Kind.TheVariants.{Warc, Cdxj}
 
@@ -104,19 +105,27 @@ file_of-with_new_number image kind file before =
     ap (λ (files : List (List ℕ)). get_or files file []) (files_of-with_new image kind)
     ∙ get_or_append_left (files_of image kind) ([] ∷ []) [] file before
 
+-- images with as many files of a kind, and the same bytes in each, have the same files of that kind
+pub same_kind : (one two : Image) (kind : Kind) → file_count one kind ≡ file_count two kind
+    → ((file : ℕ) → file < file_count one kind → file_of one kind file ≡ file_of two kind file)
+    → files_of one kind ≡ files_of two kind
+unfolding file_of
+same_kind one two kind counts files =
+    same_lists (files_of one kind) (files_of two kind) counts (λ file d there.
+    get_or_default (files_of one kind) file d [] there
+    ∙ files file there
+    ∙ get_or_default (files_of two kind) file [] d (omega (arith, there, counts)))
+
 -- images with the same files are the same
 pub same_images : (one two : Image)
     → ((kind : Kind) → file_count one kind ≡ file_count two kind)
     → ((kind : Kind) (file : ℕ) → file < file_count one kind → file_of one kind file ≡ file_of two kind file)
     → one ≡ two
-unfolding files_of file_of
+unfolding files_of
 same_images one two counts files =
-    let warc : one.warc ≡ two.warc = same_lists one.warc two.warc (counts Warc) (λ k d there. default one.warc two.warc k d there (counts Warc) (files Warc k there)) in
-    let cdxj : one.cdxj ≡ two.cdxj = same_lists one.cdxj two.cdxj (counts Cdxj) (λ k d there. default one.cdxj two.cdxj k d there (counts Cdxj) (files Cdxj k there)) in
+    let warc : one.warc ≡ two.warc = same_kind one two Warc (counts Warc) (files Warc) in
+    let cdxj : one.cdxj ≡ two.cdxj = same_kind one two Cdxj (counts Cdxj) (files Cdxj) in
     λ i. record { warc = warc i; cdxj = cdxj i }
-  where
-    default : (xs ys : List (List ℕ)) (k : ℕ) (d : List ℕ) → k < length xs → length xs ≡ length ys → get_or xs k [] ≡ get_or ys k [] → get_or xs k d ≡ get_or ys k d
-    default xs ys k d there long same = get_or_default xs k d [] there ∙ same ∙ get_or_default ys k [] d (omega (arith, there, long))
 
 -- after a step on a file that a sync made durable, the image is the old one with those bytes in the file
 pub settled_on_file : (kind : Kind) (file : ℕ) (bytes : List ℕ) (Step : List ℕ → List ℕ → Type 0) (old new : Image)
@@ -126,3 +135,108 @@ settled_on_file kind file bytes Step old new on has =
     let same : on.bytes ≡ bytes =
     sym (file_of-with_file old kind file on.bytes there) ∙ sym (ap (λ (image : Image). file_of image kind file) on.whole) ∙ has.same in
     on.whole ∙ ap (λ (content : List ℕ). with_file old kind file content) same
+
+-- two files are one, or apart
+pub same_or_apart : (kind : Kind) (file : ℕ) (k : Kind) (f : ℕ) → ((k ≡ kind) × (f ≡ file)) ⊎ IsApart kind file k f
+same_or_apart Warc file Warc f = ⊎_elim (λ same. inl (refl, same)) (λ apart. inr (inr apart)) (cases_eq f file)
+same_or_apart Warc file Cdxj f = inr (inl (λ same. cc))
+same_or_apart Cdxj file Warc f = inr (inl (λ same. cc))
+same_or_apart Cdxj file Cdxj f = ⊎_elim (λ same. inl (refl, same)) (λ apart. inr (inr apart)) (cases_eq f file)
+
+-- two kinds are one, or differ
+pub same_kind_or_other : (k kind : Kind) → (k ≡ kind) ⊎ (k ≢ kind)
+same_kind_or_other Warc Warc = inl refl
+same_kind_or_other Warc Cdxj = inr (λ same. cc)
+same_kind_or_other Cdxj Warc = inr (λ same. cc)
+same_kind_or_other Cdxj Cdxj = inl refl
+
+-- a change of one file leaves the others
+abbrev pub OtherFilesStay : Type 0
+OtherFilesStay =
+    (image : Image) (kind : Kind) (file : ℕ) (bytes : List ℕ) (k : Kind) (f : ℕ) → IsApart kind file k f
+    → file_of (with_file image kind file bytes) k f ≡ file_of image k f
+
+pub others_stay : OtherFilesStay
+unfolding file_of
+others_stay image kind file bytes k f (inl apart) = ap (λ (files : List (List ℕ)). get_or files f []) (files_of-with_file_kind image kind file bytes k apart)
+others_stay image kind file bytes k f (inr apart) =
+    ⊎_elim
+    (λ same. subst (λ (kk : Kind). file_of (with_file image kind file bytes) kk f ≡ file_of image kk f) (sym same) (file_of-with_file_number image kind file bytes f apart))
+    (λ other. ap (λ (files : List (List ℕ)). get_or files f []) (files_of-with_file_kind image kind file bytes k other))
+    (same_kind_or_other k kind)
+
+-- a new file changes no bytes
+abbrev pub NewFileChangesNoBytes : Type 0
+NewFileChangesNoBytes = (image : Image) (kind : Kind) (k : Kind) (f : ℕ) → file_of (with_new image kind) k f ≡ file_of image k f
+
+pub bytes_stay : NewFileChangesNoBytes
+unfolding file_of
+bytes_stay image kind k f =
+    ⊎_elim
+    (λ same. subst (λ (kk : Kind). get_or (files_of (with_new image kind) kk) f [] ≡ get_or (files_of image kk) f []) (sym same)
+    (ap (λ (files : List (List ℕ)). get_or files f []) (files_of-with_new image kind) ∙ push_empty (files_of image kind) f))
+    (λ other. ap (λ (files : List (List ℕ)). get_or files f []) (files_of-with_new_kind image kind k other))
+    (same_kind_or_other k kind)
+  where
+    push_empty : (files : List (List ℕ)) (n : ℕ) → get_or (files ++ [] ∷ []) n [] ≡ get_or files n []
+    push_empty [] zero = refl
+    push_empty [] (suc n) = refl
+    push_empty (x ∷ files) zero = refl
+    push_empty (x ∷ files) (suc n) = push_empty files n
+
+-- nor does it take a file away
+pub count_grows : (image : Image) (kind other : Kind) → file_count image other ≤ file_count (with_new image kind) other
+count_grows image kind other =
+    ⊎_elim
+    (λ same. subst (λ (k : Kind). file_count image k ≤ file_count (with_new image kind) k) (sym same) (omega (arith, file_count-with_new image kind)))
+    (λ apart. omega (arith, file_count-with_new_kind image kind other apart))
+    (same_kind_or_other other kind)
+
+-- a file that an image has is kept by a step on another file
+pub has_file-on_file : (kind : Kind) (file : ℕ) (Step : List ℕ → List ℕ → Type 0) (k : Kind) (f : ℕ) (bytes : List ℕ) (old new : Image)
+    → IsApart kind file k f → OnFile kind file Step old new → HasFile k f bytes old → HasFile k f bytes new
+has_file-on_file kind file Step k f bytes old new apart on has = record {
+  there = omega (arith, has.there, ap (λ (image : Image). file_count image k) on.whole, file_count-with_file old kind file on.bytes k);
+  same = ap (λ (image : Image). file_of image k f) on.whole ∙ others_stay old kind file on.bytes k f apart ∙ has.same;
+}
+
+-- and by a file that is made, or isn't
+pub has_file-may_create : (kind : Kind) (number : ℕ) (k : Kind) (f : ℕ) (bytes : List ℕ) (old new : Image)
+    → MayCreate kind number old new → HasFile k f bytes old → HasFile k f bytes new
+has_file-may_create kind number k f bytes old new (inl same) has = subst (HasFile k f bytes) (sym same) has
+has_file-may_create kind number k f bytes old new (inr made) has = record {
+  there = omega (arith, has.there, count_grows old kind k, ap (λ (image : Image). file_count image k) made.1);
+  same = ap (λ (image : Image). file_of image k f) made.1 ∙ bytes_stay old kind k f ∙ has.same;
+}
+
+-- a step on a file leaves the files of the other kind
+pub other_kind-on_file : (kind : Kind) (file : ℕ) (Step : List ℕ → List ℕ → Type 0) (other : Kind) (old new : Image)
+    → other ≢ kind → OnFile kind file Step old new → files_of new other ≡ files_of old other
+other_kind-on_file kind file Step other old new apart on =
+    ap (λ (image : Image). files_of image other) on.whole ∙ files_of-with_file_kind old kind file on.bytes other apart
+
+-- and so does a file that is made, or isn't
+pub other_kind-may_create : (kind : Kind) (number : ℕ) (other : Kind) (old new : Image)
+    → other ≢ kind → MayCreate kind number old new → files_of new other ≡ files_of old other
+other_kind-may_create kind number other old new apart (inl same) = ap (λ (image : Image). files_of image other) same
+other_kind-may_create kind number other old new apart (inr made) =
+    ap (λ (image : Image). files_of image other) made.1 ∙ files_of-with_new_kind old kind other apart
+
+-- Where each file of a kind that the reading has stands in an image as in the reading, and the image has no more of
+-- them, it has the reading's files of that kind. That holds of no files too.
+abbrev pub SyncedKindIsAsRead : Type 0
+SyncedKindIsAsRead =
+    (reading image : Image) (kind : Kind)
+    → ((file : ℕ) → file < file_count reading kind → HasFile kind file (file_of reading kind file) image)
+    → file_count image kind ≤ file_count reading kind
+    → files_of image kind ≡ files_of reading kind
+
+pub as_read : SyncedKindIsAsRead
+as_read reading image kind has fewer = same_kind image reading kind count (λ file there. (has file (omega (arith, there, fewer))).same)
+  where
+    count : file_count image kind ≡ file_count reading kind
+    count =
+        ⊎_elim
+        (λ some. omega (arith, fewer, some, (has (file_count reading kind - 1) (omega (arith, some))).there))
+        (λ none. omega (arith, none, fewer))
+        (cases_lt 0 (file_count reading kind))

@@ -144,4 +144,8 @@ pub trait Disk {
     /// An image since now is an image now.
     ghost now_only: { (disk : Self) (image : Image) → images_since disk (moment disk) image
         → images disk image };
+
+    /// An image since a later moment is one since an earlier moment.
+    ghost earlier: { (disk : Self) (t s : ℕ) (image : Image) → t ≤ s → images_since disk s image
+        → images_since disk t image };
 }

@@ -6,6 +6,7 @@ mod contents;
 mod disk;
 mod file;
 mod kind;
+mod laws;
 mod memory_disk;
 #[cfg(test)]
 mod silent_disk;
@@ -17,4 +18,8 @@ mod tests;
 pub use change::Change;
 pub use disk::Disk;
 pub use kind::Kind;
+pub use laws::{
+    cut_leaves_a_front_behind, other_files_stay, synced_kind_is_as_read, torn_append_stands_behind,
+    torn_byte_is_alone, written_bytes_stand_in_place,
+};
 pub use memory_disk::MemoryDisk;

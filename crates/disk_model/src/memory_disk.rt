@@ -2,7 +2,7 @@
 ghost use Rattle.std.specs.Prelude.{◌≡◌, ◌<◌, ◌≤◌, ◌↔◌, ◌+◌, ◌-◌, ◌^◌, [], ◌∷◌, ◌++◌, Some, true, drop, length, min, sum_by, take, IfOk, IfErr, IsErr, IsTrue, OnOk, OnErr};
 ghost use Rattle.capture.specs.Faults.{CountsFaults};
 ghost use Rattle.disk_model.specs.Changes.{done, replayed, stopped_changes};
-ghost use Rattle.disk_model.specs.ChangesLaws.{replayed_is_left, no_more_left, left_now, left_only_now};
+ghost use Rattle.disk_model.specs.ChangesLaws.{replayed_is_left, no_more_left, left_now, left_only_now, left_earlier};
 ghost use Rattle.disk_model.specs.Crash.{Torn, Cut, OnFile, MayCreate, HasFile, Within, Follows, Leaves, Elapses};
 ghost use Rattle.disk_model.specs.Device.{Device, new_device, reading_of, images_of, moment_of, images_since_of, is_to_fail, called, read_called, faulted, changed, stopped};
 ghost use Rattle.disk_model.specs.Image.{file_count, files_of, file_of, with_file, with_new, written};
@@ -215,6 +215,8 @@ impl Disk for MemoryDisk {
     ghost now_counts = { λ d t image le left. left_now d.changes d.first t image le left };
 
     ghost now_only = { λ d image left. left_only_now d.changes d.first image left };
+
+    ghost earlier = { λ d t s image le left. left_earlier d.changes d.first t s image le left };
 
     fn files(&mut self, kind: Kind) -> Result<u32, Failed>
         // It fails exactly where it is to.

@@ -169,6 +169,8 @@ impl Disk for SilentDisk {
 
     ghost now_only = { λ d image left. left };
 
+    ghost earlier = { λ d t s image le left. left };
+
     fn files(&mut self, kind: Kind) -> Result<u32, Failed> {
         let answer = self.inner.files(kind);
         self.answer(Call::Files, answer)

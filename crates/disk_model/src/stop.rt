@@ -68,7 +68,7 @@ fn tear(
     {
         let bytes = bytes.as_slice();
         if bytes.len() as u64 > budget {
-            let torn = with_gate(alloc, &bytes[..budget as usize])?;
+            let torn = with_commit_byte(alloc, &bytes[..budget as usize])?;
             files.write_at(*kind, *file, *at, torn.as_slice())?;
             return Ok(None);
         }
@@ -79,8 +79,8 @@ fn tear(
     Ok(Some(budget))
 }
 
-// The bytes, and a gate byte behind them.
-fn with_gate(alloc: Global, bytes: &[u8]) -> Result<Vec<u8>, Memory>
+// The bytes, and a commit byte behind them.
+fn with_commit_byte(alloc: Global, bytes: &[u8]) -> Result<Vec<u8>, Memory>
     ensures { IfOk result (λ torn. torn.items ≡ bytes.now ++ 87 ∷ []) }
 {
     let mut torn = Vec::with_capacity(alloc, bytes.len() + 1)?;

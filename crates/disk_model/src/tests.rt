@@ -58,11 +58,11 @@ fn after(alloc: Global, steps: &[(Step, bool)]) -> SilentDisk {
     disk
 }
 
-/// The bytes of a Warc file, as a read gives them.
-fn bytes_of(alloc: Global, disk: &mut SilentDisk, file: u32) -> Result<Vec<u8>, Fail> {
-    let len = disk.len(Kind::Warc, file)?;
+/// The bytes of a file, as a read gives them.
+fn bytes_of(alloc: Global, disk: &mut SilentDisk, kind: Kind, file: u32) -> Result<Vec<u8>, Fail> {
+    let len = disk.len(kind, file)?;
     let mut bytes = vec![in alloc; 0; len as usize]?;
-    disk.read(Kind::Warc, file, 0, &mut bytes)?;
+    disk.read(kind, file, 0, &mut bytes)?;
     Ok(bytes)
 }
 
@@ -135,11 +135,132 @@ fn a_stop_leaves_what_the_model_allows(rt: HostRuntime) -> Result<(), Fail> {
             };
             let mut disk = SilentDisk::new(alloc, stopped);
             assert_eq!(rt;
-                bytes_of(alloc, &mut disk, 0)?.as_slice(),
+                bytes_of(alloc, &mut disk, Kind::Warc, 0)?.as_slice(),
                 *bytes,
                 "row {number}, choice {choice}"
             );
         }
+    }
+    Ok(())
+}
+
+/// The bytes of all files of a kind, with a space behind each file.
+fn joined(alloc: Global, disk: &mut SilentDisk, kind: Kind) -> Result<Vec<u8>, Fail> {
+    let mut all = Vec::new(alloc);
+    for file in 0..disk.files(kind)? {
+        let bytes = bytes_of(alloc, disk, kind, file)?;
+        all.extend_from_slice(&bytes)?;
+        all.push(b' ')?;
+    }
+    Ok(all)
+}
+
+/// A disk with ten files of each kind, each of which holds `ab` and is synced.
+fn disk_of_twenty_files(alloc: Global) -> SilentDisk {
+    let mut disk = SilentDisk::new(alloc, MemoryDisk::new(alloc, Vec::new(alloc)));
+    for kind in [Kind::Warc, Kind::Cdxj] {
+        for file in 0..10 {
+            let _ = disk.create(kind);
+            let _ = disk.write_at(kind, file, 0, b"ab");
+            let _ = disk.sync(kind, file);
+        }
+    }
+    disk
+}
+
+/// What each choice leaves of ten files of each kind, where `xy` was written behind Warc file 3 and then `pq` over
+/// Cdxj file 7, neither of which is synced.
+static PENDING: [(u32, &[u8], &[u8]); 7] = [
+    (
+        0,
+        b"ab ab ab ab ab ab ab ab ab ab ",
+        b"ab ab ab ab ab ab ab ab ab ab ",
+    ),
+    (
+        1,
+        b"ab ab ab abxy ab ab ab ab ab ab ",
+        b"ab ab ab ab ab ab ab pq ab ab ",
+    ),
+    (
+        2,
+        b"ab ab ab abW ab ab ab ab ab ab ",
+        b"ab ab ab ab ab ab ab ab ab ab ",
+    ),
+    (
+        3,
+        b"ab ab ab abxW ab ab ab ab ab ab ",
+        b"ab ab ab ab ab ab ab ab ab ab ",
+    ),
+    (
+        4,
+        b"ab ab ab abxy ab ab ab ab ab ab ",
+        b"ab ab ab ab ab ab ab Wb ab ab ",
+    ),
+    (
+        5,
+        b"ab ab ab abxy ab ab ab ab ab ab ",
+        b"ab ab ab ab ab ab ab pW ab ab ",
+    ),
+    (
+        6,
+        b"ab ab ab abxy ab ab ab ab ab ab ",
+        b"ab ab ab ab ab ab ab pq ab ab ",
+    ),
+];
+
+#[test]
+fn a_stop_tears_the_pending_files_alone(rt: HostRuntime) -> Result<(), Fail> {
+    let alloc = rt.alloc();
+    for (choice, warc, cdxj) in PENDING.iter() {
+        let mut disk = disk_of_twenty_files(alloc);
+        let _ = disk.write_at(Kind::Warc, 3, 2, b"xy");
+        let _ = disk.write_at(Kind::Cdxj, 7, 0, b"pq");
+        let Ok(stopped) = disk.into_inner().stop(*choice) else {
+            return Err("memory".into());
+        };
+        let mut disk = SilentDisk::new(alloc, stopped);
+        let found = (
+            joined(alloc, &mut disk, Kind::Warc)?,
+            joined(alloc, &mut disk, Kind::Cdxj)?,
+        );
+        assert_eq!(rt;
+            (found.0.as_slice(), found.1.as_slice()),
+            (*warc, *cdxj),
+            "choice {choice}"
+        );
+    }
+    Ok(())
+}
+
+/// What each choice leaves of 1,000 appends of an `x` that aren't synced: so many of them, and what stands behind.
+static APPENDS: [(u32, usize, &[u8]); 5] = [
+    (0, 0, b""),
+    (1, 1000, b""),
+    (2, 0, b"W"),
+    (1000, 998, b"W"),
+    (1002, 1000, b""),
+];
+
+#[test]
+fn a_stop_cuts_a_thousand_appends(rt: HostRuntime) -> Result<(), Fail> {
+    let alloc = rt.alloc();
+    for (choice, count, behind) in APPENDS.iter() {
+        let mut disk = SilentDisk::new(alloc, MemoryDisk::new(alloc, Vec::new(alloc)));
+        let _ = disk.create(Kind::Warc);
+        for at in 0..1000 {
+            let _ = disk.write_at(Kind::Warc, 0, at, b"x");
+        }
+        let Ok(stopped) = disk.into_inner().stop(*choice) else {
+            return Err("memory".into());
+        };
+        let mut disk = SilentDisk::new(alloc, stopped);
+        let mut wanted = vec![in alloc; b'x'; *count]?;
+        wanted.extend_from_slice(behind)?;
+        assert_eq!(rt;
+            bytes_of(alloc, &mut disk, Kind::Warc, 0)?.as_slice(),
+            wanted.as_slice(),
+            "choice {choice}"
+        );
     }
     Ok(())
 }
@@ -195,7 +316,7 @@ fn reads_and_bytes_are_counted(rt: HostRuntime) -> Result<(), Fail> {
     let alloc = rt.alloc();
     let mut disk = disk_with_file(alloc);
     assert_eq!(rt;
-        bytes_of(alloc, &mut disk, 0)?.as_slice(),
+        bytes_of(alloc, &mut disk, Kind::Warc, 0)?.as_slice(),
         b"abcd".as_slice()
     );
     let disk = disk.into_inner();
@@ -219,7 +340,7 @@ fn a_disk_that_tells_nothing_fails_where_nothing_is(rt: HostRuntime) -> Result<(
     assert_eq!(rt; disk.sync(Kind::Cdxj, 0), Err(Failed));
     assert_eq!(rt; disk.faults(), 5);
     assert_eq!(rt;
-        bytes_of(alloc, &mut disk, 0)?.as_slice(),
+        bytes_of(alloc, &mut disk, Kind::Warc, 0)?.as_slice(),
         b"abcd".as_slice()
     );
     let calls = [
