@@ -1,3 +1,4 @@
 pub mod Clocks
 pub mod Echoes
+pub mod HangUps
 pub mod NewLinks

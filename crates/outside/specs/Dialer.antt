@@ -1,8 +1,20 @@
--- How a dialer counts faults.
+-- What a dialer keeps of a link, and how it counts faults.
 use Rattle.std.specs.Prelude.{◌≡◌, ℕ, ◌<◌, ◌≤◌, Result, Ok, Err}
 use Rattle.capture.specs.Faults.{Rose}
 use Rattle.outside.specs.declared.dialer.DialError.{DialError}
 use Rattle.outside.specs.declared.dialer.DialError.TheVariants.{Failed, Memory}
+use Rattle.outside.specs.declared.dialer.Transcript.{Transcript}
+use Rattle.outside.specs.Link.{Traffic}
+
+-- what went over a link, as a dialer keeps it
+abbrev pub transcript_of : Traffic → Transcript
+transcript_of traffic = record {
+  host = traffic.host;
+  port = traffic.port;
+  sent = traffic.taken;
+  given = traffic.given;
+  ended = traffic.ended;
+}
 
 -- A dial counts its fault: the count rises where it answers Failed, and else stays.
 abbrev pub CountsDial : {L : Type 0} → ℕ → ℕ → Result L DialError → Type 0

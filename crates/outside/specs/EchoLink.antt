@@ -1,26 +1,21 @@
 -- Links of the origin that echoes.
-use Rattle.std.specs.Prelude.{◌≡◌, ℕ, ◌≤◌, List, [], ◌++◌, Bool, false, length, drop, min, if◌then◌else◌}
-use Rattle.outside.specs.declared.dialer.Transcript.{Transcript}
+use Rattle.std.specs.Prelude.{◌≡◌, ℕ, ◌≤◌, List, [], ◌++◌, length, drop, min, if◌then◌else◌}
 use Rattle.outside.specs.Echo.{echoed}
+use Rattle.outside.specs.Link.{Traffic, no_traffic}
 
--- What a link to the origin holds: what it gave and what is left to give, what it took, who is at its other
--- end, and its count of faults.
+-- What a link to the origin holds: what went over it, what is left to give, and its count of faults.
 pub record LinkToEcho : Type 0 where
-  pub given : List ℕ
+  pub traffic : Traffic
   pub left : List ℕ
-  pub ended : Bool
-  pub taken : List ℕ
-  pub host : List ℕ
-  pub port : ℕ
   pub faults : ℕ
 
 -- a link that was just made
 abbrev pub new_echo : List ℕ → ℕ → LinkToEcho
-new_echo host port = record { given = []; left = []; ended = false; taken = []; host = host; port = port; faults = 0 }
+new_echo host port = record { traffic = no_traffic host port; left = []; faults = 0 }
 
 -- All that it gives are the answers to what it took.
 abbrev pub Echoes : LinkToEcho → Type 0
-Echoes link = link.given ++ link.left ≡ (echoed link.taken).answers
+Echoes link = link.traffic.given ++ link.left ≡ (echoed link.traffic.taken).answers
 
 -- How the parts of a link stand together: the head that has begun stands behind its place in the bytes taken,
 -- and the answers are those to the heads before it.
@@ -31,14 +26,4 @@ pub record IsEcho (taken given left : List ℕ) (place : ℕ) : Type 0 where
 
 -- how many bytes a read of at most so many gives: none once the end was met
 abbrev pub readable : LinkToEcho → ℕ → ℕ
-readable link room = if link.ended then 0 else min (length link.left) room
-
--- what went over a link
-abbrev pub transcript_of : LinkToEcho → Transcript
-transcript_of link = record {
-  host = link.host;
-  port = link.port;
-  sent = link.taken;
-  given = link.given;
-  ended = link.ended;
-}
+readable link room = if link.traffic.ended then 0 else min (length link.left) room

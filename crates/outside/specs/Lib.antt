@@ -4,6 +4,7 @@ pub mod Echo
 pub mod EchoDialer
 pub mod EchoLink
 pub mod Gate
+pub mod HangUps
 pub mod Link
 pub mod MemoryClock
 pub mod MemoryDialer

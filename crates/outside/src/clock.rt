@@ -9,7 +9,7 @@ pub trait Clock {
     /// The answers so far.
     ghost answers: { Self → List ℕ };
 
-    /// The time, in seconds since 1970. The answer is added to the list where that then has fewer than
+    /// The time, in milliseconds since 1970. The answer is added to the list where that then has fewer than
     /// 2^64 - 1, so that a clock in memory may count its answers in 64 bits.
     fn now(&mut self) -> u64
         ensures answers { IsTrue tells → length (answers self.new) < 2 ^ 64 - 1 →

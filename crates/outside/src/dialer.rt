@@ -1,8 +1,9 @@
 //! The way to an origin: a dialer makes links to hosts, and keeps a transcript of each that was hung up.
-ghost use Rattle.std.specs.Prelude.{◌≡◌, ◌+◌, ◌<◌, ◌++◌, ◌∷◌, [], List, ℕ, IsTrue, IsAscii, IfOk, OnOk, OnErr};
+ghost use Rattle.std.specs.Prelude.{◌≡◌, ◌<◌, ℕ, IsTrue, IsAscii, IfOk, OnOk, OnErr};
 ghost use Rattle.outside.specs.declared.dialer.Transcript.{Transcript};
-ghost use Rattle.outside.specs.Link.{IsFresh};
-ghost use Rattle.outside.specs.Dialer.{CountsDial, TakesOverFaults};
+ghost use Rattle.outside.specs.Link.{no_traffic};
+ghost use Rattle.outside.specs.Dialer.{transcript_of, CountsDial, TakesOverFaults};
+ghost use Rattle.outside.specs.Records.{Links, one_out, one_in};
 
 use crate::Link;
 use capture::{Bytes, Text};
@@ -31,16 +32,14 @@ pub struct Transcript {
     pub ended: bool,
 }
 
-/// Makes links to hosts. Whether it tells its transcripts is said by the type of its links.
+/// Makes links to hosts. Whether it tells what became of them is said by the type of its links.
 pub trait Dialer {
     /// The links that it makes.
     type Link: Link + Drop;
 
-    /// The transcripts of the links that were hung up, in that order.
-    ghost log: { Self → List Transcript };
-
-    /// How many links are out: dialled and not hung up.
-    ghost out: { Self → ℕ };
+    /// The transcripts of the links that were hung up, in that order, and how many links are out: dialled and
+    /// not hung up.
+    ghost links: { Self → Links Transcript };
 
     /// How often a dial has failed or a link with a fault was hung up.
     ghost faults: { Self → ℕ };
@@ -51,26 +50,17 @@ pub trait Dialer {
 
         ensures no_fault { IfOk result (λ link. Self.Link.faults link ≡ 0) }
         ensures fresh { IsTrue Self.Link.tells →
-            IfOk result (IsFresh Self.Link.given Self.Link.taken Self.Link.ended) }
-        ensures host { IsTrue Self.Link.tells → IfOk result (λ link. Self.Link.host link ≡ host.now) }
-        ensures port { IsTrue Self.Link.tells → IfOk result (λ link. Self.Link.port link ≡ port) }
+            IfOk result (λ link. Self.Link.traffic link ≡ no_traffic host.now port) }
 
-        ensures one_more { IsTrue Self.Link.tells → OnOk result (out self.new ≡ out self.old + 1) }
-        ensures no_more { IsTrue Self.Link.tells → OnErr result (out self.new ≡ out self.old) }
-        ensures same_log { IsTrue Self.Link.tells → log self.new ≡ log self.old }
+        ensures one_more { IsTrue Self.Link.tells → OnOk result (links self.new ≡ one_out (links self.old)) }
+        ensures no_more { IsTrue Self.Link.tells → OnErr result (links self.new ≡ links self.old) }
         ensures counts { CountsDial (faults self.old) (faults self.new) result };
 
     /// Ends a link, and adds its transcript to the log. Takes no memory.
     fn hang_up(&mut self, link: Self::Link)
-        requires { IsTrue Self.Link.tells → 0 < out self.old }
+        requires { IsTrue Self.Link.tells → 0 < (links self.old).out }
 
-        ensures logs { IsTrue Self.Link.tells → log self.new ≡ log self.old ++ record {
-          host = Self.Link.host link;
-          port = Self.Link.port link;
-          sent = Self.Link.taken link;
-          given = Self.Link.given link;
-          ended = Self.Link.ended link;
-        } ∷ [] }
-        ensures one_less { IsTrue Self.Link.tells → out self.new + 1 ≡ out self.old }
+        ensures logs { IsTrue Self.Link.tells →
+            links self.new ≡ one_in (links self.old) (transcript_of (Self.Link.traffic link)) }
         ensures counts { TakesOverFaults (Self.Link.faults link) (faults self.old) (faults self.new) };
 }

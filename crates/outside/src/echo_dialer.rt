@@ -25,7 +25,7 @@ impl Model for EchoDialer {
 
     ghost Value = { DialerToEcho };
 
-    ghost view = { λ dialer. record { transcripts = dialer.transcripts; faults = dialer.faults } };
+    ghost view = { λ dialer. record { links = dialer.transcripts; faults = dialer.faults } };
 }
 
 impl EchoDialer {
@@ -42,7 +42,7 @@ impl EchoDialer {
 
     /// The transcripts of the links that were hung up, in that order.
     pub fn transcripts(&self) -> &[Transcript]
-        ensures { result.now ≡ self.now.transcripts.kept }
+        ensures { result.now ≡ self.now.links.log }
     {
         self.transcripts.as_slice()
     }
@@ -51,9 +51,7 @@ impl EchoDialer {
 impl Dialer for EchoDialer {
     type Link = EchoLink;
 
-    ghost log = { λ dialer. dialer.transcripts.kept };
-
-    ghost out = { λ dialer. dialer.transcripts.out };
+    ghost links = { λ dialer. dialer.links };
 
     ghost faults = { λ dialer. dialer.faults };
 
@@ -61,7 +59,7 @@ impl Dialer for EchoDialer {
         requires { IsAscii host.now }
 
         ensures gives { IfOk result (λ link. link ≡ new_echo host.now port) }
-        ensures after { OnOk result (self.new ≡ record self.old { transcripts = one_out self.old.transcripts }) }
+        ensures after { OnOk result (self.new ≡ record self.old { links = one_out self.old.links }) }
         ensures only_for_memory { IfErr result (λ error. error ≡ DialError.Memory) }
         ensures after_memory { OnErr result (self.new ≡ self.old) }
     {
@@ -75,7 +73,7 @@ impl Dialer for EchoDialer {
     }
 
     fn hang_up(&mut self, link: EchoLink)
-        requires { 0 < self.old.transcripts.out }
+        requires { 0 < self.old.links.out }
 
         ensures after { self.new ≡ after_hang_up self.old link }
         ensures later { self.old.faults ≤ self.new.faults }

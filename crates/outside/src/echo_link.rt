@@ -2,7 +2,8 @@
 ghost use Rattle.std.specs.Prelude.{◌≡◌, ◌==◌, ◌↔◌, ◌&&◌, ◌<◌, ◌≤◌, ◌++◌, ◌∷◌, [], true, length, take, drop, IsTrue, IfOk, OnOk, OnErr};
 ghost use Rattle.outside.specs.Calls.{one_more};
 ghost use Rattle.outside.specs.Echo.{ends_head};
-ghost use Rattle.outside.specs.EchoLink.{new_echo, Echoes, readable, transcript_of};
+ghost use Rattle.outside.specs.Dialer.{transcript_of};
+ghost use Rattle.outside.specs.EchoLink.{new_echo, Echoes, readable};
 
 use crate::echo::answer_to;
 use crate::source::Source;
@@ -31,12 +32,14 @@ impl Model for EchoLink {
     ghost Value = { LinkToEcho };
 
     ghost view = { λ link. record {
-      given = link.answers.given;
+      traffic = record {
+        given = link.answers.given;
+        ended = link.answers.ended;
+        taken = link.taken.items;
+        host = link.host;
+        port = link.port;
+      };
       left = link.answers.left;
-      ended = link.answers.ended;
-      taken = link.taken.items;
-      host = link.host;
-      port = link.port;
       faults = link.faults;
     } };
 
@@ -68,7 +71,7 @@ impl EchoLink {
 
     /// What went over it. Takes no memory.
     pub(crate) fn into_transcript(self) -> Transcript
-        ensures { result ≡ transcript_of self }
+        ensures { result ≡ transcript_of self.traffic }
     {
         let EchoLink {
             alloc: _,
@@ -92,7 +95,7 @@ impl EchoLink {
     // Takes one byte, and answers the head that is whole with it.
     fn take_byte(&mut self, byte: u8) -> Result<(), Memory>
         ensures ok { OnOk result (self.new ≡ record self.old {
-          taken = self.old.taken ++ byte ∷ [];
+          traffic = record self.old.traffic { taken = self.old.traffic.taken ++ byte ∷ [] };
           left = self.new.left;
         }) }
         ensures err { OnErr result (self.new ≡ self.old) }
@@ -121,15 +124,7 @@ fn is_whole(begun: &[u8], byte: u8) -> bool
 impl Link for EchoLink {
     ghost tells = { true };
 
-    ghost given = { λ link. link.given };
-
-    ghost ended = { λ link. link.ended };
-
-    ghost taken = { λ link. link.taken };
-
-    ghost host = { λ link. link.host };
-
-    ghost port = { λ link. link.port };
+    ghost traffic = { λ link. link.traffic };
 
     ghost faults = { λ link. link.faults };
 
@@ -139,9 +134,11 @@ impl Link for EchoLink {
         ensures amount { result ≡ Ok (readable self.old (length into.old)) }
         ensures bytes { IfOk result (λ n. take n into.new ≡ take n self.old.left) }
         ensures after { IfOk result (λ n. self.new ≡ record self.old {
-          given = self.old.given ++ take n self.old.left;
+          traffic = record self.old.traffic {
+            given = self.old.traffic.given ++ take n self.old.left;
+            ended = n == 0;
+          };
           left = drop n self.old.left;
-          ended = n == 0;
         }) }
         ensures echoes { Echoes self.new }
     {
@@ -154,7 +151,7 @@ impl Link for EchoLink {
         ensures some { IfOk result (λ n. 0 < n) }
         ensures fits { IfOk result (λ n. n ≤ length piece.now) }
         ensures after { IfOk result (λ n. self.new ≡ record self.old {
-          taken = self.old.taken ++ take n piece.now;
+          traffic = record self.old.traffic { taken = self.old.traffic.taken ++ take n piece.now };
           left = self.new.left;
         }) }
         ensures after_failed { OnErr result (self.new ≡ record self.old { faults = one_more self.old.faults }) }

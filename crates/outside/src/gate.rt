@@ -1,8 +1,8 @@
 //! The way in: a gate gives connections of clients, and keeps what was heard on each that was hung up.
-ghost use Rattle.std.specs.Prelude.{◌≡◌, ◌+◌, ◌<◌, ◌≤◌, ◌++◌, ◌∷◌, [], List, ℕ, Bool, true, false, IsTrue};
+ghost use Rattle.std.specs.Prelude.{◌≡◌, ◌<◌, ℕ, Bool, true, false, IsTrue};
 ghost use Rattle.outside.specs.declared.gate.Heard.{Heard};
 ghost use Rattle.outside.specs.Link.{IsFresh};
-ghost use Rattle.outside.specs.Gate.{IfConnection, OnClosed, connections, CountsAccept};
+ghost use Rattle.outside.specs.Gate.{IfConnection, OnClosed, Connections, after_accept, one_hung_up, heard_of, CountsAccept};
 
 use crate::Link;
 use capture::Bytes;
@@ -33,7 +33,7 @@ pub struct Heard {
     pub faults: u64,
 }
 
-/// Gives connections. Whether it tells what was heard on them is said by the type of its links.
+/// Gives connections. Whether it tells what became of them is said by the type of its links.
 ///
 /// To hang a connection up is to call `end` on its link and then `hang_up` on what that keeps.
 pub trait Gate {
@@ -43,14 +43,9 @@ pub trait Gate {
     /// What is kept of a connection that has ended.
     type Past: Drop;
 
-    /// What was heard on the connections that were hung up, in that order.
-    ghost log: { Self → List Heard };
-
-    /// How many connections are out: given and not hung up.
-    ghost out: { Self → ℕ };
-
-    /// How many connections it has given.
-    ghost gave: { Self → ℕ };
+    /// What was heard on the connections that were hung up, in that order, how many are out (given and not hung
+    /// up), and how many it has given.
+    ghost connections: { Self → Connections };
 
     /// Whether it gives no connection any more.
     ghost closed: { Self → Bool };
@@ -65,35 +60,25 @@ pub trait Gate {
     /// answers Closed, or that it failed or found no memory.
     fn accept(&mut self) -> Accepted<Self::Link>
         ensures no_fault { IfConnection result (λ link. Self.Link.faults link ≡ 0) }
-        ensures fresh { IsTrue Self.Link.tells →
-            IfConnection result (IsFresh Self.Link.given Self.Link.taken Self.Link.ended) }
+        ensures fresh { IsTrue Self.Link.tells → IfConnection result (λ link. IsFresh (Self.Link.traffic link)) }
 
         ensures was_open { IfConnection result (λ _. closed self.old ≡ false) }
         ensures closes { OnClosed result (closed self.new ≡ true) }
         ensures was_closed { IsTrue Self.Link.tells → OnClosed result (closed self.old ≡ true) }
         ensures stays_closed { IsTrue (closed self.old) → IsTrue (closed self.new) }
 
-        ensures out { IsTrue Self.Link.tells → out self.new ≡ out self.old + connections result }
-        ensures gave { IsTrue Self.Link.tells → gave self.new ≡ gave self.old + connections result }
-        ensures same_log { IsTrue Self.Link.tells → log self.new ≡ log self.old }
+        ensures gives { IsTrue Self.Link.tells → connections self.new ≡ after_accept (connections self.old) result }
         ensures counts { CountsAccept (faults self.old) (faults self.new) result };
 
     /// Ends a connection, and keeps what its link gave, took and counted. Takes no memory.
     fn end(link: Self::Link) -> Self::Past
-        ensures { IsTrue Self.Link.tells → kept result ≡ record {
-          given = Self.Link.given link;
-          ended = Self.Link.ended link;
-          written = Self.Link.taken link;
-          faults = Self.Link.faults link;
-        } };
+        ensures { IsTrue Self.Link.tells → kept result ≡ heard_of (Self.Link.traffic link) (Self.Link.faults link) };
 
     /// Adds what an ended connection keeps to the log. Takes no memory.
     fn hang_up(&mut self, past: Self::Past)
-        requires { IsTrue Self.Link.tells → 0 < out self.old }
+        requires { IsTrue Self.Link.tells → 0 < (connections self.old).out }
 
-        ensures logs { IsTrue Self.Link.tells → log self.new ≡ log self.old ++ kept past ∷ [] }
-        ensures one_less { IsTrue Self.Link.tells → out self.new + 1 ≡ out self.old }
-        ensures same_gave { IsTrue Self.Link.tells → gave self.new ≡ gave self.old }
+        ensures logs { IsTrue Self.Link.tells → connections self.new ≡ one_hung_up (connections self.old) (kept past) }
         ensures same_closed { closed self.new ≡ closed self.old }
         ensures same_faults { faults self.new ≡ faults self.old };
 }

@@ -1,6 +1,7 @@
 //! A connection: bytes come from its other end and go to it.
-ghost use Rattle.std.specs.Prelude.{◌≡◌, ◌==◌, ◌<◌, ◌≤◌, ◌++◌, List, ℕ, Bool, length, take, IsTrue, IfOk, OnErr};
+ghost use Rattle.std.specs.Prelude.{◌≡◌, ◌==◌, ◌<◌, ◌≤◌, ◌++◌, ℕ, Bool, length, take, IsTrue, IfOk, OnErr};
 ghost use Rattle.capture.specs.Faults.{CountsFaults};
+ghost use Rattle.outside.specs.Link.{Traffic};
 
 use capture::Failed;
 
@@ -8,23 +9,12 @@ use capture::Failed;
 ///
 /// What it gives and takes is said only where its type tells it; all else is said of every link.
 pub trait Link {
-    /// Whether links of this type tell what they give and take, and who is at their other end.
+    /// Whether links of this type tell what goes over them.
     ghost tells: { Bool };
 
-    /// The bytes given so far.
-    ghost given: { Self → List ℕ };
-
-    /// Whether the end of the input was met: a read answered 0.
-    ghost ended: { Self → Bool };
-
-    /// The bytes taken so far.
-    ghost taken: { Self → List ℕ };
-
-    /// The host at the other end, where this side dialled it.
-    ghost host: { Self → List ℕ };
-
-    /// The port at the other end, where this side dialled it.
-    ghost port: { Self → ℕ };
+    /// The bytes given so far and whether the end of the input was met (a read answered 0), the bytes taken so
+    /// far, and the host and port at the other end, where this side dialled it.
+    ghost traffic: { Self → Traffic };
 
     /// How often a call on this link has failed.
     ghost faults: { Self → ℕ };
@@ -37,17 +27,14 @@ pub trait Link {
         requires { 0 < length into.old }
 
         ensures fits { IfOk result (λ n. n ≤ length into.old) }
-        ensures gives { IsTrue tells → IfOk result (λ n. given self.new ≡ given self.old ++ take n into.new) }
-        ensures meets_end { IsTrue tells → IfOk result (λ n. ended self.new ≡ (n == 0)) }
-        ensures stays_ended { IsTrue tells → IsTrue (ended self.old) → IfOk result (λ n. n ≡ 0) }
+        ensures gives { IsTrue tells → IfOk result (λ n. traffic self.new ≡ record (traffic self.old) {
+          given = (traffic self.old).given ++ take n into.new;
+          ended = n == 0;
+        }) }
+        ensures stays_ended { IsTrue tells → IsTrue (traffic self.old).ended → IfOk result (λ n. n ≡ 0) }
 
-        ensures gives_nothing { IsTrue tells → OnErr result (given self.new ≡ given self.old) }
-        ensures same_end { IsTrue tells → OnErr result (ended self.new ≡ ended self.old) }
-        ensures counts { CountsFaults (faults self.old) (faults self.new) result }
-
-        ensures same_taken { IsTrue tells → taken self.new ≡ taken self.old }
-        ensures same_host { IsTrue tells → host self.new ≡ host self.old }
-        ensures same_port { IsTrue tells → port self.new ≡ port self.old };
+        ensures gives_nothing { IsTrue tells → OnErr result (traffic self.new ≡ traffic self.old) }
+        ensures counts { CountsFaults (faults self.old) (faults self.new) result };
 
     /// Takes one byte of `piece` or more, from its front, and answers how many. A write that fails takes
     /// nothing.
@@ -56,13 +43,10 @@ pub trait Link {
 
         ensures some { IfOk result (λ n. 0 < n) }
         ensures fits { IfOk result (λ n. n ≤ length piece.now) }
-        ensures takes { IsTrue tells → IfOk result (λ n. taken self.new ≡ taken self.old ++ take n piece.now) }
+        ensures takes { IsTrue tells → IfOk result (λ n. traffic self.new ≡ record (traffic self.old) {
+          taken = (traffic self.old).taken ++ take n piece.now;
+        }) }
 
-        ensures takes_nothing { IsTrue tells → OnErr result (taken self.new ≡ taken self.old) }
-        ensures counts { CountsFaults (faults self.old) (faults self.new) result }
-
-        ensures same_given { IsTrue tells → given self.new ≡ given self.old }
-        ensures same_end { IsTrue tells → ended self.new ≡ ended self.old }
-        ensures same_host { IsTrue tells → host self.new ≡ host self.old }
-        ensures same_port { IsTrue tells → port self.new ≡ port self.old };
+        ensures takes_nothing { IsTrue tells → OnErr result (traffic self.new ≡ traffic self.old) }
+        ensures counts { CountsFaults (faults self.old) (faults self.new) result };
 }

@@ -31,8 +31,8 @@ impl Model for MemoryDialer {
     ghost Value = { DialerInMemory };
 
     ghost view = { λ dialer. record {
-      links = into_iter_items dialer.links;
-      transcripts = dialer.transcripts;
+      left = into_iter_items dialer.links;
+      links = dialer.transcripts;
       calls = dialer.calls;
     } };
 
@@ -55,7 +55,7 @@ impl MemoryDialer {
 
     /// The transcripts of the links that were hung up, in that order.
     pub fn transcripts(&self) -> &[Transcript]
-        ensures { result.now ≡ self.now.transcripts.kept }
+        ensures { result.now ≡ self.now.links.log }
     {
         self.transcripts.as_slice()
     }
@@ -64,9 +64,7 @@ impl MemoryDialer {
 impl Dialer for MemoryDialer {
     type Link = MemoryLink;
 
-    ghost log = { λ dialer. dialer.transcripts.kept };
-
-    ghost out = { λ dialer. dialer.transcripts.out };
+    ghost links = { λ dialer. dialer.links };
 
     ghost faults = { λ dialer. dialer.calls.faults };
 
@@ -74,8 +72,8 @@ impl Dialer for MemoryDialer {
         requires { IsAscii host.now }
 
         ensures listed { (result ≡ Err DialError.Failed) ↔ IsTrue (is_listed self.old.calls) }
-        ensures gives { IfOk result (λ link. link ≡ towards host.now port (next_link self.old.links)) }
-        ensures as_new { IsNew (next_link self.old.links) }
+        ensures gives { IfOk result (λ link. link ≡ towards host.now port (next_link self.old.left)) }
+        ensures as_new { IsNew (next_link self.old.left) }
         ensures after { self.new ≡ after_dial self.old result }
         ensures later { self.old.calls.faults ≤ self.new.calls.faults }
     {
@@ -96,7 +94,7 @@ impl Dialer for MemoryDialer {
     }
 
     fn hang_up(&mut self, link: MemoryLink)
-        requires { 0 < self.old.transcripts.out }
+        requires { 0 < self.old.links.out }
 
         ensures after { self.new ≡ after_hang_up self.old link }
         ensures later { self.old.calls.faults ≤ self.new.calls.faults }

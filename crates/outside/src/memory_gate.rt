@@ -1,10 +1,9 @@
 //! A gate in memory.
 ghost use Rattle.std.specs.Prelude.{◌≡◌, ◌↔◌, ◌==◌, ◌+◌, ◌^◌, ◌<◌, ◌≤◌, [], length, IsTrue, All};
 ghost use Rattle.outside.specs.Calls.{is_listed};
-ghost use Rattle.outside.specs.Gate.{IfConnection};
-ghost use Rattle.outside.specs.MemoryLink.{IsNew, heard_of};
-ghost use Rattle.outside.specs.MemoryGate.{new_gate, Gives, after_accept};
-ghost use Rattle.outside.specs.Records.{one_in};
+ghost use Rattle.outside.specs.Gate.{IfConnection, one_hung_up, heard_of};
+ghost use Rattle.outside.specs.MemoryLink.{IsNew};
+ghost use Rattle.outside.specs.MemoryGate.{new_gate, Gives, gate_after};
 
 use crate::calls::Calls;
 use crate::records::Records;
@@ -31,9 +30,8 @@ impl Model for MemoryGate {
     ghost Value = { GateInMemory };
 
     ghost view = { λ gate. record {
-      links = into_iter_items gate.links;
-      gave = gate.gave;
-      heard = gate.heard;
+      left = into_iter_items gate.links;
+      connections = record { log = gate.heard.log; out = gate.heard.out; gave = gate.gave };
       calls = gate.calls;
     } };
 
@@ -57,7 +55,7 @@ impl MemoryGate {
 
     /// What was heard on the connections that were hung up, in that order.
     pub fn heard(&self) -> &[Heard]
-        ensures { result.now ≡ self.now.heard.kept }
+        ensures { result.now ≡ self.now.connections.log }
     {
         self.heard.as_slice()
     }
@@ -68,13 +66,9 @@ impl Gate for MemoryGate {
 
     type Past = Heard;
 
-    ghost log = { λ gate. gate.heard.kept };
+    ghost connections = { λ gate. gate.connections };
 
-    ghost out = { λ gate. gate.heard.out };
-
-    ghost gave = { λ gate. gate.gave };
-
-    ghost closed = { λ gate. length gate.links == 0 };
+    ghost closed = { λ gate. length gate.left == 0 };
 
     ghost faults = { λ gate. gate.calls.faults };
 
@@ -82,9 +76,9 @@ impl Gate for MemoryGate {
 
     fn accept(&mut self) -> Accepted<MemoryLink>
         ensures listed { (result ≡ Accepted.Failed) ↔ IsTrue (is_listed self.old.calls) }
-        ensures gives { Gives self.old.links result self.new.links }
+        ensures gives { Gives self.old.left result self.new.left }
         ensures as_new { IfConnection result IsNew }
-        ensures after { self.new ≡ after_accept self.old result self.new.links }
+        ensures after { self.new ≡ gate_after self.old result self.new.left }
         ensures later { self.old.calls.faults ≤ self.new.calls.faults }
     {
         if self.calls.next_fails() {
@@ -104,14 +98,14 @@ impl Gate for MemoryGate {
     }
 
     fn end(link: MemoryLink) -> Heard
-        ensures { result ≡ heard_of link }
+        ensures { result ≡ heard_of link.traffic link.calls.faults }
     {
         link.into_heard()
     }
 
     fn hang_up(&mut self, past: Heard)
-        requires { 0 < self.old.heard.out }
-        ensures { self.new ≡ record self.old { heard = one_in self.old.heard past } }
+        requires { 0 < self.old.connections.out }
+        ensures { self.new ≡ record self.old { connections = one_hung_up self.old.connections past } }
     {
         self.heard.take_in(past);
     }

@@ -1,7 +1,9 @@
 //! A link in memory: it gives a list of bytes and keeps what it takes.
 ghost use Rattle.std.specs.Prelude.{◌≡◌, ◌==◌, ◌↔◌, ◌<◌, ◌≤◌, ◌++◌, [], true, length, take, drop, min, IsTrue, IsErr, IfOk, OnOk, OnErr};
 ghost use Rattle.outside.specs.Calls.{is_listed, passed, failed};
-ghost use Rattle.outside.specs.MemoryLink.{new_link, towards, transcript_of, heard_of};
+ghost use Rattle.outside.specs.Dialer.{transcript_of};
+ghost use Rattle.outside.specs.Gate.{heard_of};
+ghost use Rattle.outside.specs.MemoryLink.{new_link, towards};
 
 use crate::calls::Calls;
 use crate::source::Source;
@@ -30,12 +32,14 @@ impl Model for MemoryLink {
     ghost Value = { LinkInMemory };
 
     ghost view = { λ link. record {
-      given = link.input.given;
+      traffic = record {
+        given = link.input.given;
+        ended = link.input.ended;
+        taken = link.taken.items;
+        host = link.host;
+        port = link.port;
+      };
       left = link.input.left;
-      ended = link.input.ended;
-      taken = link.taken.items;
-      host = link.host;
-      port = link.port;
       most = link.most;
       calls = link.calls;
     } };
@@ -85,7 +89,7 @@ impl MemoryLink {
 
     /// What went over it. Takes no memory.
     pub(crate) fn into_transcript(self) -> Transcript
-        ensures { result ≡ transcript_of self }
+        ensures { result ≡ transcript_of self.traffic }
     {
         let MemoryLink {
             input,
@@ -107,7 +111,7 @@ impl MemoryLink {
 
     /// What was heard on it. Takes no memory.
     pub(crate) fn into_heard(self) -> Heard
-        ensures { result ≡ heard_of self }
+        ensures { result ≡ heard_of self.traffic self.calls.faults }
     {
         let MemoryLink {
             input,
@@ -128,7 +132,7 @@ impl MemoryLink {
 
     /// The bytes that it took.
     pub fn written(&self) -> &[u8]
-        ensures { result.now ≡ self.now.taken }
+        ensures { result.now ≡ self.now.traffic.taken }
     {
         self.taken.as_slice()
     }
@@ -137,15 +141,7 @@ impl MemoryLink {
 impl Link for MemoryLink {
     ghost tells = { true };
 
-    ghost given = { λ link. link.given };
-
-    ghost ended = { λ link. link.ended };
-
-    ghost taken = { λ link. link.taken };
-
-    ghost host = { λ link. link.host };
-
-    ghost port = { λ link. link.port };
+    ghost traffic = { λ link. link.traffic };
 
     ghost faults = { λ link. link.calls.faults };
 
@@ -155,12 +151,14 @@ impl Link for MemoryLink {
         ensures listed { IsErr result ↔ IsTrue (is_listed self.old.calls) }
         ensures amount { IfOk result (λ n. n ≡ min (length self.old.left) (min (length into.old) self.old.most)) }
         ensures only_at_end { IfOk result (λ n. n ≡ 0 → self.old.left ≡ []) }
-        ensures stays_ended { IsTrue self.old.ended → IfOk result (λ n. n ≡ 0) }
+        ensures stays_ended { IsTrue self.old.traffic.ended → IfOk result (λ n. n ≡ 0) }
         ensures bytes { IfOk result (λ n. take n into.new ≡ take n self.old.left) }
         ensures after { IfOk result (λ n. self.new ≡ record self.old {
-          given = self.old.given ++ take n self.old.left;
+          traffic = record self.old.traffic {
+            given = self.old.traffic.given ++ take n self.old.left;
+            ended = n == 0;
+          };
           left = drop n self.old.left;
-          ended = n == 0;
           calls = passed self.old.calls;
         }) }
         ensures after_failed { OnErr result (self.new ≡ record self.old { calls = failed self.old.calls }) }
@@ -179,7 +177,7 @@ impl Link for MemoryLink {
         ensures amount { IfOk result (λ n. n ≡ min (length piece.now) self.old.most) }
         ensures some { IfOk result (λ n. 0 < n) }
         ensures after { IfOk result (λ n. self.new ≡ record self.old {
-          taken = self.old.taken ++ take n piece.now;
+          traffic = record self.old.traffic { taken = self.old.traffic.taken ++ take n piece.now };
           calls = passed self.old.calls;
         }) }
         ensures after_failed { OnErr result (self.new ≡ record self.old { calls = failed self.old.calls }) }

@@ -16,11 +16,11 @@ pub(crate) struct Records<T> {
 
 impl<T> Model for Records<T> {
     ghost use Rattle.std.specs.Prelude.{◌+◌, ◌≤◌, vec_len, vec_capacity};
-    ghost use Rattle.outside.specs.Records.{Log};
+    ghost use Rattle.outside.specs.Records.{Links};
 
-    ghost Value = { Log T };
+    ghost Value = { Links T };
 
-    ghost view = { λ records. record { kept = records.list.items; out = records.out } };
+    ghost view = { λ records. record { log = records.list.items; out = records.out } };
 
     ghost invariant = { λ records. vec_len records.list + records.out ≤ vec_capacity records.list };
 }
@@ -60,7 +60,7 @@ impl<T> Records<T> {
 
     /// The records, in the order of hanging up.
     pub(crate) fn as_slice(&self) -> &[T]
-        ensures { result.now ≡ self.now.kept }
+        ensures { result.now ≡ self.now.log }
     {
         self.list.as_slice()
     }
