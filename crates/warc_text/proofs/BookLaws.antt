@@ -1,40 +1,39 @@
 -- Files stand for one sound book at most: volume by volume, and group by group.
 use Rattle.std.proofs.Common.{◌≡◌, ℕ, suc, ◌+◌, ◌^◌, ◌<◌, ◌≤◌, List, [], ◌∷◌, ◌++◌, length, length-append, append_assoc, append-nil, take, take_at, refl, sym, ap, ap₂, subst, ◌∙◌, inl, inr, arith}
 use Rattle.std.specs.Prelude.{⊤, Some, slice_get, slice_index_or, unwrap_or, Option}
-use Rattle.std.specs.List.{flat_map}
 use Rattle.std.proofs.lemmas.Bool.{cases_lt}
+use Rattle.capture.specs.Captures.{captures_in, captures, first_number}
 use Rattle.capture.specs.declared.book.Book.{Book}
 use Rattle.capture.specs.declared.book.Volume.{Volume}
 use Rattle.capture.specs.declared.captured.Stored.{Stored}
 use Rattle.warc_text.specs.Records.{info_text}
 use Rattle.warc_text.specs.Groups.{IdsDiffer}
-use Rattle.warc_text.specs.Books.{captures_in, captures, first_number, IsGroupText, IsVolumeText}
-use Rattle.warc_text.specs.Sound.{IsUuid, IsSound}
-use Rattle.warc_text.specs.StandsFor.{IsRest, StandsFor, FilesStandForOneBook, FilesStandForNoVolume}
-use Rattle.warc_text.proofs.InfoLaws.{IsOpen, open-append, open-info, info_front}
-use Rattle.warc_text.proofs.GroupLaws.{IsGroupOf, group_of, group_front, open-group, rest_is_not_open}
+use Rattle.warc_text.specs.Ids.{IsUuid}
+use Rattle.warc_text.specs.Books.{joined, IsGroupText, IsVolumeText}
+use Rattle.capture.specs.Tails.{IsRest}
+use Rattle.warc_text.specs.Sound.{IsSound}
+use Rattle.warc_text.specs.StandsFor.{commit_byte, StandsFor, FilesStandForOneBook, FilesStandForNoVolume}
+use Rattle.warc_text.proofs.InfoLaws.{BeginsRecord, begins-append, begins-info, info_front}
+use Rattle.warc_text.proofs.GroupLaws.{IsGroupOf, group_of, group_front, begins-group, rest_begins_no_record}
 
 -- ---- lists
 
-slice_get-append : {X : Type 0} (xs ys : List X) (k : ℕ) → slice_get (xs ++ ys) (length xs + k) ≡ slice_get ys k
+pub slice_get-append : {X : Type 0} (xs ys : List X) (k : ℕ) → slice_get (xs ++ ys) (length xs + k) ≡ slice_get ys k
 slice_get-append [] ys k = ap (slice_get ys) (omega arith)
 slice_get-append (x ∷ xs) ys k =
     let one : suc (length xs) + k ≡ suc (length xs + k) = omega arith in
     ap (slice_get (x ∷ (xs ++ ys))) one ∙ slice_get-append xs ys k
 
 -- what stands behind so many others
-get_behind : {X : Type 0} (all front : List X) (x : X) (others : List X) (n : ℕ) → all ≡ front ++ x ∷ others → length front ≡ n → slice_get all n ≡ Some x
+pub get_behind : {X : Type 0} (all front : List X) (x : X) (others : List X) (n : ℕ) → all ≡ front ++ x ∷ others → length front ≡ n → slice_get all n ≡ Some x
 get_behind {X} all front x others n e long =
     ap (λ (l : List X). slice_get l n) e ∙ ap (slice_get (front ++ x ∷ others)) (omega (arith, long)) ∙ slice_get-append front (x ∷ others) 0
 
-captures_in-append : (vs ws : List Volume) → captures_in (vs ++ ws) ≡ captures_in vs ++ captures_in ws
+pub captures_in-append : (vs ws : List Volume) → captures_in (vs ++ ws) ≡ captures_in vs ++ captures_in ws
 captures_in-append [] ws = refl
 captures_in-append (v ∷ vs) ws = ap (λ (l : List Stored). v.captures ++ l) (captures_in-append vs ws) ∙ sym (append_assoc v.captures (captures_in vs) (captures_in ws))
 
 -- ---- the groups of a volume
-
-abbrev pub joined : List (List ℕ) → List ℕ
-joined groups = flat_map (λ group. group) groups
 
 -- the groups are those of the captures, numbered from here on
 abbrev pub AreGroupsOf : List ℕ → ℕ → List Stored → List (List ℕ) → Type 0
@@ -60,13 +59,13 @@ groups_of book n front (c ∷ cs) behind (g ∷ gs) sound e long count each =
 
 -- texts that begin with groups of one number are of the same captures
 same_groups : (namespace : List ℕ) (count n : ℕ) (cs ds : List Stored) (gs hs : List (List ℕ)) (r q : List ℕ) → IdsDiffer namespace count → n + length cs ≤ count
-    → AreGroupsOf namespace n cs gs → AreGroupsOf namespace n ds hs → length (joined gs) < 2 ^ 62 → length (joined hs) < 2 ^ 62 → IsRest r → IsRest q
+    → AreGroupsOf namespace n cs gs → AreGroupsOf namespace n ds hs → length (joined gs) < 2 ^ 62 → length (joined hs) < 2 ^ 62 → IsRest commit_byte r → IsRest commit_byte q
     → joined gs ++ r ≡ joined hs ++ q → cs ≡ ds
 same_groups namespace count n [] [] gs hs r q differ within are are₂ short short₂ rest rest₂ same = refl
 same_groups namespace count n [] (d ∷ ds) [] (h ∷ hs) r q differ within are are₂ short short₂ rest rest₂ same =
-    absurd (rest_is_not_open r rest (subst IsOpen (sym same) (open-append (h ++ joined hs) q (open-append h (joined hs) (open-group namespace n d h are₂.0)))))
+    absurd (rest_begins_no_record r rest (subst BeginsRecord (sym same) (begins-append (h ++ joined hs) q (begins-append h (joined hs) (begins-group namespace n d h are₂.0)))))
 same_groups namespace count n (c ∷ cs) [] (g ∷ gs) [] r q differ within are are₂ short short₂ rest rest₂ same =
-    absurd (rest_is_not_open q rest₂ (subst IsOpen same (open-append (g ++ joined gs) r (open-append g (joined gs) (open-group namespace n c g are.0)))))
+    absurd (rest_begins_no_record q rest₂ (subst BeginsRecord same (begins-append (g ++ joined gs) r (begins-append g (joined gs) (begins-group namespace n c g are.0)))))
 same_groups namespace count n (c ∷ cs) (d ∷ ds) (g ∷ gs) (h ∷ hs) r q differ within are are₂ short short₂ rest rest₂ same =
     let longer = length-append g (joined gs) in
     let longer₂ = length-append h (joined hs) in
@@ -88,11 +87,11 @@ pub record IsFileOf (namespace : List ℕ) (k n : ℕ) (volume : Volume) (file :
   pub rest : List ℕ
   pub are : AreGroupsOf namespace n volume.captures groups
   pub short : length (joined groups) < 2 ^ 62
-  pub unfinished : IsRest rest
+  pub unfinished : IsRest commit_byte rest
   pub composed : file ≡ info_text namespace k volume.born ++ (joined groups ++ rest)
 
 file_of : (book : Book) (k n : ℕ) (front : List Volume) (v : Volume) (others : List Volume) (text rest : List ℕ) → IsSound book → book.volumes ≡ front ++ v ∷ others → length front ≡ k
-    → length (captures_in front) ≡ n → IsVolumeText book k text → IsRest rest → IsFileOf book.namespace k n v (text ++ rest)
+    → length (captures_in front) ≡ n → IsVolumeText book k text → IsRest commit_byte rest → IsFileOf book.namespace k n v (text ++ rest)
 file_of book k n front v others text rest sound e long number is unfinished =
     let volume : is.volume ≡ v = ap (λ (o : Option Volume). unwrap_or o v) (sym is.placed ∙ get_behind book.volumes front v others k e long) in
     let first : first_number book k ≡ n = ap (λ (l : List Volume). length (captures_in (take k l))) e ∙ ap (λ (l : List Volume). length (captures_in l)) (take_at front (v ∷ others) k long) ∙ number in
@@ -148,12 +147,14 @@ file_at : (files : List (List ℕ)) (book : Book) (k n : ℕ) (front : List Volu
     → book.volumes ≡ front ++ v ∷ others → length front ≡ k → length (captures_in front) ≡ n → IsFileOf book.namespace k n v (slice_index_or files k [])
 file_at files book k n front v others sound stands e long number =
     let count : length book.volumes ≡ k + suc (length others) = ap (λ (l : List Volume). length l) e ∙ length-append front (v ∷ others) ∙ omega (arith, long) in
-    elim (cases_lt (k + 1) (length book.volumes)) [
-      | inl lt ↦ let file = slice_index_or files k [] in
-          let whole : file ≡ file ++ [] = sym (append-nil file) in
-          same_file book.namespace k n v file (file ++ []) whole (file_of book k n front v others file [] sound e long number (stands.sealed k lt) (inl refl))
-      | inr ge ↦ let last = stands.last k (omega (arith, ge, count)) in
-          same_file book.namespace k n v (slice_index_or files k []) (last.text ++ last.rest) last.composed (file_of book k n front v others last.text last.rest sound e long number last.volume last.unfinished)
+    let texts : length stands.texts ≡ length book.volumes = stands.are.count in
+    let text = slice_index_or stands.texts k [] in
+    let volume = stands.are.each k (omega (arith, texts, count)) in
+    elim (cases_lt (k + 1) (length stands.texts)) [
+      | inl lt ↦ let whole : slice_index_or files k [] ≡ text ++ [] = stands.held.sealed k lt ∙ sym (append-nil text) in
+          same_file book.namespace k n v (slice_index_or files k []) (text ++ []) whole (file_of book k n front v others text [] sound e long number volume (inl refl))
+      | inr ge ↦ let last = stands.held.last k (omega (arith, ge, texts, count)) in
+          same_file book.namespace k n v (slice_index_or files k []) (text ++ last.rest) last.composed (file_of book k n front v others text last.rest sound e long number volume last.unfinished)
     ]
 
 files_of : (files : List (List ℕ)) (book : Book) (k n : ℕ) (front vs : List Volume) → IsSound book → StandsFor files book
@@ -170,24 +171,27 @@ files_of files book k n front (v ∷ vs) sound stands e long number =
 
 -- ---- the number of volumes
 
-open-volume : (book : Book) (k : ℕ) (text : List ℕ) → IsVolumeText book k text → IsOpen text
-open-volume book k text is =
-    subst IsOpen (sym is.composed) (open-append (info_text book.namespace k is.volume.born) (joined is.groups) (open-info book.namespace k is.volume.born))
+begins-volume : (book : Book) (k : ℕ) (text : List ℕ) → IsVolumeText book k text → BeginsRecord text
+begins-volume book k text is =
+    subst BeginsRecord (sym is.composed) (begins-append (info_text book.namespace k is.volume.born) (joined is.groups) (begins-info book.namespace k is.volume.born))
 
-open-file : (files : List (List ℕ)) (book : Book) (k : ℕ) → StandsFor files book → k < length book.volumes → IsOpen (slice_index_or files k [])
-open-file files book k stands within =
-    elim (cases_lt (k + 1) (length book.volumes)) [
-      | inl lt ↦ open-volume book k (slice_index_or files k []) (stands.sealed k lt)
-      | inr ge ↦ let last = stands.last k (omega (arith, ge, within)) in
-          subst IsOpen (sym last.composed) (open-append last.text last.rest (open-volume book k last.text last.volume))
+begins-file : (files : List (List ℕ)) (book : Book) (k : ℕ) → StandsFor files book → k < length book.volumes → BeginsRecord (slice_index_or files k [])
+begins-file files book k stands within =
+    let texts : length stands.texts ≡ length book.volumes = stands.are.count in
+    let text = slice_index_or stands.texts k [] in
+    let is : BeginsRecord text = begins-volume book k text (stands.are.each k (omega (arith, texts, within))) in
+    elim (cases_lt (k + 1) (length stands.texts)) [
+      | inl lt ↦ subst BeginsRecord (sym (stands.held.sealed k lt)) is
+      | inr ge ↦ let last = stands.held.last k (omega (arith, ge, texts, within)) in
+          subst BeginsRecord (sym last.composed) (begins-append text last.rest is)
     ]
 
 no_more_volumes : (files : List (List ℕ)) (a b : Book) → StandsFor files a → StandsFor files b → length a.volumes ≤ length b.volumes
 no_more_volumes files a b stands stands₂ =
     elim (cases_lt (length b.volumes) (length a.volumes)) [
-      | inl more ↦ absurd (rest_is_not_open (slice_index_or files (length b.volumes) [])
-          (stands₂.further (length b.volumes) (let enough = stands.enough in omega (arith, enough, more)) (omega arith))
-          (open-file files a (length b.volumes) stands more))
+      | inl more ↦ absurd (rest_begins_no_record (slice_index_or files (length b.volumes) [])
+          (stands₂.held.further (length b.volumes) (omega (arith, stands.held.enough, stands.are.count, more)) (omega (arith, stands₂.are.count)))
+          (begins-file files a (length b.volumes) stands more))
       | inr fewer ↦ fewer
     ]
 

@@ -5,9 +5,8 @@ use Rattle.std.proofs.lemmas.List.{take_at, drop_at}
 use Rattle.std.proofs.lemmas.Fmt.{decimal_injective, decimal_is_IsNumeral}
 use Rattle.std.proofs.lemmas.Str.Parse.{digit_from_value}
 use Rattle.std.specs.Str.Parse.{AllDigits}
-use Rattle.warc_text.specs.Lines.{field, target_line, refers_target_line, length_lines, record_end, ended, opening, version_line, type_line}
+use Rattle.warc_text.specs.Lines.{field, target_line, refers_target_line, length_lines, record_end, ended}
 use Rattle.warc_text.specs.Groups.{IsOneLine}
-use Rattle.warc_text.specs.declared.kind.RecordKind.TheVariants as kinds
 
 -- of two texts of one length
 pub fronts : (p q x y : List ℕ) → length p ≡ length q → p ++ x ≡ q ++ y → (p ≡ q) × (x ≡ y)
@@ -26,7 +25,7 @@ until_return (a ∷ u) (b ∷ v) x y p q e =
     let whole : (a ∷ u) ≡ (b ∷ v) = cc in
     (whole, rest.1)
 
-field_apart : (name u x : List ℕ) → field name u ++ x ≡ (name ++ codes ": ") ++ (u ++ (13 ∷ (10 ∷ x)))
+pub field_apart : (name u x : List ℕ) → field name u ++ x ≡ (name ++ codes ": ") ++ (u ++ (13 ∷ (10 ∷ x)))
 unfolding field
 field_apart name u x = append_assoc (name ++ codes ": " ++ u) (13 ∷ 10 ∷ []) x ∙ append_assoc (name ++ codes ": ") u (13 ∷ 10 ∷ x)
 
@@ -77,10 +76,3 @@ target_front u v x y p q e = field_front (codes "WARC-Target-URI") u v x y p q e
 pub refers_target_front : (u v x y : List ℕ) → IsOneLine u → IsOneLine v → refers_target_line u ++ x ≡ refers_target_line v ++ y → (u ≡ v) × (x ≡ y)
 unfolding refers_target_line
 refers_target_front u v x y p q e = field_front (codes "WARC-Refers-To-Target-URI") u v x y p q e
-
--- a response is no revisit
-pub response_no_revisit : (i j : List ℕ) (d e : ℕ) (x y : List ℕ) → opening kinds.Response i d ++ x ≡ opening kinds.Revisit j e ++ y → ⊥
-unfolding opening version_line type_line field
-response_no_revisit i j d e x y same =
-    let third : 115 ≡ 118 = ap (λ (l : List ℕ). get_or l 23 0) same in
-    omega (arith, third)

@@ -8,7 +8,7 @@ use Rattle.sha1.specs.Sha1.{sha1, digest_bytes}
 use Rattle.uuid.specs.Text.{lower, parsed_hyphenated}
 use Rattle.uuid.proofs.RoundTrips.{parses_hyphenated_text}
 use Rattle.warc_text.specs.declared.id.IdKind.{IdKind}
-use Rattle.warc_text.specs.Ids.{id_name, id_of, name_based, id_text, uuid_text}
+use Rattle.warc_text.specs.Ids.{IsUuid, id_name, id_of, name_based, id_text, uuid_text}
 use Rattle.warc_text.proofs.Fronts.{fronts}
 use Rattle.warc_text.proofs.LengthLaws.{length-uuid_text}
 
@@ -76,9 +76,14 @@ id_text_told a b same =
     let closed = fronts (front ++ uuid_text a) (front ++ uuid_text b) (codes ">") (codes ">") (omega (arith, length-append front (uuid_text a), length-append front (uuid_text b), length-uuid_text a, length-uuid_text b)) same in
     (fronts front front (uuid_text a) (uuid_text b) refl closed.0).1
 
-pub same_id : (namespace : List ℕ) (kind : IdKind) (m n : ℕ) → id_text (id_of namespace kind m) ≡ id_text (id_of namespace kind n) → id_of namespace kind m ≡ id_of namespace kind n
+-- UUIDs that are written alike as ids
+pub id_told : (a b : List ℕ) → IsUuid a → IsUuid b → id_text a ≡ id_text b → a ≡ b
+id_told a b is is₂ same = uuid_text_told a b is.length_is is₂.length_is is.bytes is₂.bytes (id_text_told a b same)
+
+-- the ids of records are UUIDs
+pub id_is_uuid : (namespace : List ℕ) (kind : IdKind) (number : ℕ) → IsUuid (id_of namespace kind number)
 unfolding id_of
-same_id namespace kind m n same =
-    let a = name_based namespace (id_name kind m) in
-    let b = name_based namespace (id_name kind n) in
-    uuid_text_told a b (name_based_length namespace (id_name kind m)) (name_based_length namespace (id_name kind n)) (name_based_small namespace (id_name kind m)) (name_based_small namespace (id_name kind n)) (id_text_told a b same)
+id_is_uuid namespace kind number = record {
+  length_is = name_based_length namespace (id_name kind number);
+  bytes = name_based_small namespace (id_name kind number);
+}

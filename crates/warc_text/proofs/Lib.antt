@@ -2,7 +2,11 @@ pub mod BookLaws
 pub mod EqualLaws
 pub mod Fronts
 pub mod GroupLaws
+pub mod GrowthLaws
 pub mod IdLaws
 pub mod InfoLaws
+pub mod InfoText
 pub mod LengthLaws
+pub mod OneTextLaws
+pub mod Openings
 pub mod PrefixLaws

@@ -1,5 +1,5 @@
 -- The ids of records (ISO 28500, WARC-Record-ID).
-use Rattle.std.specs.Prelude.{ℕ, List, ◌++◌, codes, decimal, take}
+use Rattle.std.specs.Prelude.{◌≡◌, ℕ, ◌<◌, List, ◌++◌, All, codes, decimal, length, take}
 use Rattle.sha1.specs.Sha1.{sha1}
 use Rattle.uuid.specs.Parts.{with_version, with_variant}
 use Rattle.uuid.specs.Text.{hyphenated_text, lower}
@@ -7,6 +7,11 @@ use Rattle.uuid.specs.declared.Variant.TheVariants.{RFC4122}
 use Rattle.uuid.specs.declared.Version.TheVariants.{Sha1}
 use Rattle.warc_text.specs.declared.id.IdKind.{IdKind}
 use Rattle.warc_text.specs.declared.id.IdKind.TheVariants.{Info, Response, Request}
+
+-- the bytes of a UUID (RFC 9562, section 4)
+pub record IsUuid (uuid : List ℕ) : Type 0 where
+  pub length_is : length uuid ≡ 16
+  pub bytes : All (λ byte. byte < 256) uuid
 
 -- the UUID of a name in a namespace, by SHA-1 (RFC 9562, section 5.5)
 unfoldable pub name_based : List ℕ → List ℕ → List ℕ

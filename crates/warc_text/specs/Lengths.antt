@@ -2,6 +2,8 @@
 use Rattle.std.specs.Prelude.{ℕ, ◌+◌, ◌<◌, ◌^◌, length, decimal}
 use Rattle.time_text.specs.Texts.{warc_date}
 use Rattle.capture.specs.declared.captured.Taken.{Taken}
+use Rattle.warc_text.specs.Lines.{cut_line}
+use Rattle.warc_text.specs.References.{Reference}
 use Rattle.warc_text.specs.declared.same_of.SameOf.{SameOf}
 
 -- a capture whose group has a length below 2^63
@@ -19,14 +21,22 @@ pub record IsShortSame (same : SameOf) : Type 0 where
 abbrev pub ended_length : ℕ → ℕ
 ended_length block = 24 + length (decimal block) + block
 
+abbrev pub info_block_length : ℕ → ℕ
+info_block_length volume = 115 + length (decimal volume)
+
+abbrev pub info_length : ℕ → ℕ → ℕ
+info_length volume born = 148 + length (warc_date born) + ended_length (info_block_length volume)
+
 abbrev pub response_length : Taken → ℕ
 response_length taken =
-    237 + length (warc_date 0) + length taken.uri + ended_length (length taken.head + length taken.wire)
+    237 + length (warc_date taken.date) + length taken.uri + length (cut_line taken.cut)
+    + ended_length (length taken.head + length taken.wire)
 
-abbrev pub revisit_length : Taken → SameOf → ℕ
-revisit_length taken same =
-    457 + (length (warc_date 0) + length (warc_date 0)) + (length taken.uri + length same.uri)
-    + ended_length (length taken.head)
+abbrev pub revisit_length : Taken → Reference → ℕ
+revisit_length taken reference =
+    457 + (length (warc_date taken.date) + length (warc_date reference.date))
+    + (length taken.uri + length reference.uri) + ended_length (length taken.head)
 
 abbrev pub request_length : Taken → ℕ
-request_length taken = 244 + length (warc_date 0) + length taken.uri + ended_length (length taken.request)
+request_length taken =
+    244 + length (warc_date taken.date) + length taken.uri + ended_length (length taken.request)

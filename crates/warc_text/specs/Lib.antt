@@ -1,8 +1,11 @@
 pub mod Books
+pub mod Fits
 pub mod Groups
+pub mod Growth
 pub mod Ids
 pub mod Lengths
 pub mod Lines
 pub mod Records
+pub mod References
 pub mod Sound
 pub mod StandsFor

@@ -1,5 +1,5 @@
 -- The lines of a record (ISO 28500, WARC 1.1, sections 4 and 5), and its block.
-use Rattle.std.specs.Prelude.{ℕ, List, ◌++◌, codes, decimal, length}
+use Rattle.std.specs.Prelude.{ℕ, Bool, true, false, List, [], ◌++◌, codes, decimal, length}
 use Rattle.httparse.specs.Ascii.{crlf_bytes}
 use Rattle.digest32.specs.Base32.{base32}
 use Rattle.time_text.specs.Texts.{warc_date}
@@ -64,6 +64,11 @@ unfoldable pub profile_lines : List ℕ
 profile_lines =
     field (codes "WARC-Profile") (codes "http://netpreserve.org/warc/1.1/revisit/identical-payload-digest")
     ++ field (codes "WARC-Truncated") (codes "length")
+
+-- that the origin ended inside the response's body (section 5.13)
+unfoldable pub cut_line : Bool → List ℕ
+cut_line true = field (codes "WARC-Truncated") (codes "disconnect")
+cut_line false = []
 
 -- the type of a record's block
 unfoldable pub content_line : RecordKind → List ℕ

@@ -1,47 +1,47 @@
 -- Which book a list of Warc files stands for.
-use Rattle.std.specs.Prelude.{◌≡◌, ◌≢◌, ◌⊎◌, ℕ, ◌+◌, ◌<◌, ◌≤◌, List, [], ◌++◌, length, slice_index, slice_index_or}
+use Rattle.std.specs.Prelude.{◌≡◌, ℕ, ◌<◌, ◌^◌, List, ◌++◌, length, slice_get, Option, Some}
+use Rattle.capture.specs.Captures.{captures}
 use Rattle.capture.specs.declared.book.Book.{Book}
-use Rattle.warc_text.specs.Books.{captures, IsVolumeText}
+use Rattle.capture.specs.declared.captured.Stored.{Stored}
+use Rattle.capture.specs.declared.captured.Taken.{Taken}
+use Rattle.warc_text.specs.Books.{AreVolumeTexts, IsGroupText}
 use Rattle.warc_text.specs.Groups.{IdsDiffer}
+use Rattle.capture.specs.Tails.{HoldsTexts, IsCommitted}
+use Rattle.warc_text.specs.Records.{info_text, group_text}
+use Rattle.warc_text.specs.References.{Reference}
 use Rattle.warc_text.specs.Sound.{IsSound}
 
--- the byte that a finished record begins with: `W`, which is written last
-abbrev pub open_gate : ℕ
-open_gate = 87
+-- the first byte of a finished group, and of a finished warcinfo: `W`
+abbrev pub commit_byte : ℕ
+commit_byte = 87
 
--- an unfinished tail: its gate byte isn't open, or nothing stands behind it
-pub record IsTail (text : List ℕ) : Type 0 where
-  pub some : 0 < length text
-  pub unfinished : (slice_index text 0 ≢ open_gate) ⊎ (length text ≡ 1)
+-- warcinfos and groups begin with the commit byte
+abbrev pub InfosAreCommitted : Type 0
+InfosAreCommitted = (namespace : List ℕ) (volume born : ℕ) → IsCommitted commit_byte (info_text namespace volume born)
 
--- nothing, or an unfinished tail
-abbrev pub IsRest : List ℕ → Type 0
-IsRest text = (text ≡ []) ⊎ IsTail text
+abbrev pub GroupsAreCommitted : Type 0
+GroupsAreCommitted =
+    (namespace : List ℕ) (number : ℕ) (taken : Taken) (digest : List ℕ) (same : Option Reference)
+    → IsCommitted commit_byte (group_text namespace number taken digest same)
 
--- the text of a volume, followed by nothing or by an unfinished tail
-pub record IsLastFile (book : Book) (k : ℕ) (file : List ℕ) : Type 0 where
-  pub text : List ℕ
-  pub rest : List ℕ
-  pub volume : IsVolumeText book k text
-  pub unfinished : IsRest rest
-  pub composed : file ≡ text ++ rest
-
--- the files hold the book: each volume but the last has just its text, and behind the last volume's file at most one
--- stands, without a finished record
+-- the files hold the texts of the book's volumes
 pub record StandsFor (files : List (List ℕ)) (book : Book) : Type 0 where
-  pub enough : length book.volumes ≤ length files
-  pub one_more : length files ≤ length book.volumes + 1
-  pub sealed : (k : ℕ) → k + 1 < length book.volumes → IsVolumeText book k (slice_index_or files k [])
-  pub last : (k : ℕ) → k + 1 ≡ length book.volumes → IsLastFile book k (slice_index_or files k [])
-  pub further : (k : ℕ) → k < length files → length book.volumes ≤ k → IsRest (slice_index_or files k [])
-
--- the files are settled for the book: the Warc files stand for it
-pub record IsSettled (files : List (List ℕ)) (book : Book) : Type 0 where
-  pub stands : StandsFor files book
+  pub texts : List (List ℕ)
+  pub are : AreVolumeTexts book texts
+  pub held : HoldsTexts commit_byte texts files
 
 -- the ids of the book's responses differ
 abbrev pub IdsDifferIn : Book → Type 0
 IdsDifferIn book = IdsDiffer book.namespace (length (captures book))
+
+-- where the ids differ, texts that begin with groups of one number, of sound books of one namespace, are of one capture,
+-- and go on alike
+abbrev pub GroupsOfBooksTellTheirCaptures : Type 0
+GroupsOfBooksTellTheirCaptures =
+    (a b : Book) (number : ℕ) (x y : Stored) (g h after other : List ℕ) → IsSound a → IsSound b → IdsDifferIn a
+    → a.namespace ≡ b.namespace → slice_get (captures a) number ≡ Some x → slice_get (captures b) number ≡ Some y
+    → IsGroupText a number g → IsGroupText b number h → length g < 2 ^ 62 → length h < 2 ^ 62
+    → g ++ after ≡ h ++ other → (x ≡ y) × (after ≡ other)
 
 -- where the ids differ, files stand for one sound book at most, if that has a volume
 abbrev pub FilesStandForOneBook : Type 0

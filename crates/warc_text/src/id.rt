@@ -33,7 +33,7 @@ pub fn id_of(namespace: &Uuid, kind: IdKind, number: u32) -> Uuid
     Uuid::new_v5(namespace, name.as_slice())
 }
 
-// Puts these bytes, for which there is room, at the end of a name.
+/// Puts these bytes, for which there is room, at the end of a name.
 fn put_name(name: &mut ArrayVec<u8, 32>, piece: &[u8])
     requires { array_vec_len name.old + length piece.now ≤ 32 }
     ensures items { name.new.items ≡ name.old.items ++ piece.now }
@@ -44,7 +44,7 @@ fn put_name(name: &mut ArrayVec<u8, 32>, piece: &[u8])
     }
 }
 
-// The word before the number.
+/// The word before the number.
 #[tactic(auto, unfolding(crate::specs::Ids::id_word))]
 fn word_of(kind: IdKind) -> &'static [u8]
     ensures word { result.now ≡ id_word kind }

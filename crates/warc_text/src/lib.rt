@@ -2,7 +2,8 @@
 //!
 //! A volume's file begins with its `warcinfo` record. A group for each of its captures follows: the
 //! record of the response, or of a revisit where an earlier capture has the same payload, and the
-//! record of the request. Nothing is written here that isn't one of these.
+//! record of the request. A response whose origin ended inside its body is marked. Nothing is written
+//! here that isn't one of these.
 #![tactic(auto)]
 
 mod group;
@@ -17,11 +18,12 @@ mod same_of;
 #[cfg(test)]
 mod tests;
 
-pub use group::{group_len, group_text};
+pub use group::{group_len, group_text, put_group};
 pub use id::{IdKind, id_of};
-pub use info::{info_len, info_text};
+pub use info::{info_len, info_text, put_info};
 pub use laws::{
     equal_groups_are_of_equal_captures, files_stand_for_one_book, groups_are_prefix_free,
-    groups_tell_their_captures,
+    groups_of_books_tell_their_captures, groups_tell_their_captures, sound_volumes_have_one_text,
+    texts_are_committed, texts_stay_when_a_book_grows,
 };
 pub use same_of::SameOf;

@@ -5,12 +5,12 @@ ghost use Rattle.warc_text.specs.Ids.{uuid_text};
 ghost use Rattle.warc_text.specs.Lines as spec;
 
 use crate::kind::RecordKind;
-use crate::put::{put_all, put_date, put_id, put_number, put_uuid};
-use capture::{Digest, Memory};
+use crate::put::{put_date, put_id, put_uuid};
+use capture::{Digest, Memory, put_all, put_number};
 use digest32::base32_of;
 use uuid::Uuid;
 
-// Puts a field.
+/// Puts a field.
 #[tactic(auto, unfolding(crate::specs::Lines::field))]
 fn put_field(out: &mut Vec<u8>, name: &[u8], value: &[u8]) -> Result<(), Memory>
     ensures { OnOk result (out.new.items ≡ out.old.items ++ spec.field name.now value.now) }
@@ -21,7 +21,7 @@ fn put_field(out: &mut Vec<u8>, name: &[u8], value: &[u8]) -> Result<(), Memory>
     put_all(out, b"\r\n")
 }
 
-// Puts a field whose value is an id.
+/// Puts a field whose value is an id.
 #[tactic(auto, unfolding(crate::specs::Lines::field, crate::specs::Lines::id_field))]
 fn put_id_field(out: &mut Vec<u8>, name: &[u8], id: &Uuid) -> Result<(), Memory>
     ensures { OnOk result (out.new.items ≡ out.old.items ++ spec.id_field name.now id.now) }
@@ -32,7 +32,7 @@ fn put_id_field(out: &mut Vec<u8>, name: &[u8], id: &Uuid) -> Result<(), Memory>
     put_all(out, b"\r\n")
 }
 
-// Puts a field whose value is a date.
+/// Puts a field whose value is a date.
 #[tactic(auto, unfolding(crate::specs::Lines::field, crate::specs::Lines::date_field))]
 fn put_date_field(out: &mut Vec<u8>, name: &[u8], date: u64) -> Result<(), Memory>
     requires { InRange date }
@@ -44,7 +44,7 @@ fn put_date_field(out: &mut Vec<u8>, name: &[u8], date: u64) -> Result<(), Memor
     put_all(out, b"\r\n")
 }
 
-// Puts a field whose value is a number.
+/// Puts a field whose value is a number.
 #[tactic(auto, unfolding(crate::specs::Lines::field))]
 fn put_number_field(out: &mut Vec<u8>, name: &[u8], number: u64) -> Result<(), Memory>
     ensures { OnOk result (out.new.items ≡ out.old.items ++ spec.field name.now (decimal number)) }
@@ -55,7 +55,7 @@ fn put_number_field(out: &mut Vec<u8>, name: &[u8], number: u64) -> Result<(), M
     put_all(out, b"\r\n")
 }
 
-// Puts a field whose value is a UUID.
+/// Puts a field whose value is a UUID.
 #[tactic(auto, unfolding(crate::specs::Lines::field))]
 fn put_uuid_field(out: &mut Vec<u8>, name: &[u8], uuid: &Uuid) -> Result<(), Memory>
     ensures { OnOk result (out.new.items ≡ out.old.items ++ spec.field name.now (uuid_text uuid.now)) }
@@ -66,6 +66,7 @@ fn put_uuid_field(out: &mut Vec<u8>, name: &[u8], uuid: &Uuid) -> Result<(), Mem
     put_all(out, b"\r\n")
 }
 
+/// Puts the line that each record begins with.
 #[tactic(auto, unfolding(crate::specs::Lines::version_line))]
 fn put_version_line(out: &mut Vec<u8>) -> Result<(), Memory>
     ensures { OnOk result (out.new.items ≡ out.old.items ++ spec.version_line) }
@@ -73,6 +74,7 @@ fn put_version_line(out: &mut Vec<u8>) -> Result<(), Memory>
     put_all(out, b"WARC/1.1\r\n")
 }
 
+/// Puts the type of a record.
 #[tactic(auto, unfolding(crate::specs::Lines::field, crate::specs::Lines::type_line))]
 fn put_type_line(out: &mut Vec<u8>, kind: RecordKind) -> Result<(), Memory>
     ensures { OnOk result (out.new.items ≡ out.old.items ++ spec.type_line kind) }
@@ -85,6 +87,7 @@ fn put_type_line(out: &mut Vec<u8>, kind: RecordKind) -> Result<(), Memory>
     }
 }
 
+/// Puts the id of a record.
 #[tactic(auto, unfolding(crate::specs::Lines::id_line))]
 fn put_id_line(out: &mut Vec<u8>, id: &Uuid) -> Result<(), Memory>
     ensures { OnOk result (out.new.items ≡ out.old.items ++ spec.id_line id.now) }
@@ -92,6 +95,7 @@ fn put_id_line(out: &mut Vec<u8>, id: &Uuid) -> Result<(), Memory>
     put_id_field(out, b"WARC-Record-ID", id)
 }
 
+/// Puts the date of a record.
 #[tactic(auto, unfolding(crate::specs::Lines::date_line))]
 fn put_date_line(out: &mut Vec<u8>, date: u64) -> Result<(), Memory>
     requires { InRange date }
@@ -174,6 +178,18 @@ pub fn put_profile_lines(out: &mut Vec<u8>) -> Result<(), Memory>
     )
 }
 
+/// Puts, where a response was cut, that its origin ended inside its body.
+#[tactic(auto, unfolding(crate::specs::Lines::field, crate::specs::Lines::cut_line))]
+pub fn put_cut_line(out: &mut Vec<u8>, cut: bool) -> Result<(), Memory>
+    ensures { OnOk result (out.new.items ≡ out.old.items ++ spec.cut_line cut) }
+{
+    if cut {
+        put_all(out, b"WARC-Truncated: disconnect\r\n")
+    } else {
+        Ok(())
+    }
+}
+
 /// Puts the type of a record's block.
 #[tactic(auto, unfolding(crate::specs::Lines::field, crate::specs::Lines::content_line))]
 pub fn put_content_line(out: &mut Vec<u8>, kind: RecordKind) -> Result<(), Memory>
@@ -189,8 +205,9 @@ pub fn put_content_line(out: &mut Vec<u8>, kind: RecordKind) -> Result<(), Memor
     }
 }
 
+/// Puts the length of a block, and the empty line before it.
 #[tactic(auto, unfolding(crate::specs::Lines::field, crate::specs::Lines::length_lines))]
-fn put_length_lines(out: &mut Vec<u8>, length: u64) -> Result<(), Memory>
+pub fn put_length_lines(out: &mut Vec<u8>, length: u64) -> Result<(), Memory>
     ensures { OnOk result (out.new.items ≡ out.old.items ++ spec.length_lines length) }
 {
     put_all(out, b"Content-Length: ")?;
@@ -198,13 +215,15 @@ fn put_length_lines(out: &mut Vec<u8>, length: u64) -> Result<(), Memory>
     put_all(out, b"\r\n\r\n")
 }
 
+/// Puts what stands behind a block.
 #[tactic(auto, unfolding(crate::specs::Lines::record_end))]
-fn put_record_end(out: &mut Vec<u8>) -> Result<(), Memory>
+pub fn put_record_end(out: &mut Vec<u8>) -> Result<(), Memory>
     ensures { OnOk result (out.new.items ≡ out.old.items ++ spec.record_end) }
 {
     put_all(out, b"\r\n\r\n")
 }
 
+/// The length of a block in two parts.
 fn joined_length(front: &[u8], rest: &[u8]) -> u64
     ensures { result ≡ length (front.now ++ rest.now) }
 {
@@ -223,6 +242,7 @@ pub fn put_block(out: &mut Vec<u8>, front: &[u8], rest: &[u8]) -> Result<(), Mem
     put_record_end(out)
 }
 
+/// Puts what wrote the archive, and its version.
 #[tactic(auto, unfolding(crate::specs::Lines::field, crate::specs::Lines::software_lines))]
 fn put_software_lines(out: &mut Vec<u8>) -> Result<(), Memory>
     ensures { OnOk result (out.new.items ≡ out.old.items ++ spec.software_lines) }
@@ -230,6 +250,7 @@ fn put_software_lines(out: &mut Vec<u8>) -> Result<(), Memory>
     put_all(out, b"software: memproxy\r\narchive-version: 1\r\n")
 }
 
+/// Puts the namespace of the archive.
 #[tactic(auto, unfolding(crate::specs::Lines::namespace_line))]
 fn put_namespace_line(out: &mut Vec<u8>, namespace: &Uuid) -> Result<(), Memory>
     ensures { OnOk result (out.new.items ≡ out.old.items ++ spec.namespace_line namespace.now) }
@@ -237,6 +258,7 @@ fn put_namespace_line(out: &mut Vec<u8>, namespace: &Uuid) -> Result<(), Memory>
     put_uuid_field(out, b"archive-namespace", namespace)
 }
 
+/// Puts the number of the volume.
 #[tactic(auto, unfolding(crate::specs::Lines::volume_line))]
 fn put_volume_line(out: &mut Vec<u8>, volume: u32) -> Result<(), Memory>
     ensures { OnOk result (out.new.items ≡ out.old.items ++ spec.volume_line volume) }

@@ -1,28 +1,11 @@
 //! Pieces that are put at the end of a text.
-ghost use Rattle.std.specs.Prelude.{◌≡◌, ◌++◌, ◌≤◌, decimal, OnOk};
+ghost use Rattle.std.specs.Prelude.{◌≡◌, ◌++◌, ◌≤◌, OnOk};
 ghost use Rattle.time_text.specs.Texts.{InRange, warc_date};
 ghost use Rattle.warc_text.specs.Ids as spec;
 
-use capture::Memory;
-use itoa::Buffer;
+use capture::{Memory, put_all};
 use time_text::write_warc;
 use uuid::Uuid;
-
-/// Puts these bytes.
-pub fn put_all(out: &mut Vec<u8>, piece: &[u8]) -> Result<(), Memory>
-    ensures { OnOk result (out.new.items ≡ out.old.items ++ piece.now) }
-{
-    out.extend_from_slice(piece)?;
-    Ok(())
-}
-
-/// Puts the number's decimal digits.
-pub fn put_number(out: &mut Vec<u8>, number: u64) -> Result<(), Memory>
-    ensures { OnOk result (out.new.items ≡ out.old.items ++ decimal number) }
-{
-    let mut buffer = Buffer::new();
-    put_all(out, buffer.format(number).as_bytes())
-}
 
 /// Puts the date.
 pub fn put_date(out: &mut Vec<u8>, date: u64) -> Result<(), Memory>
@@ -30,7 +13,7 @@ pub fn put_date(out: &mut Vec<u8>, date: u64) -> Result<(), Memory>
     ensures { OnOk result (out.new.items ≡ out.old.items ++ warc_date date) }
 {
     match write_warc(date) {
-        Ok(text) => put_all(out, &text),
+        Ok(text) => put_all(out, text.as_slice()),
         Err(_) => unreachable!(),
     }
 }

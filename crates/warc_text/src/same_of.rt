@@ -8,6 +8,6 @@ pub struct SameOf {
     pub number: u32,
     /// Its target, in absolute form.
     pub uri: Text,
-    /// When it was fetched.
+    /// When it was fetched, in milliseconds since 1970.
     pub date: u64,
 }
