@@ -11,8 +11,8 @@ use Rattle.history_lock.specs.declared.view.View.{View}
 use Rattle.history_lock.specs.declared.view.Stage.{Stage}
 use Rattle.history_lock.specs.declared.view.Stage.TheVariants.{Idle}
 use Rattle.history_lock.specs.Rule.{ticket_of, one_of, has_turn, Differ, Fits, Kept}
-use Rattle.history_lock.specs.Steps.{longer, joined, spent, Settles}
-use Rattle.history_lock.specs.Known.{is_idle, AtRest}
+use Rattle.history_lock.specs.Steps.{longer, joined, Settles}
+use Rattle.history_lock.specs.Known.{is_idle, spent, AtRest}
 use Rattle.history_lock.proofs.Views.{each_set, pairs_set, count_set, taken_stays}
 use Rattle.history_lock.proofs.Ends.{set_turned, all_both, all_join, all_true}
 use Rattle.history_lock.proofs.Keeps.{differ_none, shows_self}

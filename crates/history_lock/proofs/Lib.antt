@@ -8,3 +8,4 @@ pub mod Ends
 pub mod Opening
 pub mod Joining
 pub mod Making
+pub mod Passes

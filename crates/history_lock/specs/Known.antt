@@ -32,6 +32,21 @@ is_idle _ = false
 abbrev pub known_of : {E : Type 0} → LockId → ℕ → View E → Known E
 known_of lock number v = record { lock = lock; number = number; numbers = v.numbers; passes = v.passes; seen = v.seen }
 
+-- a view that knows nothing
+abbrev pub spent : {E : Type 0} → View E
+spent = record { seen = []; numbers = []; passes = 0; opens = 0; stage = Idle }
+
+-- the view of a badge that has one
+abbrev pub sole : {E : Type 0} → List (View E) → View E
+sole [] = spent
+sole (v ∷ vs) = v
+
+-- between two calls a pass has one view, with its number first and no ticket
+pub record IsPass {E : Type 0} (number : ℕ) (views : List (View E)) : Type 0 where
+  pub one : views ≡ sole views ∷ []
+  pub numbered : (sole views).numbers ≡ number ∷ drop 1 (sole views).numbers
+  pub idle : is_idle (sole views).stage ≡ true
+
 -- between two calls a seat has its number first, no ticket, and no slot in hand
 pub record AtRest {T E : Type 0} (number : ℕ) (me : Me T (View E)) : Type 0 where
   pub numbered : me.0.numbers ≡ number ∷ drop 1 me.0.numbers

@@ -70,7 +70,3 @@ module _ {E : Type 0} where
   -- the longer list, and the numbers of both
   abbrev pub joined : View E → View E → View E
   joined v w = record { seen = longer v.seen w.seen; numbers = v.numbers ++ w.numbers; passes = v.passes; opens = v.opens; stage = Joined v.seen v.numbers w.seen w.numbers }
-
-  -- a view that knows nothing
-  abbrev pub spent : View E
-  spent = record { seen = []; numbers = []; passes = 0; opens = 0; stage = Idle }

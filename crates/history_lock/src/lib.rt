@@ -2,6 +2,7 @@
 //! Each pass knows a beginning of that list, and what it did itself stands in it once, at the places that it saw.
 #![tactic(auto)]
 
+mod doors;
 mod key;
 mod lock;
 mod pass;

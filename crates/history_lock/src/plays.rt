@@ -1,5 +1,6 @@
 //! What each step on the table tells.
-ghost use Rattle.history_lock.specs.Steps.{drawn, looked, filled, noted, passed_on, emptied, settled, opener, opened, joined, spent};
+ghost use Rattle.history_lock.specs.Steps.{drawn, looked, filled, noted, passed_on, emptied, settled, opener, opened, joined};
+ghost use Rattle.history_lock.specs.Known.{spent};
 
 use crate::told::Told;
 use crate::view::View;

@@ -4,18 +4,26 @@ ghost use Rattle.history_lock.specs.Rule.{has_turn, number_of};
 ghost use Rattle.history_lock.specs.Phases.{IsTable, IsSame, Entered, HasLeft, HasNoted, IsDone};
 ghost use Rattle.history_lock.specs.declared.view.Stage.TheVariants.{Idle, Empty};
 
+use crate::doors::door_of;
 use crate::key::{Desk, ENTRIES, Place, SERVING, TICKET, VALUE};
 use crate::plays::{Draw, LeaveEmpty, Look, Note, PassOn};
 use crate::told::Told;
+use std::hint;
 use std::sync::Wait;
+use std::thread::Parker;
 
-// Draws a ticket and waits until it is served.
+/// How often a pass looks at the ticket that is served, before it sleeps: for less than a call of the system takes.
+const LOOKS: u32 = 100;
+
+/// Draws a ticket and waits until it is served.
 pub(crate) fn enter<T: Told, R: Wait>(
     rt: &R,
     desk: &Desk<T, T::Entry>,
+    doors: &[Parker],
     seat: &mut Place<T, T::Entry>,
 ) -> u64
     requires table { IsTable desk.now.table_id × (seat.old.table_id ≡ desk.now.table_id) }
+    requires doors { 0 < length doors.now }
     requires idle { (seat.old.me.0.stage ≡ Idle) × (seat.old.me.1 ≡ []) × (0 < length seat.old.me.0.numbers) }
     ensures same { IsSame seat.old seat.new }
     ensures entered { Entered T.list T.by seat.old.me.0 result seat.new.me }
@@ -26,12 +34,27 @@ pub(crate) fn enter<T: Told, R: Wait>(
         if serving == ticket {
             return ticket;
         }
-        desk.park(rt, SERVING, (serving & 0xffff_ffff) as u32);
+        if !comes_soon(desk, ticket) {
+            door_of(doors, ticket).park(rt);
+        }
     }
     unreachable!()
 }
 
-// Takes the value out of the slot in hand.
+/// Looks at the ticket that is served, until it is this one or `LOOKS` are made.
+fn comes_soon<T: Told>(desk: &Desk<T, T::Entry>, ticket: u64) -> bool
+    requires { IsTable desk.now.table_id }
+{
+    for _ in 0..LOOKS {
+        if desk.peek(SERVING) == ticket {
+            return true;
+        }
+        hint::spin_loop();
+    }
+    false
+}
+
+/// Takes the value out of the slot in hand.
 pub(crate) fn take<T: Told>(desk: &Desk<T, T::Entry>, seat: &mut Place<T, T::Entry>) -> T
     requires table { seat.old.table_id ≡ desk.now.table_id }
     requires full { (x : T) × (seat.old.me.1 ≡ (0, Some x) ∷ []) }
@@ -41,7 +64,7 @@ pub(crate) fn take<T: Told>(desk: &Desk<T, T::Entry>, seat: &mut Place<T, T::Ent
     desk.exchange(seat, VALUE, None).unwrap()
 }
 
-// Puts the value into the empty slot in hand.
+/// Puts the value into the empty slot in hand.
 pub(crate) fn give<T: Told>(desk: &Desk<T, T::Entry>, seat: &mut Place<T, T::Entry>, value: T)
     requires table { seat.old.table_id ≡ desk.now.table_id }
     requires empty { seat.old.me.1 ≡ (0, None) ∷ [] }
@@ -52,7 +75,7 @@ pub(crate) fn give<T: Told>(desk: &Desk<T, T::Entry>, seat: &mut Place<T, T::Ent
     let None = left else { unreachable!() };
 }
 
-// Notes so many entries of the value in hand.
+/// Notes so many entries of the value in hand.
 pub(crate) fn note_all<T: Told>(desk: &Desk<T, T::Entry>, seat: &mut Place<T, T::Entry>, count: u64)
     requires table { IsTable desk.now.table_id × (seat.old.table_id ≡ desk.now.table_id) }
     requires left { HasLeft T.list T.by count seat.old.me }
@@ -66,18 +89,25 @@ pub(crate) fn note_all<T: Told>(desk: &Desk<T, T::Entry>, seat: &mut Place<T, T:
     }
 }
 
-// Ends the turn of the ticket, and wakes those that wait.
-pub(crate) fn pass_on<T: Told>(desk: &Desk<T, T::Entry>, seat: &mut Place<T, T::Entry>, ticket: u64)
+/// Ends the turn of the ticket, and wakes the pass that is next.
+pub(crate) fn pass_on<T: Told>(
+    desk: &Desk<T, T::Entry>,
+    doors: &[Parker],
+    seat: &mut Place<T, T::Entry>,
+    ticket: u64,
+)
+    requires doors { 0 < length doors.now }
     requires table { IsTable desk.now.table_id × (seat.old.table_id ≡ desk.now.table_id) }
     requires done { IsDone T.list ticket seat.old.me }
     ensures same { IsSame seat.old seat.new }
     ensures rests { seat.new.me ≡ (record seat.old.me.0 { stage = Idle }, []) }
 {
-    desk.store::<PassOn>(seat, SERVING, ticket.wrapping_add(1));
-    desk.wake_all(SERVING);
+    let next = ticket.wrapping_add(1);
+    desk.store::<PassOn>(seat, SERVING, next);
+    door_of(doors, next).unpark();
 }
 
-// Ends the last turn of all, with nothing in the slot.
+/// Ends the last turn of all, with nothing in the slot.
 pub(crate) fn leave_empty<T: Told>(desk: &Desk<T, T::Entry>, seat: &mut Place<T, T::Entry>)
     requires table { IsTable desk.now.table_id × (seat.old.table_id ≡ desk.now.table_id) }
     requires holds { (has_turn seat.old.me.0.stage ≡ true) × (seat.old.me.1 ≡ (0, None) ∷ []) }

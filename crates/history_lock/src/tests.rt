@@ -1,12 +1,13 @@
-ghost use Rattle.std.specs.Prelude.{◌≡◌, ◌≤◌, [], ◌∷◌, MatchBool};
+ghost use Rattle.std.specs.Prelude.{◌≡◌, ◌≤◌, [], ◌∷◌, IfOk, MatchBool};
 ghost use Rattle.std.specs.List.{All};
 
 use crate::{HistoryLock, Pass, Told, Work};
-use std::alloc::Global;
+use std::alloc::{AllocError, Global};
 use std::process::Abort;
 use std::sync::Wait;
 use std::test::*;
-use std::thread::{Threads, join};
+use std::thread;
+use std::thread::Threads;
 
 // What a pass said, beside the pass's number.
 #[derive(Clone, Copy)]
@@ -58,9 +59,9 @@ impl Work<Tally> for Say {
 fn say_often<R: Wait>(
     rt: &R,
     lock: &HistoryLock<Tally>,
-    mut pass: Pass<Tally>,
+    mut pass: Pass<Saying>,
     count: u32,
-) -> Pass<Tally>
+) -> Pass<Saying>
     requires { pass.lock ≡ lock.now }
     ensures { result.lock ≡ lock.now }
 {
@@ -90,7 +91,7 @@ fn made<R: Abort>(
     alloc: Global,
     room: usize,
     passes: u32,
-) -> (HistoryLock<Tally>, Vec<Pass<Tally>>)
+) -> (HistoryLock<Tally>, Vec<Pass<Saying>>)
     requires { (1 ≤ room) × (1 ≤ passes) }
     ensures { All (λ p. p.lock ≡ result.0) result.1.items }
 {
@@ -107,8 +108,8 @@ fn made<R: Abort>(
 fn take_last<R: Abort>(
     rt: &R,
     lock: &HistoryLock<Tally>,
-    passes: &mut Vec<Pass<Tally>>,
-) -> Pass<Tally>
+    passes: &mut Vec<Pass<Saying>>,
+) -> Pass<Saying>
     requires { All (λ p. p.lock ≡ lock.now) passes.old.items }
     ensures pass { result.lock ≡ lock.now }
     ensures others { All (λ p. p.lock ≡ lock.now) passes.new.items }
@@ -117,34 +118,59 @@ fn take_last<R: Abort>(
 }
 
 #[test]
-fn two_threads_make_a_thousand_turns_each(rt: HostRuntime) -> Result<(), Fail> {
-    taken_by_two(&rt, rt.alloc());
+fn eight_threads_make_a_thousand_turns_each(rt: HostRuntime) -> Result<(), Fail> {
+    taken_by_eight(&rt, rt.alloc());
     Ok(())
 }
 
-fn taken_by_two<R: Threads + Wait + Abort + Sync>(rt: &R, alloc: Global) {
-    let (lock, mut passes) = made(rt, alloc, 2001, 2);
-    let second = take_last(rt, &lock, &mut passes);
+fn taken_by_eight<R: Threads + Wait + Abort + Sync>(rt: &R, alloc: Global) {
+    let (lock, passes) = made(rt, alloc, 8001, 8);
+    let Ok(mut passes) = said_by_all(rt, &lock, passes) else {
+        panic!(rt; "no memory")
+    };
     let first = take_last(rt, &lock, &mut passes);
-    let shared = &lock;
-    let (first, second) = join(
-        rt,
-        || -> Pass<Tally>
-            requires { first.lock ≡ shared.now }
-            ensures { result.lock ≡ shared.entry.now }
-        { say_often(rt, shared, first, 1000) },
-        || -> Pass<Tally>
-            requires { second.lock ≡ shared.now }
-            ensures { result.lock ≡ shared.entry.now }
-        { say_often(rt, shared, second, 1000) },
-    );
-    let both = lock.join(first, second);
-    assert!(rt; both.number() == 1);
-    let tally = lock.close(rt, both);
-    assert!(rt; tally.said.len() == 2001);
+    let all = joined(&lock, first, passes);
+    let tally = lock.close(rt, all);
+    assert!(rt; tally.said.len() == 8001);
     assert!(rt; count_in_order(&tally, 0) == Some(1));
-    assert!(rt; count_in_order(&tally, 1) == Some(1000));
-    assert!(rt; count_in_order(&tally, 2) == Some(1000));
+    for by in 1..9 {
+        assert!(rt; count_in_order(&tally, by) == Some(1000));
+    }
+}
+
+// Each pass takes a thousand turns, in a thread of its own.
+fn said_by_all<R: Threads + Wait + Sync>(
+    rt: &R,
+    lock: &HistoryLock<Tally>,
+    passes: Vec<Pass<Saying>>,
+) -> Result<Vec<Pass<Saying>>, AllocError>
+    requires { All (λ p. p.lock ≡ lock.now) passes.items }
+    ensures { IfOk result (λ after. All (λ p. p.lock ≡ lock.now) after.items) }
+{
+    thread::map_vec(
+        rt,
+        passes,
+        &|pass: Pass<Saying>| -> Pass<Saying>
+            requires { pass.lock ≡ lock.now }
+            ensures { result.lock ≡ lock.entry.now }
+        { say_often(rt, lock, pass, 1000) },
+    )
+}
+
+fn joined(
+    lock: &HistoryLock<Tally>,
+    first: Pass<Saying>,
+    mut others: Vec<Pass<Saying>>,
+) -> Pass<Saying>
+    requires first { first.lock ≡ lock.now }
+    requires others { All (λ p. p.lock ≡ lock.now) others.items }
+    ensures { result.lock ≡ lock.now }
+{
+    let mut all = first;
+    while let Some(other) = others.pop() {
+        all = lock.join(all, other);
+    }
+    all
 }
 
 #[test]
