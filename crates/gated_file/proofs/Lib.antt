@@ -1,0 +1,6 @@
+mod Appending
+mod Bytes
+mod Closing
+mod Mending
+mod Putting
+mod Results
