@@ -1,0 +1,15 @@
+use Rattle.std.proofs.Common.{codes, ◌++◌, ap, ◌∙◌}
+use Rattle.std.proofs.lemmas.Result.{on_ok_weaker}
+use Rattle.time_text.specs.Texts.{time_digits}
+use Rattle.cdxj_line.specs.Lines.{line_text, object_text}
+use Rattle.cdxj_line.proofs.Parts.{six_put}
+use Rattle.cdxj_line.proofs.write.put_line.Goals as goal
+
+pub returns : goal.returns
+unfolding line_text
+returns c =
+    let line = c.args.line.now in
+    on_ok_weaker c.put_all-5.result (λ last.
+    six_put line.key (codes " ") (time_digits line.date) (codes " ") (object_text line) (codes "\n") c.args.out.now.items c.put_all.new.out.items c.put_all-2.new.out.items c.put_date.new.out.items c.put_all-3.new.out.items c.put_all-4.new.out.items c.put_all-5.new.out.items
+    (c.in_ok-put_all.ensures ∙ ap (λ text. c.args.out.now.items ++ text) c.as_slice.ensures) c.in_ok-put_all-2.ensures c.in_ok-put_date.ensures c.in_ok-put_all-3.ensures
+    (c.in_ok-put_all-4.ensures ∙ ap (λ text. c.put_all-3.new.out.items ++ text) (c.as_slice-2.ensures.value ∙ c.in_ok-object.ensures)) last) c.put_all-5.ensures

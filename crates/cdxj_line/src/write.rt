@@ -1,0 +1,49 @@
+//! A line's text.
+ghost use Rattle.std.specs.Prelude.{◌≡◌, ◌++◌, false, IfOk, OnOk};
+ghost use Rattle.time_text.specs.Texts.{InRange, time_digits};
+ghost use Rattle.cdxj_line.specs.Lines as spec;
+ghost use Rattle.cdxj_line.specs.Lines.{IsWritable};
+
+use crate::Line;
+use crate::members::object_text;
+use capture::{Bytes, Memory, put_all};
+use std::alloc::Global;
+use time_text::write_time;
+
+/// Puts the text of a line behind what is written: the key, a blank, the date, a blank, a JSON object and LF.
+///
+/// The members of the object are strings, in the order of their keys. After `Memory` what was written is still there,
+/// with a part of the line behind it.
+pub fn put_line(out: &mut Vec<u8>, line: &Line) -> Result<(), Memory>
+    requires { IsWritable line.now }
+    ensures { OnOk result (out.new.items ≡ out.old.items ++ spec.line_text line.now) }
+{
+    let object = object_text(*out.allocator(), line)?;
+    put_all(out, line.key.as_slice())?;
+    put_all(out, b" ")?;
+    put_date(out, line.date)?;
+    put_all(out, b" ")?;
+    put_all(out, object.as_slice())?;
+    put_all(out, b"\n")
+}
+
+/// The text of a line.
+pub fn line_text(alloc: Global, line: &Line) -> Result<Bytes, Memory>
+    requires { IsWritable line.now }
+    ensures { IfOk result (λ text. text ≡ spec.line_text line.now) }
+{
+    let mut out = Vec::new(alloc);
+    put_line(&mut out, line)?;
+    Ok(Bytes::of(out))
+}
+
+/// Puts the digits of a date.
+fn put_date(out: &mut Vec<u8>, date: u64) -> Result<(), Memory>
+    requires { InRange date }
+    ensures { OnOk result (out.new.items ≡ out.old.items ++ time_digits date) }
+{
+    match write_time(date) {
+        Ok(text) => put_all(out, text.as_slice()),
+        Err(_) => unreachable!(),
+    }
+}
