@@ -1,0 +1,10 @@
+pub mod Attributes
+pub mod Inside
+pub mod LawLemmas
+pub mod LinkLemmas
+pub mod PageLemmas
+pub mod Places
+pub mod Runs
+pub mod Steps
+pub mod TagLemmas
+pub mod Values

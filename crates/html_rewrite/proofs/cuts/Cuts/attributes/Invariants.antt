@@ -1,0 +1,10 @@
+use Rattle.std.proofs.Common.{length}
+use Rattle.html_rewrite.specs.Reading.{ahead}
+use Rattle.html_rewrite.proofs.Inside.{GoesOn}
+use Rattle.html_rewrite.proofs.cuts.Cuts.attributes.Given as goal
+
+abbrev pub invariant-attributes : goal.invariant-attributes
+invariant-attributes l = GoesOn l.element l.initial.self l.self
+
+abbrev pub decreases-attributes : goal.decreases-attributes
+decreases-attributes l = length (ahead l.self)

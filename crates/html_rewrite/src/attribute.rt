@@ -1,0 +1,156 @@
+//! What gives an attribute of a start tag its value.
+ghost use Rattle.std.specs.Prelude.{◌≡◌, ◌+◌, ◌<◌, ◌≤◌, length, take, drop};
+ghost use Rattle.std.specs.List.{prefix_len};
+ghost use Rattle.html_rewrite.specs.Tags as spec;
+ghost use Rattle.html_rewrite.specs.Reading.{IsFound, IsNext, sign_len};
+
+use crate::bytes::{blank_len, gap_len, is_blank, is_name_end};
+
+/// The quotes round a value.
+#[derive(Clone, Copy, Debug, PartialEq, Eq)]
+pub enum Quote {
+    /// `"`
+    Double,
+    /// `'`
+    Single,
+    /// None.
+    Bare,
+}
+
+/// What stands behind an attribute's name.
+pub enum Found {
+    /// No value.
+    Missing,
+    /// A value whose closing quote is missing.
+    Unclosed,
+    /// A value.
+    Value {
+        /// The length of what stands before it: blanks, `=`, blanks and the opening quote.
+        lead: usize,
+        /// Its own length.
+        len: usize,
+        /// The length of the closing quote.
+        closing: usize,
+    },
+}
+
+/// What stands next inside a tag.
+pub enum Next {
+    /// An attribute, behind so many blanks and slashes.
+    AnAttribute(usize),
+    /// The tag's end, which so many bytes go up to.
+    Close(usize),
+    /// The end of the page.
+    PageEnd,
+}
+
+/// What stands next inside a tag.
+pub fn next_at(text: &[u8]) -> Next
+    ensures { IsNext text.now result }
+{
+    let gap = gap_len(text);
+    let (_, rest) = text.split_at(gap);
+    match rest.first() {
+        None => Next::PageEnd,
+        Some(b'>') => Next::Close(gap + 1),
+        Some(_) => Next::AnAttribute(gap),
+    }
+}
+
+/// The attribute's name that the text begins with.
+pub fn attribute_name(text: &[u8]) -> &[u8]
+    requires { 0 < length text.now }
+    ensures { result.now ≡ take (1 + prefix_len spec.is_attribute_byte (drop 1 text.now)) text.now }
+{
+    let (_, others) = text.split_at(1);
+    let (name, _) = text.split_at(1 + attribute_len(others));
+    name
+}
+
+// How long an attribute's name is behind its first byte.
+fn attribute_len(text: &[u8]) -> usize
+    ensures value { result ≡ prefix_len spec.is_attribute_byte text.now }
+    ensures within { result ≤ length text.now }
+{
+    text.iter().take_while(|&&b| is_attribute_byte(b)).count()
+}
+
+fn is_attribute_byte(b: u8) -> bool
+    ensures { result ≡ spec.is_attribute_byte b }
+{
+    !(is_name_end(b) || b == b'=')
+}
+
+/// The value that stands behind an attribute's name.
+pub fn found_at(text: &[u8]) -> Found
+    ensures { IsFound text.now result }
+{
+    let sign = sign_len(text);
+    if sign == 0 {
+        return Found::Missing;
+    }
+    let (_, text) = text.split_at(sign);
+    let quote = quote_at(text);
+    let closing = quote_len(quote);
+    let (_, text) = text.split_at(closing);
+    let len = value_len(text, quote);
+    if len + closing > text.len() {
+        return Found::Unclosed;
+    }
+    Found::Value {
+        lead: sign + closing,
+        len,
+        closing,
+    }
+}
+
+// Blanks, `=` and blanks, or nothing where no `=` follows.
+fn sign_len(text: &[u8]) -> usize
+    ensures value { result ≡ sign_len text.now }
+    ensures within { result ≤ length text.now }
+{
+    let before = blank_len(text);
+    let (_, rest) = text.split_at(before);
+    match rest {
+        [b'=', rest @ ..] => before + 1 + blank_len(rest),
+        _ => 0,
+    }
+}
+
+fn quote_at(text: &[u8]) -> Quote
+    ensures { result ≡ spec.quote_at text.now }
+{
+    match text {
+        [b'"', ..] => Quote::Double,
+        [b'\'', ..] => Quote::Single,
+        _ => Quote::Bare,
+    }
+}
+
+fn quote_len(quote: Quote) -> usize
+    ensures { result ≡ length (spec.quote_text quote) }
+{
+    match quote {
+        Quote::Double | Quote::Single => 1,
+        Quote::Bare => 0,
+    }
+}
+
+fn value_len(text: &[u8], quote: Quote) -> usize
+    ensures value { result ≡ prefix_len (spec.is_value_byte quote) text.now }
+    ensures within { result ≤ length text.now }
+{
+    text.iter()
+        .take_while(|&&b| is_value_byte(quote, b))
+        .count()
+}
+
+fn is_value_byte(quote: Quote, b: u8) -> bool
+    ensures { result ≡ spec.is_value_byte quote b }
+{
+    match quote {
+        Quote::Double => b != b'"',
+        Quote::Single => b != b'\'',
+        Quote::Bare => !(is_blank(b) || b == b'>'),
+    }
+}

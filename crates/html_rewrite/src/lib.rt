@@ -1,0 +1,22 @@
+//! A captured page, rewritten so that its links lead to the archive (the link attributes of the HTML Standard).
+#![tactic(auto)]
+
+mod attribute;
+mod bytes;
+mod cuts;
+mod law;
+mod link;
+mod names;
+mod opening;
+mod page;
+mod raw_text;
+mod reading;
+mod reference;
+mod scan;
+mod tag;
+#[cfg(test)]
+mod tests;
+mod through;
+
+pub use law::a_page_has_one_split;
+pub use page::{PAGE_LIMIT, rewrite};

@@ -1,0 +1,120 @@
+//! What the links of a page are replaced by.
+ghost use Rattle.std.specs.Prelude.{◌≡◌, ◌++◌, IfOk, OnOk, option_copied};
+ghost use Rattle.time_text.specs.Texts.{InRange};
+ghost use Rattle.html_rewrite.specs.Links as spec;
+
+use crate::reference::{decode, put_escaped};
+use capture::{Memory, Site};
+use std::alloc::Global;
+use time_text::write_time;
+use url::{ParseError, Url};
+
+/// What the links of a page lead to.
+#[derive(Drop)]
+pub struct Links {
+    /// What stands before the address of a target.
+    pub prefix: Vec<u8>,
+    /// The page's own address, if that is a URL.
+    pub base: Option<Url>,
+}
+
+impl Links {
+    /// The links of a page that was captured from this address at this time.
+    pub fn new(alloc: Global, base: &[u8], time: u64, site: &Site) -> Result<Links, Memory>
+        requires { InRange time }
+        ensures prefix { IfOk result (λ links. links.prefix.items ≡ spec.archive_prefix site.now.base time) }
+        ensures base { IfOk result (λ links. links.base ≡ spec.page_url base.now) }
+    {
+        let base = page_url(alloc, base)?;
+        let prefix = archive_prefix(alloc, time, site)?;
+        Ok(Links { prefix, base })
+    }
+
+    /// Puts what the value is replaced by behind what is written.
+    pub fn put(&self, out: &mut Vec<u8>, value: &[u8]) -> Result<(), Memory>
+        ensures { OnOk result (out.new.items ≡ out.old.items ++ spec.link self.now.prefix.items self.now.base value.now) }
+    {
+        match self.target(*out.allocator(), value)? {
+            Some(url) => {
+                out.extend_from_slice(self.prefix.as_slice())?;
+                put_escaped(out, url.as_str().as_bytes())
+            }
+            None => {
+                out.extend_from_slice(value)?;
+                Ok(())
+            }
+        }
+    }
+
+    // Where a value leads to, if it is to be replaced.
+    fn target(&self, alloc: Global, value: &[u8]) -> Result<Option<Url>, Memory>
+        ensures { IfOk result (λ target. target ≡ spec.target_of self.now.base value.now) }
+    {
+        let reference = decode(alloc, value)?;
+        if begins_as_none(reference.as_slice()) {
+            return Ok(None);
+        }
+        match std::str::from_utf8(reference.as_slice()) {
+            Ok(text) => target_from(self.base.as_ref(), text),
+            Err(_) => Ok(None),
+        }
+    }
+}
+
+// An empty reference, or one to a place in the page itself.
+fn begins_as_none(reference: &[u8]) -> bool
+    ensures { result ≡ spec.leads_nowhere reference.now }
+{
+    match reference {
+        [] => true,
+        [first, ..] => *first == b'#',
+    }
+}
+
+fn target_from(base: Option<&Url>, reference: &str) -> Result<Option<Url>, Memory>
+    ensures { IfOk result (λ target. target ≡ spec.target_from (option_copied base.entry) reference.now) }
+{
+    let Some(base) = base else {
+        return Ok(None);
+    };
+    match base.join(reference) {
+        Ok(url) if is_http(&url) => Ok(Some(url)),
+        Ok(_) => Ok(None),
+        Err(ParseError::OutOfMemory | ParseError::Overflow) => Err(Memory),
+        Err(_) => Ok(None),
+    }
+}
+
+fn is_http(url: &Url) -> bool
+    ensures { result ≡ spec.is_http url.now }
+{
+    url.scheme() == "http" || url.scheme() == "https"
+}
+
+fn page_url(alloc: Global, base: &[u8]) -> Result<Option<Url>, Memory>
+    ensures { IfOk result (λ url. url ≡ spec.page_url base.now) }
+{
+    let Ok(text) = std::str::from_utf8(base) else {
+        return Ok(None);
+    };
+    match Url::parse(alloc, text) {
+        Ok(url) => Ok(Some(url)),
+        Err(ParseError::OutOfMemory | ParseError::Overflow) => Err(Memory),
+        Err(_) => Ok(None),
+    }
+}
+
+fn archive_prefix(alloc: Global, time: u64, site: &Site) -> Result<Vec<u8>, Memory>
+    requires { InRange time }
+    ensures { IfOk result (λ prefix. prefix.items ≡ spec.archive_prefix site.now.base time) }
+{
+    let Ok(digits) = write_time(time) else {
+        unreachable!()
+    };
+    let mut prefix = Vec::new(alloc);
+    prefix.extend_from_slice(site.base.as_slice())?;
+    prefix.extend_from_slice(b"/web/")?;
+    prefix.extend_from_slice(digits.as_slice())?;
+    prefix.push(b'/')?;
+    Ok(prefix)
+}
