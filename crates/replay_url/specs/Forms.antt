@@ -1,0 +1,101 @@
+-- The forms of the archive's addresses.
+use Rattle.std.specs.Prelude.{◌≡◌, ℕ, ◌^◌, ◌<◌, Bool, List, [], ◌++◌, length, take, codes, decimal, None, IsSome, Contains, ⊤, if◌then◌else◌}
+use Rattle.time_text.specs.Texts.{InRange, all_digits}
+use Rattle.time_text.specs.Reading.{IsEarliest, Names, lengths}
+use Rattle.surt_key.specs.Key.{key_of}
+use Rattle.replay_url.specs.declared.fault.FormFault.{FormFault}
+use Rattle.replay_url.specs.declared.fault.FormFault.TheVariants.{NotAForm, BadTime, Memory}
+use Rattle.replay_url.specs.declared.form.Form.{Form}
+use Rattle.replay_url.specs.declared.form.Form.TheVariants.{Memento, Gate, Map, Number}
+use Rattle.replay_url.specs.Address.{Parts, Numbered, Mapped, Timed, Modified, Open, Outside, parts_at, url_of}
+
+-- the URL of an address, which has a key
+pub record IsUrl (text url : List ℕ) : Type 0 where
+  pub value : url ≡ url_of text
+  pub keyed : IsSome (key_of url)
+
+-- no key is made of the URL of an address
+abbrev pub IsNoUrl : List ℕ → Type 0
+IsNoUrl text = key_of (url_of text) ≡ None
+
+-- a memento, by its time in digits, whether it is raw, and its URL
+pub record IsMemento (digits : List ℕ) (is_raw : Bool) (text : List ℕ) (time count : ℕ) (raw : Bool) (url : List ℕ) : Type 0 where
+  pub timed : IsEarliest digits time
+  pub counted : count ≡ length digits
+  pub rawness : raw ≡ is_raw
+  pub of_url : IsUrl text url
+
+-- a number in decimal, without a sign or leading zeros
+pub record IsNumber (text : List ℕ) (number : ℕ) : Type 0 where
+  pub fits : number < 2 ^ 32
+  pub digits : text ≡ decimal number
+
+-- the form of an address
+abbrev pub FormAt : Parts → Form → Type 0
+FormAt (Numbered text) (Number number) = IsNumber text number
+FormAt (Mapped text) (Map url) = IsUrl text url
+FormAt (Timed digits is_raw text) (Memento time count raw url) = IsMemento digits is_raw text time count raw url
+FormAt (Open text) (Gate url) = IsUrl text url
+FormAt (Numbered text) _ = ⊥
+FormAt (Mapped text) _ = ⊥
+FormAt (Timed digits is_raw text) _ = ⊥
+FormAt Modified form = ⊥
+FormAt (Open text) _ = ⊥
+FormAt Outside form = ⊥
+
+abbrev pub IsForm : List ℕ → Form → Type 0
+IsForm target form = FormAt (parts_at target) form
+
+-- an address that has no form; one with digits that name no time is another fault
+abbrev pub NoFormAt : Parts → Type 0
+NoFormAt (Numbered text) = (number : ℕ) → IsNumber text number → ⊥
+NoFormAt (Mapped text) = IsNoUrl text
+NoFormAt (Timed digits raw text) = (time : ℕ) × IsEarliest digits time × IsNoUrl text
+NoFormAt Modified = ⊤
+NoFormAt (Open text) = IsNoUrl text
+NoFormAt Outside = ⊤
+
+-- an address of a memento whose digits name no time
+abbrev pub BadTimeAt : Parts → Type 0
+BadTimeAt (Timed digits raw text) = (time : ℕ) → Names digits time → ⊥
+BadTimeAt _ = ⊥
+
+-- why an address has no form
+abbrev pub FaultAt : Parts → FormFault → Type 0
+FaultAt parts NotAForm = NoFormAt parts
+FaultAt parts BadTime = BadTimeAt parts
+FaultAt parts Memory = ⊤
+
+abbrev pub IsFault : List ℕ → FormFault → Type 0
+IsFault target fault = FaultAt (parts_at target) fault
+
+-- why an address has no URL
+abbrev pub IsUrlFault : List ℕ → FormFault → Type 0
+IsUrlFault text NotAForm = IsNoUrl text
+IsUrlFault text BadTime = ⊥
+IsUrlFault text Memory = ⊤
+
+-- a memento's time has a text in so many digits
+abbrev pub CanBePut : Form → Type 0
+CanBePut (Memento time digits raw url) = InRange time × Contains lengths digits
+CanBePut (Gate url) = ⊤
+CanBePut (Map url) = ⊤
+CanBePut (Number number) = ⊤
+
+-- a memento's time in so many digits, smaller units dropped
+abbrev pub memento_digits : ℕ → ℕ → List ℕ
+memento_digits time digits = take digits (all_digits time)
+
+abbrev pub raw_text : Bool → List ℕ
+raw_text raw = if raw then codes "id_" else []
+
+-- what an address has behind `/web/`
+abbrev pub form_text : Form → List ℕ
+form_text (Memento time digits raw url) = memento_digits time digits ++ raw_text raw ++ (codes "/" ++ url)
+form_text (Gate url) = url
+form_text (Map url) = codes "timemap/link/" ++ url
+form_text (Number number) = codes "rec/" ++ decimal number
+
+-- the whole address, behind the site's base
+unfoldable pub address_text : List ℕ → Form → List ℕ
+address_text base form = base ++ codes "/web/" ++ form_text form

@@ -1,0 +1,36 @@
+//! Why an address has no form.
+ghost use Rattle.std.specs.Prelude.{◌≡◌};
+
+use capture::Memory;
+use std::alloc::AllocError;
+
+/// Why `read_form` gave no form.
+#[derive(Clone, Copy, Debug, PartialEq, Eq)]
+pub enum FormFault {
+    /// The address is none of the forms.
+    NotAForm,
+    /// It is a memento's, and its digits name no time.
+    BadTime,
+    /// Memory ran out.
+    Memory,
+}
+
+impl From<Memory> for FormFault {
+    ghost use Rattle.replay_url.specs.declared.fault.FormFault.TheVariants.{Memory as OutOfMemory};
+
+    ghost from_gives = { λ _ fault. fault ≡ OutOfMemory };
+
+    fn from(_error: Memory) -> FormFault {
+        FormFault::Memory
+    }
+}
+
+impl From<AllocError> for FormFault {
+    ghost use Rattle.replay_url.specs.declared.fault.FormFault.TheVariants.{Memory as OutOfMemory};
+
+    ghost from_gives = { λ _ fault. fault ≡ OutOfMemory };
+
+    fn from(_error: AllocError) -> FormFault {
+        FormFault::Memory
+    }
+}
