@@ -3,6 +3,8 @@ use Rattle.std.specs.Prelude.{ℕ, [], Bool, true, false, Some, None}
 use Rattle.memproxy.specs.declared.real_gate.RealGate.{RealGate}
 use Rattle.memproxy.specs.declared.real_gate.RealGate.TheVariants.{Once, Tcp}
 use Rattle.outside.specs.declared.gate.Heard.{Heard}
+use Rattle.outside.specs.Gate.{heard_of}
+use Rattle.outside.specs.Link.{no_traffic}
 
 -- how often an accept has failed: the standard streams are given without fail
 abbrev pub gate_faults : {R I S L : Type 0} → RealGate R I S L → ℕ
@@ -17,7 +19,7 @@ is_closed (Tcp system host port listener faults) = false
 
 -- what a connection keeps that tells nothing
 abbrev pub nothing_heard : Heard
-nothing_heard = record { given = []; ended = false; written = []; faults = 0 }
+nothing_heard = heard_of (no_traffic [] 0) 0
 
 -- whether a gate gives the standard streams
 abbrev pub is_once : {R I S L : Type 0} → RealGate R I S L → Bool

@@ -83,6 +83,8 @@ impl<R: Files + Drop> Disk for FolderDisk<R> {
     ghost now_counts = { λ disk t image earlier there. absurd there };
 
     ghost now_only = { λ disk image there. absurd there };
+
+    ghost earlier = { λ disk t s image le there. absurd there };
 }
 
 #[cfg(test)]

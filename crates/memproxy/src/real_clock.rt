@@ -1,5 +1,5 @@
 //! The system's clock.
-ghost use Rattle.std.specs.Prelude.{◌≡◌, ◌/◌, false, []};
+ghost use Rattle.std.specs.Prelude.{◌≡◌, ◌-◌, ◌/◌, ◌^◌, false, [], min};
 ghost use Rattle.std.specs.Time.{system_time_nanos};
 
 use outside::Clock;
@@ -26,18 +26,18 @@ impl<R: SystemClock> Clock for RealClock<R> {
     /// Where the system's clock can't be read or stands before 1970, the greatest number.
     fn now(&mut self) -> u64 {
         match SystemTime::now(&self.system) {
-            Ok(time) => seconds_of(time),
+            Ok(time) => millis_of(time),
             Err(_) => u64::MAX,
         }
     }
 }
 
-/// Whole seconds since 1970.
-fn seconds_of(time: SystemTime) -> u64
-    ensures { result ≡ system_time_nanos time / 1_000_000_000 }
+/// Whole milliseconds since 1970, or the greatest number where they are more.
+fn millis_of(time: SystemTime) -> u64
+    ensures { result ≡ min (system_time_nanos time / 1_000_000) (2 ^ 64 - 1) }
 {
     match time.duration_since(UNIX_EPOCH) {
-        Ok(since) => since.as_secs(),
+        Ok(since) => u64::try_from(since.as_millis()).unwrap_or(u64::MAX),
         Err(_) => u64::MAX,
     }
 }
@@ -63,28 +63,28 @@ mod tests {
         }
     }
 
-    /// A clock that shows half a second past a known time.
+    /// A clock that shows so many microseconds since 1970.
     #[derive(Drop)]
     struct Shows(u64);
 
     impl SystemClock for Shows {
         fn monotonic(&self) -> io::Result<Duration> {
-            Ok(Duration::from_secs(self.0))
+            Ok(Duration::from_micros(self.0))
         }
 
         fn since_1970(&self) -> io::Result<Duration> {
-            Ok(Duration::from_millis(self.0))
+            Ok(Duration::from_micros(self.0))
         }
     }
 
     #[test]
-    fn tells_whole_seconds(rt: HostRuntime) {
+    fn tells_whole_milliseconds(rt: HostRuntime) {
         assert_eq!(rt;
-            RealClock::new(Shows(1_700_000_000_500)).now(),
-            1_700_000_000
+            RealClock::new(Shows(1_700_000_000_500_999)).now(),
+            1_700_000_000_500
         );
         assert_eq!(rt; RealClock::new(Stopped).now(), u64::MAX);
         let now = RealClock::new(rt).now();
-        assert!(rt; 1_700_000_000 < now && now < 253_402_300_800);
+        assert!(rt; 1_700_000_000_000 < now && now < 253_402_300_800_000);
     }
 }

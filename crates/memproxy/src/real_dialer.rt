@@ -1,7 +1,8 @@
 //! The way to origins: TCP, or the trial origin in this process.
-ghost use Rattle.std.specs.Prelude.{[], ◌≡◌, IsAscii, IfOk};
+ghost use Rattle.std.specs.Prelude.{◌≡◌, IsAscii, IfOk};
 ghost use Rattle.memproxy.specs.Dialers.{dialer_faults, CountsDialError};
 ghost use Rattle.memproxy.specs.Links.{link_faults};
+ghost use Rattle.outside.specs.Records.{nothing_out};
 
 use crate::brackets::without_brackets;
 use crate::real_link::RealLink;
@@ -32,9 +33,7 @@ pub enum RealDialer<R> {
 impl<R: Input + Print + Net + Drop> Dialer for RealDialer<R> {
     type Link = RealLink<R>;
 
-    ghost log = { λ _. [] };
-
-    ghost out = { λ _. 0 };
+    ghost links = { λ _. nothing_out };
 
     ghost faults = { dialer_faults };
 

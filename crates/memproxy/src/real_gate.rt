@@ -1,6 +1,7 @@
 //! The way in: the standard streams, or a TCP listener.
-ghost use Rattle.std.specs.Prelude.{[], ◌≡◌, IsTrue};
+ghost use Rattle.std.specs.Prelude.{◌≡◌, IsTrue};
 ghost use Rattle.memproxy.specs.Gates.{gate_faults, is_closed, nothing_heard};
+ghost use Rattle.outside.specs.Gate.{no_connections};
 
 use crate::brackets::without_brackets;
 use crate::real_link::RealLink;
@@ -38,11 +39,7 @@ impl<R: Input + Print + Net + Drop> Gate for RealGate<R> {
 
     type Past = ();
 
-    ghost log = { λ _. [] };
-
-    ghost out = { λ _. 0 };
-
-    ghost gave = { λ _. 0 };
+    ghost connections = { λ _. no_connections };
 
     ghost closed = { is_closed };
 

@@ -1,6 +1,7 @@
 //! Connections of the system.
 ghost use Rattle.std.specs.Prelude.{◌↔◌, ◌<◌, false, [], IsTrue};
 ghost use Rattle.memproxy.specs.Links.{link_faults};
+ghost use Rattle.outside.specs.Link.{no_traffic};
 
 use crate::faults::counted;
 use crate::streams::{EndingInput, read_some, write_some};
@@ -53,15 +54,7 @@ impl<R: Input + Net> RealLink<R> {
 impl<R: Input + Print + Net> Link for RealLink<R> {
     ghost tells = { false };
 
-    ghost given = { λ _. [] };
-
-    ghost ended = { λ _. false };
-
-    ghost taken = { λ _. [] };
-
-    ghost host = { λ _. [] };
-
-    ghost port = { λ _. 0 };
+    ghost traffic = { λ _. no_traffic [] 0 };
 
     ghost faults = { link_faults };
 

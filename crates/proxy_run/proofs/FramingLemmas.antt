@@ -17,8 +17,8 @@ use Rattle.name_table.specs.HeaderFields.{hop_by_hop, is_hop}
 use Rattle.capture.specs.Fields.{NamedValue, named_values, is_named, has_field, values_of, members_of, split_at_commas, onto_first, lowered}
 use Rattle.capture.specs.Framing.{transfer_encoding, content_length, is_number, length_of_members, framed_by_length, is_bodiless, request_framing, response_framing}
 use Rattle.capture.specs.declared.framing.Framing.TheVariants.{Empty, Length}
+use Rattle.capture.specs.declared.framing.FramingFault.TheVariants.{Malformed}
 use Rattle.capture.specs.declared.limits.TheConstants.{BODY_LIMIT}
-use Rattle.capture.specs.declared.refusal.Refusal.TheVariants.{Malformed}
 use Rattle.proxy_run.specs.ExchangeForms.{has_hop, is_plain_request, length_of_values, plain_length}
 
 never : (b : Bool) → (b ≡ true → ⊥) → b ≡ false

@@ -5,6 +5,7 @@ mod BlankLaws
 mod FeedLaws
 mod FilterLemmas
 mod FramingLemmas
+mod GainLaws
 mod GrammarLaws
 mod HostBytes
 mod KeepLaws

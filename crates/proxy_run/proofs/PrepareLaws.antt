@@ -2,6 +2,7 @@
 use Rattle.std.proofs.Common.{◌≡◌, ℕ, ◌-◌, ◌^◌, ◌<◌, ◌≤◌, ◌⊎◌, Bool, true, List, [], ◌∷◌, ◌++◌, Result, Ok, Err, IfOk, IsTrue, refl, sym, ◌∙◌, ap, inl, inr, arith, length}
 use Rattle.std.proofs.lemmas.List.{append-nil}
 use Rattle.outside.specs.declared.dialer.Transcript.{Transcript}
+use Rattle.outside.specs.Records.{Links}
 use Rattle.capture.specs.declared.book.Book.{Book}
 use Rattle.capture.specs.declared.memory.Memory.{Memory}
 use Rattle.capture.specs.declared.refusal.Refusal.{Refusal}
@@ -19,6 +20,7 @@ use Rattle.proxy_run.specs.Rounds.{Reply, Fails, Passes, LacksMemory, Replied, T
 use Rattle.proxy_run.specs.Serving.{EndsBy, Prepares, Keeping}
 use Rattle.proxy_run.specs.Storing.{empty_book, with_first}
 use Rattle.proxy_run.specs.WireText.{IsFrontOf}
+use Rattle.proxy_run.proofs.GainLaws.{none_logged}
 
 -- ---- requests and their links
 
@@ -50,10 +52,10 @@ none_of : (much before now : ℕ) → RoseBy much before now → RoseBy 0 before
 none_of much before now rose = omega arith
 
 -- what the objects beside the client tell
-abbrev told : List ℕ → List Transcript → ℕ → ℕ → Told
-told answers log dialer_faults disk_faults = record {
+abbrev told : List ℕ → Links Transcript → ℕ → ℕ → Told
+told answers links dialer_faults disk_faults = record {
   answers = answers;
-  log = log;
+  links = links;
   dialer_faults = dialer_faults;
   disk_faults = disk_faults;
 }
@@ -70,8 +72,8 @@ unsaid clock_tells head reply traces was now g = record {
 
 -- one answer of the clock, and these transcripts
 gained : (clock_tells : Bool) (head : RequestHead) (reply : Reply) (date : ℕ) (transcripts : List Transcript) (before after : Book)
-    (answers answers_now : List ℕ) (old new : List Transcript) (dialed dialed_now disk disk_now : ℕ)
-    → (IsTrue clock_tells → length answers_now < 2 ^ 64 - 1 → answers_now ≡ answers ++ date ∷ []) → new ≡ old ++ transcripts
+    (answers answers_now : List ℕ) (old new : Links Transcript) (dialed dialed_now disk disk_now : ℕ)
+    → (IsTrue clock_tells → length answers_now < 2 ^ 64 - 1 → answers_now ≡ answers ++ date ∷ []) → new ≡ record old { log = old.log ++ transcripts }
     → RoseBy (origin_fault (Replied head reply)) dialed dialed_now → RoseBy (disk_fault (Replied head reply)) disk disk_now
     → Gained clock_tells (told answers old dialed disk) (told answers_now new dialed_now disk_now)
     (gains_by (Replied head reply) (record { times = date ∷ []; transcripts = transcripts; before = before; after = after }))
@@ -125,48 +127,48 @@ asked_too head target date t book in_range w =
 
 -- the clock's answer has no text
 pub out_of_range : (clock_tells : Bool) (head : RequestHead) (target : Target) (date : ℕ) (book : Book) (answers answers_now : List ℕ)
-    (log : List Transcript) (dialed disk : ℕ) (Left : Book → Type 0) (result : Result Prepared Memory) (closes : Bool)
+    (links : Links Transcript) (dialed disk : ℕ) (Left : Book → Type 0) (result : Result Prepared Memory) (closes : Bool)
     → (InRange date → ⊥) → (IsTrue clock_tells → length answers_now < 2 ^ 64 - 1 → answers_now ≡ answers ++ date ∷ []) → Left book
     → closes ≡ closes_reply head (Fails (refusal.ClockRange date))
     → IfOk result (λ prepared. prepared.text ≡ reply_text (Fails (refusal.ClockRange date)) closes) → IfOk result (λ prepared. EndsBy closes prepared.end)
-    → Prepares clock_tells head target result book (told answers log dialed disk) (told answers_now log dialed disk) Left
-out_of_range clock_tells head target date book answers answers_now log dialed disk Left result closes out asked left e text end =
+    → Prepares clock_tells head target result book (told answers links dialed disk) (told answers_now links dialed disk) Left
+out_of_range clock_tells head target date book answers answers_now links dialed disk Left result closes out asked left e text end =
     failed clock_tells head target (refusal.ClockRange date) date [] book _ _ Left result closes (refl, out, refl) (unasked head target date book)
-    (gained clock_tells head (Fails (refusal.ClockRange date)) date [] book book answers answers_now log log dialed dialed disk disk asked (sym (append-nil log)) (omega arith) (omega arith))
+    (gained clock_tells head (Fails (refusal.ClockRange date)) date [] book book answers answers_now links links dialed dialed disk disk asked (none_logged links) (omega arith) (omega arith))
     left e text end
 
 -- there was no memory for the request
 pub lacked_request : (clock_tells : Bool) (head : RequestHead) (target : Target) (date : ℕ) (book : Book) (answers answers_now : List ℕ)
-    (log : List Transcript) (dialed disk : ℕ) (Left : Book → Type 0) (e : Memory)
+    (links : Links Transcript) (dialed disk : ℕ) (Left : Book → Type 0) (e : Memory)
     → (IsTrue clock_tells → length answers_now < 2 ^ 64 - 1 → answers_now ≡ answers ++ date ∷ []) → Left book
-    → Prepares clock_tells head target (Err e) book (told answers log dialed disk) (told answers_now log dialed disk) Left
-lacked_request clock_tells head target date book answers answers_now log dialed disk Left e asked left = record {
+    → Prepares clock_tells head target (Err e) book (told answers links dialed disk) (told answers_now links dialed disk) Left
+lacked_request clock_tells head target date book answers answers_now links dialed disk Left e asked left = record {
   traces = left_by date [] book;
   begins = refl;
   follows = (unasked head target date book, refl);
-  gained = gained clock_tells head LacksMemory date [] book book answers answers_now log log dialed dialed disk disk asked (sym (append-nil log)) (omega arith) (omega arith);
+  gained = gained clock_tells head LacksMemory date [] book book answers answers_now links links dialed dialed disk disk asked (none_logged links) (omega arith) (omega arith);
   left = left;
 }
 
 -- ---- exchanges with an origin, after this answer of the clock
 
-abbrev was_told : List Transcript → ℕ → ℕ → Told
-was_told log dialed disk = told [] log dialed disk
+abbrev was_told : Links Transcript → ℕ → ℕ → Told
+was_told links dialed disk = told [] links dialed disk
 
-abbrev is_told : ℕ → List Transcript → ℕ → ℕ → Told
-is_told date log dialed disk = told (date ∷ []) log dialed disk
+abbrev is_told : ℕ → Links Transcript → ℕ → ℕ → Told
+is_told date links dialed disk = told (date ∷ []) links dialed disk
 
-pub not_dialed : (head : RequestHead) (target : Target) (date : ℕ) (book : Book) (old new : List Transcript) (before now disk : ℕ) (Left : Book → Type 0)
+pub not_dialed : (head : RequestHead) (target : Target) (date : ℕ) (book : Book) (old new : Links Transcript) (before now disk : ℕ) (Left : Book → Type 0)
     (result : Result Prepared Memory) (closes : Bool) → InRange date → new ≡ old → Rose before now → Left book
     → closes ≡ closes_reply head (Fails refusal.DialFault)
     → IfOk result (λ prepared. prepared.text ≡ reply_text (Fails refusal.DialFault) closes) → IfOk result (λ prepared. EndsBy closes prepared.end)
     → Prepares true head target result book (was_told old before disk) (is_told date new now disk) Left
 not_dialed head target date book old new before now disk Left result closes in_range e rose left c text end =
     failed true head target refusal.DialFault date [] book _ _ Left result closes (single _ date in_range, refl) (unasked head target date book)
-    (gained true head (Fails refusal.DialFault) date [] book book [] (date ∷ []) old new before now disk disk (λ _ _. refl) (e ∙ sym (append-nil old)) rose (omega arith))
+    (gained true head (Fails refusal.DialFault) date [] book book [] (date ∷ []) old new before now disk disk (λ _ _. refl) (e ∙ none_logged old) rose (omega arith))
     left c text end
 
-pub broken : (head : RequestHead) (target : Target) (request : List ℕ) (date : ℕ) (book : Book) (old new : List Transcript) (before now disk : ℕ) (Left : Book → Type 0)
+pub broken : (head : RequestHead) (target : Target) (request : List ℕ) (date : ℕ) (book : Book) (old new : Links Transcript) (before now disk : ℕ) (Left : Book → Type 0)
     (result : Result Prepared Memory) (closes : Bool) → InRange date → request ≡ sent_of head target → LogsTranscript target request (Err fault.OriginFault) old new
     → Rose before now → Left book → closes ≡ closes_reply head (Fails refusal.OriginFault)
     → IfOk result (λ prepared. prepared.text ≡ reply_text (Fails refusal.OriginFault) closes) → IfOk result (λ prepared. EndsBy closes prepared.end)
@@ -178,7 +180,7 @@ broken head target request date book old new before now disk Left result closes 
     (gained true head (Fails refusal.OriginFault) date (logs.t ∷ []) book book [] (date ∷ []) old new before now disk disk (λ _ _. refl) logs.gains rose (omega arith))
     left c text end
 
-pub ended : (head : RequestHead) (target : Target) (request : List ℕ) (date : ℕ) (book : Book) (old new : List Transcript) (before now disk : ℕ) (Left : Book → Type 0)
+pub ended : (head : RequestHead) (target : Target) (request : List ℕ) (date : ℕ) (book : Book) (old new : Links Transcript) (before now disk : ℕ) (Left : Book → Type 0)
     (result : Result Prepared Memory) (closes : Bool) → InRange date → request ≡ sent_of head target → LogsTranscript target request (Err fault.OriginEnded) old new
     → now ≡ before → Left book → closes ≡ closes_reply head (Fails refusal.OriginEnded)
     → IfOk result (λ prepared. prepared.text ≡ reply_text (Fails refusal.OriginEnded) closes) → IfOk result (λ prepared. EndsBy closes prepared.end)
@@ -191,7 +193,7 @@ ended head target request date book old new before now disk Left result closes i
     (gained true head (Fails refusal.OriginEnded) date (logs.t ∷ []) book book [] (date ∷ []) old new before now disk disk (λ _ _. refl) logs.gains (steady_by_none _ _ n) (omega arith))
     left c text end
 
-pub of_other_form : (head : RequestHead) (target : Target) (request : List ℕ) (date : ℕ) (book : Book) (old new : List Transcript) (before now disk : ℕ) (Left : Book → Type 0)
+pub of_other_form : (head : RequestHead) (target : Target) (request : List ℕ) (date : ℕ) (book : Book) (old new : Links Transcript) (before now disk : ℕ) (Left : Book → Type 0)
     (result : Result Prepared Memory) → InRange date → request ≡ sent_of head target → LogsTranscript target request (Err fault.NotBuilt) old new
     → now ≡ before → Left book → IfOk result (λ prepared. prepared.text ≡ reply_text (Fails refusal.NotBuilt) true)
     → IfOk result (λ prepared. EndsBy true prepared.end)
@@ -205,14 +207,14 @@ of_other_form head target request date book old new before now disk Left result 
     left refl text end
 
 -- there was no memory for an answer
-pub lacked : (head : RequestHead) (target : Target) (request : List ℕ) (date : ℕ) (book : Book) (old new : List Transcript) (before now disk disk_now : ℕ) (Left : Book → Type 0)
+pub lacked : (head : RequestHead) (target : Target) (request : List ℕ) (date : ℕ) (book : Book) (old new : Links Transcript) (before now disk disk_now : ℕ) (Left : Book → Type 0)
     (e : Memory) → InRange date → request ≡ sent_of head target → (new ≡ old) ⊎ LogsTranscript target request (Err fault.Memory) old new → now ≡ before
     → disk ≤ disk_now → Left book → Prepares true head target (Err e) book (was_told old before disk) (is_told date new now disk_now) Left
 lacked head target request date book old new before now disk disk_now Left e in_range is (inl same) n later left = record {
   traces = left_by date [] book;
   begins = refl;
   follows = (unasked head target date book, refl);
-  gained = gained true head LacksMemory date [] book book [] (date ∷ []) old new before now disk disk_now (λ _ _. refl) (same ∙ sym (append-nil old)) (steady_by_none _ _ n) (omega arith);
+  gained = gained true head LacksMemory date [] book book [] (date ∷ []) old new before now disk disk_now (λ _ _. refl) (same ∙ none_logged old) (steady_by_none _ _ n) (omega arith);
   left = left;
 }
 lacked head target request date book old new before now disk disk_now Left e in_range is (inr logs) n later left = record {
@@ -225,7 +227,7 @@ lacked head target request date book old new before now disk disk_now Left e in_
 
 -- a whole answer came, and was stored or not
 pub answered : (head : RequestHead) (target : Target) (request : List ℕ) (date : ℕ) (received : Received) (closes : Bool) (namespace : List ℕ)
-    (old new : List Transcript) (before now disk disk_now : ℕ) (Left : Book → Type 0) (result : Result Prepared Memory)
+    (old new : Links Transcript) (before now disk disk_now : ℕ) (Left : Book → Type 0) (result : Result Prepared Memory)
     → InRange date → request ≡ sent_of head target → LogsTranscript target request (Ok received) old new → now ≡ before
     → closes ≡ closes_reply head (Passes received) → Keeping head target date received closes namespace disk disk_now Left result
     → Prepares true head target result (empty_book namespace) (was_told old before disk) (is_told date new now disk_now) Left
@@ -272,7 +274,7 @@ answered head target request date received closes namespace old new before now d
 
 -- ---- the clock's own list of answers
 
-retold : (clock_tells : Bool) (date : ℕ) (answers answers_now : List ℕ) (old new : List Transcript) (before now disk disk_now : ℕ) (gains : Gains)
+retold : (clock_tells : Bool) (date : ℕ) (answers answers_now : List ℕ) (old new : Links Transcript) (before now disk disk_now : ℕ) (gains : Gains)
     → Gained true (was_told old before disk) (is_told date new now disk_now) gains
     → (IsTrue clock_tells → length answers_now < 2 ^ 64 - 1 → answers_now ≡ answers ++ date ∷ [])
     → Gained clock_tells (told answers old before disk) (told answers_now new now disk_now) gains
@@ -284,7 +286,7 @@ retold clock_tells date answers answers_now old new before now disk disk_now gai
 }
 
 pub by_the_clock : (clock_tells : Bool) (head : RequestHead) (target : Target) (date : ℕ) (book : Book) (answers answers_now : List ℕ)
-    (old new : List Transcript) (before now disk disk_now : ℕ) (Left : Book → Type 0) (result : Result Prepared Memory)
+    (old new : Links Transcript) (before now disk disk_now : ℕ) (Left : Book → Type 0) (result : Result Prepared Memory)
     → (IsTrue clock_tells → length answers_now < 2 ^ 64 - 1 → answers_now ≡ answers ++ date ∷ [])
     → Prepares true head target result book (was_told old before disk) (is_told date new now disk_now) Left
     → Prepares clock_tells head target result book (told answers old before disk) (told answers_now new now disk_now) Left

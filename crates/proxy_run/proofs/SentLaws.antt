@@ -314,7 +314,7 @@ head_sent method uri version fields target named good at =
 -- what goes to an origin of a plain request is one whole request without a body
 pub whole_sent : (method uri : List ℕ) (version : Version) (received : List Field) (fields : List NamedValue) (target : Target)
     → IsToken method → All IsField received → fields ≡ named_values received → is_plain_request method fields ≡ true → IsAimedAt method uri target
-    → IsWholeRequest (forwarded method (minor_of version) fields target Empty []) (sent_head method (minor_of version) fields target) Empty [] []
+    → IsWholeRequest (forwarded method (minor_of version) fields target Empty []) (sent_head method (minor_of version) fields target) Empty []
 whole_sent method uri version received fields target named all is plain at =
     let parts = plain_parts method fields plain in
     record {
@@ -323,5 +323,5 @@ whole_sent method uri version received fields target named all is plain at =
         at_once = unfold sent_head in refl;
       };
       framed = framing_sent method (minor_of version) fields target parts.0 parts.1;
-      body = (refl, refl);
+      body = refl;
     }

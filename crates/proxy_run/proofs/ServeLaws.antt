@@ -23,6 +23,7 @@ use Rattle.proxy_run.specs.Serving.{IsRefusing, IsPrepared, LacksReply, EndsBy}
 use Rattle.proxy_run.specs.Rounds.{Round, Outcome, Refused, Replied, NoMemory, Reply, Fails, Passes, LacksMemory, Traces, IsOutcome, IsReply, IsReplied, closes_outcome, closes_reply, is_closed, course_text, gains_by, no_traces}
 use Rattle.proxy_run.specs.WireFront.{StaysAccounted}
 use Rattle.proxy_run.specs.WireText.{GrowsByFront}
+use Rattle.proxy_run.proofs.GainLaws.{none_logged}
 
 -- a round of these parts
 abbrev pub round_of : List ℕ → Outcome → Traces → List ℕ → Round
@@ -220,7 +221,7 @@ grows_first old new none same = record {
 pub nothing_gained : (clock_tells : Bool) (told : Told) → Gained clock_tells told told no_gains
 nothing_gained clock_tells told = record {
   asked = λ t few. sym (append-nil told.answers);
-  logged = sym (append-nil told.log);
+  logged = none_logged told.links;
   dialer_rose = omega arith;
   disk_rose = omega arith;
 }

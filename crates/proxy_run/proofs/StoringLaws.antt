@@ -1,13 +1,10 @@
 -- The first volume's text stands for the book of its one capture.
-use Rattle.std.proofs.Common.{◌≡◌, ℕ, ◌+◌, ◌<◌, ◌≤◌, List, [], ◌∷◌, ◌++◌, length, codes, None, inl, refl, sym, ap, subst, ◌∙◌, arith, append-nil}
-use Rattle.std.specs.Prelude.{slice_index_or, get_or, Result, Ok, Err, OnOk, Bool, IsTrue}
+use Rattle.std.proofs.Common.{◌≡◌, ℕ, ◌+◌, ◌<◌, ◌≤◌, List, [], ◌∷◌, ◌++◌, length, None, inl, refl, sym, ap, subst, ◌∙◌, arith, append-nil}
+use Rattle.std.specs.Prelude.{slice_index_or, get_or, Result, Ok, Err, OnOk, Bool, IsTrue, false}
 use lib.ListN.{set}
-use Rattle.std.specs.Str.{bytes_eq}
 use Rattle.std.proofs.lemmas.List.{drop_all}
 use Rattle.sha1.specs.Sha1.{sha1}
-use Rattle.httparse.specs.Grammar as grammar
-use Rattle.capture.specs.Message.{IsWholeResponse}
-use Rattle.capture.specs.declared.framing.Framing.{Framing}
+use Rattle.capture.specs.Captures.{HasPayload, KeepsPayload, taken_back}
 use Rattle.capture.specs.declared.book.Book.{Book}
 use Rattle.capture.specs.declared.captured.Taken.{Taken}
 use Rattle.disk_model.specs.Crash.{HasFile, Leaves}
@@ -15,9 +12,10 @@ use Rattle.disk_model.specs.Image.{Image, files_of, with_files, file_count, file
 use Rattle.disk_model.specs.ImageLaws.{file_count-with_file}
 use Rattle.disk_model.specs.declared.kind.Kind.{Kind}
 use Rattle.disk_model.specs.declared.kind.Kind.TheVariants.{Warc}
-use Rattle.warc_text.specs.Books.{KeepsPayload, IsGroupText, IsVolumeText}
+use Rattle.warc_text.specs.Books.{IsGroupText, IsVolumeText}
+use Rattle.capture.specs.Tails.{HoldsText, HoldsTexts}
 use Rattle.warc_text.specs.Records.{info_text, group_text}
-use Rattle.warc_text.specs.StandsFor.{IsLastFile, StandsFor}
+use Rattle.warc_text.specs.StandsFor.{commit_byte, StandsFor}
 use Rattle.proxy_run.specs.Storing.{with_wire, with_first, empty_book, Holds, Keeps}
 
 -- the text of the volume with this capture alone
@@ -25,18 +23,24 @@ abbrev pub first_text : List ℕ → Taken → List ℕ → List ℕ
 first_text namespace taken payload = info_text namespace 0 taken.date ++ group_text namespace 0 taken (sha1 payload) None
 
 -- the first capture keeps its wire, which has this payload
-pub keeps_payload : (namespace : List ℕ) (taken : Taken) (payload : List ℕ) (head : grammar.ResponseHead) (framing : Framing)
-    → IsWholeResponse (bytes_eq taken.method (codes "HEAD")) (taken.head ++ taken.wire) head framing taken.wire payload
+pub keeps_payload : (namespace : List ℕ) (taken : Taken) (payload : List ℕ)
+    → HasPayload false taken.method taken.head taken.wire payload
     → KeepsPayload (with_first namespace taken) 0 (with_wire taken) taken.wire payload
-keeps_payload namespace taken payload head framing whole = record {
-  placed = refl;
-  kept = refl;
-  head = head;
-  framing = framing;
-  whole = whole;
-}
+keeps_payload namespace taken payload has = record { placed = refl; kept = refl; has = has }
 
 -- ---- what the text stands for
+
+-- a capture that isn't cut is taken back as it was taken
+taken_whole : (taken : Taken) → taken.cut ≡ false → taken ≡ taken_back (with_wire taken)
+taken_whole taken whole = λ i. record {
+  method = taken.method;
+  uri = taken.uri;
+  date = taken.date;
+  request = taken.request;
+  head = taken.head;
+  wire = taken.wire;
+  cut = whole i;
+}
 
 -- the one group is in its place
 only_group : (book : Book) (group : List ℕ) → IsGroupText book 0 group → (j : ℕ) → j < 1
@@ -46,57 +50,67 @@ only_group book group is j below =
     subst (λ k. IsGroupText book (0 + k) (slice_index_or (group ∷ []) k [])) (sym e) is
 
 -- the text is that of the first volume
-pub is_volume_text : (namespace : List ℕ) (taken : Taken) (payload : List ℕ)
-    → KeepsPayload (with_first namespace taken) 0 (with_wire taken) taken.wire payload
+is_volume_text : (namespace : List ℕ) (taken : Taken) (payload : List ℕ) → taken.cut ≡ false
+    → HasPayload false taken.method taken.head taken.wire payload
     → IsVolumeText (with_first namespace taken) 0 (first_text namespace taken payload)
-is_volume_text namespace taken payload keeps =
+is_volume_text namespace taken payload whole has =
     let group = group_text namespace 0 taken (sha1 payload) None in
     record {
       volume = record { born = taken.date; captures = with_wire taken ∷ [] };
       groups = group ∷ [];
       placed = refl;
       count = refl;
-      each = only_group (with_first namespace taken) group (inl (record {
+      each = only_group (with_first namespace taken) group (record {
         stored = with_wire taken;
-        wire = taken.wire;
         payload = payload;
-        keeps = keeps;
-        composed = refl;
-      }));
+        same = None;
+        placed = refl;
+        payload_is = has;
+        refers = refl;
+        composed = ap (λ (t : Taken). group_text namespace 0 t (sha1 payload) None) (taken_whole taken whole);
+      });
       composed = ap (λ text. info_text namespace 0 taken.date ++ text) (sym (append-nil group));
     }
 
+-- a file of that text alone holds it
+holds_one : (text : List ℕ) → HoldsTexts commit_byte (text ∷ []) (text ∷ [])
+holds_one text = record {
+  enough = omega arith;
+  one_more = omega arith;
+  sealed = λ k below. absurd (omega (arith, below));
+  last = λ k at_end.
+      let e : k ≡ 0 = omega (arith, at_end) in
+      subst (λ n. HoldsText commit_byte (slice_index_or (text ∷ []) n []) (slice_index_or (text ∷ []) n [])) (sym e)
+      (record { rest = []; unfinished = inl refl; composed = sym (append-nil text) });
+  further = λ k below behind. absurd (omega (arith, below, behind));
+}
+
 -- a file of that text alone stands for the book
-pub stands_for_first : (namespace : List ℕ) (taken : Taken) (payload : List ℕ)
-    → KeepsPayload (with_first namespace taken) 0 (with_wire taken) taken.wire payload
+stands_for_first : (namespace : List ℕ) (taken : Taken) (payload : List ℕ) → taken.cut ≡ false
+    → HasPayload false taken.method taken.head taken.wire payload
     → StandsFor (first_text namespace taken payload ∷ []) (with_first namespace taken)
-stands_for_first namespace taken payload keeps =
+stands_for_first namespace taken payload whole has =
     let text = first_text namespace taken payload in
-    let whole : IsLastFile (with_first namespace taken) 0 text = record {
-      text = text;
-      rest = [];
-      volume = is_volume_text namespace taken payload keeps;
-      unfinished = inl refl;
-      composed = sym (append-nil text);
-    } in
     record {
-      enough = omega arith;
-      one_more = omega arith;
-      sealed = λ k below. absurd (omega (arith, below));
-      last = λ k at_end.
-          let e : k ≡ 0 = omega (arith, at_end) in
-          subst (λ n. IsLastFile (with_first namespace taken) n (slice_index_or (text ∷ []) n [])) (sym e) whole;
-      further = λ k below behind. absurd (omega (arith, below, behind));
+      texts = text ∷ [];
+      are = record {
+        count = refl;
+        each = λ k below.
+            let e : k ≡ 0 = omega (arith, below) in
+            subst (λ n. IsVolumeText (with_first namespace taken) n (slice_index_or (text ∷ []) n [])) (sym e)
+            (is_volume_text namespace taken payload whole has);
+      };
+      held = holds_one text;
     }
 
 -- a disk whose one Warc file has that text holds the book, durably
 pub holds_text : (namespace : List ℕ) (taken : Taken) (payload text : List ℕ) (reading : Image) (images : Image → Type 0)
-    → KeepsPayload (with_first namespace taken) 0 (with_wire taken) taken.wire payload
+    → taken.cut ≡ false → HasPayload false taken.method taken.head taken.wire payload
     → text ≡ first_text namespace taken payload → reading.warc ≡ text ∷ []
     → Leaves images (λ image. image.warc ≡ text ∷ []) → Holds reading images (with_first namespace taken)
-holds_text namespace taken payload text reading images keeps is read durable =
+holds_text namespace taken payload text reading images whole has is read durable =
     let stands : StandsFor (text ∷ []) (with_first namespace taken) =
-    subst (λ (t : List ℕ). StandsFor (t ∷ []) (with_first namespace taken)) (sym is) (stands_for_first namespace taken payload keeps) in
+    subst (λ (t : List ℕ). StandsFor (t ∷ []) (with_first namespace taken)) (sym is) (stands_for_first namespace taken payload whole has) in
     record {
       read = subst (λ files. StandsFor files (with_first namespace taken)) (sym read) stands;
       durable = λ image left. subst (λ files. StandsFor files (with_first namespace taken)) (sym (durable image left)) stands;
@@ -106,11 +120,15 @@ holds_text namespace taken payload text reading images keeps is read durable =
 
 stands_for_none : (namespace : List ℕ) → StandsFor [] (empty_book namespace)
 stands_for_none namespace = record {
-  enough = omega arith;
-  one_more = omega arith;
-  sealed = λ k below. absurd (omega (arith, below));
-  last = λ k at_end. absurd (omega (arith, at_end));
-  further = λ k below behind. absurd (omega (arith, below));
+  texts = [];
+  are = record { count = refl; each = λ k below. absurd (omega (arith, below)) };
+  held = record {
+    enough = omega arith;
+    one_more = omega arith;
+    sealed = λ k below. absurd (omega (arith, below));
+    last = λ k at_end. absurd (omega (arith, at_end));
+    further = λ k below behind. absurd (omega (arith, below));
+  };
 }
 
 none : (files : List (List ℕ)) → length files ≤ 0 → files ≡ []

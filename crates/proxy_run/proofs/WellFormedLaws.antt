@@ -1,10 +1,9 @@
 -- The capture of an exchange of the first form is well formed.
 use Rattle.std.proofs.Common.{◌≡◌, ℕ, Bool, true, false, not, ◌&&◌, ◌==◌, List, [], ◌++◌, length, map, Option, Some, None, IsTrue, refl, sym, subst, ◌∙◌, arith, if◌then◌else◌}
-use Rattle.std.specs.Prelude.{codes}
-use Rattle.std.specs.Str.{bytes_eq}
 use Rattle.std.proofs.lemmas.Bool.{and_parts, eqb-true}
 use Rattle.httparse.specs.Grammar as grammar
 use Rattle.capture.specs.Message.{IsWholeResponse}
+use Rattle.capture.specs.Methods.{asks_for_head}
 use Rattle.capture.specs.Target.{is_accepted_uri}
 use Rattle.capture.specs.WellFormed.{IsRequestOf, IsResponseTo, IsWellFormed}
 use Rattle.capture.specs.declared.framing.Framing.TheVariants.{Empty, Length}
@@ -20,7 +19,7 @@ use Rattle.proxy_run.specs.Rounds.{sent_of, taken_of}
 use Rattle.proxy_run.specs.Serving.{IsGetOf}
 use Rattle.proxy_run.proofs.AimedTargets.{aimed_at, accepted}
 use Rattle.proxy_run.proofs.SentLaws.{sent_head, sent_method, whole_sent}
-use Rattle.proxy_run.proofs.WholeAnswers.{whole_of_answer, get_is_not_head}
+use Rattle.proxy_run.proofs.WholeAnswers.{whole_of_answer, head_of_answer, get_is_not_head}
 
 -- the target of a request of the first form is an accepted one
 pub asked_uri : (site : Site) (wire : List ℕ) (head : RequestHead) (target : Target) → IsAsked site wire head target
@@ -40,7 +39,6 @@ sent_is_request site wire head target asked =
       head = sent_head head.method (minor_of head.version) fields target;
       framing = Empty;
       wire = [];
-      payload = [];
       whole = whole_sent head.method head.target head.version held.fields fields target (subst grammar.IsToken (sym of.method) is.method) is.fields of.fields asked.form.plain at;
       named = sent_method head.method (minor_of head.version) fields target;
     }
@@ -54,7 +52,7 @@ answer_is_final status n found hops h = by_test (status == 200 && not hops) refl
     by_test false e h = absurd cc
 
 -- what came back is one whole final response to it
-response_is_whole : (head : RequestHead) (given : List ℕ) (received : Received) → bytes_eq head.method (codes "HEAD") ≡ false → IsAnswer given received
+response_is_whole : (head : RequestHead) (given : List ℕ) (received : Received) → asks_for_head head.method ≡ false → IsAnswer given received
     → IsResponseTo head.method received.head.text received.wire
 response_is_whole head given received no_head answer =
     let w = whole_of_answer given received answer in
@@ -63,9 +61,8 @@ response_is_whole head given received no_head answer =
     record {
       parsed = w.0;
       framing = Length (length received.wire);
-      payload = received.wire;
-      whole = subst (λ (b : Bool). IsWholeResponse b (received.head.text ++ received.wire) w.0 (Length (length received.wire)) received.wire received.wire) (sym no_head) w.1;
-      final = omega (arith, code);
+      head_is = record { whole = head_of_answer given received answer; final = omega (arith, code) };
+      whole = subst (λ (b : Bool). IsWholeResponse b (received.head.text ++ received.wire) w.0 (Length (length received.wire)) received.wire) (sym no_head) w.1;
     }
 
 -- a request of the first form is no HEAD, its origin has the URI that was asked for, and what goes there is one request

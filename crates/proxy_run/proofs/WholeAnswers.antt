@@ -1,12 +1,14 @@
 -- An answer of the first form is one whole response, and what a plain request says of its method and target.
-use Rattle.std.proofs.Common.{◌≡◌, ℕ, true, false, not, ◌&&◌, List, ◌++◌, length, map, codes, refl, sym, ap, subst, ◌∙◌, append-nil}
+use Rattle.std.proofs.Common.{◌≡◌, ℕ, Bool, Ok, true, false, not, ◌&&◌, List, ◌++◌, length, map, codes, refl, sym, ap, subst, ◌∙◌, append-nil}
 use Rattle.std.specs.Str.{bytes_eq}
 use Rattle.std.proofs.lemmas.Bool.{and_parts}
 use Rattle.std.proofs.lemmas.Slice.Eq.{bytes_eq-Decides}
 use Rattle.httparse.specs.Grammar as grammar
+use Rattle.capture.specs.Captures.{HasPayload}
 use Rattle.capture.specs.Fields.{NamedValue, has_field}
-use Rattle.capture.specs.Framing.{content_length}
+use Rattle.capture.specs.Framing.{content_length, response_framing}
 use Rattle.capture.specs.Message.{IsResponseHeadText, BeginsWithResponse, IsWholeResponse}
+use Rattle.capture.specs.Methods.{asks_for_head}
 use Rattle.capture.specs.declared.framing.Framing.TheVariants.{Length}
 use Rattle.proxy_run.specs.declared.http_wire.head.Received.{Received}
 use Rattle.proxy_run.specs.ExchangeForms.{has_hop, is_plain_request}
@@ -26,7 +28,7 @@ begins_with_rest text h rest reads = record {
 
 -- an answer of the first form is one whole response, and its status is the one that was read
 pub whole_of_answer : (given : List ℕ) (received : Received) → IsAnswer given received
-    → (h : grammar.ResponseHead) × IsWholeResponse false (received.head.text ++ received.wire) h (Length (length received.wire)) received.wire received.wire
+    → (h : grammar.ResponseHead) × IsWholeResponse false (received.head.text ++ received.wire) h (Length (length received.wire)) received.wire
     × (grammar.status_code h ≡ received.head.status)
 whole_of_answer given received answer =
     let held = answer.reads.holds in
@@ -37,16 +39,38 @@ whole_of_answer given received answer =
             (begins_with_rest _ held.0 received.wire of.reads);
         framed = response_framing-plain received.head.status (length received.wire) (map named_value received.head.fields)
             answer.form held.0 (sym of.status) (sym of.fields);
-        body = (refl, refl);
+        body = refl;
       },
       sym of.status,
     )
 
+-- its head is the head of that response
+pub head_of_answer : (given : List ℕ) (received : Received) (answer : IsAnswer given received)
+    → IsResponseHeadText received.head.text (whole_of_answer given received answer).0
+unfolding whole_of_answer
+head_of_answer given received answer =
+    let of = answer.reads.holds.1 in
+    subst (λ t. IsResponseHeadText t answer.reads.holds.0) (sym of.text_is) of.reads
+
+-- the wire of an answer of the first form is its payload
+pub payload_of_answer : (method : List ℕ) (given : List ℕ) (received : Received) → asks_for_head method ≡ false → IsAnswer given received
+    → HasPayload false method received.head.text received.wire received.wire
+payload_of_answer method given received no_head answer =
+    let w = whole_of_answer given received answer in
+    record {
+      parsed = w.0;
+      framing = Length (length received.wire);
+      whole = head_of_answer given received answer;
+      framed = subst (λ (b : Bool). response_framing b w.0 ≡ Ok (Length (length received.wire))) (sym no_head) w.1.framed;
+      wire_is = refl;
+      decoded = refl;
+    }
+
 -- a plain request is no HEAD
 pub get_is_not_head : (method : List ℕ) (fields : List NamedValue) → is_plain_request method fields ≡ true
-    → bytes_eq method (codes "HEAD") ≡ false
+    → asks_for_head method ≡ false
 get_is_not_head method fields plain =
     let parts = and_parts (bytes_eq method (codes "GET") && not (has_field content_length fields)) (not (has_hop fields)) plain in
     let get = and_parts (bytes_eq method (codes "GET")) (not (has_field content_length fields)) parts.0 in
     let same : method ≡ codes "GET" = (bytes_eq-Decides method (codes "GET")).0 get.0 in
-    ap (λ m. bytes_eq m (codes "HEAD")) same
+    ap asks_for_head same

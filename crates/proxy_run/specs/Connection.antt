@@ -14,15 +14,6 @@ use Rattle.proxy_run.specs.Rounds.{Round, IsCourse, course_text, is_closed, has_
 use Rattle.proxy_run.specs.WireFront.{StaysAccounted}
 use Rattle.proxy_run.specs.WireText.{GrowsByFront}
 
--- what went over a link so far, as its type tells it
-abbrev pub heard_of : {L : Type 0} → (L → List ℕ) → (L → Bool) → (L → List ℕ) → (L → ℕ) → L → Heard
-heard_of given ended taken faults link = record {
-  given = given link;
-  ended = ended link;
-  written = taken link;
-  faults = faults link;
-}
-
 -- A text was written, or a front of it where the link failed. Nothing was read.
 pub record Writes (text : List ℕ) (then now : Heard) : Type 0 where
   pub same_given : now.given ≡ then.given

@@ -1,6 +1,7 @@
 -- What fetching an answer of the first form leaves.
-use Rattle.std.specs.Prelude.{◌≡◌, ℕ, ◌<◌, ◌≤◌, ◌⊎◌, Bool, true, List, [], ◌∷◌, ◌++◌, length, Result, Ok, Err, ⊤}
+use Rattle.std.specs.Prelude.{◌≡◌, ℕ, ◌<◌, ◌≤◌, ◌⊎◌, Bool, true, List, length, Result, Ok, Err, ⊤}
 use Rattle.outside.specs.declared.dialer.Transcript.{Transcript}
+use Rattle.outside.specs.Records.{Links, logged}
 use Rattle.capture.specs.Faults.{Rose}
 use Rattle.capture.specs.declared.limits.TheConstants.{HEAD_LIMIT}
 use Rattle.proxy_run.specs.declared.exchange.aim.Target.{Target}
@@ -44,14 +45,14 @@ pub record IsFetch (target : Target) (request : List ℕ) (result : Result Recei
   pub sent : Sends result request t.sent
   pub received : Receives result t.given t.ended
 
--- The log gains the transcript of the fetch.
-pub record LogsTranscript (target : Target) (request : List ℕ) (result : Result Received FetchFault) (old new : List Transcript) : Type 0 where
+-- The log gains the transcript of the fetch, and no link is left out.
+pub record LogsTranscript (target : Target) (request : List ℕ) (result : Result Received FetchFault) (old new : Links Transcript) : Type 0 where
   pub t : Transcript
-  pub gains : new ≡ old ++ t ∷ []
+  pub gains : new ≡ logged old t
   pub fetch : IsFetch target request result t
 
--- The log gains the transcript of the fetch, or nothing where no link was made.
-abbrev pub LogsFetch : Target → List ℕ → Result Received FetchFault → List Transcript → List Transcript → Type 0
+-- The log gains the transcript of the fetch, or nothing where no link was made; no link is left out.
+abbrev pub LogsFetch : Target → List ℕ → Result Received FetchFault → Links Transcript → Links Transcript → Type 0
 LogsFetch target request (Err DialFault) old new = new ≡ old
 LogsFetch target request (Err Memory) old new = (new ≡ old) ⊎ LogsTranscript target request (Err Memory) old new
 LogsFetch target request (Ok received) old new = LogsTranscript target request (Ok received) old new

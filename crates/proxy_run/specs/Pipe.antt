@@ -1,6 +1,7 @@
 -- What the command `pipe` does with the gate's first connection.
-use Rattle.std.specs.Prelude.{◌≡◌, ◌≢◌, ℕ, ◌⊎◌, Bool, true, false, List, [], ◌∷◌, ◌++◌, codes, ⊤, IsTrue}
+use Rattle.std.specs.Prelude.{◌≡◌, ◌≢◌, ℕ, ◌⊎◌, Bool, true, false, List, [], codes, ⊤, IsTrue}
 use Rattle.outside.specs.declared.gate.Heard.{Heard}
+use Rattle.outside.specs.Gate.{Connections, one_served}
 use Rattle.capture.specs.declared.book.Book.{Book}
 use Rattle.capture.specs.declared.site.Site.{Site}
 use Rattle.capture.specs.Faults.{Rose}
@@ -37,23 +38,23 @@ IsEnd Memory = ⊤
 abbrev pub unheard : Heard
 unheard = record { given = []; ended = false; written = []; faults = 0 }
 
--- One connection was served and is all that the gate's log gained. The archive was empty before.
-pub record ServesOne (clock_tells : Bool) (namespace : List ℕ) (old new : List Heard) (was is : Told) (Left : Book → Type 0) (status : Status) : Type 0 where
+-- One connection was served and hung up, and is all that the gate gave. The archive was empty before.
+pub record ServesOne (clock_tells : Bool) (namespace : List ℕ) (old new : Connections) (was is : Told) (Left : Book → Type 0) (status : Status) : Type 0 where
   pub heard : Heard
   pub ended_as : Served
-  pub logged : new ≡ old ++ heard ∷ []
+  pub logged : new ≡ one_served old heard
   pub connection : IsConnection clock_tells pipe_site (empty_book namespace) [] unheard heard was is Left ended_as
   pub status_is : status ≡ status_of ended_as
 
 -- The gate gave no connection, for a reason. Nothing is gained, and the archive is empty.
-pub record ServesNone (was_closed : Bool) (gate_before gate_now : ℕ) (namespace : List ℕ) (old new : List Heard) (was is : Told) (Left : Book → Type 0) (status : Status) : Type 0 where
-  pub same_log : new ≡ old
+pub record ServesNone (was_closed : Bool) (gate_before gate_now : ℕ) (namespace : List ℕ) (old new : Connections) (was is : Told) (Left : Book → Type 0) (status : Status) : Type 0 where
+  pub same_connections : new ≡ old
   pub nothing_gained : is ≡ was
   pub left : Left (empty_book namespace)
   pub reason : ((was_closed ≡ true) × (status ≡ Done)) ⊎ (Rose gate_before gate_now × (status ≡ Outside)) ⊎ (status ≡ Memory)
 
 -- The gate's first connection was served, or there was none.
-abbrev pub Serves : Bool → List ℕ → Bool → ℕ → ℕ → List Heard → List Heard → Told → Told → (Book → Type 0) → Status → Type 0
+abbrev pub Serves : Bool → List ℕ → Bool → ℕ → ℕ → Connections → Connections → Told → Told → (Book → Type 0) → Status → Type 0
 Serves clock_tells namespace was_closed gate_before gate_now old new was is Left status =
     ServesOne clock_tells namespace old new was is Left status
     ⊎ ServesNone was_closed gate_before gate_now namespace old new was is Left status

@@ -2,6 +2,7 @@
 use Rattle.std.specs.Prelude.{◌≡◌, ℕ, ◌⊎◌, Bool, true, false, ◌||◌, List, [], ◌∷◌, map, ⊤}
 use Rattle.std.specs.List.{flat_map}
 use Rattle.outside.specs.declared.dialer.Transcript.{Transcript}
+use Rattle.capture.specs.Captures.{KeepsPayload}
 use Rattle.capture.specs.WellFormed.{IsWellFormed}
 use Rattle.capture.specs.declared.book.Book.{Book}
 use Rattle.capture.specs.declared.captured.Taken.{Taken}
@@ -15,7 +16,6 @@ use Rattle.proxy_run.specs.declared.http_wire.head.RequestHead.{RequestHead}
 use Rattle.proxy_run.specs.declared.http_wire.head.Version.{Version}
 use Rattle.proxy_run.specs.declared.http_wire.head.Version.TheVariants.{Http10, Http11}
 use Rattle.time_text.specs.Texts.{InRange}
-use Rattle.warc_text.specs.Books.{KeepsPayload}
 use Rattle.proxy_run.specs.FirstRequest.{IsAsked, IsRefused}
 use Rattle.proxy_run.specs.FirstAnswer.{IsAnswer, IsNoAnswer, IsPartOfAnswer}
 use Rattle.proxy_run.specs.Gains.{Gains, no_gains, both_gains}
@@ -101,6 +101,7 @@ taken_of head target date received = record {
   request = sent_of head target;
   head = received.head.text;
   wire = received.wire;
+  cut = false;
 }
 
 -- HTTP/1.0 has one request a connection

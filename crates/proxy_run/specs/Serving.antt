@@ -1,13 +1,14 @@
 -- What the steps of serving a connection leave.
-use Rattle.std.specs.Prelude.{◌≡◌, ◌≢◌, ℕ, ◌≤◌, ◌⊎◌, Bool, true, false, List, ◌++◌, codes, Option, Some, None, Result, Ok, Err, IsTrue, ⊤}
-use Rattle.std.specs.Str.{bytes_eq}
+use Rattle.std.specs.Prelude.{◌≡◌, ◌≢◌, ℕ, ◌≤◌, ◌⊎◌, Bool, true, false, List, ◌++◌, Option, Some, None, Result, Ok, Err, IsTrue, ⊤}
 use Rattle.outside.specs.declared.gate.Heard.{Heard}
 use Rattle.capture.specs.declared.refusal.Refusal.{Refusal}
 use Rattle.capture.specs.declared.memory.Memory.{Memory}
 use Rattle.capture.specs.declared.book.Book.{Book}
 use Rattle.capture.specs.declared.captured.Taken.{Taken}
+use Rattle.capture.specs.Captures.{KeepsPayload}
 use Rattle.capture.specs.Faults.{Rose}
 use Rattle.capture.specs.Message.{IsRequestHeadText}
+use Rattle.capture.specs.Methods.{asks_for_head}
 use Rattle.capture.specs.Target.{is_accepted_uri}
 use Rattle.capture.specs.WellFormed.{IsRequestOf, IsWellFormed}
 use Rattle.capture.specs.declared.refusal.Refusal.TheVariants.{Malformed, NotBuilt, DiskFault}
@@ -29,7 +30,6 @@ use Rattle.proxy_run.specs.Heads.{HoldsRequest}
 use Rattle.proxy_run.specs.Gains.{Gained, Told}
 use Rattle.proxy_run.specs.Rounds.{Reply, LacksMemory, IsReply, IsReplied, Traces, closes_reply, gains_by, Replied, passed_on, sent_of, taken_of}
 use Rattle.proxy_run.specs.Storing.{empty_book, with_first, with_wire}
-use Rattle.warc_text.specs.Books.{KeepsPayload}
 use Rattle.proxy_run.specs.WireFront.{StaysAccounted}
 use Rattle.proxy_run.specs.Connection.{Writes}
 use Rattle.proxy_run.specs.Refusals.{refusal_text, memory_text}
@@ -179,7 +179,7 @@ Keeping head target date received closes namespace before now Left (Err e) =
 -- The request is a GET, the target is the one that it asks and is accepted, and what goes to its origin is one whole
 -- request.
 pub record IsGetOf (head : RequestHead) (target : Target) : Type 0 where
-  pub no_head : bytes_eq head.method (codes "HEAD") ≡ false
+  pub no_head : asks_for_head head.method ≡ false
   pub uri : target.uri ≡ head.target
   pub accepted : IsTrue (is_accepted_uri head.target)
   pub sent : IsRequestOf head.method (sent_of head target)

@@ -8,7 +8,6 @@ mod forward;
 mod lines;
 mod members;
 mod plain;
-mod put;
 mod refuse;
 #[cfg(test)]
 mod samples;

@@ -1,7 +1,8 @@
 //! The command `pipe`: the gate's first connection.
 ghost use Rattle.std.specs.Prelude.{◌≡◌, ◌<◌, ◌≤◌, ◌⊎◌, [], IsTrue, IfOk};
+ghost use Rattle.outside.specs.Gate.{Connections, heard_of, one_given};
 ghost use Rattle.outside.specs.Link.{IsFresh};
-ghost use Rattle.proxy_run.specs.Connection.{IsConnection, heard_of};
+ghost use Rattle.proxy_run.specs.Connection.{IsConnection};
 ghost use Rattle.proxy_run.specs.Gains.{told_of};
 ghost use Rattle.proxy_run.specs.Pipe as spec;
 ghost use Rattle.proxy_run.specs.Pipe.{pipe_site, Serves, ServesOne};
@@ -25,9 +26,9 @@ pub fn pipe<D: Disk, G: Gate, N: Dialer, C: Clock>(
 ) -> Status
     requires empty { IsTrue D.tells → (D.reading archive.old.disk).warc ≡ [] }
     ensures serves { IsTrue G.Link.tells → IsTrue N.Link.tells → Serves C.tells archive.old.namespace
-        (G.closed gate.old) (G.faults gate.old) (G.faults gate.new) (G.log gate.old) (G.log gate.new)
-        (told_of C.answers N.log N.faults D.faults clock.old dialer.old archive.old.disk)
-        (told_of C.answers N.log N.faults D.faults clock.new dialer.new archive.new.disk)
+        (G.closed gate.old) (G.faults gate.old) (G.faults gate.new) (G.connections gate.old) (G.connections gate.new)
+        (told_of C.answers N.links N.faults D.faults clock.old dialer.old archive.old.disk)
+        (told_of C.answers N.links N.faults D.faults clock.new dialer.new archive.new.disk)
         (Keeps D.tells (D.faults archive.old.disk) (D.faults archive.new.disk) (D.reading archive.new.disk) (D.images archive.new.disk)
         (empty_book archive.old.namespace)) result }
     ensures ends { spec.IsEnd result }
@@ -42,7 +43,7 @@ pub fn pipe<D: Disk, G: Gate, N: Dialer, C: Clock>(
     }
 }
 
-/// Serves a fresh connection, and hangs it up.
+/// Serves a fresh connection, which the gate gave last, and hangs it up.
 fn serve_link<D: Disk, G: Gate, N: Dialer, C: Clock>(
     alloc: Global,
     archive: &mut Archive<D>,
@@ -52,13 +53,14 @@ fn serve_link<D: Disk, G: Gate, N: Dialer, C: Clock>(
     clock: &mut C,
 ) -> Status
     requires empty { IsTrue D.tells → (D.reading archive.old.disk).warc ≡ [] }
-    requires out { IsTrue G.Link.tells → 0 < G.out gate.old }
+    requires out { IsTrue G.Link.tells → 0 < (G.connections gate.old).out }
     requires no_fault { G.Link.faults link ≡ 0 }
-    requires fresh { IsTrue G.Link.tells → IsFresh G.Link.given G.Link.taken G.Link.ended link }
-    ensures serves { IsTrue G.Link.tells → IsTrue N.Link.tells → ServesOne C.tells archive.old.namespace
-        (G.log gate.old) (G.log gate.new)
-        (told_of C.answers N.log N.faults D.faults clock.old dialer.old archive.old.disk)
-        (told_of C.answers N.log N.faults D.faults clock.new dialer.new archive.new.disk)
+    requires fresh { IsTrue G.Link.tells → IsFresh (G.Link.traffic link) }
+    ensures serves { IsTrue G.Link.tells → IsTrue N.Link.tells
+        → (before : Connections) → G.connections gate.old ≡ one_given before → ServesOne C.tells archive.old.namespace
+        before (G.connections gate.new)
+        (told_of C.answers N.links N.faults D.faults clock.old dialer.old archive.old.disk)
+        (told_of C.answers N.links N.faults D.faults clock.new dialer.new archive.new.disk)
         (Keeps D.tells (D.faults archive.old.disk) (D.faults archive.new.disk) (D.reading archive.new.disk) (D.images archive.new.disk)
         (empty_book archive.old.namespace)) result }
     ensures ends { spec.IsEnd result }
@@ -81,9 +83,9 @@ fn serve_site<D: Disk, L: Link, N: Dialer, C: Clock>(
     requires no_fault { L.faults client.old ≡ 0 }
     requires empty { IsTrue D.tells → (D.reading archive.old.disk).warc ≡ [] }
     ensures serves { IsTrue L.tells → IsTrue N.Link.tells → IsConnection C.tells pipe_site (empty_book archive.old.namespace) []
-        (heard_of L.given L.ended L.taken L.faults client.old) (heard_of L.given L.ended L.taken L.faults client.new)
-        (told_of C.answers N.log N.faults D.faults clock.old dialer.old archive.old.disk)
-        (told_of C.answers N.log N.faults D.faults clock.new dialer.new archive.new.disk)
+        (heard_of (L.traffic client.old) (L.faults client.old)) (heard_of (L.traffic client.new) (L.faults client.new))
+        (told_of C.answers N.links N.faults D.faults clock.old dialer.old archive.old.disk)
+        (told_of C.answers N.links N.faults D.faults clock.new dialer.new archive.new.disk)
         (Keeps D.tells (D.faults archive.old.disk) (D.faults archive.new.disk) (D.reading archive.new.disk) (D.images archive.new.disk)
         (empty_book archive.old.namespace)) result }
 {

@@ -7,9 +7,6 @@ ghost use Rattle.proxy_run.specs.Storing.{Keeps, empty_book};
 ghost use Rattle.proxy_run.specs.Words.{command_of};
 ghost use Rattle.proxy_run.specs.declared.words.Command.TheVariants.{Pipe};
 
-#[cfg(test)]
-mod tests;
-
 use crate::archive::Archive;
 use crate::http_wire::print_all;
 use crate::piping::pipe;
@@ -85,9 +82,9 @@ where
         ((gate.new ≡ gate.old) × (crew.new.members.items ≡ crew.old.members.items)) result.status
         ⊎ OpensEmpty D.tells (D.reading disk).warc (out.new ≡ out.old) (G.faults gate.new ≡ G.faults gate.old)
         (IsTrue G.Link.tells → IsTrue N.Link.tells → Serves C.tells namespace
-        (G.closed gate.old) (G.faults gate.old) (G.faults gate.new) (G.log gate.old) (G.log gate.new)
-        (told_of C.answers N.log N.faults D.faults (slice_index_or crew.old.members.items 0 d).1 (slice_index_or crew.old.members.items 0 d).0 disk)
-        (told_of C.answers N.log N.faults D.faults (slice_index_or crew.new.members.items 0 d).1 (slice_index_or crew.new.members.items 0 d).0 result.disk)
+        (G.closed gate.old) (G.faults gate.old) (G.faults gate.new) (G.connections gate.old) (G.connections gate.new)
+        (told_of C.answers N.links N.faults D.faults (slice_index_or crew.old.members.items 0 d).1 (slice_index_or crew.old.members.items 0 d).0 disk)
+        (told_of C.answers N.links N.faults D.faults (slice_index_or crew.new.members.items 0 d).1 (slice_index_or crew.new.members.items 0 d).0 result.disk)
         (Keeps D.tells (D.faults disk) (D.faults result.disk) (D.reading result.disk) (D.images result.disk) (empty_book namespace))
         result.status) result.status }
     ensures same_others { drop 1 crew.new.members.items ≡ drop 1 crew.old.members.items }

@@ -3,7 +3,8 @@ ghost use Rattle.std.specs.Prelude.{◌≡◌, ◌≤◌, ◌++◌, [], ℕ, Lis
 ghost use Rattle.capture.specs.declared.book.Book.{Book};
 ghost use Rattle.capture.specs.declared.site.Site.{Site};
 ghost use Rattle.capture.specs.Faults.{Rose, CountsFaults};
-ghost use Rattle.proxy_run.specs.Connection.{IsConnection, GoesOn, Writes, heard_of};
+ghost use Rattle.outside.specs.Gate.{heard_of};
+ghost use Rattle.proxy_run.specs.Connection.{IsConnection, GoesOn, Writes};
 ghost use Rattle.proxy_run.specs.FirstRequest.{IsAsked};
 ghost use Rattle.proxy_run.specs.Gains.{no_gains, told_of};
 ghost use Rattle.proxy_run.specs.Refusals.{memory_text};
@@ -55,9 +56,9 @@ pub fn serve<D: Disk, L: Link, N: Dialer, C: Clock>(
     requires no_fault { L.faults client.old ≡ 0 }
     requires empty { IsTrue D.tells → (D.reading archive.old.disk).warc ≡ [] }
     ensures serves { IsTrue L.tells → IsTrue N.Link.tells → IsConnection C.tells site.now (empty_book archive.old.namespace) []
-        (heard_of L.given L.ended L.taken L.faults client.old) (heard_of L.given L.ended L.taken L.faults client.new)
-        (told_of C.answers N.log N.faults D.faults clock.old dialer.old archive.old.disk)
-        (told_of C.answers N.log N.faults D.faults clock.new dialer.new archive.new.disk)
+        (heard_of (L.traffic client.old) (L.faults client.old)) (heard_of (L.traffic client.new) (L.faults client.new))
+        (told_of C.answers N.links N.faults D.faults clock.old dialer.old archive.old.disk)
+        (told_of C.answers N.links N.faults D.faults clock.new dialer.new archive.new.disk)
         (Keeps D.tells (D.faults archive.old.disk) (D.faults archive.new.disk) (D.reading archive.new.disk) (D.images archive.new.disk)
         (empty_book archive.old.namespace)) result }
     ensures later { L.faults client.old ≤ L.faults client.new }
@@ -102,9 +103,9 @@ fn answer<D: Disk, L: Link, N: Dialer, C: Clock>(
     requires empty { IsTrue D.tells → (D.reading archive.old.disk).warc ≡ [] }
     ensures serves { IsTrue L.tells → IsTrue N.Link.tells → (site : Site) (wire : List ℕ) → IsAsked site wire head target
         → IsConnection C.tells site (empty_book archive.old.namespace) (wire ++ window.old)
-        (heard_of L.given L.ended L.taken L.faults client.old) (heard_of L.given L.ended L.taken L.faults client.new)
-        (told_of C.answers N.log N.faults D.faults clock.old dialer.old archive.old.disk)
-        (told_of C.answers N.log N.faults D.faults clock.new dialer.new archive.new.disk)
+        (heard_of (L.traffic client.old) (L.faults client.old)) (heard_of (L.traffic client.new) (L.faults client.new))
+        (told_of C.answers N.links N.faults D.faults clock.old dialer.old archive.old.disk)
+        (told_of C.answers N.links N.faults D.faults clock.new dialer.new archive.new.disk)
         (Keeps D.tells (D.faults archive.old.disk) (D.faults archive.new.disk) (D.reading archive.new.disk) (D.images archive.new.disk)
         (empty_book archive.old.namespace)) result }
     ensures later { L.faults client.old ≤ L.faults client.new }
@@ -128,7 +129,7 @@ fn answer<D: Disk, L: Link, N: Dialer, C: Clock>(
 fn go_on<L: Link>(alloc: Global, client: &mut L, window: &mut Window) -> Served
     requires { L.faults client.old ≡ 0 }
     ensures goes { IsTrue L.tells → (site : Site) (book : Book) → GoesOn site true book book window.old
-        (heard_of L.given L.ended L.taken L.faults client.old) (heard_of L.given L.ended L.taken L.faults client.new)
+        (heard_of (L.traffic client.old) (L.faults client.old)) (heard_of (L.traffic client.new) (L.faults client.new))
         no_gains result }
     ensures later { L.faults client.old ≤ L.faults client.new }
     ensures broke { result ≡ Served.ClientBroke → Rose (L.faults client.old) (L.faults client.new) }
@@ -145,7 +146,7 @@ fn go_on<L: Link>(alloc: Global, client: &mut L, window: &mut Window) -> Served
 /// Refuses bytes for themselves.
 fn refuse<L: Link>(alloc: Global, client: &mut L, refusal: Refusal) -> Served
     ensures refuses { IsTrue L.tells → IsRefusing refusal result
-        (heard_of L.given L.ended L.taken L.faults client.old) (heard_of L.given L.ended L.taken L.faults client.new) }
+        (heard_of (L.traffic client.old) (L.faults client.old)) (heard_of (L.traffic client.new) (L.faults client.new)) }
     ensures later { L.faults client.old ≤ L.faults client.new }
     ensures broke { result ≡ Served.ClientBroke → Rose (L.faults client.old) (L.faults client.new) }
 {
@@ -162,7 +163,7 @@ fn refuse<L: Link>(alloc: Global, client: &mut L, refusal: Refusal) -> Served
 /// Writes an answer.
 fn say<L: Link>(client: &mut L, text: &[u8]) -> Result<(), Failed>
     ensures writes { IsTrue L.tells → Writes text.now
-        (heard_of L.given L.ended L.taken L.faults client.old) (heard_of L.given L.ended L.taken L.faults client.new) }
+        (heard_of (L.traffic client.old) (L.faults client.old)) (heard_of (L.traffic client.new) (L.faults client.new)) }
     ensures counts { CountsFaults (L.faults client.old) (L.faults client.new) result }
 {
     write_all(client, text)
@@ -172,7 +173,7 @@ fn say<L: Link>(client: &mut L, text: &[u8]) -> Result<(), Failed>
 pub fn give_up<L: Link>(client: &mut L) -> Served
     ensures ends { result ≡ Served.WantOfMemory }
     ensures writes { IsTrue L.tells → Writes memory_text
-        (heard_of L.given L.ended L.taken L.faults client.old) (heard_of L.given L.ended L.taken L.faults client.new) }
+        (heard_of (L.traffic client.old) (L.faults client.old)) (heard_of (L.traffic client.new) (L.faults client.new)) }
     ensures later { L.faults client.old ≤ L.faults client.new }
 {
     let _ = say(client, memory_text());

@@ -1,11 +1,8 @@
 //! The archive's first capture, written and synced.
-ghost use Rattle.std.specs.Prelude.{◌≡◌, ◌<◌, ◌∷◌, ◌++◌, [], IsTrue, IfOk, OnOk, Err, None, codes};
-ghost use Rattle.std.specs.Str.{bytes_eq};
-ghost use Rattle.httparse.specs.Grammar as grammar;
+ghost use Rattle.std.specs.Prelude.{◌≡◌, ◌<◌, ◌∷◌, ◌++◌, [], IsTrue, IfOk, OnOk, Err, None, false};
 ghost use Rattle.sha1.specs.Sha1.{sha1};
+ghost use Rattle.capture.specs.Captures.{HasPayload};
 ghost use Rattle.capture.specs.Faults.{CountsFaults};
-ghost use Rattle.capture.specs.Message.{IsWholeResponse};
-ghost use Rattle.capture.specs.declared.framing.Framing.{Framing};
 ghost use Rattle.disk_model.specs.Crash.{Leaves, HasFile};
 ghost use Rattle.disk_model.specs.Image.{file_count, file_of, with_file, written};
 ghost use Rattle.time_text.specs.Texts.{InRange};
@@ -17,7 +14,7 @@ use digest32::payload_digest;
 use disk_model::{Disk, Kind};
 use std::alloc::Global;
 use uuid::Uuid;
-use warc_text::{group_text, info_text};
+use warc_text::{put_group, put_info};
 
 /// Why a capture wasn't stored.
 #[derive(Clone, Copy, Debug, PartialEq, Eq)]
@@ -29,7 +26,7 @@ pub enum StoreFault {
 }
 
 /// Stores the first exchange of an archive: volume 0 with its warcinfo and the one group, written and synced. All
-/// memory is taken before the first call of the disk. `payload` is that of the response.
+/// memory is taken before the first call of the disk. `payload` is that of the response, which is whole.
 pub fn store_first<D: Disk>(
     alloc: Global,
     disk: &mut D,
@@ -39,8 +36,7 @@ pub fn store_first<D: Disk>(
 ) -> Result<(), StoreFault>
     requires date { InRange taken.now.date }
     requires empty { IsTrue D.tells → (D.reading disk.old).warc ≡ [] }
-    ensures holds { IsTrue D.tells → (head : grammar.ResponseHead) (framing : Framing)
-        → IsWholeResponse (bytes_eq taken.now.method (codes "HEAD")) (taken.now.head ++ taken.now.wire) head framing taken.now.wire payload.now
+    ensures holds { IsTrue D.tells → taken.now.cut ≡ false → HasPayload false taken.now.method taken.now.head taken.now.wire payload.now
         → OnOk result (Holds (D.reading disk.new) (D.images disk.new) (with_first namespace.now taken.now)) }
     ensures untouched { result ≡ Err StoreFault.Memory → disk.new ≡ disk.old }
     ensures counts { CountsStore (D.faults disk.old) (D.faults disk.new) result }
@@ -66,11 +62,10 @@ fn volume_text(
     ensures { IfOk result (λ text. text ≡ spec.info_text namespace.now 0 taken.now.date
         ++ spec.group_text namespace.now 0 taken.now (sha1 payload.now) None) }
 {
-    let info = info_text(alloc, namespace, 0, taken.date)?;
     let digest = payload_digest(payload);
-    let group = group_text(alloc, namespace, 0, taken, &digest, None)?;
-    let mut text = info.into_vec();
-    text.extend_from_slice(group.as_slice())?;
+    let mut text = Vec::new(alloc);
+    put_info(&mut text, namespace, 0, taken.date)?;
+    put_group(&mut text, namespace, 0, taken, &digest, None)?;
     Ok(Bytes::of(text))
 }
 

@@ -7,7 +7,7 @@ ghost use Rattle.proxy_run.specs.Aim.{IsAim};
 
 use super::aim::{Aim, AimFault, Target};
 use crate::http_wire::RequestHead;
-use capture::{Memory, Site, Text, accepted_url};
+use capture::{Memory, Site, Text, accepted_url, authority_len, is_target_text};
 use std::alloc::Global;
 use url::Url;
 
@@ -92,15 +92,6 @@ fn after_authority(target: &[u8]) -> &[u8]
     path
 }
 
-fn authority_len(rest: &[u8]) -> usize
-    ensures value { result ≡ target_spec.authority_len rest.now }
-    ensures within { result ≤ length rest.now }
-{
-    rest.iter()
-        .take_while(|&&b| !(b == b'/' || b == b'?'))
-        .count()
-}
-
 /// The host's text, an IPv6 address in brackets.
 fn host_of(url: &Url) -> &str
     ensures { result.now ≡ target_spec.host_of url.now }
@@ -138,18 +129,6 @@ fn ascii_text(alloc: Global, bytes: &[u8]) -> Result<Text, Memory>
     ensures { IfOk result (λ text. text ≡ bytes.now) }
 {
     Ok(Text::of(Vec::from_slice(alloc, bytes)?).unwrap())
-}
-
-fn is_target_text(target: &[u8]) -> bool
-    ensures { result ≡ target_spec.is_target_text target.now }
-{
-    target.iter().all(|b| is_target_byte(*b))
-}
-
-fn is_target_byte(b: u8) -> bool
-    ensures { result ≡ target_spec.is_target_byte b }
-{
-    b >= 33 && b <= 126 && !b"\"<>\\#".contains(&b)
 }
 
 #[cfg(test)]

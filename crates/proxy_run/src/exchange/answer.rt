@@ -6,9 +6,8 @@ ghost use Rattle.proxy_run.specs.Texts.{answered, length_line_unless};
 
 use super::filter::put_client_fields;
 use super::lines::{put_close_line, put_length_line, put_line_end, put_status_line, put_via_line};
-use super::put::put_all;
 use crate::http_wire::Received;
-use capture::{Bytes, Memory};
+use capture::{Bytes, Memory, put_all};
 use std::alloc::Global;
 
 /// More than what the proxy adds to a head.
@@ -86,19 +85,6 @@ mod tests {
             framing: Framing::ToEnd,
             wire: Bytes::of(Vec::new(alloc)),
         })
-    }
-
-    #[test]
-    fn answers_in_62_bytes(rt: HostRuntime) -> Result<(), Fail> {
-        let alloc = rt.alloc();
-        let received = received(alloc, 200, "OK", &[("Content-Length", "5")])?;
-        let text = client_text(alloc, &received, b"hello", false, false)?;
-        assert_eq!(rt; text.as_slice().len(), 62);
-        assert_eq!(rt;
-            text.as_slice(),
-            b"HTTP/1.1 200 OK\r\nVia: 1.1 memproxy\r\nContent-Length: 5\r\n\r\nhello".as_slice()
-        );
-        Ok(())
     }
 
     #[test]

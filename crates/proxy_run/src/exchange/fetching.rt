@@ -37,7 +37,7 @@ pub fn fetch<N: Dialer>(
     target: &Target,
     request: &[u8],
 ) -> Result<Received, FetchFault>
-    ensures logs { IsTrue N.Link.tells → LogsFetch target.now request.now result (N.log dialer.old) (N.log dialer.new) }
+    ensures logs { IsTrue N.Link.tells → LogsFetch target.now request.now result (N.links dialer.old) (N.links dialer.new) }
     ensures counts { CountsFetch (N.faults dialer.old) (N.faults dialer.new) result }
 {
     let mut link = match dialer.dial(target.host.as_str(), target.port) {
@@ -52,12 +52,12 @@ pub fn fetch<N: Dialer>(
 
 /// Writes the request to a fresh link and reads the response.
 fn ask<L: Link>(alloc: Global, link: &mut L, request: &[u8]) -> Result<Received, FetchFault>
-    requires { IsTrue L.tells → IsFresh L.given L.taken L.ended link.old }
-    ensures sends { IsTrue L.tells → Sends result request.now (L.taken link.new) }
-    ensures receives { IsTrue L.tells → Receives result (L.given link.new) (L.ended link.new) }
+    requires { IsTrue L.tells → IsFresh (L.traffic link.old) }
+    ensures sends { IsTrue L.tells → Sends result request.now (L.traffic link.new).taken }
+    ensures receives { IsTrue L.tells → Receives result (L.traffic link.new).given (L.traffic link.new).ended }
     ensures counts { CountsFetch (L.faults link.old) (L.faults link.new) result }
-    ensures same_host { IsTrue L.tells → L.host link.new ≡ L.host link.old }
-    ensures same_port { IsTrue L.tells → L.port link.new ≡ L.port link.old }
+    ensures same_host { IsTrue L.tells → (L.traffic link.new).host ≡ (L.traffic link.old).host }
+    ensures same_port { IsTrue L.tells → (L.traffic link.new).port ≡ (L.traffic link.old).port }
 {
     if write_all(link, request).is_err() {
         return Err(FetchFault::OriginFault);
@@ -67,12 +67,12 @@ fn ask<L: Link>(alloc: Global, link: &mut L, request: &[u8]) -> Result<Received,
 
 /// Reads the response from a link that has given nothing yet.
 fn receive<L: Link>(alloc: Global, link: &mut L) -> Result<Received, FetchFault>
-    requires { IsTrue L.tells → L.given link.old ≡ [] }
-    ensures receives { IsTrue L.tells → Receives result (L.given link.new) (L.ended link.new) }
+    requires { IsTrue L.tells → (L.traffic link.old).given ≡ [] }
+    ensures receives { IsTrue L.tells → Receives result (L.traffic link.new).given (L.traffic link.new).ended }
     ensures counts { CountsFetch (L.faults link.old) (L.faults link.new) result }
-    ensures same_taken { IsTrue L.tells → L.taken link.new ≡ L.taken link.old }
-    ensures same_host { IsTrue L.tells → L.host link.new ≡ L.host link.old }
-    ensures same_port { IsTrue L.tells → L.port link.new ≡ L.port link.old }
+    ensures same_taken { IsTrue L.tells → (L.traffic link.new).taken ≡ (L.traffic link.old).taken }
+    ensures same_host { IsTrue L.tells → (L.traffic link.new).host ≡ (L.traffic link.old).host }
+    ensures same_port { IsTrue L.tells → (L.traffic link.new).port ≡ (L.traffic link.old).port }
 {
     let Ok(mut window) = Window::new(alloc) else {
         return Err(FetchFault::Memory);

@@ -12,7 +12,7 @@ use super::lines::put_field_line;
 use super::members::lists;
 use crate::http_wire::Field;
 use capture::Memory;
-use name_table::{NameTable, hop};
+use name_table::{NameTable, hop_by_hop_fields};
 
 /// The table of the fields that speak of one connection.
 pub type Hop = NameTable<10>;
@@ -22,7 +22,7 @@ pub fn put_origin_fields(out: &mut Vec<u8>, fields: &[Field]) -> Result<(), Memo
     ensures { let named = map named_value fields.now in
         OnOk result (out.new.items ≡ out.old.items ++ field_lines (goes_to_origin named) named) }
 {
-    let hop = hop();
+    let hop = hop_by_hop_fields();
     for field in fields {
         if goes_to_origin(&hop, fields, field) {
             put_field_line(out, field)?;
@@ -40,7 +40,7 @@ pub fn put_client_fields(
     ensures { let named = map named_value fields.now in
         OnOk result (out.new.items ≡ out.old.items ++ field_lines (goes_to_client named keeps_length) named) }
 {
-    let hop = hop();
+    let hop = hop_by_hop_fields();
     for field in fields {
         if goes_to_client(&hop, fields, keeps_length, field) {
             put_field_line(out, field)?;

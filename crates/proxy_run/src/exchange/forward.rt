@@ -8,9 +8,8 @@ use super::filter::put_origin_fields;
 use super::lines::{
     put_close_line, put_host_line, put_length_line, put_line_end, put_request_line, put_via_line,
 };
-use super::put::put_all;
 use crate::http_wire::RequestMessage;
-use capture::{Bytes, Framing, Memory};
+use capture::{Bytes, Framing, Memory, put_all};
 use std::alloc::Global;
 
 /// More than what the proxy adds to a head, but for the host.
@@ -81,23 +80,6 @@ mod tests {
             framing: Framing::Empty,
             payload: Bytes::of(Vec::new(alloc)),
         }
-    }
-
-    #[test]
-    fn forwards_a_get_in_71_bytes(rt: HostRuntime) -> Result<(), Fail> {
-        let alloc = rt.alloc();
-        let head = samples::request(alloc, "GET", "http://a.test/x", &[("Host", "a.test")])?;
-        let text = forward_text(
-            alloc,
-            &empty(alloc, head),
-            &target(alloc, "a.test", 80, "/x")?,
-        )?;
-        assert_eq!(rt; text.as_slice().len(), 71);
-        assert_eq!(rt;
-            text.as_slice(),
-            b"GET /x HTTP/1.1\r\nHost: a.test\r\nVia: 1.1 memproxy\r\nConnection: close\r\n\r\n".as_slice()
-        );
-        Ok(())
     }
 
     #[test]

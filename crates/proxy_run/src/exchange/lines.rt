@@ -4,9 +4,8 @@ ghost use Rattle.proxy_run.specs.Heads.{minor_of, named_value};
 ghost use Rattle.proxy_run.specs.Texts.{request_line, status_line, host_line, field_line, via_line, length_line, close_line_where};
 ghost use Rattle.httparse.specs.Ascii.{crlf_bytes};
 
-use super::put::{put_all, put_number};
 use crate::http_wire::{Field, Version};
-use capture::Memory;
+use capture::{Memory, put_all, put_number};
 
 /// Puts an end of a line.
 pub fn put_line_end(out: &mut Vec<u8>) -> Result<(), Memory>

@@ -10,7 +10,7 @@ ghost use Rattle.proxy_run.specs.ExchangeForms as spec;
 use super::filter::is_content_length;
 use crate::http_wire::{Field, RequestHead, ResponseHead};
 use capture::BODY_LIMIT;
-use name_table::hop;
+use name_table::hop_by_hop_fields;
 
 /// Whether the request is a GET without a field Content-Length, and without one that no proxy passes on. It has
 /// no body then.
@@ -46,7 +46,7 @@ fn has_length(fields: &[Field]) -> bool
 fn has_hop(fields: &[Field]) -> bool
     ensures { result ≡ spec.has_hop (map named_value fields.now) }
 {
-    let hop = hop();
+    let hop = hop_by_hop_fields();
     fields.iter().any(|field| hop.has(field.name.as_slice()))
 }
 

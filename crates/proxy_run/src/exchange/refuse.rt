@@ -3,8 +3,7 @@ ghost use Rattle.std.specs.Prelude.{◌≡◌, ◌++◌, OnOk, IfOk};
 ghost use Rattle.proxy_run.specs.Refusals as spec;
 
 use super::lines::{put_close_line, put_length_line, put_line_end};
-use super::put::{put_all, put_number};
-use capture::{Bytes, Memory, Refusal};
+use capture::{Bytes, Memory, Refusal, put_all, put_number};
 use name_table::match_rows;
 use std::alloc::Global;
 
@@ -178,9 +177,11 @@ mod tests {
                 b"HTTP/1.1 405 Method Not Allowed\r\nContent-Type: text/plain\r\nAllow: GET, HEAD\r\nContent-Length: 14\r\n\r\nMethodRefused\n",
             ),
             (
-                Refusal::ClockRange { now: 253402300800 },
+                Refusal::ClockRange {
+                    now: 253402300800000,
+                },
                 false,
-                b"HTTP/1.1 500 Internal Server Error\r\nContent-Type: text/plain\r\nContent-Length: 24\r\n\r\nClockRange 253402300800\n",
+                b"HTTP/1.1 500 Internal Server Error\r\nContent-Type: text/plain\r\nContent-Length: 27\r\n\r\nClockRange 253402300800000\n",
             ),
             (
                 Refusal::Full { count: 1, limit: 1 },

@@ -25,13 +25,13 @@ pub enum BodyRead {
 pub fn read_body<L: Link>(alloc: Global, link: &mut L, window: &mut Window, length: u64) -> BodyRead
     requires { length ≤ BODY_LIMIT }
 
-    ensures accounts { IsTrue L.tells → AccountsForBody result length (L.given link.old) window.old (L.given link.new) window.new }
-    ensures meets_end { IsTrue L.tells → OnBodyEnded result (L.ended link.new ≡ true) }
+    ensures accounts { IsTrue L.tells → AccountsForBody result length (L.traffic link.old).given window.old (L.traffic link.new).given window.new }
+    ensures meets_end { IsTrue L.tells → OnBodyEnded result ((L.traffic link.new).ended ≡ true) }
     ensures counts { CountsBody (L.faults link.old) (L.faults link.new) result }
 
-    ensures same_taken { IsTrue L.tells → L.taken link.new ≡ L.taken link.old }
-    ensures same_host { IsTrue L.tells → L.host link.new ≡ L.host link.old }
-    ensures same_port { IsTrue L.tells → L.port link.new ≡ L.port link.old }
+    ensures same_taken { IsTrue L.tells → (L.traffic link.new).taken ≡ (L.traffic link.old).taken }
+    ensures same_host { IsTrue L.tells → (L.traffic link.new).host ≡ (L.traffic link.old).host }
+    ensures same_port { IsTrue L.tells → (L.traffic link.new).port ≡ (L.traffic link.old).port }
 {
     let length = length as usize;
     let mut body = Vec::new(alloc);

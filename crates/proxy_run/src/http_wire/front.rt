@@ -30,15 +30,15 @@ pub fn read_front<L: Link>(link: &mut L, window: &mut Window, reader: &mut HeadR
 
     ensures front { ReadsFront result reader.new }
     ensures accounts { IsTrue L.tells →
-        StaysAccounted (L.given link.old) (reader.old ++ window.old) (L.given link.new) (reader.new ++ window.new) }
+        StaysAccounted (L.traffic link.old).given (reader.old ++ window.old) (L.traffic link.new).given (reader.new ++ window.new) }
     ensures used { OnEnded result (window.new ≡ []) }
-    ensures meets_end { IsTrue L.tells → OnEnded result (L.ended link.new ≡ true) }
-    ensures same_end { IsTrue L.tells → UnlessEnded result (IsTrue (L.ended link.new) → IsTrue (L.ended link.old)) }
+    ensures meets_end { IsTrue L.tells → OnEnded result ((L.traffic link.new).ended ≡ true) }
+    ensures same_end { IsTrue L.tells → UnlessEnded result (IsTrue (L.traffic link.new).ended → IsTrue (L.traffic link.old).ended) }
     ensures counts { CountsFront (L.faults link.old) (L.faults link.new) result }
 
-    ensures same_taken { IsTrue L.tells → L.taken link.new ≡ L.taken link.old }
-    ensures same_host { IsTrue L.tells → L.host link.new ≡ L.host link.old }
-    ensures same_port { IsTrue L.tells → L.port link.new ≡ L.port link.old }
+    ensures same_taken { IsTrue L.tells → (L.traffic link.new).taken ≡ (L.traffic link.old).taken }
+    ensures same_host { IsTrue L.tells → (L.traffic link.new).host ≡ (L.traffic link.old).host }
+    ensures same_port { IsTrue L.tells → (L.traffic link.new).port ≡ (L.traffic link.old).port }
 {
     'reading: loop {
         if window.is_empty() {

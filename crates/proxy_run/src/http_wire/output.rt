@@ -8,14 +8,14 @@ use outside::{Link, Sink};
 
 /// Writes the whole text to a link. Where the link fails, a front of the text was taken.
 pub fn write_all<L: Link>(link: &mut L, text: &[u8]) -> Result<(), Failed>
-    ensures takes { IsTrue L.tells → OnOk result (L.taken link.new ≡ L.taken link.old ++ text.now) }
-    ensures takes_front { IsTrue L.tells → OnErr result (GrowsByFront (L.taken link.old) (L.taken link.new) text.now) }
+    ensures takes { IsTrue L.tells → OnOk result ((L.traffic link.new).taken ≡ (L.traffic link.old).taken ++ text.now) }
+    ensures takes_front { IsTrue L.tells → OnErr result (GrowsByFront (L.traffic link.old).taken (L.traffic link.new).taken text.now) }
     ensures counts { CountsFaults (L.faults link.old) (L.faults link.new) result }
 
-    ensures same_given { IsTrue L.tells → L.given link.new ≡ L.given link.old }
-    ensures same_end { IsTrue L.tells → L.ended link.new ≡ L.ended link.old }
-    ensures same_host { IsTrue L.tells → L.host link.new ≡ L.host link.old }
-    ensures same_port { IsTrue L.tells → L.port link.new ≡ L.port link.old }
+    ensures same_given { IsTrue L.tells → (L.traffic link.new).given ≡ (L.traffic link.old).given }
+    ensures same_end { IsTrue L.tells → (L.traffic link.new).ended ≡ (L.traffic link.old).ended }
+    ensures same_host { IsTrue L.tells → (L.traffic link.new).host ≡ (L.traffic link.old).host }
+    ensures same_port { IsTrue L.tells → (L.traffic link.new).port ≡ (L.traffic link.old).port }
 {
     let mut rest = text;
     'writing: while !rest.is_empty() {

@@ -1,5 +1,6 @@
 //! Tests of reading heads and of writing texts.
 ghost use Rattle.std.specs.Prelude.{◌<◌, [], false};
+ghost use Rattle.outside.specs.Link.{no_traffic};
 
 use super::front::{FrontRead, read_front};
 use super::head::{Version, WireFault};
@@ -58,15 +59,7 @@ struct ShortLink<'a> {
 impl Link for ShortLink<'_> {
     ghost tells = { false };
 
-    ghost given = { λ _. [] };
-
-    ghost ended = { λ _. false };
-
-    ghost taken = { λ _. [] };
-
-    ghost host = { λ _. [] };
-
-    ghost port = { λ _. 0 };
+    ghost traffic = { λ _. no_traffic [] 0 };
 
     ghost faults = { λ l. l.faults };
 

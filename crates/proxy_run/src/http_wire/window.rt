@@ -70,14 +70,14 @@ impl Window {
 
         ensures some { IfOk result (λ more. IsTrue more ↔ (0 < length self.new)) }
         ensures none { OnErr result (self.new ≡ []) }
-        ensures gives { IsTrue L.tells → L.given link.new ≡ L.given link.old ++ self.new }
-        ensures meets_end { IsTrue L.tells → IfOk result (λ more. L.ended link.new ≡ not more) }
-        ensures same_end { IsTrue L.tells → OnErr result (L.ended link.new ≡ L.ended link.old) }
+        ensures gives { IsTrue L.tells → (L.traffic link.new).given ≡ (L.traffic link.old).given ++ self.new }
+        ensures meets_end { IsTrue L.tells → IfOk result (λ more. (L.traffic link.new).ended ≡ not more) }
+        ensures same_end { IsTrue L.tells → OnErr result ((L.traffic link.new).ended ≡ (L.traffic link.old).ended) }
         ensures counts { CountsFaults (L.faults link.old) (L.faults link.new) result }
 
-        ensures same_taken { IsTrue L.tells → L.taken link.new ≡ L.taken link.old }
-        ensures same_host { IsTrue L.tells → L.host link.new ≡ L.host link.old }
-        ensures same_port { IsTrue L.tells → L.port link.new ≡ L.port link.old }
+        ensures same_taken { IsTrue L.tells → (L.traffic link.new).taken ≡ (L.traffic link.old).taken }
+        ensures same_host { IsTrue L.tells → (L.traffic link.new).host ≡ (L.traffic link.old).host }
+        ensures same_port { IsTrue L.tells → (L.traffic link.new).port ≡ (L.traffic link.old).port }
     {
         self.at = 0;
         self.end = 0;

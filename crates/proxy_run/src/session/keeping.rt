@@ -79,5 +79,6 @@ fn taken_of(asked: Asked, received: Received) -> Taken
         request: asked.request,
         head: response_head.text,
         wire: received.wire,
+        cut: false,
     }
 }

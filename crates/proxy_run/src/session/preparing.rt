@@ -28,8 +28,8 @@ pub fn prepare<D: Disk, N: Dialer, C: Clock>(
 ) -> Result<Prepared, Memory>
     requires empty { IsTrue D.tells → (D.reading archive.old.disk).warc ≡ [] }
     ensures prepares { IsTrue N.Link.tells → IsGetOf head target → Prepares C.tells head target result (empty_book archive.old.namespace)
-        (told_of C.answers N.log N.faults D.faults clock.old dialer.old archive.old.disk)
-        (told_of C.answers N.log N.faults D.faults clock.new dialer.new archive.new.disk)
+        (told_of C.answers N.links N.faults D.faults clock.old dialer.old archive.old.disk)
+        (told_of C.answers N.links N.faults D.faults clock.new dialer.new archive.new.disk)
         (Keeps D.tells (D.faults archive.old.disk) (D.faults archive.new.disk) (D.reading archive.new.disk) (D.images archive.new.disk)
         (empty_book archive.old.namespace)) }
     ensures end { IfOk result (λ prepared. IsEnd prepared.end) }
@@ -78,8 +78,8 @@ fn ask<D: Disk, N: Dialer>(
     ensures asks { IsTrue N.Link.tells → IsGetOf asked.head asked.target
         → asked.request ≡ rounds.sent_of asked.head asked.target → closes ≡ rounds.is_last_by_version asked.head.version
         → Prepares true asked.head asked.target result (empty_book archive.old.namespace)
-        (told_of (λ date. []) N.log N.faults D.faults asked.date dialer.old archive.old.disk)
-        (told_of (λ date. date ∷ []) N.log N.faults D.faults asked.date dialer.new archive.new.disk)
+        (told_of (λ date. []) N.links N.faults D.faults asked.date dialer.old archive.old.disk)
+        (told_of (λ date. date ∷ []) N.links N.faults D.faults asked.date dialer.new archive.new.disk)
         (Keeps D.tells (D.faults archive.old.disk) (D.faults archive.new.disk) (D.reading archive.new.disk) (D.images archive.new.disk)
         (empty_book archive.old.namespace)) }
     ensures end { IfOk result (λ prepared. IsEnd prepared.end) }

@@ -34,11 +34,11 @@ pub fn read_request<L: Link>(
     window: &mut Window,
     site: &Site,
 ) -> Requested
-    ensures takes { IsTrue L.tells → TakesRequest site.now result (L.given client.old) window.old (L.given client.new) window.new }
-    ensures meets_end { IsTrue L.tells → OnRequestEnded result (L.ended client.new ≡ true) }
+    ensures takes { IsTrue L.tells → TakesRequest site.now result (L.traffic client.old).given window.old (L.traffic client.new).given window.new }
+    ensures meets_end { IsTrue L.tells → OnRequestEnded result ((L.traffic client.new).ended ≡ true) }
     ensures none_left { OnRequestEnded result (window.new ≡ []) }
     ensures counts { CountsRequest (L.faults client.old) (L.faults client.new) result }
-    ensures same_taken { IsTrue L.tells → L.taken client.new ≡ L.taken client.old }
+    ensures same_taken { IsTrue L.tells → (L.traffic client.new).taken ≡ (L.traffic client.old).taken }
 {
     let mut reader = HeadReader::new(alloc);
     match read_front(client, window, &mut reader) {

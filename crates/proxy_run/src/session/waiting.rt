@@ -26,11 +26,11 @@ pub enum Awaited {
 
 /// Reads line ends from the window and the client, up to what is none.
 pub fn await_request<L: Link>(alloc: Global, client: &mut L, window: &mut Window) -> Awaited
-    ensures takes { IsTrue L.tells → TakesAwaited result (L.given client.old) window.old (L.given client.new) window.new }
-    ensures meets_end { IsTrue L.tells → OnAwaitedEnd result (L.ended client.new ≡ true) }
+    ensures takes { IsTrue L.tells → TakesAwaited result (L.traffic client.old).given window.old (L.traffic client.new).given window.new }
+    ensures meets_end { IsTrue L.tells → OnAwaitedEnd result ((L.traffic client.new).ended ≡ true) }
     ensures none_left { OnAwaitedEnd result (window.new ≡ []) }
     ensures counts { CountsAwaited (L.faults client.old) (L.faults client.new) result }
-    ensures same_taken { IsTrue L.tells → L.taken client.new ≡ L.taken client.old }
+    ensures same_taken { IsTrue L.tells → (L.traffic client.new).taken ≡ (L.traffic client.old).taken }
 {
     let mut reader = HeadReader::new(alloc);
     skip_line_ends(client, window, &mut reader)
@@ -43,11 +43,11 @@ fn skip_line_ends<L: Link>(client: &mut L, window: &mut Window, reader: &mut Hea
 
     ensures is { IsAwaited result reader.new }
     ensures accounts { IsTrue L.tells →
-        StaysAccounted (L.given client.old) (reader.old ++ window.old) (L.given client.new) (reader.new ++ window.new) }
-    ensures meets_end { IsTrue L.tells → OnAwaitedEnd result (L.ended client.new ≡ true) }
+        StaysAccounted (L.traffic client.old).given (reader.old ++ window.old) (L.traffic client.new).given (reader.new ++ window.new) }
+    ensures meets_end { IsTrue L.tells → OnAwaitedEnd result ((L.traffic client.new).ended ≡ true) }
     ensures none_left { OnAwaitedEnd result (window.new ≡ []) }
     ensures counts { CountsAwaited (L.faults client.old) (L.faults client.new) result }
-    ensures same_taken { IsTrue L.tells → L.taken client.new ≡ L.taken client.old }
+    ensures same_taken { IsTrue L.tells → (L.traffic client.new).taken ≡ (L.traffic client.old).taken }
 {
     'waiting: loop {
         if window.is_empty() {

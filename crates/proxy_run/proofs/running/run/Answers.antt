@@ -40,11 +40,11 @@ returns-clause-pipes g c namespace d is = inr (record {
   gate_failed = c.pipe-status.ensures.gate_failed;
   serves = λ t u. rw c.into_disk-2.ensures (serves_as _ _ _ _ _ _ _ _ _ _ _ _ _ _ _ _ _ _ _
       (same_namespace _ c.in-Some.command _ _ is (sym c.command_of.ensures ∙ c.in-Some.is) c.of-archive.ensures.namespace)
-      (ap (λ (member : g.row.N.Denot × g.row.C.Denot). told_of g.C.Clock.answers g.N.Dialer.log g.N.Dialer.faults g.D.Disk.faults member.1 member.0 c.files.new.self)
+      (ap (λ (member : g.row.N.Denot × g.row.C.Denot). told_of g.C.Clock.answers g.N.Dialer.links g.N.Dialer.faults g.D.Disk.faults member.1 member.0 c.files.new.self)
       (c.index_mut-member.ensures.value ∙ first_any c.args.crew.now.members.items _ d (omega (arith, c.requires)))
-      ∙ ap (λ (n : ℕ). told_of g.C.Clock.answers g.N.Dialer.log g.N.Dialer.faults (λ (m : ℕ). m)
+      ∙ ap (λ (n : ℕ). told_of g.C.Clock.answers g.N.Dialer.links g.N.Dialer.faults (λ (m : ℕ). m)
       (get_or c.args.crew.now.members.items 0 d).1 (get_or c.args.crew.now.members.items 0 d).0 n) (c.in-Ok-eq0.ensures.faults.steady ∙ ap g.D.Disk.faults c.of-archive.ensures.disk))
-      (ap (λ (member : g.row.N.Denot × g.row.C.Denot). told_of g.C.Clock.answers g.N.Dialer.log g.N.Dialer.faults g.D.Disk.faults member.1 member.0 c.pipe-status.new.archive.disk)
+      (ap (λ (member : g.row.N.Denot × g.row.C.Denot). told_of g.C.Clock.answers g.N.Dialer.links g.N.Dialer.faults g.D.Disk.faults member.1 member.0 c.pipe-status.new.archive.disk)
       (sym (get_or-set_same c.args.crew.now.members.items 0 (c.pipe-status.new.dialer, c.pipe-status.new.clock) d (omega (arith, c.requires)))))
       (c.in-Ok-eq0.ensures.faults.steady ∙ ap g.D.Disk.faults c.of-archive.ensures.disk) (c.pipe-status.ensures.serves t u));
 })

@@ -1,7 +1,7 @@
 -- Behind an answer there is nothing, or one round that closes the connection.
 use Rattle.std.proofs.Common.{◌++◌, refl, ◌∙◌, inl}
 use Rattle.capture.specs.declared.refusal.Refusal.TheVariants.{NotBuilt}
-use Rattle.proxy_run.specs.Connection.{heard_of}
+use Rattle.outside.specs.Gate.{heard_of}
 use Rattle.proxy_run.proofs.ServeLaws.{no_round, none_pending, rose_above, gave_up, refused}
 use Rattle.proxy_run.proofs.session.go_on.Goals as goal
 
@@ -30,7 +30,7 @@ pub returns-in-Begun-clause-goes : goal.returns-in-Begun-clause-goes
 returns-in-Begun-clause-goes g c t site book =
     let took = c.in-Begun.ensures.takes t in
     refused site _ book _ took.wire c.await_request.new.window _
-    (heard_of g.L.Link.given g.L.Link.ended g.L.Link.taken g.L.Link.faults c.await_request.new.client) _ NotBuilt c.refuse.result
+    (heard_of (g.L.Link.traffic c.await_request.new.client) (g.L.Link.faults c.await_request.new.client)) _ NotBuilt c.refuse.result
     took.accounts (c.await_request.ensures.same_taken t) (c.in-Begun.ensures.counts ∙ c.requires) took.is (c.refuse.ensures.refuses t)
 
 pub returns-in-Broken-clause-goes : goal.returns-in-Broken-clause-goes
@@ -44,5 +44,5 @@ pub returns-in-Memory-clause-goes : goal.returns-in-Memory-clause-goes
 returns-in-Memory-clause-goes g c t site book =
     let took = c.in-Memory.ensures.takes t in
     rw c.give_up.ensures.ends (gave_up site _ book _ took.wire c.await_request.new.window _
-    (heard_of g.L.Link.given g.L.Link.ended g.L.Link.taken g.L.Link.faults c.await_request.new.client) _
+    (heard_of (g.L.Link.traffic c.await_request.new.client) (g.L.Link.faults c.await_request.new.client)) _
     took.accounts (c.await_request.ensures.same_taken t) (c.give_up.ensures.writes t))

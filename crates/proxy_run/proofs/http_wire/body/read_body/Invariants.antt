@@ -8,11 +8,11 @@ invariant-reading g l =
     let link = g.L.Link in
     record {
       short : vec_len l.body ≤ l.length;
-      accounts : IsTrue link.tells → StaysAccounted (link.given l.fn.link) l.fn.window (link.given l.link) (l.body.items ++ l.window);
+      accounts : IsTrue link.tells → StaysAccounted (link.traffic l.fn.link).given l.fn.window (link.traffic l.link).given (l.body.items ++ l.window);
       counts : link.faults l.link ≡ link.faults l.fn.link;
-      taken : IsTrue link.tells → link.taken l.link ≡ link.taken l.fn.link;
-      host : IsTrue link.tells → link.host l.link ≡ link.host l.fn.link;
-      port : IsTrue link.tells → link.port l.link ≡ link.port l.fn.link;
+      taken : IsTrue link.tells → (link.traffic l.link).taken ≡ (link.traffic l.fn.link).taken;
+      host : IsTrue link.tells → (link.traffic l.link).host ≡ (link.traffic l.fn.link).host;
+      port : IsTrue link.tells → (link.traffic l.link).port ≡ (link.traffic l.fn.link).port;
     }
 
 abbrev pub decreases-reading : goal.decreases-reading

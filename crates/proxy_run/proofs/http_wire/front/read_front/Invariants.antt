@@ -8,13 +8,13 @@ abbrev pub invariant-reading : goal.invariant-reading
 invariant-reading g l = record {
   going : IsOpen l.reader;
   accounts : IsTrue g.L.Link.tells →
-      StaysAccounted (g.L.Link.given l.fn.link) (l.fn.reader ++ l.fn.window)
-      (g.L.Link.given l.link) (l.reader ++ l.window);
-  ended : IsTrue g.L.Link.tells → IsTrue (g.L.Link.ended l.link) → IsTrue (g.L.Link.ended l.fn.link);
+      StaysAccounted (g.L.Link.traffic l.fn.link).given (l.fn.reader ++ l.fn.window)
+      (g.L.Link.traffic l.link).given (l.reader ++ l.window);
+  ended : IsTrue g.L.Link.tells → IsTrue (g.L.Link.traffic l.link).ended → IsTrue (g.L.Link.traffic l.fn.link).ended;
   faults : g.L.Link.faults l.link ≡ g.L.Link.faults l.fn.link;
-  taken : IsTrue g.L.Link.tells → g.L.Link.taken l.link ≡ g.L.Link.taken l.fn.link;
-  host : IsTrue g.L.Link.tells → g.L.Link.host l.link ≡ g.L.Link.host l.fn.link;
-  port : IsTrue g.L.Link.tells → g.L.Link.port l.link ≡ g.L.Link.port l.fn.link;
+  taken : IsTrue g.L.Link.tells → (g.L.Link.traffic l.link).taken ≡ (g.L.Link.traffic l.fn.link).taken;
+  host : IsTrue g.L.Link.tells → (g.L.Link.traffic l.link).host ≡ (g.L.Link.traffic l.fn.link).host;
+  port : IsTrue g.L.Link.tells → (g.L.Link.traffic l.link).port ≡ (g.L.Link.traffic l.fn.link).port;
 }
 
 abbrev pub decreases-reading : goal.decreases-reading

@@ -16,7 +16,7 @@ returns-in-Ok-store_first-clause-keeps g c given get answer is =
     stored c.args.asked.head c.args.asked.target c.args.asked.date given c.args.received c.args.closes c.args.archive.now.namespace _ _ _
     c.taken_of-taken.result _ c.in-Ok.prepared get answer (c.taken_of-taken.ensures.taken get is) c.as_slice.ensures
     c.in-Ok.ensures.text c.in-Ok.ensures.end c.in-Ok-store_first.ensures.counts
-    (λ h f whole tells. inl (c.in-Ok-store_first.ensures.holds tells h f whole))
+    (λ whole has tells. inl (c.in-Ok-store_first.ensures.holds tells whole has))
 
 pub returns-clause-keeps : goal.returns-clause-keeps
 returns-clause-keeps g c given get answer is =

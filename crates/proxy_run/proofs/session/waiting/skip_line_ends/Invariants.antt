@@ -11,9 +11,9 @@ invariant-waiting g l =
     record {
       open_so_far : IsOpen l.reader;
       blank : MayBeBlank l.reader;
-      accounts : IsTrue link.tells → StaysAccounted (link.given l.fn.client) (l.fn.reader ++ l.fn.window) (link.given l.client) (l.reader ++ l.window);
+      accounts : IsTrue link.tells → StaysAccounted (link.traffic l.fn.client).given (l.fn.reader ++ l.fn.window) (link.traffic l.client).given (l.reader ++ l.window);
       counts : link.faults l.client ≡ link.faults l.fn.client;
-      taken : IsTrue link.tells → link.taken l.client ≡ link.taken l.fn.client;
+      taken : IsTrue link.tells → (link.traffic l.client).taken ≡ (link.traffic l.fn.client).taken;
     }
 
 abbrev pub decreases-waiting : goal.decreases-waiting
