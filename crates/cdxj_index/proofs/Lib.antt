@@ -1,0 +1,11 @@
+pub mod Calls
+pub mod Changes
+pub mod Entries
+pub mod Held
+pub mod Members
+pub mod Nearest
+pub mod Numbers
+pub mod Orders
+pub mod Places
+pub mod Sides
+pub mod Starts

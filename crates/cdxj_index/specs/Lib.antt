@@ -1,0 +1,4 @@
+pub mod Facts
+pub mod Maps
+pub mod Order
+pub mod Queries

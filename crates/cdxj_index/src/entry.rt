@@ -1,0 +1,82 @@
+//! What the index knows of a capture.
+ghost use Rattle.std.specs.Prelude.{◌≡◌, ◌<◌, ◌^◌, IfOk};
+ghost use Rattle.cdxj_index.specs.Order.{moment_of};
+
+use crate::entry_map::Moment;
+use capture::{Digest, Memory, Text};
+use std::marker::Model;
+use surt_key::Key;
+
+/// A capture in the index. A clause sees its parts.
+///
+/// The date has a text, the status is of three digits, and the key is that of the uri.
+#[derive(Debug, PartialEq, Eq, Drop)]
+pub struct Entry {
+    /// The look-up key of the uri.
+    pub key: Key,
+    /// When it was fetched, in milliseconds since 1970.
+    pub date: u64,
+    /// The capture's number.
+    pub number: u32,
+    /// The target that the client sent, in absolute form.
+    pub uri: Text,
+    /// The media type.
+    pub mime: Text,
+    /// The response's status.
+    pub status: u16,
+    /// The digest of the payload.
+    pub digest: Digest,
+    /// The number of the volume that holds the capture.
+    pub volume: u32,
+    /// The place of the response or revisit record in its volume, in bytes.
+    pub offset: u64,
+    /// The length of that record, in bytes.
+    pub length: u64,
+}
+
+impl Model for Entry {
+    ghost use Rattle.cdxj_index.specs.Facts.{Facts, IsEntry};
+
+    ghost Value = { Facts };
+
+    ghost view = { λ e. record { key = e.key; date = e.date; number = e.number; uri = e.uri; mime = e.mime; status = e.status; digest = e.digest; volume = e.volume; offset = e.offset; length = e.length } };
+
+    ghost invariant = { λ e. IsEntry e.key e.date e.status e.uri };
+
+    ghost inverse = { λ f. record { key = f.key; date = f.date; number = f.number; uri = f.uri; mime = f.mime; status = f.status; digest = f.digest; volume = f.volume; offset = f.offset; length = f.length } };
+}
+
+impl Entry {
+    /// The same entry in memory of its own.
+    pub fn copy(&self) -> Result<Entry, Memory>
+        ensures { IfOk result (λ entry. entry ≡ self.now) }
+    {
+        Ok(Entry {
+            key: self.key.copy()?,
+            date: self.date,
+            number: self.number,
+            uri: self.uri.copy()?,
+            mime: self.mime.copy()?,
+            status: self.status,
+            digest: self.digest,
+            volume: self.volume,
+            offset: self.offset,
+            length: self.length,
+        })
+    }
+
+    /// Its place among the entries of its key.
+    pub(crate) fn moment(&self) -> Moment
+        ensures value { result ≡ moment_of self.now }
+        ensures fits { result.1 < 2 ^ 32 }
+    {
+        (self.date, number_of(self))
+    }
+}
+
+/// The number of an entry, as the result of a call, of which the checker knows the range.
+fn number_of(entry: &Entry) -> u32
+    ensures { result ≡ entry.now.number }
+{
+    entry.number
+}

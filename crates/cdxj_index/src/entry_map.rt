@@ -1,0 +1,123 @@
+//! The ordered map behind an index: entries by key, and under each key by date and number.
+ghost use Rattle.std.specs.Prelude.{◌≡◌, ◌+◌, IfNone, IfSome, OnOk, OnErr, option_copied};
+ghost use Rattle.std.specs.Arc.{arc_value};
+ghost use Rattle.std.specs.BTreeMap.{get};
+ghost use Rattle.std.specs.Cmp.Lexicographic.{slice_cmp};
+ghost use Rattle.std.specs.Ordering.{nat_cmp};
+ghost use Rattle.cdxj_index.specs.Maps.{AreKeys, HasNoneAfter, HasNoneFrom, HasNoneUntil, IsFirstAfter, IsFirstFrom, IsLastUntil, Puts, SameKeys, Takes};
+
+use crate::{Entry, Steps};
+use capture::Memory;
+use std::alloc::Global;
+use std::collections::BTreeMap;
+use std::ops::Bound;
+use std::sync::Arc;
+use std::sync::ledger::Ledger;
+use surt_key::Key;
+
+/// A date, and a number within the date.
+pub(crate) type Moment = (u64, u32);
+
+/// The captures of one key, by date and number.
+pub(crate) type Captures = BTreeMap<Moment, Arc<Entry>>;
+
+/// Entries by key, and under each key by date and number, so that no look-up copies a key.
+///
+/// An entry stands behind a pointer, since a node of a map has room for fifteen values from the start. A look-up that
+/// takes `steps` counts one.
+#[derive(Drop)]
+pub(crate) struct EntryMap {
+    pub keys: BTreeMap<Key, Captures>,
+}
+
+impl EntryMap {
+    /// The captures of a key.
+    pub fn of_key<L: Ledger>(&self, key: &Key, steps: &mut Steps<L>) -> Option<&Captures>
+        ensures found { option_copied result ≡ get (slice_cmp nat_cmp) self.now.keys key.now }
+        ensures step { steps.new ≡ steps.old + 1 }
+    {
+        steps.tick();
+        self.keys.get(key)
+    }
+
+    /// Puts an entry in its place. After `Memory` the entries are as they were.
+    pub fn insert(&mut self, alloc: Global, entry: Arc<Entry>) -> Result<(), Memory>
+        requires { AreKeys self.old.keys }
+        ensures keys { AreKeys self.new.keys }
+        ensures ok { OnOk result (Puts self.old.keys self.new.keys (arc_value entry)) }
+        ensures err { OnErr result (SameKeys self.old.keys self.new.keys) }
+    {
+        let facts: &Entry = &entry;
+        let moment = facts.moment();
+        if let Some(captures) = self.keys.get_mut(&facts.key) {
+            captures.insert(moment, entry)?;
+            return Ok(());
+        }
+        let key = facts.key.copy()?;
+        let mut captures = Captures::new(alloc);
+        captures.insert(moment, entry)?;
+        self.keys.insert(key, captures)?;
+        Ok(())
+    }
+
+    /// Takes the entry of a key, date and number out, and the key with its last entry.
+    pub fn remove(&mut self, key: &Key, moment: Moment)
+        requires { AreKeys self.old.keys }
+        ensures keys { AreKeys self.new.keys }
+        ensures taken { Takes self.old.keys self.new.keys key.now moment }
+    {
+        let Some(captures) = self.keys.get_mut(key) else {
+            return;
+        };
+        captures.remove(&moment);
+        if captures.is_empty() {
+            self.keys.remove(key);
+        }
+    }
+}
+
+/// The last capture up to the time.
+pub(crate) fn last_until<'a, L: Ledger>(
+    captures: &'a Captures,
+    time: u64,
+    steps: &mut Steps<L>,
+) -> Option<&'a Entry>
+    ensures none { IfNone result (HasNoneUntil captures.now time) }
+    ensures some { IfSome result (λ entry. IsLastUntil captures.now time entry.now) }
+    ensures step { steps.new ≡ steps.old + 1 }
+{
+    steps.tick();
+    let (_, entry) = captures.range(..=(time, u32::MAX)).next_back()?;
+    Some(entry)
+}
+
+/// The first capture of the date or a later one.
+pub(crate) fn first_from<'a, L: Ledger>(
+    captures: &'a Captures,
+    date: u64,
+    steps: &mut Steps<L>,
+) -> Option<&'a Entry>
+    ensures none { IfNone result (HasNoneFrom captures.now date) }
+    ensures some { IfSome result (λ entry. IsFirstFrom captures.now date entry.now) }
+    ensures step { steps.new ≡ steps.old + 1 }
+{
+    steps.tick();
+    let (_, entry) = captures.range((date, 0)..).next()?;
+    Some(entry)
+}
+
+/// The first capture after the time.
+pub(crate) fn first_after<'a, L: Ledger>(
+    captures: &'a Captures,
+    time: u64,
+    steps: &mut Steps<L>,
+) -> Option<&'a Entry>
+    ensures none { IfNone result (HasNoneAfter captures.now time) }
+    ensures some { IfSome result (λ entry. IsFirstAfter captures.now time entry.now) }
+    ensures step { steps.new ≡ steps.old + 1 }
+{
+    steps.tick();
+    let after = (Bound::Excluded((time, u32::MAX)), Bound::Unbounded);
+    let (_, entry) = captures.range(after).next()?;
+    Some(entry)
+}

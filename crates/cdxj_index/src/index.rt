@@ -1,0 +1,154 @@
+//! The index.
+ghost use Rattle.std.specs.Prelude.{◌≡◌, ◌↔◌, ◌+◌, ◌≤◌, [], length, None, IsTrue, IfOk, OnOk, OnErr, IfSome, IfNone, option_copied};
+ghost use Rattle.cdxj_index.specs.Order.{with_entry, without};
+ghost use Rattle.cdxj_index.specs.Queries.{HasNone, IsIndex, IsNearest, of_key, starting_with, with_number};
+
+use crate::entry_map::{EntryMap, first_after, first_from, last_until};
+use crate::{Entry, Range, Starting, Steps};
+use capture::Memory;
+use std::alloc::Global;
+use std::collections::BTreeMap;
+use std::marker::Model;
+use std::sync::Arc;
+use std::sync::ledger::Ledger;
+use surt_key::Key;
+
+/// The index of an archive: its entries in order of key, date and number. A clause sees the list of them.
+///
+/// No two entries have one number.
+#[derive(Drop)]
+pub struct Index {
+    map: EntryMap,
+    numbers: BTreeMap<u32, Arc<Entry>>,
+}
+
+impl Model for Index {
+    ghost use Rattle.std.specs.Prelude.{List};
+    ghost use Rattle.cdxj_index.specs.Facts.{Facts};
+    ghost use Rattle.cdxj_index.specs.Maps.{AreMaps, entries_of};
+
+    ghost Value = { List Facts };
+
+    ghost view = { λ index. entries_of index.map.keys };
+
+    ghost invariant = { λ index. AreMaps index.map.keys index.numbers };
+}
+
+impl Index {
+    /// No entries. Takes no memory.
+    pub fn new(alloc: Global) -> Index
+        ensures { result ≡ [] }
+    {
+        Index {
+            map: EntryMap {
+                keys: BTreeMap::new(alloc),
+            },
+            numbers: BTreeMap::new(alloc),
+        }
+    }
+
+    /// The index of entries that are in order, as adding them one by one gives it.
+    pub fn of_sorted(alloc: Global, entries: Vec<Entry>) -> Result<Index, Memory>
+        requires { IsIndex entries.items }
+        ensures { IfOk result (λ index. index ≡ entries.items) }
+    {
+        let mut index = Index::new(alloc);
+        for entry in entries {
+            index.add(alloc, entry)?;
+        }
+        Ok(index)
+    }
+
+    /// Puts an entry in its place. After `Memory` the index is as it was.
+    pub fn add(&mut self, alloc: Global, entry: Entry) -> Result<(), Memory>
+        requires { with_number entry.number self.old ≡ None }
+        ensures ok { OnOk result (self.new ≡ with_entry entry self.old) }
+        ensures err { OnErr result (self.new ≡ self.old) }
+    {
+        let number = entry.number;
+        let entry = Arc::new(alloc, entry)?;
+        let shared = Arc::try_clone(&entry)?;
+        self.numbers.insert(number, shared)?;
+        if self.map.insert(alloc, entry).is_err() {
+            self.numbers.remove(&number);
+            return Err(Memory);
+        }
+        Ok(())
+    }
+
+    /// Takes the entry of this number back. Where there is none, nothing changes. Takes no memory.
+    pub fn take_back(&mut self, number: u32)
+        ensures { self.new ≡ without number self.old }
+    {
+        if let Some(entry) = self.numbers.remove(&number) {
+            let entry: &Entry = &entry;
+            self.map.remove(&entry.key, entry.moment());
+        }
+    }
+
+    /// The entry of a number. Takes no memory.
+    pub fn at(&self, number: u32) -> Option<&Entry>
+        ensures { option_copied result ≡ with_number number self.now }
+    {
+        let entry: &Entry = self.numbers.get(&number)?;
+        Some(entry)
+    }
+
+    /// How many entries there are.
+    pub fn len(&self) -> usize
+        ensures len { result ≡ length self.now }
+        ensures index { IsIndex self.now }
+    {
+        self.numbers.len()
+    }
+
+    /// Whether there are no entries.
+    pub fn is_empty(&self) -> bool
+        ensures { IsTrue result ↔ (self.now ≡ []) }
+    {
+        self.numbers.is_empty()
+    }
+
+    /// The entry of a key that is nearest to a time, the first in order among equals (RFC 7089, section 4.1.1).
+    ///
+    /// It makes four look-ups at most and takes no memory.
+    pub fn nearest<L: Ledger>(&self, key: &Key, time: u64, steps: &mut Steps<L>) -> Option<&Entry>
+        ensures some { IfSome result (λ entry. IsNearest self.now key.now time entry.now) }
+        ensures none { IfNone result (HasNone self.now key.now) }
+        ensures cost { steps.new ≤ steps.old + 4 }
+    {
+        let captures = self.map.of_key(key, steps)?;
+        let before = last_until(captures, time, steps);
+        let after = first_after(captures, time, steps);
+        match (before, after) {
+            (Some(before), Some(after)) => {
+                if after.date - time < time - before.date {
+                    Some(after)
+                } else {
+                    first_from(captures, before.date, steps)
+                }
+            }
+            (Some(before), None) => first_from(captures, before.date, steps),
+            (None, after) => after,
+        }
+    }
+
+    /// The entries of a key, in order. Takes no memory.
+    pub fn range(&self, key: &Key) -> Range<'_>
+        ensures { result ≡ of_key key.now self.now }
+    {
+        match self.map.keys.get(key) {
+            Some(captures) => Range {
+                captures: Some(captures.values()),
+            },
+            None => Range { captures: None },
+        }
+    }
+
+    /// The entries whose key begins with these bytes, in order. Takes no memory.
+    pub fn starting(&self, start: &Key) -> Starting<'_>
+        ensures { result ≡ starting_with start.now self.now }
+    {
+        Starting::of(&self.map.keys, start)
+    }
+}

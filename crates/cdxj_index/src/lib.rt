@@ -1,0 +1,15 @@
+//! The index of an archive: its captures by look-up key, date and number.
+#![tactic(auto)]
+
+mod entry;
+mod entry_map;
+mod index;
+mod iterators;
+mod steps;
+#[cfg(test)]
+mod tests;
+
+pub use entry::Entry;
+pub use index::Index;
+pub use iterators::{Range, Starting};
+pub use steps::Steps;
