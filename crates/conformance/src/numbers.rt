@@ -1,0 +1,38 @@
+//! Numbers in case files.
+use std::alloc::{AllocError, Global};
+
+/// The number that the digits write, or the case's own where it is `k`.
+pub fn number_of(text: &str, k: u64) -> Option<u64> {
+    if text == "k" {
+        return Some(k);
+    }
+    text.parse::<u64>().ok()
+}
+
+/// The byte that is written as `0x` and two digits.
+pub fn byte_of(text: &str) -> Option<u8> {
+    let digits = text.strip_prefix("0x")?;
+    u8::from_str_radix(digits, 16).ok()
+}
+
+/// The numbers of a line. `None` where one of its words is none.
+pub fn numbers_of(alloc: Global, text: &str, k: u64) -> Result<Option<Vec<u64>>, AllocError> {
+    let mut numbers = Vec::new(alloc);
+    for word in text.split_whitespace() {
+        match number_of(word, k) {
+            Some(number) => numbers.push(number)?,
+            None => return Ok(None),
+        }
+    }
+    Ok(Some(numbers))
+}
+
+/// The numbers from the first to before the second of a line, and 0 alone where there is no line. `None` where the
+/// line doesn't hold two numbers.
+pub fn range_of(text: Option<&str>) -> Option<(u64, u64)> {
+    let Some(text) = text else {
+        return Some((0, 1));
+    };
+    let (from, to) = text.split_once(' ')?;
+    Some((from.parse::<u64>().ok()?, to.parse::<u64>().ok()?))
+}

@@ -1,0 +1,127 @@
+//! The objects in memory that a case is played over.
+ghost use Rattle.std.specs.Prelude.{◌≡◌, IfOk, All, length};
+ghost use Rattle.outside.specs.MemoryLink.{IsNew};
+
+use crate::setting::Setting;
+use capture::Failed;
+use disk_model::{Disk, Kind, MemoryDisk};
+use outside::{MemoryClock, MemoryDialer, MemoryGate, MemoryLink, MemorySink};
+use proxy_run::{CREW, Crew};
+use std::alloc::{AllocError, Global};
+
+/// The objects that a run is given.
+#[derive(Debug, Drop)]
+pub struct Objects {
+    pub disk: MemoryDisk,
+    pub gate: MemoryGate,
+    pub crew: Crew<MemoryDialer, MemoryClock>,
+    pub out: MemorySink,
+}
+
+/// The objects of a case. `None` where its volumes could not be written.
+pub fn objects_of(alloc: Global, setting: &Setting) -> Result<Option<Objects>, AllocError> {
+    let gate = gate_of(alloc, setting)?;
+    let crew = crew_of(alloc, setting)?;
+    let out = MemorySink::new(alloc, setting.fails.sink.clone()?);
+    match disk_of(alloc, setting)? {
+        Ok(disk) => Ok(Some(Objects {
+            disk,
+            gate,
+            crew,
+            out,
+        })),
+        Err(Failed) => Ok(None),
+    }
+}
+
+/// A link for each text, of which it gives a front of so many bytes at most; a call moves so many at most.
+fn links_of(
+    alloc: Global,
+    texts: &[Vec<u8>],
+    front: usize,
+    most: usize,
+    fails: &[u64],
+) -> Result<Vec<MemoryLink>, AllocError>
+    ensures { IfOk result (λ links. All IsNew links.items) }
+{
+    let mut links = Vec::new(alloc);
+    for text in texts {
+        links.push(MemoryLink::in_pieces(
+            alloc,
+            text.iter().copied().take(front).collect(alloc)?,
+            most.max(1),
+            fails.to_vec(alloc)?,
+        ))?;
+    }
+    Ok(links)
+}
+
+/// The gate that gives the case's clients.
+fn gate_of(alloc: Global, setting: &Setting) -> Result<MemoryGate, AllocError> {
+    let fails = &setting.fails;
+    let links = links_of(
+        alloc,
+        setting.clients.as_slice(),
+        setting.client_front,
+        setting.pieces,
+        fails.client.as_slice(),
+    )?;
+    Ok(MemoryGate::new(alloc, links, fails.gate.clone()?))
+}
+
+fn dialer_of(alloc: Global, setting: &Setting) -> Result<MemoryDialer, AllocError> {
+    let fails = &setting.fails;
+    let links = links_of(
+        alloc,
+        setting.origins.as_slice(),
+        setting.origin_front,
+        setting.pieces,
+        fails.origin.as_slice(),
+    )?;
+    Ok(MemoryDialer::new(alloc, links, fails.dial.clone()?))
+}
+
+/// A crew whose first member dials the case's origins and asks the case's clock.
+fn crew_of(
+    alloc: Global,
+    setting: &Setting,
+) -> Result<Crew<MemoryDialer, MemoryClock>, AllocError> {
+    let mut members = Vec::new(alloc);
+    members.push((
+        dialer_of(alloc, setting)?,
+        MemoryClock::new(setting.clock.clone()?),
+    ))?;
+    for _ in 1..CREW {
+        members.push((
+            MemoryDialer::new(alloc, Vec::new(alloc), Vec::new(alloc)),
+            MemoryClock::new(Vec::new(alloc)),
+        ))?;
+    }
+    Ok(Crew { members })
+}
+
+/// How many calls of the disk it takes to make a file that holds a text.
+const CALLS: u64 = 3;
+
+/// The disk on which the case's volumes stand, durably. Its calls are numbered from 0 behind that.
+fn disk_of(alloc: Global, setting: &Setting) -> Result<Result<MemoryDisk, Failed>, AllocError> {
+    let made = CALLS.saturating_mul(setting.volumes.len() as u64);
+    let mut fails = Vec::new(alloc);
+    for number in setting.fails.disk.as_slice() {
+        fails.push(number.saturating_add(made))?;
+    }
+    let mut disk = MemoryDisk::new(alloc, fails);
+    for text in setting.volumes.as_slice() {
+        if put_volume(&mut disk, text.as_slice()).is_err() {
+            return Ok(Err(Failed));
+        }
+    }
+    Ok(Ok(disk))
+}
+
+#[tactic(auto, using(crate::proofs::FileLaws::is_there, crate::proofs::FileLaws::still_there))]
+fn put_volume<D: Disk>(disk: &mut D, text: &[u8]) -> Result<(), Failed> {
+    let file = disk.create(Kind::Warc)?;
+    disk.write_at(Kind::Warc, file, 0, text)?;
+    disk.sync(Kind::Warc, file)
+}
