@@ -16,7 +16,7 @@ use Rattle.warc_text.specs.declared.same_of.SameOf.{SameOf}
 use Rattle.warc_text.specs.Records.{info_text, group_text}
 use Rattle.warc_text.specs.References.{reference_of}
 use Rattle.warc_text.specs.Books.{same_of, RefersBy, IsGroupText, joined, IsVolumeText}
-use Rattle.warc_text.specs.Growth.{SoundVolumesHaveOneText}
+use Rattle.warc_text.specs.Growth.{NumbersHaveOneGroup, SoundVolumesHaveOneText}
 use Rattle.warc_text.specs.Sound.{IsSound}
 use Rattle.warc_text.proofs.BookLaws.{get_behind, captures_in-append}
 
@@ -33,7 +33,7 @@ refers_to_one book (Same first) s t is is₂ =
     let originals = one_at (slice_get (captures book) first) is.0 is₂.0 is.1 is₂.1 in
     is.2 ∙ ap (λ (o : Stored). Some (same_of first o)) originals ∙ sym is₂.2
 
-one_group : CapturesHaveOnePayload → (book : Book) (number : ℕ) (text other : List ℕ) → IsGroupText book number text → IsGroupText book number other → text ≡ other
+pub one_group : CapturesHaveOnePayload → NumbersHaveOneGroup
 one_group one book number text other g h =
     let stored : g.stored ≡ h.stored = one_at (slice_get (captures book) number) g.stored h.stored g.placed h.placed in
     let of : IsPayloadOf book number g.payload = record { stored = g.stored; placed = g.placed; by_kept = g.payload_is } in
@@ -42,15 +42,16 @@ one_group one book number text other g h =
     let refers : RefersBy book g.stored.kept h.same = subst (λ (s : Stored). RefersBy book s.kept h.same) (sym stored) h.refers in
     let same : g.same ≡ h.same = refers_to_one book g.stored.kept g.same h.same g.refers refers in
     let composed : (s : Stored) (p : List ℕ) (o : Option SameOf) → List ℕ = λ s p o. group_text book.namespace number (taken_back s) (sha1 p) (reference_of book.namespace o) in
-    g.composed ∙ ap (λ (s : Stored). composed s g.payload g.same) stored ∙ ap (λ (p : List ℕ). composed h.stored p g.same) payload
-    ∙ ap (λ (o : Option SameOf). composed h.stored h.payload o) same ∙ sym h.composed
+    let texts = g.composed ∙ ap (λ (s : Stored). composed s g.payload g.same) stored ∙ ap (λ (p : List ℕ). composed h.stored p g.same) payload
+    ∙ ap (λ (o : Option SameOf). composed h.stored h.payload o) same ∙ sym h.composed in
+    record { stored = stored; payload = payload; refers = same; texts = texts }
 
 pub one_volume_text : CapturesHaveOnePayload → (book : Book) (k : ℕ) (text other : List ℕ) → IsVolumeText book k text → IsVolumeText book k other → text ≡ other
 one_volume_text one book k text other is is₂ =
     let volume : is.volume ≡ is₂.volume = one_at (slice_get book.volumes k) is.volume is₂.volume is.placed is₂.placed in
     let count : length is.groups ≡ length is₂.groups = is.count ∙ ap (λ (v : Volume). length v.captures) volume ∙ sym is₂.count in
     let groups : is.groups ≡ is₂.groups = ext_get_or [] is.groups is₂.groups count
-    (λ j lt. one_group one book (first_number book k + j) (get_or is.groups j []) (get_or is₂.groups j []) (is.each j lt) (is₂.each j (omega (arith, lt, count)))) in
+    (λ j lt. (one_group one book (first_number book k + j) (get_or is.groups j []) (get_or is₂.groups j []) (is.each j lt) (is₂.each j (omega (arith, lt, count)))).texts) in
     is.composed ∙ ap (λ (v : Volume). info_text book.namespace k v.born ++ joined is.groups) volume
     ∙ ap (λ (g : List (List ℕ)). info_text book.namespace k is₂.volume.born ++ joined g) groups ∙ sym is₂.composed
 

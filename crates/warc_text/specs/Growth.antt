@@ -42,3 +42,16 @@ pub record IsOneText (book : Book) (k : ℕ) : Type 0 where
 -- each volume of a sound book has one text
 abbrev pub SoundVolumesHaveOneText : Type 0
 SoundVolumesHaveOneText = (book : Book) (k : ℕ) → IsSound book → k < length book.volumes → IsOneText book k
+
+-- two texts of one group: they are of one capture, one payload and one reference, and are equal
+pub record IsOneGroup (book : Book) (number : ℕ) (text other : List ℕ) (a : IsGroupText book number text) (b : IsGroupText book number other) : Type 0 where
+  pub stored : a.stored ≡ b.stored
+  pub payload : a.payload ≡ b.payload
+  pub refers : a.same ≡ b.same
+  pub texts : text ≡ other
+
+-- a number has one group
+abbrev pub NumbersHaveOneGroup : Type 0
+NumbersHaveOneGroup =
+    (book : Book) (number : ℕ) (text other : List ℕ) (a : IsGroupText book number text) (b : IsGroupText book number other)
+    → IsOneGroup book number text other a b

@@ -1,6 +1,6 @@
 //! What the texts promise to those who read them.
 ghost use Rattle.warc_text.specs.Groups.{EqualGroupsAreOfEqualCaptures, GroupsArePrefixFree, GroupsTellTheirCaptures, ReferencesTellTheirCaptures};
-ghost use Rattle.warc_text.specs.Growth.{GroupsStay, LastVolumeGoesOn, SealedVolumesStay, SoundVolumesHaveOneText};
+ghost use Rattle.warc_text.specs.Growth.{GroupsStay, LastVolumeGoesOn, NumbersHaveOneGroup, SealedVolumesStay, SoundVolumesHaveOneText};
 ghost use Rattle.warc_text.specs.StandsFor.{FilesStandForNoVolume, FilesStandForOneBook, GroupsAreCommitted, GroupsOfBooksTellTheirCaptures, InfosAreCommitted};
 
 use capture::{captures_have_one_payload, growth_keeps_captures, wires_have_one_payload};
@@ -38,6 +38,13 @@ pub fn texts_are_committed()
     ensures infos { InfosAreCommitted }
     ensures groups { GroupsAreCommitted }
 {}
+
+/// A number has one group, of one capture, one payload and one reference.
+pub fn numbers_have_one_group()
+    ensures { NumbersHaveOneGroup }
+{
+    captures_have_one_payload();
+}
 
 /// Each volume of a sound book has one text.
 pub fn sound_volumes_have_one_text()

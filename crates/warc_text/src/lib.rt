@@ -23,7 +23,7 @@ pub use id::{IdKind, id_of};
 pub use info::{info_len, info_text, put_info};
 pub use laws::{
     equal_groups_are_of_equal_captures, files_stand_for_one_book, groups_are_prefix_free,
-    groups_of_books_tell_their_captures, groups_tell_their_captures, sound_volumes_have_one_text,
-    texts_are_committed, texts_stay_when_a_book_grows,
+    groups_of_books_tell_their_captures, groups_tell_their_captures, numbers_have_one_group,
+    sound_volumes_have_one_text, texts_are_committed, texts_stay_when_a_book_grows,
 };
 pub use same_of::SameOf;

@@ -1,0 +1,5 @@
+use Rattle.warc_text.proofs.OneTextLaws as laws
+use Rattle.warc_text.proofs.laws.numbers_have_one_group.Goals as goal
+
+pub returns : goal.returns
+returns c = laws.one_group c.captures_have_one_payload.ensures
