@@ -7,13 +7,13 @@ use Rattle.url.specs.Parts.{Parts}
 use Rattle.url.specs.Parser.{parse_url, Parsed}
 use Rattle.capture.specs.Target.{is_target_text, is_http_target, is_accepted_uri, after_authority, host_of, port_of, origin_form}
 use Rattle.capture.specs.declared.site.Site.{Site}
-use Rattle.proxy_run.specs.declared.exchange.aim.Aim.{Aim}
-use Rattle.proxy_run.specs.declared.exchange.aim.Aim.TheVariants.{Origin}
-use Rattle.proxy_run.specs.declared.exchange.aim.Aim.TheVariants.{Site as ToSite}
-use Rattle.proxy_run.specs.declared.exchange.aim.AimFault.{AimFault}
-use Rattle.proxy_run.specs.declared.exchange.aim.AimFault.TheVariants.{ConnectRefused, SecureRefused, TargetRefused}
-use Rattle.proxy_run.specs.declared.exchange.aim.Target.{Target}
-use Rattle.proxy_run.specs.Aim.{is_of_site, aim_of_url, begins_with_slash, begins_with_https, aim_of_other, aim_of_target, aim_of}
+use Rattle.exchange.specs.declared.aim.Aim.{Aim}
+use Rattle.exchange.specs.declared.aim.Aim.TheVariants.{Origin}
+use Rattle.exchange.specs.declared.aim.Aim.TheVariants.{Site as ToSite}
+use Rattle.exchange.specs.declared.aim.AimFault.{AimFault}
+use Rattle.exchange.specs.declared.aim.AimFault.TheVariants.{ConnectRefused, SecureRefused, TargetRefused}
+use Rattle.exchange.specs.declared.aim.Target.{Target}
+use Rattle.exchange.specs.Aim.{is_of_site, aim_of_url, begins_with_slash, begins_with_https, aim_of_other, aim_of_target, aim_of}
 
 -- the target that is asked of an origin for this URL
 abbrev target_of : List ℕ → List ℕ → Parts → Target

@@ -2,7 +2,7 @@
 use Rattle.std.proofs.Common.{◌≡◌, ℕ, Bool, true, false, List, [], ◌∷◌, None, cond, refl, sym, ◌∙◌, ap, inl, inr}
 use Rattle.httparse.specs.Ascii.{carriage_return}
 use Rattle.capture.specs.Head.{Head, TooLong, Nothing, More, front_of, front_by, head_end, head_len, after_line_ends}
-use Rattle.proxy_run.specs.HeadReading.{EndsWithHead, MayBeBlank}
+use Rattle.http_head.specs.HeadReading.{EndsWithHead, MayBeBlank}
 
 no_head_of : (a b : Bool) (k : ℕ) (t : List ℕ) → cond a TooLong (cond b Nothing More) ≡ Head k t → ⊥
 no_head_of true b k t e = absurd (cc)

@@ -3,9 +3,9 @@ use Rattle.std.proofs.Common.{◌≡◌, ℕ, Bool, false, List, Ok, sym, ap, su
 use Rattle.capture.specs.Captures.{HasPayload}
 use Rattle.capture.specs.declared.book.Book.{Book}
 use Rattle.capture.specs.declared.captured.Taken.{Taken}
-use Rattle.proxy_run.specs.declared.exchange.aim.Target.{Target}
-use Rattle.proxy_run.specs.declared.http_wire.head.Received.{Received}
-use Rattle.proxy_run.specs.declared.http_wire.head.RequestHead.{RequestHead}
+use Rattle.exchange.specs.declared.aim.Target.{Target}
+use Rattle.http_head.specs.declared.head.Received.{Received}
+use Rattle.http_head.specs.declared.head.RequestHead.{RequestHead}
 use Rattle.proxy_run.specs.declared.session.replies.Prepared.{Prepared}
 use Rattle.proxy_run.specs.FirstAnswer.{IsAnswer}
 use Rattle.proxy_run.specs.Rounds.{taken_of, passed_on}

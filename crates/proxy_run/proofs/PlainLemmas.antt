@@ -12,8 +12,8 @@ use Rattle.std.proofs.lemmas.List.Sums.{length-filter}
 use Rattle.capture.specs.Fields.{NamedValue, is_named, values_of}
 use Rattle.capture.specs.Framing.{content_length, is_number}
 use Rattle.capture.specs.declared.limits.TheConstants.{BODY_LIMIT}
-use Rattle.proxy_run.specs.declared.http_wire.head.Field.{Field}
-use Rattle.proxy_run.specs.Heads.{named_value}
+use Rattle.http_head.specs.declared.head.Field.{Field}
+use Rattle.http_head.specs.Heads.{named_value}
 use Rattle.proxy_run.specs.ExchangeForms.{body_length, length_of_values}
 
 -- a test of the pairs is one of the fields

@@ -9,10 +9,10 @@ use Rattle.capture.specs.declared.refusal.Refusal.{Refusal}
 use Rattle.capture.specs.declared.refusal.Refusal.TheVariants as refusal
 use Rattle.capture.specs.Faults.{RoseBy, Rose}
 use Rattle.time_text.specs.Texts.{InRange}
-use Rattle.proxy_run.specs.declared.exchange.aim.Target.{Target}
-use Rattle.proxy_run.specs.declared.exchange.fetching.FetchFault.TheVariants as fault
-use Rattle.proxy_run.specs.declared.http_wire.head.Received.{Received}
-use Rattle.proxy_run.specs.declared.http_wire.head.RequestHead.{RequestHead}
+use Rattle.exchange.specs.declared.aim.Target.{Target}
+use Rattle.proxy_run.specs.declared.fetching.FetchFault.TheVariants as fault
+use Rattle.http_head.specs.declared.head.Received.{Received}
+use Rattle.http_head.specs.declared.head.RequestHead.{RequestHead}
 use Rattle.proxy_run.specs.declared.session.replies.Prepared.{Prepared}
 use Rattle.proxy_run.specs.Fetching.{LogsTranscript}
 use Rattle.proxy_run.specs.Gains.{Gains, Gained, Told}

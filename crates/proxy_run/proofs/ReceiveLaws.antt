@@ -1,16 +1,16 @@
 -- What receiving an answer shows of the bytes that the link gave.
-use Rattle.std.proofs.Common.{◌≡◌, ℕ, ◌<◌, Bool, true, List, [], ◌++◌, length, Some, Err, sym, ◌∙◌, ap, inl, inr, arith, append_assoc}
+use Rattle.std.proofs.Common.{◌≡◌, ℕ, ◌<◌, Bool, true, false, List, [], ◌++◌, length, Some, Err, refl, sym, ◌∙◌, ap, inl, inr, arith, append_assoc}
 use Rattle.std.proofs.lemmas.List.{append-nil}
 use Rattle.capture.specs.declared.framing.Framing.TheVariants.{Length}
 use Rattle.capture.specs.Head.{after_line_ends}
 use Rattle.capture.specs.declared.limits.TheConstants.{HEAD_LIMIT}
-use Rattle.proxy_run.specs.declared.exchange.fetching.FetchFault.{FetchFault}
-use Rattle.proxy_run.specs.declared.exchange.fetching.FetchFault.TheVariants.{DialFault, OriginFault, OriginEnded, NotBuilt, Memory}
-use Rattle.proxy_run.specs.declared.http_wire.head.ResponseHead.{ResponseHead}
+use Rattle.proxy_run.specs.declared.fetching.FetchFault.{FetchFault}
+use Rattle.proxy_run.specs.declared.fetching.FetchFault.TheVariants.{DialFault, OriginFault, OriginEnded, NotBuilt, Memory}
+use Rattle.http_head.specs.declared.head.ResponseHead.{ResponseHead}
 use Rattle.proxy_run.specs.Fetching.{Receives, EndsInHead}
 use Rattle.proxy_run.specs.FirstAnswer.{IsAnswer, IsNoAnswer, BeginsNoAnswer, IsPartOfAnswer, told_length}
-use Rattle.proxy_run.specs.HeadReading.{IsOpen, EndsWithHead}
-use Rattle.proxy_run.specs.Heads.{HoldsResponse}
+use Rattle.http_head.specs.HeadReading.{IsOpen, EndsWithHead}
+use Rattle.http_head.specs.Heads.{HoldsResponse}
 use Rattle.proxy_run.specs.WireBody.{EndsBefore}
 use Rattle.proxy_run.specs.WireFront.{StaysAccounted}
 
@@ -43,7 +43,7 @@ ended_in_head Memory given taken pending ended e p is_open t h = absurd h
 pub whole_answer : (given front pending now0 body rest : List ℕ) (head : ResponseHead) (n : ℕ) → given ≡ front ++ pending
     → StaysAccounted given pending now0 (body ++ rest) → EndsWithHead front → HoldsResponse (after_line_ends front) head
     → Some n ≡ told_length head → length body ≡ n
-    → IsAnswer now0 (record { head = head; framing = Length n; wire = body })
+    → IsAnswer now0 (record { head = head; framing = Length n; wire = body; cut = false })
 whole_answer given front pending now0 body rest head n e accounts ends holds told is_n = record {
   front = front;
   rest = rest;
@@ -51,6 +51,7 @@ whole_answer given front pending now0 body rest head n e accounts ends holds tol
   reads = record { ends = ends; holds = holds };
   form = sym told ∙ ap (λ k. Some k) (sym is_n);
   framing = ap (λ k. Length k) (sym is_n);
+  whole = refl;
 }
 
 pub lacks_body : (given front pending now0 pending_now : List ℕ) (head : ResponseHead) (n : ℕ) → given ≡ front ++ pending

@@ -21,12 +21,14 @@ use Rattle.capture.specs.Framing.{transfer_encoding, content_length, request_fra
 use Rattle.capture.specs.Message.{IsWholeRequest}
 use Rattle.capture.specs.Target.{is_target_byte, is_http_target, begins_with_http, is_plain_authority, authority_of, authority_len, is_target_text, after_authority, origin_form}
 use Rattle.capture.specs.declared.framing.Framing.TheVariants.{Empty}
-use Rattle.proxy_run.specs.declared.exchange.aim.Target.{Target}
-use Rattle.proxy_run.specs.declared.http_wire.head.Version.{Version}
-use Rattle.proxy_run.specs.declared.http_wire.head.Version.TheVariants.{Http10, Http11}
+use Rattle.exchange.specs.declared.aim.Target.{Target}
+use Rattle.http_head.specs.declared.head.RequestHead.{RequestHead as ReadHead}
+use Rattle.http_head.specs.declared.head.Version.{Version}
+use Rattle.http_head.specs.declared.head.Version.TheVariants.{Http10, Http11}
 use Rattle.proxy_run.specs.ExchangeForms.{has_hop, is_plain_request}
-use Rattle.proxy_run.specs.Heads.{minor_of}
-use Rattle.proxy_run.specs.Texts.{field_line, goes_to_origin, via_line, close_line, host_line, length_line_of, request_line, field_lines, forwarded}
+use Rattle.http_head.specs.Heads.{minor_of, named_value}
+use Rattle.exchange.specs.Texts.{field_line, listed_names, goes_to_origin, via_line, close_line, host_line, length_line_of, request_line, field_lines, forwarded}
+use Rattle.proxy_run.specs.Rounds.{sent_of}
 use Rattle.proxy_run.proofs.AimedTargets.{IsAimedAt}
 use Rattle.proxy_run.proofs.FramingLemmas.{no_coding}
 use Rattle.proxy_run.proofs.HostBytes.{host_can_be_value, port_has_16_bits}
@@ -51,7 +53,7 @@ close_field = (codes "Connection", codes "close")
 
 sent_fields : ℕ → List NamedValue → Target → List NamedValue
 sent_fields minor fields target =
-    host_field target.host target.port ∷ (filter (goes_to_origin fields) fields ++ via_field minor ∷ close_field ∷ [])
+    host_field target.host target.port ∷ (filter (goes_to_origin (listed_names fields)) fields ++ via_field minor ∷ close_field ∷ [])
 
 -- the grammar's head of what goes to an origin
 pub sent_head : List ℕ → ℕ → List NamedValue → Target → RequestHead
@@ -95,10 +97,10 @@ line_of_close = refl
 
 lines_sent : (minor : ℕ) (fields : List NamedValue) (target : Target)
     → flat_map print_field (map as_field (sent_fields minor fields target))
-    ≡ host_line target.host target.port ++ (field_lines (goes_to_origin fields) fields ++ (via_line minor ++ (close_line ++ [])))
+    ≡ host_line target.host target.port ++ (field_lines (goes_to_origin (listed_names fields)) fields ++ (via_line minor ++ (close_line ++ [])))
 unfolding sent_fields field_lines
 lines_sent minor fields target =
-    let kept = filter (goes_to_origin fields) fields in
+    let kept = filter (goes_to_origin (listed_names fields)) fields in
     lines_of_fields (host_field target.host target.port ∷ (kept ++ via_field minor ∷ close_field ∷ []))
     ∙ ap (λ text. field_line (host_field target.host target.port) ++ text) (flat_map-append field_line kept (via_field minor ∷ close_field ∷ []))
     ∙ ap (λ line. line ++ (flat_map field_line kept ++ (field_line (via_field minor) ++ (field_line close_field ++ [])))) (sym (line_of_host target.host target.port))
@@ -113,11 +115,14 @@ first_line : (method path : List ℕ) → request_line method path ≡ method ++
 unfolding request_line
 first_line method path = ap (λ text. text ++ codes " HTTP/1.1" ++ 13 ∷ 10 ∷ []) (append_assoc method (32 ∷ []) path)
 
-sent_text : (method : List ℕ) (minor : ℕ) (fields : List NamedValue) (target : Target)
-    → forwarded method minor fields target Empty [] ≡ print_request (sent_head method minor fields target) ++ []
+sent_text : (head : ReadHead) (target : Target)
+    → sent_of head target ≡ print_request (sent_head head.method (minor_of head.version) (map named_value head.fields) target) ++ []
 unfolding forwarded length_line_of print_request sent_head
-sent_text method minor fields target =
-    regrouped (request_line method target.path) (host_line target.host target.port) (field_lines (goes_to_origin fields) fields) (via_line minor) close_line
+sent_text head target =
+    let method = head.method in
+    let minor = minor_of head.version in
+    let fields = map named_value head.fields in
+    regrouped (request_line method target.path) (host_line target.host target.port) (field_lines (goes_to_origin (listed_names fields)) fields) (via_line minor) close_line
     ∙ ap (λ lines. request_line method target.path ++ (lines ++ 13 ∷ 10 ∷ [])) (sym (lines_sent minor fields target))
     ∙ ap (λ line. line ++ (flat_map print_field (map as_field (sent_fields minor fields target)) ++ 13 ∷ 10 ∷ [])) (first_line method target.path)
     ∙ sym (append-nil _)
@@ -189,9 +194,9 @@ fields_sent : (version : Version) (fields : List NamedValue) (target : Target) �
 unfolding sent_fields
 fields_sent version fields target good host port =
     let minor = minor_of version in
-    let kept = filter (goes_to_origin fields) fields in
+    let kept = filter (goes_to_origin (listed_names fields)) fields in
     let last = All-cons IsGoodField (via_field minor) (close_field ∷ []) (good_via version) (All-cons IsGoodField close_field [] good_close (All-nil IsGoodField)) in
-    let rest = All-append IsGoodField kept (via_field minor ∷ close_field ∷ []) (All-filter (goes_to_origin fields) IsGoodField fields good) last in
+    let rest = All-append IsGoodField kept (via_field minor ∷ close_field ∷ []) (All-filter (goes_to_origin (listed_names fields)) IsGoodField fields good) last in
     let all = All-cons IsGoodField (host_field target.host target.port) (kept ++ via_field minor ∷ close_field ∷ []) (good_host target.host target.port host port) rest in
     let sent = host_field target.host target.port ∷ (kept ++ via_field minor ∷ close_field ∷ []) in
     All-map IsField as_field sent (All-weaker IsGoodField (λ f. IsField (as_field f)) good_field sent all)
@@ -269,9 +274,9 @@ none_sent : (name : List ℕ) (minor : ℕ) (fields : List NamedValue) (target :
 unfolding sent_fields
 none_sent name minor fields target host via close none =
     names_stay name (sent_fields minor fields target)
-    ∙ ap (λ b. b || list_any (is_named name) (filter (goes_to_origin fields) fields ++ via_field minor ∷ close_field ∷ [])) host
-    ∙ list_any-append (is_named name) (filter (goes_to_origin fields) fields) (via_field minor ∷ close_field ∷ [])
-    ∙ ap (λ b. b || (is_named name (via_field minor) || (is_named name close_field || false))) (none_kept (is_named name) (goes_to_origin fields) fields none)
+    ∙ ap (λ b. b || list_any (is_named name) (filter (goes_to_origin (listed_names fields)) fields ++ via_field minor ∷ close_field ∷ [])) host
+    ∙ list_any-append (is_named name) (filter (goes_to_origin (listed_names fields)) fields) (via_field minor ∷ close_field ∷ [])
+    ∙ ap (λ b. b || (is_named name (via_field minor) || (is_named name close_field || false))) (none_kept (is_named name) (goes_to_origin (listed_names fields)) fields none)
     ∙ ap (λ b. b || (is_named name close_field || false)) via
     ∙ ap (λ b. b || false) close
 
@@ -312,16 +317,18 @@ head_sent method uri version fields target named good at =
     }
 
 -- what goes to an origin of a plain request is one whole request without a body
-pub whole_sent : (method uri : List ℕ) (version : Version) (received : List Field) (fields : List NamedValue) (target : Target)
-    → IsToken method → All IsField received → fields ≡ named_values received → is_plain_request method fields ≡ true → IsAimedAt method uri target
-    → IsWholeRequest (forwarded method (minor_of version) fields target Empty []) (sent_head method (minor_of version) fields target) Empty []
-whole_sent method uri version received fields target named all is plain at =
-    let parts = plain_parts method fields plain in
+pub whole_sent : (head : ReadHead) (received : List Field) (target : Target)
+    → IsToken head.method → All IsField received → map named_value head.fields ≡ named_values received
+    → is_plain_request head.method (map named_value head.fields) ≡ true → IsAimedAt head.method head.target target
+    → IsWholeRequest (sent_of head target) (sent_head head.method (minor_of head.version) (map named_value head.fields) target) Empty []
+whole_sent head received target named all is plain at =
+    let fields = map named_value head.fields in
+    let parts = plain_parts head.method fields plain in
     record {
       head = record {
-        reads = (head_sent method uri version fields target named (subst (All IsGoodField) (sym is) (received_fields received all)) at, sent_text method (minor_of version) fields target);
+        reads = (head_sent head.method head.target head.version fields target named (subst (All IsGoodField) (sym is) (received_fields received all)) at, sent_text head target);
         at_once = unfold sent_head in refl;
       };
-      framed = framing_sent method (minor_of version) fields target parts.0 parts.1;
+      framed = framing_sent head.method (minor_of head.version) fields target parts.0 parts.1;
       body = refl;
     }

@@ -12,8 +12,8 @@ use Rattle.proxy_run.specs.declared.session.Served.TheVariants.{Done, ClientBrok
 use Rattle.capture.specs.declared.refusal.Refusal.{Refusal}
 use Rattle.capture.specs.Faults.{Rose}
 use Rattle.capture.specs.Growth.{Grows}
-use Rattle.proxy_run.specs.declared.exchange.aim.Target.{Target}
-use Rattle.proxy_run.specs.declared.http_wire.head.RequestHead.{RequestHead}
+use Rattle.exchange.specs.declared.aim.Target.{Target}
+use Rattle.http_head.specs.declared.head.RequestHead.{RequestHead}
 use Rattle.proxy_run.specs.declared.session.replies.Prepared.{Prepared}
 use Rattle.proxy_run.specs.Connection.{GoesOn, EndsAs, EndsWell, EndsInside, WasReadToItsEnd, Writes, IsConnection}
 use Rattle.proxy_run.specs.FirstRequest.{IsAsked, IsRefused}

@@ -8,13 +8,13 @@ use Rattle.capture.specs.Target.{is_accepted_uri}
 use Rattle.capture.specs.WellFormed.{IsRequestOf, IsResponseTo, IsWellFormed}
 use Rattle.capture.specs.declared.framing.Framing.TheVariants.{Empty, Length}
 use Rattle.capture.specs.declared.site.Site.{Site}
-use Rattle.proxy_run.specs.declared.exchange.aim.Target.{Target}
-use Rattle.proxy_run.specs.declared.http_wire.head.Received.{Received}
-use Rattle.proxy_run.specs.declared.http_wire.head.RequestHead.{RequestHead}
+use Rattle.exchange.specs.declared.aim.Target.{Target}
+use Rattle.http_head.specs.declared.head.Received.{Received}
+use Rattle.http_head.specs.declared.head.RequestHead.{RequestHead}
 use Rattle.proxy_run.specs.ExchangeForms.{has_hop}
 use Rattle.proxy_run.specs.FirstAnswer.{IsAnswer}
 use Rattle.proxy_run.specs.FirstRequest.{IsAsked}
-use Rattle.proxy_run.specs.Heads.{minor_of, named_value}
+use Rattle.http_head.specs.Heads.{minor_of, named_value}
 use Rattle.proxy_run.specs.Rounds.{sent_of, taken_of}
 use Rattle.proxy_run.specs.Serving.{IsGetOf}
 use Rattle.proxy_run.proofs.AimedTargets.{aimed_at, accepted}
@@ -39,7 +39,7 @@ sent_is_request site wire head target asked =
       head = sent_head head.method (minor_of head.version) fields target;
       framing = Empty;
       wire = [];
-      whole = whole_sent head.method head.target head.version held.fields fields target (subst grammar.IsToken (sym of.method) is.method) is.fields of.fields asked.form.plain at;
+      whole = whole_sent head held.fields target (subst grammar.IsToken (sym of.method) is.method) is.fields of.fields asked.form.plain at;
       named = sent_method head.method (minor_of head.version) fields target;
     }
 

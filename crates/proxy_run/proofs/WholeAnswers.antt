@@ -10,10 +10,10 @@ use Rattle.capture.specs.Framing.{content_length, response_framing}
 use Rattle.capture.specs.Message.{IsResponseHeadText, BeginsWithResponse, IsWholeResponse}
 use Rattle.capture.specs.Methods.{asks_for_head}
 use Rattle.capture.specs.declared.framing.Framing.TheVariants.{Length}
-use Rattle.proxy_run.specs.declared.http_wire.head.Received.{Received}
+use Rattle.http_head.specs.declared.head.Received.{Received}
 use Rattle.proxy_run.specs.ExchangeForms.{has_hop, is_plain_request}
 use Rattle.proxy_run.specs.FirstAnswer.{IsAnswer}
-use Rattle.proxy_run.specs.Heads.{named_value}
+use Rattle.http_head.specs.Heads.{named_value}
 use Rattle.proxy_run.proofs.FramingLemmas.{response_framing-plain}
 
 -- a head that is read alone is read the same with a rest behind it

@@ -4,10 +4,10 @@ use Rattle.outside.specs.declared.dialer.Transcript.{Transcript}
 use Rattle.outside.specs.Records.{Links, logged}
 use Rattle.capture.specs.Faults.{Rose}
 use Rattle.capture.specs.declared.limits.TheConstants.{HEAD_LIMIT}
-use Rattle.proxy_run.specs.declared.exchange.aim.Target.{Target}
-use Rattle.proxy_run.specs.declared.exchange.fetching.FetchFault.{FetchFault}
-use Rattle.proxy_run.specs.declared.exchange.fetching.FetchFault.TheVariants.{DialFault, OriginFault, OriginEnded, NotBuilt, Memory}
-use Rattle.proxy_run.specs.declared.http_wire.head.Received.{Received}
+use Rattle.exchange.specs.declared.aim.Target.{Target}
+use Rattle.proxy_run.specs.declared.fetching.FetchFault.{FetchFault}
+use Rattle.proxy_run.specs.declared.fetching.FetchFault.TheVariants.{DialFault, OriginFault, OriginEnded, NotBuilt, Memory}
+use Rattle.http_head.specs.declared.head.Received.{Received}
 use Rattle.proxy_run.specs.FirstAnswer.{IsAnswer, IsNoAnswer, IsPartOfAnswer}
 use Rattle.proxy_run.specs.WireText.{IsFrontOf}
 

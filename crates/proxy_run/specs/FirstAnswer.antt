@@ -1,15 +1,15 @@
 -- The first form of an origin's answer, and what an origin's bytes are while only that form is passed on.
-use Rattle.std.specs.Prelude.{◌≡◌, ℕ, ◌<◌, ◌⊎◌, List, ◌++◌, length, map, Option, Some, None}
+use Rattle.std.specs.Prelude.{◌≡◌, ℕ, ◌<◌, ◌⊎◌, false, List, ◌++◌, length, map, Option, Some, None}
 use Rattle.httparse.specs.Grammar as grammar
 use Rattle.capture.specs.Head.{head_end, after_line_ends}
 use Rattle.capture.specs.Message.{IsResponseHeadText}
 use Rattle.capture.specs.declared.framing.Framing.TheVariants.{Length}
 use Rattle.capture.specs.declared.limits.TheConstants.{HEAD_LIMIT}
-use Rattle.proxy_run.specs.declared.http_wire.head.Received.{Received}
-use Rattle.proxy_run.specs.declared.http_wire.head.ResponseHead.{ResponseHead}
+use Rattle.http_head.specs.declared.head.Received.{Received}
+use Rattle.http_head.specs.declared.head.ResponseHead.{ResponseHead}
 use Rattle.proxy_run.specs.ExchangeForms.{plain_length}
-use Rattle.proxy_run.specs.HeadReading.{IsOpen, EndsWithHead, IsTooLong}
-use Rattle.proxy_run.specs.Heads.{HoldsResponse, named_value}
+use Rattle.http_head.specs.HeadReading.{IsOpen, EndsWithHead, IsTooLong}
+use Rattle.http_head.specs.Heads.{HoldsResponse, named_value}
 
 -- the length that a head of the first form tells of its body
 abbrev pub told_length : ResponseHead → Option ℕ
@@ -20,7 +20,7 @@ pub record EndsWithResponse (front : List ℕ) (head : ResponseHead) : Type 0 wh
   pub ends : EndsWithHead front
   pub holds : HoldsResponse (after_line_ends front) head
 
--- What the origin gave begins with this answer, which is of the first form. What follows it isn't looked at.
+-- What the origin gave begins with this answer, which is of the first form and whole. What follows it isn't looked at.
 pub record IsAnswer (given : List ℕ) (received : Received) : Type 0 where
   pub front : List ℕ
   pub rest : List ℕ
@@ -28,6 +28,7 @@ pub record IsAnswer (given : List ℕ) (received : Received) : Type 0 where
   pub reads : EndsWithResponse front received.head
   pub form : told_length received.head ≡ Some (length received.wire)
   pub framing : received.framing ≡ Length (length received.wire)
+  pub whole : received.cut ≡ false
 
 -- The bytes end with a response head of another form.
 pub record IsOtherAnswer (front : List ℕ) : Type 0 where

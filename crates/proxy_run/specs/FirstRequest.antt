@@ -6,13 +6,13 @@ use Rattle.capture.specs.Message.{IsRequestHeadText}
 use Rattle.capture.specs.declared.refusal.Refusal.{Refusal}
 use Rattle.capture.specs.declared.refusal.Refusal.TheVariants.{Malformed, NotBuilt}
 use Rattle.capture.specs.declared.site.Site.{Site}
-use Rattle.proxy_run.specs.declared.exchange.aim.Aim.TheVariants.{Origin}
-use Rattle.proxy_run.specs.declared.exchange.aim.Target.{Target}
-use Rattle.proxy_run.specs.declared.http_wire.head.RequestHead.{RequestHead}
-use Rattle.proxy_run.specs.Aim.{aim_of}
+use Rattle.exchange.specs.declared.aim.Aim.TheVariants.{Origin}
+use Rattle.exchange.specs.declared.aim.Target.{Target}
+use Rattle.http_head.specs.declared.head.RequestHead.{RequestHead}
+use Rattle.exchange.specs.Aim.{aim_of}
 use Rattle.proxy_run.specs.ExchangeForms.{is_plain_request}
-use Rattle.proxy_run.specs.HeadReading.{IsOpen, EndsWithHead, IsTooLong, MayBeBlank}
-use Rattle.proxy_run.specs.Heads.{HoldsRequest, named_value}
+use Rattle.http_head.specs.HeadReading.{IsOpen, EndsWithHead, IsTooLong, MayBeBlank}
+use Rattle.http_head.specs.Heads.{HoldsRequest, named_value}
 
 -- The request is of the first form and asks for this origin.
 pub record IsFirstForm (site : Site) (head : RequestHead) (target : Target) : Type 0 where

@@ -3,7 +3,7 @@ use Rattle.std.specs.Prelude.{ℕ, Bool, List, [], ◌∷◌, ◌++◌, codes, d
 use Rattle.httparse.specs.Ascii.{line_feed, space, crlf_bytes}
 use Rattle.capture.specs.declared.refusal.Refusal.{Refusal}
 use Rattle.capture.specs.declared.refusal.Refusal.TheVariants.{Malformed, TargetRefused, BadTime, BadAcceptDatetime, NotAForm, NoCapture, NoSuch, MethodRefused, BodyTooLong, HeadTooLong, ClockRange, ConnectRefused, SecureRefused, CodingRefused, DialFault, OriginFault, OriginEnded, OriginMalformed, OriginTooLong, TooManyInterim, Full, DiskFault, Damaged, NotBuilt}
-use Rattle.proxy_run.specs.Texts.{length_line, close_line_where}
+use Rattle.exchange.specs.Texts.{length_line, close_line_where}
 
 -- the status code and its reason phrase
 unfoldable pub refusal_status : Refusal → List ℕ

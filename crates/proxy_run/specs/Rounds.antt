@@ -1,5 +1,5 @@
 -- One connection, as rounds of a request and its answer.
-use Rattle.std.specs.Prelude.{◌≡◌, ℕ, ◌⊎◌, Bool, true, false, ◌||◌, List, [], ◌∷◌, map, ⊤}
+use Rattle.std.specs.Prelude.{◌≡◌, ℕ, ◌⊎◌, Bool, true, false, ◌||◌, List, [], ◌∷◌, ⊤}
 use Rattle.std.specs.List.{flat_map}
 use Rattle.outside.specs.declared.dialer.Transcript.{Transcript}
 use Rattle.capture.specs.Captures.{KeepsPayload}
@@ -10,19 +10,19 @@ use Rattle.capture.specs.declared.framing.Framing.TheVariants.{Empty}
 use Rattle.capture.specs.declared.refusal.Refusal.{Refusal}
 use Rattle.capture.specs.declared.refusal.Refusal.TheVariants.{ClockRange, DialFault, OriginFault, OriginEnded, NotBuilt, DiskFault}
 use Rattle.capture.specs.declared.site.Site.{Site}
-use Rattle.proxy_run.specs.declared.exchange.aim.Target.{Target}
-use Rattle.proxy_run.specs.declared.http_wire.head.Received.{Received}
-use Rattle.proxy_run.specs.declared.http_wire.head.RequestHead.{RequestHead}
-use Rattle.proxy_run.specs.declared.http_wire.head.Version.{Version}
-use Rattle.proxy_run.specs.declared.http_wire.head.Version.TheVariants.{Http10, Http11}
+use Rattle.exchange.specs.declared.aim.Target.{Target}
+use Rattle.http_head.specs.declared.head.Received.{Received}
+use Rattle.http_head.specs.declared.head.RequestHead.{RequestHead}
+use Rattle.http_head.specs.declared.head.RequestMessage.{RequestMessage}
+use Rattle.http_head.specs.declared.head.Version.{Version}
+use Rattle.http_head.specs.declared.head.Version.TheVariants.{Http10, Http11}
 use Rattle.time_text.specs.Texts.{InRange}
 use Rattle.proxy_run.specs.FirstRequest.{IsAsked, IsRefused}
 use Rattle.proxy_run.specs.FirstAnswer.{IsAnswer, IsNoAnswer, IsPartOfAnswer}
 use Rattle.proxy_run.specs.Gains.{Gains, no_gains, both_gains}
-use Rattle.proxy_run.specs.Heads.{minor_of, named_value}
 use Rattle.proxy_run.specs.Refusals.{refusal_text, memory_text}
 use Rattle.proxy_run.specs.Storing.{with_wire, with_first}
-use Rattle.proxy_run.specs.Texts.{forwarded, answered}
+use Rattle.exchange.specs.Texts.{forwarded, answered}
 use Rattle.proxy_run.specs.WireText.{IsFrontOf}
 
 -- How a request that goes to an origin is answered: by a refusal, for a fault of the outside or for what the origin
@@ -59,15 +59,17 @@ pub record Round : Type 0 where
   pub traces : Traces
   pub text : List ℕ
 
+-- a request without a body
+abbrev pub without_body : RequestHead → RequestMessage
+without_body head = record { head = head; framing = Empty; payload = [] }
+
 -- what the origin gets of a request without a body
 abbrev pub sent_of : RequestHead → Target → List ℕ
-sent_of head target = forwarded head.method (minor_of head.version) (map named_value head.fields) target Empty []
+sent_of head target = forwarded (without_body head) target
 
 -- what the client gets of an origin's response to GET
 abbrev pub passed_on : Received → Bool → List ℕ
-passed_on received closes =
-    answered (minor_of received.head.version) received.head.status received.head.reason
-    (map named_value received.head.fields) received.wire false closes
+passed_on received closes = answered received received.wire false closes
 
 -- The link led to the target, and all of the request went there.
 pub record WasAsked (head : RequestHead) (target : Target) (t : Transcript) : Type 0 where

@@ -14,9 +14,9 @@ use Rattle.capture.specs.WellFormed.{IsRequestOf, IsWellFormed}
 use Rattle.capture.specs.declared.refusal.Refusal.TheVariants.{Malformed, NotBuilt, DiskFault}
 use Rattle.httparse.specs.Grammar as grammar
 use Rattle.capture.specs.declared.site.Site.{Site}
-use Rattle.proxy_run.specs.declared.exchange.aim.Target.{Target}
-use Rattle.proxy_run.specs.declared.http_wire.head.Received.{Received}
-use Rattle.proxy_run.specs.declared.http_wire.head.RequestHead.{RequestHead}
+use Rattle.exchange.specs.declared.aim.Target.{Target}
+use Rattle.http_head.specs.declared.head.Received.{Received}
+use Rattle.http_head.specs.declared.head.RequestHead.{RequestHead}
 use Rattle.proxy_run.specs.declared.session.Served.{Served}
 use Rattle.proxy_run.specs.declared.session.Served.TheVariants.{Done, ClientBroke, ClientEndedEarly, ClientRefused, WantOfMemory}
 use Rattle.proxy_run.specs.declared.session.requests.Requested.{Requested}
@@ -25,8 +25,8 @@ use Rattle.proxy_run.specs.declared.session.replies.Prepared.{Prepared}
 use Rattle.proxy_run.specs.declared.session.waiting.Awaited.{Awaited}
 use Rattle.proxy_run.specs.declared.session.waiting.Awaited.TheVariants as awaited
 use Rattle.proxy_run.specs.FirstRequest.{IsAsked, IsRefused, IsFirstForm, IsOtherFormText, HasBegun}
-use Rattle.proxy_run.specs.HeadReading.{IsOpen, IsBlank, MayBeBlank}
-use Rattle.proxy_run.specs.Heads.{HoldsRequest}
+use Rattle.http_head.specs.HeadReading.{IsOpen, IsBlank, MayBeBlank}
+use Rattle.http_head.specs.Heads.{HoldsRequest}
 use Rattle.proxy_run.specs.Gains.{Gained, Told}
 use Rattle.proxy_run.specs.Rounds.{Reply, LacksMemory, IsReply, IsReplied, Traces, closes_reply, gains_by, Replied, passed_on, sent_of, taken_of}
 use Rattle.proxy_run.specs.Storing.{empty_book, with_first, with_wire}

@@ -1,8 +1,8 @@
 -- What reading a body of a told length leaves.
 use Rattle.std.specs.Prelude.{◌≡◌, ℕ, ◌<◌, ◌≤◌, List, [], ◌++◌, length, ⊤}
 use Rattle.capture.specs.Faults.{Rose}
-use Rattle.proxy_run.specs.declared.http_wire.body.BodyRead.{BodyRead}
-use Rattle.proxy_run.specs.declared.http_wire.body.BodyRead.TheVariants.{Whole, Ended, Broken, Memory}
+use Rattle.proxy_run.specs.declared.links.body.BodyRead.{BodyRead}
+use Rattle.proxy_run.specs.declared.links.body.BodyRead.TheVariants.{Whole, Ended, Broken, Memory}
 use Rattle.proxy_run.specs.WireFront.{StaysAccounted}
 
 -- Fewer than n bytes were taken, and none is left.

@@ -1,9 +1,9 @@
 -- What reading a head from a link leaves.
 use Rattle.std.specs.Prelude.{◌≡◌, ℕ, ◌≤◌, List, ◌++◌, ⊤}
 use Rattle.capture.specs.Faults.{Rose}
-use Rattle.proxy_run.specs.HeadReading.{IsOpen, EndsWithHead, IsTooLong}
-use Rattle.proxy_run.specs.declared.http_wire.front.FrontRead.{FrontRead}
-use Rattle.proxy_run.specs.declared.http_wire.front.FrontRead.TheVariants.{Head, TooLong, Ended, Broken, Memory}
+use Rattle.http_head.specs.HeadReading.{IsOpen, EndsWithHead, IsTooLong}
+use Rattle.proxy_run.specs.declared.links.front.FrontRead.{FrontRead}
+use Rattle.proxy_run.specs.declared.links.front.FrontRead.TheVariants.{Head, TooLong, Ended, Broken, Memory}
 
 -- what is said of the stream so far
 abbrev pub ReadsFront : FrontRead → List ℕ → Type 0

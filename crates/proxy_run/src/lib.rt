@@ -2,9 +2,11 @@
 #![tactic(auto)]
 
 mod archive;
-mod exchange;
-mod http_wire;
+mod fetching;
+mod links;
 mod piping;
+mod plain;
+mod refuse;
 mod running;
 mod session;
 mod status;

@@ -8,7 +8,7 @@ ghost use Rattle.proxy_run.specs.Words.{command_of};
 ghost use Rattle.proxy_run.specs.declared.words.Command.TheVariants.{Pipe};
 
 use crate::archive::Archive;
-use crate::http_wire::print_all;
+use crate::links::print_all;
 use crate::piping::pipe;
 use crate::status::Status;
 use crate::words;

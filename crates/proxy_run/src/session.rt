@@ -18,10 +18,12 @@ mod requests;
 mod waiting;
 
 use crate::archive::Archive;
-use crate::exchange::{Target, memory_text, refusal_text};
-use crate::http_wire::{RequestHead, Window, write_all};
+use crate::links::{Window, write_all};
+use crate::refuse::{memory_text, refusal_text};
 use capture::{Failed, Memory, Refusal, Site};
 use disk_model::Disk;
+use exchange::Target;
+use http_head::RequestHead;
 use outside::{Clock, Dialer, Link};
 use preparing::prepare;
 use requests::{Requested, read_request};

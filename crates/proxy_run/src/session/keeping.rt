@@ -8,11 +8,11 @@ ghost use Rattle.proxy_run.specs.Storing.{Keeps, empty_book};
 
 use super::replies::{Prepared, pass_on, refuse};
 use crate::archive::Archive;
-use crate::exchange::Target;
-use crate::http_wire::{Received, RequestHead};
 use crate::storing::{StoreFault, store_first};
 use capture::{Bytes, Memory, Refusal, Taken};
 use disk_model::Disk;
+use exchange::Target;
+use http_head::{Received, RequestHead};
 use std::alloc::Global;
 
 /// A request that is asked of an origin.

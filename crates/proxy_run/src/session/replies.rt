@@ -6,9 +6,10 @@ ghost use Rattle.proxy_run.specs.Rounds as rounds;
 ghost use Rattle.proxy_run.specs.Serving.{EndsBy, IsEnd};
 
 use super::Served;
-use crate::exchange::{client_text, refusal_text};
-use crate::http_wire::Received;
+use crate::refuse::refusal_text;
 use capture::{Bytes, Memory, Refusal};
+use exchange::client_text;
+use http_head::Received;
 use std::alloc::Global;
 
 /// A reply that is ready to be written.

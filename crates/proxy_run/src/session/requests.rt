@@ -2,11 +2,11 @@
 ghost use Rattle.std.specs.Prelude.{◌≡◌, ◌≤◌, [], true, IsTrue};
 ghost use Rattle.proxy_run.specs.Serving.{TakesRequest, OnRequestEnded, CountsRequest, IsJudged};
 
-use crate::exchange::{Aim, AimFault, Target, aim_of, is_plain_request};
-use crate::http_wire::{
-    FrontRead, HeadReader, RequestHead, Window, WireFault, read_front, read_request_head,
-};
+use crate::links::{FrontRead, Window, read_front};
+use crate::plain::is_plain_request;
 use capture::{Refusal, Site};
+use exchange::{Aim, AimFault, Target, aim_of};
+use http_head::{HeadReader, RequestHead, WireFault, read_request_head};
 use outside::Link;
 use std::alloc::Global;
 

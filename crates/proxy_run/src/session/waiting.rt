@@ -1,11 +1,12 @@
 //! Waits for what comes behind an answer.
 ghost use Rattle.std.specs.Prelude.{◌≡◌, ◌⊎◌, ◌++◌, [], true, IsTrue};
-ghost use Rattle.proxy_run.specs.HeadReading.{IsOpen, MayBeBlank};
+ghost use Rattle.http_head.specs.HeadReading.{IsOpen, MayBeBlank};
 ghost use Rattle.proxy_run.specs.WireFront.{StaysAccounted};
 ghost use Rattle.proxy_run.specs.Serving.{TakesAwaited, IsAwaited, OnAwaitedEnd, CountsAwaited};
 
-use crate::http_wire::{HeadReader, Progress, Window};
+use crate::links::Window;
 use capture::{Failed, Memory};
+use http_head::{HeadProgress, HeadReader};
 use outside::Link;
 use std::alloc::Global;
 
@@ -61,9 +62,9 @@ fn skip_line_ends<L: Link>(client: &mut L, window: &mut Window, reader: &mut Hea
             Ok(fed) => {
                 window.advance(fed.used);
                 match fed.progress {
-                    Progress::More => {}
-                    Progress::Head => return Awaited::Begun,
-                    Progress::TooLong => return Awaited::Begun,
+                    HeadProgress::More => {}
+                    HeadProgress::Head => return Awaited::Begun,
+                    HeadProgress::TooLong => return Awaited::Begun,
                 }
                 if !reader.may_be_blank() {
                     return Awaited::Begun;

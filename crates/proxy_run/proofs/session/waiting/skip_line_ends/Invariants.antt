@@ -1,7 +1,7 @@
 -- What the reader has taken is line ends, but perhaps for a CR, and the head's limit bounds it.
 use Rattle.std.proofs.Common.{◌≡◌, ◌+◌, ◌-◌, ◌++◌, IsTrue, length}
 use Rattle.capture.specs.declared.limits.TheConstants.{HEAD_LIMIT}
-use Rattle.proxy_run.specs.HeadReading.{IsOpen, MayBeBlank}
+use Rattle.http_head.specs.HeadReading.{IsOpen, MayBeBlank}
 use Rattle.proxy_run.specs.WireFront.{StaysAccounted}
 use Rattle.proxy_run.proofs.session.waiting.skip_line_ends.Given as goal
 

@@ -1,0 +1,3 @@
+mod AimLemmas
+mod FilterLemmas
+mod MemberLemmas

@@ -1,0 +1,6 @@
+mod BlankLaws
+mod FeedLaws
+mod FrontLaws
+mod GrammarLaws
+mod ParseLaws
+mod SeekLaws

@@ -1,0 +1,15 @@
+use Rattle.std.proofs.Common.{sym, subst}
+use Rattle.std.specs.Prelude.{IsAscii}
+use Rattle.http_head.specs.HeadSpans.{HasAsciiNames}
+use Rattle.http_head.proofs.ParseLaws.{request_method_is_ascii, request_names_are_ascii}
+use Rattle.http_head.proofs.parse.copy_request.Goals as goal
+
+pub copy_text-requires : goal.copy_text-requires
+copy_text-requires c =
+    subst IsAscii (sym c.of.ensures)
+    (request_method_is_ascii c.args.text.now c.args.headers.now c.args.spans c.requires.spans)
+
+pub copy_fields-requires-clause-names : goal.copy_fields-requires-clause-names
+copy_fields-requires-clause-names c =
+    subst (HasAsciiNames c.args.text.now) (sym c.split_at.ensures.front)
+    (request_names_are_ascii c.args.text.now c.args.headers.now c.args.spans c.requires.spans)

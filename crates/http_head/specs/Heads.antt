@@ -1,0 +1,56 @@
+-- A head in parts stands for the head of the grammar that its text is.
+use Rattle.std.specs.Prelude.{◌≡◌, ℕ, List, map, ⊤}
+use Rattle.httparse.specs.Grammar as grammar
+use Rattle.capture.specs.Fields.{NamedValue, named_values}
+use Rattle.capture.specs.Message.{IsRequestHeadText, IsResponseHeadText}
+use Rattle.http_head.specs.declared.head.Field.{Field}
+use Rattle.http_head.specs.declared.head.RequestHead.{RequestHead}
+use Rattle.http_head.specs.declared.head.ResponseHead.{ResponseHead}
+use Rattle.http_head.specs.declared.head.Version.{Version}
+use Rattle.http_head.specs.declared.head.Version.TheVariants.{Http10, Http11}
+use Rattle.http_head.specs.declared.head.WireFault.{WireFault}
+use Rattle.http_head.specs.declared.head.WireFault.TheVariants.{Malformed, HeadTooLong, BodyTooLong, CodingRefused, EndedEarly, Memory}
+
+-- the minor version's digit
+abbrev pub minor_of : Version → ℕ
+minor_of Http10 = 0
+minor_of Http11 = 1
+
+-- a field's name and value
+abbrev pub named_value : Field → NamedValue
+named_value f = (f.name, f.value)
+
+-- the parts are those of the request head h, whose text this is
+pub record IsRequestOf (text : List ℕ) (h : grammar.RequestHead) (head : RequestHead) : Type 0 where
+  pub reads : IsRequestHeadText text h
+  pub method : head.method ≡ h.method
+  pub target : head.target ≡ h.target
+  pub version : minor_of head.version ≡ h.minor
+  pub fields : map named_value head.fields ≡ named_values h.fields
+  pub text_is : head.text ≡ text
+
+-- the parts are those of the response head h, whose text this is
+pub record IsResponseOf (text : List ℕ) (h : grammar.ResponseHead) (head : ResponseHead) : Type 0 where
+  pub reads : IsResponseHeadText text h
+  pub status : head.status ≡ grammar.status_code h
+  pub reason : head.reason ≡ grammar.reason_phrase h.reason
+  pub version : minor_of head.version ≡ h.minor
+  pub fields : map named_value head.fields ≡ named_values h.fields
+  pub text_is : head.text ≡ text
+
+-- the parts are those of a request head
+abbrev pub HoldsRequest : List ℕ → RequestHead → Type 0
+HoldsRequest text head = (h : grammar.RequestHead) × IsRequestOf text h head
+
+-- the parts are those of a response head
+abbrev pub HoldsResponse : List ℕ → ResponseHead → Type 0
+HoldsResponse text head = (h : grammar.ResponseHead) × IsResponseOf text h head
+
+-- the faults of a text that is read without limits
+abbrev pub IsHeadFault : WireFault → Type 0
+IsHeadFault Malformed = ⊤
+IsHeadFault HeadTooLong = ⊥
+IsHeadFault BodyTooLong = ⊥
+IsHeadFault CodingRefused = ⊥
+IsHeadFault EndedEarly = ⊥
+IsHeadFault Memory = ⊤

@@ -1,0 +1,89 @@
+//! Heads in parts, each part with memory of its own.
+use capture::{Bytes, Framing, Items, Text};
+
+/// The minor version of HTTP/1.
+#[derive(Clone, Copy, Debug, PartialEq, Eq)]
+pub enum Version {
+    /// HTTP/1.0
+    Http10,
+    /// HTTP/1.1
+    Http11,
+}
+
+/// A field line (RFC 9112, section 5).
+#[derive(Debug, PartialEq, Eq, Drop)]
+pub struct Field {
+    /// The name, in the case in which it came.
+    pub name: Text,
+    /// The value without the blanks around it.
+    pub value: Bytes,
+}
+
+/// The head of a request (RFC 9112, section 3).
+#[derive(Debug, PartialEq, Eq, Drop)]
+pub struct RequestHead {
+    /// The method.
+    pub method: Text,
+    /// The request target.
+    pub target: Bytes,
+    /// The version in which it came.
+    pub version: Version,
+    /// The field lines, in order.
+    pub fields: Items<Field>,
+    /// The head as it came, its empty line with it.
+    pub text: Bytes,
+}
+
+/// The head of a response (RFC 9112, section 4).
+#[derive(Debug, PartialEq, Eq, Drop)]
+pub struct ResponseHead {
+    /// The version in which it came.
+    pub version: Version,
+    /// The status code.
+    pub status: u16,
+    /// The reason phrase, which may be empty.
+    pub reason: Bytes,
+    /// The field lines, in order.
+    pub fields: Items<Field>,
+    /// The head as it came, its empty line with it.
+    pub text: Bytes,
+}
+
+/// A whole request.
+#[derive(Debug, PartialEq, Eq, Drop)]
+pub struct RequestMessage {
+    pub head: RequestHead,
+    /// What told the body's length.
+    pub framing: Framing,
+    /// The body without its transfer coding.
+    pub payload: Bytes,
+}
+
+/// A response, whole or cut.
+#[derive(Debug, PartialEq, Eq, Drop)]
+pub struct Received {
+    pub head: ResponseHead,
+    /// What told the body's length.
+    pub framing: Framing,
+    /// The body as it stood on the wire.
+    pub wire: Bytes,
+    /// Whether the origin ended inside the body, so that `wire` is only as much as came.
+    pub cut: bool,
+}
+
+/// Why bytes are no message.
+#[derive(Clone, Copy, Debug, PartialEq, Eq)]
+pub enum WireFault {
+    /// They aren't in the grammar of HTTP/1.1.
+    Malformed,
+    /// A head or a trailer section passes its limit.
+    HeadTooLong,
+    /// A body passes its limit.
+    BodyTooLong,
+    /// A transfer coding isn't `chunked` alone.
+    CodingRefused,
+    /// They end inside a message.
+    EndedEarly,
+    /// There was no memory.
+    Memory,
+}

@@ -1,9 +1,0 @@
-use Rattle.std.proofs.Common.{◌≡◌, take}
-use Rattle.std.specs.Prelude.{map}
-use Rattle.httparse.specs.Spans.{header_bytes}
-use Rattle.proxy_run.specs.Heads.{named_value}
-use Rattle.proxy_run.proofs.http_wire.parts.copy_fields.Given as goal
-
-abbrev pub invariant-loop-header : goal.invariant-loop-header
-invariant-loop-header l =
-    map named_value l.fields.items ≡ map (header_bytes l.text) (take l.header-index l.headers)
