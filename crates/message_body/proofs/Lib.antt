@@ -1,0 +1,16 @@
+mod ChunkEndLaws
+mod ChunkEndSteps
+mod ChunkTrailerLaws
+mod ChunkTrailerSteps
+mod DecodeLaws
+mod FeedLaws
+mod FieldLaws
+mod HeldLaws
+mod LineSteps
+mod MemberLaws
+mod NumberLaws
+mod PlaceLaws
+mod SectionLaws
+mod SplitLaws
+mod SplitSteps
+mod TrailerLaws

@@ -1,0 +1,22 @@
+-- What a text is that is decoded as a chunked body (RFC 9112, section 7.1): a whole body, one that was cut, or neither.
+use Rattle.std.specs.Prelude.{◌≡◌, ◌≢◌, ℕ, None, List}
+use Rattle.capture.specs.Head.{section_len}
+use Rattle.capture.specs.Payload.{IsJoined, IsCutJoined}
+use Rattle.message_body.specs.Sections.{IsSection}
+use Rattle.message_body.specs.Splits.{HasNoBody, HasNoCut}
+use Rattle.message_body.specs.declared.decode.Decoded.{Decoded}
+use Rattle.message_body.specs.declared.decode.Decoded.TheVariants.{Whole, Cut, Neither}
+use Rattle.message_body.specs.declared.decode.TrailerSeen.{TrailerSeen}
+use Rattle.message_body.specs.declared.decode.TrailerSeen.TheVariants as seen
+
+-- what the text is, and its data
+abbrev pub IsDecoded : List ℕ → Decoded → Type 0
+IsDecoded wire (Whole payload) = IsJoined wire payload
+IsDecoded wire (Cut payload) = IsCutJoined wire payload
+IsDecoded wire Neither = HasNoBody wire × HasNoCut wire
+
+-- a trailer section that is whole, that hasn't ended, or that is neither
+abbrev pub IsTrailerSeen : List ℕ → TrailerSeen → Type 0
+IsTrailerSeen text seen.Whole = IsSection text
+IsTrailerSeen text seen.Open = section_len text ≡ None
+IsTrailerSeen text seen.Wrong = (IsSection text → ⊥) × (section_len text ≢ None)

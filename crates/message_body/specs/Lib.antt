@@ -1,0 +1,11 @@
+pub mod BodyLaws
+pub mod BodySoFar
+pub mod BodyStream
+pub mod ChunkPlaces
+pub mod Decoding
+pub mod Framings
+pub mod Numerals
+pub mod Readings
+pub mod Sections
+pub mod Splits
+pub mod TrailerPlaces

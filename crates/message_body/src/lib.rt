@@ -1,0 +1,32 @@
+//! Bodies of HTTP/1.1 messages: as they stand on the wire, read piece by piece, and their payloads.
+#![tactic(auto)]
+
+mod chunk_end;
+mod chunk_line;
+mod chunk_place;
+mod chunk_reading;
+mod chunk_trailer;
+mod content_length;
+mod decode;
+mod fed;
+mod feeding;
+mod fields;
+mod framing;
+mod laws;
+mod members;
+mod number;
+mod payload;
+mod reader;
+mod reading;
+mod section;
+mod split;
+#[cfg(test)]
+mod tests;
+mod trailer;
+
+pub use fed::{BodyFed, BodyProgress};
+pub use framing::{framing_of, request_framing_of};
+pub use laws::{heads_tell_framings, held_bodies_are_bodies};
+pub use members::split_member;
+pub use payload::{PayloadFault, payload_of, payload_of_cut};
+pub use reader::BodyReader;
