@@ -1,0 +1,10 @@
+pub mod Answers
+pub mod Heads
+pub mod HeldBodies
+pub mod Messages
+pub mod Parts
+pub mod Reading
+pub mod RequestReading
+pub mod ResponseReading
+pub mod Told
+pub mod WholeRequests

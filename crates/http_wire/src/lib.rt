@@ -1,0 +1,25 @@
+//! Messages of HTTP/1.1, read from a stream that comes in pieces (RFC 9112). It offers what the crates below it offer, so that
+//! callers name this one alone.
+#![tactic(auto)]
+
+mod framing;
+mod held;
+mod progress;
+mod request_parts;
+mod request_reader;
+mod response_parts;
+mod response_reader;
+mod whole_request;
+
+pub use http_head::{
+    Field, HeadFed, HeadProgress, HeadReader, Received, RequestHead, RequestMessage, ResponseHead,
+    Version, WireFault, find_head_end, fronts_stay, read_head, read_request_head,
+};
+pub use message_body::{
+    BodyFed, BodyProgress, BodyReader, PayloadFault, framing_of, heads_tell_framings,
+    held_bodies_are_bodies, payload_of, payload_of_cut, request_framing_of, split_member,
+};
+pub use progress::{Fed, Progress};
+pub use request_reader::RequestReader;
+pub use response_reader::ResponseReader;
+pub use whole_request::read_request;

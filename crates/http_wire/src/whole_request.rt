@@ -1,0 +1,103 @@
+//! Reads a request that is there whole.
+ghost use Rattle.std.specs.Prelude.{◌≡◌, ◌++◌, ℕ, List, false, length, Ok, IfOk, IfErr, IsErrOf};
+ghost use Rattle.capture.specs.Body.{IsBody};
+ghost use Rattle.capture.specs.Framing.{request_framing};
+ghost use Rattle.capture.specs.Message.{IsRequestHeadText, IsWholeRequest};
+ghost use Rattle.capture.specs.Payload.{IsPayload};
+ghost use Rattle.capture.specs.declared.framing.Framing.{Framing as FramingForm};
+ghost use Rattle.httparse.specs.Grammar.{RequestHead as RequestForm};
+ghost use Rattle.http_head.specs.Heads.{IsHeadFault};
+ghost use Rattle.http_wire.specs.WholeRequests.{IsRequestText};
+
+use capture::{Bytes, Framing, heads_end_at_the_first_empty_line, wires_have_one_payload};
+use http_head::{RequestMessage, WireFault, find_head_end, read_request_head};
+use message_body::{PayloadFault, payload_of, request_framing_of};
+use std::alloc::Global;
+
+/// The request that the text is. Malformed: the text isn't one whole request that begins with its first line. There is no
+/// limit.
+pub fn read_request(alloc: Global, text: &[u8]) -> Result<RequestMessage, WireFault>
+    ensures ok { IfOk result (IsRequestText text.now) }
+    ensures malformed { IsErrOf result WireFault.Malformed → (h : RequestForm) (framing : FramingForm) (wire : List ℕ) → ¬ (IsWholeRequest text.now h framing wire) }
+    ensures faults { IfErr result IsHeadFault }
+{
+    heads_end_at_the_first_empty_line();
+    match find_head_end(text) {
+        Some(end) => {
+            let (front, wire) = text.split_at(end);
+            read_parts(alloc, front, wire)
+        }
+        None => Err(WireFault::Malformed),
+    }
+}
+
+/// The request of this head and this body.
+fn read_parts(alloc: Global, front: &[u8], wire: &[u8]) -> Result<RequestMessage, WireFault>
+    ensures ok { IfOk result (IsRequestText (front.now ++ wire.now)) }
+    ensures malformed { IsErrOf result WireFault.Malformed → (h : RequestForm) (framing : FramingForm)
+        → IsRequestHeadText front.now h → request_framing h ≡ Ok framing → ¬ (IsBody framing wire.now) }
+    ensures faults { IfErr result IsHeadFault }
+{
+    let come = wire.len() as u64;
+    let head = match read_request_head(alloc, front) {
+        Ok(head) => head,
+        Err(fault) => return Err(fault),
+    };
+    let framing = match request_framing_of(&head) {
+        Ok(framing) => framing,
+        Err(_) => return Err(WireFault::Malformed),
+    };
+    match whole_payload(alloc, framing, wire, come) {
+        Ok(payload) => Ok(RequestMessage {
+            head,
+            framing,
+            payload,
+        }),
+        Err(fault) => Err(fault),
+    }
+}
+
+/// The payload of the wire, which has so many bytes. Malformed: it is no body of the framing.
+fn whole_payload(
+    alloc: Global,
+    framing: Framing,
+    wire: &[u8],
+    come: u64,
+) -> Result<Bytes, WireFault>
+    requires { come ≡ length wire.now }
+    ensures body { IfOk result (λ _. IsBody framing wire.now) }
+    ensures payload { IfOk result (IsPayload false framing wire.now) }
+    ensures malformed { IsErrOf result WireFault.Malformed → ¬ (IsBody framing wire.now) }
+    ensures faults { IfErr result IsHeadFault }
+{
+    match framing {
+        Framing::Empty => {
+            if come != 0 {
+                return Err(WireFault::Malformed);
+            }
+            decoded(alloc, framing, wire)
+        }
+        Framing::Length(told) => {
+            if come != told {
+                return Err(WireFault::Malformed);
+            }
+            decoded(alloc, framing, wire)
+        }
+        Framing::Chunked => decoded(alloc, framing, wire),
+        Framing::ToEnd => decoded(alloc, framing, wire),
+    }
+}
+
+/// The payload of the wire. Malformed: it has none.
+fn decoded(alloc: Global, framing: Framing, wire: &[u8]) -> Result<Bytes, WireFault>
+    ensures payload { IfOk result (IsPayload false framing wire.now) }
+    ensures malformed { IsErrOf result WireFault.Malformed → ¬ (IsBody framing wire.now) }
+    ensures faults { IfErr result IsHeadFault }
+{
+    wires_have_one_payload();
+    match payload_of(alloc, framing, wire) {
+        Ok(payload) => Ok(payload),
+        Err(PayloadFault::Malformed) => Err(WireFault::Malformed),
+        Err(PayloadFault::Memory) => Err(WireFault::Memory),
+    }
+}
