@@ -1,0 +1,7 @@
+mod Adding
+mod Composing
+mod Files
+mod Last
+mod Making
+mod Preparing
+mod Rolling

@@ -1,0 +1,4 @@
+pub mod Extents
+pub mod Journals
+pub mod Laws
+pub mod Texts

@@ -1,0 +1,271 @@
+//! What stops leave over a disk whose failed calls act in part.
+ghost use Rattle.std.specs.Prelude.{◌≡◌, ◌<◌, IsTrue, OnOk};
+ghost use Rattle.warc_journal.specs.Journals.{IsInStep, volumes};
+
+use crate::partial_disk::PartialDisk;
+use crate::{Extent, Further, Journal, Place};
+use disk_model::{Disk, MemoryDisk};
+use std::alloc::{AllocError, Global};
+use std::test::Fail;
+
+/// What is done to a journal: a text is added, a volume is begun, or it is repaired.
+#[derive(Clone, Copy, Debug, PartialEq, Eq)]
+enum Step {
+    Append,
+    Roll,
+    Repair,
+}
+
+/// Does it, and answers whether that was done.
+fn does(journal: &mut Journal<PartialDisk>, step: Step) -> bool {
+    if journal.volumes() == 0 || journal.volumes() > 9 || journal.last_len() > 99 {
+        return false;
+    }
+    match step {
+        Step::Append => journal.append(b"Wef").is_ok(),
+        Step::Roll => journal.roll(b"Wi2").is_ok(),
+        Step::Repair => journal.repair().is_ok(),
+    }
+}
+
+type Texts = &'static [&'static [u8]];
+
+/// The texts of two volumes, and with a text, a volume, or both more.
+static FIRST: [&[u8]; 2] = [b"Wi0Wab", b"Wi1Wcd"];
+
+static APPENDED: [&[u8]; 2] = [b"Wi0Wab", b"Wi1WcdWef"];
+
+static ROLLED: [&[u8]; 3] = [b"Wi0Wab", b"Wi1Wcd", b"Wi2"];
+
+static APPENDED_TWICE: [&[u8]; 2] = [b"Wi0Wab", b"Wi1WcdWefWef"];
+
+static ROLLED_TWICE: [&[u8]; 4] = [b"Wi0Wab", b"Wi1Wcd", b"Wi2", b"Wi2"];
+
+static APPENDED_AND_ROLLED: [&[u8]; 3] = [b"Wi0Wab", b"Wi1WcdWef", b"Wi2"];
+
+static ROLLED_AND_APPENDED: [&[u8]; 3] = [b"Wi0Wab", b"Wi1Wcd", b"Wi2Wef"];
+
+/// The texts after two steps, of which each was done or not.
+fn texts_after(first: Option<Step>, second: Option<Step>) -> Texts {
+    match (first, second) {
+        (Some(Step::Append), Some(Step::Append)) => &APPENDED_TWICE,
+        (Some(Step::Append), Some(Step::Roll)) => &APPENDED_AND_ROLLED,
+        (Some(Step::Roll), Some(Step::Append)) => &ROLLED_AND_APPENDED,
+        (Some(Step::Roll), Some(Step::Roll)) => &ROLLED_TWICE,
+        (Some(Step::Append), _) => &APPENDED,
+        (Some(Step::Roll), _) => &ROLLED,
+        (_, Some(Step::Append)) => &APPENDED,
+        (_, Some(Step::Roll)) => &ROLLED,
+        (_, _) => &FIRST,
+    }
+}
+
+/// Whether nothing or an unfinished tail stands there; where bytes are given, whether just these do.
+fn stands_there(rest: &[u8], just: Option<&[u8]>) -> bool {
+    match just {
+        Some(bytes) => rest == bytes,
+        None => rest.len() < 2 || rest[0] != b'W',
+    }
+}
+
+/// Whether the files hold the texts, followed by nothing or a tail, or by just these bytes.
+fn hold(disk: &PartialDisk, texts: Texts, just: Option<&[u8]>) -> bool {
+    let further = just.map(|_| b"".as_slice());
+    let mut holds = disk.count() >= texts.len()
+        && disk.count() <= texts.len() + 1
+        && stands_there(disk.bytes(texts.len()), further);
+    for (volume, text) in texts.iter().enumerate() {
+        let is_last = volume + 1 == texts.len();
+        holds = holds
+            && match disk.bytes(volume).split_at_checked(text.len()) {
+                Some((front, rest)) if is_last => front == *text && stands_there(rest, just),
+                Some((front, rest)) => front == *text && rest.is_empty(),
+                None => false,
+            };
+    }
+    holds
+}
+
+/// The journal that is opened over a disk which holds the texts, with what may stand behind them.
+fn journal_over(disk: PartialDisk, texts: Texts) -> Journal<PartialDisk> {
+    let end = match texts.last() {
+        Some(text) => text.len() as u64,
+        None => 0,
+    };
+    let further = if disk.count() > texts.len() {
+        Further::Unknown
+    } else {
+        Further::Absent
+    };
+    let found = Extent {
+        volumes: u32::try_from(texts.len()).unwrap_or(0),
+        end,
+        is_dirty: true,
+        further,
+    };
+    Journal::over(disk, found)
+}
+
+/// The first of these texts that the files hold.
+fn held(disk: &PartialDisk, allowed: &[Texts]) -> Option<Texts> {
+    for texts in allowed {
+        if hold(disk, texts, None) {
+            return Some(texts);
+        }
+    }
+    None
+}
+
+/// Whether a text can be added to a disk that holds some of these texts, and nothing else stands behind it then.
+fn goes_on(disk: PartialDisk, allowed: &[Texts]) -> bool {
+    let Some(texts) = held(&disk, allowed) else {
+        return false;
+    };
+    let mut journal = journal_over(disk, texts);
+    does(&mut journal, Step::Append) && hold(journal.disk(), texts, Some(b"Wef"))
+}
+
+/// Whether each stop leaves some of these texts, to which a text can be added then.
+fn leaves(disk: &PartialDisk, allowed: &[Texts]) -> Result<bool, AllocError> {
+    let mut is_left = true;
+    for choice in 0..10 {
+        let stopped = disk.stopped(choice)?;
+        is_left = goes_on(stopped, allowed) && is_left;
+    }
+    Ok(is_left)
+}
+
+/// What stands behind the text of the last volume, and in a further file, if there is one.
+static ROWS: [(&[u8], Option<&[u8]>); 7] = [
+    (b"", None),
+    (b"", Some(b"")),
+    (b"-xy", None),
+    (b"W", None),
+    (b"", Some(b"-")),
+    (b"-x", Some(b"W")),
+    (b"-x", Some(b"")),
+];
+
+/// A disk that holds the first texts, with this behind them, and whose calls of these numbers fail.
+fn disk_with(
+    alloc: Global,
+    (tail, further): (&[u8], Option<&[u8]>),
+    fails: (u64, u64),
+) -> Result<PartialDisk, AllocError> {
+    let mut disk = PartialDisk::new(alloc, fails);
+    disk.add(FIRST[0])?;
+    let mut last = Vec::from_slice(alloc, FIRST[1])?;
+    last.extend_from_slice(tail)?;
+    disk.add(last.as_slice())?;
+    if let Some(bytes) = further {
+        disk.add(bytes)?;
+    }
+    Ok(disk)
+}
+
+/// Does two steps, and answers whether each stop after either leaves the texts of the last step that was done, or those
+/// of one that was refused since, and those alone once a step was done.
+fn keeps_texts(disk: PartialDisk, first: Step, second: Step) -> Result<bool, AllocError> {
+    let mut journal = journal_over(disk, &FIRST);
+    let done = does(&mut journal, first).then_some(first);
+    let seen = texts_after(done, None);
+    let tried = texts_after(Some(first), None);
+    if !leaves(journal.disk(), &[seen, tried])? {
+        return Ok(false);
+    }
+    let again = does(&mut journal, second).then_some(second);
+    let seen = texts_after(done, again);
+    let after = texts_after(done, Some(second));
+    if again.is_some() {
+        return Ok(hold(journal.disk(), seen, Some(b"")) && leaves(journal.disk(), &[seen])?);
+    }
+    leaves(journal.disk(), &[seen, tried, after])
+}
+
+/// Two steps of which a first or a second call fails.
+static PAIRS: [(Step, Step); 7] = [
+    (Step::Append, Step::Append),
+    (Step::Append, Step::Roll),
+    (Step::Append, Step::Repair),
+    (Step::Roll, Step::Append),
+    (Step::Roll, Step::Roll),
+    (Step::Roll, Step::Repair),
+    (Step::Repair, Step::Append),
+];
+
+#[test]
+fn each_failing_call_keeps_the_texts(rt: HostRuntime) -> Result<(), Fail> {
+    let alloc = rt.alloc();
+    for (row, behind) in ROWS.iter().enumerate() {
+        for (first, second) in PAIRS.iter() {
+            for fails in 0..24 {
+                for later in [1, 99] {
+                    let disk = disk_with(alloc, *behind, (fails, fails + later))?;
+                    assert!(rt;
+                        keeps_texts(disk, *first, *second)?,
+                        "row {row}: {first:?} {fails}, {second:?} {later}"
+                    );
+                }
+            }
+        }
+    }
+    Ok(())
+}
+
+/// A journal over an empty disk.
+#[tactic(auto, unfolding(disk_model::specs::Image::files_of))]
+fn journal_of_nothing(alloc: Global) -> Journal<MemoryDisk>
+    ensures volumes { volumes result ≡ 0 }
+    ensures in_step { IsInStep ⟦<MemoryDisk as Disk>⟧ result }
+{
+    let nothing = Extent {
+        volumes: 0,
+        end: 0,
+        is_dirty: false,
+        further: Further::Absent,
+    };
+    Journal::over(MemoryDisk::new(alloc, Vec::new(alloc)), nothing)
+}
+
+/// Begins a volume and adds two texts, a long one first. It answers the place of the second.
+fn write<D: Disk>(alloc: Global, journal: &mut Journal<D>) -> Result<Place, Fail>
+    requires volumes { volumes journal.old ≡ 0 }
+    requires in_step { IsTrue D.tells → IsInStep D.Disk journal.old }
+    ensures volumes { OnOk result (volumes journal.new ≡ 1) }
+    ensures in_step { IsTrue D.tells → IsInStep D.Disk journal.new }
+{
+    let mut text = vec![in alloc; 0; 200_000]?;
+    text[0] = b'W';
+    journal.roll(b"Winfo").ok().ok_or("roll")?;
+    journal.append(text.as_slice()).ok().ok_or("append")?;
+    let place = journal.append(b"Wab").ok().ok_or("append again")?;
+    Ok(place)
+}
+
+/// The length of the first volume's file, and its last three bytes.
+fn read_end<D: Disk>(journal: &mut Journal<D>) -> Result<(u64, [u8; 3]), Fail>
+    requires volumes { 0 < volumes journal.old }
+    requires in_step { IsTrue D.tells → IsInStep D.Disk journal.old }
+{
+    let len = journal.len(0).ok().ok_or("len")?;
+    let mut bytes = [0u8; 3];
+    if len >= 3 {
+        journal.read(0, len - 3, &mut bytes).ok().ok_or("read")?;
+    }
+    Ok((len, bytes))
+}
+
+#[test]
+fn volumes_are_written_and_read(rt: HostRuntime) -> Result<(), Fail> {
+    let alloc = rt.alloc();
+    let mut journal = journal_of_nothing(alloc);
+    let place = write(alloc, &mut journal)?;
+    let end = read_end(&mut journal)?;
+    let expected = Place {
+        volume: 0,
+        at: 200_005,
+        len: 3,
+    };
+    assert_eq!(rt; (place, end), (expected, (200_008, *b"Wab")));
+    Ok(())
+}
