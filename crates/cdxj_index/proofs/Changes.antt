@@ -108,7 +108,7 @@ held_written old new key w updates other moment =
     ap (option_and_then (λ captures. held captures moment)) (updates.0 other) ∙ at_key (is_eq (slice_cmp nat_cmp key other)) (is_eq (slice_cmp nat_cmp key other)) (get (slice_cmp nat_cmp) old other) w moment refl
 
 -- what is held of a key after one of its captures was changed
-held_changed : (old new : Captures) (moment : Moment) (s : Option Shared) → Updates moment_cmp old new moment s → (when : Moment) → held new when ≡ cond (is_eq (moment_cmp moment when)) (option_map arc_value s) (held old when)
+pub held_changed : (old new : Captures) (moment : Moment) (s : Option Shared) → Updates moment_cmp old new moment s → (when : Moment) → held new when ≡ cond (is_eq (moment_cmp moment when)) (option_map arc_value s) (held old when)
 held_changed old new moment s updates when = ap (option_map arc_value) (updates.0 when) ∙ inside (is_eq (moment_cmp moment when)) (get moment_cmp old when)
   where
     inside : (b : Bool) (found : Option Shared) → option_map arc_value (cond b s found) ≡ cond b (option_map arc_value s) (option_map arc_value found)

@@ -1,5 +1,5 @@
 -- Lists of entries in order: one more in its place, those that pass a test, and the one of a number.
-use Rattle.std.proofs.Common.{◌≡◌, ◌≢◌, ℕ, suc, Bool, true, false, not, ◌==◌, List, [], ◌∷◌, ◌++◌, ◌⊎◌, inl, inr, cond, length, Option, None, Some, refl, sym, ap, append_assoc, ◌∙◌, subst, arith}
+use Rattle.std.proofs.Common.{◌≡◌, ◌≢◌, ℕ, suc, Bool, true, false, not, ◌==◌, List, [], ◌∷◌, ◌⊎◌, inl, inr, cond, length, None, Some, refl, sym, ap, ◌∙◌, subst, arith}
 use Rattle.std.specs.declared.cmp.Ordering.{Ordering}
 use Rattle.std.specs.declared.cmp.Ordering.TheVariants.{Less, Equal, Greater}
 use Rattle.std.specs.List.{AllByRecursion}
@@ -8,9 +8,9 @@ use Rattle.std.specs.Ordering.{is_lt, ordering_reverse}
 use Rattle.std.proofs.lemmas.Bool.{eqb-false, eqb-true}
 use Rattle.cdxj_index.specs.Facts.{Facts}
 use Rattle.cdxj_index.specs.Order.{order, comes_before, with_entry, without}
-use Rattle.cdxj_index.specs.Queries.{IsIndex, with_number}
+use Rattle.cdxj_index.specs.Queries.{with_number}
 use Rattle.cdxj_index.proofs.Orders.{order_total}
-use Rattle.cdxj_index.proofs.Members.{Among, Among-append_left, Among-append_right, all_among, all_from_among, Among-filter, Among-filter_back, contains_from_among, not_below_itself}
+use Rattle.cdxj_index.proofs.Members.{Among, all_among, all_from_among, Among-filter, Among-filter_back}
 
 -- the entries are in strict order
 abbrev pub InOrder : List Facts → Type 0
@@ -77,16 +77,6 @@ pub length-with_entry : (e : Facts) (entries : List Facts) → length (with_entr
 length-with_entry e [] = refl
 length-with_entry e (first ∷ others) = length-first (comes_before first e) e first others (with_entry e others) (length-with_entry e others)
 
-put_last : (b : Bool) (e first : Facts) (others put : List Facts) → b ≡ true → put ≡ others ++ e ∷ [] → cond b (first ∷ put) (e ∷ first ∷ others) ≡ first ∷ (others ++ e ∷ [])
-put_last true e first others put before last = ap (λ rest. first ∷ rest) last
-put_last false e first others put before last = cc
-
--- an entry behind all others goes last
-pub with_entry-last : (e : Facts) (entries : List Facts) → ((f : Facts) → Among entries f → order f e ≡ Less) → with_entry e entries ≡ entries ++ e ∷ []
-with_entry-last e [] below = refl
-with_entry-last e (first ∷ others) below =
-    put_last (comes_before first e) e first others (with_entry e others) (ap is_lt (below first (inl refl))) (with_entry-last e others (λ f h. below f (inr h)))
-
 -- ---- the entry of a number
 
 pub number_same : (a b : ℕ) → (a == b) ≡ true → a ≡ b
@@ -133,34 +123,3 @@ pub without-absent : (n : ℕ) (entries : List Facts) → ((f : Facts) → Among
 without-absent n [] absent = refl
 without-absent n (first ∷ others) absent =
     kept_first (not (first.number == n)) first others (without n others) (differs first.number n (absent first (inl refl))) (without-absent n others (λ f h. absent f (inr h)))
-
--- ---- the next of a list in order
-
-with_number-absent : (n : ℕ) (entries : List Facts) → ((f : Facts) → Among entries f → f.number ≢ n) → with_number n entries ≡ None
-with_number-absent n entries apart = which (with_number n entries) refl
-  where
-    which : (found : Option Facts) → with_number n entries ≡ found → with_number n entries ≡ None
-    which None e = e
-    which (Some f) e = let at = with_number-some n entries f e in absurd (apart f at.0 at.1)
-
-before_next : (done : List Facts) (e : Facts) (rest : List Facts) → InOrder (done ++ e ∷ rest) → (f : Facts) → Among done f → order f e ≡ Less
-unfolding IsStrictlySortedBy
-before_next [] e rest sorted f h = absurd h
-before_next (first ∷ done) e rest sorted f (inl is) = subst (λ g. order g e ≡ Less) is (all_among (λ g. order first g ≡ Less) (done ++ e ∷ rest) sorted.0 e (Among-append_right done (e ∷ rest) e (inl refl)))
-before_next (first ∷ done) e rest sorted f (inr h) = before_next done e rest sorted.1 f h
-
--- its number is new
-pub next_fresh : (done : List Facts) (e : Facts) (rest : List Facts) → IsIndex (done ++ e ∷ rest) → with_number e.number done ≡ None
-next_fresh done e rest is = with_number-absent e.number done (λ f h same.
-    let list = done ++ e ∷ rest in
-    let one : f ≡ e = is.alone f e (contains_from_among list f (Among-append_left done (e ∷ rest) f h)) (contains_from_among list e (Among-append_right done (e ∷ rest) e (inl refl))) same in
-    not_below_itself order order_total e (subst (λ g. order g e ≡ Less) one (before_next done e rest is.in_order f h)))
-
--- its place is the last
-next_last : (done : List Facts) (e : Facts) (rest : List Facts) → IsIndex (done ++ e ∷ rest) → with_entry e done ≡ done ++ e ∷ []
-next_last done e rest is = with_entry-last e done (before_next done e rest is.in_order)
-
-pub put_next : (done : List Facts) (e : Facts) (rest left all new : List Facts) → IsIndex all → done ++ left ≡ all → left ≡ e ∷ rest → new ≡ with_entry e done → new ++ rest ≡ all
-put_next done e rest left all new is whole steps put =
-    let listed : all ≡ done ++ e ∷ rest = sym whole ∙ ap (λ l. done ++ l) steps in
-    ap (λ l. l ++ rest) (put ∙ next_last done e rest (subst IsIndex listed is)) ∙ append_assoc done (e ∷ []) rest ∙ sym listed

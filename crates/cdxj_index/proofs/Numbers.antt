@@ -15,7 +15,7 @@ use Rattle.cdxj_index.proofs.Orders.{equal_from_is_eq, order_total}
 use Rattle.cdxj_index.proofs.Members.{Among, among_from_contains, contains_from_among, all_among, not_below_itself}
 use Rattle.cdxj_index.proofs.Entries.{InOrder, Among-with_entry, Among-with_entry_back, Among-without, Among-without_back, length-with_entry, with_number-some, with_number-none, without-absent}
 
-number_of_tie : (a b : ℕ) → is_eq (nat_cmp a b) ≡ true → a ≡ b
+pub number_of_tie : (a b : ℕ) → is_eq (nat_cmp a b) ≡ true → a ≡ b
 number_of_tie a b tied = ranked a b Equal (sym (equal_from_is_eq (nat_cmp a b) tied))
 
 -- what is numbered after a change at a number

@@ -1,4 +1,6 @@
 pub mod Facts
+pub mod Groups
 pub mod Maps
+pub mod OfBook
 pub mod Order
 pub mod Queries

@@ -4,6 +4,7 @@ ghost use Rattle.cdxj_index.specs.Order.{with_entry, without};
 ghost use Rattle.cdxj_index.specs.Queries.{HasNone, IsIndex, IsNearest, of_key, starting_with, with_number};
 
 use crate::entry_map::{EntryMap, first_after, first_from, last_until};
+use crate::groups::append;
 use crate::{Entry, Range, Starting, Steps};
 use capture::Memory;
 use std::alloc::Global;
@@ -52,11 +53,20 @@ impl Index {
         requires { IsIndex entries.items }
         ensures { IfOk result (λ index. index ≡ entries.items) }
     {
-        let mut index = Index::new(alloc);
+        let mut numbers = Vec::with_capacity(alloc, entries.len())?;
+        let mut groups = Vec::with_capacity(alloc, entries.len())?;
         for entry in entries {
-            index.add(alloc, entry)?;
+            let number = entry.number;
+            let entry = Arc::new(alloc, entry)?;
+            numbers.push((number, Arc::try_clone(&entry)?))?;
+            append(alloc, &mut groups, entry)?;
         }
-        Ok(index)
+        Ok(Index {
+            map: EntryMap {
+                keys: BTreeMap::from_iter(alloc, groups)?,
+            },
+            numbers: BTreeMap::from_iter(alloc, numbers)?,
+        })
     }
 
     /// Puts an entry in its place. After `Memory` the index is as it was.

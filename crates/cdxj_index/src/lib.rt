@@ -3,8 +3,10 @@
 
 mod entry;
 mod entry_map;
+mod groups;
 mod index;
 mod iterators;
+mod laws;
 mod steps;
 #[cfg(test)]
 mod tests;
@@ -12,4 +14,5 @@ mod tests;
 pub use entry::Entry;
 pub use index::Index;
 pub use iterators::{Range, Starting};
+pub use laws::books_have_one_index;
 pub use steps::Steps;

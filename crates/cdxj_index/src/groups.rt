@@ -1,0 +1,59 @@
+//! Entries that come in order, in groups of one key.
+ghost use Rattle.std.specs.Prelude.{◌≡◌, [], ◌∷◌, ◌++◌, Contains, IfOk, OnOk};
+ghost use Rattle.std.specs.declared.cmp.Ordering.TheVariants.{Less};
+ghost use Rattle.std.specs.Arc.{arc_value};
+ghost use Rattle.cdxj_index.specs.Facts.{Facts};
+ghost use Rattle.cdxj_index.specs.Groups.{AreGroups, IsGroup};
+ghost use Rattle.cdxj_index.specs.Maps.{shown, shown_all};
+ghost use Rattle.cdxj_index.specs.Order.{order};
+
+use crate::Entry;
+use crate::entry_map::Captures;
+use capture::Memory;
+use std::alloc::Global;
+use std::sync::Arc;
+use surt_key::Key;
+
+/// A key and its captures.
+pub(crate) type Group = (Key, Captures);
+
+/// Puts an entry that comes after all others behind them: at the end of the last group, or into a group of its own.
+pub(crate) fn append(
+    alloc: Global,
+    groups: &mut Vec<Group>,
+    entry: Arc<Entry>,
+) -> Result<(), Memory>
+    requires groups { AreGroups groups.old.items }
+    requires last { (other : Facts) → Contains (shown_all groups.old.items) other → order other (arc_value entry) ≡ Less }
+    ensures groups { OnOk result (AreGroups groups.new.items) }
+    ensures shown { OnOk result (shown_all groups.new.items ≡ shown_all groups.old.items ++ arc_value entry ∷ []) }
+{
+    let facts: &Entry = &entry;
+    let moment = facts.moment();
+    let Some((key, mut captures)) = groups.pop() else {
+        groups.push(group_of(alloc, entry)?)?;
+        return Ok(());
+    };
+    if key == facts.key {
+        captures.insert(moment, entry)?;
+        groups.push((key, captures))?;
+        return Ok(());
+    }
+    groups.push((key, captures))?;
+    groups.push(group_of(alloc, entry)?)?;
+    Ok(())
+}
+
+/// An entry as the only one of its key.
+fn group_of(alloc: Global, entry: Arc<Entry>) -> Result<Group, Memory>
+    ensures key { IfOk result (λ group. group.0 ≡ (arc_value entry).key) }
+    ensures group { IfOk result IsGroup }
+    ensures shown { IfOk result (λ group. shown group.1 ≡ arc_value entry ∷ []) }
+{
+    let facts: &Entry = &entry;
+    let key = facts.key.copy()?;
+    let moment = facts.moment();
+    let mut captures = Captures::new(alloc);
+    captures.insert(moment, entry)?;
+    Ok((key, captures))
+}
