@@ -5,6 +5,8 @@ pub mod LinkLemmas
 pub mod PageLemmas
 pub mod Places
 pub mod Runs
+pub mod SomeInside
+pub mod SomeSplit
 pub mod Steps
 pub mod TagLemmas
 pub mod Values

@@ -1,11 +1,11 @@
 -- Where a value leads to.
-use Rattle.std.proofs.Common.{◌≡◌, ℕ, Bool, true, false, ◌||◌, cond, List, refl, ap, Option, Some, None, Ok, Err}
+use Rattle.std.proofs.Common.{◌≡◌, ℕ, true, false, List, refl, ap, Option, Some, None, Ok, Err}
 use Rattle.std.proofs.lemmas.Str.{IsUtf8-from_is_utf8, is_utf8-from_IsUtf8}
 use Rattle.std.specs.Str.{IsUtf8, is_utf8}
 use Rattle.url.specs.declared.error.ParseError.{ParseError}
 use Rattle.url.specs.Parser.{parse_url}
 use Rattle.url.specs.Parts.{Parts}
-use Rattle.html_rewrite.specs.Links.{decoded, leads_nowhere, page_url, target_from, target_of}
+use Rattle.html_rewrite.specs.Links.{page_url, target_from, text_target}
 
 pub utf8_true : (t : List ℕ) → IsUtf8 t → is_utf8 t ≡ true
 utf8_true t h = is_utf8-from_IsUtf8 t h
@@ -25,12 +25,8 @@ page_url-parsed t url h e = rw (utf8_true t h, e) refl
 pub page_url-refused : (t : List ℕ) (e : ParseError) → IsUtf8 t → parse_url None t ≡ Err e → None ≡ page_url t
 page_url-refused t e h refused = rw (utf8_true t h, refused) refl
 
-pub target_of-no_text : (base : Option Parts) (value : List ℕ) → (IsUtf8 (decoded value) → ⊥) → None ≡ target_of base value
-target_of-no_text base value h = rw (utf8_false (decoded value) h) (nowhere (leads_nowhere (decoded value)) (target_from base (decoded value)))
-  where
-    nowhere : (v : Bool) (target : Option Parts) → None ≡ cond (v || true) None target
-    nowhere true target = refl
-    nowhere false target = refl
+pub text_target-no_text : (base : Option Parts) (reference : List ℕ) → (IsUtf8 reference → ⊥) → None ≡ text_target base reference
+text_target-no_text base reference h = rw (utf8_false reference h) refl
 
-pub target_of-text : (base : Option Parts) (value text : List ℕ) → leads_nowhere (decoded value) ≡ false → IsUtf8 (decoded value) → text ≡ decoded value → target_from base text ≡ target_of base value
-target_of-text base value text here h e = rw (here, utf8_true (decoded value) h) (ap (target_from base) e)
+pub text_target-text : (base : Option Parts) (reference text : List ℕ) → IsUtf8 reference → text ≡ reference → target_from base text ≡ text_target base reference
+text_target-text base reference text h e = rw (utf8_true reference h) (ap (target_from base) e)

@@ -163,29 +163,31 @@ leads_missing element name len old new n none =
     let t = ahead old in
     leads_on element old new (named_attribute t len name (ahead new) n.is None) (named_is_attribute t len name (ahead new) n.is None (ahead new) refl none) (named_text t len name (ahead new) n.is None (ahead new) refl) (λ link. n.written link ∙ ap (λ x. done link old ++ x) (name_written (take len t) n.is.others n.is.first name n.is.named)) n.kept n.shorter
 
--- an attribute whose value has no end
-pub lacks_unclosed : (name : List ℕ) (len : ℕ) (old new : Cuts) → Named len name old new → IsUnclosed (ahead new) → LacksEnd old new
-lacks_unclosed name len old new n unclosed = record { none = none; kept = n.kept }
+-- no tag ends behind an attribute whose value has no end
+pub no_end_behind : (t name behind : List ℕ) (len : ℕ) → IsNamed t len name behind → IsUnclosed behind → (attributes : List Attribute) (gap rest : List ℕ) → IsInside attributes gap rest → t ≡ inside_text attributes gap rest → ⊥
+no_end_behind t name behind len n unclosed = none
   where
-    ends : (b : Attribute) (rest : List ℕ) → IsAttribute b rest → ahead new ≡ assigned_text b.assigned rest → ⊥
-    ends b rest is e = by_value b.assigned rest is.assigned e
-      where
-        by_value : (assigned : Option Assignment) (rest : List ℕ) → IsAssignedIfAny assigned rest → ahead new ≡ assigned_text assigned rest → ⊥
-        by_value None rest is e = false≢true (sym is ∙ ap assigns (sym e) ∙ unclosed.signed)
-        by_value (Some a) rest is e = unclosed.none a rest is e
+    by_value : (assigned : Option Assignment) (rest : List ℕ) → IsAssignedIfAny assigned rest → behind ≡ assigned_text assigned rest → ⊥
+    by_value None rest is e = false≢true (sym is ∙ ap assigns (sym e) ∙ unclosed.signed)
+    by_value (Some a) rest is e = unclosed.none a rest is e
 
-    none : (attributes : List Attribute) (gap rest : List ℕ) → IsInside attributes gap rest → ahead old ≡ inside_text attributes gap rest → ⊥
+    none : (attributes : List Attribute) (gap rest : List ℕ) → IsInside attributes gap rest → t ≡ inside_text attributes gap rest → ⊥
     none [] gap rest inside e =
-        let found = run_unique is_gap (take len (ahead old)) gap (n.is.first ∷ (n.is.others ++ ahead new)) (greater ∷ rest) n.is.gap inside.last (sym n.is.parts ∙ e) in
-        let same : n.is.first ≡ greater = heads n.is.first greater (n.is.others ++ ahead new) rest found.1 in
-        let equal : (n.is.first == greater) ≡ true = ap (λ b. b == greater) same in
-        let begun : (n.is.first == greater) ≡ false = n.is.begun in
+        let found = run_unique is_gap (take len t) gap (n.first ∷ (n.others ++ behind)) (greater ∷ rest) n.gap inside.last (sym n.parts ∙ e) in
+        let same : n.first ≡ greater = heads n.first greater (n.others ++ behind) rest found.1 in
+        let equal : (n.first == greater) ≡ true = ap (λ b. b == greater) same in
+        let begun : (n.first == greater) ≡ false = n.begun in
         false≢true (sym begun ∙ equal)
     none (b ∷ attributes) gap rest inside e =
         let after = inside_text attributes gap rest in
-        let found = run_unique is_gap (take len (ahead old)) b.gap (n.is.first ∷ (n.is.others ++ ahead new)) (b.first ∷ (b.others ++ assigned_text b.assigned after)) n.is.gap inside.each.0.gap (sym n.is.parts ∙ e) in
-        let others = run_unique is_attribute_byte n.is.others b.others (ahead new) (assigned_text b.assigned after) n.is.run inside.each.0.name (tails n.is.first b.first (n.is.others ++ ahead new) (b.others ++ assigned_text b.assigned after) found.1) in
-        ends b after inside.each.0 others.1
+        let found = run_unique is_gap (take len t) b.gap (n.first ∷ (n.others ++ behind)) (b.first ∷ (b.others ++ assigned_text b.assigned after)) n.gap inside.each.0.gap (sym n.parts ∙ e) in
+        let others = run_unique is_attribute_byte n.others b.others behind (assigned_text b.assigned after) n.run inside.each.0.name (tails n.first b.first (n.others ++ behind) (b.others ++ assigned_text b.assigned after) found.1) in
+        by_value b.assigned after inside.each.0.assigned others.1
+
+-- an attribute whose value has no end
+pub lacks_unclosed : (name : List ℕ) (len : ℕ) (old new : Cuts) → Named len name old new → IsUnclosed (ahead new) → LacksEnd old new
+lacks_unclosed name len old new n unclosed =
+    record { none = no_end_behind (ahead old) name (ahead new) len n.is unclosed; kept = n.kept }
 
 gather : (before gap others lead value quote name : List ℕ) (first : ℕ) → name ≡ first ∷ others → before ++ (gap ++ name) ++ lead ++ value ++ quote ≡ before ++ ((gap ++ (first ∷ (others ++ lead))) ++ (value ++ (quote ++ [])))
 gather before gap others lead value quote name first e = rw e (simp (append_assoc, append-nil))

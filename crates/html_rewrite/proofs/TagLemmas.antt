@@ -80,7 +80,7 @@ opens_element t name opens is =
       letter = ap (begins is_ascii_alphabetic) is ∙ letter_kept u first.1;
     }
 
-assigned_longer : (a : Option Assignment) (rest : List ℕ) → length rest ≤ length (assigned_text a rest)
+pub assigned_longer : (a : Option Assignment) (rest : List ℕ) → length rest ≤ length (assigned_text a rest)
 assigned_longer None rest = omega arith
 assigned_longer (Some a) rest = omega (arith, length-append a.before (equals ∷ (a.after ++ value_text a rest)), length-append a.after (value_text a rest), length-append (quote_text a.quote) (a.value ++ (quote_text a.quote ++ rest)), length-append a.value (quote_text a.quote ++ rest), length-append (quote_text a.quote) rest)
 
@@ -90,7 +90,7 @@ attributes_longer (a ∷ attributes) rest =
     let after = attributes_text attributes rest in
     omega (arith, attributes_longer attributes rest, assigned_longer a.assigned after, length-append a.gap (a.first ∷ (a.others ++ assigned_text a.assigned after)), length-append a.others (assigned_text a.assigned after))
 
-inside_longer : (attributes : List Attribute) (gap rest : List ℕ) → length rest < length (inside_text attributes gap rest)
+pub inside_longer : (attributes : List Attribute) (gap rest : List ℕ) → length rest < length (inside_text attributes gap rest)
 inside_longer attributes gap rest = omega (arith, attributes_longer attributes (gap ++ (greater ∷ rest)), length-append gap (greater ∷ rest))
 
 tag_gather : (before name inside gap raw : List ℕ) → before ++ name ++ (inside ++ (gap ++ (greater ∷ []))) ++ raw ≡ before ++ (name ++ (inside ++ ((gap ++ (greater ∷ raw)) ++ [])))

@@ -1,5 +1,5 @@
 -- What a link's value is replaced by.
-use Rattle.std.specs.Prelude.{ℕ, zero, suc, Bool, not, ◌||◌, ◌&&◌, ◌==◌, List, [], ◌∷◌, ◌++◌, codes, bytes_eq, Option, Some, None, Result, Ok, Err, if◌then◌else◌}
+use Rattle.std.specs.Prelude.{ℕ, zero, suc, Bool, ◌||◌, ◌&&◌, ◌==◌, List, [], ◌∷◌, ◌++◌, codes, bytes_eq, Option, Some, None, Result, Ok, Err, if◌then◌else◌}
 use Rattle.std.specs.List.{flat_map}
 use Rattle.std.specs.Str.{is_utf8}
 use Rattle.std.specs.Result.{result_ok}
@@ -57,13 +57,13 @@ target_from (Some base) reference = http_url (parse_url (Some base) reference)
 abbrev pub leads_nowhere : List ℕ → Bool
 leads_nowhere reference = is_empty reference || begins (λ b. b == number_sign) reference
 
--- such a reference, or one that is no text
-abbrev pub stays : List ℕ → Bool
-stays reference = leads_nowhere reference || not (is_utf8 reference)
+-- where a reference leads to, if it is a text
+abbrev pub text_target : Option Parts → List ℕ → Option Parts
+text_target base reference = if is_utf8 reference then target_from base reference else None
 
 -- where a value leads to, if it is to be replaced
 abbrev pub target_of : Option Parts → List ℕ → Option Parts
-target_of base value = if stays (decoded value) then None else target_from base (decoded value)
+target_of base value = if leads_nowhere (decoded value) then None else text_target base (decoded value)
 
 -- the address of a target in the archive
 abbrev pub address : List ℕ → Parts → List ℕ
@@ -84,3 +84,7 @@ archive_prefix base time = base ++ codes "/web/" ++ time_digits time ++ codes "/
 -- the URL of the page
 abbrev pub page_url : List ℕ → Option Parts
 page_url base = if is_utf8 base then result_ok (parse_url None base) else None
+
+-- where a reference leads to from an address, if that is http or https
+abbrev pub web_target : List ℕ → List ℕ → Option Parts
+web_target base reference = text_target (page_url base) reference

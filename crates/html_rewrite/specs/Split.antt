@@ -114,3 +114,12 @@ pub record IsSplit (pieces : List Piece) (page : List ℕ) : Type 0 where
 -- two splits of a page are the same
 abbrev pub OneSplit : Type 0
 OneSplit = (page : List ℕ) (some others : List Piece) → IsSplit some page → IsSplit others page → some ≡ others
+
+-- the page has a split
+pub record HasSplit (page : List ℕ) : Type 0 where
+  pub pieces : List Piece
+  pub split : IsSplit pieces page
+
+-- every page has one
+abbrev pub SomeSplit : Type 0
+SomeSplit = (page : List ℕ) → HasSplit page

@@ -18,5 +18,6 @@ mod tag;
 mod tests;
 mod through;
 
-pub use law::a_page_has_one_split;
+pub use law::{a_page_has_a_split, a_page_has_one_split};
+pub use link::web_target;
 pub use page::{PAGE_LIMIT, rewrite};

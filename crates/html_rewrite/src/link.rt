@@ -54,10 +54,25 @@ impl Links {
         if begins_as_none(reference.as_slice()) {
             return Ok(None);
         }
-        match std::str::from_utf8(reference.as_slice()) {
-            Ok(text) => target_from(self.base.as_ref(), text),
-            Err(_) => Ok(None),
-        }
+        text_target(self.base.as_ref(), reference.as_slice())
+    }
+}
+
+/// Where a reference leads to from the address `base`, by the URL Standard. `None` where one of them isn't UTF-8, `base`
+/// is no URL, the reference doesn't join it, or the result is neither http nor https.
+pub fn web_target(alloc: Global, base: &[u8], reference: &[u8]) -> Result<Option<Url>, Memory>
+    ensures { IfOk result (λ target. target ≡ spec.web_target base.now reference.now) }
+{
+    let base = page_url(alloc, base)?;
+    text_target(base.as_ref(), reference)
+}
+
+fn text_target(base: Option<&Url>, reference: &[u8]) -> Result<Option<Url>, Memory>
+    ensures { IfOk result (λ target. target ≡ spec.text_target (option_copied base.entry) reference.now) }
+{
+    match std::str::from_utf8(reference) {
+        Ok(text) => target_from(base, text),
+        Err(_) => Ok(None),
     }
 }
 

@@ -10,7 +10,7 @@ use Rattle.std.specs.List.{All, list_all}
 use Rattle.std.specs.Str.{IsAscii}
 use Rattle.time_text.specs.Bytes.{IsDigit}
 use Rattle.surt_key.specs.Key.{key_of}
-use Rattle.replay_url.specs.Forms.{raw_text}
+use Rattle.replay_url.specs.Forms.{gate_address, map_address, memento_address, number_address, raw_text}
 
 both : (a b : Bool) → (a && b) ≡ true → (a ≡ true) × (b ≡ true)
 both true b e = (refl, e)
@@ -39,18 +39,6 @@ pub raw_is_ascii : (raw : Bool) → IsAscii (raw_text raw)
 raw_is_ascii true = ascii_of_all (codes "id_") refl
 raw_is_ascii false = IsAscii-nil
 
-pub slash_is_ascii : IsAscii (codes "/")
-slash_is_ascii = ascii_of_all (codes "/") refl
-
-pub link_is_ascii : IsAscii (codes "timemap/link/")
-link_is_ascii = ascii_of_all (codes "timemap/link/") refl
-
-pub rec_is_ascii : IsAscii (codes "rec/")
-rec_is_ascii = ascii_of_all (codes "rec/") refl
-
-pub web_is_ascii : IsAscii (codes "/web/")
-web_is_ascii = ascii_of_all (codes "/web/") refl
-
 -- equal texts are found equal
 pub equal_texts : (a b : List ℕ) → a ≡ b → pointwise eqb a b ≡ true
 equal_texts [] [] e = refl
@@ -61,15 +49,29 @@ equal_texts (c ∷ a) (d ∷ b) e =
     let tail : a ≡ b = cc in
     rw (eq-eqb c d head) (equal_texts a b tail)
 
-pub memento_is_ascii : (digits url : List ℕ) (raw : Bool) → IsAscii digits → IsAscii url → IsAscii (digits ++ raw_text raw ++ (codes "/" ++ url))
-memento_is_ascii digits url raw h u =
-    IsAscii-append (digits ++ raw_text raw) (codes "/" ++ url) (IsAscii-append digits (raw_text raw) h (raw_is_ascii raw)) (IsAscii-append (codes "/") url slash_is_ascii u)
+web_is_ascii : (base : List ℕ) → IsAscii base → IsAscii (base ++ codes "/web/")
+web_is_ascii base b = IsAscii-append base (codes "/web/") b (ascii_of_all (codes "/web/") refl)
 
-pub map_is_ascii : (url : List ℕ) → IsAscii url → IsAscii (codes "timemap/link/" ++ url)
-map_is_ascii url u = IsAscii-append (codes "timemap/link/") url link_is_ascii u
+pub memento_is_ascii : (base digits url : List ℕ) (raw : Bool) → IsAscii base → IsAscii digits → IsAscii url → IsAscii (memento_address base digits raw url)
+unfolding memento_address
+memento_is_ascii base digits url raw b h u =
+    let front = IsAscii-append (base ++ codes "/web/") digits (web_is_ascii base b) h in
+    let modified = IsAscii-append (base ++ codes "/web/" ++ digits) (raw_text raw) front (raw_is_ascii raw) in
+    let slashed = IsAscii-append (base ++ codes "/web/" ++ digits ++ raw_text raw) (codes "/") modified (ascii_of_all (codes "/") refl) in
+    IsAscii-append (base ++ codes "/web/" ++ digits ++ raw_text raw ++ codes "/") url slashed u
 
-pub number_is_ascii : (number : ℕ) → number < 2 ^ 64 → IsAscii (codes "rec/" ++ decimal number)
-number_is_ascii number h = IsAscii-append (codes "rec/") (decimal number) rec_is_ascii (IsAscii-decimal number h)
+pub gate_is_ascii : (base url : List ℕ) → IsAscii base → IsAscii url → IsAscii (gate_address base url)
+unfolding gate_address
+gate_is_ascii base url b u = IsAscii-append (base ++ codes "/web/") url (web_is_ascii base b) u
 
-pub address_is_ascii : (base text : List ℕ) → IsAscii base → IsAscii text → IsAscii (base ++ codes "/web/" ++ text)
-address_is_ascii base text b t = IsAscii-append (base ++ codes "/web/") text (IsAscii-append base (codes "/web/") b web_is_ascii) t
+pub map_is_ascii : (base url : List ℕ) → IsAscii base → IsAscii url → IsAscii (map_address base url)
+unfolding map_address
+map_is_ascii base url b u =
+    let front = codes "/web/timemap/link/" in
+    IsAscii-append (base ++ front) url (IsAscii-append base front b (ascii_of_all front refl)) u
+
+pub number_is_ascii : (base : List ℕ) (number : ℕ) → number < 2 ^ 64 → IsAscii base → IsAscii (number_address base number)
+unfolding number_address
+number_is_ascii base number h b =
+    let front = codes "/web/rec/" in
+    IsAscii-append (base ++ front) (decimal number) (IsAscii-append base front b (ascii_of_all front refl)) (IsAscii-decimal number h)

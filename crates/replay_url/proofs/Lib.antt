@@ -1,1 +1,3 @@
 pub mod AsciiLemmas
+pub mod ReadBackLaws
+pub mod ReadBackLemmas

@@ -89,13 +89,25 @@ memento_digits time digits = take digits (all_digits time)
 abbrev pub raw_text : Bool → List ℕ
 raw_text raw = if raw then codes "id_" else []
 
--- what an address has behind `/web/`
-abbrev pub form_text : Form → List ℕ
-form_text (Memento time digits raw url) = memento_digits time digits ++ raw_text raw ++ (codes "/" ++ url)
-form_text (Gate url) = url
-form_text (Map url) = codes "timemap/link/" ++ url
-form_text (Number number) = codes "rec/" ++ decimal number
+-- the address of a memento: digits of its time, and its URL
+unfoldable pub memento_address : List ℕ → List ℕ → Bool → List ℕ → List ℕ
+memento_address base digits raw url = base ++ codes "/web/" ++ digits ++ raw_text raw ++ codes "/" ++ url
 
--- the whole address, behind the site's base
-unfoldable pub address_text : List ℕ → Form → List ℕ
-address_text base form = base ++ codes "/web/" ++ form_text form
+-- the address of a URL's gate
+unfoldable pub gate_address : List ℕ → List ℕ → List ℕ
+gate_address base url = base ++ codes "/web/" ++ url
+
+-- the address of the list of a URL's captures
+unfoldable pub map_address : List ℕ → List ℕ → List ℕ
+map_address base url = base ++ codes "/web/timemap/link/" ++ url
+
+-- the address of a capture by its number
+unfoldable pub number_address : List ℕ → ℕ → List ℕ
+number_address base number = base ++ codes "/web/rec/" ++ decimal number
+
+-- the whole address of a form, behind the site's base
+abbrev pub address_text : List ℕ → Form → List ℕ
+address_text base (Memento time digits raw url) = memento_address base (memento_digits time digits) raw url
+address_text base (Gate url) = gate_address base url
+address_text base (Map url) = map_address base url
+address_text base (Number number) = number_address base number

@@ -1,2 +1,4 @@
 pub mod Address
 pub mod Forms
+pub mod Links
+pub mod ReadBack
