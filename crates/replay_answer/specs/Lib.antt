@@ -1,0 +1,4 @@
+pub mod Lines
+pub mod StoredFields
+pub mod Bodies
+pub mod Mementos

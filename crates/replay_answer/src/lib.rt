@@ -1,0 +1,13 @@
+//! Mementos: captured responses as the archive gives them (RFC 7089).
+#![tactic(auto)]
+
+mod answer;
+mod body;
+mod fields;
+mod lines;
+mod names;
+mod replay;
+#[cfg(test)]
+mod tests;
+
+pub use answer::memento;

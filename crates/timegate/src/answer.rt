@@ -1,0 +1,51 @@
+//! Redirects to a memento.
+ghost use Rattle.std.specs.Prelude.{◌≡◌, IfOk};
+ghost use Rattle.timegate.specs.Redirect.{redirect_text};
+
+use crate::lines::{put_close_line, put_link_line, put_location_line, put_vary_line};
+use capture::{Bytes, Memory, Site, put_all};
+use cdxj_index::Entry;
+use std::alloc::Global;
+
+/// More than what the answer has besides the base and the URLs.
+const ADDED: usize = 512;
+
+/// The answer that leads to the capture of an entry, where `url` was asked for (RFC 7089, section 4): a 302 to the entry's
+/// own URL at its date, with links to the original and to the list of its captures.
+///
+/// A capture that was asked for as it was received (`raw`) has `id_` behind its digits. Where a gate answers, the answer
+/// varies with the time that was asked for. `closes` says whether the connection closes.
+#[tactic(auto, unfolding(crate::specs::Redirect::redirect_text))]
+pub fn redirect(
+    alloc: Global,
+    site: &Site,
+    url: &[u8],
+    entry: &Entry,
+    raw: bool,
+    by_gate: bool,
+    closes: bool,
+) -> Result<Bytes, Memory>
+    ensures { IfOk result (λ text. text ≡ redirect_text site.now.base url.now entry.now raw by_gate closes) }
+{
+    let mut out = Vec::with_capacity(alloc, room(site, url, entry))?;
+    put_all(&mut out, b"HTTP/1.1 302 Found\r\n")?;
+    put_location_line(&mut out, site, entry.date, raw, entry.uri.as_slice())?;
+    put_vary_line(&mut out, by_gate)?;
+    put_link_line(&mut out, site, url)?;
+    put_all(&mut out, b"Content-Length: 0\r\n")?;
+    put_close_line(&mut out, closes)?;
+    put_all(&mut out, b"\r\n")?;
+    Ok(Bytes::of(out))
+}
+
+/// As much as the answer takes, or a little more.
+fn room(site: &Site, url: &[u8], entry: &Entry) -> usize {
+    let base = site.base.as_slice().len();
+    let urls = url
+        .len()
+        .saturating_mul(2)
+        .saturating_add(entry.uri.as_slice().len());
+    base.saturating_mul(2)
+        .saturating_add(urls)
+        .saturating_add(ADDED)
+}

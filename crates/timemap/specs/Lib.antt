@@ -1,0 +1,4 @@
+pub mod Mementos
+pub mod LinkList
+pub mod Passing
+pub mod Order
