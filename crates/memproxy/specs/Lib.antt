@@ -1,9 +1,1 @@
-pub mod Brackets
-pub mod Dialers
-pub mod FileNames
-pub mod Gates
-pub mod Links
-pub mod Ranges
-pub mod Sinks
 pub mod Status
-pub mod Words

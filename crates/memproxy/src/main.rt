@@ -1,39 +1,29 @@
 //! The program: real objects of the outside for the call that serves.
 #![tactic(auto)]
 
-mod address;
-mod brackets;
 mod command_line;
-mod faults;
-mod file_names;
-mod folder;
-mod folder_disk;
-mod made;
-mod ranges;
-mod real_clock;
-mod real_dialer;
-mod real_gate;
-mod real_link;
-mod real_sink;
-mod standard_error;
 mod status;
-mod streams;
+#[cfg(test)]
+mod tests;
 
 use command_line::{texts_of, words_of};
-use made::{Made, make};
-use proxy_run::{Crew, Ran, Status, run};
-use status::exit_code;
+use proxy_run::{CREW, Crew, Status, run};
+use real_outside::{Made, hold_standard_descriptors, make};
+use status::{ended, exit_code};
 use std::process::ExitCode;
 
 /// Makes the real objects, runs, and ends with the status's number.
 fn main(rt: HostRuntime) -> ExitCode {
+    if hold_standard_descriptors(&rt).is_err() {
+        return exit_code(Status::Outside);
+    }
     let Ok(words) = words_of(&rt) else {
         return exit_code(Status::Memory);
     };
     let Ok(texts) = texts_of(rt.alloc(), words.as_slice()) else {
         return exit_code(Status::Memory);
     };
-    let Ok(made) = make(&rt, words.as_slice()) else {
+    let Ok(made) = make(&rt, words.as_slice(), CREW) else {
         return exit_code(Status::Memory);
     };
     let Made {
@@ -43,7 +33,7 @@ fn main(rt: HostRuntime) -> ExitCode {
         mut out,
     } = made;
     let mut crew = Crew { members };
-    let Ran { status, disk: _ } = run(
+    ended(run(
         &rt,
         rt.alloc(),
         texts.as_slice(),
@@ -51,6 +41,5 @@ fn main(rt: HostRuntime) -> ExitCode {
         &mut gate,
         &mut crew,
         &mut out,
-    );
-    exit_code(status)
+    ))
 }

@@ -3,7 +3,7 @@ ghost use Rattle.std.specs.Prelude.{◌≡◌};
 ghost use Rattle.std.specs.Process.{exit_status};
 ghost use Rattle.memproxy.specs.Status.{status_number};
 
-use proxy_run::Status;
+use proxy_run::{Ran, Status};
 use std::process::ExitCode;
 
 /// The number of a status, as the one who started the process sees it.
@@ -18,4 +18,12 @@ pub(crate) fn exit_code(status: Status) -> ExitCode
         Status::Memory => 4,
     };
     ExitCode::from(number)
+}
+
+/// What the process ends with: the number of the status of what ran. The disk is closed with it.
+pub(crate) fn ended<D: Drop>(ran: Ran<D>) -> ExitCode
+    ensures { exit_status result ≡ status_number ran.status }
+{
+    let Ran { status, disk: _ } = ran;
+    exit_code(status)
 }

@@ -1,7 +1,0 @@
--- A member for each turn so far, each of the kind that is asked for.
-use Rattle.std.proofs.Common.{◌≡◌, All, vec_len}
-use Rattle.memproxy.specs.Dialers.{is_echo}
-use Rattle.memproxy.proofs.made.make_members.Given as goal
-
-abbrev pub invariant-loop : goal.invariant-loop
-invariant-loop g l = (vec_len l.members ≡ l.counter) × All (λ member. is_echo member.0 ≡ l.pipe) l.members.items

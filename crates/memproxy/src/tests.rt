@@ -1,0 +1,34 @@
+//! The call that serves, over real objects.
+use disk_model::{Disk, Kind};
+use outside::MemorySink;
+use proxy_run::{CREW, Crew, Status, run};
+use real_outside::{Made, make};
+use std::fs;
+use std::test::Fail;
+
+#[test]
+fn a_folder_with_a_volume_is_refused(rt: HostRuntime) -> Result<(), Fail> {
+    let alloc = rt.alloc();
+    let mut words = Vec::new(alloc);
+    for word in ["pipe", "6ba7b810-9dad-11d1-80b4-00c04fd430c8"] {
+        words.push(String::from_str(alloc, word)?)?;
+    }
+    let Ok(made) = make(&rt, words.as_slice(), CREW) else {
+        panic!(rt; "no memory");
+    };
+    let Made {
+        mut disk,
+        mut gate,
+        members,
+        out: _,
+    } = made;
+    assert_eq!(rt; disk.create(Kind::Warc), Ok(0));
+    let mut crew = Crew { members };
+    let mut out = MemorySink::new(alloc, Vec::new(alloc));
+    let words = ["pipe", "6ba7b810-9dad-11d1-80b4-00c04fd430c8"];
+    let ran = run(&rt, alloc, &words, disk, &mut gate, &mut crew, &mut out);
+    assert_eq!(rt; ran.status, Status::Archive);
+    assert_eq!(rt; out.written(), b"archive not empty\n".as_slice());
+    fs::remove_dir_all(&rt, "archive")?;
+    Ok(())
+}

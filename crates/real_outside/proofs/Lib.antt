@@ -1,0 +1,2 @@
+mod PlacedLaws
+pub mod FileNames

@@ -1,0 +1,34 @@
+//! Hosts as a dial or a bind takes them.
+ghost use Rattle.real_outside.specs.Brackets.{IsBare};
+
+/// A host without the brackets that stand around an IPv6 address in a URL (RFC 3986 section 3.2.2).
+pub(crate) fn without_brackets(host: &str) -> &str
+    ensures { IsBare host.now result.now }
+{
+    match host.strip_prefix('[') {
+        Some(rest) => match rest.strip_suffix(']') {
+            Some(address) => address,
+            None => host,
+        },
+        None => host,
+    }
+}
+
+#[cfg(test)]
+mod tests {
+    use super::*;
+
+    #[test]
+    fn takes_brackets_off_as_a_pair(rt: HostRuntime) {
+        for (host, want) in [
+            ("[::1]", "::1"),
+            ("a.test", "a.test"),
+            ("[", "["),
+            ("[::1", "[::1"),
+            ("::1]", "::1]"),
+            ("[]", ""),
+        ] {
+            assert_eq!(rt; without_brackets(host), want);
+        }
+    }
+}

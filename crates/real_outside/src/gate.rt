@@ -1,0 +1,73 @@
+//! The way in: the standard streams, or a TCP listener.
+ghost use Rattle.std.specs.Prelude.{◌≡◌, IsTrue};
+ghost use Rattle.real_outside.specs.Gates.{gate_faults, is_closed, nothing_heard};
+ghost use Rattle.outside.specs.Gate.{no_connections};
+
+use crate::accept_faults::is_memory;
+use crate::link::RealLink;
+use crate::network::Network;
+use crate::standard_streams::StandardStreams;
+use crate::streams::EndingInput;
+use crate::tcp_gate::TcpGate;
+use outside::{Accepted, Gate};
+use std::io::Print;
+
+/// Gives connections of the system. It keeps nothing of those that have ended.
+#[derive(Drop)]
+pub enum RealGate<R: StandardStreams + Network> {
+    /// The standard streams, as one connection.
+    Once {
+        /// The system, until the connection is given.
+        system: Option<R>,
+    },
+    /// TCP connections to one host and port.
+    Tcp {
+        /// Where they come in.
+        gate: TcpGate<R>,
+        /// How often an accept has failed.
+        faults: u64,
+    },
+}
+
+impl<R: StandardStreams + Print + Network + Drop> Gate for RealGate<R> {
+    type Link = RealLink<R>;
+
+    type Past = ();
+
+    ghost connections = { λ _. no_connections };
+
+    ghost closed = { is_closed };
+
+    ghost faults = { gate_faults };
+
+    ghost kept = { λ _. nothing_heard };
+
+    fn accept(&mut self) -> Accepted<RealLink<R>> {
+        match self {
+            RealGate::Once { system } => match system.take() {
+                Some(system) => Accepted::Connection(RealLink::Streams {
+                    input: EndingInput::new(system.standard_input()),
+                    output: system,
+                    faults: 0,
+                }),
+                None => Accepted::Closed,
+            },
+            RealGate::Tcp { gate, faults } => match gate.accept() {
+                Ok(link) => Accepted::Connection(RealLink::Tcp { link, faults: 0 }),
+                Err(error) => {
+                    if is_memory(&error) {
+                        return Accepted::Memory;
+                    }
+                    *faults = faults.saturating_add(1);
+                    Accepted::Failed
+                }
+            },
+        }
+    }
+
+    fn end(mut link: RealLink<R>) {
+        link.end();
+    }
+
+    fn hang_up(&mut self, _past: ()) {}
+}

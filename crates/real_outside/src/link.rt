@@ -1,0 +1,89 @@
+//! Connections of the system.
+ghost use Rattle.std.specs.Prelude.{◌↔◌, ◌<◌, false, [], IsTrue};
+ghost use Rattle.real_outside.specs.Links.{link_faults};
+ghost use Rattle.outside.specs.Link.{no_traffic};
+
+use crate::faults::counted;
+use crate::network::Network;
+use crate::standard_streams::StandardStreams;
+use crate::streams::{EndingInput, write_some};
+use crate::tcp_link::TcpLink;
+use outside::{EchoLink, Failed, Link};
+use std::io;
+use std::io::Print;
+
+/// One end of a connection, with its count of faults. It doesn't tell what it gives and takes.
+#[derive(Drop)]
+pub enum RealLink<R: StandardStreams + Network> {
+    /// The program's standard input and output.
+    Streams {
+        /// Standard input.
+        input: EndingInput<R::Input>,
+        /// Standard output.
+        output: R,
+        /// How often a call has failed.
+        faults: u64,
+    },
+    /// A TCP connection (RFC 9293).
+    Tcp {
+        /// This end of it.
+        link: TcpLink<R::Socket>,
+        /// How often a call has failed.
+        faults: u64,
+    },
+    /// A connection to the trial origin, which answers in this process.
+    Echo {
+        /// This end of it.
+        link: EchoLink,
+        /// How often a call has failed.
+        faults: u64,
+    },
+}
+
+impl<R: StandardStreams + Network> RealLink<R> {
+    /// Whether one of its calls has failed.
+    pub fn has_failed(&self) -> bool
+        ensures { IsTrue result ↔ (0 < link_faults self.now) }
+    {
+        match self {
+            RealLink::Streams { faults, .. } => *faults != 0,
+            RealLink::Tcp { faults, .. } => *faults != 0,
+            RealLink::Echo { faults, .. } => *faults != 0,
+        }
+    }
+
+    /// Ends the connection of a client, so that what was written last arrives.
+    pub(crate) fn end(&mut self) {
+        match self {
+            RealLink::Streams { .. } => {}
+            RealLink::Tcp { link, .. } => link.end(),
+            RealLink::Echo { .. } => {}
+        }
+    }
+}
+
+impl<R: StandardStreams + Print + Network> Link for RealLink<R> {
+    ghost tells = { false };
+
+    ghost traffic = { λ _. no_traffic [] 0 };
+
+    ghost faults = { link_faults };
+
+    fn read(&mut self, into: &mut [u8]) -> Result<usize, Failed> {
+        match self {
+            RealLink::Streams { input, faults, .. } => counted(faults, input.read(into)),
+            RealLink::Tcp { link, faults } => counted(faults, link.read(into)),
+            RealLink::Echo { link, faults } => counted(faults, link.read(into)),
+        }
+    }
+
+    fn write(&mut self, piece: &[u8]) -> Result<usize, Failed> {
+        match self {
+            RealLink::Streams { output, faults, .. } => {
+                counted(faults, write_some(&mut io::writer(output), piece))
+            }
+            RealLink::Tcp { link, faults } => counted(faults, link.write(piece)),
+            RealLink::Echo { link, faults } => counted(faults, link.write(piece)),
+        }
+    }
+}

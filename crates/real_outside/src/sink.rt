@@ -1,0 +1,65 @@
+//! Where the program prints: standard output or standard error.
+ghost use Rattle.std.specs.Prelude.{false, []};
+ghost use Rattle.real_outside.specs.Sinks.{sink_faults};
+
+use crate::faults::counted;
+use crate::standard_streams::StandardStreams;
+use crate::streams::write_some;
+use outside::{Failed, Sink};
+use std::io;
+use std::io::Print;
+
+/// A standard stream to print on, with its count of faults. It doesn't tell what was written.
+#[derive(Drop)]
+pub enum RealSink<R: StandardStreams> {
+    /// Standard output.
+    Output {
+        /// The system.
+        system: R,
+        /// How often a call has failed.
+        faults: u64,
+    },
+    /// Standard error.
+    Error {
+        /// The stream.
+        stream: R::Error,
+        /// How often a call has failed.
+        faults: u64,
+    },
+}
+
+impl<R: Print + StandardStreams> Sink for RealSink<R> {
+    ghost tells = { false };
+
+    ghost written = { λ _. [] };
+
+    ghost faults = { sink_faults };
+
+    fn write(&mut self, piece: &[u8]) -> Result<usize, Failed> {
+        match self {
+            RealSink::Output { system, faults } => {
+                counted(faults, write_some(&mut io::writer(system), piece))
+            }
+            RealSink::Error { stream, faults } => counted(faults, write_some(stream, piece)),
+        }
+    }
+}
+
+#[cfg(test)]
+mod tests {
+    use super::*;
+
+    #[test]
+    fn prints(rt: HostRuntime) {
+        let mut out = RealSink::Output {
+            system: rt,
+            faults: 0,
+        };
+        assert_eq!(rt; out.write(b"output\n"), Ok(7));
+        let mut error: RealSink<HostRuntime> = RealSink::Error {
+            stream: rt.standard_error(),
+            faults: 0,
+        };
+        assert_eq!(rt; error.write(b"error\n"), Ok(6));
+    }
+}

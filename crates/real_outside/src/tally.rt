@@ -1,0 +1,89 @@
+//! How many files of a kind a folder has.
+use crate::file_names::number_of;
+use disk_model::Kind;
+use std::alloc::{AllocError, Global};
+
+/// Counts the files of one kind in a folder's list of names, in whatever order they come. A name comes once.
+#[derive(Debug, Drop)]
+pub struct Tally {
+    alloc: Global,
+    kind: Kind,
+    count: u64,
+    past: u64,
+}
+
+impl Tally {
+    /// No name so far.
+    pub(crate) fn new(alloc: Global, kind: Kind) -> Tally {
+        Tally {
+            alloc,
+            kind,
+            count: 0,
+            past: 0,
+        }
+    }
+
+    /// Counts a name. One that is no file's name of the kind is passed over.
+    pub fn add(&mut self, name: &str) -> Result<(), AllocError> {
+        if let Some(number) = number_of(self.alloc, self.kind, name)? {
+            self.count = self.count.saturating_add(1);
+            self.past = self.past.max(u64::from(number) + 1);
+        }
+        Ok(())
+    }
+
+    /// How many files there are, or `None` where a number below the greatest is missing.
+    pub(crate) fn total(&self) -> Option<u32> {
+        if self.count == self.past {
+            u32::try_from(self.count).ok()
+        } else {
+            None
+        }
+    }
+}
+
+#[cfg(test)]
+mod tests {
+    use super::*;
+    use std::test::Fail;
+
+    #[test]
+    fn counts_names_in_any_order(rt: HostRuntime) -> Result<(), Fail> {
+        let none = ["", "", "", ""];
+        let lock = [
+            "lock",
+            "vol-000000.cdxj",
+            "vol-00000.warc",
+            "vol-+00001.warc",
+        ];
+        let three = [
+            "vol-000002.warc",
+            "lock",
+            "vol-000000.warc",
+            "vol-000001.warc",
+        ];
+        let gap = ["vol-000000.warc", "vol-000002.warc", "", ""];
+        let late = ["vol-000001.warc", "", "", ""];
+        let zeros = [
+            "vol-000000.warc",
+            "vol-0000001.warc",
+            "vol-000000.warc~",
+            "Vol-000001.warc",
+        ];
+        for (names, want) in [
+            (none, Some(0)),
+            (lock, Some(0)),
+            (three, Some(3)),
+            (gap, None),
+            (late, None),
+            (zeros, Some(1)),
+        ] {
+            let mut tally = Tally::new(rt.alloc(), Kind::Warc);
+            for name in &names {
+                tally.add(name)?;
+            }
+            assert_eq!(rt; tally.total(), want);
+        }
+        Ok(())
+    }
+}

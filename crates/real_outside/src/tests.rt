@@ -1,0 +1,8 @@
+//! Rows over file systems and networks of records, and over the system's own.
+
+mod accepting;
+mod durability;
+mod loopback;
+mod recorded_files;
+mod recorded_network;
+mod waiting;
