@@ -4,6 +4,7 @@
 //! where every case gave what it expects. This crate's README has the language of the files.
 #![tactic(auto)]
 
+mod calls;
 mod case_file;
 mod compare;
 mod escapes;

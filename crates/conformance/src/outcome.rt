@@ -9,7 +9,7 @@ use outside::{Heard, Transcript};
 use proxy_run::Status;
 use std::alloc::Global;
 
-/// The lines of an outcome, in order: the status, what was written on each connection, what was sent over each link,
+/// The lines of an outcome, in order: the answer of a call; or, of a run, the status, what was written on each connection, what was sent over each link,
 /// what was printed, and the files that the disk holds.
 #[derive(Debug, Drop)]
 pub struct Outcome {
@@ -22,6 +22,13 @@ impl Outcome {
         Outcome {
             lines: Vec::new(alloc),
         }
+    }
+
+    /// `answer TEXT`
+    pub fn put_answer(&mut self, alloc: Global, text: &[u8]) -> Result<(), Memory> {
+        let mut line = word(alloc, b"answer ")?;
+        put_all(&mut line, text)?;
+        self.push(line)
     }
 
     /// `status NUMBER`

@@ -1,4 +1,5 @@
 //! Plays the cases of a file.
+use crate::calls::{Call, answer};
 use crate::case_file::{Case, cases_of};
 use crate::compare::difference;
 use crate::line::Line;
@@ -82,19 +83,32 @@ where
     }
     match outcome_of(rt, alloc, &setting)? {
         Some(outcome) => Ok(difference(alloc, case.expected.as_slice(), &outcome, k)?),
-        None => Ok(Some(String::from_str(alloc, "no objects for the case")?)),
+        None => Ok(Some(String::from_str(alloc, "no such call, or no objects for the case")?)),
     }
 }
 
-/// What the program gives over the setting. `None` where an object of the case could not be made.
+/// What the call of the setting gives, or the program over it. `None` where there is no such call, or where an object
+/// of the case could not be made.
 fn outcome_of<R>(rt: &R, alloc: Global, setting: &Setting) -> Result<Option<Outcome>, Memory>
 where
     R: Threads + Wait + Sync,
 {
+    if let Some(call) = &setting.call {
+        return answered(alloc, call);
+    }
     match objects_of(alloc, setting)? {
         Some(objects) => outcome_over(rt, alloc, setting, objects),
         None => Ok(None),
     }
+}
+
+fn answered(alloc: Global, call: &Call) -> Result<Option<Outcome>, Memory> {
+    let Some(text) = answer(alloc, call)? else {
+        return Ok(None);
+    };
+    let mut outcome = Outcome::new(alloc);
+    outcome.put_answer(alloc, text.as_slice())?;
+    Ok(Some(outcome))
 }
 
 /// What the program gives over these objects. `None` where the disk could not be stopped.

@@ -1,4 +1,5 @@
 //! What a case gives to the program.
+use crate::calls::Call;
 use crate::escapes::decode;
 use crate::line::Line;
 use crate::numbers::{number_of, numbers_of};
@@ -24,6 +25,8 @@ pub struct Fails {
 /// The words, what client, origins and clock give, what stands on the disk, and which calls are to fail.
 #[derive(Debug, Drop)]
 pub struct Setting<'a> {
+    /// The call of a single crate that takes the program's place, where the case has one.
+    pub call: Option<Call<'a>>,
     pub words: Vec<&'a str>,
     pub clock: Vec<u64>,
     /// What the client of each connection gives.
@@ -50,6 +53,7 @@ impl<'a> Setting<'a> {
         words.push("pipe")?;
         words.push(NAMESPACE)?;
         Ok(Setting {
+            call: None,
             words,
             clock: Vec::new(alloc),
             clients: Vec::new(alloc),
@@ -77,6 +81,7 @@ impl<'a> Setting<'a> {
                 self.words = line.rest.split_whitespace().collect(alloc)?;
                 Ok(true)
             }
+            "call" => self.take_call(alloc, Line::of(line.rest), k),
             "client" => push_text(alloc, &mut self.clients, line.rest, k),
             "origin" => push_text(alloc, &mut self.origins, line.rest, k),
             "volume" => push_text(alloc, &mut self.volumes, line.rest, k),
@@ -86,6 +91,17 @@ impl<'a> Setting<'a> {
             "stop" => Ok(self.take_stop(line.rest, k)),
             _ => self.take_numbers(alloc, line, k),
         }
+    }
+
+    fn take_call(&mut self, alloc: Global, line: Line<'a>, k: u64) -> Result<bool, AllocError> {
+        let Some(text) = decode(alloc, line.rest, k)? else {
+            return Ok(false);
+        };
+        self.call = Some(Call {
+            name: line.word,
+            text,
+        });
+        Ok(true)
     }
 
     fn take_stop(&mut self, text: &str, k: u64) -> bool {

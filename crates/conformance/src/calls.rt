@@ -1,0 +1,78 @@
+//! Calls of single crates, by name, over one text each. The answer is a text: the value, or the name of the refusal.
+mod addresses;
+mod keys;
+mod messages;
+mod pages;
+mod texts;
+mod times;
+mod wholes;
+
+use capture::Memory;
+use std::alloc::Global;
+
+/// A call of a case, and the text that it is given.
+#[derive(Debug, Drop)]
+pub struct Call<'a> {
+    pub name: &'a str,
+    pub text: Vec<u8>,
+}
+
+/// What the call answers. `None` where no call has that name, or the text isn't one that the call takes.
+pub fn answer(alloc: Global, call: &Call) -> Result<Option<Vec<u8>>, Memory> {
+    let text = call.text.as_slice();
+    match call.name {
+        "read_time" => Ok(Some(times::read_time_of(alloc, text)?)),
+        "read_http" => Ok(Some(times::read_http_of(alloc, text)?)),
+        "read_warc" => Ok(Some(times::read_warc_of(alloc, text)?)),
+        "write_time" => times::write_time_of(alloc, text),
+        "write_http" => times::write_http_of(alloc, text),
+        "write_warc" => times::write_warc_of(alloc, text),
+        "payload_digest" => Ok(Some(texts::digest_of(alloc, text)?)),
+        "read_base32" => Ok(Some(texts::base32_read(alloc, text)?)),
+        "media_type" => Ok(Some(texts::media_type_of(alloc, text)?)),
+        "read_line" => Ok(Some(texts::line_read(alloc, text)?)),
+        "warcinfo" => texts::info_of(alloc, text),
+        "key_of" => Ok(Some(keys::key_text(alloc, text)?)),
+        "accepted_uri" => Ok(Some(keys::is_accepted(alloc, text)?)),
+        "read_form" => Ok(Some(addresses::form_read(alloc, text)?)),
+        "request_head" => Ok(Some(messages::request_head(alloc, text)?)),
+        "response_head" => Ok(Some(messages::response_head(alloc, text)?)),
+        "chunked_body" => messages::chunked_body(alloc, text),
+        "request_message" => Ok(Some(wholes::request_message(alloc, text)?)),
+        "request_stream" => wholes::request_stream(alloc, text),
+        "response_message" => wholes::response_message(alloc, text),
+        "rewrite" => Ok(Some(pages::rewritten(alloc, text)?)),
+        _ => Ok(None),
+    }
+}
+
+/// A text in memory of its own.
+fn told(alloc: Global, text: &[u8]) -> Result<Vec<u8>, Memory> {
+    Ok(Vec::from_slice(alloc, text)?)
+}
+
+/// A number in decimal digits.
+fn number(alloc: Global, value: u64) -> Result<Vec<u8>, Memory> {
+    let mut out = Vec::new(alloc);
+    capture::put_number(&mut out, value)?;
+    Ok(out)
+}
+
+/// The number that the text writes in decimal digits.
+fn number_in(text: &[u8]) -> Option<u64> {
+    let Ok(text) = str::from_utf8(text) else {
+        return None;
+    };
+    text.parse::<u64>().ok()
+}
+
+/// The length of a piece, which isn't 0, and the stream behind the space.
+fn in_pieces(text: &[u8]) -> Option<(usize, &[u8])> {
+    let space = text.iter().position(|byte| *byte == b' ')?;
+    let (length, rest) = text.split_at(space);
+    let (_, stream) = rest.split_at(rest.len().min(1));
+    match number_in(length) {
+        Some(length) if length > 0 => Some((length as usize, stream)),
+        _ => None,
+    }
+}
