@@ -1,0 +1,30 @@
+//! Measures what the crates cost in time and memory. It is run by hand, since no contract speaks of either.
+//!
+//! The word names a topic. Each line of what it prints is a mean over the items of one loop, and beside a time per byte
+//! stands its ratio to a plain loop over the same bytes in the same run.
+#![tactic(auto)]
+
+mod entries;
+mod heads;
+mod index;
+mod measured;
+mod memory;
+mod pages;
+mod stopped;
+
+use std::env;
+use stopped::Stopped;
+
+fn main(rt: HostRuntime) -> Result<(), Stopped> {
+    let mut words = env::args(&rt)?.skip(1);
+    let word = words.next();
+    match word.as_ref().map(String::as_str) {
+        Some("heads") => heads::measure(&rt, rt.alloc()),
+        Some("pages") => pages::measure(&rt, rt.alloc()),
+        Some("index") => index::measure(&rt, rt.alloc()),
+        _ => {
+            println!(rt; "usage: bench TOPIC, which is heads, index or pages")?;
+            Ok(())
+        }
+    }
+}

@@ -1,0 +1,35 @@
+//! Why a measurement ends early.
+use capture::Memory;
+use std::alloc::{AllocError, AllocFailed};
+use std::io;
+
+/// There was no memory, or the system refused the clock or the output.
+#[derive(Debug, Drop)]
+pub enum Stopped {
+    Memory,
+    System(io::Error),
+}
+
+impl From<Memory> for Stopped {
+    fn from(_memory: Memory) -> Stopped {
+        Stopped::Memory
+    }
+}
+
+impl From<AllocError> for Stopped {
+    fn from(_error: AllocError) -> Stopped {
+        Stopped::Memory
+    }
+}
+
+impl<T: Drop> From<AllocFailed<T>> for Stopped {
+    fn from(_error: AllocFailed<T>) -> Stopped {
+        Stopped::Memory
+    }
+}
+
+impl From<io::Error> for Stopped {
+    fn from(error: io::Error) -> Stopped {
+        Stopped::System(error)
+    }
+}
