@@ -8,8 +8,6 @@ mod line;
 mod members;
 mod read;
 mod shown;
-#[cfg(test)]
-mod tests;
 mod write;
 
 pub use content_type::{REVISIT, media_type};

@@ -1,7 +1,10 @@
 //! Calls of single crates, by name, over one text each. The answer is a text: the value, or the name of the refusal.
 mod addresses;
+mod bodies;
+mod faults;
+mod framings;
+mod heads;
 mod keys;
-mod messages;
 mod pages;
 mod texts;
 mod times;
@@ -29,15 +32,21 @@ pub fn answer(alloc: Global, call: &Call) -> Result<Option<Vec<u8>>, Memory> {
         "write_warc" => times::write_warc_of(alloc, text),
         "payload_digest" => Ok(Some(texts::digest_of(alloc, text)?)),
         "read_base32" => Ok(Some(texts::base32_read(alloc, text)?)),
-        "media_type" => Ok(Some(texts::media_type_of(alloc, text)?)),
+        "media_type" => Ok(Some(texts::media_type_of(alloc, Some(text))?)),
+        "default_media_type" => Ok(Some(texts::media_type_of(alloc, None)?)),
         "read_line" => Ok(Some(texts::line_read(alloc, text)?)),
         "warcinfo" => texts::info_of(alloc, text),
         "key_of" => Ok(Some(keys::key_text(alloc, text)?)),
         "accepted_uri" => Ok(Some(keys::is_accepted(alloc, text)?)),
         "read_form" => Ok(Some(addresses::form_read(alloc, text)?)),
-        "request_head" => Ok(Some(messages::request_head(alloc, text)?)),
-        "response_head" => Ok(Some(messages::response_head(alloc, text)?)),
-        "chunked_body" => messages::chunked_body(alloc, text),
+        "request_head" => Ok(Some(heads::request_head(alloc, text)?)),
+        "response_head" => Ok(Some(heads::response_head(alloc, text)?)),
+        "head_stream" => heads::head_stream(alloc, text),
+        "framing_of" => framings::response_framing(alloc, text),
+        "request_framing_of" => framings::request_framing(alloc, text),
+        "body_stream" => bodies::body_stream(alloc, text),
+        "payload_of" => bodies::whole_payload(alloc, text),
+        "payload_of_cut" => bodies::cut_payload(alloc, text),
         "request_message" => Ok(Some(wholes::request_message(alloc, text)?)),
         "request_stream" => wholes::request_stream(alloc, text),
         "response_message" => wholes::response_message(alloc, text),
@@ -66,13 +75,22 @@ fn number_in(text: &[u8]) -> Option<u64> {
     text.parse::<u64>().ok()
 }
 
+/// The first word of a text, and what follows the space behind it.
+fn split_word(text: &[u8]) -> Option<(&str, &[u8])> {
+    let space = text.iter().position(|byte| *byte == b' ')?;
+    let (word, rest) = text.split_at(space);
+    let (_, rest) = rest.split_at(rest.len().min(1));
+    match str::from_utf8(word) {
+        Ok(word) => Some((word, rest)),
+        Err(_) => None,
+    }
+}
+
 /// The length of a piece, which isn't 0, and the stream behind the space.
 fn in_pieces(text: &[u8]) -> Option<(usize, &[u8])> {
-    let space = text.iter().position(|byte| *byte == b' ')?;
-    let (length, rest) = text.split_at(space);
-    let (_, stream) = rest.split_at(rest.len().min(1));
-    match number_in(length) {
-        Some(length) if length > 0 => Some((length as usize, stream)),
+    let (length, stream) = split_word(text)?;
+    match length.parse::<u64>() {
+        Ok(length) if length > 0 => Some((length as usize, stream)),
         _ => None,
     }
 }

@@ -6,8 +6,8 @@ use std::alloc::{AllocError, Global};
 #[derive(Debug, Drop)]
 pub struct Case<'a> {
     pub name: &'a str,
-    /// The numbers for which the case is played, as `FROM TO`; none where it is played once.
-    pub range: Option<&'a str>,
+    /// The line that says for which numbers the case is played; none where it is played once.
+    pub plays: Option<Line<'a>>,
     pub given: Vec<&'a str>,
     pub expected: Vec<&'a str>,
     /// Whether the line `gives` has come.
@@ -18,7 +18,7 @@ impl<'a> Case<'a> {
     fn new(alloc: Global, name: &'a str) -> Case<'a> {
         Case {
             name,
-            range: None,
+            plays: None,
             given: Vec::new(alloc),
             expected: Vec::new(alloc),
             gives: false,
@@ -28,7 +28,8 @@ impl<'a> Case<'a> {
     fn add(&mut self, text: &'a str) -> Result<(), AllocError> {
         let line = Line::of(text);
         match line.word {
-            "for" => self.range = Some(line.rest),
+            "for" => self.plays = Some(line),
+            "each" => self.plays = Some(line),
             "gives" => self.gives = true,
             _ if self.gives => self.expected.push(text)?,
             _ => self.given.push(text)?,

@@ -1,4 +1,5 @@
 //! Numbers in case files.
+use crate::line::Line;
 use std::alloc::{AllocError, Global};
 
 /// The number that the digits write, or the case's own where it is `k`.
@@ -27,12 +28,30 @@ pub fn numbers_of(alloc: Global, text: &str, k: u64) -> Result<Option<Vec<u64>>,
     Ok(Some(numbers))
 }
 
-/// The numbers from the first to before the second of a line, and 0 alone where there is no line. `None` where the
-/// line doesn't hold two numbers.
-pub fn range_of(text: Option<&str>) -> Option<(u64, u64)> {
-    let Some(text) = text else {
-        return Some((0, 1));
+/// The numbers for which a case is played: those from the first to before the second of a line `for`, those of a line
+/// `each`, and 0 alone where there is no line. `None` where the line doesn't hold such numbers.
+pub fn plays_of(alloc: Global, line: Option<Line>) -> Result<Option<Vec<u64>>, AllocError> {
+    let Some(line) = line else {
+        return numbers_of(alloc, "0", 0);
     };
+    if line.word == "each" {
+        return numbers_of(alloc, line.rest, 0);
+    }
+    match ends_of(line.rest) {
+        Some((from, to)) => Ok(Some(range(alloc, from, to)?)),
+        None => Ok(None),
+    }
+}
+
+fn ends_of(text: &str) -> Option<(u64, u64)> {
     let (from, to) = text.split_once(' ')?;
     Some((from.parse::<u64>().ok()?, to.parse::<u64>().ok()?))
+}
+
+fn range(alloc: Global, from: u64, to: u64) -> Result<Vec<u64>, AllocError> {
+    let mut numbers = Vec::new(alloc);
+    for number in from..to {
+        numbers.push(number)?;
+    }
+    Ok(numbers)
 }

@@ -3,7 +3,7 @@ use crate::calls::{Call, answer};
 use crate::case_file::{Case, cases_of};
 use crate::compare::difference;
 use crate::line::Line;
-use crate::numbers::range_of;
+use crate::numbers::plays_of;
 use crate::objects::{Objects, objects_of};
 use crate::outcome::Outcome;
 use crate::setting::Setting;
@@ -54,12 +54,16 @@ fn play_case<R>(rt: &R, alloc: Global, case: &Case) -> io::Result<u64>
 where
     R: Threads + Wait + Sync + Print,
 {
-    let Some((from, to)) = range_of(case.range) else {
-        println!(rt; "{}: no range", case.name)?;
+    let Some(numbers) = plays_of(alloc, case.plays)? else {
+        println!(rt; "{}: no numbers to play it for", case.name)?;
         return Ok(1);
     };
+    if numbers.is_empty() {
+        println!(rt; "{}: played for no number", case.name)?;
+        return Ok(1);
+    }
     let mut differences = 0u64;
-    for k in from..to {
+    for k in numbers {
         match play_once(rt, alloc, case, k) {
             Ok(None) => continue,
             Ok(Some(text)) => println!(rt; "{} ({k}): {text}", case.name)?,

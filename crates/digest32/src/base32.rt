@@ -94,6 +94,3 @@ fn number_of(byte: u8) -> Option<u8>
         _ => None,
     }
 }
-
-#[cfg(test)]
-mod tests;

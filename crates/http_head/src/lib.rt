@@ -8,8 +8,6 @@ mod lines;
 mod parse;
 mod parts;
 mod seek;
-#[cfg(test)]
-mod tests;
 
 pub use head::{Field, Received, RequestHead, RequestMessage, ResponseHead, Version, WireFault};
 pub use head_reader::{HeadFed, HeadProgress, HeadReader};

@@ -20,8 +20,6 @@ mod reader;
 mod reading;
 mod section;
 mod split;
-#[cfg(test)]
-mod tests;
 mod trailer;
 
 pub use fed::{BodyFed, BodyProgress};

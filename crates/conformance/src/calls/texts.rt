@@ -24,9 +24,9 @@ pub fn base32_read(alloc: Global, text: &[u8]) -> Result<Vec<u8>, Memory> {
     }
 }
 
-/// The media type of a response whose first Content-Type field has this value.
-pub fn media_type_of(alloc: Global, text: &[u8]) -> Result<Vec<u8>, Memory> {
-    let mime = media_type(alloc, Some(text))?;
+/// The media type of a response whose first Content-Type field has this value, or that has none.
+pub fn media_type_of(alloc: Global, content_type: Option<&[u8]>) -> Result<Vec<u8>, Memory> {
+    let mime = media_type(alloc, content_type)?;
     told(alloc, mime.as_slice())
 }
 

@@ -2,8 +2,10 @@
 ghost use Rattle.std.specs.Prelude.{◌≡◌, ◌⊎◌, IfOk, IfNone};
 ghost use Rattle.http_wire.specs.Reading.{Open, Whole};
 
+use super::faults::fault_shown;
+use super::framings::put_framing;
 use super::{in_pieces, told};
-use capture::{Framing, Memory, put_all, put_number};
+use capture::{Memory, put_all, put_number};
 use http_wire::{
     Progress, Received, RequestMessage, RequestReader, ResponseReader, WireFault, read_request,
 };
@@ -19,7 +21,9 @@ pub fn request_message(alloc: Global, text: &[u8]) -> Result<Vec<u8>, Memory> {
 
 fn request_shown(alloc: Global, message: &RequestMessage) -> Result<Vec<u8>, Memory> {
     let mut out = told(alloc, message.head.method.as_slice())?;
+    put_all(&mut out, b" ")?;
     put_framing(&mut out, message.framing)?;
+    put_all(&mut out, b" ")?;
     put_all(&mut out, message.payload.as_slice())?;
     Ok(out)
 }
@@ -130,34 +134,12 @@ fn received(alloc: Global, stream: &[u8], length: usize) -> Result<Received, Wir
 fn response_shown(alloc: Global, response: &Received) -> Result<Vec<u8>, Memory> {
     let mut out = Vec::new(alloc);
     put_number(&mut out, u64::from(response.head.status))?;
+    put_all(&mut out, b" ")?;
     put_framing(&mut out, response.framing)?;
+    put_all(&mut out, b" ")?;
     if response.cut {
         put_all(&mut out, b"(cut) ")?;
     }
     put_all(&mut out, response.wire.as_slice())?;
     Ok(out)
-}
-
-fn put_framing(out: &mut Vec<u8>, framing: Framing) -> Result<(), Memory> {
-    match framing {
-        Framing::Empty => put_all(out, b" Empty "),
-        Framing::Chunked => put_all(out, b" Chunked "),
-        Framing::ToEnd => put_all(out, b" ToEnd "),
-        Framing::Length(length) => {
-            put_all(out, b" Length ")?;
-            put_number(out, length)?;
-            put_all(out, b" ")
-        }
-    }
-}
-
-fn fault_shown(alloc: Global, fault: WireFault) -> Result<Vec<u8>, Memory> {
-    match fault {
-        WireFault::Malformed => told(alloc, b"Malformed"),
-        WireFault::HeadTooLong => told(alloc, b"HeadTooLong"),
-        WireFault::BodyTooLong => told(alloc, b"BodyTooLong"),
-        WireFault::CodingRefused => told(alloc, b"CodingRefused"),
-        WireFault::EndedEarly => told(alloc, b"EndedEarly"),
-        WireFault::Memory => Err(Memory),
-    }
 }
