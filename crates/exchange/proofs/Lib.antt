@@ -1,3 +1,10 @@
+mod AccountLaws
 mod AimLemmas
+mod ArrivalLaws
+mod DecisionLaws
+mod FeedLaws
 mod FilterLemmas
+mod FrontParts
 mod MemberLemmas
+mod ResponseLaws
+mod SendLaws

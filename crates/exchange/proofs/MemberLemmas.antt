@@ -11,121 +11,19 @@ use Rattle.httparse.specs.Grammar.{is_ows, skip_ows, trim_ows}
 use Rattle.capture.specs.Fields.{NamedValue, is_named, split_at_commas, onto_first}
 use Rattle.http_head.specs.declared.head.Field.{Field}
 use Rattle.http_head.specs.Heads.{named_value}
-use Rattle.exchange.specs.Texts.{connection, members, listed_names}
+use Rattle.message_body.specs.Framings.{members}
+use Rattle.exchange.specs.Texts.{connection, listed_names}
 
-skip_step : (blank : Bool) (b : ℕ) (bytes : List ℕ) (n : ℕ) → skip_ows bytes ≡ drop n bytes → (if blank then skip_ows bytes else b ∷ bytes) ≡ drop (cond blank (1 + n) 0) (b ∷ bytes)
-skip_step true b bytes n h = let e : 1 + n ≡ suc n = omega arith in rw e h
-skip_step false b bytes n h = refl
+-- ---- members that are put behind others
 
--- the blanks at the front are skipped
-skip_ows-drop : (bytes : List ℕ) → skip_ows bytes ≡ drop (prefix_len is_ows bytes) bytes
-skip_ows-drop [] = refl
-skip_ows-drop (b ∷ bytes) = skip_step (is_ows b) b bytes _ (skip_ows-drop bytes)
+pub last_put : (before all : List (List ℕ)) (list member : List ℕ) → members list ≡ member ∷ [] → before ++ members list ≡ all
+    → before ++ member ∷ [] ≡ all
+last_put before all list member last e = ap (λ ms. before ++ ms) (sym last) ∙ e
 
-drop-append_length : (xs ys : List ℕ) → drop (length xs) (xs ++ ys) ≡ ys
-drop-append_length [] ys = refl
-drop-append_length (x ∷ xs) ys = drop-append_length xs ys
-
--- what is dropped at the end
-reverse-drop-reverse : (xs : List ℕ) (n : ℕ) → n ≤ length xs → reverse (drop n (reverse xs)) ≡ take (length xs - n) xs
-reverse-drop-reverse xs n within =
-    let kept = length xs - n in
-    let whole : reverse (drop kept xs) ++ reverse (take kept xs) ≡ reverse xs = sym (reverse-append (take kept xs) (drop kept xs)) ∙ ap reverse (take-append-drop kept xs) in
-    let len : length (reverse (drop kept xs)) ≡ n = length-reverse (drop kept xs) ∙ omega (arith, length-drop kept xs) in
-    let rest : drop n (reverse xs) ≡ reverse (take kept xs) = ap (λ m. drop m (reverse xs)) (sym len) ∙ ap (drop (length (reverse (drop kept xs)))) (sym whole) ∙ drop-append_length (reverse (drop kept xs)) (reverse (take kept xs)) in
-    ap reverse rest ∙ reverse-reverse (take kept xs)
-
--- what stands between the blanks at the front and those at the end
-trim_ows_is : (bytes : List ℕ) → let rest = drop (prefix_len is_ows bytes) bytes in take (length rest - prefix_len is_ows (reverse rest)) rest ≡ trim_ows bytes
-unfolding trim_ows
-trim_ows_is bytes =
-    let rest = drop (prefix_len is_ows bytes) bytes in
-    let within : prefix_len is_ows (reverse rest) ≤ length rest = omega (arith, prefix_len-le-length is_ows (reverse rest), length-reverse rest) in
-    sym (reverse-drop-reverse rest (prefix_len is_ows (reverse rest)) within)
-    ∙ ap reverse (sym (skip_ows-drop (reverse rest)))
-    ∙ ap (λ kept. reverse (skip_ows (reverse kept))) (sym (skip_ows-drop bytes))
-
--- the same, of the blanks that were counted
-pub trimmed : (bytes rest kept : List ℕ) (n m : ℕ) → n ≡ prefix_len is_ows bytes → rest ≡ drop n bytes → m ≡ prefix_len is_ows (reverse rest) → kept ≡ take (length rest - m) rest → kept ≡ trim_ows bytes
-trimmed bytes rest kept n m front behind back is =
-    is ∙ ap (λ k. take (length rest - k) rest) back
-    ∙ ap (λ r. take (length r - prefix_len is_ows (reverse r)) r) (behind ∙ ap (λ k. drop k bytes) front)
-    ∙ trim_ows_is bytes
-
--- the first piece, and the pieces behind the comma after it
-pub pieces_from : List ℕ → List ℕ → List (List ℕ)
-pieces_from first [] = first ∷ []
-pieces_from first (separator ∷ rest) = first ∷ split_at_commas rest
-
-onto_pieces : (b : ℕ) (first rest : List ℕ) → onto_first b (pieces_from first rest) ≡ pieces_from (b ∷ first) rest
-unfolding pieces_from
-onto_pieces b first [] = refl
-onto_pieces b first (separator ∷ rest) = refl
-
-split_step : (ends : Bool) (b : ℕ) (bytes : List ℕ) (n : ℕ) → split_at_commas bytes ≡ pieces_from (take n bytes) (drop n bytes) → (if ends then [] ∷ split_at_commas bytes else onto_first b (split_at_commas bytes)) ≡ pieces_from (take (cond (not ends) (1 + n) 0) (b ∷ bytes)) (drop (cond (not ends) (1 + n) 0) (b ∷ bytes))
-unfolding pieces_from
-split_step true b bytes n h = refl
-split_step false b bytes n h =
-    let e : 1 + n ≡ suc n = omega arith in
-    rw e (ap (onto_first b) h ∙ onto_pieces b (take n bytes) (drop n bytes))
-
--- a list is cut at its first comma
-split_at_commas_is : (bytes : List ℕ) → let n = prefix_len (λ b. not (b == comma)) bytes in split_at_commas bytes ≡ pieces_from (take n bytes) (drop n bytes)
-unfolding pieces_from
-split_at_commas_is [] = refl
-split_at_commas_is (b ∷ bytes) = split_step (b == comma) b bytes _ (split_at_commas_is bytes)
-
--- the members behind a comma
-members_behind : List ℕ → List (List ℕ)
-members_behind [] = []
-members_behind (separator ∷ rest) = members rest
-
-members_of_pieces : (first rest : List ℕ) → map trim_ows (pieces_from first rest) ≡ trim_ows first ∷ members_behind rest
-unfolding pieces_from members_behind
-members_of_pieces first [] = refl
-members_of_pieces first (separator ∷ rest) = refl
-
--- a list cut at its first comma
-pub record IsCut (list member rest trimmed : List ℕ) (n : ℕ) : Type 0 where
-  pub place : n ≡ prefix_len (λ b. not (b == comma)) list
-  pub front : member ≡ take n list
-  pub back : rest ≡ drop n list
-  pub bare : trimmed ≡ trim_ows member
-
--- the members of a list are its first one and those behind the comma
-members_cut : (list member rest trimmed : List ℕ) (n : ℕ) → IsCut list member rest trimmed n → members list ≡ trimmed ∷ members_behind rest
-members_cut list member rest trimmed n cut =
-    let whole : split_at_commas list ≡ pieces_from member rest = split_at_commas_is list ∙ ap (λ k. pieces_from (take k list) (drop k list)) (sym cut.place) ∙ ap (λ first. pieces_from first (drop n list)) (sym cut.front) ∙ ap (pieces_from member) (sym cut.back) in
-    ap (map trim_ows) whole ∙ members_of_pieces member rest ∙ ap (λ t. t ∷ members_behind rest) (sym cut.bare)
-
-none_behind : (rest : List ℕ) → length rest < 1 → members_behind rest ≡ []
-unfolding members_behind
-none_behind [] h = refl
-none_behind (separator ∷ rest) h = absurd (omega arith)
-
-all_behind : (rest : List ℕ) → 1 ≤ length rest → members_behind rest ≡ members (take (length rest - 1) (drop 1 rest))
-unfolding members_behind
-all_behind [] h = absurd (omega arith)
-all_behind (separator ∷ rest) h =
-    let len : length (separator ∷ rest) - 1 ≡ length rest = omega arith in
-    ap members (sym (ap (λ k. take k rest) len ∙ take-length rest))
-
--- the first member is put behind those before it, and no other follows
-pub last_put : (before all : List (List ℕ)) (list member rest trimmed : List ℕ) (n : ℕ) → IsCut list member rest trimmed n → length rest < 1
-    → before ++ members list ≡ all → before ++ trimmed ∷ [] ≡ all
-last_put before all list member rest trimmed n cut ends whole =
-    sym (ap (λ more. before ++ trimmed ∷ more) (none_behind rest ends)) ∙ sym (ap (λ more. before ++ more) (members_cut list member rest trimmed n cut)) ∙ whole
-
--- the first member is put behind those before it, and others follow
-pub one_put : (before now all : List (List ℕ)) (list member rest trimmed : List ℕ) (n : ℕ) → IsCut list member rest trimmed n → 1 ≤ length rest
-    → before ++ members list ≡ all → now ≡ before ++ trimmed ∷ [] → now ++ members (take (length rest - 1) (drop 1 rest)) ≡ all
-one_put before now all list member rest trimmed n cut goes_on whole put =
-    let after = members (take (length rest - 1) (drop 1 rest)) in
-    ap (λ names. names ++ after) put
-    ∙ append_assoc before (trimmed ∷ []) after
-    ∙ ap (λ more. before ++ trimmed ∷ more) (sym (all_behind rest goes_on))
-    ∙ sym (ap (λ more. before ++ more) (members_cut list member rest trimmed n cut))
-    ∙ whole
+pub one_put : (before now all : List (List ℕ)) (list member behind : List ℕ) → members list ≡ member ∷ members behind
+    → before ++ members list ≡ all → now ≡ before ++ member ∷ [] → now ++ members behind ≡ all
+one_put before now all list member behind more e put =
+    ap (λ ms. ms ++ members behind) put ∙ append_assoc before (member ∷ []) (members behind) ∙ ap (λ ms. before ++ ms) (sym more) ∙ e
 
 -- the bytes that one more reference names
 pub now_put : (before now : List (Bor (List ℕ))) (one : Bor (List ℕ)) → now ≡ before ++ one ∷ [] → map (λ (m : Bor (List ℕ)). m.now) now ≡ map (λ (m : Bor (List ℕ)). m.now) before ++ one.now ∷ []

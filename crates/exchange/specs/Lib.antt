@@ -1,2 +1,7 @@
 pub mod Aim
+pub mod Decisions
+pub mod Fetches
+pub mod Receiving
+pub mod Refusals
 pub mod Texts
+pub mod Writing

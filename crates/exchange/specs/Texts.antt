@@ -5,8 +5,7 @@ use Rattle.std.specs.List.{flat_map, list_any}
 use Rattle.std.specs.Str.{bytes_eq}
 use Rattle.httparse.specs.Ascii.{space, digit_zero, crlf_bytes}
 use Rattle.name_table.specs.HeaderFields.{is_hop}
-use Rattle.httparse.specs.Grammar.{trim_ows}
-use Rattle.capture.specs.Fields.{NamedValue, is_named, members_of, split_at_commas, lowered}
+use Rattle.capture.specs.Fields.{NamedValue, is_named, members_of, lowered}
 use Rattle.capture.specs.Framing.{content_length}
 use Rattle.capture.specs.declared.framing.Framing.{Framing}
 use Rattle.capture.specs.declared.framing.Framing.TheVariants.{Empty, Length, Chunked, ToEnd}
@@ -28,10 +27,6 @@ connection = codes "connection"
 -- the same name
 abbrev pub is_same_name : List ℕ → List ℕ → Bool
 is_same_name a b = bytes_eq (lowered a) (lowered b)
-
--- the members of a list that a value holds (RFC 9110, section 5.6.1)
-abbrev pub members : List ℕ → List (List ℕ)
-members value = map trim_ows (split_at_commas value)
 
 -- the names that the Connection fields list (RFC 9110, section 7.6.1)
 abbrev pub listed_names : List NamedValue → List (List ℕ)
@@ -132,7 +127,7 @@ length_line_unless without cut framing payload =
 unfoldable pub close_line_where : Bool → List ℕ
 close_line_where closes = if closes then close_line else []
 
--- what the client gets of an origin's response with this payload
+-- what the client gets of an origin's response with this payload; one that was cut closes the connection
 unfoldable pub answered : Received → List ℕ → Bool → Bool → List ℕ
 answered received payload answers_head closes =
     status_line received.head.status received.head.reason
@@ -140,5 +135,5 @@ answered received payload answers_head closes =
     ++ via_line (minor_of received.head.version)
     ++ cut_line_where received.cut
     ++ length_line_unless (has_no_length answers_head received.head.status) received.cut received.framing payload
-    ++ close_line_where closes
+    ++ close_line_where (received.cut || closes)
     ++ crlf_bytes ++ payload

@@ -1,6 +1,9 @@
 //! Where a request is aimed.
 use capture::Text;
 
+/// The port of an `http` URL that names none (RFC 9110, section 4.2.1).
+pub const HTTP_PORT: u16 = 80;
+
 /// An origin that is asked.
 #[derive(Debug, PartialEq, Eq, Drop)]
 pub struct Target {

@@ -5,7 +5,7 @@ ghost use Rattle.capture.specs.Target.{IsAcceptedAs};
 ghost use Rattle.exchange.specs.Aim as spec;
 ghost use Rattle.exchange.specs.Aim.{IsAim};
 
-use crate::aim::{Aim, AimFault, Target};
+use crate::aim::{Aim, AimFault, HTTP_PORT, Target};
 use capture::{Memory, Site, Text, accepted_url, authority_len, is_target_text};
 use http_head::RequestHead;
 use std::alloc::Global;
@@ -13,9 +13,6 @@ use url::Url;
 
 /// The length of `http://`.
 const SCHEME_LEN: usize = 7;
-
-/// The port of an `http` URL that names none.
-const DEFAULT_PORT: u16 = 80;
 
 /// Where the request goes: to an origin, where its target is an `http` URL that is accepted; to the site, where
 /// it is one of the site's host and port, or begins with a slash.
@@ -51,7 +48,7 @@ fn aim_of_url(
 {
     let rest = after_authority(target);
     let host = host_of(url);
-    let port = url.port().unwrap_or(DEFAULT_PORT);
+    let port = url.port().unwrap_or(HTTP_PORT);
     if host == site.host.as_str() && port == site.port {
         return Ok(Aim::Site(ascii_text(alloc, rest)?));
     }

@@ -44,7 +44,7 @@ pub fn client_text(
         received,
         payload,
     )?;
-    put_close_line(&mut out, closes)?;
+    put_close_line(&mut out, received.cut || closes)?;
     put_line_end(&mut out)?;
     put_all(&mut out, payload)?;
     Ok(Bytes::of(out))

@@ -1,21 +1,35 @@
-//! The texts of an exchange of HTTP/1.1 messages by a proxy: where a request is aimed, what its origin gets, and what
-//! the client gets of the origin's response (RFC 9110, section 7.6).
+//! An exchange of HTTP/1.1 messages by a proxy: where a request is aimed, what its origin gets, how its response is
+//! fetched, and what the client gets of it (RFC 9110, section 7.6).
 #![tactic(auto)]
 
 mod aim;
 mod aiming;
 mod answer;
 mod connection_names;
+mod fetching;
 mod filter;
 mod forward;
+mod laws;
 mod lines;
 mod members;
+mod output;
+mod receiving;
+mod refusal;
 #[cfg(test)]
 mod samples;
+#[cfg(test)]
+mod tests;
+mod window;
 
-pub use aim::{Aim, AimFault, Target};
+pub use aim::{Aim, AimFault, HTTP_PORT, Target};
 pub use aiming::aim_of;
 pub use answer::client_text;
+pub use fetching::{FetchFault, fetch};
 pub use filter::is_content_length;
 pub use forward::forward_text;
+pub use laws::decisions_stay;
 pub use lines::{put_close_line, put_length_line, put_line_end};
+pub use output::{print_all, write_all};
+pub use receiving::{Came, receive_request, receive_response};
+pub use refusal::{memory_text, refusal_text};
+pub use window::Window;

@@ -4,6 +4,7 @@ ghost use Rattle.http_head.specs.Heads.{minor_of, named_value};
 ghost use Rattle.exchange.specs.Texts.{request_line, status_line, host_line, field_line, via_line, length_line, cut_line_where, close_line_where};
 ghost use Rattle.httparse.specs.Ascii.{crlf_bytes};
 
+use crate::aim::HTTP_PORT;
 use capture::{Memory, put_all, put_number};
 use http_head::{Field, Version};
 
@@ -45,7 +46,7 @@ pub fn put_host_line(out: &mut Vec<u8>, host: &[u8], port: u16) -> Result<(), Me
 {
     put_all(out, b"Host: ")?;
     put_all(out, host)?;
-    if port != 80 {
+    if port != HTTP_PORT {
         put_all(out, b":")?;
         put_number(out, u64::from(port))?;
     }

@@ -1,5 +1,5 @@
 use Rattle.std.proofs.Common.{ℕ, List, map, ◌++◌, Bor, ap, sym, ◌∙◌}
-use Rattle.exchange.specs.Texts.{members}
+use Rattle.message_body.specs.Framings.{members}
 use Rattle.exchange.proofs.MemberLemmas.{no_names_yet, names_with, names_without, all_names}
 use Rattle.exchange.proofs.connection_names.connection_names.Goals as goal
 use Rattle.exchange.proofs.connection_names.connection_names.Goals.{then-is_named+in_ok-put_members, else-is_named}

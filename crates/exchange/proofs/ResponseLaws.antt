@@ -1,0 +1,171 @@
+-- One response more: what came of reading it, by what its reader tells.
+use Rattle.std.proofs.Common.{◌≡◌, ℕ, ◌<◌, Bool, true, false, List, [], ◌++◌, length, Option, Some, None, Ok, Err, inl, inr, refl, sym, ap, subst, ◌∙◌, arith, append_assoc, append-nil}
+use Rattle.std.specs.Prelude.{IsSome}
+use Rattle.std.proofs.lemmas.Bool.{false≢true}
+use Rattle.capture.specs.First.{Side, Requests, Responses, Message, Refused, HeadNeeded, BodyNeeded, IsFirst}
+use Rattle.capture.specs.declared.framing.MessageFault.TheVariants as message_fault
+use Rattle.http_head.specs.declared.head.Received.{Received}
+use Rattle.http_head.specs.declared.head.WireFault.{WireFault}
+use Rattle.http_head.specs.declared.head.WireFault.TheVariants.{Malformed, HeadTooLong, BodyTooLong, CodingRefused, EndedEarly, Memory}
+use Rattle.http_wire.specs.HeldBodies.{closed_standing}
+use Rattle.http_wire.specs.Messages.{IsResponse}
+use Rattle.http_wire.specs.Reading.{Standing, Open, Whole, Cut, Failed, HasFault, IsUndecided, Stands}
+use Rattle.exchange.specs.Decisions.{MessagesStay, RefusalsStay}
+use Rattle.exchange.specs.Fetches.{Answers, CountsFetch, GoesOnWith, IsFaultOf, TakesFirst, Yields}
+use Rattle.exchange.specs.Receiving.{StaysAccounted, AccountsFault, MeetsEnd, BeginsAccounted}
+use Rattle.exchange.specs.declared.fetching.FetchFault.{FetchFault}
+use Rattle.exchange.specs.declared.fetching.FetchFault.TheVariants.{DialFault, OriginFault, OriginEnded, OriginMalformed, OriginTooLong, TooManyInterim}
+use Rattle.exchange.specs.declared.fetching.FetchFault.TheVariants.{Memory as WantOfMemory}
+use Rattle.exchange.specs.declared.receiving.Came.TheVariants as came
+
+-- ---- the head comes once
+
+abbrev pub heads_left : {H : Type 0} → Option H → ℕ
+heads_left None = 1
+heads_left (Some head) = 0
+
+pub head_came : {H : Type 0} → (old new : Option H) → old ≡ None → IsSome new → heads_left new < heads_left old
+head_came old None none some = absurd (false≢true some)
+head_came old (Some head) none some = rw none (omega arith)
+
+-- ---- whole or cut
+
+whole_is_not_cut : (cut : Bool) → Whole ≡ closed_standing cut → cut ≡ true → ⊥
+whole_is_not_cut false standing is = cc
+whole_is_not_cut true standing is = cc
+
+standing_of_whole : (standing : Standing) (cut : Bool) → standing ≡ closed_standing cut → cut ≡ false → standing ≡ Whole
+standing_of_whole standing false e is = e
+standing_of_whole standing true e is = cc
+
+standing_of_cut : (standing : Standing) (cut : Bool) → standing ≡ closed_standing cut → cut ≡ true → standing ≡ Cut
+standing_of_cut standing true e is = e
+standing_of_cut standing false e is = cc
+
+-- with nothing read before, what was done ends where the window begins
+from_window : (given start window done : List ℕ) → start ≡ [] → given ≡ done ++ window → given ≡ done ++ (start ++ window)
+from_window given start window done none split = split ∙ ap (λ s. done ++ (s ++ window)) (sym none)
+
+pub whole_answers : MessagesStay → (answers_head ended : Bool) (given start window0 now stream window : List ℕ) (standing : Standing)
+    (received : Received) → start ≡ [] → StaysAccounted given (start ++ window0) now (stream ++ window) → standing ≡ Whole
+    → IsFirst (Responses answers_head) false stream (Message (length stream)) → IsResponse answers_head stream received
+    → standing ≡ closed_standing received.cut → Answers answers_head (Ok received) given window0 now window ended
+whole_answers stay answers_head ended given start window0 now stream window standing received none accounts whole first response is =
+    λ done split. record {
+      stream = stream ++ window;
+      composed = accounts done (from_window given start window0 done none split);
+      yields = record {
+        text = stream;
+        composed = refl;
+        response = response;
+        whole = λ _. stay (Responses answers_head) ended stream window (length stream) first;
+        cut = λ cut. absurd (whole_is_not_cut received.cut (sym whole ∙ is) cut);
+      };
+    }
+
+pub ended_answers : (answers_head ended : Bool) (given start window0 now stream window : List ℕ) (standing : Standing)
+    (received : Received) → start ≡ [] → StaysAccounted given (start ++ window0) now (stream ++ window) → window ≡ []
+    → Stands (Responses answers_head) stream standing → IsResponse answers_head stream received
+    → standing ≡ closed_standing received.cut → ended ≡ true → Answers answers_head (Ok received) given window0 now window ended
+ended_answers answers_head ended given start window0 now stream window standing received none accounts empty stands response is met =
+    let all : stream ++ window ≡ stream = ap (λ w. stream ++ w) empty ∙ append-nil stream in
+    λ done split. record {
+      stream = stream ++ window;
+      composed = accounts done (from_window given start window0 done none split);
+      yields = record {
+        text = stream;
+        composed = refl;
+        response = response;
+        whole = λ whole. subst (λ e. IsFirst (Responses answers_head) e (stream ++ window) (Message (length stream))) (sym met)
+            (subst (λ s. IsFirst (Responses answers_head) true s (Message (length stream))) (sym all)
+            (subst (Stands (Responses answers_head) stream) (standing_of_whole standing received.cut is whole) stands));
+        cut = λ cut. (
+          met,
+          empty,
+          subst (λ s. IsFirst (Responses answers_head) true s BodyNeeded) (sym all)
+              (subst (Stands (Responses answers_head) stream) (standing_of_cut standing received.cut is cut) stands),
+        );
+      };
+    }
+
+-- ---- faults
+
+broken_yields : (answers_head ended : Bool) (stream window : List ℕ) → IsUndecided (Responses answers_head) false stream
+    → Yields answers_head (Err OriginFault) stream window ended
+broken_yields answers_head ended stream window (inl nothing) = absurd (responses_are_no_requests nothing.1)
+  where
+    responses_are_no_requests : Responses answers_head ≡ Requests → ⊥
+    responses_are_no_requests e = cc
+broken_yields answers_head ended stream window (inr (inl head)) = inl head
+broken_yields answers_head ended stream window (inr (inr body)) = inr body
+
+pub broken_answers : (answers_head ended : Bool) (given start window0 now stream window : List ℕ) → start ≡ []
+    → StaysAccounted given (start ++ window0) now (stream ++ window) → window ≡ [] → IsUndecided (Responses answers_head) false stream
+    → Answers answers_head (Err OriginFault) given window0 now window ended
+broken_answers answers_head ended given start window0 now stream window none accounts empty undecided =
+    λ done split. record {
+      stream = stream;
+      composed = accounts done (from_window given start window0 done none split) ∙ ap (λ w. done ++ (stream ++ w)) empty
+          ∙ ap (λ s. done ++ s) (append-nil stream);
+      yields = broken_yields answers_head ended stream window undecided;
+    }
+
+-- a fault that comes before the end, with bytes behind those of the message
+faulty : RefusalsStay → (answers_head ended : Bool) (fault : FetchFault) (given start window0 now stream window : List ℕ) → start ≡ []
+    → BeginsAccounted given (start ++ window0) now stream
+    → ((rest : List ℕ) → Yields answers_head (Err fault) (stream ++ rest) window ended)
+    → Answers answers_head (Err fault) given window0 now window ended
+faulty stay answers_head ended fault given start window0 now stream window none begins yields =
+    λ done split.
+    let front = begins done (from_window given start window0 done none split) in
+    record {
+      stream = stream ++ front.rest;
+      composed = front.splits ∙ append_assoc done stream front.rest;
+      yields = yields front.rest;
+    }
+
+pub refused_answers : RefusalsStay → (answers_head before ended : Bool) (fault : WireFault) (why : FetchFault) (given start window0 now stream window : List ℕ)
+    → start ≡ [] → AccountsFault fault given (start ++ window0) now stream → MeetsEnd (came.Refused fault) before ended
+    → HasFault (Responses answers_head) fault stream → IsFaultOf fault why
+    → Answers answers_head (Err why) given window0 now window ended
+refused_answers stay answers_head before ended Malformed why given start window0 now stream window none accounts meets has is =
+    rw is (faulty stay answers_head ended OriginMalformed given start window0 now stream window none accounts
+    (λ rest. inl (stay (Responses answers_head) ended stream rest message_fault.Malformed has)))
+refused_answers stay answers_head before ended CodingRefused why given start window0 now stream window none accounts meets has is =
+    rw is (faulty stay answers_head ended OriginMalformed given start window0 now stream window none accounts
+    (λ rest. inr (stay (Responses answers_head) ended stream rest message_fault.CodingRefused has)))
+refused_answers stay answers_head before ended HeadTooLong why given start window0 now stream window none accounts meets has is =
+    rw is (faulty stay answers_head ended OriginTooLong given start window0 now stream window none accounts
+    (λ rest. inl (stay (Responses answers_head) ended stream rest message_fault.HeadTooLong has)))
+refused_answers stay answers_head before ended BodyTooLong why given start window0 now stream window none accounts meets has is =
+    rw is (faulty stay answers_head ended OriginTooLong given start window0 now stream window none accounts
+    (λ rest. inr (stay (Responses answers_head) ended stream rest message_fault.BodyTooLong has)))
+refused_answers stay answers_head before ended EndedEarly why given start window0 now stream window none accounts meets has is =
+    rw is (λ done split. record {
+      stream = stream;
+      composed = accounts done (from_window given start window0 done none split);
+      yields = (meets, has);
+    })
+refused_answers stay answers_head before ended Memory why given start window0 now stream window none accounts meets has is =
+    rw is (faulty stay answers_head ended WantOfMemory given start window0 now stream window none accounts (λ rest. tt))
+
+-- ---- counts
+
+pub refused_counts : (fault : WireFault) (why : FetchFault) (before now : ℕ) → now ≡ before → IsFaultOf fault why
+    → CountsFetch before now (Err why)
+refused_counts Malformed why before now same is = rw is same
+refused_counts CodingRefused why before now same is = rw is same
+refused_counts HeadTooLong why before now same is = rw is same
+refused_counts BodyTooLong why before now same is = rw is same
+refused_counts EndedEarly why before now same is = rw is same
+refused_counts Memory why before now same is = rw is same
+
+-- accounts compose, up to a fault
+pub accounts_fault_then : (fault : WireFault) (given pending now pending_now next stream : List ℕ) → StaysAccounted given pending now pending_now
+    → AccountsFault fault now pending_now next stream → AccountsFault fault given pending next stream
+accounts_fault_then Malformed given pending now pending_now next stream first second = λ done split. second done (first done split)
+accounts_fault_then HeadTooLong given pending now pending_now next stream first second = λ done split. second done (first done split)
+accounts_fault_then BodyTooLong given pending now pending_now next stream first second = λ done split. second done (first done split)
+accounts_fault_then CodingRefused given pending now pending_now next stream first second = λ done split. second done (first done split)
+accounts_fault_then EndedEarly given pending now pending_now next stream first second = λ done split. second done (first done split)
+accounts_fault_then Memory given pending now pending_now next stream first second = λ done split. second done (first done split)

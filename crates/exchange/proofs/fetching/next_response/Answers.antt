@@ -1,0 +1,69 @@
+-- What the reader tells of its bytes is what stands first in what the link gave further.
+use Rattle.std.proofs.Common.{◌≡◌, ◌++◌, length, false, ap, subst, ◌∙◌}
+use Rattle.capture.specs.First.{Responses, Message, IsFirst}
+use Rattle.http_wire.specs.Messages.{IsResponse}
+use Rattle.http_wire.specs.Reading.{HasFault, IsUndecided, Stands}
+use Rattle.http_wire.specs.ResponseReading.{ResponseReading}
+use Rattle.exchange.proofs.AccountLaws.{accounts_then}
+use Rattle.exchange.proofs.DecisionLaws.{messages_stay, refusals_stay}
+use Rattle.exchange.proofs.ResponseLaws.{head_came, whole_answers, ended_answers, broken_answers, refused_answers, accounts_fault_then}
+use Rattle.exchange.proofs.fetching.next_response.Goals as goal
+
+pub reading-smaller : goal.reading-smaller
+reading-smaller g c =
+    head_came c.reading.reader.head c.receive_response.new.reader.head c.in-Head.ensures.heads.0 c.in-Head.ensures.heads.1
+
+pub returns-in-Whole-clause-answers : goal.returns-in-Whole-clause-answers
+returns-in-Whole-clause-answers g c t =
+    let ah = c.reading.invariant.answers_head in
+    let stream = c.receive_response.new.reader.stream in
+    let start = ap (λ (r : ResponseReading). r.stream) c.requires in
+    let accounts = accounts_then _ _ _ _ _ _ (c.reading.invariant.accounts t) (c.in-Whole.ensures.accounts t) in
+    let first = subst (λ a. IsFirst (Responses a) false stream (Message (length stream))) ah c.in-Whole.ensures.brings.1 in
+    let response = subst (λ a. IsResponse a stream c.take.result) (c.receive_response.ensures.answers_head ∙ ah) c.take.ensures.message in
+    whole_answers (messages_stay c.fronts_stay.ensures.heads) c.args.reader.now.answers_head
+    (g.L.Link.traffic c.receive_response.new.link).ended (g.L.Link.traffic c.args.link.now).given c.args.reader.now.stream c.args.window.now
+    (g.L.Link.traffic c.receive_response.new.link).given stream c.receive_response.new.window c.receive_response.new.reader.standing c.take.result
+    start accounts c.in-Whole.ensures.brings.0 first response c.take.ensures.cut
+
+pub returns-in-Ended-clause-answers : goal.returns-in-Ended-clause-answers
+returns-in-Ended-clause-answers g c t =
+    let ah = c.reading.invariant.answers_head in
+    let stream = c.receive_response.new.reader.stream in
+    let standing = c.receive_response.new.reader.standing in
+    let start = ap (λ (r : ResponseReading). r.stream) c.requires in
+    let accounts = accounts_then _ _ _ _ _ _ (c.reading.invariant.accounts t) (c.in-Ended.ensures.accounts t) in
+    let stands = subst (λ a. Stands (Responses a) stream standing) ah c.in-Ended.ensures.stands in
+    let response = subst (λ a. IsResponse a stream c.take-in-Ended.result) (c.receive_response.ensures.answers_head ∙ ah) c.take-in-Ended.ensures.message in
+    ended_answers c.args.reader.now.answers_head
+    (g.L.Link.traffic c.receive_response.new.link).ended (g.L.Link.traffic c.args.link.now).given c.args.reader.now.stream c.args.window.now
+    (g.L.Link.traffic c.receive_response.new.link).given stream c.receive_response.new.window standing c.take-in-Ended.result
+    start accounts c.in-Ended.ensures.brings stands response c.take-in-Ended.ensures.cut (c.in-Ended.ensures.meets_end t)
+
+pub returns-in-Broken-clause-answers : goal.returns-in-Broken-clause-answers
+returns-in-Broken-clause-answers g c t =
+    let ah = c.reading.invariant.answers_head in
+    let stream = c.receive_response.new.reader.stream in
+    let start = ap (λ (r : ResponseReading). r.stream) c.requires in
+    let accounts = accounts_then _ _ _ _ _ _ (c.reading.invariant.accounts t) (c.in-Broken.ensures.accounts t) in
+    let undecided = subst (λ a. IsUndecided (Responses a) false stream) ah c.in-Broken.ensures.brings.2 in
+    broken_answers c.args.reader.now.answers_head
+    (g.L.Link.traffic c.receive_response.new.link).ended (g.L.Link.traffic c.args.link.now).given c.args.reader.now.stream c.args.window.now
+    (g.L.Link.traffic c.receive_response.new.link).given stream c.receive_response.new.window
+    start accounts c.in-Broken.ensures.brings.0 undecided
+
+pub returns-in-Refused-clause-answers : goal.returns-in-Refused-clause-answers
+returns-in-Refused-clause-answers g c t =
+    let ah = c.reading.invariant.answers_head in
+    let stream = c.receive_response.new.reader.stream in
+    let fault = c.in-Refused.fault in
+    let start = ap (λ (r : ResponseReading). r.stream) c.requires in
+    let accounts = accounts_fault_then fault (g.L.Link.traffic c.args.link.now).given (c.args.reader.now.stream ++ c.args.window.now)
+    (g.L.Link.traffic c.reading.link).given (c.reading.reader.stream ++ c.reading.window) (g.L.Link.traffic c.receive_response.new.link).given stream
+    (c.reading.invariant.accounts t) (c.in-Refused.ensures.accounts t) in
+    let has = subst (λ a. HasFault (Responses a) fault stream) ah c.in-Refused.ensures.brings.1 in
+    refused_answers (refusals_stay c.fronts_stay.ensures.heads c.fronts_stay.ensures.too_long) c.args.reader.now.answers_head
+    (g.L.Link.traffic c.reading.link).ended (g.L.Link.traffic c.receive_response.new.link).ended fault c.fault_of.result
+    (g.L.Link.traffic c.args.link.now).given c.args.reader.now.stream c.args.window.now
+    (g.L.Link.traffic c.receive_response.new.link).given stream c.receive_response.new.window
+    start accounts (c.in-Refused.ensures.meets_end t) has c.fault_of.ensures

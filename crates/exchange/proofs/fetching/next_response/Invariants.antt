@@ -1,0 +1,22 @@
+-- The bytes of the response so far and those in the window are what the link gave.
+use Rattle.std.proofs.Common.{◌≡◌, ℕ, ◌++◌, IsTrue}
+use Rattle.capture.specs.First.{Responses}
+use Rattle.exchange.specs.Receiving.{MayGoOn, StaysAccounted}
+use Rattle.exchange.proofs.ResponseLaws.{heads_left}
+use Rattle.exchange.proofs.fetching.next_response.Given as goal
+
+abbrev pub invariant-reading : goal.invariant-reading
+invariant-reading g l = record {
+  going : MayGoOn (Responses l.reader.answers_head) l.reader.stream l.reader.standing;
+  answers_head : l.reader.answers_head ≡ l.fn.reader.answers_head;
+  accounts : IsTrue g.L.Link.tells →
+      StaysAccounted (g.L.Link.traffic l.fn.link).given (l.fn.reader.stream ++ l.fn.window)
+      (g.L.Link.traffic l.link).given (l.reader.stream ++ l.window);
+  faults : g.L.Link.faults l.link ≡ g.L.Link.faults l.fn.link;
+  taken : IsTrue g.L.Link.tells → (g.L.Link.traffic l.link).taken ≡ (g.L.Link.traffic l.fn.link).taken;
+  host : IsTrue g.L.Link.tells → (g.L.Link.traffic l.link).host ≡ (g.L.Link.traffic l.fn.link).host;
+  port : IsTrue g.L.Link.tells → (g.L.Link.traffic l.link).port ≡ (g.L.Link.traffic l.fn.link).port;
+}
+
+abbrev pub decreases-reading : goal.decreases-reading
+decreases-reading g l = heads_left l.reader.head

@@ -1,0 +1,25 @@
+-- The message and the window grow, and all that was given is theirs.
+use Rattle.std.proofs.Common.{◌++◌, sym, subst}
+use Rattle.capture.specs.First.{Requests, Responses}
+use Rattle.exchange.specs.Receiving.{StaysAccounted}
+use Rattle.exchange.proofs.AccountLaws.{accounts_more, accounts_all}
+use Rattle.exchange.proofs.FeedLaws.{further_on, nothing_came}
+use Rattle.exchange.proofs.receiving.receive_response.Goals as goal
+
+pub reading-smaller : goal.reading-smaller
+reading-smaller g c =
+    let feeds = rw c.in-Ok-More.field-0-is at c.in-Ok-More.ensures.feeds in
+    further_on (Responses c.reading.reader.answers_head) c.reading.reader.stream c.reading.window c.feed_response.new.reader.stream c.refill.new.self
+    feeds.0 feeds.3 (c.in-Ok-true.ensures.some.0 c.in-Ok-true.field-0-test)
+
+pub returns-in-Err-end-clause-accounts : goal.returns-in-Err-end-clause-accounts
+returns-in-Err-end-clause-accounts g c t =
+    let link = g.L.Link in
+    let feeds = rw c.in-Ok-More.field-0-is at c.in-Ok-More.ensures.feeds in
+    let before = (link.traffic c.args.link.now).given in
+    let pending = c.args.reader.now.stream ++ c.args.window.now in
+    let now = (link.traffic c.refill.new.link).given in
+    let accounts = accounts_more before pending (link.traffic c.reading.link).given c.reading.reader.stream c.reading.window
+    c.feed_response.new.reader.stream now c.refill.new.self (c.reading.invariant.accounts t) feeds.0 (c.refill.ensures.gives t) in
+    let none = nothing_came c.in-Ok-false.field-0 c.refill.new.self c.in-Ok-false.field-0-test c.in-Ok-false.ensures.some in
+    subst (StaysAccounted before pending now) (sym c.end.ensures.stream) (accounts_all before pending now c.feed_response.new.reader.stream c.refill.new.self accounts none)

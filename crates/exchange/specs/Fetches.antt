@@ -1,0 +1,151 @@
+-- What asking an origin leaves: one link to it, what went over that link, and what came of it (RFC 9112, sections 6.3 and 9).
+use Rattle.std.specs.Prelude.{◌≡◌, ◌⊎◌, ℕ, ◌≤◌, Bool, true, false, List, [], ◌++◌, length, take, drop, Result, Ok, Err, ⊤}
+use Rattle.capture.specs.Faults.{Rose}
+use Rattle.capture.specs.Final.{Arrived, TooManyInterim as MoreInterim, IsArrival}
+use Rattle.capture.specs.First.{Responses, First, Message, Refused, HeadNeeded, BodyNeeded, IsFirst}
+use Rattle.capture.specs.declared.framing.MessageFault.TheVariants as message_fault
+use Rattle.http_head.specs.declared.head.Received.{Received}
+use Rattle.http_head.specs.declared.head.WireFault.{WireFault}
+use Rattle.http_head.specs.declared.head.WireFault.TheVariants as wire_fault
+use Rattle.http_wire.specs.Messages.{IsResponse}
+use Rattle.outside.specs.Records.{Links, logged}
+use Rattle.outside.specs.declared.dialer.Transcript.{Transcript}
+use Rattle.exchange.specs.Writing.{IsProperFrontOf}
+use Rattle.exchange.specs.declared.aim.Target.{Target}
+use Rattle.exchange.specs.declared.fetching.FetchFault.{FetchFault}
+use Rattle.exchange.specs.declared.fetching.FetchFault.TheVariants.{DialFault, OriginFault, OriginEnded, OriginMalformed, OriginTooLong, TooManyInterim, Memory}
+
+-- the response is one of a stream, whole or cut
+abbrev pub IsOneResponse : Bool → Received → Type 0
+IsOneResponse answers_head received = (stream : List ℕ) × IsResponse answers_head stream received
+
+-- the stream comes to this, behind the interim responses
+abbrev pub ComesTo : Bool → Bool → List ℕ → First → Type 0
+ComesTo answers_head ended given first = (behind : ℕ) × IsArrival answers_head ended given (Arrived behind first)
+
+-- the response stands whole behind the interim ones; what follows it is dropped
+pub record ArrivesWhole (answers_head ended : Bool) (given : List ℕ) (received : Received) : Type 0 where
+  pub behind : ℕ
+  pub used : ℕ
+  pub arrival : IsArrival answers_head ended given (Arrived behind (Message used))
+  pub response : IsResponse answers_head (take used (drop behind given)) received
+  pub whole : received.cut ≡ false
+
+-- the stream ended inside the body of the response behind the interim ones
+pub record ArrivesCut (answers_head ended : Bool) (given : List ℕ) (received : Received) : Type 0 where
+  pub behind : ℕ
+  pub met : ended ≡ true
+  pub arrival : IsArrival answers_head true given (Arrived behind BodyNeeded)
+  pub response : IsResponse answers_head (drop behind given) received
+  pub cut : received.cut ≡ true
+
+-- What a link gave and whether its end was met, by what came of it. Of a link that failed the response goes on.
+abbrev pub Receives : Bool → Result Received FetchFault → List ℕ → Bool → Type 0
+Receives answers_head (Ok received) given ended =
+    ArrivesWhole answers_head ended given received ⊎ ArrivesCut answers_head ended given received
+Receives answers_head (Err DialFault) given ended = ⊥
+Receives answers_head (Err OriginFault) given ended =
+    ComesTo answers_head false given HeadNeeded ⊎ ComesTo answers_head false given BodyNeeded
+Receives answers_head (Err OriginEnded) given ended = (ended ≡ true) × ComesTo answers_head ended given HeadNeeded
+Receives answers_head (Err OriginMalformed) given ended =
+    ComesTo answers_head ended given (Refused message_fault.Malformed)
+    ⊎ ComesTo answers_head ended given (Refused message_fault.CodingRefused)
+Receives answers_head (Err OriginTooLong) given ended =
+    ComesTo answers_head ended given (Refused message_fault.HeadTooLong)
+    ⊎ ComesTo answers_head ended given (Refused message_fault.BodyTooLong)
+Receives answers_head (Err TooManyInterim) given ended = IsArrival answers_head ended given MoreInterim
+Receives answers_head (Err Memory) given ended = ⊤
+
+-- What a link took, by what came of it: the whole request, unless the link failed while it was written.
+abbrev pub Sends : Result Received FetchFault → (request taken given : List ℕ) → Type 0
+Sends (Ok received) request taken given = taken ≡ request
+Sends (Err DialFault) request taken given = ⊥
+Sends (Err OriginFault) request taken given = (taken ≡ request) ⊎ (IsProperFrontOf taken request × (given ≡ []))
+Sends (Err OriginEnded) request taken given = taken ≡ request
+Sends (Err OriginMalformed) request taken given = taken ≡ request
+Sends (Err OriginTooLong) request taken given = taken ≡ request
+Sends (Err TooManyInterim) request taken given = taken ≡ request
+Sends (Err Memory) request taken given = taken ≡ request
+
+-- The transcript is of one link to the target, which took the request and gave what this came of.
+pub record IsFetched (target : Target) (request : List ℕ) (answers_head : Bool) (t : Transcript) (outcome : Result Received FetchFault) : Type 0 where
+  pub host : t.host ≡ target.host
+  pub port : t.port ≡ target.port
+  pub sent : Sends outcome request t.sent t.given
+  pub received : Receives answers_head outcome t.given t.ended
+
+-- The log gains the transcript of the fetch, and no link is left out.
+pub record LogsFetched (target : Target) (request : List ℕ) (answers_head : Bool) (outcome : Result Received FetchFault) (old new : Links Transcript) : Type 0 where
+  pub t : Transcript
+  pub gains : new ≡ logged old t
+  pub fetched : IsFetched target request answers_head t outcome
+
+-- The log gains the transcript of the fetch, or nothing where no link was made; no link is left out.
+abbrev pub LogsFetch : Target → List ℕ → Bool → Result Received FetchFault → Links Transcript → Links Transcript → Type 0
+LogsFetch target request answers_head (Ok received) old new = LogsFetched target request answers_head (Ok received) old new
+LogsFetch target request answers_head (Err DialFault) old new = new ≡ old
+LogsFetch target request answers_head (Err OriginFault) old new = LogsFetched target request answers_head (Err OriginFault) old new
+LogsFetch target request answers_head (Err OriginEnded) old new = LogsFetched target request answers_head (Err OriginEnded) old new
+LogsFetch target request answers_head (Err OriginMalformed) old new = LogsFetched target request answers_head (Err OriginMalformed) old new
+LogsFetch target request answers_head (Err OriginTooLong) old new = LogsFetched target request answers_head (Err OriginTooLong) old new
+LogsFetch target request answers_head (Err TooManyInterim) old new = LogsFetched target request answers_head (Err TooManyInterim) old new
+LogsFetch target request answers_head (Err Memory) old new =
+    (new ≡ old) ⊎ LogsFetched target request answers_head (Err Memory) old new
+
+-- A count of faults rises where a fault of the origin is answered, and else stays.
+abbrev pub CountsFetch : ℕ → ℕ → Result Received FetchFault → Type 0
+CountsFetch before now (Ok received) = now ≡ before
+CountsFetch before now (Err DialFault) = (before ≤ now) × Rose before now
+CountsFetch before now (Err OriginFault) = (before ≤ now) × Rose before now
+CountsFetch before now (Err OriginEnded) = now ≡ before
+CountsFetch before now (Err OriginMalformed) = now ≡ before
+CountsFetch before now (Err OriginTooLong) = now ≡ before
+CountsFetch before now (Err TooManyInterim) = now ≡ before
+CountsFetch before now (Err Memory) = now ≡ before
+
+-- ---- one response, interim or final
+
+-- the response stands first in the stream, these bytes behind it; or the stream has ended inside it
+pub record TakesFirst (answers_head ended : Bool) (stream : List ℕ) (received : Received) (behind : List ℕ) : Type 0 where
+  pub text : List ℕ
+  pub composed : stream ≡ text ++ behind
+  pub response : IsResponse answers_head text received
+  pub whole : received.cut ≡ false → IsFirst (Responses answers_head) ended stream (Message (length text))
+  pub cut : received.cut ≡ true → (ended ≡ true) × (behind ≡ []) × IsFirst (Responses answers_head) true stream BodyNeeded
+
+-- what stands first in the stream, by what came of it
+abbrev pub Yields : Bool → Result Received FetchFault → (stream behind : List ℕ) → Bool → Type 0
+Yields answers_head (Ok received) stream behind ended = TakesFirst answers_head ended stream received behind
+Yields answers_head (Err DialFault) stream behind ended = ⊥
+Yields answers_head (Err OriginFault) stream behind ended =
+    IsFirst (Responses answers_head) false stream HeadNeeded ⊎ IsFirst (Responses answers_head) false stream BodyNeeded
+Yields answers_head (Err OriginEnded) stream behind ended =
+    (ended ≡ true) × IsFirst (Responses answers_head) ended stream HeadNeeded
+Yields answers_head (Err OriginMalformed) stream behind ended =
+    IsFirst (Responses answers_head) ended stream (Refused message_fault.Malformed)
+    ⊎ IsFirst (Responses answers_head) ended stream (Refused message_fault.CodingRefused)
+Yields answers_head (Err OriginTooLong) stream behind ended =
+    IsFirst (Responses answers_head) ended stream (Refused message_fault.HeadTooLong)
+    ⊎ IsFirst (Responses answers_head) ended stream (Refused message_fault.BodyTooLong)
+Yields answers_head (Err TooManyInterim) stream behind ended = ⊥
+Yields answers_head (Err Memory) stream behind ended = ⊤
+
+-- the bytes that were given go on behind those done with this stream
+pub record GoesOnWith (answers_head : Bool) (result : Result Received FetchFault) (done given behind : List ℕ) (ended : Bool) : Type 0 where
+  pub stream : List ℕ
+  pub composed : given ≡ done ++ stream
+  pub yields : Yields answers_head result stream behind ended
+
+-- where the bytes given were those done and those in the window, they go on with what came of this
+abbrev pub Answers : Bool → Result Received FetchFault → (given window given_now window_now : List ℕ) → Bool → Type 0
+Answers answers_head result given window given_now window_now ended =
+    (done : List ℕ) → given ≡ done ++ window → GoesOnWith answers_head result done given_now window_now ended
+
+-- why a message that is refused gives no response
+abbrev pub IsFaultOf : WireFault → FetchFault → Type 0
+IsFaultOf wire_fault.Malformed fault = fault ≡ OriginMalformed
+IsFaultOf wire_fault.CodingRefused fault = fault ≡ OriginMalformed
+IsFaultOf wire_fault.HeadTooLong fault = fault ≡ OriginTooLong
+IsFaultOf wire_fault.BodyTooLong fault = fault ≡ OriginTooLong
+IsFaultOf wire_fault.EndedEarly fault = fault ≡ OriginEnded
+IsFaultOf wire_fault.Memory fault = fault ≡ Memory

@@ -1,0 +1,166 @@
+//! Asks an origin for its response.
+ghost use Rattle.std.specs.Prelude.{◌≡◌, [], IsTrue, OnOk, IfOk};
+ghost use Rattle.exchange.specs.Fetches.{Answers, CountsFetch, IsFaultOf, IsOneResponse, LogsFetch, Receives, Sends};
+ghost use Rattle.http_wire.specs.ResponseReading.{new_response};
+ghost use Rattle.outside.specs.Link.{IsFresh};
+
+use crate::aim::Target;
+use crate::output::write_all;
+use crate::receiving::{Came, receive_response};
+use crate::window::Window;
+use capture::{Failed, INTERIM_LIMIT};
+use http_wire::{Received, ResponseReader, WireFault, fronts_stay};
+use outside::{DialError, Dialer, Link};
+use std::alloc::Global;
+
+/// The least status of a final response (RFC 9110, section 15).
+const FINAL_STATUS: u16 = 200;
+
+/// Why a fetch gave no response.
+#[derive(Clone, Copy, Debug, PartialEq, Eq)]
+pub enum FetchFault {
+    /// The origin wasn't reached: the dialer's count of faults rose.
+    DialFault,
+    /// The link to the origin failed: the dialer's count of faults rose.
+    OriginFault,
+    /// The origin ended before the head of its final response was whole.
+    OriginEnded,
+    /// What the origin gave isn't in the grammar of HTTP/1.1, or has a transfer coding that isn't `chunked` alone.
+    OriginMalformed,
+    /// A head, a trailer section or a body of the origin passes its limit.
+    OriginTooLong,
+    /// The origin gave more interim responses than are dropped.
+    TooManyInterim,
+    /// There was no memory.
+    Memory,
+}
+
+/// Dials the target once, writes the request, reads the final response, whole or cut, and hangs up, also after a fault.
+/// Interim responses before it and bytes behind it are dropped. The window serves the link, and is empty afterwards.
+pub fn fetch<N: Dialer>(
+    alloc: Global,
+    dialer: &mut N,
+    window: &mut Window,
+    target: &Target,
+    answers_head: bool,
+    request: &[u8],
+) -> Result<Received, FetchFault>
+    ensures logs { IsTrue N.Link.tells → LogsFetch target.now request.now answers_head result (N.links dialer.old) (N.links dialer.new) }
+    ensures response { IfOk result (IsOneResponse answers_head) }
+    ensures counts { CountsFetch (N.faults dialer.old) (N.faults dialer.new) result }
+    ensures window { window.new ≡ [] }
+{
+    window.clear();
+    let mut link = match dialer.dial(target.host.as_str(), target.port) {
+        Ok(link) => link,
+        Err(DialError::Failed) => return Err(FetchFault::DialFault),
+        Err(DialError::Memory) => return Err(FetchFault::Memory),
+    };
+    let result = ask(alloc, &mut link, window, answers_head, request);
+    dialer.hang_up(link);
+    window.clear();
+    result
+}
+
+/// Writes the request to a fresh link and reads the response.
+fn ask<L: Link>(
+    alloc: Global,
+    link: &mut L,
+    window: &mut Window,
+    answers_head: bool,
+    request: &[u8],
+) -> Result<Received, FetchFault>
+    requires fresh { IsTrue L.tells → IsFresh (L.traffic link.old) }
+    requires empty { window.old ≡ [] }
+    ensures sends { IsTrue L.tells → Sends result request.now (L.traffic link.new).taken (L.traffic link.new).given }
+    ensures receives { IsTrue L.tells → Receives answers_head result (L.traffic link.new).given (L.traffic link.new).ended }
+    ensures response { IfOk result (IsOneResponse answers_head) }
+    ensures counts { CountsFetch (L.faults link.old) (L.faults link.new) result }
+    ensures same_host { IsTrue L.tells → (L.traffic link.new).host ≡ (L.traffic link.old).host }
+    ensures same_port { IsTrue L.tells → (L.traffic link.new).port ≡ (L.traffic link.old).port }
+{
+    fronts_stay();
+    match write_all(link, request) {
+        Ok(()) => receive(alloc, link, window, answers_head),
+        Err(Failed) => Err(FetchFault::OriginFault),
+    }
+}
+
+/// Reads the final response, whole or cut, from a link that has given nothing yet.
+fn receive<L: Link>(
+    alloc: Global,
+    link: &mut L,
+    window: &mut Window,
+    answers_head: bool,
+) -> Result<Received, FetchFault>
+    requires nothing { IsTrue L.tells → (L.traffic link.old).given ≡ [] }
+    requires empty { window.old ≡ [] }
+    ensures receives { IsTrue L.tells → Receives answers_head result (L.traffic link.new).given (L.traffic link.new).ended }
+    ensures response { IfOk result (IsOneResponse answers_head) }
+    ensures counts { CountsFetch (L.faults link.old) (L.faults link.new) result }
+    ensures same_taken { IsTrue L.tells → (L.traffic link.new).taken ≡ (L.traffic link.old).taken }
+    ensures same_host { IsTrue L.tells → (L.traffic link.new).host ≡ (L.traffic link.old).host }
+    ensures same_port { IsTrue L.tells → (L.traffic link.new).port ≡ (L.traffic link.old).port }
+{
+    fronts_stay();
+    let mut reader = ResponseReader::new(alloc, answers_head);
+    let mut interims = 0;
+    'receiving: loop {
+        let received = match next_response(alloc, link, window, &mut reader) {
+            Ok(received) => received,
+            Err(fault) => return Err(fault),
+        };
+        let is_final = received.head.status >= FINAL_STATUS;
+        if is_final {
+            return Ok(received);
+        }
+        let full = interims == INTERIM_LIMIT;
+        if full {
+            return Err(FetchFault::TooManyInterim);
+        }
+        interims += 1;
+    }
+}
+
+/// Reads one response, whole or cut, interim or final.
+fn next_response<L: Link>(
+    alloc: Global,
+    link: &mut L,
+    window: &mut Window,
+    reader: &mut ResponseReader,
+) -> Result<Received, FetchFault>
+    requires { reader.old ≡ new_response reader.old.answers_head }
+    ensures response { IfOk result (IsOneResponse reader.old.answers_head) }
+    ensures renewed { OnOk result (reader.new ≡ new_response reader.old.answers_head) }
+    ensures answers { IsTrue L.tells → Answers reader.old.answers_head result (L.traffic link.old).given window.old
+        (L.traffic link.new).given window.new (L.traffic link.new).ended }
+    ensures counts { CountsFetch (L.faults link.old) (L.faults link.new) result }
+    ensures same_taken { IsTrue L.tells → (L.traffic link.new).taken ≡ (L.traffic link.old).taken }
+    ensures same_host { IsTrue L.tells → (L.traffic link.new).host ≡ (L.traffic link.old).host }
+    ensures same_port { IsTrue L.tells → (L.traffic link.new).port ≡ (L.traffic link.old).port }
+{
+    fronts_stay();
+    'reading: loop {
+        match receive_response(alloc, link, window, reader) {
+            Came::Head => {}
+            Came::Whole => return Ok(reader.take()),
+            Came::Ended => return Ok(reader.take()),
+            Came::Broken => return Err(FetchFault::OriginFault),
+            Came::Refused(fault) => return Err(fault_of(fault)),
+        }
+    }
+}
+
+/// Why a message that is refused gives no response.
+fn fault_of(fault: WireFault) -> FetchFault
+    ensures { IsFaultOf fault result }
+{
+    match fault {
+        WireFault::Malformed => FetchFault::OriginMalformed,
+        WireFault::CodingRefused => FetchFault::OriginMalformed,
+        WireFault::HeadTooLong => FetchFault::OriginTooLong,
+        WireFault::BodyTooLong => FetchFault::OriginTooLong,
+        WireFault::EndedEarly => FetchFault::OriginEnded,
+        WireFault::Memory => FetchFault::Memory,
+    }
+}

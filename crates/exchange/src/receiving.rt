@@ -1,0 +1,146 @@
+//! Reads messages from links.
+ghost use Rattle.std.specs.Prelude.{◌≡◌, ◌++◌, ℕ, List, IsTrue, IsSome, IfOk};
+ghost use Rattle.capture.specs.First.{Requests, Responses};
+ghost use Rattle.exchange.specs.Receiving.{Accounts, Brings, BringsHead, CountsCame, Feeds, HeadsOnce, MayGoOn, MeetsEnd, OnEnded};
+ghost use Rattle.http_wire.specs.Reading.{Stands, IsEnded};
+ghost use Rattle.http_wire.specs.RequestReading.{EndsBetween};
+
+use crate::window::Window;
+use capture::Failed;
+use http_wire::{Progress, RequestReader, ResponseReader, WireFault};
+use outside::Link;
+use std::alloc::Global;
+
+/// What came of reading a message.
+#[derive(Clone, Copy, Debug, PartialEq, Eq)]
+pub enum Came {
+    /// The head, which the reader holds. This is answered once.
+    Head,
+    /// The whole message.
+    Whole,
+    /// The link's end: between requests, or with a response, whole or cut.
+    Ended,
+    /// The link failed: its count of faults rose.
+    Broken,
+    /// What came is no message, for this reason.
+    Refused(WireFault),
+}
+
+/// Reads on in a request up to its head, its end, or the link's. What the reader doesn't take stays in the window.
+pub fn receive_request<L: Link>(
+    alloc: Global,
+    link: &mut L,
+    window: &mut Window,
+    reader: &mut RequestReader,
+) -> Came
+    requires { MayGoOn Requests reader.old.stream reader.old.standing }
+
+    ensures accounts { IsTrue L.tells → Accounts result (L.traffic link.old).given (reader.old.stream ++ window.old)
+        (L.traffic link.new).given reader.new.stream window.new }
+    ensures brings { Brings Requests result reader.new.stream window.new reader.new.standing }
+    ensures between { OnEnded result (EndsBetween reader.new.stream reader.new.standing) }
+    ensures heads { HeadsOnce result reader.old.head reader.new.head }
+    ensures meets_end { IsTrue L.tells → MeetsEnd result (L.traffic link.old).ended (L.traffic link.new).ended }
+    ensures counts { CountsCame (L.faults link.old) (L.faults link.new) result }
+
+    ensures same_taken { IsTrue L.tells → (L.traffic link.new).taken ≡ (L.traffic link.old).taken }
+    ensures same_host { IsTrue L.tells → (L.traffic link.new).host ≡ (L.traffic link.old).host }
+    ensures same_port { IsTrue L.tells → (L.traffic link.new).port ≡ (L.traffic link.old).port }
+{
+    'reading: loop {
+        match feed_request(alloc, window, reader) {
+            Ok(Progress::More) => {}
+            Ok(Progress::Head) => return Came::Head,
+            Ok(Progress::Whole) => return Came::Whole,
+            Err(fault) => return Came::Refused(fault),
+        }
+        match window.refill(link) {
+            Ok(true) => {}
+            Ok(false) => match reader.end() {
+                Ok(()) => return Came::Ended,
+                Err(_) => return Came::Refused(WireFault::EndedEarly),
+            },
+            Err(Failed) => return Came::Broken,
+        }
+    }
+}
+
+/// Feeds the window to the reader.
+fn feed_request(
+    alloc: Global,
+    window: &mut Window,
+    reader: &mut RequestReader,
+) -> Result<Progress, WireFault>
+    requires { MayGoOn Requests reader.old.stream reader.old.standing }
+    ensures feeds { Feeds Requests result reader.old.stream window.old reader.new.stream window.new reader.new.standing }
+    ensures heads { BringsHead result reader.old.head reader.new.head }
+{
+    match reader.feed(alloc, window.as_slice()) {
+        Ok(fed) => {
+            window.advance(fed.used);
+            Ok(fed.progress)
+        }
+        Err(fault) => Err(fault),
+    }
+}
+
+/// Reads on in a response up to its head, its end, or the link's. What the reader doesn't take stays in the window.
+pub fn receive_response<L: Link>(
+    alloc: Global,
+    link: &mut L,
+    window: &mut Window,
+    reader: &mut ResponseReader,
+) -> Came
+    requires { MayGoOn (Responses reader.old.answers_head) reader.old.stream reader.old.standing }
+
+    ensures accounts { IsTrue L.tells → Accounts result (L.traffic link.old).given (reader.old.stream ++ window.old)
+        (L.traffic link.new).given reader.new.stream window.new }
+    ensures brings { Brings (Responses reader.old.answers_head) result reader.new.stream window.new reader.new.standing }
+    ensures answers_head { reader.new.answers_head ≡ reader.old.answers_head }
+    ensures ended { OnEnded result (IsEnded reader.new.standing) }
+    ensures stands { OnEnded result (Stands (Responses reader.old.answers_head) reader.new.stream reader.new.standing) }
+    ensures heads { HeadsOnce result reader.old.head reader.new.head }
+    ensures meets_end { IsTrue L.tells → MeetsEnd result (L.traffic link.old).ended (L.traffic link.new).ended }
+    ensures counts { CountsCame (L.faults link.old) (L.faults link.new) result }
+
+    ensures same_taken { IsTrue L.tells → (L.traffic link.new).taken ≡ (L.traffic link.old).taken }
+    ensures same_host { IsTrue L.tells → (L.traffic link.new).host ≡ (L.traffic link.old).host }
+    ensures same_port { IsTrue L.tells → (L.traffic link.new).port ≡ (L.traffic link.old).port }
+{
+    'reading: loop {
+        match feed_response(alloc, window, reader) {
+            Ok(Progress::More) => {}
+            Ok(Progress::Head) => return Came::Head,
+            Ok(Progress::Whole) => return Came::Whole,
+            Err(fault) => return Came::Refused(fault),
+        }
+        match window.refill(link) {
+            Ok(true) => {}
+            Ok(false) => match reader.end() {
+                Ok(()) => return Came::Ended,
+                Err(_) => return Came::Refused(WireFault::EndedEarly),
+            },
+            Err(Failed) => return Came::Broken,
+        }
+    }
+}
+
+/// Feeds the window to the reader.
+fn feed_response(
+    alloc: Global,
+    window: &mut Window,
+    reader: &mut ResponseReader,
+) -> Result<Progress, WireFault>
+    requires { MayGoOn (Responses reader.old.answers_head) reader.old.stream reader.old.standing }
+    ensures feeds { Feeds (Responses reader.old.answers_head) result reader.old.stream window.old reader.new.stream window.new reader.new.standing }
+    ensures answers_head { reader.new.answers_head ≡ reader.old.answers_head }
+    ensures heads { BringsHead result reader.old.head reader.new.head }
+{
+    match reader.feed(alloc, window.as_slice()) {
+        Ok(fed) => {
+            window.advance(fed.used);
+            Ok(fed.progress)
+        }
+        Err(fault) => Err(fault),
+    }
+}
