@@ -1,7 +1,11 @@
 //! The words of the command line.
 ghost use Rattle.std.specs.Prelude.{◌≡◌, IfOk, map, string_bytes};
+ghost use Rattle.proxy_run.specs.Words.{is_pipe};
+ghost use Rattle.real_outside.specs.Ends.{is_streams};
 
 use capture::Memory;
+use proxy_run::{is_pipe, site_of};
+use real_outside::Ends;
 use std::alloc::Global;
 use std::env;
 use std::io::ErrorKind;
@@ -31,4 +35,14 @@ pub(crate) fn texts_of(alloc: Global, words: &[String]) -> Result<Vec<&str>, Mem
         texts.push(word.as_str())?;
     }
     Ok(texts)
+}
+
+/// Where the words have the program meet its clients and its origins.
+pub(crate) fn ends_of(alloc: Global, words: &[&str]) -> Result<Ends, Memory>
+    ensures { IfOk result (λ ends. is_streams ends ≡ is_pipe (map (λ word. word.now) words.now)) }
+{
+    if is_pipe(words) {
+        return Ok(Ends::Streams);
+    }
+    Ok(Ends::Network(site_of(alloc, words)?))
 }

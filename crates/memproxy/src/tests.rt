@@ -2,18 +2,14 @@
 use disk_model::{Disk, Kind};
 use outside::MemorySink;
 use proxy_run::{CREW, Crew, Status, run};
-use real_outside::{Made, make};
+use real_outside::{Ends, Made, make};
 use std::fs;
 use std::test::Fail;
 
 #[test]
 fn a_folder_with_a_volume_is_refused(rt: HostRuntime) -> Result<(), Fail> {
     let alloc = rt.alloc();
-    let mut words = Vec::new(alloc);
-    for word in ["pipe", "6ba7b810-9dad-11d1-80b4-00c04fd430c8"] {
-        words.push(String::from_str(alloc, word)?)?;
-    }
-    let Ok(made) = make(&rt, words.as_slice(), CREW) else {
+    let Ok(made) = make(&rt, Ends::Streams, CREW) else {
         panic!(rt; "no memory");
     };
     let Made {

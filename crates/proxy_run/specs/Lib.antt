@@ -1,3 +1,4 @@
+pub mod Base
 pub mod Connection
 pub mod ExchangeForms
 pub mod Fetching

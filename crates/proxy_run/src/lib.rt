@@ -2,6 +2,7 @@
 #![tactic(auto)]
 
 mod archive;
+mod base;
 mod fetching;
 mod links;
 mod piping;
@@ -15,3 +16,4 @@ mod words;
 
 pub use running::{CREW, Crew, Ran, run};
 pub use status::Status;
+pub use words::{is_pipe, site_of};

@@ -1,7 +1,12 @@
 //! The words of the command line.
-ghost use Rattle.std.specs.Prelude.{◌≡◌, map, option_copied};
+ghost use Rattle.std.specs.Prelude.{◌≡◌, List, ℕ, map, option_copied, slice_index_or, IfOk, IfSome};
+ghost use Rattle.std.specs.Borrow.{Bor};
+ghost use Rattle.proxy_run.specs.Base.{IsSiteOf};
 ghost use Rattle.proxy_run.specs.Words as spec;
 
+use crate::base::site_of_base;
+use capture::{Memory, Site};
+use std::alloc::Global;
 use uuid::Uuid;
 
 /// What the words ask for.
@@ -30,6 +35,26 @@ fn command_of_two(name: &str, namespace: &str) -> Option<Command>
     match namespace_of(namespace) {
         Some(namespace) => Some(Command::Pipe(namespace)),
         None => None,
+    }
+}
+
+/// Whether the one client is at the standard streams: where the first word is `pipe`.
+pub fn is_pipe(words: &[&str]) -> bool
+    ensures { result ≡ spec.is_pipe (map (λ word. word.now) words.now) }
+{
+    match words.first() {
+        Some(word) => *word == "pipe",
+        None => false,
+    }
+}
+
+/// The site that a server has clients come to: that of the third word, where it is a base.
+pub fn site_of(alloc: Global, words: &[&str]) -> Result<Option<Site>, Memory>
+    ensures { IfOk result (λ found. IfSome found (λ site. (d : Bor (List ℕ)) → IsSiteOf (slice_index_or words.now 2 d).now site)) }
+{
+    match words.get(2) {
+        Some(base) => site_of_base(alloc, base),
+        None => Ok(None),
     }
 }
 

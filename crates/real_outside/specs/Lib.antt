@@ -1,9 +1,8 @@
-pub mod Address
 pub mod Brackets
 pub mod Dialers
+pub mod Ends
 pub mod FileNames
 pub mod Gates
 pub mod Links
 pub mod Placed
 pub mod Sinks
-pub mod Words

@@ -2,10 +2,10 @@
 #![tactic(auto)]
 
 mod accept_faults;
-mod address;
 mod brackets;
 mod clock;
 mod dialer;
+mod ends;
 mod faults;
 mod file_names;
 mod file_system;
@@ -34,6 +34,7 @@ mod tests;
 
 pub use clock::RealClock;
 pub use dialer::RealDialer;
+pub use ends::Ends;
 pub use file_system::{Access, FileSystem, Lock};
 pub use folder_disk::FolderDisk;
 pub use gate::RealGate;

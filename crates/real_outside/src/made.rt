@@ -1,13 +1,13 @@
 //! The real objects that the program hands to the call that serves.
-ghost use Rattle.std.specs.Prelude.{◌≡◌, ◌↔◌, All, IfOk, IsTrue, map, string_bytes, vec_len};
+ghost use Rattle.std.specs.Prelude.{◌≡◌, All, IfOk, vec_len};
 ghost use Rattle.real_outside.specs.Dialers.{dialer_faults, is_echo};
+ghost use Rattle.real_outside.specs.Ends.{is_streams};
 ghost use Rattle.real_outside.specs.Gates.{gate_faults, is_once};
 ghost use Rattle.real_outside.specs.Sinks.{sink_faults, is_error};
-ghost use Rattle.real_outside.specs.Words.{asks_pipe};
 
-use crate::address::{Address, address_of};
 use crate::clock::RealClock;
 use crate::dialer::RealDialer;
+use crate::ends::Ends;
 use crate::file_system::FileSystem;
 use crate::folder_disk::FolderDisk;
 use crate::gate::RealGate;
@@ -17,7 +17,6 @@ use crate::sink::RealSink;
 use crate::standard_streams::StandardStreams;
 use crate::tcp_gate::TcpGate;
 use capture::Memory;
-use std::alloc::Global;
 use std::io::Print;
 use std::rt::Clock;
 
@@ -34,22 +33,20 @@ pub struct Made<R: FileSystem + Network + StandardStreams> {
     pub out: RealSink<R>,
 }
 
-/// Makes the objects that the command line asks for: with the first word `pipe` one client at the standard
-/// streams, the trial origin and prints to standard error, else TCP both ways and prints to standard output.
-///
-/// The crew has so many members. A base that is no URL gives a gate that fails; the call that serves refuses it.
-pub fn make<R>(rt: &R, words: &[String], members: usize) -> Result<Made<R>, Memory>
+/// Makes the objects of a run with these ends: one client at the standard streams, the trial origin and prints to
+/// standard error; or TCP both ways and prints to standard output. The crew has so many members.
+pub fn make<R>(rt: &R, ends: Ends, members: usize) -> Result<Made<R>, Memory>
 where
     R: Clone + Drop + AllocGlobal + FileSystem + Print + Network + Clock + StandardStreams,
     ensures crew { IfOk result (λ made. vec_len made.members ≡ members) }
-    ensures gate { IfOk result (λ made. is_once made.gate ≡ asks_pipe (map string_bytes words.now)) }
-    ensures dialers { IfOk result (λ made. All (λ member. is_echo member.0 ≡ asks_pipe (map string_bytes words.now)) made.members.items) }
-    ensures out { IfOk result (λ made. is_error made.out ≡ asks_pipe (map string_bytes words.now)) }
+    ensures gate { IfOk result (λ made. is_once made.gate ≡ is_streams ends) }
+    ensures dialers { IfOk result (λ made. All (λ member. is_echo member.0 ≡ is_streams ends) made.members.items) }
+    ensures out { IfOk result (λ made. is_error made.out ≡ is_streams ends) }
 {
-    let pipe = is_pipe(words);
-    let gate = make_gate(rt, words, pipe)?;
-    let members = make_members(rt, pipe, members)?;
-    let out = make_sink(rt, pipe)?;
+    let streams = ends.is_streams();
+    let gate = make_gate(rt, ends)?;
+    let members = make_members(rt, streams, members)?;
+    let out = make_sink(rt, streams)?;
     Ok(Made {
         disk: FolderDisk::new(rt.clone()?, rt.alloc()),
         gate,
@@ -58,66 +55,47 @@ where
     })
 }
 
-/// Whether the first word is `pipe`.
-fn is_pipe(words: &[String]) -> bool
-    ensures { result ≡ asks_pipe (map string_bytes words.now) }
-{
-    match words.first() {
-        Some(word) => word.as_str() == "pipe",
-        None => false,
-    }
-}
-
-fn make_gate<R>(rt: &R, words: &[String], pipe: bool) -> Result<RealGate<R>, Memory>
+fn make_gate<R>(rt: &R, ends: Ends) -> Result<RealGate<R>, Memory>
 where
-    R: Clone + Drop + AllocGlobal + StandardStreams + Network,
-    ensures kind { IfOk result (λ gate. is_once gate ≡ pipe) }
+    R: Clone + Drop + StandardStreams + Network,
+    ensures kind { IfOk result (λ gate. is_once gate ≡ is_streams ends) }
     ensures no_fault { IfOk result (λ gate. gate_faults gate ≡ 0) }
 {
-    if pipe {
-        return Ok(RealGate::Once {
+    match ends {
+        Ends::Streams => Ok(RealGate::Once {
             system: Some(rt.clone()?),
-        });
-    }
-    let address = server_address(rt.alloc(), words)?;
-    Ok(RealGate::Tcp {
-        gate: TcpGate::new(rt.clone()?, address, LIMITS),
-        faults: 0,
-    })
-}
-
-/// The address in the base, which is the third word, where there is one.
-fn server_address(alloc: Global, words: &[String]) -> Result<Option<Address>, Memory> {
-    match words.get(2) {
-        Some(base) => address_of(alloc, base.as_str()),
-        None => Ok(None),
+        }),
+        Ends::Network(site) => Ok(RealGate::Tcp {
+            gate: TcpGate::new(rt.clone()?, site, LIMITS),
+            faults: 0,
+        }),
     }
 }
 
 fn make_members<R>(
     rt: &R,
-    pipe: bool,
+    streams: bool,
     many: usize,
 ) -> Result<Vec<(RealDialer<R>, RealClock<R>)>, Memory>
 where
     R: Clone + Drop + AllocGlobal + Clock,
     ensures many { IfOk result (λ members. vec_len members ≡ many) }
-    ensures kind { IfOk result (λ members. All (λ member. is_echo member.0 ≡ pipe) members.items) }
+    ensures kind { IfOk result (λ members. All (λ member. is_echo member.0 ≡ streams) members.items) }
 {
     let mut members = Vec::new(rt.alloc());
     for _ in 0..many {
-        members.push((make_dialer(rt, pipe)?, RealClock::new(rt.clone()?)))?;
+        members.push((make_dialer(rt, streams)?, RealClock::new(rt.clone()?)))?;
     }
     Ok(members)
 }
 
-fn make_dialer<R>(rt: &R, pipe: bool) -> Result<RealDialer<R>, Memory>
+fn make_dialer<R>(rt: &R, streams: bool) -> Result<RealDialer<R>, Memory>
 where
     R: Clone + Drop + AllocGlobal,
-    ensures kind { IfOk result (λ dialer. is_echo dialer ≡ pipe) }
+    ensures kind { IfOk result (λ dialer. is_echo dialer ≡ streams) }
     ensures no_fault { IfOk result (λ dialer. dialer_faults dialer ≡ 0) }
 {
-    if pipe {
+    if streams {
         return Ok(RealDialer::Echo {
             alloc: rt.alloc(),
             faults: 0,
@@ -130,13 +108,13 @@ where
     })
 }
 
-fn make_sink<R>(rt: &R, pipe: bool) -> Result<RealSink<R>, Memory>
+fn make_sink<R>(rt: &R, streams: bool) -> Result<RealSink<R>, Memory>
 where
     R: Clone + Drop + StandardStreams,
-    ensures kind { IfOk result (λ out. is_error out ≡ pipe) }
+    ensures kind { IfOk result (λ out. is_error out ≡ streams) }
     ensures no_fault { IfOk result (λ out. sink_faults out ≡ 0) }
 {
-    if pipe {
+    if streams {
         return Ok(RealSink::Error {
             stream: rt.standard_error(),
             faults: 0,
@@ -151,20 +129,17 @@ where
 #[cfg(test)]
 mod tests {
     use super::*;
+    use capture::{Site, Text};
     use std::test::Fail;
 
     #[test]
     fn makes_a_server(rt: HostRuntime) -> Result<(), Fail> {
-        let mut words = Vec::new(rt.alloc());
-        for word in [
-            "serve",
-            "6ba7b810-9dad-11d1-80b4-00c04fd430c8",
-            "http://[::1]:9090",
-            "4",
-        ] {
-            words.push(String::from_str(rt.alloc(), word)?)?;
-        }
-        let Ok(made) = make(&rt, words.as_slice(), 16) else {
+        let site = Site {
+            base: Text::from_str(rt.alloc(), "http://[::1]:9090")?,
+            host: Text::from_str(rt.alloc(), "[::1]")?,
+            port: 9090,
+        };
+        let Ok(made) = make(&rt, Ends::Network(Some(site)), 16) else {
             panic!(rt; "no memory");
         };
         assert_eq!(rt; made.members.len(), 16);

@@ -1,28 +1,28 @@
 //! Where connections come in by TCP.
 use crate::accept_faults::{AcceptFault, fault_of};
-use crate::address::Address;
 use crate::brackets::without_brackets;
 use crate::limits::Limits;
 use crate::network::Network;
 use crate::tcp_link::TcpLink;
+use capture::Site;
 use std::io;
 use std::io::ErrorKind;
 
-/// Listens at one address, from the first accept on. One that has no address gives no connection.
+/// Listens at the host and port of a site, from the first accept on. Without a site it gives no connection.
 #[derive(Drop)]
 pub struct TcpGate<N: Network> {
     network: N,
-    address: Option<Address>,
+    site: Option<Site>,
     listener: Option<N::Listener>,
     limits: Limits,
 }
 
 impl<N: Network> TcpGate<N> {
     /// A gate that doesn't listen yet.
-    pub(crate) fn new(network: N, address: Option<Address>, limits: Limits) -> TcpGate<N> {
+    pub(crate) fn new(network: N, site: Option<Site>, limits: Limits) -> TcpGate<N> {
         TcpGate {
             network,
-            address,
+            site,
             listener: None,
             limits,
         }
@@ -33,7 +33,7 @@ impl<N: Network> TcpGate<N> {
     pub(crate) fn listening(network: N, listener: N::Listener, limits: Limits) -> TcpGate<N> {
         TcpGate {
             network,
-            address: None,
+            site: None,
             listener: Some(listener),
             limits,
         }
@@ -57,10 +57,10 @@ impl<N: Network> TcpGate<N> {
     }
 
     fn listen(&mut self) -> io::Result<N::Listener> {
-        match &self.address {
-            Some(address) => self
+        match &self.site {
+            Some(site) => self
                 .network
-                .listen(without_brackets(address.host()), address.port()),
+                .listen(without_brackets(site.host.as_str()), site.port),
             None => Err(io::Error::from(ErrorKind::AddrNotAvailable)),
         }
     }

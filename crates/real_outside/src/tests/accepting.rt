@@ -1,10 +1,10 @@
 //! What a gate does when an accept fails, where it listens, and what a dial tries.
 use super::recorded_network::{Comes, Peer, RecordedNetwork};
 use crate::accept_faults::is_memory;
-use crate::address::address_of;
 use crate::limits::Limits;
 use crate::tcp_dial::dial;
 use crate::tcp_gate::TcpGate;
+use capture::{Site, Text};
 use std::alloc::Global;
 use std::io;
 use std::test::Fail;
@@ -32,12 +32,18 @@ fn word_of<T>(came: &io::Result<T>) -> &'static str {
     }
 }
 
-/// What two accepts at a base ask of a network, and what came of them.
-fn accepts(alloc: Global, network: RecordedNetwork, base: &str) -> io::Result<String> {
-    let Ok(address) = address_of(alloc, base) else {
-        return Ok(String::from_str(alloc, "no memory")?);
-    };
-    let mut gate = TcpGate::new(network, address, LIMITS);
+/// The site at this host, in brackets where it is an IPv6 address, and port.
+fn site(alloc: Global, host: &str, port: u16) -> io::Result<Option<Site>> {
+    Ok(Text::of(Vec::from_slice(alloc, host.as_bytes())?).map(|host| Site {
+        base: Text::empty(alloc),
+        host,
+        port,
+    }))
+}
+
+/// What two accepts at a site ask of a network, and what came of them.
+fn accepts(alloc: Global, network: RecordedNetwork, site: Option<Site>) -> io::Result<String> {
+    let mut gate = TcpGate::new(network, site, LIMITS);
     let first = gate.accept();
     let second = gate.accept();
     let calls = gate.network().calls.as_str();
@@ -79,32 +85,32 @@ fn an_accept_that_fails_ends_no_gate(rt: HostRuntime) -> Result<(), Fail> {
         (88, ends),
     ] {
         let network = RecordedNetwork::new(alloc, [Comes::Error(number), SILENT, SILENT]);
-        let calls = accepts(alloc, network, "http://a.test:8080")?;
+        let calls = accepts(alloc, network, site(alloc, "a.test", 8080)?)?;
         assert_eq!(rt; calls.as_str(), want);
     }
     Ok(())
 }
 
 #[test]
-fn listens_where_the_base_says(rt: HostRuntime) -> Result<(), Fail> {
+fn listens_where_the_site_is(rt: HostRuntime) -> Result<(), Fail> {
     let alloc = rt.alloc();
-    for (base, refuses, want) in [
+    for (site, refuses, want) in [
         (
-            "http://[::1]:9090",
+            site(alloc, "[::1]", 9090)?,
             None,
             "listen ::1 9090;accept;accept; connection connection",
         ),
         (
-            "http://a.test",
+            site(alloc, "a.test", 80)?,
             None,
             "listen a.test 80;accept;accept; connection connection",
         ),
         (
-            "http://127.0.0.1:8080",
+            site(alloc, "127.0.0.1", 8080)?,
             Some(98),
             "listen 127.0.0.1 8080;listen 127.0.0.1 8080; failed failed",
         ),
-        ("4", None, " failed failed"),
+        (None, None, " failed failed"),
     ] {
         let mut network = RecordedNetwork::new(
             alloc,
@@ -112,11 +118,11 @@ fn listens_where_the_base_says(rt: HostRuntime) -> Result<(), Fail> {
         );
         network.refuses = refuses;
         network.given = 1;
-        let calls = accepts(alloc, network, base)?;
+        let calls = accepts(alloc, network, site)?;
         assert_eq!(rt; calls.as_str(), want);
     }
     let odd = RecordedNetwork::new(alloc, [Comes::Connection(Peer::Odd), SILENT, SILENT]);
-    let calls = accepts(alloc, odd, "http://a.test")?;
+    let calls = accepts(alloc, odd, site(alloc, "a.test", 80)?)?;
     assert_eq!(rt;
         calls.as_str(),
         "listen a.test 80;accept;accept;accept; connection connection"
@@ -125,7 +131,7 @@ fn listens_where_the_base_says(rt: HostRuntime) -> Result<(), Fail> {
     let calls = accepts(
         alloc,
         RecordedNetwork::new(alloc, no_memory),
-        "http://a.test",
+        site(alloc, "a.test", 80)?,
     )?;
     assert_eq!(rt;
         calls.as_str(),
