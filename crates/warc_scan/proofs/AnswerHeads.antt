@@ -1,0 +1,279 @@
+-- The head of a response at the front of a block.
+use Rattle.std.proofs.Common.{◌≡◌, ℕ, suc, ◌+◌, ◌-◌, ◌<◌, ◌≤◌, ◌^◌, Bool, true, false, ◌&&◌, cond, eqb, leb, ltb, List, [], ◌∷◌, ◌++◌, length, take, drop, Option, Some, None, Ok, Err, append-nil, refl, sym, ap, ◌∙◌, arith}
+use Rattle.std.specs.Prelude.{Result, ◌==◌, option_map, nat_lt}
+use Rattle.std.proofs.lemmas.Bool.{cond_both, le-leb, leb-true, ltb-false}
+use Rattle.std.proofs.lemmas.List.{take_all, take_at, length-drop}
+use Rattle.std.proofs.lemmas.Option.{same_Some}
+use Rattle.httparse.specs.Ascii.{carriage_return, line_feed}
+use Rattle.httparse.specs.Grammar as grammar
+use Rattle.httparse.specs.Grammar.{print_response, print_blank, print_version, print_reason, print_end, print_section, status_code}
+use Rattle.httparse.proofs.GrammarLemmas.{response_unique}
+use Rattle.capture.specs.Body.{IsBody, IsCutWire}
+use Rattle.capture.specs.Fields.{named_values}
+use Rattle.capture.specs.Framing.{framing_of_response, response_framing}
+use Rattle.capture.specs.Head.{after_line_ends, begins_with_lf, empty_line_len, field_lines, front_of, front_by, head_end, head_len, line_count, line_ends_len}
+use Rattle.capture.specs.Head as head
+use Rattle.capture.specs.HeadLaws.{ResponseHeadsEnd}
+use Rattle.capture.specs.Message.{BeginsWithResponse, IsResponseHeadText, IsShortHead}
+use Rattle.capture.specs.WellFormed.{IsFinalHead}
+use Rattle.capture.specs.declared.limits.TheConstants.{HEAD_LIMIT, FIELD_LIMIT}
+use Rattle.capture.specs.declared.framing.Framing.{Framing}
+use Rattle.capture.specs.declared.framing.Framing.TheVariants.{Empty, Length, Chunked, ToEnd}
+use Rattle.capture.specs.declared.framing.FramingFault.{FramingFault}
+use Rattle.capture.specs.declared.framing.FramingFault.TheVariants.{Malformed, CodingRefused}
+use Rattle.http_head.specs.Heads.{IsResponseOf, HoldsResponse, minor_of}
+use Rattle.http_head.specs.declared.head.ResponseHead.{ResponseHead}
+use Rattle.http_head.specs.declared.head.WireFault.{WireFault}
+use Rattle.http_head.specs.declared.head.WireFault.TheVariants as wire
+use Rattle.message_body.specs.Framings.{framing_answer, told_by_response}
+use Rattle.warc_text.proofs.Fronts.{fronts}
+
+-- ---- heads
+
+-- a head that is read alone is read the same with a rest behind it
+pub begins_with_rest : (front : List ℕ) (h : grammar.ResponseHead) (rest : List ℕ) → IsResponseHeadText front h
+    → BeginsWithResponse (front ++ rest) h rest
+begins_with_rest front h rest is = record {
+  reads = (is.reads.0, ap (λ t. t ++ rest) (is.reads.1 ∙ append-nil (print_response h)));
+  at_once = is.at_once;
+  status = is.status;
+  no_switch = is.no_switch;
+}
+
+printed : (front : List ℕ) (h : grammar.ResponseHead) → IsResponseHeadText front h → front ≡ print_response h
+printed front h is = is.reads.1 ∙ append-nil (print_response h)
+
+ends_there : ResponseHeadsEnd → (block front rest : List ℕ) (h : grammar.ResponseHead) → IsResponseHeadText front h → block ≡ front ++ rest
+    → head_end block ≡ Some (length front)
+ends_there ends block front rest h is composed =
+    ap head_end composed ∙ ends (front ++ rest) h rest (begins_with_rest front h rest is) ∙ ap (λ t. Some (length t)) (sym (printed front h is))
+
+some_same : (a b : ℕ) → Some a ≡ Some b → a ≡ b
+some_same a b e = cc
+
+-- a block splits behind its head in one way
+pub one_split : ResponseHeadsEnd → (block a x b y : List ℕ) (h k : grammar.ResponseHead) → IsResponseHeadText a h → IsResponseHeadText b k
+    → block ≡ a ++ x → block ≡ b ++ y → (a ≡ b) × (x ≡ y)
+one_split ends block a x b y h k is is_too p q =
+    let lens : length a ≡ length b = some_same (length a) (length b) (sym (ends_there ends block a x h is p) ∙ ends_there ends block b y k is_too q) in
+    fronts a b x y lens (sym p ∙ q)
+
+pub one_head : (front : List ℕ) (h k : grammar.ResponseHead) → IsResponseHeadText front h → IsResponseHeadText front k → h ≡ k
+one_head front h k x y = (response_unique front h k [] [] x.reads y.reads).0
+
+-- where the head ends
+pub split_there : ResponseHeadsEnd → (block front rest : List ℕ) (end : ℕ) (h : grammar.ResponseHead) → IsResponseHeadText front h
+    → block ≡ front ++ rest → Some end ≡ head_end block → take end block ≡ front
+split_there ends block front rest end h is composed found =
+    let lens : length front ≡ end = some_same (length front) end (sym (ends_there ends block front rest h is composed) ∙ sym found) in
+    ap (take end) composed ∙ take_at front rest end lens
+
+-- ---- a final head
+
+-- a final head there has a final status
+pub final_status : (front : List ℕ) (parsed : ResponseHead) (h : grammar.ResponseHead) → HoldsResponse front parsed → IsFinalHead front h
+    → 200 ≤ parsed.status
+final_status front parsed h holds final =
+    let same : holds.0 ≡ h = one_head front holds.0 h holds.1.reads final.whole in
+    omega (arith, holds.1.status, ap status_code same, final.final)
+
+-- the parts are of a final head
+pub final_head : (front : List ℕ) (parsed : ResponseHead) → (holds : HoldsResponse front parsed) → 200 ≤ parsed.status → IsFinalHead front holds.0
+final_head front parsed holds final = record { whole = holds.1.reads; final = omega (arith, holds.1.status, final) }
+
+-- ---- what it tells of the body
+
+parts_tell : (answers_head : Bool) (front : List ℕ) (h : grammar.ResponseHead) (parsed : ResponseHead) → IsResponseOf front h parsed
+    → response_framing answers_head h ≡ told_by_response answers_head parsed
+parts_tell answers_head front h parsed of =
+    ap (λ m. framing_of_response answers_head m (status_code h) (named_values h.fields)) (sym of.version)
+    ∙ ap (λ s. framing_of_response answers_head (minor_of parsed.version) s (named_values h.fields)) (sym of.status)
+    ∙ ap (λ fields. framing_of_response answers_head (minor_of parsed.version) parsed.status fields) (sym of.fields)
+
+-- each reading of the head tells what the parts tell
+pub told_by_parts : (answers_head : Bool) (front : List ℕ) (parsed : ResponseHead) (h : grammar.ResponseHead) → HoldsResponse front parsed
+    → IsResponseHeadText front h → response_framing answers_head h ≡ told_by_response answers_head parsed
+told_by_parts answers_head front parsed h holds is =
+    ap (response_framing answers_head) (one_head front h holds.0 is holds.1.reads) ∙ parts_tell answers_head front holds.0 parsed holds.1
+
+abbrev Told : Type 0
+Told = Result Framing FramingFault
+
+abbrev Said : Type 0
+Said = Result Framing WireFault
+
+abbrev telling : Framing → Told
+telling framing = Ok framing
+
+abbrev said_ok : Framing → Said
+said_ok framing = Ok framing
+
+abbrev said_err : WireFault → Said
+said_err fault = Err fault
+
+ok_is_no_err : (framing : Framing) (fault : WireFault) → said_ok framing ≡ said_err fault → ⊥
+ok_is_no_err framing fault e = cc
+
+same_framing : (a b : Framing) → said_ok a ≡ said_ok b → b ≡ a
+same_framing a b e = cc
+
+pub one_framing : (a b : Framing) → telling a ≡ telling b → a ≡ b
+one_framing a b e = cc
+
+-- an answer that is a framing was told
+pub ok_was_told : (told : Told) (framing : Framing) → said_ok framing ≡ framing_answer told → told ≡ telling framing
+ok_was_told (Ok Empty) framing e = ap telling (same_framing framing Empty e)
+ok_was_told (Ok (Length n)) framing e =
+    cond_both (ltb n (2 ^ 64)) (said_ok (Length n)) (said_err wire.BodyTooLong)
+    (λ a. said_ok framing ≡ a → telling (Length n) ≡ telling framing)
+    (λ _ d. ap telling (same_framing framing (Length n) d)) (λ _ d. absurd (ok_is_no_err framing wire.BodyTooLong d)) e
+ok_was_told (Ok Chunked) framing e = ap telling (same_framing framing Chunked e)
+ok_was_told (Ok ToEnd) framing e = ap telling (same_framing framing ToEnd e)
+ok_was_told (Err Malformed) framing e = absurd (ok_is_no_err framing wire.Malformed e)
+ok_was_told (Err CodingRefused) framing e = absurd (ok_is_no_err framing wire.CodingRefused e)
+
+-- a framing that isn't answered has a length that no slice has
+pub no_such_body : (told : Told) (framing : Framing) (text : List ℕ) (fault : WireFault) → said_err fault ≡ framing_answer told → told ≡ telling framing
+    → length text < 2 ^ 64 → IsBody framing text → ⊥
+no_such_body told framing text fault e is short body = at framing (e ∙ ap framing_answer is) body
+  where
+    at : (f : Framing) → said_err fault ≡ framing_answer (telling f) → IsBody f text → ⊥
+    at Empty d b = ok_is_no_err Empty fault (sym d)
+    at (Length n) d b =
+        cond_both (ltb n (2 ^ 64)) (said_ok (Length n)) (said_err wire.BodyTooLong) (λ a. said_err fault ≡ a → ⊥)
+        (λ _ p. ok_is_no_err (Length n) fault (sym p)) (λ large _. absurd (omega (arith, ltb-false n (2 ^ 64) large, b, short))) d
+    at Chunked d b = ok_is_no_err Chunked fault (sym d)
+    at ToEnd d b = ok_is_no_err ToEnd fault (sym d)
+
+-- and no cut body has so great a length
+pub no_such_cut : (told : Told) (framing : Framing) (text : List ℕ) (fault : WireFault) → said_err fault ≡ framing_answer told → told ≡ telling framing
+    → IsCutWire framing text → ⊥
+no_such_cut told framing text fault e is body = at framing (e ∙ ap framing_answer is) body
+  where
+    at : (f : Framing) → said_err fault ≡ framing_answer (telling f) → IsCutWire f text → ⊥
+    at Empty d b = b
+    at (Length n) d b =
+        cond_both (ltb n (2 ^ 64)) (said_ok (Length n)) (said_err wire.BodyTooLong) (λ a. said_err fault ≡ a → ⊥)
+        (λ _ p. ok_is_no_err (Length n) fault (sym p)) (λ large _. absurd (omega (arith, ltb-false n (2 ^ 64) large, b.1))) d
+    at Chunked d b = ok_is_no_err Chunked fault (sym d)
+    at ToEnd d b = b
+
+-- ---- a head begins at once
+
+no_line_ends : (b c : ℕ) (others : List ℕ) → eqb b 10 ≡ false → eqb b 13 ≡ false → line_ends_len (b ∷ c ∷ others) ≡ 0
+no_line_ends b c others no_lf no_cr = rw (no_lf, no_cr) refl
+
+-- without line ends before it a response head begins with its version
+at_once : (h : grammar.ResponseHead) → h.blank ≡ []
+    → print_response h ≡ print_version h.minor ++ 32 ∷ h.digits ++ print_reason h.reason ++ print_end h.line_end ++ print_section h.fields h.last
+unfolding print_response
+at_once h none =
+    ap (λ blank. print_blank blank ++ print_version h.minor ++ 32 ∷ h.digits ++ print_reason h.reason ++ print_end h.line_end
+    ++ print_section h.fields h.last) none
+
+-- what stands behind its first two letters
+abbrev line_rest : grammar.ResponseHead → List ℕ
+line_rest h =
+    drop 2 (print_version h.minor ++ 32 ∷ h.digits ++ print_reason h.reason ++ print_end h.line_end ++ print_section h.fields h.last)
+
+pub begins_at_once : (front : List ℕ) (h : grammar.ResponseHead) → IsResponseHeadText front h → line_ends_len front ≡ 0
+begins_at_once front h is =
+    ap line_ends_len (printed front h is ∙ at_once h is.at_once) ∙ no_line_ends 72 84 (line_rest h) refl refl
+
+-- ---- its limits
+
+abbrev front_at : ℕ → ℕ → List ℕ → head.Front
+front_at end skipped text =
+    cond (leb end HEAD_LIMIT && leb (field_lines (drop skipped text)) FIELD_LIMIT) (head.Head skipped (drop skipped text)) head.TooLong
+
+front_is : (text : List ℕ) → head_end text ≡ Some (length text) → line_ends_len text ≡ 0 → front_of text ≡ front_at (length text) 0 text
+front_is text ends none =
+    ap (front_by text) ends ∙ ap (λ skipped. front_at (length text) skipped (take (length text) text)) none
+    ∙ ap (front_at (length text) 0) (take_all (length text) text (omega arith))
+
+too_long_is_no_head : (skipped : ℕ) (text : List ℕ) → head.TooLong ≡ head.Head skipped text → ⊥
+too_long_is_no_head skipped text e = cc
+
+by_tests : (long few : Bool) (text : List ℕ) → long ≡ true → few ≡ true → cond (long && few) (head.Head 0 text) head.TooLong ≡ head.Head 0 text
+by_tests true true text p q = refl
+by_tests true false text p q = cc
+by_tests false few text p q = cc
+
+tests_of : (long few : Bool) (text : List ℕ) → cond (long && few) (head.Head 0 text) head.TooLong ≡ head.Head 0 text → (long ≡ true) × (few ≡ true)
+tests_of true true text e = (refl, refl)
+tests_of true false text e = absurd (too_long_is_no_head 0 text e)
+tests_of false few text e = absurd (too_long_is_no_head 0 text e)
+
+pub is_short : (text : List ℕ) → head_end text ≡ Some (length text) → line_ends_len text ≡ 0 → leb (length text) HEAD_LIMIT ≡ true
+    → leb (line_count text - 2) FIELD_LIMIT ≡ true → IsShortHead text
+is_short text ends none long few = front_is text ends none ∙ by_tests (leb (length text) HEAD_LIMIT) (leb (line_count text - 2) FIELD_LIMIT) text long few
+
+pub short_tests : (text : List ℕ) → head_end text ≡ Some (length text) → line_ends_len text ≡ 0 → IsShortHead text
+    → (leb (length text) HEAD_LIMIT ≡ true) × (leb (line_count text - 2) FIELD_LIMIT ≡ true)
+short_tests text ends none short =
+    tests_of (leb (length text) HEAD_LIMIT) (leb (line_count text - 2) FIELD_LIMIT) text (sym (front_is text ends none) ∙ short)
+
+-- by the number of its lines
+pub short_by_count : (text : List ℕ) (n : ℕ) → head_end text ≡ Some (length text) → line_ends_len text ≡ 0 → length text ≤ HEAD_LIMIT
+    → n ≡ line_count text → (leb n 130 ≡ true → IsShortHead text) × (IsShortHead text → leb n 130 ≡ true)
+short_by_count text n ends none long counted = (
+  λ few. is_short text ends none (le-leb (length text) HEAD_LIMIT long)
+      (le-leb (line_count text - 2) FIELD_LIMIT (omega (arith, leb-true n 130 few, counted))),
+  λ short. le-leb n 130 (omega (arith, leb-true (line_count text - 2) FIELD_LIMIT (short_tests text ends none short).1, counted)),
+)
+
+-- ---- a head ends within its block
+
+-- (as line ends are counted)
+either_le : (b : Bool) (x y n : ℕ) → x ≤ n → y ≤ n → cond b x y ≤ n
+either_le true x y n p q = p
+either_le false x y n p q = q
+
+line_ends_within : (s : List ℕ) → line_ends_len s ≤ length s
+line_ends_within [] = omega arith
+line_ends_within (b ∷ []) = either_le (eqb b 10) 1 0 1 (omega arith) (omega arith)
+line_ends_within (b ∷ c ∷ s) =
+    let one = line_ends_within (c ∷ s) in
+    let two = line_ends_within s in
+    either_le (eqb b 10) (1 + line_ends_len (c ∷ s)) (cond (eqb b 13 && eqb c 10) (2 + line_ends_len s) 0) (length (b ∷ c ∷ s))
+    (omega (arith, one))
+    (either_le (eqb b 13 && eqb c 10) (2 + line_ends_len s) 0 (length (b ∷ c ∷ s)) (omega (arith, two)) (omega arith))
+
+second_holds : (a b : Bool) → (a && b) ≡ true → b ≡ true
+second_holds true b e = e
+second_holds false b e = cc
+
+has_a_byte : (bytes : List ℕ) → begins_with_lf bytes ≡ true → 1 ≤ length bytes
+has_a_byte [] e = cc
+has_a_byte (b ∷ bytes) e = omega arith
+
+empty_line_fits : (bytes : List ℕ) → empty_line_len bytes ≤ length bytes
+empty_line_fits [] = omega arith
+empty_line_fits (b ∷ bytes) =
+    let two = b == carriage_return && begins_with_lf bytes in
+    cond_both (b == line_feed) 1 (cond two 2 0) (λ n. n ≤ suc (length bytes)) (λ _. omega arith)
+    (λ _. cond_both two 2 0 (λ n. n ≤ suc (length bytes))
+    (λ is. omega (arith, has_a_byte bytes (second_holds (b == carriage_return) (begins_with_lf bytes) is))) (λ _. omega arith))
+
+behind_a_byte : (found : Option ℕ) (n long : ℕ) → ((m : ℕ) → found ≡ Some m → m ≤ long) → option_map (λ m. 1 + m) found ≡ Some n → n ≤ suc long
+behind_a_byte None n long fits e = cc
+behind_a_byte (Some m) n long fits e = let is = same_Some (1 + m) n e in omega (arith, fits m refl, is)
+
+head_fits : (bytes : List ℕ) (n : ℕ) → head_len bytes ≡ Some n → n ≤ length bytes
+head_fits [] n e = cc
+head_fits (b ∷ bytes) n e =
+    let here = b == line_feed && nat_lt 0 (empty_line_len bytes) in
+    cond_both here (Some (1 + empty_line_len bytes)) (option_map (λ m. 1 + m) (head_len bytes)) (λ o. o ≡ Some n → n ≤ suc (length bytes))
+    (λ _ is. omega (arith, same_Some (1 + empty_line_len bytes) n is, empty_line_fits bytes))
+    (λ _ is. behind_a_byte (head_len bytes) n (length bytes) (head_fits bytes) is) e
+
+behind_line_ends : (found : Option ℕ) (skipped n long : ℕ) → ((m : ℕ) → found ≡ Some m → m ≤ long - skipped) → skipped ≤ long
+    → option_map (λ m. skipped + m) found ≡ Some n → n ≤ long
+behind_line_ends None skipped n long fits within e = cc
+behind_line_ends (Some m) skipped n long fits within e = let is = same_Some (skipped + m) n e in omega (arith, fits m refl, within, is)
+
+pub end_fits : (stream : List ℕ) (n : ℕ) → Some n ≡ head_end stream → n ≤ length stream
+end_fits stream n found =
+    let behind : (m : ℕ) → head_len (after_line_ends stream) ≡ Some m → m ≤ length stream - line_ends_len stream =
+    λ m e. omega (arith, head_fits (after_line_ends stream) m e, length-drop (line_ends_len stream) stream) in
+    behind_line_ends (head_len (after_line_ends stream)) (line_ends_len stream) n (length stream) behind (line_ends_within stream) (sym found)

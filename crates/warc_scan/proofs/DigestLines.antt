@@ -1,0 +1,52 @@
+-- The text of a payload's digest, at the front of bytes.
+use Rattle.std.proofs.Common.{◌≡◌, ℕ, ◌<◌, ◌≤◌, inl, List, [], ◌++◌, length, take, drop, refl, sym, ap, ◌∙◌, arith}
+use Rattle.std.proofs.lemmas.List.{take_at, take-append-drop, take-append-le}
+use Rattle.sha1.specs.Sha1.{sha1}
+use Rattle.digest32.specs.Base32.{IsDigest, IsDigestText, base32}
+use Rattle.digest32.proofs.Texts.{digest_injective, is_digest_text, length-digest_text}
+use Rattle.warc_text.proofs.Fronts.{fronts}
+use Rattle.warc_scan.specs.Stops.{NoneStands}
+use Rattle.warc_scan.specs.declared.stop.Stop.TheVariants.{Open, Wrong}
+use Rattle.warc_scan.proofs.Refusals.{IsTold, wrong_is_not_open}
+use Rattle.warc_scan.proofs.Samples.{some_digest_is}
+
+-- bytes that are too few
+pub open_digest : (bytes : List ℕ) → length bytes < 32 → NoneStands IsDigest base32 Open bytes
+open_digest bytes short = record {
+  refuses = λ digest is after other e. omega (arith, length-digest_text digest is);
+  line = tt;
+  ends = λ is. (
+    sha1 [],
+    some_digest_is,
+    record {
+      given = [];
+      part = bytes;
+      behind = base32 (sha1 []);
+      begins = refl;
+      composed = refl;
+      value = inl (omega arith);
+    },
+  );
+}
+
+-- enough of them, which are no digest's text
+pub no_digest : (bytes text : List ℕ) → 32 ≤ length bytes → text ≡ take 32 bytes → ¬ IsDigestText text → NoneStands IsDigest base32 Wrong bytes
+no_digest bytes text long front none = record {
+  refuses = λ digest is after other e.
+      let read : text ≡ base32 digest =
+      front ∙ sym (take-append-le 32 bytes after long) ∙ ap (take 32) e ∙ take_at (base32 digest) other 32 (length-digest_text digest is) in
+      none (is_digest_text digest text is read);
+  line = tt;
+  ends = λ is. absurd (wrong_is_not_open Wrong Open refl refl is);
+}
+
+-- it is told, whatever follows
+pub digest_told : (digest : List ℕ) → IsDigest digest → IsTold IsDigest base32 digest
+digest_told digest is w x y was e =
+    let texts = fronts (base32 digest) (base32 w) x y (length-digest_text digest is ∙ sym (length-digest_text w was)) e in
+    (digest_injective digest w is was texts.0, texts.1)
+
+-- a digest that stands
+pub digest_stands : (bytes text behind digest : List ℕ) → text ≡ take 32 bytes → behind ≡ drop 32 bytes → text ≡ base32 digest → bytes ≡ base32 digest ++ behind
+digest_stands bytes text behind digest front back read =
+    sym (take-append-drop 32 bytes) ∙ ap (λ t. t ++ drop 32 bytes) (sym front ∙ read) ∙ ap (λ t. base32 digest ++ t) (sym back)

@@ -1,0 +1,349 @@
+-- A group is refused where one of its parts is, and why more is asked for.
+use Rattle.std.proofs.Common.{◌≡◌, ℕ, ◌+◌, ◌-◌, ◌<◌, ◌≤◌, ◌^◌, false, List, [], ◌++◌, length, take, Some, None, length-append, append_assoc, append-nil, refl, sym, ap, subst, ◌∙◌, arith}
+use Rattle.std.specs.Prelude.{Option, IfSome}
+use Rattle.std.proofs.lemmas.List.{take_at}
+use Rattle.capture.specs.Captures.{taken_back}
+use Rattle.capture.specs.declared.captured.Taken.{Taken}
+use Rattle.warc_text.specs.Groups.{answer_block, answer_cut}
+use Rattle.warc_text.specs.Ids.{id_of}
+use Rattle.warc_text.specs.Lines.{ended, length_lines, record_end}
+use Rattle.warc_text.specs.Records.{group_text, request_opening}
+use Rattle.warc_text.specs.References.{Reference}
+use Rattle.warc_text.specs.declared.id.IdKind.TheVariants as ids
+use Rattle.warc_scan.specs.Asking.{AsksByStop, EndsInOpening, HasOpenings}
+use Rattle.warc_scan.specs.Blocks.{AsksForBlock, RefusesBlock}
+use Rattle.warc_scan.specs.Founds.{IsFoundIn}
+use Rattle.warc_scan.specs.Groups.{IsGroup, reference_in}
+use Rattle.warc_scan.specs.Openings.{IsOpening, Opening, opening_of, opening_text}
+use Rattle.warc_scan.specs.Stops.{Differs, EndsInside, Leaves, NoneStands, Refuses}
+use Rattle.warc_scan.specs.declared.group.Group.{Group}
+use Rattle.warc_scan.specs.declared.scan_group.Found.{Found}
+use Rattle.warc_scan.specs.declared.stop.Stop.{Stop}
+use Rattle.warc_scan.specs.declared.stop.Stop.TheVariants.{Open, Until, Wrong, Memory}
+use Rattle.warc_scan.proofs.BlockTold.{block_told}
+use Rattle.warc_scan.proofs.GroupParts.{group_is, opening_in, opening_is_right}
+use Rattle.warc_scan.proofs.OpeningTold.{opening_told}
+use Rattle.warc_scan.proofs.Refusals.{ends_behind, ends_more, refuses_behind, refuses_more}
+
+-- the front that is left before a rest
+pub front_taken : (bytes front rest : List ℕ) → bytes ≡ front ++ rest → take (length bytes - length rest) bytes ≡ front
+front_taken bytes front rest e =
+    ap (take (length bytes - length rest)) e
+    ∙ take_at front rest (length bytes - length rest) (omega (arith, ap length e, length-append front rest))
+
+pub length_before : (bytes front rest : List ℕ) → bytes ≡ front ++ rest → length bytes - length rest ≡ length front
+length_before bytes front rest e = omega (arith, ap length e, length-append front rest)
+
+pub rest_fits : (bytes front rest : List ℕ) → bytes ≡ front ++ rest → length rest ≤ length bytes
+rest_fits bytes front rest e = omega (arith, ap length e, length-append front rest)
+
+-- ---- texts of groups by their openings and blocks
+
+abbrev pub first_text : List ℕ → ℕ → Opening → List ℕ → List ℕ
+first_text namespace number o block = opening_text (id_of namespace ids.Response number) o ++ ended block
+
+abbrev pub second_opening : List ℕ → ℕ → Opening → List ℕ
+second_opening namespace number o = request_opening (id_of namespace ids.Request number) (id_of namespace ids.Response number) o.date o.uri
+
+abbrev pub whole_text : List ℕ → ℕ → Opening → List ℕ → List ℕ → List ℕ
+whole_text namespace number o block request = first_text namespace number o block ++ (second_opening namespace number o ++ ended request)
+
+-- a capture that has them
+abbrev taken_with : Opening → List ℕ → List ℕ → Taken
+taken_with o block request =
+    record { method = []; uri = o.uri; date = o.date; request = request; head = block; wire = []; cut = o.cut }
+
+block_with : (o : Opening) (block request : List ℕ) (same : Option Reference) → answer_block (taken_with o block request) same ≡ block
+block_with o block request None = append-nil block
+block_with o block request (Some reference) = refl
+
+cut_with : (o : Opening) (block request : List ℕ) (same : Option Reference) → IfSome same (λ reference. o.cut ≡ false)
+    → answer_cut (taken_with o block request) same ≡ o.cut
+cut_with o block request None whole = refl
+cut_with o block request (Some reference) whole = sym whole
+
+opening_with : (o : Opening) (block request : List ℕ) → IsOpening o → opening_in (taken_with o block request) o.digest o.same ≡ o
+opening_with o block request is =
+    let cuts = cut_with o block request o.same is.whole in
+    λ i. record { date = o.date; uri = o.uri; digest = o.digest; cut = cuts i; same = o.same }
+
+pub sample_is : (namespace : List ℕ) (number : ℕ) (o : Opening) (block request : List ℕ) → IsOpening o
+    → HasOpenings namespace number (whole_text namespace number o block request)
+sample_is namespace number o block request is =
+    let taken = taken_with o block request in
+    let blocks = block_with o block request o.same in
+    let openings = opening_with o block request is in
+    let text : group_text namespace number taken o.digest o.same ≡ whole_text namespace number o block request =
+    group_is namespace number taken o.digest o.same
+    ∙ ap (λ (p : Opening). first_text namespace number p (answer_block taken o.same) ++ (second_opening namespace number o ++ ended request)) openings
+    ∙ ap (λ (b : List ℕ). first_text namespace number o b ++ (second_opening namespace number o ++ ended request)) blocks in
+    record { taken = taken; digest = o.digest; same = o.same; opening = is; composed = sym text }
+
+-- the parts of a group's text
+pub record Parts (namespace : List ℕ) (number : ℕ) (text : List ℕ) : Type 0 where
+  pub opening : Opening
+  pub block : List ℕ
+  pub request : List ℕ
+  pub right : IsOpening opening
+  pub composed : text ≡ whole_text namespace number opening block request
+  pub short : length text < 2 ^ 63
+
+abbrev pub parts_of : (namespace : List ℕ) (number : ℕ) (text : List ℕ) (group : Group) → IsGroup namespace number text group → Parts namespace number text
+parts_of namespace number text group is = record {
+  opening = opening_in (taken_back group.stored) group.digest (reference_in group.same);
+  block = answer_block (taken_back group.stored) (reference_in group.same);
+  request = group.stored.request;
+  right = opening_is_right namespace number text group is;
+  composed = is.composed ∙ group_is namespace number (taken_back group.stored) group.digest (reference_in group.same);
+  short = is.short;
+}
+
+module _ (namespace : List ℕ) (number : ℕ) where
+  first_shorter : (text : List ℕ) (parts : Parts namespace number text) → length (first_text namespace number parts.opening parts.block) < 2 ^ 63
+  first_shorter text parts =
+      omega (
+        arith,
+        parts.short,
+        ap length parts.composed,
+        length-append (first_text namespace number parts.opening parts.block)
+            (second_opening namespace number parts.opening ++ ended parts.request),
+      )
+
+  block_shorter : (o : Opening) (block : List ℕ) → length (first_text namespace number o block) < 2 ^ 63 → length block < 2 ^ 64
+  unfolding ended
+  block_shorter o block short =
+      omega (
+        arith,
+        short,
+        length-append (opening_text (id_of namespace ids.Response number) o) (ended block),
+        length-append (length_lines (length block) ++ block) record_end,
+        length-append (length_lines (length block)) block,
+      )
+
+  -- ---- the opening of the first record
+
+  pub no_opening : (bytes : List ℕ) (stop : Stop) → NoneStands IsOpening (opening_text (id_of namespace ids.Response number)) stop bytes
+      → (text : List ℕ) → Parts namespace number text → Refuses stop bytes text
+  no_opening bytes stop none text parts =
+      subst (λ t. Refuses stop bytes t) (sym parts.composed)
+      (refuses_more stop bytes (first_text namespace number parts.opening parts.block) (second_opening namespace number parts.opening ++ ended parts.request)
+      (refuses_more stop bytes (opening_text (id_of namespace ids.Response number) parts.opening) (ended parts.block)
+      (none.refuses parts.opening parts.right)))
+
+  ends_in : (o : Opening) (block request bytes : List ℕ) → IsOpening o → EndsInside (whole_text namespace number o block request) bytes
+      → EndsInOpening namespace number bytes (length bytes + 1)
+  ends_in o block request bytes is ends = record {
+    text = whole_text namespace number o block request;
+    is = sample_is namespace number o block request is;
+    ends = ends;
+    one_more = refl;
+  }
+
+  pub opening_asks : (bytes : List ℕ) (stop : Stop) → NoneStands IsOpening (opening_text (id_of namespace ids.Response number)) stop bytes
+      → AsksByStop namespace number bytes stop
+  opening_asks bytes Open none =
+      let some = none.ends refl in
+      ends_in some.0 [] [] bytes some.1
+      (ends_more (first_text namespace number some.0 []) (second_opening namespace number some.0 ++ ended []) bytes
+      (ends_more (opening_text (id_of namespace ids.Response number) some.0) (ended []) bytes some.2))
+  opening_asks bytes (Until n) none = absurd none.line
+  opening_asks bytes Wrong none = tt
+  opening_asks bytes Memory none = tt
+
+  -- ---- the block of the first record
+
+  -- a group behind the opening that stands has this opening
+  pub record OpeningStands (o : Opening) (rest after other block request : List ℕ) (p : Opening) : Type 0 where
+    pub same : p ≡ o
+    pub behind : rest ++ after ≡ (ended block ++ (second_opening namespace number p ++ ended request)) ++ other
+
+  pub opening_stands : (bytes rest : List ℕ) (o : Opening) → IsOpening o → bytes ≡ opening_text (id_of namespace ids.Response number) o ++ rest
+      → (text : List ℕ) (parts : Parts namespace number text) (after other : List ℕ) → bytes ++ after ≡ text ++ other
+      → OpeningStands o rest after other parts.block parts.request parts.opening
+  opening_stands bytes rest o is composed text parts after other e =
+      let id = id_of namespace ids.Response number in
+      let second = second_opening namespace number parts.opening ++ ended parts.request in
+      let apart : opening_text id o ++ (rest ++ after) ≡ opening_text id parts.opening ++ ((ended parts.block ++ second) ++ other) =
+      sym (append_assoc (opening_text id o) rest after) ∙ sym (ap (λ t. t ++ after) composed) ∙ e ∙ ap (λ t. t ++ other) parts.composed
+      ∙ ap (λ t. t ++ other) (append_assoc (opening_text id parts.opening) (ended parts.block) second)
+      ∙ append_assoc (opening_text id parts.opening) (ended parts.block ++ second) other in
+      let told = opening_told id o is parts.opening (rest ++ after) ((ended parts.block ++ second) ++ other) parts.right apart in
+      record { same = sym told.0; behind = told.1 }
+
+  pub no_block : (bytes rest : List ℕ) (stop : Stop) (o : Opening) → IsOpening o → bytes ≡ opening_text (id_of namespace ids.Response number) o ++ rest
+      → RefusesBlock stop (opening_text (id_of namespace ids.Response number) o) bytes
+      → (text : List ℕ) → Parts namespace number text → Refuses stop bytes text
+  no_block bytes rest stop o is composed refused text parts = λ after other e.
+      let stands = opening_stands bytes rest o is composed text parts after other e in
+      let short : length (first_text namespace number o parts.block) < 2 ^ 63 =
+      subst (λ p. length (first_text namespace number p parts.block) < 2 ^ 63) stands.same (first_shorter text parts) in
+      let text_is : text ≡ first_text namespace number o parts.block ++ (second_opening namespace number o ++ ended parts.request) =
+      parts.composed ∙ ap (λ p. whole_text namespace number p parts.block parts.request) stands.same in
+      subst (λ t. Leaves stop bytes t) (sym text_is)
+      (refuses_more stop bytes (first_text namespace number o parts.block) (second_opening namespace number o ++ ended parts.request)
+      (refused parts.block short) after other (e ∙ ap (λ t. t ++ other) text_is))
+
+  pub block_asks : (bytes : List ℕ) (stop : Stop) (o : Opening) → IsOpening o
+      → AsksForBlock (opening_text (id_of namespace ids.Response number) o) bytes stop → AsksByStop namespace number bytes stop
+  block_asks bytes Open o is asks =
+      ends_in o asks.0 [] bytes is (ends_more (first_text namespace number o asks.0) (second_opening namespace number o ++ ended []) bytes asks.1)
+  block_asks bytes (Until n) o is asks = record {
+    before = opening_text (id_of namespace ids.Response number) o;
+    block = asks.block;
+    behind = second_opening namespace number o ++ ended [];
+    come = asks.come;
+    is = sample_is namespace number o asks.block [] is;
+    composed = asks.composed;
+    whole = asks.whole;
+  }
+  block_asks bytes Wrong o is asks = tt
+  block_asks bytes Memory o is asks = tt
+
+  -- ---- the opening of the second record
+
+  -- a group behind the first record that stands has this record
+  pub record FirstStands (o p : Opening) (block come rest after other request text : List ℕ) : Type 0 where
+    pub opening_is : p ≡ o
+    pub block_is : come ≡ block
+    pub text_is : text ≡ whole_text namespace number o block request
+    pub behind : rest ++ after ≡ (second_opening namespace number o ++ ended request) ++ other
+
+  pub first_stands : (bytes rest : List ℕ) (o : Opening) (block : List ℕ) → IsOpening o → bytes ≡ first_text namespace number o block ++ rest
+      → length (first_text namespace number o block) < 2 ^ 63
+      → (text : List ℕ) (parts : Parts namespace number text) (after other : List ℕ) → bytes ++ after ≡ text ++ other
+      → FirstStands o parts.opening block parts.block rest after other parts.request text
+  first_stands bytes rest o block is composed short text parts after other e =
+      let id = id_of namespace ids.Response number in
+      let stands = opening_stands bytes (ended block ++ rest) o is (composed ∙ append_assoc (opening_text id o) (ended block) rest) text parts after other e in
+      let second = second_opening namespace number parts.opening ++ ended parts.request in
+      let apart : ended block ++ (rest ++ after) ≡ ended parts.block ++ (second ++ other) =
+      sym (append_assoc (ended block) rest after) ∙ stands.behind ∙ append_assoc (ended parts.block) second other in
+      let told = block_told block parts.block (rest ++ after) (second ++ other) (block_shorter o block short)
+      (block_shorter parts.opening parts.block (first_shorter text parts)) apart in
+      record {
+        opening_is = stands.same;
+        block_is = sym told.0;
+        text_is = parts.composed ∙ ap (λ p. whole_text namespace number p parts.block parts.request) stands.same
+            ∙ ap (λ b. whole_text namespace number o b parts.request) (sym told.0);
+        behind = told.1 ∙ ap (λ p. (second_opening namespace number p ++ ended parts.request) ++ other) stands.same;
+      }
+
+  pub no_second_opening : (bytes rest : List ℕ) (stop : Stop) (o : Opening) (block : List ℕ) → IsOpening o
+      → bytes ≡ first_text namespace number o block ++ rest → length (first_text namespace number o block) < 2 ^ 63
+      → Differs stop rest (second_opening namespace number o)
+      → (text : List ℕ) → Parts namespace number text → Refuses stop bytes text
+  no_second_opening bytes rest stop o block is composed short d text parts = λ after other e.
+      let stands = first_stands bytes rest o block is composed short text parts after other e in
+      subst (λ t. Leaves stop bytes t) (sym stands.text_is)
+      (refuses_behind stop bytes (first_text namespace number o block) rest (second_opening namespace number o ++ ended parts.request) d.line composed
+      (refuses_more stop rest (second_opening namespace number o) (ended parts.request) d.refuses) after other
+      (e ∙ ap (λ t. t ++ other) stands.text_is))
+
+  pub second_opening_asks : (bytes rest : List ℕ) (stop : Stop) (o : Opening) (block : List ℕ) → IsOpening o
+      → bytes ≡ first_text namespace number o block ++ rest → Differs stop rest (second_opening namespace number o)
+      → AsksByStop namespace number bytes stop
+  second_opening_asks bytes rest Open o block is composed d =
+      ends_in o block [] bytes is (ends_behind bytes (first_text namespace number o block) rest (second_opening namespace number o ++ ended []) composed
+      (ends_more (second_opening namespace number o) (ended []) rest (d.ends refl)))
+  second_opening_asks bytes rest (Until n) o block is composed d = absurd d.line
+  second_opening_asks bytes rest Wrong o block is composed d = tt
+  second_opening_asks bytes rest Memory o block is composed d = tt
+
+  -- ---- the block of the second record
+
+  abbrev pub before_request : Opening → List ℕ → List ℕ
+  before_request o block = first_text namespace number o block ++ second_opening namespace number o
+
+  regroup_text : (o : Opening) (block request : List ℕ) → before_request o block ++ ended request ≡ whole_text namespace number o block request
+  regroup_text o block request = append_assoc (first_text namespace number o block) (second_opening namespace number o) (ended request)
+
+  pub no_request : (bytes rest : List ℕ) (stop : Stop) (o : Opening) (block : List ℕ) → IsOpening o
+      → bytes ≡ first_text namespace number o block ++ rest → length (first_text namespace number o block) < 2 ^ 63
+      → RefusesBlock stop (before_request o block) bytes
+      → (text : List ℕ) → Parts namespace number text → Refuses stop bytes text
+  no_request bytes rest stop o block is composed short refused text parts = λ after other e.
+      let stands = first_stands bytes rest o block is composed short text parts after other e in
+      let text_is : text ≡ before_request o block ++ ended parts.request = stands.text_is ∙ sym (regroup_text o block parts.request) in
+      subst (λ t. Leaves stop bytes t) (sym text_is)
+      (refused parts.request (subst (λ t. length t < 2 ^ 63) text_is parts.short) after other (e ∙ ap (λ t. t ++ other) text_is))
+
+  pub request_asks : (bytes : List ℕ) (stop : Stop) (o : Opening) (block : List ℕ) → IsOpening o
+      → AsksForBlock (before_request o block) bytes stop → AsksByStop namespace number bytes stop
+  request_asks bytes Open o block is asks =
+      ends_in o block asks.0 bytes is (subst (λ t. EndsInside t bytes) (regroup_text o block asks.0) asks.1)
+  request_asks bytes (Until n) o block is asks = record {
+    before = before_request o block;
+    block = asks.block;
+    behind = [];
+    come = asks.come;
+    is = subst (HasOpenings namespace number) (sym (append-nil (before_request o block ++ ended asks.block) ∙ regroup_text o block asks.block))
+        (sample_is namespace number o block asks.block is);
+    composed = asks.composed;
+    whole = asks.whole;
+  }
+  request_asks bytes Wrong o block is asks = tt
+  request_asks bytes Memory o block is asks = tt
+
+-- pieces that stand one behind the other
+pub behind_both : (bytes a r b rest : List ℕ) → bytes ≡ a ++ r → r ≡ b ++ rest → bytes ≡ (a ++ b) ++ rest
+behind_both bytes a r b rest e f = e ∙ ap (λ t. a ++ t) f ∙ sym (append_assoc a b rest)
+
+-- ---- what was found
+
+pub found_in : (namespace : List ℕ) (number : ℕ) (bytes : List ℕ) (found : Found) (answer_rest request_rest : List ℕ) → IsOpening (opening_of found.opening)
+    → bytes ≡ first_text namespace number (opening_of found.opening) found.answer.now ++ answer_rest
+    → bytes ≡ (before_request namespace number (opening_of found.opening) found.answer.now ++ ended found.request.now) ++ request_rest
+    → length (before_request namespace number (opening_of found.opening) found.answer.now ++ ended found.request.now) < 2 ^ 63
+    → found.first_len ≡ length bytes - length answer_rest → found.len ≡ length bytes - length request_rest
+    → IsFoundIn namespace number bytes found
+found_in namespace number bytes found answer_rest request_rest is first whole short first_len len =
+    let o = opening_of found.opening in
+    let front = first_text namespace number o found.answer.now in
+    let text_is : before_request namespace number o found.answer.now ++ ended found.request.now
+    ≡ front ++ (second_opening namespace number o ++ ended found.request.now) =
+    append_assoc front (second_opening namespace number o) (ended found.request.now) in
+    let lens : found.len ≡ length (before_request namespace number o found.answer.now ++ ended found.request.now) =
+    len ∙ length_before bytes (before_request namespace number o found.answer.now ++ ended found.request.now) request_rest whole in
+    record {
+      rest = request_rest;
+      composed = whole ∙ ap (λ t. t ++ request_rest) text_is;
+      opening = is;
+      first_len = first_len ∙ length_before bytes front answer_rest first;
+      len = lens ∙ ap length text_is;
+      short = omega (arith, lens, short);
+    }
+
+-- ---- as the reader has it
+
+module _ (namespace : List ℕ) (number : ℕ) (bytes id request_id : List ℕ) (id_is : id ≡ id_of namespace ids.Response number) where
+  pub none_told : (stop : Stop) → NoneStands IsOpening (opening_text id) stop bytes
+      → NoneStands IsOpening (opening_text (id_of namespace ids.Response number)) stop bytes
+  none_told stop none = subst (λ i. NoneStands IsOpening (opening_text i) stop bytes) id_is none
+
+  pub opening_told_by : (o : Opening) (rest : List ℕ) → bytes ≡ opening_text id o ++ rest → bytes ≡ opening_text (id_of namespace ids.Response number) o ++ rest
+  opening_told_by o rest composed = subst (λ i. bytes ≡ opening_text i o ++ rest) id_is composed
+
+  -- what is told of the block behind the opening
+  pub first_front : (P : List ℕ → Type 0) (o : Opening) (rest : List ℕ) → bytes ≡ opening_text id o ++ rest → P (take (length bytes - length rest) bytes)
+      → P (opening_text (id_of namespace ids.Response number) o)
+  first_front P o rest composed told =
+      subst P (front_taken bytes (opening_text (id_of namespace ids.Response number) o) rest (opening_told_by o rest composed)) told
+
+  module _ (request_id_is : request_id ≡ id_of namespace ids.Request number) (o : Opening) where
+    pub second_told : (P : List ℕ → Type 0) → P (request_opening request_id id o.date o.uri) → P (second_opening namespace number o)
+    second_told P told =
+        subst (λ r. P (request_opening r (id_of namespace ids.Response number) o.date o.uri)) request_id_is
+        (subst (λ i. P (request_opening request_id i o.date o.uri)) id_is told)
+
+    pub request_at : (block answer_rest rest : List ℕ) → bytes ≡ first_text namespace number o block ++ answer_rest
+        → answer_rest ≡ request_opening request_id id o.date o.uri ++ rest → bytes ≡ before_request namespace number o block ++ rest
+    request_at block answer_rest rest first second =
+        behind_both bytes (first_text namespace number o block) answer_rest (second_opening namespace number o) rest first
+        (second_told (λ t. answer_rest ≡ t ++ rest) second)
+
+    -- what is told of the block behind the second opening
+    pub second_front : (P : List ℕ → Type 0) (block answer_rest rest : List ℕ) → bytes ≡ first_text namespace number o block ++ answer_rest
+        → answer_rest ≡ request_opening request_id id o.date o.uri ++ rest → P (take (length bytes - length rest) bytes)
+        → P (before_request namespace number o block)
+    second_front P block answer_rest rest first second told =
+        subst P (front_taken bytes (before_request namespace number o block) rest (request_at block answer_rest rest first second)) told

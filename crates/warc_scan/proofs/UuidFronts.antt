@@ -1,0 +1,81 @@
+-- The text of a UUID at the front of bytes.
+use Rattle.std.proofs.Common.{◌≡◌, ℕ, ◌<◌, ◌≤◌, inl, List, [], ◌++◌, length, take, Option, Some, unwrap_or, refl, sym, ap, ◌∙◌, arith}
+use Rattle.std.proofs.lemmas.List.{take_at, take-append-le}
+use Rattle.uuid.specs.Text.{lower, parsed}
+use Rattle.uuid.proofs.RoundTrips.{parses_hyphenated}
+use Rattle.warc_text.specs.Ids.{IsUuid, id_of, id_text, uuid_text}
+use Rattle.warc_text.specs.declared.id.IdKind.TheVariants.{Info}
+use Rattle.warc_text.proofs.IdLaws.{id_told, uuid_text_told}
+use Rattle.warc_text.proofs.Fronts.{fronts}
+use Rattle.warc_text.proofs.LengthLaws.{length-id_text, length-uuid_text}
+use Rattle.warc_scan.specs.Stops.{NoneStands}
+use Rattle.warc_scan.specs.declared.stop.Stop.TheVariants.{Open, Wrong}
+use Rattle.warc_scan.proofs.Refusals.{IsTold, wrong_is_not_open}
+use Rattle.warc_scan.proofs.Samples.{some_id_is}
+
+pub uuid_front : (bytes after other id : List ℕ) → 36 ≤ length bytes → bytes ++ after ≡ uuid_text id ++ other → take 36 bytes ≡ uuid_text id
+uuid_front bytes after other id long e =
+    sym (take-append-le 36 bytes after long) ∙ ap (take 36) e ∙ take_at (uuid_text id) other 36 (length-uuid_text id)
+
+-- it is parsed
+pub uuid_parsed : (id : List ℕ) → IsUuid id → parsed (uuid_text id) ≡ Some id
+unfolding uuid_text
+uuid_parsed id is = sym (parses_hyphenated lower id (inl refl) is.length_is is.bytes)
+
+-- and told
+pub uuid_told : (id : List ℕ) → IsUuid id → IsTold IsUuid uuid_text id
+uuid_told id is w x y was e =
+    let texts = fronts (uuid_text id) (uuid_text w) x y (length-uuid_text id ∙ sym (length-uuid_text w)) e in
+    (uuid_text_told id w is.length_is was.length_is is.bytes was.bytes texts.0, texts.1)
+
+-- bytes that are too few
+pub open_uuid : (bytes : List ℕ) → length bytes < 36 → NoneStands IsUuid uuid_text Open bytes
+open_uuid bytes short = record {
+  refuses = λ id is after other e. omega (arith, length-uuid_text id);
+  line = tt;
+  ends = λ is. (
+    id_of [] Info 0,
+    some_id_is,
+    record {
+      given = [];
+      part = bytes;
+      behind = uuid_text (id_of [] Info 0);
+      begins = refl;
+      composed = refl;
+      value = inl (omega arith);
+    },
+  );
+}
+
+-- ---- thirty-six bytes that are no UUID's text
+
+same_uuid : (a b : List ℕ) → Some a ≡ Some b → a ≡ b
+same_uuid a b e = ap (λ (o : Option (List ℕ)). unwrap_or o []) e
+
+-- they aren't parsed
+pub not_parsed : (bytes text : List ℕ) → 36 ≤ length bytes → text ≡ take 36 bytes → ((id : List ℕ) → ¬ (parsed text ≡ Some id))
+    → NoneStands IsUuid uuid_text Wrong bytes
+not_parsed bytes text long front none = record {
+  refuses = λ id is after other e. none id (ap parsed (front ∙ uuid_front bytes after other id long e) ∙ uuid_parsed id is);
+  line = tt;
+  ends = λ is. absurd (wrong_is_not_open Wrong Open refl refl is);
+}
+
+-- they are in another form
+pub other_form : (bytes text written id : List ℕ) → 36 ≤ length bytes → text ≡ take 36 bytes → Some id ≡ parsed text → written ≡ uuid_text id
+    → ¬ (written ≡ text) → NoneStands IsUuid uuid_text Wrong bytes
+other_form bytes text written id long front read writes differs = record {
+  refuses = λ value is after other e.
+      let here : text ≡ uuid_text value = front ∙ uuid_front bytes after other value long e in
+      let same : id ≡ value = same_uuid id value (read ∙ ap parsed here ∙ uuid_parsed value is) in
+      differs (writes ∙ ap uuid_text same ∙ sym here);
+  line = tt;
+  ends = λ is. absurd (wrong_is_not_open Wrong Open refl refl is);
+}
+
+-- ---- an id is told by its text
+
+pub id_text_told : (id : List ℕ) → IsUuid id → IsTold IsUuid id_text id
+id_text_told id is w x y was e =
+    let texts = fronts (id_text id) (id_text w) x y (length-id_text id ∙ sym (length-id_text w)) e in
+    (id_told id w is was texts.0, texts.1)

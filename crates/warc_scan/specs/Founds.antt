@@ -1,0 +1,54 @@
+-- A group that is found by its openings and its blocks, and the group that these make.
+use Rattle.std.specs.Prelude.{◌≡◌, ℕ, ◌+◌, ◌<◌, ◌≤◌, ◌^◌, List, ◌++◌, length}
+use Rattle.capture.specs.WellFormed.{IsRequestOf}
+use Rattle.warc_text.specs.Ids.{id_of}
+use Rattle.warc_text.specs.Lines.{ended}
+use Rattle.warc_text.specs.Records.{request_opening}
+use Rattle.warc_text.specs.declared.id.IdKind.TheVariants as ids
+use Rattle.warc_scan.specs.Answers.{IsAnswerOf}
+use Rattle.warc_scan.specs.Groups.{reference_in}
+use Rattle.warc_scan.specs.Openings.{IsOpening, opening_of, opening_text}
+use Rattle.warc_scan.specs.declared.group.Group.{Group}
+use Rattle.warc_scan.specs.declared.scan_group.Found.{Found}
+
+-- its response or revisit record
+abbrev pub first_record : List ℕ → ℕ → Found → List ℕ
+first_record namespace number found =
+    opening_text (id_of namespace ids.Response number) (opening_of found.opening) ++ ended found.answer.now
+
+-- its request record
+abbrev pub second_record : List ℕ → ℕ → Found → List ℕ
+second_record namespace number found =
+    request_opening (id_of namespace ids.Request number) (id_of namespace ids.Response number)
+    found.opening.date found.opening.uri.now
+    ++ ended found.request.now
+
+-- the bytes begin with its two records
+pub record IsFoundIn (namespace : List ℕ) (number : ℕ) (bytes : List ℕ) (found : Found) : Type 0 where
+  pub rest : List ℕ
+  pub composed : bytes ≡ first_record namespace number found ++ second_record namespace number found ++ rest
+  pub opening : IsOpening (opening_of found.opening)
+  pub first_len : found.first_len ≡ length (first_record namespace number found)
+  pub len : found.len ≡ length (first_record namespace number found ++ second_record namespace number found)
+  pub short : found.len < 2 ^ 63
+
+-- its opening is right, and its response or revisit record holds the block and two line ends behind it
+pub record IsFound (found : Found) : Type 0 where
+  pub opening : IsOpening (opening_of found.opening)
+  pub places : length found.answer.now + 4 ≤ found.first_len
+  pub short : found.first_len < 2 ^ 63
+
+-- the group that these parts make
+pub record IsGroupIn (number : ℕ) (found : Found) (group : Group) : Type 0 where
+  pub number_is : group.number ≡ number
+  pub date : group.stored.date ≡ found.opening.date
+  pub target : group.stored.uri ≡ found.opening.uri.now
+  pub digest : group.digest ≡ found.opening.digest
+  pub same : reference_in group.same ≡ (opening_of found.opening).same
+  pub request_is : group.stored.request ≡ found.request.now
+  pub request : IsRequestOf group.stored.method found.request.now
+  pub answer : IsAnswerOf group.stored.method found.answer.now found.opening group.stored.head group.stored.kept
+  pub len : group.len ≡ found.len
+  pub first_len : group.first_len ≡ found.first_len
+  pub head_at : group.head_at + length found.answer.now + 4 ≡ found.first_len
+  pub body_at : group.body_at ≡ group.head_at + length group.stored.head

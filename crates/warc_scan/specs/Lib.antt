@@ -1,0 +1,15 @@
+pub mod Answers
+pub mod Asking
+pub mod Blocks
+pub mod Dates
+pub mod Digests
+pub mod Founds
+pub mod Fronts
+pub mod Groups
+pub mod InfoParts
+pub mod Infos
+pub mod Kinds
+pub mod Openings
+pub mod SplitLines
+pub mod Steps
+pub mod Stops

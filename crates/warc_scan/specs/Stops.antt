@@ -1,0 +1,59 @@
+-- Why bytes don't begin with a text, whatever follows them.
+use Rattle.std.specs.Prelude.{◌≡◌, ◌⊎◌, ℕ, ◌<◌, ◌≤◌, List, ◌++◌, length, IsTrue, ⊤}
+use Rattle.capture.specs.Target.{is_target_text}
+use Rattle.warc_scan.specs.declared.stop.Stop.{Stop}
+use Rattle.warc_scan.specs.declared.stop.Stop.TheVariants.{Open, Until, Wrong, Memory}
+
+-- what follows from it that the text stands first, if more bytes follow
+abbrev pub Leaves : Stop → List ℕ → List ℕ → Type 0
+Leaves Open bytes text = length bytes < length text
+Leaves (Until n) bytes text = (length bytes < n) × (n ≤ length text)
+Leaves Wrong bytes text = ⊥
+Leaves Memory bytes text = ⊤
+
+-- where the text stands first, it goes on behind the bytes; or it doesn't stand there at all
+abbrev pub Refuses : Stop → List ℕ → List ℕ → Type 0
+Refuses stop bytes text = (after other : List ℕ) → bytes ++ after ≡ text ++ other → Leaves stop bytes text
+
+-- more than the text of a date, an id, a digest or a length has
+abbrev pub short_value : ℕ
+short_value = 64
+
+-- a value so far: a short one, or bytes of a target
+abbrev pub IsOpenValue : List ℕ → Type 0
+IsOpenValue part = (length part < short_value) ⊎ IsTrue (is_target_text part)
+
+-- the bytes are the beginning of the text, up to a value that may go on
+pub record EndsInside (text bytes : List ℕ) : Type 0 where
+  pub given : List ℕ
+  pub part : List ℕ
+  pub behind : List ℕ
+  pub begins : text ≡ given ++ behind
+  pub composed : bytes ≡ given ++ part
+  pub value : IsOpenValue part
+
+-- inside a line nothing is known of where a record ends
+abbrev pub IsLineStop : Stop → Type 0
+IsLineStop Open = ⊤
+IsLineStop (Until n) = ⊥
+IsLineStop Wrong = ⊤
+IsLineStop Memory = ⊤
+
+-- the bytes don't begin with this text of lines: they end inside it, or differ
+pub record Differs (stop : Stop) (bytes text : List ℕ) : Type 0 where
+  pub refuses : Refuses stop bytes text
+  pub line : IsLineStop stop
+  pub ends : stop ≡ Open → EndsInside text bytes
+
+-- the bytes begin with the text of none of these values: they end inside one, or differ from all
+pub record NoneStands {V : Type 0} (Is : V → Type 0) (text : V → List ℕ) (stop : Stop) (bytes : List ℕ) : Type 0 where
+  pub refuses : (value : V) → Is value → Refuses stop bytes (text value)
+  pub line : IsLineStop stop
+  pub ends : stop ≡ Open → (value : V) × Is value × EndsInside (text value) bytes
+
+-- a message that is there whole is one, or is none
+abbrev pub IsMessageStop : Stop → Type 0
+IsMessageStop Open = ⊥
+IsMessageStop (Until n) = ⊥
+IsMessageStop Wrong = ⊤
+IsMessageStop Memory = ⊤

@@ -1,0 +1,219 @@
+//! Fields of a record (ISO 28500, WARC 1.1, sections 4 and 5), and the values in them.
+ghost use Rattle.std.specs.Prelude.{◌≡◌, ◌<◌, ◌++◌, length, codes, IfOk, IfErr, IfSome, IfNone, IsErrOf};
+ghost use Rattle.httparse.specs.Ascii.{crlf_bytes};
+ghost use Rattle.time_text.specs.Texts.{InRange, warc_date};
+ghost use Rattle.warc_text.specs.Groups.{IsOneLine};
+ghost use Rattle.warc_text.specs.Ids.{IsUuid, id_text, uuid_text};
+ghost use Rattle.warc_text.specs.Lines.{date_field, field, id_field};
+ghost use Rattle.warc_scan.specs.Dates.{IsDateLen};
+ghost use Rattle.warc_scan.specs.Openings.{IsTarget};
+ghost use Rattle.warc_scan.specs.SplitLines.{IsSplitLine};
+ghost use Rattle.warc_scan.specs.Stops.{Differs, NoneStands};
+
+use crate::stop::Stop;
+use crate::strip::strip;
+use capture::{accepted_uri, is_target_text};
+use memchr::memchr;
+use std::alloc::Global;
+use time_text::read_warc;
+use uuid::Uuid;
+
+/// Where `Z` stands in a date that is a whole second, and else the dot before its fraction.
+const SECOND_END: usize = 19;
+
+/// The length of a UUID's text.
+const UUID_LEN: usize = 36;
+
+/// What stands behind a field with this value.
+pub fn strip_field<'b>(bytes: &'b [u8], name: &[u8], value: &[u8]) -> Result<&'b [u8], Stop>
+    ensures ok { IfOk result (λ rest. bytes.now ≡ field name.now value.now ++ rest.now) }
+    ensures err { IfErr result (λ stop. Differs stop bytes.now (field name.now value.now)) }
+{
+    let mark = strip(bytes, name)?;
+    let given = strip(mark, b": ")?;
+    let end = strip(given, value)?;
+    strip(end, b"\r\n")
+}
+
+/// What stands behind an id (RFC 9562, section 4).
+pub fn strip_id<'b>(bytes: &'b [u8], id: &Uuid) -> Result<&'b [u8], Stop>
+    ensures ok { IfOk result (λ rest. bytes.now ≡ id_text id.now ++ rest.now) }
+    ensures err { IfErr result (λ stop. Differs stop bytes.now (id_text id.now)) }
+{
+    let mut buffer = Uuid::encode_buffer();
+    let text = id.hyphenated().encode_lower(&mut buffer);
+    let given = strip(bytes, b"<urn:uuid:")?;
+    let end = strip(given, text.as_bytes())?;
+    strip(end, b">")
+}
+
+/// What stands behind a field whose value is this id.
+pub fn strip_id_field<'b>(bytes: &'b [u8], name: &[u8], id: &Uuid) -> Result<&'b [u8], Stop>
+    ensures ok { IfOk result (λ rest. bytes.now ≡ id_field name.now id.now ++ rest.now) }
+    ensures err { IfErr result (λ stop. Differs stop bytes.now (id_field name.now id.now)) }
+{
+    let mark = strip(bytes, name)?;
+    let given = strip(mark, b": ")?;
+    let end = strip_id(given, id)?;
+    strip(end, b"\r\n")
+}
+
+/// What stands behind a field's name.
+fn strip_name<'b>(bytes: &'b [u8], name: &[u8]) -> Result<&'b [u8], Stop>
+    ensures ok { IfOk result (λ rest. bytes.now ≡ (name.now ++ codes ": ") ++ rest.now) }
+    ensures err { IfErr result (λ stop. Differs stop bytes.now (name.now ++ codes ": ")) }
+{
+    let mark = strip(bytes, name)?;
+    strip(mark, b": ")
+}
+
+/// Reads a date off the front.
+pub fn read_date(bytes: &[u8]) -> Result<(u64, &[u8]), Stop>
+    ensures ok { IfOk result (λ read. InRange read.0 × (bytes.now ≡ warc_date read.0 ++ read.1.now)) }
+    ensures err { IfErr result (λ stop. NoneStands InRange warc_date stop bytes.now) }
+    ensures ends { IsErrOf result Stop.Open → length bytes.now < 24 }
+{
+    let Some(len) = date_len(bytes) else {
+        return Err(Stop::Open);
+    };
+    if bytes.len() < len {
+        return Err(Stop::Open);
+    }
+    let (text, rest) = bytes.split_at(len);
+    match read_warc(text) {
+        Ok(date) => Ok((date, rest)),
+        Err(_) => Err(Stop::Wrong),
+    }
+}
+
+/// The length that a date at the front has. `None` where the bytes don't tell.
+fn date_len(bytes: &[u8]) -> Option<usize>
+    ensures some { IfSome result (IsDateLen bytes.now) }
+    ensures none { IfNone result (length bytes.now < 20) }
+{
+    if bytes.len() <= SECOND_END {
+        return None;
+    }
+    if bytes[SECOND_END] == b'Z' {
+        Some(20)
+    } else {
+        Some(24)
+    }
+}
+
+/// Reads a field whose value is a date.
+pub fn read_date_field<'b>(bytes: &'b [u8], name: &[u8]) -> Result<(u64, &'b [u8]), Stop>
+    ensures ok { IfOk result (λ read. InRange read.0 × (bytes.now ≡ date_field name.now read.0 ++ read.1.now)) }
+    ensures err { IfErr result (λ stop. NoneStands InRange (λ date. date_field name.now date) stop bytes.now) }
+{
+    let given = strip_name(bytes, name)?;
+    let (date, end) = read_date(given)?;
+    let rest = strip(end, b"\r\n")?;
+    Ok((date, rest))
+}
+
+/// Reads a target and its line's end. Of one that goes on each byte is a target's.
+pub fn read_target(alloc: Global, bytes: &[u8]) -> Result<(&[u8], &[u8]), Stop>
+    ensures ok { IfOk result (λ read. IsTarget read.0.now
+        × (bytes.now ≡ (read.0.now ++ crlf_bytes) ++ read.1.now)) }
+    ensures err { IfErr result (λ stop. NoneStands IsTarget (λ uri. uri ++ crlf_bytes) stop bytes.now) }
+{
+    let Some((uri, behind)) = split_line(bytes) else {
+        return Err(open_target(bytes));
+    };
+    let accepted = accepted_uri(alloc, uri)?;
+    if accepted {
+        let rest = strip(behind, b"\r\n")?;
+        Ok((uri, rest))
+    } else {
+        Err(Stop::Wrong)
+    }
+}
+
+/// Whether bytes without a line's end may be the beginning of a target.
+fn open_target(bytes: &[u8]) -> Stop
+    requires { IsOneLine bytes.now }
+    ensures { NoneStands IsTarget (λ uri. uri ++ crlf_bytes) result bytes.now }
+{
+    if is_target_text(bytes) {
+        Stop::Open
+    } else {
+        Stop::Wrong
+    }
+}
+
+/// A line at the front, and what stands from its end on. `None` where no line's end stands in the bytes.
+pub fn split_line(bytes: &[u8]) -> Option<(&[u8], &[u8])>
+    ensures some { IfSome result (λ split. IsSplitLine bytes.now split.0.now split.1.now) }
+    ensures none { IfNone result (IsOneLine bytes.now) }
+{
+    match memchr(b'\r', bytes) {
+        Some(end) => Some(bytes.split_at(end)),
+        None => None,
+    }
+}
+
+/// Reads a field whose value is a target.
+pub fn read_target_field<'b>(
+    alloc: Global,
+    bytes: &'b [u8],
+    name: &[u8],
+) -> Result<(&'b [u8], &'b [u8]), Stop>
+    ensures ok { IfOk result (λ read. IsTarget read.0.now
+        × (bytes.now ≡ field name.now read.0.now ++ read.1.now)) }
+    ensures err { IfErr result (λ stop. NoneStands IsTarget (λ uri. field name.now uri) stop bytes.now) }
+{
+    let given = strip_name(bytes, name)?;
+    read_target(alloc, given)
+}
+
+/// Reads the text of a UUID (RFC 9562, section 4), in lower case and with hyphens.
+pub fn read_uuid(bytes: &[u8]) -> Result<(Uuid, &[u8]), Stop>
+    ensures ok { IfOk result (λ read. IsUuid read.0 × (bytes.now ≡ uuid_text read.0 ++ read.1.now)) }
+    ensures err { IfErr result (λ stop. NoneStands IsUuid uuid_text stop bytes.now) }
+    ensures ends { IsErrOf result Stop.Open → length bytes.now < 36 }
+{
+    if bytes.len() < UUID_LEN {
+        return Err(Stop::Open);
+    }
+    let (text, rest) = bytes.split_at(UUID_LEN);
+    let Ok(id) = Uuid::try_parse_ascii(text) else {
+        return Err(Stop::Wrong);
+    };
+    // The parser takes other forms too.
+    let mut buffer = Uuid::encode_buffer();
+    let written = id.hyphenated().encode_lower(&mut buffer);
+    if written.as_bytes() == text {
+        Ok((id, rest))
+    } else {
+        Err(Stop::Wrong)
+    }
+}
+
+/// Reads an id.
+pub fn read_id(bytes: &[u8]) -> Result<(Uuid, &[u8]), Stop>
+    ensures ok { IfOk result (λ read. IsUuid read.0 × (bytes.now ≡ id_text read.0 ++ read.1.now)) }
+    ensures err { IfErr result (λ stop. NoneStands IsUuid id_text stop bytes.now) }
+{
+    let given = strip(bytes, b"<urn:uuid:")?;
+    let read = match read_uuid(given) {
+        Ok(read) => read,
+        Err(stop) => return Err(stop),
+    };
+    let rest = strip(read.1, b">")?;
+    Ok((read.0, rest))
+}
+
+/// Reads a field whose value is an id.
+pub fn read_id_field<'b>(bytes: &'b [u8], name: &[u8]) -> Result<(Uuid, &'b [u8]), Stop>
+    ensures ok { IfOk result (λ read. IsUuid read.0 × (bytes.now ≡ id_field name.now read.0 ++ read.1.now)) }
+    ensures err { IfErr result (λ stop. NoneStands IsUuid (λ id. id_field name.now id) stop bytes.now) }
+{
+    let given = strip_name(bytes, name)?;
+    let read = match read_id(given) {
+        Ok(read) => read,
+        Err(stop) => return Err(stop),
+    };
+    let rest = strip(read.1, b"\r\n")?;
+    Ok((read.0, rest))
+}

@@ -1,0 +1,28 @@
+//! The first byte of what stands in a volume.
+ghost use Rattle.std.specs.Prelude.{◌≡◌};
+ghost use Rattle.warc_scan.specs.Fronts.{IsFront};
+
+/// What the rest of a volume's file is by its first bytes.
+#[derive(Clone, Copy, Debug, PartialEq, Eq)]
+pub enum Front {
+    /// Nothing.
+    Nothing,
+    /// An unfinished tail.
+    Tail,
+    /// Nothing yet, or the commit byte alone, and more follows.
+    Begun,
+    /// The commit byte and more.
+    Committed,
+}
+
+/// What the rest of a volume's file is. `more` says that the file goes on behind the bytes.
+pub fn front_of(bytes: &[u8], more: bool) -> Front
+    ensures { IsFront more bytes.now result }
+{
+    match bytes {
+        [] => { if more { Front::Begun } else { Front::Nothing } }
+        [b'W'] => { if more { Front::Begun } else { Front::Tail } }
+        [b'W', ..] => Front::Committed,
+        _ => Front::Tail,
+    }
+}
