@@ -1,0 +1,11 @@
+mod BookLaws
+mod DamageLaws
+mod FoundGroups
+mod FoundTexts
+mod GoingOn
+mod Judging
+mod Parts
+mod Places
+mod Refused
+mod Texts
+mod Windows

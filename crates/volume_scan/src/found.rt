@@ -1,0 +1,27 @@
+//! What a step finds.
+use uuid::Uuid;
+use warc_journal::Place;
+use warc_scan::Group;
+
+/// What stands next in the volumes.
+#[derive(Debug, PartialEq, Eq, Drop)]
+pub enum Found {
+    /// A volume begins.
+    Info {
+        /// Its number.
+        volume: u32,
+        /// The namespace that its warcinfo tells.
+        namespace: Uuid,
+        /// When it was begun, in milliseconds since 1970.
+        born: u64,
+    },
+    /// A capture, in the volume that was begun last.
+    Group {
+        /// Where its group stands.
+        place: Place,
+        /// The group.
+        group: Group,
+    },
+    /// Nothing: all volumes were read.
+    End,
+}

@@ -1,0 +1,19 @@
+//! Reads the volumes of an archive from a disk, from the first warcinfo to the end, as an archive is opened.
+#![tactic(auto)]
+
+mod asking;
+mod fault;
+mod found;
+mod laws;
+mod next;
+mod position;
+mod scanning;
+mod window;
+
+pub use fault::ScanFault;
+pub use found::Found;
+pub use laws::{
+    books_go_on_with_what_is_found, damaged_files_stand_for_no_book, files_begin_with_what_was_read,
+};
+pub use position::{Position, Stage};
+pub use scanning::Scanning;
