@@ -1,0 +1,5 @@
+use Rattle.std.proofs.Common.{arith}
+use Rattle.archive_shelf.proofs.looked.Looked.none.Goals as goal
+
+pub returns-clause-right : goal.returns-clause-right
+returns-clause-right c book payload = record { within = omega arith; finds = λ some number less does. absurd (omega (arith, less)) }

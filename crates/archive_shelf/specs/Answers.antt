@@ -1,0 +1,136 @@
+-- What a shelf's calls answer, by cases of the answer, and what they leave.
+use Rattle.std.specs.Prelude.{◌≡◌, ◌≢◌, ◌⊎◌, ℕ, ◌<◌, ◌≤◌, Bool, true, false, IsTrue, IsFalse, List, [], ◌∷◌, ◌++◌, length, Contains, Option, Some, Result, Ok, Err, ⊤}
+use Rattle.httparse.specs.Grammar.{ResponseHead}
+use Rattle.capture.specs.Captures.{captures, IsPayloadOf}
+use Rattle.capture.specs.Faults.{Rose}
+use Rattle.capture.specs.Message.{IsResponseHeadText}
+use Rattle.capture.specs.declared.book.Book.{Book}
+use Rattle.capture.specs.declared.captured.Brought.{Brought}
+use Rattle.capture.specs.declared.captured.Taken.{Taken}
+use Rattle.cdxj_index.specs.Facts.{Facts}
+use Rattle.cdxj_index.specs.OfBook.{IsEntryOf}
+use Rattle.time_text.specs.Texts.{InRange}
+use Rattle.archive_shelf.specs.Comparing.{IsSameAs}
+use Rattle.archive_shelf.specs.Contents.{Contents, Leads, LeadsShown, LeadsShownPast, Stays}
+use Rattle.archive_shelf.specs.Storing.{Gains, NeedsVolume, Storing, as_stored, stored_by, with_volume}
+use Rattle.archive_shelf.specs.declared.fault.BringFault.{BringFault}
+use Rattle.archive_shelf.specs.declared.fault.BringFault.TheVariants as brings
+use Rattle.archive_shelf.specs.declared.fault.StoreFault.{StoreFault}
+use Rattle.archive_shelf.specs.declared.fault.StoreFault.TheVariants as stores
+use Rattle.archive_shelf.specs.declared.receipt.Receipt.{Receipt}
+
+-- the shelf has no room for a capture more
+abbrev pub IsFull : Contents → Book → Type 0
+IsFull shelf book = shelf.limits.captures ≤ length (captures book)
+
+abbrev pub IsNotFull : Contents → Book → Type 0
+IsNotFull shelf book = length (captures book) < shelf.limits.captures
+
+-- the bytes that were read have another digest than the one kept, or don't decode: never of a disk that is told
+pub record IsDamaged (tells : Bool) (kept : List ℕ) (found : Option (List ℕ)) : Type 0 where
+  pub untold : IsFalse tells
+  pub other : found ≢ Some kept
+
+-- the capture is stored by the rule, and the receipt names what it refers to
+pub record IsByRule (limit : ℕ) (found : Book) (taken : Taken) (receipt : Receipt) (after : Book) : Type 0 where
+  pub storing : Storing limit found taken
+  pub same_as : receipt.same_as ≡ storing.same
+  pub stored : after ≡ stored_by storing
+
+-- The capture was stored, and it alone, in the book that the call found, which wasn't full.
+pub record HasStored (alone : Bool) (taken : Taken) (was is : Contents) (receipt : Receipt) : Type 0 where
+  pub found : Book
+  pub led : Leads alone was.seen found
+  pub not_full : IsNotFull was found
+  pub number : receipt.number ≡ length (captures found)
+  pub gained : Gains found (as_stored taken receipt.same_as) is.seen
+  pub by_rule : IsTrue was.tells → IsByRule was.limits.volume_bytes found taken receipt is.seen
+  pub shown : LeadsShownPast alone receipt.number was.shown is.shown
+  pub others : is ≡ record was { seen = is.seen; shown = is.shown; mine = was.mine ++ receipt.number ∷ [] }
+
+-- a new volume was needed, and it is there without the capture
+pub record HasVolumeAlone (tells : Bool) (limit : ℕ) (found : Book) (taken : Taken) (after : Book) : Type 0 where
+  pub volume : after ≡ with_volume found taken.date
+  pub needed : IsTrue tells → (same : Option ℕ) × IsSameAs found taken same × NeedsVolume limit found (as_stored taken same)
+
+-- The disk failed, and nothing was stored, but a volume that was needed may be there.
+pub record IsRefusedByDisk (alone : Bool) (taken : Taken) (was is : Contents) : Type 0 where
+  pub found : Book
+  pub led : Leads alone was.seen found
+  pub not_full : IsNotFull was found
+  pub left : (is.seen ≡ found) ⊎ HasVolumeAlone was.tells was.limits.volume_bytes found taken is.seen
+  pub shown : LeadsShown alone was.shown is.shown
+  pub others : is ≡ record was { seen = is.seen; shown = is.shown }
+
+-- What a store leaves. It is full exactly where the book that the call found is; want of memory may be answered anywhere.
+abbrev pub StoreLeaves : Bool → Taken → Contents → Contents → Result Receipt StoreFault → Type 0
+StoreLeaves alone taken was is (Ok receipt) = HasStored alone taken was is receipt
+StoreLeaves alone taken was is (Err (stores.Full count limit)) =
+    Stays alone was is × IsFull was is.seen × (count ≡ length (captures is.seen)) × (limit ≡ was.limits.captures)
+StoreLeaves alone taken was is (Err stores.DiskFault) = IsRefusedByDisk alone taken was is
+StoreLeaves alone taken was is (Err (stores.Damaged number kept found)) =
+    Stays alone was is × IsNotFull was is.seen × (number < length (captures is.seen)) × IsDamaged was.tells kept found
+StoreLeaves alone taken was is (Err stores.Memory) = Stays alone was is
+
+-- what is brought can be replayed: it has the head of a response, and its date has a text
+pub record IsReplayable (brought : Brought) : Type 0 where
+  pub head : ResponseHead
+  pub parsed : IsResponseHeadText brought.head head
+  pub in_range : InRange brought.date
+
+-- what is brought is the capture with this number, with its payload
+pub record IsBrought (book : Book) (number : ℕ) (brought : Brought) : Type 0 where
+  pub has : IsPayloadOf book number brought.payload
+  pub method : brought.method ≡ has.stored.method
+  pub uri : brought.uri ≡ has.stored.uri
+  pub date : brought.date ≡ has.stored.date
+  pub head : brought.head ≡ has.stored.head
+
+-- an entry that is shown under this number is that of the book's capture
+abbrev pub AgreesAt : Contents → ℕ → Type 0
+AgreesAt shelf number = (entry : Facts) → Contains shelf.shown entry → entry.number ≡ number → IsEntryOf shelf.seen number entry
+
+-- no entry is shown under this number
+abbrev pub ShowsNone : Contents → ℕ → Type 0
+ShowsNone shelf number = (entry : Facts) → Contains shelf.shown entry → entry.number ≢ number
+
+-- What bringing a capture answers, by what is seen and shown after it. There is none exactly where the number isn't below the
+-- count; want of memory may be answered anywhere.
+abbrev pub Brings : Contents → ℕ → Result Brought BringFault → Type 0
+Brings is number (Ok brought) =
+    (number < length (captures is.seen)) × IsReplayable brought
+    × (IsTrue is.tells → IsBrought is.seen number brought × AgreesAt is number)
+Brings is number (Err (brings.NoSuch count)) =
+    (count ≡ length (captures is.seen)) × (count ≤ number) × ShowsNone is number
+Brings is number (Err brings.DiskFault) = number < length (captures is.seen)
+Brings is number (Err (brings.Damaged at kept found)) =
+    (number < length (captures is.seen)) × (at ≤ number) × IsDamaged is.tells kept found
+Brings is number (Err brings.Memory) = ⊤
+
+-- a fault of the disk is the answer
+abbrev pub is_store_fault : Result Receipt StoreFault → Bool
+is_store_fault (Ok receipt) = false
+is_store_fault (Err (stores.Full count limit)) = false
+is_store_fault (Err stores.DiskFault) = true
+is_store_fault (Err (stores.Damaged number kept found)) = false
+is_store_fault (Err stores.Memory) = false
+
+abbrev pub is_bring_fault : Result Brought BringFault → Bool
+is_bring_fault (Ok brought) = false
+is_bring_fault (Err (brings.NoSuch count)) = false
+is_bring_fault (Err brings.DiskFault) = true
+is_bring_fault (Err (brings.Damaged at kept found)) = false
+is_bring_fault (Err brings.Memory) = false
+
+-- a count of faults rises where the disk's fault is the answer, and else stays
+abbrev pub CountsIf : Bool → ℕ → ℕ → Type 0
+CountsIf true before now = (before ≤ now) × Rose before now
+CountsIf false before now = now ≡ before
+
+-- neither stored nor refused by the disk: nothing was written
+abbrev pub WritesNone : Result Receipt StoreFault → Type 0
+WritesNone (Ok receipt) = ⊥
+WritesNone (Err (stores.Full count limit)) = ⊤
+WritesNone (Err stores.DiskFault) = ⊥
+WritesNone (Err (stores.Damaged number kept found)) = ⊤
+WritesNone (Err stores.Memory) = ⊤

@@ -1,0 +1,41 @@
+-- Which earlier capture has a payload that is to be stored. Payloads are equal byte for byte; digests decide nothing.
+use Rattle.std.specs.Prelude.{◌≡◌, ◌≢◌, ℕ, ◌<◌, ◌≤◌, Bool, true, false, List, [], length, Option, Some, None}
+use Rattle.capture.specs.Captures.{captures, is_cut, HasPayload, IsPayloadOf}
+use Rattle.capture.specs.declared.book.Book.{Book}
+use Rattle.capture.specs.declared.captured.Taken.{Taken}
+use Rattle.archive_shelf.specs.declared.looked.Looked.{Looked}
+
+-- the capture with this number has the payload, and wasn't cut
+pub record HasWhole (book : Book) (number : ℕ) (payload : List ℕ) : Type 0 where
+  pub has : IsPayloadOf book number payload
+  pub whole : is_cut has.stored.kept ≡ false
+
+-- it is the first that does
+pub record IsFirstWith (book : Book) (number : ℕ) (payload : List ℕ) : Type 0 where
+  pub does : HasWhole book number payload
+  pub first : (other : ℕ) → HasWhole book other payload → number ≤ other
+
+-- no capture below a number does
+abbrev pub HasNoneBelow : Book → ℕ → List ℕ → Type 0
+HasNoneBelow book upto payload = (number : ℕ) → number < upto → HasWhole book number payload → ⊥
+
+-- among the captures below a number this is the first with the payload, or there is none. An empty payload isn't looked for
+abbrev pub Finds : Book → ℕ → List ℕ → Option ℕ → Type 0
+Finds book upto payload (Some number) = (payload ≢ []) × (number < upto) × IsFirstWith book number payload
+Finds book upto payload None = payload ≢ [] → HasNoneBelow book upto payload
+
+-- what was found of a payload so far is right
+pub record IsRight (book : Book) (payload : List ℕ) (looked : Looked) : Type 0 where
+  pub within : looked.upto ≤ length (captures book)
+  pub finds : Finds book looked.upto payload looked.same
+
+-- what a capture refers to: nothing where it was cut, else the first capture of the book with its payload
+abbrev pub RefersBy : Bool → Book → List ℕ → Option ℕ → Type 0
+RefersBy true book payload same = same ≡ None
+RefersBy false book payload same = Finds book (length (captures book)) payload same
+
+-- the capture of the book that this one refers to, if there is one
+pub record IsSameAs (book : Book) (taken : Taken) (same : Option ℕ) : Type 0 where
+  pub payload : List ℕ
+  pub has : HasPayload taken.cut taken.method taken.head taken.wire payload
+  pub refers : RefersBy taken.cut book payload same

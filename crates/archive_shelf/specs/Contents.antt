@@ -1,0 +1,64 @@
+-- What a shelf tells, and what its calls change of it.
+use Rattle.std.specs.Prelude.{◌≡◌, ◌⊎◌, ℕ, Bool, true, false, IsTrue, List, [], ◌∷◌, ◌++◌}
+use Rattle.capture.specs.Growth.{Grows}
+use Rattle.capture.specs.declared.book.Book.{Book}
+use Rattle.capture.specs.declared.limits.Limits.{Limits}
+use Rattle.cdxj_index.specs.Facts.{Facts}
+use Rattle.cdxj_index.specs.OfBook.{AreEntries}
+use Rattle.warc_text.specs.Sound.{IsSound}
+
+-- Whether what the disk holds is told; the book that was seen last; the entries that are shown, by number; the numbers that
+-- its own stores gave; and its limits.
+pub record Contents : Type 0 where
+  pub tells : Bool
+  pub seen : Book
+  pub shown : List Facts
+  pub mine : List ℕ
+  pub limits : Limits
+
+-- a list is the beginning of another
+pub record Begins (front whole : List Facts) : Type 0 where
+  pub rest : List Facts
+  pub joined : whole ≡ front ++ rest
+
+-- from the book that was seen last to the one that a call finds: alone it is the same, in company it may have grown
+abbrev pub Leads : Bool → Book → Book → Type 0
+Leads true old new = new ≡ old
+Leads false old new = Grows old new
+
+-- and what is shown: alone it is the same, in company there may be more
+abbrev pub LeadsShown : Bool → List Facts → List Facts → Type 0
+LeadsShown true old new = new ≡ old
+LeadsShown false old new = Begins old new
+
+-- what is shown after a capture was stored: alone at most its own entry is new, in company there may be more
+abbrev pub LeadsShownPast : Bool → ℕ → List Facts → List Facts → Type 0
+LeadsShownPast true number old new = (new ≡ old) ⊎ ((entry : Facts) × (entry.number ≡ number) × (new ≡ old ++ entry ∷ []))
+LeadsShownPast false number old new = Begins old new
+
+-- Nothing was looked at but what is shown: all else stays.
+pub record Looks (alone : Bool) (was is : Contents) : Type 0 where
+  pub shown : LeadsShown alone was.shown is.shown
+  pub others : is ≡ record was { shown = is.shown }
+
+-- Nothing was stored: all stays but what others did.
+pub record Stays (alone : Bool) (was is : Contents) : Type 0 where
+  pub seen : Leads alone was.seen is.seen
+  pub shown : LeadsShown alone was.shown is.shown
+  pub others : is ≡ record was { seen = is.seen; shown = is.shown }
+
+-- the entries of the book are the first of those that are shown
+pub record BeginsWithEntries (book : Book) (shown : List Facts) : Type 0 where
+  pub entries : List Facts
+  pub are : AreEntries book entries
+  pub first : Begins entries shown
+
+-- what is shown of the book: alone its entries, in company these and perhaps more
+abbrev pub Shows : Bool → Book → List Facts → Type 0
+Shows true book shown = AreEntries book shown
+Shows false book shown = BeginsWithEntries book shown
+
+-- Where the disk is told, the book is sound, and alone its entries are what is shown.
+pub record IsConsistent (alone : Bool) (now : Contents) : Type 0 where
+  pub sound : IsTrue now.tells → IsSound now.seen
+  pub shown : IsTrue alone → IsTrue now.tells → AreEntries now.seen now.shown

@@ -1,0 +1,9 @@
+pub mod Answers
+pub mod Comparing
+pub mod Contents
+pub mod Entering
+pub mod Gaining
+pub mod Laws
+pub mod Openings
+pub mod Queries
+pub mod Storing

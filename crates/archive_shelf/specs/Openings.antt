@@ -1,0 +1,80 @@
+-- Which books an opening may give, at whatever moment a crash stops a call. All are relations: nothing of them is stored.
+use Rattle.std.specs.Prelude.{◌≡◌, ◌⊎◌, ℕ, ◌+◌, ◌≤◌, Bool, IsTrue, List, [], length, Option, Some, None}
+use Rattle.capture.specs.Captures.{captures}
+use Rattle.capture.specs.declared.book.Book.{Book}
+use Rattle.capture.specs.declared.captured.Stored.{Stored}
+use Rattle.capture.specs.declared.captured.Taken.{Taken}
+use Rattle.disk_model.specs.Image.{Image}
+use Rattle.disk_model.specs.declared.disk.Disk.{Ghosts}
+use Rattle.warc_journal.specs.Extents.{warc_files}
+use Rattle.warc_text.specs.Groups.{IdsDiffer}
+use Rattle.warc_text.specs.Sound.{IsSound}
+use Rattle.warc_text.specs.StandsFor.{StandsFor}
+use Rattle.archive_shelf.specs.Contents.{Contents}
+use Rattle.archive_shelf.specs.Storing.{Storing, stored_by, with_capture, with_volume}
+
+-- the same book; those without volumes are one, whatever their namespaces
+abbrev pub SameBook : Book → Book → Type 0
+SameBook a b = (a ≡ b) ⊎ ((a.volumes ≡ []) × (b.volumes ≡ []))
+
+-- the ids of the book's responses differ, and that of one more
+abbrev pub HasIds : Book → Type 0
+HasIds book = IdsDiffer book.namespace (length (captures book) + 1)
+
+-- the image stands for a sound book
+pub record ImageStandsFor (image : Image) (book : Book) : Type 0 where
+  pub for : StandsFor (warc_files image) book
+  pub sound : IsSound book
+
+-- what is told of the disk: an image that a crash since a moment might have left stands for the book
+pub record Opens {D : Type 0} (tells : Bool) (d : Ghosts D) (disk : D) (t : ℕ) (book : Book) : Type 0 where
+  pub told : IsTrue tells
+  pub image : Image
+  pub left : d.images_since disk t image
+  pub stands : ImageStandsFor image book
+
+-- where the disk is told, each image that a crash since a moment might have left stands for a sound book
+abbrev pub Covers : {D : Type 0} → Bool → Ghosts D → D → ℕ → Type 0
+Covers tells d disk t = IsTrue tells → (image : Image) → d.images_since disk t image → (book : Book) × ImageStandsFor image book
+
+-- a book, or that with a new volume, with one more capture, or with both
+pub record IsNext (book x : Book) : Type 0 where
+  pub room : Book
+  pub roomy : SameBook room book ⊎ ((born : ℕ) × (room ≡ with_volume book born))
+  pub is : SameBook x room ⊎ ((stored : Stored) × (x ≡ with_capture room stored))
+
+module _ {S : Type 0} (moment : S → ℕ) (openings : S → ℕ → Book → Type 0) where
+  -- a book that may be opened since a moment up to the call's start might have been before the call, or is allowed
+  abbrev pub Moves : S → S → (Book → Type 0) → Type 0
+  Moves old new Allowed = (t : ℕ) (x : Book) → t ≤ moment old → openings new t x → openings old t x ⊎ Allowed x
+
+  -- a book that may be opened now might have been before the call, or is this one
+  abbrev pub Keeps : S → S → Book → Type 0
+  Keeps old new book = (x : Book) → openings new (moment new) x → openings old (moment old) x ⊎ SameBook x book
+
+  -- only this book may be opened now, and the other, if there is one
+  abbrev pub IsState : S → Book → Option Book → Type 0
+  IsState shelf book other = (x : Book) → openings shelf (moment shelf) x → SameBook x book ⊎ (other ≡ Some x)
+
+  -- only such a book may be opened now that is next to this one
+  abbrev pub OpensNext : S → Book → Type 0
+  OpensNext shelf book = (x : Book) → openings shelf (moment shelf) x → IsNext book x
+
+  -- A store that the disk refused. Either the book stayed, and what might have been opened before the call may be still. Or
+  -- one other book may be opened beside the one that is seen: that with the volume, or that with the capture.
+  abbrev pub IsRefused : S → S → Contents → Contents → Taken → Type 0
+  IsRefused old new was is taken =
+      ((is.seen ≡ was.seen) × Keeps old new was.seen)
+      ⊎ ((storing : Storing was.limits.volume_bytes was.seen taken)
+      × (IsState new is.seen (Some storing.unfilled) ⊎ IsState new is.seen (Some (stored_by storing))))
+
+-- where each image since a moment up to the call's start stood for a book, each does
+abbrev pub StaysCovered : {S : Type 0} → (S → ℕ) → (S → ℕ → Type 0) → S → S → Type 0
+StaysCovered moment covered old new = (t : ℕ) → t ≤ moment old → covered old t → covered new t
+
+-- storing the capture may leave this book, wherever it is stopped: the one before, that with the volume which the capture
+-- needs, or that with the capture
+abbrev pub MayLeave : Contents → Taken → Book → Type 0
+MayLeave was taken x =
+    SameBook x was.seen
+    ⊎ ((storing : Storing was.limits.volume_bytes was.seen taken) × ((x ≡ storing.unfilled) ⊎ (x ≡ stored_by storing)))
