@@ -1,6 +1,6 @@
 -- What was found of a payload, as a book grows.
 use Rattle.std.proofs.Common.{◌≡◌, ◌≢◌, ℕ, zero, suc, ◌+◌, ◌<◌, ◌≤◌, false, List, [], ◌∷◌, ◌++◌, length, Option, Some, None, refl, sym, ap, subst, ◌∙◌, inl, inr, ⊎_elim, arith, length-append}
-use Rattle.std.specs.Prelude.{slice_get}
+use Rattle.std.specs.Prelude.{IfSome, slice_get}
 use Rattle.std.proofs.lemmas.Bool.{cases_lt}
 use Rattle.capture.specs.Captures.{captures, is_cut, IsPayloadBy, IsPayloadOf, KeepsPayload}
 use Rattle.capture.specs.GrowthLaws.{GrowthKeepsCaptures}
@@ -9,7 +9,7 @@ use Rattle.capture.specs.declared.book.Book.{Book}
 use Rattle.capture.specs.declared.captured.Kept.{Kept}
 use Rattle.capture.specs.declared.captured.Kept.TheVariants.{Wire, Same, Cut}
 use Rattle.capture.specs.declared.captured.Stored.{Stored}
-use Rattle.archive_shelf.specs.Comparing.{Finds, HasWhole, IsFirstWith, IsRight}
+use Rattle.archive_shelf.specs.Comparing.{Finds, HasWhole, IsFirstWith, IsRight, KeepsWire}
 use Rattle.archive_shelf.specs.Laws.{FirstKeepsItsWire, IsOriginal, LookedStaysRight}
 
 -- what stands in a list stands there when the list goes on
@@ -74,6 +74,14 @@ module _ (old new : Book) (added : List Stored) (is : captures new ≡ captures 
         whole = is_now.whole;
       }
 
+  earlier_later : (upto : ℕ) (same : Option ℕ) → IfSome same (λ number. (number < upto) × KeepsWire old number)
+      → IfSome same (λ number. (number < upto) × KeepsWire new number)
+  earlier_later upto None was = was
+  earlier_later upto (Some number) was = (
+    was.0,
+    record { stored = was.1.stored; wire = was.1.wire; placed = placed_later number was.1.stored was.1.placed; kept = was.1.kept },
+  )
+
   finds_later : (upto : ℕ) (payload : List ℕ) (same : Option ℕ) → HasSoundCaptures old → upto ≤ length (captures old)
       → Finds old upto payload same → Finds new upto payload same
   finds_later upto payload (Some number) sound within found = (
@@ -91,10 +99,11 @@ module _ (old new : Book) (added : List Stored) (is : captures new ≡ captures 
       λ some number less does. found some number less (whole_before number payload sound (omega (arith, less, within)) does)
 
 pub looked_stays_right : GrowthKeepsCaptures → LookedStaysRight
-looked_stays_right keeps old new payload looked sound grow right =
+looked_stays_right keeps tells old new payload looked sound grow right =
     let more = keeps old new grow in record {
       within = omega (arith, right.within, ap length more.1, length-append (captures old) more.0);
-      finds = finds_later old new more.0 more.1 looked.upto payload looked.same sound right.within right.finds;
+      earlier = earlier_later old new more.0 more.1 looked.upto looked.same right.earlier;
+      finds = λ told. finds_later old new more.0 more.1 looked.upto payload looked.same (sound told) right.within (right.finds told);
     }
 
 -- what the first capture with a payload keeps is its wire: where it kept a number, that capture would come before it

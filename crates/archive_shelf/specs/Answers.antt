@@ -1,16 +1,20 @@
 -- What a shelf's calls answer, by cases of the answer, and what they leave.
-use Rattle.std.specs.Prelude.{◌≡◌, ◌≢◌, ◌⊎◌, ℕ, ◌<◌, ◌≤◌, Bool, true, false, IsTrue, IsFalse, List, [], ◌∷◌, ◌++◌, length, Contains, Option, Some, Result, Ok, Err, ⊤}
+use Rattle.std.specs.Prelude.{◌≡◌, ◌≢◌, ◌⊎◌, ℕ, ◌<◌, ◌≤◌, Bool, true, false, IsTrue, IsFalse, List, [], ◌∷◌, ◌++◌, length, slice_get, Contains, Option, Some, Result, Ok, Err, ⊤}
 use Rattle.httparse.specs.Grammar.{ResponseHead}
 use Rattle.capture.specs.Captures.{captures, IsPayloadOf}
 use Rattle.capture.specs.Faults.{Rose}
 use Rattle.capture.specs.Message.{IsResponseHeadText}
 use Rattle.capture.specs.declared.book.Book.{Book}
 use Rattle.capture.specs.declared.captured.Brought.{Brought}
+use Rattle.capture.specs.declared.captured.Kept.TheVariants.{Same}
+use Rattle.capture.specs.declared.captured.Stored.{Stored}
 use Rattle.capture.specs.declared.captured.Taken.{Taken}
 use Rattle.cdxj_index.specs.Facts.{Facts}
 use Rattle.cdxj_index.specs.OfBook.{IsEntryOf}
+use Rattle.disk_model.specs.Image.{Image}
 use Rattle.time_text.specs.Texts.{InRange}
-use Rattle.archive_shelf.specs.Comparing.{IsSameAs}
+use Rattle.warc_journal.specs.Extents.{cdxj_files}
+use Rattle.archive_shelf.specs.Comparing.{CanRefer, IsSameAs}
 use Rattle.archive_shelf.specs.Contents.{Contents, Leads, LeadsShown, LeadsShownPast, Stays}
 use Rattle.archive_shelf.specs.Storing.{Gains, NeedsVolume, Storing, as_stored, stored_by, with_volume}
 use Rattle.archive_shelf.specs.declared.fault.BringFault.{BringFault}
@@ -43,6 +47,7 @@ pub record HasStored (alone : Bool) (taken : Taken) (was is : Contents) (receipt
   pub led : Leads alone was.seen found
   pub not_full : IsNotFull was found
   pub number : receipt.number ≡ length (captures found)
+  pub refers : CanRefer taken.cut found receipt.same_as
   pub gained : Gains found (as_stored taken receipt.same_as) is.seen
   pub by_rule : IsTrue was.tells → IsByRule was.limits.volume_bytes found taken receipt is.seen
   pub shown : LeadsShownPast alone receipt.number was.shown is.shown
@@ -78,6 +83,19 @@ pub record IsReplayable (brought : Brought) : Type 0 where
   pub parsed : IsResponseHeadText brought.head head
   pub in_range : InRange brought.date
 
+-- what is brought names the capture with this number as it was seen, whatever the disk tells
+pub record IsNamed (book : Book) (number : ℕ) (brought : Brought) : Type 0 where
+  pub stored : Stored
+  pub placed : slice_get (captures book) number ≡ Some stored
+  pub method : brought.method ≡ stored.method
+  pub uri : brought.uri ≡ stored.uri
+  pub date : brought.date ≡ stored.date
+
+-- a capture keeps the payload of another one, or its own
+abbrev pub KeepsPayloadOf : Book → ℕ → ℕ → Type 0
+KeepsPayloadOf book number at =
+    (at ≡ number) ⊎ ((stored : Stored) × (slice_get (captures book) number ≡ Some stored) × (stored.kept ≡ Same at))
+
 -- what is brought is the capture with this number, with its payload
 pub record IsBrought (book : Book) (number : ℕ) (brought : Brought) : Type 0 where
   pub has : IsPayloadOf book number brought.payload
@@ -98,13 +116,13 @@ ShowsNone shelf number = (entry : Facts) → Contains shelf.shown entry → entr
 -- count; want of memory may be answered anywhere.
 abbrev pub Brings : Contents → ℕ → Result Brought BringFault → Type 0
 Brings is number (Ok brought) =
-    (number < length (captures is.seen)) × IsReplayable brought
+    (number < length (captures is.seen)) × IsReplayable brought × IsNamed is.seen number brought
     × (IsTrue is.tells → IsBrought is.seen number brought × AgreesAt is number)
 Brings is number (Err (brings.NoSuch count)) =
     (count ≡ length (captures is.seen)) × (count ≤ number) × ShowsNone is number
 Brings is number (Err brings.DiskFault) = number < length (captures is.seen)
 Brings is number (Err (brings.Damaged at kept found)) =
-    (number < length (captures is.seen)) × (at ≤ number) × IsDamaged is.tells kept found
+    (number < length (captures is.seen)) × (at ≤ number) × KeepsPayloadOf is.seen number at × IsDamaged is.tells kept found
 Brings is number (Err brings.Memory) = ⊤
 
 -- a fault of the disk is the answer
@@ -134,3 +152,7 @@ WritesNone (Err (stores.Full count limit)) = ⊤
 WritesNone (Err stores.DiskFault) = ⊥
 WritesNone (Err (stores.Damaged number kept found)) = ⊤
 WritesNone (Err stores.Memory) = ⊤
+
+-- where nothing was written a read gives what it gave, and it gives the checkpoints that it gave in any case
+abbrev pub LeavesReading : Image → Image → Result Receipt StoreFault → Type 0
+LeavesReading was is result = (WritesNone result → is ≡ was) × (cdxj_files is ≡ cdxj_files was)

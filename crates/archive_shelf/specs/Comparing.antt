@@ -1,7 +1,9 @@
 -- Which earlier capture has a payload that is to be stored. Payloads are equal byte for byte; digests decide nothing.
-use Rattle.std.specs.Prelude.{◌≡◌, ◌≢◌, ℕ, ◌<◌, ◌≤◌, Bool, true, false, List, [], length, Option, Some, None}
+use Rattle.std.specs.Prelude.{◌≡◌, ◌≢◌, ℕ, ◌<◌, ◌≤◌, Bool, true, false, IsTrue, IfSome, List, [], length, slice_get, Option, Some, None}
 use Rattle.capture.specs.Captures.{captures, is_cut, HasPayload, IsPayloadOf}
 use Rattle.capture.specs.declared.book.Book.{Book}
+use Rattle.capture.specs.declared.captured.Kept.TheVariants.{Wire}
+use Rattle.capture.specs.declared.captured.Stored.{Stored}
 use Rattle.capture.specs.declared.captured.Taken.{Taken}
 use Rattle.archive_shelf.specs.declared.looked.Looked.{Looked}
 
@@ -24,10 +26,24 @@ abbrev pub Finds : Book → ℕ → List ℕ → Option ℕ → Type 0
 Finds book upto payload (Some number) = (payload ≢ []) × (number < upto) × IsFirstWith book number payload
 Finds book upto payload None = payload ≢ [] → HasNoneBelow book upto payload
 
--- what was found of a payload so far is right
-pub record IsRight (book : Book) (payload : List ℕ) (looked : Looked) : Type 0 where
+-- the capture with this number keeps its whole wire
+pub record KeepsWire (book : Book) (number : ℕ) : Type 0 where
+  pub stored : Stored
+  pub wire : List ℕ
+  pub placed : slice_get (captures book) number ≡ Some stored
+  pub kept : stored.kept ≡ Wire wire
+
+-- What was found of a payload so far is right, where the disk tells what it holds; of each disk it is at most an earlier
+-- capture that keeps its whole wire.
+pub record IsRight (tells : Bool) (book : Book) (payload : List ℕ) (looked : Looked) : Type 0 where
   pub within : looked.upto ≤ length (captures book)
-  pub finds : Finds book looked.upto payload looked.same
+  pub earlier : IfSome looked.same (λ number. (number < looked.upto) × KeepsWire book number)
+  pub finds : IsTrue tells → Finds book looked.upto payload looked.same
+
+-- what a capture may refer to, whatever the disk tells: nothing where it was cut, else a capture that keeps its whole wire
+abbrev pub CanRefer : Bool → Book → Option ℕ → Type 0
+CanRefer true book same = same ≡ None
+CanRefer false book same = IfSome same (λ number. KeepsWire book number)
 
 -- what a capture refers to: nothing where it was cut, else the first capture of the book with its payload
 abbrev pub RefersBy : Bool → Book → List ℕ → Option ℕ → Type 0

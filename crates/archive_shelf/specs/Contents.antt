@@ -1,10 +1,12 @@
 -- What a shelf tells, and what its calls change of it.
-use Rattle.std.specs.Prelude.{◌≡◌, ◌⊎◌, ℕ, Bool, true, false, IsTrue, List, [], ◌∷◌, ◌++◌}
+use Rattle.std.specs.Prelude.{◌≡◌, ◌⊎◌, ℕ, ◌≤◌, Bool, true, false, IsTrue, List, [], ◌∷◌, ◌++◌, length, Contains}
+use Rattle.std.specs.List.Sorted.{IsStrictlySortedBy}
+use Rattle.capture.specs.Captures.{captures}
 use Rattle.capture.specs.Growth.{Grows}
 use Rattle.capture.specs.declared.book.Book.{Book}
 use Rattle.capture.specs.declared.limits.Limits.{Limits}
 use Rattle.cdxj_index.specs.Facts.{Facts}
-use Rattle.cdxj_index.specs.OfBook.{AreEntries}
+use Rattle.cdxj_index.specs.OfBook.{AreEntries, by_number}
 use Rattle.warc_text.specs.Sound.{IsSound}
 
 -- Whether what the disk holds is told; the book that was seen last; the entries that are shown, by number; the numbers that
@@ -47,11 +49,14 @@ pub record Stays (alone : Bool) (was is : Contents) : Type 0 where
   pub shown : LeadsShown alone was.shown is.shown
   pub others : is ≡ record was { seen = is.seen; shown = is.shown }
 
--- the entries of the book are the first of those that are shown
+-- the entries of the book are the first of those that are shown, which stand in order of number; what stands behind them is
+-- of later captures
 pub record BeginsWithEntries (book : Book) (shown : List Facts) : Type 0 where
   pub entries : List Facts
   pub are : AreEntries book entries
   pub first : Begins entries shown
+  pub in_order : IsStrictlySortedBy by_number shown
+  pub behind : (entry : Facts) → Contains first.rest entry → length (captures book) ≤ entry.number
 
 -- what is shown of the book: alone its entries, in company these and perhaps more
 abbrev pub Shows : Bool → Book → List Facts → Type 0

@@ -1,5 +1,5 @@
 -- What storing promises to those who build on it.
-use Rattle.std.specs.Prelude.{◌≡◌, ℕ, Bool, List, [], ◌∷◌, ◌++◌, Result}
+use Rattle.std.specs.Prelude.{◌≡◌, ℕ, Bool, IsTrue, List, [], ◌∷◌, ◌++◌, Result}
 use Rattle.capture.specs.Captures.{captures, KeepsPayload}
 use Rattle.capture.specs.Growth.{Grows}
 use Rattle.capture.specs.Soundness.{HasSoundCaptures}
@@ -46,8 +46,8 @@ StoresGrow =
 -- what was found of a payload so far stays right when the book grows
 abbrev pub LookedStaysRight : Type 0
 LookedStaysRight =
-    (old new : Book) (payload : List ℕ) (looked : Looked) → HasSoundCaptures old → Grows old new
-    → IsRight old payload looked → IsRight new payload looked
+    (tells : Bool) (old new : Book) (payload : List ℕ) (looked : Looked) → (IsTrue tells → HasSoundCaptures old) → Grows old new
+    → IsRight tells old payload looked → IsRight tells new payload looked
 
 -- a capture that keeps its whole wire, of this payload
 pub record IsOriginal (book : Book) (number : ℕ) (payload : List ℕ) : Type 0 where

@@ -2,6 +2,7 @@
 ghost use Rattle.std.specs.Prelude.{◌≡◌, ◌≤◌, ℕ, Bool, IsTrue, List, nat_eq, bytes_eq, IfOk, OnOk};
 ghost use Rattle.std.specs.List.{starts_with};
 ghost use Rattle.capture.specs.declared.book.Book.{Book};
+ghost use Rattle.disk_model.specs.Image.{Image};
 ghost use Rattle.archive_shelf.specs.Contents.{Contents, Looks, Shows};
 ghost use Rattle.archive_shelf.specs.Openings.{Moves, StaysCovered};
 ghost use Rattle.archive_shelf.specs.Queries.{ArePicked, IsFound};
@@ -25,6 +26,9 @@ pub trait Finder {
     /// How many faults of the disk it has met.
     ghost faults: { Self → ℕ };
 
+    /// What a read of its files gives. It is told alone, over a disk that tells what it holds.
+    ghost reading: { Self → Image };
+
     /// The moment, as a number that doesn't fall.
     ghost moment: { Self → ℕ };
 
@@ -40,6 +44,7 @@ pub trait Finder {
         ensures found { IfOk result (λ entry. IsFound (contents self.new).shown key.now time entry) }
         ensures looks { Looks alone (contents self.old) (contents self.new) }
         ensures shows { OnOk result (IsTrue (contents self.new).tells → Shows alone (contents self.new).seen (contents self.new).shown) }
+        ensures reading { IsTrue alone → IsTrue (contents self.old).tells → reading self.new ≡ reading self.old }
         ensures faults { faults self.new ≡ faults self.old }
         ensures later { moment self.old ≤ moment self.new }
         ensures moves { Moves moment openings self.old self.new (λ x. ⊥) }
@@ -50,6 +55,7 @@ pub trait Finder {
         ensures found { IfOk result (λ entries. ArePicked (λ e. bytes_eq key.now e.key) (contents self.new).shown entries.items) }
         ensures looks { Looks alone (contents self.old) (contents self.new) }
         ensures shows { OnOk result (IsTrue (contents self.new).tells → Shows alone (contents self.new).seen (contents self.new).shown) }
+        ensures reading { IsTrue alone → IsTrue (contents self.old).tells → reading self.new ≡ reading self.old }
         ensures faults { faults self.new ≡ faults self.old }
         ensures later { moment self.old ≤ moment self.new }
         ensures moves { Moves moment openings self.old self.new (λ x. ⊥) }
@@ -60,6 +66,7 @@ pub trait Finder {
         ensures found { IfOk result (λ entries. ArePicked (λ e. starts_with nat_eq e.key start.now) (contents self.new).shown entries.items) }
         ensures looks { Looks alone (contents self.old) (contents self.new) }
         ensures shows { OnOk result (IsTrue (contents self.new).tells → Shows alone (contents self.new).seen (contents self.new).shown) }
+        ensures reading { IsTrue alone → IsTrue (contents self.old).tells → reading self.new ≡ reading self.old }
         ensures faults { faults self.new ≡ faults self.old }
         ensures later { moment self.old ≤ moment self.new }
         ensures moves { Moves moment openings self.old self.new (λ x. ⊥) }

@@ -1,5 +1,5 @@
 //! How far a payload was looked for.
-ghost use Rattle.std.specs.Prelude.{◌≡◌, None, List, ℕ};
+ghost use Rattle.std.specs.Prelude.{◌≡◌, Bool, None, List, ℕ};
 ghost use Rattle.capture.specs.declared.book.Book.{Book};
 ghost use Rattle.archive_shelf.specs.Comparing.{IsRight};
 
@@ -16,7 +16,7 @@ impl Looked {
     /// Nothing was looked at. That is right of each payload.
     pub fn none() -> Looked
         ensures value { result ≡ record { upto = 0; same = None } }
-        ensures right { (book : Book) (payload : List ℕ) → IsRight book payload result }
+        ensures right { (tells : Bool) (book : Book) (payload : List ℕ) → IsRight tells book payload result }
     {
         Looked {
             upto: 0,

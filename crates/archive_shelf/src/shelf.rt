@@ -1,7 +1,7 @@
 //! What captures are stored on and brought from.
-ghost use Rattle.std.specs.Prelude.{◌≤◌, IsTrue, None, OnOk};
+ghost use Rattle.std.specs.Prelude.{◌≡◌, ◌≤◌, IsTrue, None, OnOk};
 ghost use Rattle.warc_text.specs.Fits.{Fits};
-ghost use Rattle.archive_shelf.specs.Answers.{Brings, CountsIf, StoreLeaves, WritesNone, is_bring_fault, is_store_fault};
+ghost use Rattle.archive_shelf.specs.Answers.{Brings, CountsIf, LeavesReading, StoreLeaves, WritesNone, is_bring_fault, is_store_fault};
 ghost use Rattle.archive_shelf.specs.Contents.{IsConsistent, Stays};
 ghost use Rattle.archive_shelf.specs.Openings.{HasIds, IsRefused, IsState, MayLeave, Moves, OpensNext, StaysCovered};
 
@@ -17,6 +17,8 @@ pub trait Shelf: Finder {
         requires fits { Fits taken }
         ensures leaves { StoreLeaves Self.alone taken (Self.contents self.old) (Self.contents self.new) result }
         ensures consistent { IsConsistent Self.alone (Self.contents self.new) }
+        ensures reading { IsTrue Self.alone → IsTrue (Self.contents self.old).tells
+            → LeavesReading (Self.reading self.old) (Self.reading self.new) result }
         ensures faults { CountsIf (is_store_fault result) (Self.faults self.old) (Self.faults self.new) }
         ensures later { Self.moment self.old ≤ Self.moment self.new }
         ensures moves { HasIds (Self.contents self.old).seen
@@ -36,6 +38,7 @@ pub trait Shelf: Finder {
         ensures brings { Brings (Self.contents self.new) number result }
         ensures stays { Stays Self.alone (Self.contents self.old) (Self.contents self.new) }
         ensures consistent { IsConsistent Self.alone (Self.contents self.new) }
+        ensures reading { IsTrue Self.alone → IsTrue (Self.contents self.old).tells → Self.reading self.new ≡ Self.reading self.old }
         ensures faults { CountsIf (is_bring_fault result) (Self.faults self.old) (Self.faults self.new) }
         ensures later { Self.moment self.old ≤ Self.moment self.new }
         ensures moves { Moves Self.moment Self.openings self.old self.new (λ x. ⊥) }
