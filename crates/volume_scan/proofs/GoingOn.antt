@@ -31,7 +31,7 @@ use Rattle.volume_scan.proofs.BookLaws.{HasFirst, committed_on, first_behind, fu
 use Rattle.volume_scan.proofs.FoundTexts.{found_writable}
 
 -- the captures before a volume, with those of the volume
-first_more : (book : Book) (k : ℕ) (volume : Volume) → slice_get book.volumes k ≡ Some volume → first_number book (k + 1) ≡ first_number book k + length volume.captures
+pub first_more : (book : Book) (k : ℕ) (volume : Volume) → slice_get book.volumes k ≡ Some volume → first_number book (k + 1) ≡ first_number book k + length volume.captures
 first_more book k volume placed =
     ap (λ (l : List Volume). length (captures_in l))
     (take_more book.volumes k volume (slice_get_within book.volumes k volume placed)

@@ -1,6 +1,6 @@
 -- What the scanner tells of the bytes that were read, of all that a file has there.
-use Rattle.std.proofs.Common.{◌≡◌, ◌<◌, ◌≤◌, ℕ, Bool, true, false, List, [], ◌++◌, length, take, drop, nat_lt, slice_index, refl, sym, ap, subst, ◌∙◌, inl, ⊎_elim, arith, length-append}
-use Rattle.std.proofs.lemmas.Bool.{ltb-false, ltb-true}
+use Rattle.std.proofs.Common.{◌≡◌, ◌<◌, ◌≤◌, ℕ, Bool, true, false, List, [], ◌++◌, length, take, drop, nat_lt, slice_index, refl, sym, ap, subst, ◌∙◌, inl, inr, ⊎_elim, arith, length-append}
+use Rattle.std.proofs.lemmas.Bool.{cases_eq, ltb-false, ltb-true}
 use Rattle.std.proofs.lemmas.List.{append_assoc, drop_all, get_or_append_left, length-drop, take-append-drop}
 use Rattle.capture.specs.Tails.{IsCommitted, IsTail}
 use Rattle.warc_scan.specs.Steps.{BeginsWithGroup, BeginsWithInfo, GroupsReach, HasNoGroup, HasNoInfo, InfosReach, IsCommittedRest, IsEnd, IsUnfinished, MayFollow}
@@ -82,11 +82,13 @@ module _ (bytes rest : List ℕ) (room : ℕ) (long : length rest ≡ room) (sam
   pub committed_there : IsCommittedRest (nat_lt (length bytes) room) bytes → IsCommitted commit_byte rest
   committed_there is = subst (IsCommitted commit_byte) all (is after follows)
 
-  pub committed_first : IsCommitted commit_byte bytes → IsCommitted commit_byte rest
-  committed_first is = subst (IsCommitted commit_byte) all (committed_on bytes after is)
-
-  pub tail_first : 2 ≤ length bytes → IsTail commit_byte bytes → IsTail commit_byte rest
-  tail_first two is = subst (IsTail commit_byte) all (tail_on bytes after two is)
+  -- where they are no unfinished tail, two bytes begin with the commit byte
+  pub committed_unless_tail : 2 ≤ length bytes → ¬ (IsUnfinished (nat_lt (length bytes) room) bytes) → IsCommitted commit_byte rest
+  committed_unless_tail two no_tail =
+      elim (cases_eq (slice_index bytes 0) commit_byte) [
+        | inl same ↦ subst (IsCommitted commit_byte) all (committed_on bytes after (record { begins = same; more = omega (arith, two) }))
+        | inr other ↦ absurd (no_tail (λ later follows. tail_on bytes later two (record { some = omega (arith, two); unfinished = inl other })))
+      ]
 
   module _ (namespace : List ℕ) (number : ℕ) where
     pub group_there : (group : Group) → BeginsWithGroup namespace number bytes group → BeginsWithGroup namespace number rest group

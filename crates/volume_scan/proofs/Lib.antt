@@ -1,7 +1,8 @@
 mod BookLaws
 mod DamageLaws
-mod FoundGroups
-mod FoundTexts
+mod EndLaws
+pub mod FoundGroups
+pub mod FoundTexts
 mod GoingOn
 mod Judging
 mod Parts

@@ -1,11 +1,11 @@
 -- What was read, of the books for which the files stand.
 use Rattle.std.specs.Prelude.{◌≡◌, ◌≢◌, ◌<◌, ◌≤◌, ℕ, ◌+◌, List, [], ◌∷◌, ◌++◌, length, slice_get, slice_index_or, Some}
-use Rattle.capture.specs.Captures.{first_number}
+use Rattle.capture.specs.Captures.{captures, first_number}
 use Rattle.capture.specs.declared.book.Book.{Book}
 use Rattle.capture.specs.declared.book.Volume.{Volume}
 use Rattle.disk_model.specs.declared.disk.Disk.{Ghosts}
 use Rattle.warc_journal.specs.Extents.{texts_in}
-use Rattle.warc_journal.specs.Texts.{with_more}
+use Rattle.warc_journal.specs.Texts.{Hold, with_more}
 use Rattle.warc_scan.specs.Groups.{IsGroup}
 use Rattle.warc_scan.specs.Infos.{IsInfo}
 use Rattle.warc_scan.specs.declared.group.Group.{Group as GroupFound}
@@ -81,3 +81,21 @@ DamagedFilesStandForNoBook =
     → position.stage ≢ Skipped → position.extent.volumes ≤ length files
     → BeginsWith book (texts_in position.extent files) position.namespace position.captures
     → ¬ (IsDamagedAt position files file place)
+
+-- a book that begins with what was read, for which files stand that hold just that, has no more: neither volumes nor captures
+abbrev pub BooksEndWithWhatWasRead : Type 0
+BooksEndWithWhatWasRead =
+    (files : List (List ℕ)) (book : Book) (texts : List (List ℕ)) (namespace : List ℕ) (number : ℕ)
+    → IsSound book → StandsFor files book → BeginsWith book texts namespace number → Hold texts files
+    → (length book.volumes ≡ length texts) × (length (captures book) ≡ number)
+
+-- The rest of the last volume was skipped as that of so many captures, and a volume was found in the next file: a book in which
+-- the skipped volume has its captures up to that number begins with all that its file holds.
+abbrev pub BooksGoOnWithSkipped : Type 0
+BooksGoOnWithSkipped =
+    (files : List (List ℕ)) (book : Book) (texts : List (List ℕ)) (namespace : List ℕ) (number : ℕ) (k : ℕ) (volume : Volume) (rest : List ℕ)
+    (skipped : ℕ) (text other : List ℕ) (born : ℕ)
+    → IsSound book → StandsFor files book → BeginsWith book texts namespace number
+    → k + 1 ≡ length texts → slice_get book.volumes k ≡ Some volume → number + skipped ≡ first_number book k + length volume.captures
+    → IsInfo (length texts) text other born (length text) → AreFronts (with_more texts rest ++ text ∷ []) files
+    → BeginsWith book (with_more texts rest) namespace (number + skipped)

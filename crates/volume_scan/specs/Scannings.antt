@@ -20,6 +20,7 @@ use Rattle.volume_scan.specs.declared.found.Found.TheVariants.{Info, Group, End}
 use Rattle.volume_scan.specs.declared.position.Position.{Position}
 use Rattle.volume_scan.specs.declared.position.Stage.TheVariants.{Within, Opened, Skipped, Done}
 use Rattle.volume_scan.specs.declared.scanning.Scanning.{Scanning}
+use Rattle.volume_scan.specs.declared.window.Window.{Window}
 
 -- a scan's disk, how far it has read, and how many files it found
 abbrev pub disk_of : {D : Type 0} → Scanning D → D
@@ -31,9 +32,16 @@ position_of scanning = scanning.position
 abbrev pub file_count : {D : Type 0} → Scanning D → ℕ
 file_count scanning = scanning.files
 
+-- what it has in memory: a part of a file, and the length of the last volume's file
+abbrev pub window_of : {D : Type 0} → Scanning D → Window
+window_of scanning = scanning.window
+
+abbrev pub last_len : {D : Type 0} → Scanning D → ℕ
+last_len scanning = scanning.len
+
 -- how many captures were read or skipped
 abbrev pub captures_of : {D : Type 0} → Scanning D → ℕ
-captures_of scanning = scanning.position.captures
+captures_of scanning = (position_of scanning).captures
 
 -- where a scan begins
 abbrev pub begins_at : Position
@@ -46,11 +54,11 @@ begins_at = record {
 
 -- the Warc files of its disk, as a read gives them
 abbrev pub files_in : {D : Type 0} → Ghosts D → Scanning D → List (List ℕ)
-files_in d scanning = warc_files (d.reading scanning.disk)
+files_in d scanning = warc_files (d.reading (disk_of scanning))
 
 -- the texts that were read so far, of each volume whose warcinfo was read
 abbrev pub texts : {D : Type 0} → Ghosts D → Scanning D → List (List ℕ)
-texts d scanning = texts_in scanning.position.extent (files_in d scanning)
+texts d scanning = texts_in (position_of scanning).extent (files_in d scanning)
 
 -- a position lies in the files
 pub record LiesIn (position : Position) (files : List (List ℕ)) : Type 0 where
@@ -64,17 +72,17 @@ pub record LiesIn (position : Position) (files : List (List ℕ)) : Type 0 where
   pub behind : position.stage ≡ Done → IsBehind position.extent.is_dirty (unread position files)
   pub furthest : position.stage ≡ Done → IsFurthest position.extent.further position.extent.volumes files
 
--- a scan stands on its disk where it says: a crash leaves what a read gives
+-- a scan stands on its disk where it says: a crash leaves what a read gives, and what it has in memory is what stands there
 pub record Stands {D : Type 0} (d : Ghosts D) (scanning : Scanning D) : Type 0 where
-  pub synced : AreVolumesSynced (d.reading scanning.disk) (d.images scanning.disk)
-  pub count : scanning.files ≡ length (files_in d scanning)
-  pub lies : LiesIn scanning.position (files_in d scanning)
-  pub last : (k : ℕ) → k + 1 ≡ scanning.position.extent.volumes → scanning.len ≡ length (file_at (files_in d scanning) k)
-  pub shows : Shows scanning.window (files_in d scanning)
+  pub synced : AreVolumesSynced (d.reading (disk_of scanning)) (d.images (disk_of scanning))
+  pub count : file_count scanning ≡ length (files_in d scanning)
+  pub lies : LiesIn (position_of scanning) (files_in d scanning)
+  pub last : (k : ℕ) → k + 1 ≡ (position_of scanning).extent.volumes → last_len scanning ≡ length (file_at (files_in d scanning) k)
+  pub shows : Shows (window_of scanning) (files_in d scanning)
 
--- the same, whatever its disk tells
+-- the same, where its disk tells what it holds
 pub record IsInPlace {D : Type 0} (d : Ghosts D) (scanning : Scanning D) : Type 0 where
-  pub inside : IsInside scanning.window
+  pub inside : IsInside (window_of scanning)
   pub stands : IsTrue d.tells → Stands d scanning
 
 -- ---- what a step answers

@@ -12,15 +12,13 @@ use crate::window::Window;
 use disk_model::Disk;
 use std::alloc::Global;
 use uuid::Uuid;
+use warc_text::info_len;
 
-/// How many bytes of groups are read at once, if a file has them.
+/// How many bytes of groups are read at first, if a file has them.
 const PIECE: u64 = 1_048_576;
 
 /// So many bytes tell a tail from a committed text.
 const FIRST_BYTES: u64 = 2;
-
-/// No warcinfo is shorter.
-const SHORTEST_INFO: u64 = 311;
 
 /// What stands in the window's file from a place on, where the group with this number is due.
 pub fn read_group<D: Disk>(
@@ -46,14 +44,17 @@ pub fn read_group<D: Disk>(
     ensures faults { CountsRead (D.faults disk.old) (D.faults disk.new) result }
 {
     let mut least = FIRST_BYTES;
+    let mut beyond = PIECE;
     'asking: loop {
-        window.reach(alloc, disk, place, least, PIECE)?;
+        window.reach(alloc, disk, place, least, beyond)?;
         let room = window.len() - place;
         match judge_group(alloc, window.behind(place), room, namespace, number) {
             Ok(next) => return Ok(next),
             Err(Unsaid::Need(n)) => least = n,
             Err(Unsaid::Memory) => return Err(ScanFault::Memory),
         }
+        // What was read is judged anew, and a long target asks for one byte more at a time.
+        beyond = beyond.saturating_mul(2);
     }
 }
 
@@ -79,7 +80,7 @@ pub fn read_info<D: Disk>(
     ensures rests { IsTrue D.tells → Rests D.Disk disk.old disk.new }
     ensures faults { CountsRead (D.faults disk.old) (D.faults disk.new) result }
 {
-    let mut least = SHORTEST_INFO;
+    let mut least = info_len(volume, 0);
     'asking: loop {
         window.reach(alloc, disk, 0, least, 0)?;
         let room = window.len();

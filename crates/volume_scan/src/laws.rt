@@ -1,5 +1,5 @@
 //! What the answers of a scan say of the books for which the files stand.
-ghost use Rattle.volume_scan.specs.Books.{BooksGoOnWithGroups, BooksGoOnWithInfos, DamagedFilesStandForNoBook, FilesBeginWithWhatWasRead};
+ghost use Rattle.volume_scan.specs.Books.{BooksEndWithWhatWasRead, BooksGoOnWithGroups, BooksGoOnWithInfos, BooksGoOnWithSkipped, DamagedFilesStandForNoBook, FilesBeginWithWhatWasRead};
 
 use warc_text::sound_volumes_have_one_text;
 
@@ -14,6 +14,21 @@ pub fn files_begin_with_what_was_read()
 pub fn books_go_on_with_what_is_found()
     ensures infos { BooksGoOnWithInfos }
     ensures groups { BooksGoOnWithGroups }
+{
+    sound_volumes_have_one_text();
+}
+
+/// A sound book that begins with what was read goes on with a volume that is skipped, where that has so many captures and another
+/// volume is found behind it.
+pub fn books_go_on_with_what_is_skipped()
+    ensures { BooksGoOnWithSkipped }
+{
+    sound_volumes_have_one_text();
+}
+
+/// At the end, when the files hold what was read, a sound book that begins with it has no more volumes and no more captures.
+pub fn books_end_with_what_was_read()
+    ensures { BooksEndWithWhatWasRead }
 {
     sound_volumes_have_one_text();
 }

@@ -13,7 +13,8 @@ mod window;
 pub use fault::ScanFault;
 pub use found::Found;
 pub use laws::{
-    books_go_on_with_what_is_found, damaged_files_stand_for_no_book, files_begin_with_what_was_read,
+    books_end_with_what_was_read, books_go_on_with_what_is_found, books_go_on_with_what_is_skipped,
+    damaged_files_stand_for_no_book, files_begin_with_what_was_read,
 };
 pub use position::{Position, Stage};
 pub use scanning::Scanning;

@@ -1,15 +1,10 @@
 //! What stands next in a volume, as far as the scanner tells of the bytes that were read.
-ghost use Rattle.std.specs.Prelude.{◌≡◌, ◌<◌, ◌≤◌, ℕ, List, length, min, take, IfErr, IfOk, IsFalse, IsTrue};
-ghost use Rattle.capture.specs.Tails.{IsCommitted, IsTail};
-ghost use Rattle.warc_text.specs.StandsFor.{commit_byte};
+ghost use Rattle.std.specs.Prelude.{◌≡◌, ◌≤◌, ℕ, List, length, min, take, IfErr, IfOk};
 ghost use Rattle.volume_scan.specs.Next.{Asks, FitsGroup, FitsInfo, IsNextGroup, IsNextInfo};
 
 use std::alloc::Global;
 use uuid::Uuid;
 use warc_scan::{Group, GroupStep, InfoStep, next_group, next_info};
-
-/// The first byte of a finished warcinfo and of a finished group.
-const COMMIT_BYTE: u8 = b'W';
 
 /// What stands behind the text that was read of a volume.
 #[derive(Debug, Drop)]
@@ -75,11 +70,9 @@ pub fn judge_group(
         GroupStep::Need(n) => {
             if n <= room {
                 Err(Unsaid::Need(n))
-            } else if is_committed(bytes) {
+            } else {
                 // No group with this number is so short.
                 Ok(NextGroup::Damaged)
-            } else {
-                Ok(NextGroup::Tail)
             }
         }
         GroupStep::Memory => Err(Unsaid::Memory),
@@ -112,24 +105,11 @@ pub fn judge_info(alloc: Global, bytes: &[u8], room: u64, volume: u32) -> Result
         InfoStep::Need(n) => {
             if n <= room {
                 Err(Unsaid::Need(n))
-            } else if is_committed(bytes) {
+            } else {
                 // No warcinfo of this volume is so short.
                 Ok(NextInfo::Damaged)
-            } else {
-                Ok(NextInfo::Tail)
             }
         }
         InfoStep::Memory => Err(Unsaid::Memory),
-    }
-}
-
-/// Whether the bytes are those of a committed text.
-fn is_committed(bytes: &[u8]) -> bool
-    ensures committed { IsTrue result → IsCommitted commit_byte bytes.now }
-    ensures tail { IsFalse result → 0 < length bytes.now → IsTail commit_byte bytes.now }
-{
-    match bytes {
-        [first, _, ..] => *first == COMMIT_BYTE,
-        _ => false,
     }
 }

@@ -88,7 +88,7 @@ impl<D: Disk> Scanning<D> {
     }
 
     /// What stands next: the warcinfo of a volume, a group behind what was read, or the end, which is told again and again.
-    /// It only reads, and each byte once.
+    /// It only reads, and no byte twice but after a refusal.
     ///
     /// `Damaged` comes where the files can't go on so, and then they hold no archive that begins with what was read.
     /// Refused, it stands where it stood, and can be asked again.

@@ -1,23 +1,13 @@
 -- Why no block follows an opening, or one that goes on.
-use Rattle.std.proofs.Common.{◌≡◌, ℕ, zero, suc, ◌+◌, ◌^◌, ◌<◌, ◌≤◌, List, [], ◌∷◌, ◌++◌, length, length-append, append_assoc, refl, sym, ap, subst, ◌∙◌, arith}
+use Rattle.std.proofs.Common.{◌≡◌, ℕ, ◌+◌, ◌^◌, ◌<◌, ◌≤◌, List, ◌++◌, length, length-append, append_assoc, refl, sym, ap, subst, ◌∙◌, arith}
 use Rattle.warc_text.specs.Lines.{ended, length_lines, record_end}
 use Rattle.warc_text.proofs.Fronts.{fronts}
 use Rattle.warc_scan.specs.Blocks.{AsksForBlock, EndsInsideBlock, IsWord, RefusesBlock}
-use Rattle.warc_scan.specs.Stops.{Differs, EndsInside, Leaves, NoneStands}
+use Rattle.warc_scan.specs.Stops.{Differs, Leaves, NoneStands}
 use Rattle.warc_scan.specs.declared.stop.Stop.{Stop}
 use Rattle.warc_scan.specs.declared.stop.Stop.TheVariants.{Open, Until, Wrong, Memory}
 use Rattle.warc_scan.proofs.BlockTold.{length_told}
-use Rattle.warc_scan.proofs.Refusals.{differs_behind, ends_behind, ends_more, refuses_behind, refuses_more, same_behind}
-
--- a list of each length
-zeros : ℕ → List ℕ
-zeros zero = []
-zeros (suc n) = 0 ∷ zeros n
-
-length-zeros : (n : ℕ) → length (zeros n) ≡ n
-unfolding zeros
-length-zeros zero = refl
-length-zeros (suc n) = ap suc (length-zeros n)
+use Rattle.warc_scan.proofs.Refusals.{differs_behind, refuses_behind, refuses_more, same_behind}
 
 spread : (a b c x : List ℕ) → (a ++ b ++ c) ++ x ≡ a ++ (b ++ (c ++ x))
 spread a b c x = append_assoc (a ++ b) c x ∙ append_assoc a b (c ++ x)
@@ -41,20 +31,9 @@ module _ (opening bytes behind : List ℕ) (stop : Stop) (composed : bytes ≡ o
       refuses_behind stop bytes opening behind (ended block) none.line composed
       (refuses_more stop behind (line ++ block) record_end (refuses_more stop behind line block (none.refuses (length block) (block_is_short opening block short))))
 
--- the block that a length which goes on may be that of
-open_length : (opening bytes behind : List ℕ) → bytes ≡ opening ++ behind → NoneStands IsWord length_lines Open behind → (block : List ℕ) × EndsInside (opening ++ ended block) bytes
-unfolding ended
-open_length opening bytes behind composed none =
-    let some = none.ends refl in
-    let block = zeros some.0 in
-    let line : EndsInside (length_lines (length block)) behind = subst (λ n. EndsInside (length_lines n) behind) (sym (length-zeros some.0)) some.2 in (
-      block,
-      ends_behind bytes opening behind (ended block) composed
-          (ends_more (length_lines (length block) ++ block) record_end behind (ends_more (length_lines (length block)) block behind line)),
-    )
-
+-- why more is asked for, where a length goes on
 pub asks_for_length : (opening bytes behind : List ℕ) (stop : Stop) → bytes ≡ opening ++ behind → NoneStands IsWord length_lines stop behind → AsksForBlock opening bytes stop
-asks_for_length opening bytes behind Open composed none = open_length opening bytes behind composed none
+asks_for_length opening bytes behind Open composed none = let some = none.ends refl in (some.0, behind, some.1, composed, some.2)
 asks_for_length opening bytes behind (Until n) composed none = absurd none.line
 asks_for_length opening bytes behind Wrong composed none = tt
 asks_for_length opening bytes behind Memory composed none = tt
@@ -104,15 +83,16 @@ module _ (opening bytes come : List ℕ) (told : ℕ) (is : IsTelling opening by
       let same = (told_block block after other (block_is_short opening block fits) e).0 in
       (short, omega (arith, length-whole block same, here, ends))
 
-  pub ends_inside_block : (start n : ℕ) → start + length come ≡ length bytes → n ≡ start + told + 4 → EndsInsideBlock opening bytes n
-  ends_inside_block start n here ends =
-      let same : told ≡ length (zeros told) = sym (length-zeros told) in
-      record {
-        block = zeros told;
-        come = come;
-        composed = is.composed ∙ ap (λ m. (opening ++ length_lines m) ++ come) same;
-        whole = omega (arith, length-whole (zeros told) same, here, ends);
-      }
+  pub ends_inside_block : (start n : ℕ) → start + length come ≡ length bytes → n ≡ start + told + 4 → length bytes < n → n < 2 ^ 63
+      → EndsInsideBlock opening bytes n
+  ends_inside_block start n here ends inside short = record {
+    len = told;
+    come = come;
+    composed = is.composed;
+    whole = omega (arith, length-told, length-append opening (length_lines told), here, ends);
+    inside = inside;
+    short = short;
+  }
 
   -- the block came whole
   module _ (block closing : List ℕ) (cut : come ≡ block ++ closing) (long : length block ≡ told) where
@@ -137,20 +117,18 @@ module _ (opening bytes come : List ℕ) (told : ℕ) (is : IsTelling opening by
         (subst (λ t. Leaves stop bytes t) (sym whole_record)
         (refused after other (e ∙ ap (λ b. (opening ++ ended b) ++ other) (sym same) ∙ ap (λ t. t ++ other) whole_record)))
 
-    pub open_closing : Differs Open closing record_end → (b : List ℕ) × EndsInside (opening ++ ended b) bytes
-    open_closing d =
-        let ends = (differs_behind Open bytes (opening ++ (length_lines (length block) ++ block)) closing record_end up_to_end d).ends refl in
-        (block, subst (λ t. EndsInside t bytes) (sym whole_record) ends)
-
     pub has_block : (rest : List ℕ) → closing ≡ record_end ++ rest → bytes ≡ (opening ++ ended block) ++ rest
     has_block rest closed =
         up_to_end ∙ ap (λ t. (opening ++ (length_lines (length block) ++ block)) ++ t) closed
         ∙ sym (append_assoc (opening ++ (length_lines (length block) ++ block)) record_end rest)
         ∙ ap (λ t. t ++ rest) (sym whole_record)
 
-pub asks_for_closing : (opening bytes come block closing : List ℕ) (told : ℕ) (stop : Stop) → IsTelling opening bytes come told → come ≡ block ++ closing → length block ≡ told
-    → Differs stop closing record_end → AsksForBlock opening bytes stop
-asks_for_closing opening bytes come block closing told Open is cut long d = open_closing opening bytes come told is block closing cut long d
-asks_for_closing opening bytes come block closing told (Until n) is cut long d = absurd d.line
-asks_for_closing opening bytes come block closing told Wrong is cut long d = tt
-asks_for_closing opening bytes come block closing told Memory is cut long d = tt
+-- the line ends behind the block came whole, so that no more is asked for
+pub asks_for_closing : (opening bytes closing : List ℕ) (stop : Stop) → 4 ≤ length closing → Differs stop closing record_end → AsksForBlock opening bytes stop
+unfolding record_end
+asks_for_closing opening bytes closing Open long d =
+    let is = d.ends refl in
+    absurd (omega (arith, long, ap length is.composed, length-append closing is.behind, is.more))
+asks_for_closing opening bytes closing (Until n) long d = absurd d.line
+asks_for_closing opening bytes closing Wrong long d = tt
+asks_for_closing opening bytes closing Memory long d = tt

@@ -1,5 +1,5 @@
 -- Whether a response is marked as cut, and the type of its block, at the front of bytes.
-use Rattle.std.proofs.Common.{◌≡◌, ℕ, ◌<◌, inl, Bool, true, false, List, [], ◌++◌, length, get_or, refl, sym, ap, ◌∙◌, arith}
+use Rattle.std.proofs.Common.{◌≡◌, ℕ, ◌<◌, Bool, true, false, List, [], ◌∷◌, ◌++◌, length, get_or, refl, sym, ap, ◌∙◌, arith}
 use Rattle.std.specs.Prelude.{⊤, codes}
 use Rattle.std.proofs.Math.ListN.{get_or-append}
 use Rattle.warc_text.specs.Lines.{content_line, cut_line, field}
@@ -8,7 +8,7 @@ use Rattle.warc_scan.specs.Stops.{Differs, NoneStands, Refuses}
 use Rattle.warc_scan.specs.declared.stop.Stop.{Stop}
 use Rattle.warc_scan.specs.declared.stop.Stop.TheVariants.{Open}
 use Rattle.warc_scan.proofs.Pieces.{two}
-use Rattle.warc_scan.proofs.Refusals.{differs_behind, differs_more}
+use Rattle.warc_scan.proofs.Refusals.{begins_ends, differs_behind, differs_more}
 
 -- what stands there
 abbrev pub cut_text : Bool → List ℕ
@@ -48,7 +48,7 @@ marked_refused : (stop : Stop) (bytes : List ℕ) → 0 < length bytes → get_o
 marked_refused stop bytes some first d = record {
   refuses = λ cut is. by_cut stop bytes d.refuses (no_whole stop bytes some first) cut;
   line = d.line;
-  ends = λ open_. (true, tt, d.ends open_);
+  ends = λ open_. (true, tt, begins_ends (cut_text true) bytes (d.ends open_));
 }
 
 pub mark_refused : (stop : Stop) (bytes : List ℕ) → 0 < length bytes → get_or bytes 0 0 ≡ 87 → Differs stop bytes (codes "WARC-Truncated: disconnect\r\n") → NoneStands IsCut cut_text stop bytes
@@ -67,7 +67,7 @@ unfolding cut_line
 content_refused stop bytes some other d = record {
   refuses = λ cut is. by_cut stop bytes (no_mark stop bytes some other) d.refuses cut;
   line = d.line;
-  ends = λ open_. (false, tt, d.ends open_);
+  ends = λ open_. (false, tt, begins_ends (cut_text false) bytes (d.ends open_));
 }
 
 -- no byte has come
@@ -76,6 +76,10 @@ unfolding cut_line content_line field
 cut_is_long true = omega arith
 cut_is_long false = omega arith
 
+empty : (bytes : List ℕ) → length bytes ≡ 0 → bytes ≡ []
+empty [] none = refl
+empty (b ∷ bytes) none = absurd (omega (arith, none))
+
 pub nothing_refused : (bytes : List ℕ) → length bytes ≡ 0 → NoneStands IsCut cut_text Open bytes
 nothing_refused bytes none = record {
   refuses = λ cut is after other e. omega (arith, none, cut_is_long cut);
@@ -83,14 +87,7 @@ nothing_refused bytes none = record {
   ends = λ open_. (
     false,
     tt,
-    record {
-      given = [];
-      part = bytes;
-      behind = cut_text false;
-      begins = refl;
-      composed = refl;
-      value = inl (omega (arith, none));
-    },
+    begins_ends (cut_text false) bytes (record { behind = cut_text false; composed = ap (λ b. b ++ cut_text false) (sym (empty bytes none)); more = cut_is_long false }),
   );
 }
 

@@ -1,5 +1,5 @@
 -- A WARC-Date at the front of bytes.
-use Rattle.std.proofs.Common.{◌≡◌, ℕ, ◌<◌, ◌≤◌, inl, inr, List, [], ◌++◌, length, take, get_or, refl, sym, ap, ◌∙◌, arith}
+use Rattle.std.proofs.Common.{◌≡◌, ℕ, ◌<◌, ◌≤◌, inl, inr, List, ◌++◌, length, take, get_or, refl, sym, ap, ◌∙◌, arith}
 use Rattle.time_text.specs.Calendar.{civil_at}
 use Rattle.time_text.specs.Texts.{InRange, warc_date}
 use Rattle.time_text.proofs.WarcLemmas.{warc_cases}
@@ -7,7 +7,8 @@ use Rattle.std.proofs.Math.ListN.{get_or-append}
 use Rattle.std.proofs.lemmas.List.{take_at, take-append-le}
 use Rattle.time_text.proofs.DateLaws.{warc_date_front}
 use Rattle.warc_scan.specs.Dates.{IsDateLen}
-use Rattle.warc_scan.specs.Stops.{NoneStands}
+use Rattle.warc_scan.specs.OpenValues.{IsPartOfDate}
+use Rattle.warc_scan.specs.Stops.{NoValueStands}
 use Rattle.warc_scan.specs.declared.stop.Stop.TheVariants.{Open, Wrong}
 use Rattle.warc_scan.proofs.Refusals.{wrong_is_not_open, IsTold}
 
@@ -15,6 +16,14 @@ use Rattle.warc_scan.proofs.Refusals.{wrong_is_not_open, IsTold}
 pub date_is_long : (date : ℕ) → 20 ≤ length (warc_date date)
 unfolding warc_date
 date_is_long date = elim (warc_cases (civil_at date)) [
+  | inl is ↦ omega (arith, is.long)
+  | inr is ↦ omega (arith, is.long)
+]
+
+-- and twenty-four at most
+pub date_is_short : (date : ℕ) → length (warc_date date) ≤ 24
+unfolding warc_date
+date_is_short date = elim (warc_cases (civil_at date)) [
   | inl is ↦ omega (arith, is.long)
   | inr is ↦ omega (arith, is.long)
 ]
@@ -43,36 +52,25 @@ fraction_len bytes after other date long z e = elim (warc_cases (civil_at date))
 ]
 
 -- bytes that are too few for a date
-pub open_date : (bytes : List ℕ) → length bytes < 24 → ((date : ℕ) (after other : List ℕ) → bytes ++ after ≡ warc_date date ++ other → length bytes < length (warc_date date))
-    → NoneStands InRange warc_date Open bytes
-open_date bytes short fits = record {
+pub open_date : (bytes : List ℕ) → IsPartOfDate bytes → ((date : ℕ) (after other : List ℕ) → bytes ++ after ≡ warc_date date ++ other → length bytes < length (warc_date date))
+    → NoValueStands InRange warc_date IsPartOfDate Open bytes
+open_date bytes part fits = record {
   refuses = λ date is after other e. fits date after other e;
   line = tt;
-  ends = λ is. (
-    0,
-    omega arith,
-    record {
-      given = [];
-      part = bytes;
-      behind = warc_date 0;
-      begins = refl;
-      composed = refl;
-      value = inl (omega arith);
-    },
-  );
+  ends = λ is. (0, omega arith, inr (part, omega (arith, date_is_long 0)));
 }
 
 -- bytes that are fewer than the date's length
-pub short_date : (bytes : List ℕ) (len : ℕ) → IsDateLen bytes len → length bytes < len → NoneStands InRange warc_date Open bytes
+pub short_date : (bytes : List ℕ) (len : ℕ) → IsDateLen bytes len → length bytes < len → NoValueStands InRange warc_date IsPartOfDate Open bytes
 short_date bytes len is short =
-    open_date bytes (omega (arith, is.short)) (λ date after other e. omega (arith, short, is.fits date after other e))
+    open_date bytes (is.part short) (λ date after other e. omega (arith, short, is.fits date after other e))
 
-pub few_bytes : (bytes : List ℕ) → length bytes < 20 → NoneStands InRange warc_date Open bytes
-few_bytes bytes short = open_date bytes (omega arith) (λ date after other e. omega (arith, short, date_is_long date))
+pub few_bytes : (bytes : List ℕ) → length bytes < 20 → NoValueStands InRange warc_date IsPartOfDate Open bytes
+few_bytes bytes short = open_date bytes (inl short) (λ date after other e. omega (arith, short, date_is_long date))
 
 -- a text of the date's length that is no date's
 pub wrong_date : (bytes text : List ℕ) (len : ℕ) → IsDateLen bytes len → len ≤ length bytes → text ≡ take len bytes
-    → ((date : ℕ) → InRange date → ¬ (text ≡ warc_date date)) → NoneStands InRange warc_date Wrong bytes
+    → ((date : ℕ) → InRange date → ¬ (text ≡ warc_date date)) → NoValueStands InRange warc_date IsPartOfDate Wrong bytes
 wrong_date bytes text len is fits front none = record {
   refuses = λ date was after other e.
       none date was (front ∙ sym (take-append-le len bytes after fits) ∙ ap (take len) e
@@ -87,7 +85,13 @@ date_told date w x y was e = warc_date_front date w x y e
 
 -- so long is the date that stands there
 pub whole_date : (bytes : List ℕ) → 19 < length bytes → get_or bytes 19 0 ≡ 90 → IsDateLen bytes 20
-whole_date bytes long z = record { short = omega arith; fits = λ date after other e. whole_len bytes after other date long z e }
+whole_date bytes long z = record {
+  part = λ few. inl few;
+  fits = λ date after other e. whole_len bytes after other date long z e;
+}
 
 pub fraction_date : (bytes : List ℕ) → 19 < length bytes → ¬ (get_or bytes 19 0 ≡ 90) → IsDateLen bytes 24
-fraction_date bytes long z = record { short = omega arith; fits = λ date after other e. fraction_len bytes after other date long z e }
+fraction_date bytes long z = record {
+  part = λ few. inr (few, z);
+  fits = λ date after other e. fraction_len bytes after other date long z e;
+}

@@ -1,36 +1,26 @@
 -- The text of a payload's digest, at the front of bytes.
-use Rattle.std.proofs.Common.{◌≡◌, ℕ, ◌<◌, ◌≤◌, inl, List, [], ◌++◌, length, take, drop, refl, sym, ap, ◌∙◌, arith}
+use Rattle.std.proofs.Common.{◌≡◌, ℕ, ◌<◌, ◌≤◌, inr, List, [], ◌++◌, length, take, drop, refl, sym, ap, ◌∙◌, arith}
 use Rattle.std.proofs.lemmas.List.{take_at, take-append-drop, take-append-le}
 use Rattle.sha1.specs.Sha1.{sha1}
 use Rattle.digest32.specs.Base32.{IsDigest, IsDigestText, base32}
 use Rattle.digest32.proofs.Texts.{digest_injective, is_digest_text, length-digest_text}
 use Rattle.warc_text.proofs.Fronts.{fronts}
-use Rattle.warc_scan.specs.Stops.{NoneStands}
+use Rattle.warc_scan.specs.OpenValues.{IsPartOfDigest}
+use Rattle.warc_scan.specs.Stops.{NoValueStands}
 use Rattle.warc_scan.specs.declared.stop.Stop.TheVariants.{Open, Wrong}
 use Rattle.warc_scan.proofs.Refusals.{IsTold, wrong_is_not_open}
 use Rattle.warc_scan.proofs.Samples.{some_digest_is}
 
 -- bytes that are too few
-pub open_digest : (bytes : List ℕ) → length bytes < 32 → NoneStands IsDigest base32 Open bytes
+pub open_digest : (bytes : List ℕ) → length bytes < 32 → NoValueStands IsDigest base32 IsPartOfDigest Open bytes
 open_digest bytes short = record {
   refuses = λ digest is after other e. omega (arith, length-digest_text digest is);
   line = tt;
-  ends = λ is. (
-    sha1 [],
-    some_digest_is,
-    record {
-      given = [];
-      part = bytes;
-      behind = base32 (sha1 []);
-      begins = refl;
-      composed = refl;
-      value = inl (omega arith);
-    },
-  );
+  ends = λ is. (sha1 [], some_digest_is, inr (short, omega (arith, length-digest_text (sha1 []) some_digest_is)));
 }
 
 -- enough of them, which are no digest's text
-pub no_digest : (bytes text : List ℕ) → 32 ≤ length bytes → text ≡ take 32 bytes → ¬ IsDigestText text → NoneStands IsDigest base32 Wrong bytes
+pub no_digest : (bytes text : List ℕ) → 32 ≤ length bytes → text ≡ take 32 bytes → ¬ IsDigestText text → NoValueStands IsDigest base32 IsPartOfDigest Wrong bytes
 no_digest bytes text long front none = record {
   refuses = λ digest is after other e.
       let read : text ≡ base32 digest =

@@ -1,9 +1,16 @@
 -- What a `?` hands out.
-use Rattle.std.proofs.Common.{◌≡◌, sym, subst}
-use Rattle.std.specs.Prelude.{Result, Ok, Err, IfErr, IsErrAnd}
+use Rattle.std.proofs.Common.{◌≡◌, sym, subst, ◌∙◌}
+use Rattle.std.specs.Prelude.{Result, Ok, Err, IfErr, IsErrAnd, IsErrOf}
 use Rattle.warc_scan.specs.declared.stop.Stop.{Stop}
+use Rattle.warc_scan.specs.declared.stop.Stop.TheVariants.{Open}
+use Rattle.warc_scan.proofs.StopLaws.{same_stop}
 
 -- where the stop that came is handed out, what is known of it is known of the answer
 pub at_exit : {T : Type 0} (P : Stop → Type 0) (stop : Stop) (r : Result T Stop) → IsErrAnd r (λ y. y ≡ stop) → P stop → IfErr r P
 at_exit P stop (Ok x) is p = absurd is
 at_exit P stop (Err y) is p = subst P (sym is) p
+
+-- and what is known where it was that the bytes end inside a text
+pub at_open_exit : {T : Type 0} (P : Type 0) (stop : Stop) (r : Result T Stop) → IsErrAnd r (λ y. y ≡ stop) → (stop ≡ Open → P) → IsErrOf r Open → P
+at_open_exit {T} P stop (Ok x) is p e = absurd is
+at_open_exit {T} P stop (Err y) is p e = p (sym is ∙ same_stop T y Open e)

@@ -1,21 +1,18 @@
 -- A group is refused where one of its parts is, and why more is asked for.
-use Rattle.std.proofs.Common.{◌≡◌, ℕ, ◌+◌, ◌-◌, ◌<◌, ◌≤◌, ◌^◌, false, List, [], ◌++◌, length, take, Some, None, length-append, append_assoc, append-nil, refl, sym, ap, subst, ◌∙◌, arith}
-use Rattle.std.specs.Prelude.{Option, IfSome}
+use Rattle.std.proofs.Common.{◌≡◌, ℕ, ◌-◌, ◌<◌, ◌≤◌, ◌^◌, inl, inr, List, ◌++◌, length, take, length-append, append_assoc, refl, sym, ap, subst, ◌∙◌, arith}
 use Rattle.std.proofs.lemmas.List.{take_at}
 use Rattle.capture.specs.Captures.{taken_back}
-use Rattle.capture.specs.declared.captured.Taken.{Taken}
-use Rattle.warc_text.specs.Groups.{answer_block, answer_cut}
+use Rattle.warc_text.specs.Groups.{answer_block}
 use Rattle.warc_text.specs.Ids.{id_of}
 use Rattle.warc_text.specs.Lines.{ended, length_lines, record_end}
-use Rattle.warc_text.specs.Records.{group_text, request_opening}
-use Rattle.warc_text.specs.References.{Reference}
+use Rattle.warc_text.specs.Records.{request_opening}
 use Rattle.warc_text.specs.declared.id.IdKind.TheVariants as ids
-use Rattle.warc_scan.specs.Asking.{AsksByStop, EndsInOpening, HasOpenings}
+use Rattle.warc_scan.specs.Asking.{AsksByStop, second_opening}
 use Rattle.warc_scan.specs.Blocks.{AsksForBlock, RefusesBlock}
 use Rattle.warc_scan.specs.Founds.{IsFoundIn}
 use Rattle.warc_scan.specs.Groups.{IsGroup, reference_in}
 use Rattle.warc_scan.specs.Openings.{IsOpening, Opening, opening_of, opening_text}
-use Rattle.warc_scan.specs.Stops.{Differs, EndsInside, Leaves, NoneStands, Refuses}
+use Rattle.warc_scan.specs.Stops.{Differs, Leaves, NoneStands, Refuses}
 use Rattle.warc_scan.specs.declared.group.Group.{Group}
 use Rattle.warc_scan.specs.declared.scan_group.Found.{Found}
 use Rattle.warc_scan.specs.declared.stop.Stop.{Stop}
@@ -23,7 +20,7 @@ use Rattle.warc_scan.specs.declared.stop.Stop.TheVariants.{Open, Until, Wrong, M
 use Rattle.warc_scan.proofs.BlockTold.{block_told}
 use Rattle.warc_scan.proofs.GroupParts.{group_is, opening_in, opening_is_right}
 use Rattle.warc_scan.proofs.OpeningTold.{opening_told}
-use Rattle.warc_scan.proofs.Refusals.{ends_behind, ends_more, refuses_behind, refuses_more}
+use Rattle.warc_scan.proofs.Refusals.{refuses_behind, refuses_more}
 
 -- the front that is left before a rest
 pub front_taken : (bytes front rest : List ℕ) → bytes ≡ front ++ rest → take (length bytes - length rest) bytes ≡ front
@@ -42,42 +39,8 @@ rest_fits bytes front rest e = omega (arith, ap length e, length-append front re
 abbrev pub first_text : List ℕ → ℕ → Opening → List ℕ → List ℕ
 first_text namespace number o block = opening_text (id_of namespace ids.Response number) o ++ ended block
 
-abbrev pub second_opening : List ℕ → ℕ → Opening → List ℕ
-second_opening namespace number o = request_opening (id_of namespace ids.Request number) (id_of namespace ids.Response number) o.date o.uri
-
 abbrev pub whole_text : List ℕ → ℕ → Opening → List ℕ → List ℕ → List ℕ
 whole_text namespace number o block request = first_text namespace number o block ++ (second_opening namespace number o ++ ended request)
-
--- a capture that has them
-abbrev taken_with : Opening → List ℕ → List ℕ → Taken
-taken_with o block request =
-    record { method = []; uri = o.uri; date = o.date; request = request; head = block; wire = []; cut = o.cut }
-
-block_with : (o : Opening) (block request : List ℕ) (same : Option Reference) → answer_block (taken_with o block request) same ≡ block
-block_with o block request None = append-nil block
-block_with o block request (Some reference) = refl
-
-cut_with : (o : Opening) (block request : List ℕ) (same : Option Reference) → IfSome same (λ reference. o.cut ≡ false)
-    → answer_cut (taken_with o block request) same ≡ o.cut
-cut_with o block request None whole = refl
-cut_with o block request (Some reference) whole = sym whole
-
-opening_with : (o : Opening) (block request : List ℕ) → IsOpening o → opening_in (taken_with o block request) o.digest o.same ≡ o
-opening_with o block request is =
-    let cuts = cut_with o block request o.same is.whole in
-    λ i. record { date = o.date; uri = o.uri; digest = o.digest; cut = cuts i; same = o.same }
-
-pub sample_is : (namespace : List ℕ) (number : ℕ) (o : Opening) (block request : List ℕ) → IsOpening o
-    → HasOpenings namespace number (whole_text namespace number o block request)
-sample_is namespace number o block request is =
-    let taken = taken_with o block request in
-    let blocks = block_with o block request o.same in
-    let openings = opening_with o block request is in
-    let text : group_text namespace number taken o.digest o.same ≡ whole_text namespace number o block request =
-    group_is namespace number taken o.digest o.same
-    ∙ ap (λ (p : Opening). first_text namespace number p (answer_block taken o.same) ++ (second_opening namespace number o ++ ended request)) openings
-    ∙ ap (λ (b : List ℕ). first_text namespace number o b ++ (second_opening namespace number o ++ ended request)) blocks in
-    record { taken = taken; digest = o.digest; same = o.same; opening = is; composed = sym text }
 
 -- the parts of a group's text
 pub record Parts (namespace : List ℕ) (number : ℕ) (text : List ℕ) : Type 0 where
@@ -130,22 +93,10 @@ module _ (namespace : List ℕ) (number : ℕ) where
       (refuses_more stop bytes (opening_text (id_of namespace ids.Response number) parts.opening) (ended parts.block)
       (none.refuses parts.opening parts.right)))
 
-  ends_in : (o : Opening) (block request bytes : List ℕ) → IsOpening o → EndsInside (whole_text namespace number o block request) bytes
-      → EndsInOpening namespace number bytes (length bytes + 1)
-  ends_in o block request bytes is ends = record {
-    text = whole_text namespace number o block request;
-    is = sample_is namespace number o block request is;
-    ends = ends;
-    one_more = refl;
-  }
-
   pub opening_asks : (bytes : List ℕ) (stop : Stop) → NoneStands IsOpening (opening_text (id_of namespace ids.Response number)) stop bytes
       → AsksByStop namespace number bytes stop
   opening_asks bytes Open none =
-      let some = none.ends refl in
-      ends_in some.0 [] [] bytes some.1
-      (ends_more (first_text namespace number some.0 []) (second_opening namespace number some.0 ++ ended []) bytes
-      (ends_more (opening_text (id_of namespace ids.Response number) some.0) (ended []) bytes some.2))
+      let some = none.ends refl in (inl (record { o = some.0; right = some.1; ends = some.2 }), refl)
   opening_asks bytes (Until n) none = absurd none.line
   opening_asks bytes Wrong none = tt
   opening_asks bytes Memory none = tt
@@ -185,16 +136,26 @@ module _ (namespace : List ℕ) (number : ℕ) where
 
   pub block_asks : (bytes : List ℕ) (stop : Stop) (o : Opening) → IsOpening o
       → AsksForBlock (opening_text (id_of namespace ids.Response number) o) bytes stop → AsksByStop namespace number bytes stop
-  block_asks bytes Open o is asks =
-      ends_in o asks.0 [] bytes is (ends_more (first_text namespace number o asks.0) (second_opening namespace number o ++ ended []) bytes asks.1)
+  block_asks bytes Open o is asks = (
+    inr (inr (record {
+      o = o;
+      before = opening_text (id_of namespace ids.Response number) o;
+      len = asks.0;
+      come = asks.1;
+      right = is;
+      is_before = inl refl;
+      word = asks.2;
+      composed = asks.3;
+      ends = asks.4;
+    })),
+    refl,
+  )
   block_asks bytes (Until n) o is asks = record {
+    o = o;
     before = opening_text (id_of namespace ids.Response number) o;
-    block = asks.block;
-    behind = second_opening namespace number o ++ ended [];
-    come = asks.come;
-    is = sample_is namespace number o asks.block [] is;
-    composed = asks.composed;
-    whole = asks.whole;
+    right = is;
+    is_before = inl refl;
+    block = asks;
   }
   block_asks bytes Wrong o is asks = tt
   block_asks bytes Memory o is asks = tt
@@ -242,9 +203,10 @@ module _ (namespace : List ℕ) (number : ℕ) where
   pub second_opening_asks : (bytes rest : List ℕ) (stop : Stop) (o : Opening) (block : List ℕ) → IsOpening o
       → bytes ≡ first_text namespace number o block ++ rest → Differs stop rest (second_opening namespace number o)
       → AsksByStop namespace number bytes stop
-  second_opening_asks bytes rest Open o block is composed d =
-      ends_in o block [] bytes is (ends_behind bytes (first_text namespace number o block) rest (second_opening namespace number o ++ ended []) composed
-      (ends_more (second_opening namespace number o) (ended []) rest (d.ends refl)))
+  second_opening_asks bytes rest Open o block is composed d = (
+    inr (inl (record { o = o; block = block; come = rest; right = is; composed = composed; begins = d.ends refl })),
+    refl,
+  )
   second_opening_asks bytes rest (Until n) o block is composed d = absurd d.line
   second_opening_asks bytes rest Wrong o block is composed d = tt
   second_opening_asks bytes rest Memory o block is composed d = tt
@@ -269,17 +231,26 @@ module _ (namespace : List ℕ) (number : ℕ) where
 
   pub request_asks : (bytes : List ℕ) (stop : Stop) (o : Opening) (block : List ℕ) → IsOpening o
       → AsksForBlock (before_request o block) bytes stop → AsksByStop namespace number bytes stop
-  request_asks bytes Open o block is asks =
-      ends_in o block asks.0 bytes is (subst (λ t. EndsInside t bytes) (regroup_text o block asks.0) asks.1)
+  request_asks bytes Open o block is asks = (
+    inr (inr (record {
+      o = o;
+      before = before_request o block;
+      len = asks.0;
+      come = asks.1;
+      right = is;
+      is_before = inr (record { block = block; composed = refl });
+      word = asks.2;
+      composed = asks.3;
+      ends = asks.4;
+    })),
+    refl,
+  )
   request_asks bytes (Until n) o block is asks = record {
+    o = o;
     before = before_request o block;
-    block = asks.block;
-    behind = [];
-    come = asks.come;
-    is = subst (HasOpenings namespace number) (sym (append-nil (before_request o block ++ ended asks.block) ∙ regroup_text o block asks.block))
-        (sample_is namespace number o block asks.block is);
-    composed = asks.composed;
-    whole = asks.whole;
+    right = is;
+    is_before = inr (record { block = block; composed = refl });
+    block = asks;
   }
   request_asks bytes Wrong o block is asks = tt
   request_asks bytes Memory o block is asks = tt

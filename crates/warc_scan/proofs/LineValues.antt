@@ -1,12 +1,12 @@
 -- Values that are one line each, at the front of bytes.
-use Rattle.std.proofs.Common.{◌≡◌, ℕ, suc, ◌≤◌, List, [], ◌∷◌, ◌++◌, length, length-append, drop, get_or, append_assoc, refl, sym, ap, subst, ◌∙◌, arith}
+use Rattle.std.proofs.Common.{◌≡◌, ℕ, suc, ◌≤◌, List, [], ◌∷◌, ◌++◌, length, length-append, drop, get_or, append_assoc, inl, inr, refl, sym, ap, subst, ◌∙◌, arith}
 use Rattle.httparse.specs.Ascii.{crlf_bytes}
 use Rattle.warc_text.specs.Groups.{IsOneLine}
 use Rattle.warc_scan.specs.SplitLines.{IsSplitLine}
-use Rattle.warc_scan.specs.Stops.{Differs, IsOpenValue, Leaves, NoneStands}
+use Rattle.warc_scan.specs.Stops.{Differs, Leaves, NoValueStands}
 use Rattle.warc_scan.specs.declared.stop.Stop.{Stop}
 use Rattle.warc_scan.specs.declared.stop.Stop.TheVariants.{Open, Wrong}
-use Rattle.warc_scan.proofs.Refusals.{ends_behind, leaves_behind, wrong_is_not_open}
+use Rattle.warc_scan.proofs.Refusals.{begins_behind, leaves_behind, wrong_is_not_open}
 
 -- of two texts that end at a line's end
 pub until_return : (u v x y : List ℕ) → IsOneLine u → IsOneLine v → u ++ (13 ∷ x) ≡ v ++ (13 ∷ y) → (u ≡ v) × (x ≡ y)
@@ -30,26 +30,15 @@ inside_line (b ∷ bytes) (c ∷ line) after other one e =
 pub ended_line : (line other : List ℕ) → (line ++ crlf_bytes) ++ other ≡ line ++ (13 ∷ (10 ∷ other))
 ended_line line other = append_assoc line crlf_bytes other
 
-module _ {V : Type 0} (Is : V → Type 0) (text : V → List ℕ) (one : (v : V) → Is v → IsOneLine (text v)) (bytes : List ℕ) where
+module _ {V : Type 0} (Is : V → Type 0) (text : V → List ℕ) (IsPart : List ℕ → Type 0) (one : (v : V) → Is v → IsOneLine (text v)) (bytes : List ℕ) where
   -- no line's end has come
-  pub open_line : (v : V) → Is v → IsOneLine bytes → IsOpenValue bytes → NoneStands Is (λ v. text v ++ crlf_bytes) Open bytes
-  open_line v is line value = record {
+  pub open_line : (v : V) → Is v → IsOneLine bytes → IsPart bytes → NoValueStands Is (λ v. text v ++ crlf_bytes) IsPart Open bytes
+  open_line v is line part = record {
     refuses = λ w was after other e.
         let inside = inside_line bytes (text w) after (10 ∷ other) line (e ∙ ended_line (text w) other) in
         omega (arith, inside, length-append (text w) crlf_bytes);
     line = tt;
-    ends = λ open_. (
-      v,
-      is,
-      record {
-        given = [];
-        part = bytes;
-        behind = text v ++ crlf_bytes;
-        begins = refl;
-        composed = refl;
-        value = value;
-      },
-    );
+    ends = λ open_. (v, is, inr (part, omega (arith, length-append (text v) crlf_bytes)));
   }
 
   -- the line that came, and what stands from its end on
@@ -63,7 +52,7 @@ module _ {V : Type 0} (Is : V → Type 0) (text : V → List ℕ) (one : (v : V)
       (parts.0, ap (λ t. t ++ after) split.ends ∙ ap (λ t. 13 ∷ t) parts.1)
 
   -- a line that is no value's
-  pub other_line : (line behind : List ℕ) → IsSplitLine bytes line behind → ((v : V) → Is v → ¬ (line ≡ text v)) → NoneStands Is (λ v. text v ++ crlf_bytes) Wrong bytes
+  pub other_line : (line behind : List ℕ) → IsSplitLine bytes line behind → ((v : V) → Is v → ¬ (line ≡ text v)) → NoValueStands Is (λ v. text v ++ crlf_bytes) IsPart Wrong bytes
   other_line line behind split no_text = record {
     refuses = λ w was after other e. no_text w was (same_line line behind split w was after other e).0;
     line = tt;
@@ -71,12 +60,13 @@ module _ {V : Type 0} (Is : V → Type 0) (text : V → List ℕ) (one : (v : V)
   }
 
   -- a value's line, with another end
-  pub other_end : (stop : Stop) (line behind : List ℕ) (v : V) → Is v → line ≡ text v → IsSplitLine bytes line behind → Differs stop behind crlf_bytes → NoneStands Is (λ v. text v ++ crlf_bytes) stop bytes
+  pub other_end : (stop : Stop) (line behind : List ℕ) (v : V) → Is v → line ≡ text v → IsSplitLine bytes line behind → Differs stop behind crlf_bytes
+      → NoValueStands Is (λ v. text v ++ crlf_bytes) IsPart stop bytes
   other_end stop line behind v is e₁ split d = record {
     refuses = λ w was after other e.
         let same = same_line line behind split w was after other e in
         let left : Leaves stop (line ++ behind) (line ++ crlf_bytes) = leaves_behind stop line behind crlf_bytes d.line (d.refuses after other same.1) in
         subst (λ u. Leaves stop bytes (u ++ crlf_bytes)) same.0 (subst (λ t. Leaves stop t (line ++ crlf_bytes)) (sym split.composed) left);
     line = d.line;
-    ends = λ open_. (v, is, ends_behind bytes (text v) behind crlf_bytes (split.composed ∙ ap (λ t. t ++ behind) e₁) (d.ends open_));
+    ends = λ open_. (v, is, inl (begins_behind bytes (text v) behind crlf_bytes (split.composed ∙ ap (λ t. t ++ behind) e₁) (d.ends open_)));
   }

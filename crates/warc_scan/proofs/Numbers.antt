@@ -1,5 +1,5 @@
 -- The decimal of a number of 64 bits, at the front of bytes.
-use Rattle.std.proofs.Common.{◌≡◌, ℕ, true, eqb, ◌^◌, ◌<◌, ◌≤◌, inl, List, [], ◌∷◌, ◌++◌, length, append_assoc, refl, sym, ap, ◌∙◌, arith}
+use Rattle.std.proofs.Common.{◌≡◌, ℕ, true, eqb, ◌^◌, ◌<◌, ◌≤◌, List, [], ◌∷◌, ◌++◌, length, append_assoc, refl, sym, ap, ◌∙◌, arith}
 use Rattle.std.specs.Prelude.{decimal}
 use Rattle.std.specs.Cmp.Lexicographic.{pointwise}
 use Rattle.std.proofs.lemmas.Bool.{eq-eqb}
@@ -10,7 +10,8 @@ use Rattle.warc_text.specs.Lines.{field}
 use Rattle.warc_text.proofs.Fronts.{field_front}
 use Rattle.warc_scan.specs.Blocks.{IsWord}
 use Rattle.warc_scan.specs.SplitLines.{IsSplitLine}
-use Rattle.warc_scan.specs.Stops.{Differs, NoneStands}
+use Rattle.warc_scan.specs.OpenValues.{IsPartOfNumber}
+use Rattle.warc_scan.specs.Stops.{Differs, NoValueStands}
 use Rattle.warc_scan.specs.declared.stop.Stop.{Stop}
 use Rattle.warc_scan.specs.declared.stop.Stop.TheVariants.{Open, Wrong}
 use Rattle.warc_scan.proofs.BlockTold.{number_is_one_line}
@@ -32,11 +33,11 @@ abbrev pub number_line : ℕ → List ℕ
 number_line n = decimal n ++ crlf_bytes
 
 -- no line's end has come: so few bytes may be a number's first digits
-pub open_number : (bytes : List ℕ) → length bytes ≤ 20 → IsOneLine bytes → NoneStands IsWord number_line Open bytes
-open_number bytes few one = open_line IsWord decimal number_is_one_line bytes 0 (omega arith) one (inl (omega arith))
+pub open_number : (bytes : List ℕ) → length bytes ≤ 20 → IsOneLine bytes → NoValueStands IsWord number_line IsPartOfNumber Open bytes
+open_number bytes few one = open_line IsWord decimal IsPartOfNumber number_is_one_line bytes 0 (omega arith) one (few, one)
 
 -- so many aren't
-pub long_number : (bytes : List ℕ) → 20 < length bytes → IsOneLine bytes → NoneStands IsWord number_line Wrong bytes
+pub long_number : (bytes : List ℕ) → 20 < length bytes → IsOneLine bytes → NoValueStands IsWord number_line IsPartOfNumber Wrong bytes
 long_number bytes many one = record {
   refuses = λ n small after other e.
       let inside = inside_line bytes (decimal n) after (10 ∷ other) one (e ∙ ended_line (decimal n) other) in
@@ -47,13 +48,13 @@ long_number bytes many one = record {
 }
 
 -- a line that is no number's
-pub no_number : (bytes line behind : List ℕ) → IsSplitLine bytes line behind → ((n : ℕ) → IsWord n → ¬ (line ≡ decimal n)) → NoneStands IsWord number_line Wrong bytes
-no_number bytes line behind split other = other_line IsWord decimal number_is_one_line bytes line behind split other
+pub no_number : (bytes line behind : List ℕ) → IsSplitLine bytes line behind → ((n : ℕ) → IsWord n → ¬ (line ≡ decimal n)) → NoValueStands IsWord number_line IsPartOfNumber Wrong bytes
+no_number bytes line behind split other = other_line IsWord decimal IsPartOfNumber number_is_one_line bytes line behind split other
 
 -- a number with another line's end
 pub number_ends : (stop : Stop) (bytes line behind : List ℕ) (n : ℕ) → IsWord n → line ≡ decimal n → IsSplitLine bytes line behind → Differs stop behind crlf_bytes
-    → NoneStands IsWord number_line stop bytes
-number_ends stop bytes line behind n small e split d = other_end IsWord decimal number_is_one_line bytes stop line behind n small e split d
+    → NoValueStands IsWord number_line IsPartOfNumber stop bytes
+number_ends stop bytes line behind n small e split d = other_end IsWord decimal IsPartOfNumber number_is_one_line bytes stop line behind n small e split d
 
 -- a number that stands
 pub number_stands : (bytes line behind rest : List ℕ) (n : ℕ) → line ≡ decimal n → IsSplitLine bytes line behind → behind ≡ crlf_bytes ++ rest

@@ -1,5 +1,5 @@
 -- The openings of responses and of revisits, at the front of bytes whose kind is known.
-use Rattle.std.proofs.Common.{◌≡◌, ℕ, ◌<◌, inl, Bool, false, List, [], ◌++◌, length, length-append, append_assoc, get_or, drop, Some, None, refl, sym, ap, subst, ◌∙◌, arith}
+use Rattle.std.proofs.Common.{◌≡◌, ℕ, ◌<◌, inl, Bool, false, List, [], ◌∷◌, ◌++◌, length, length-append, append_assoc, get_or, drop, Some, None, refl, sym, ap, subst, ◌∙◌, arith}
 use Rattle.std.specs.Prelude.{Option, IfSome, codes}
 use Rattle.std.proofs.Math.ListN.{get_or-append}
 use Rattle.sha1.specs.Sha1.{sha1}
@@ -20,7 +20,7 @@ use Rattle.warc_scan.specs.declared.stop.Stop.TheVariants.{Open, Wrong}
 use Rattle.warc_scan.proofs.CommonFronts.{Common, common, common_told, values_refused}
 use Rattle.warc_scan.proofs.CutLines.{IsCut, cut_text}
 use Rattle.warc_scan.proofs.Pieces.{two}
-use Rattle.warc_scan.proofs.Refusals.{ends_more, refuses_more, same_behind, wrong_is_not_open}
+use Rattle.warc_scan.proofs.Refusals.{begins_ends, ends_more, refuses_more, same_behind, wrong_is_not_open}
 use Rattle.warc_scan.proofs.Samples.{opening_with, some_digest_is, some_id_is, some_target, some_target_is}
 use Rattle.warc_scan.proofs.Values.{Both, both_texts, first_refused, second_refused}
 
@@ -61,8 +61,12 @@ front_refused id stop bytes d = record {
   line = d.line;
   ends = λ open_.
       let o = opening_with 0 some_target (sha1 []) in
-      (o, some_opening_is, subst (λ t. EndsInside t bytes) (sym (begins id o None)) (ends_more kind_front (drop 23 (opening_by id o None)) bytes (d.ends open_)));
+      (o, some_opening_is, subst (λ t. EndsInside t bytes) (sym (begins id o None)) (ends_more kind_front (drop 23 (opening_by id o None)) bytes (begins_ends kind_front bytes (d.ends open_))));
 }
+
+empty : (bytes : List ℕ) → length bytes ≡ 0 → bytes ≡ []
+empty [] none = refl
+empty (b ∷ bytes) none = absurd (omega (arith, none))
 
 -- which end there
 pub front_ends : (id bytes letter : List ℕ) → bytes ≡ kind_front ++ letter → length letter ≡ 0 → NoneStands IsOpening (opening_text id) Open bytes
@@ -79,8 +83,9 @@ front_ends id bytes letter e none = record {
           part = letter;
           behind = drop 23 (opening_by id o None);
           begins = begins id o None;
+          more = goes_on id o None;
           composed = e;
-          value = inl (omega (arith, none));
+          value = inl (empty letter none);
         },
       );
 }

@@ -1,9 +1,10 @@
 -- Texts of several pieces, one after another.
-use Rattle.std.proofs.Common.{◌≡◌, ℕ, List, ◌++◌, take, drop, append_assoc, sym, ap, ◌∙◌}
+use Rattle.std.proofs.Common.{◌≡◌, ℕ, List, [], ◌++◌, take, drop, append_assoc, sym, ap, ◌∙◌}
 use Rattle.std.proofs.lemmas.List.{take-append-drop}
-use Rattle.warc_scan.specs.Stops.{Differs, NoneStands}
+use Rattle.warc_scan.specs.OpenValues.{IsPartBehind}
+use Rattle.warc_scan.specs.Stops.{Differs, NoneStands, NoValueStands}
 use Rattle.warc_scan.specs.declared.stop.Stop.{Stop}
-use Rattle.warc_scan.proofs.Refusals.{differs_more, differs_behind, none_more, none_first, none_behind, none_after, same_behind, IsTold}
+use Rattle.warc_scan.proofs.Refusals.{at_mark, differs_more, differs_behind, none_more, none_first, none_at, none_after, same_behind, IsTold}
 
 -- ---- pieces that stand
 
@@ -65,8 +66,9 @@ module _ {V : Type 0} (Is : V → Type 0) (text : V → List ℕ) (stop : Stop) 
   pub before_value : (v : V) → Is v → Differs stop bytes a → NoneStands Is (λ v. a ++ text v ++ b) stop bytes
   before_value v is d = none_more Is (λ v. a ++ text v) stop bytes b (none_first Is text stop bytes a v is d)
 
-  pub at_value : (r : List ℕ) → bytes ≡ a ++ r → NoneStands Is text stop r → NoneStands Is (λ v. a ++ text v ++ b) stop bytes
-  at_value r e₁ none = none_more Is (λ v. a ++ text v) stop bytes b (none_behind Is text stop bytes a r e₁ none)
+  pub at_value : (IsPart : List ℕ → Type 0) (r : List ℕ) → (IsPart r → IsPartBehind a r) → bytes ≡ a ++ r → NoValueStands Is text IsPart stop r
+      → NoneStands Is (λ v. a ++ text v ++ b) stop bytes
+  at_value IsPart r fits e₁ none = none_more Is (λ v. a ++ text v) stop bytes b (none_at Is text IsPart stop bytes a r (λ part. at_mark [] a r (fits part)) e₁ none)
 
   pub behind_value : (r s : List ℕ) (v : V) → Is v → IsTold Is text v → bytes ≡ a ++ r → r ≡ text v ++ s → Differs stop s b
       → NoneStands Is (λ v. a ++ text v ++ b) stop bytes

@@ -15,7 +15,7 @@ use Rattle.warc_text.specs.Records.{answer_text, group_text}
 use Rattle.warc_text.specs.References.{Reference}
 use Rattle.warc_text.specs.declared.id.IdKind.TheVariants as ids
 use Rattle.warc_text.proofs.Fronts.{fronts}
-use Rattle.warc_scan.specs.Asking.{AsksByStop}
+use Rattle.warc_scan.specs.Asking.{AsksByStop, second_opening}
 use Rattle.warc_scan.specs.Founds.{IsFound, IsFoundIn, IsGroupIn, first_record, second_record}
 use Rattle.warc_scan.specs.Groups.{IsAnswer, IsGroup, reference_in}
 use Rattle.warc_scan.specs.Openings.{Opening, opening_of, opening_text}
@@ -26,7 +26,7 @@ use Rattle.warc_scan.specs.declared.scan_group.Found.{Found}
 use Rattle.warc_scan.specs.declared.stop.Stop.{Stop}
 use Rattle.warc_scan.specs.declared.stop.Stop.TheVariants.{Open, Until, Wrong, Memory}
 use Rattle.warc_scan.proofs.BlockTold.{block_told}
-use Rattle.warc_scan.proofs.FindLaws.{FirstStands, first_stands, first_text, parts_of, second_opening, whole_text}
+use Rattle.warc_scan.proofs.FindLaws.{FirstStands, first_stands, first_text, parts_of, whole_text}
 use Rattle.warc_scan.proofs.FoundLaws.{block_by, cut_by}
 use Rattle.warc_scan.proofs.GroupParts.{first_record_is, group_is, opening_in}
 

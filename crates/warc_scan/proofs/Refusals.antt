@@ -1,8 +1,9 @@
 -- Texts that are refused, with more before them or behind them.
-use Rattle.std.proofs.Common.{◌≡◌, ℕ, ◌<◌, ◌≤◌, inl, List, [], ◌++◌, length, take, drop, length-append, append_assoc, refl, sym, ap, subst, ◌∙◌, arith}
+use Rattle.std.proofs.Common.{◌≡◌, ◌⊎◌, ℕ, ◌<◌, ◌≤◌, inl, inr, List, [], ◌++◌, length, take, drop, length-append, append_assoc, refl, sym, ap, subst, ◌∙◌, arith}
 use Rattle.std.proofs.lemmas.List.{take_at, take-append-le, append-nil, take-append-drop}
 use Rattle.warc_text.proofs.Fronts.{fronts}
-use Rattle.warc_scan.specs.Stops.{Leaves, Refuses, IsLineStop, EndsInside, Differs, NoneStands}
+use Rattle.warc_scan.specs.OpenValues.{IsOpenValue, IsPartBehind}
+use Rattle.warc_scan.specs.Stops.{Begins, Leaves, Refuses, IsLineStop, EndsInside, Differs, NoneStands, NoValueStands}
 use Rattle.warc_scan.specs.declared.stop.Stop.{Stop}
 use Rattle.warc_scan.specs.declared.stop.Stop.TheVariants.{Open, Until, Wrong, Memory}
 
@@ -17,12 +18,32 @@ leaves_more Memory bytes a b left = tt
 pub refuses_more : (stop : Stop) (bytes a b : List ℕ) → Refuses stop bytes a → Refuses stop bytes (a ++ b)
 refuses_more stop bytes a b refused = λ after other e. leaves_more stop bytes a b (refused after (b ++ other) (e ∙ append_assoc a b other))
 
+pub begins_more : (a b bytes : List ℕ) → Begins a bytes → Begins (a ++ b) bytes
+begins_more a b bytes is = record {
+  behind = is.behind ++ b;
+  composed = ap (λ t. t ++ b) is.composed ∙ append_assoc bytes is.behind b;
+  more = omega (arith, length-append is.behind b, is.more);
+}
+
+-- bytes that a text begins with end inside it
+pub begins_ends : (text bytes : List ℕ) → Begins text bytes → EndsInside text bytes
+begins_ends text bytes is = record {
+  given = bytes;
+  part = [];
+  behind = is.behind;
+  begins = is.composed;
+  more = is.more;
+  composed = sym (append-nil bytes);
+  value = inl refl;
+}
+
 pub ends_more : (a b bytes : List ℕ) → EndsInside a bytes → EndsInside (a ++ b) bytes
 ends_more a b bytes ends = record {
   given = ends.given;
   part = ends.part;
   behind = ends.behind ++ b;
   begins = ap (λ t. t ++ b) ends.begins ∙ append_assoc ends.given ends.behind b;
+  more = omega (arith, length-append ends.behind b, ends.more);
   composed = ends.composed;
   value = ends.value;
 }
@@ -31,7 +52,7 @@ pub differs_more : (stop : Stop) (bytes a b : List ℕ) → Differs stop bytes a
 differs_more stop bytes a b d = record {
   refuses = refuses_more stop bytes a b d.refuses;
   line = d.line;
-  ends = λ is. ends_more a b bytes (d.ends is);
+  ends = λ is. begins_more a b bytes (d.ends is);
 }
 
 -- ---- a text behind a front that stands
@@ -51,21 +72,38 @@ refuses_behind stop bytes front rest line is composed refused =
     subst (λ b. Refuses stop b (front ++ line)) (sym composed)
     (λ after other e. leaves_behind stop front rest line is (refused after other (same_behind front rest line after other e)))
 
+pub begins_behind : (bytes front rest line : List ℕ) → bytes ≡ front ++ rest → Begins line rest → Begins (front ++ line) bytes
+begins_behind bytes front rest line composed is = record {
+  behind = is.behind;
+  composed = ap (λ t. front ++ t) is.composed ∙ sym (append_assoc front rest is.behind) ∙ ap (λ t. t ++ is.behind) (sym composed);
+  more = is.more;
+}
+
+open_behind : (front given part : List ℕ) → (part ≡ []) ⊎ IsOpenValue given part → (part ≡ []) ⊎ IsOpenValue (front ++ given) part
+open_behind front given part (inl none) = inl none
+open_behind front given part (inr open_) = inr (record {
+  before = front ++ open_.before;
+  mark = open_.mark;
+  ends = ap (λ t. front ++ t) open_.ends ∙ sym (append_assoc front open_.before open_.mark);
+  value = open_.value;
+})
+
 pub ends_behind : (bytes front rest line : List ℕ) → bytes ≡ front ++ rest → EndsInside line rest → EndsInside (front ++ line) bytes
 ends_behind bytes front rest line composed ends = record {
   given = front ++ ends.given;
   part = ends.part;
   behind = ends.behind;
   begins = ap (λ t. front ++ t) ends.begins ∙ sym (append_assoc front ends.given ends.behind);
+  more = ends.more;
   composed = composed ∙ ap (λ t. front ++ t) ends.composed ∙ sym (append_assoc front ends.given ends.part);
-  value = ends.value;
+  value = open_behind front ends.given ends.part ends.value;
 }
 
 pub differs_behind : (stop : Stop) (bytes front rest line : List ℕ) → bytes ≡ front ++ rest → Differs stop rest line → Differs stop bytes (front ++ line)
 differs_behind stop bytes front rest line composed d = record {
   refuses = refuses_behind stop bytes front rest line d.line composed d.refuses;
   line = d.line;
-  ends = λ is. ends_behind bytes front rest line composed (d.ends is);
+  ends = λ is. begins_behind bytes front rest line composed (d.ends is);
 }
 
 -- ---- one text
@@ -73,7 +111,7 @@ differs_behind stop bytes front rest line composed d = record {
 pub wrong_is_not_open : (stop other : Stop) → stop ≡ Wrong → other ≡ Open → stop ≡ other → ⊥
 wrong_is_not_open stop other p q e = cc
 
-memory_is_not_open : (stop other : Stop) → stop ≡ Memory → other ≡ Open → stop ≡ other → ⊥
+pub memory_is_not_open : (stop other : Stop) → stop ≡ Memory → other ≡ Open → stop ≡ other → ⊥
 memory_is_not_open stop other p q e = cc
 
 -- bytes that aren't the front of the text
@@ -89,18 +127,18 @@ other_text bytes text fits other = λ after more e.
 pub differs_wrong : (bytes text : List ℕ) → Refuses Wrong bytes text → Differs Wrong bytes text
 differs_wrong bytes text refused = record { refuses = refused; line = tt; ends = λ is. absurd (wrong_is_not_open Wrong Open refl refl is) }
 
+front_stands : (bytes text : List ℕ) → take (length bytes) text ≡ bytes → text ≡ bytes ++ drop (length bytes) text
+front_stands bytes text front = sym (take-append-drop (length bytes) text) ∙ ap (λ t. t ++ drop (length bytes) text) front
+
 -- bytes that are the front of the text
 pub differs_open : (bytes text : List ℕ) → length bytes < length text → take (length bytes) text ≡ bytes → Differs Open bytes text
 differs_open bytes text short front = record {
   refuses = λ after other e. short;
   line = tt;
   ends = λ is. record {
-    given = bytes;
-    part = [];
     behind = drop (length bytes) text;
-    begins = sym (take-append-drop (length bytes) text) ∙ ap (λ t. t ++ drop (length bytes) text) front;
-    composed = sym (append-nil bytes);
-    value = inl (omega arith);
+    composed = front_stands bytes text front;
+    more = omega (arith, short, ap length (front_stands bytes text front), length-append bytes (drop (length bytes) text));
   };
 }
 
@@ -137,7 +175,7 @@ module _ {V : Type 0} (Is : V → Type 0) (text : V → List ℕ) (stop : Stop) 
   none_first a v is d = record {
     refuses = λ w _. refuses_more stop bytes a (text w) d.refuses;
     line = d.line;
-    ends = λ open_. (v, is, ends_more a (text v) bytes (d.ends open_));
+    ends = λ open_. (v, is, ends_more a (text v) bytes (begins_ends a bytes (d.ends open_)));
   }
 
   -- behind a text that stands
@@ -163,5 +201,38 @@ none_after Is text stop bytes b rest v is told composed d = record {
       let left : Leaves stop (text v ++ rest) (text v ++ b) = leaves_behind stop (text v) rest b d.line (d.refuses after other same.1) in
       subst (λ u. Leaves stop bytes (text u ++ b)) same.0 (subst (λ t. Leaves stop t (text v ++ b)) (sym composed) left);
   line = d.line;
-  ends = λ open_. (v, is, ends_behind bytes (text v) rest b composed (d.ends open_));
+  ends = λ open_. (v, is, ends_behind bytes (text v) rest b composed (begins_ends b rest (d.ends open_)));
+}
+
+-- ---- values alone
+
+-- what may be a part of a value is one behind its mark
+pub at_mark : (before mark part : List ℕ) → IsPartBehind mark part → IsOpenValue (before ++ mark) part
+at_mark before mark part is = record { before = before; mark = mark; ends = refl; value = is }
+
+part_ends : (a bytes text : List ℕ) → 0 < length text → IsOpenValue a bytes → EndsInside (a ++ text) (a ++ bytes)
+part_ends a bytes text more open_ = record {
+  given = a;
+  part = bytes;
+  behind = text;
+  begins = refl;
+  more = more;
+  composed = refl;
+  value = inr open_;
+}
+
+value_ends : (a bytes text : List ℕ) (IsPart : List ℕ → Type 0) → (IsPart bytes → IsOpenValue a bytes)
+    → Begins text bytes ⊎ (IsPart bytes × (0 < length text)) → EndsInside (a ++ text) (a ++ bytes)
+value_ends a bytes text IsPart fits (inl is) = begins_ends (a ++ text) (a ++ bytes) (begins_behind (a ++ bytes) a bytes text refl is)
+value_ends a bytes text IsPart fits (inr part) = part_ends a bytes text part.1 (fits part.0)
+
+-- values that don't stand, behind their mark
+pub none_at : {V : Type 0} (Is : V → Type 0) (text : V → List ℕ) (IsPart : List ℕ → Type 0) (stop : Stop) (bytes a rest : List ℕ)
+    → (IsPart rest → IsOpenValue a rest) → bytes ≡ a ++ rest → NoValueStands Is text IsPart stop rest → NoneStands Is (λ v. a ++ text v) stop bytes
+none_at Is text IsPart stop bytes a rest fits composed none = record {
+  refuses = λ v is. refuses_behind stop bytes a rest (text v) none.line composed (none.refuses v is);
+  line = none.line;
+  ends = λ open_.
+      let some = none.ends open_ in
+      (some.0, some.1, subst (λ t. EndsInside (a ++ text some.0) t) (sym composed) (value_ends a rest (text some.0) IsPart fits some.2));
 }

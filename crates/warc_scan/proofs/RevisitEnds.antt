@@ -1,19 +1,40 @@
 -- What a revisit says of the record that it refers to, at the front of bytes.
-use Rattle.std.proofs.Common.{◌≡◌, ℕ, List, ◌++◌, refl, arith}
+use Rattle.std.proofs.Common.{◌≡◌, ℕ, List, ◌++◌, append_assoc, refl, sym, ap, ◌∙◌, arith}
+use Rattle.std.specs.Prelude.{codes}
+use Rattle.httparse.specs.Ascii.{crlf_bytes}
 use Rattle.time_text.specs.Texts.{InRange}
-use Rattle.warc_text.specs.Ids.{IsUuid}
-use Rattle.warc_text.specs.Lines.{content_line, profile_lines, refers_date_line, refers_line, refers_target_line}
+use Rattle.warc_text.specs.Ids.{IsUuid, id_text, uuid_text}
+use Rattle.warc_text.specs.Lines.{content_line, field, id_field, profile_lines, refers_date_line, refers_line, refers_target_line}
 use Rattle.warc_text.specs.Records.{refers_to, revisit_end}
 use Rattle.warc_text.specs.References.{Reference}
 use Rattle.warc_text.specs.declared.kind.RecordKind.TheVariants as kinds
+use Rattle.warc_scan.specs.OpenValues.{refers_mark}
 use Rattle.warc_scan.specs.Openings.{IsRevisited, IsTarget}
 use Rattle.warc_scan.specs.Stops.{Differs, NoneStands}
 use Rattle.warc_scan.specs.declared.stop.Stop.{Stop}
 use Rattle.warc_scan.proofs.FieldsTold.{refers_date_told, refers_target_told, refers_told, told_more}
 use Rattle.warc_scan.proofs.Pieces.{three, two}
-use Rattle.warc_scan.proofs.Refusals.{IsTold, none_after, none_more}
+use Rattle.warc_scan.proofs.Refusals.{IsTold, none_after, none_more, none_same}
 use Rattle.warc_scan.proofs.Samples.{some_target, some_target_is}
 use Rattle.warc_scan.proofs.Values.{Both, both_texts, both_told, first_refused, none_of, second_refused}
+
+-- ---- the id
+
+-- as it is read
+abbrev pub read_id_text : List ℕ → List ℕ
+read_id_text id = refers_mark ++ uuid_text id ++ codes ">\r\n"
+
+id_line_is : (id : List ℕ) → read_id_text id ≡ refers_line id
+unfolding refers_line id_field field id_text
+id_line_is id = ap (λ t. refers_mark ++ t) (sym (append_assoc (uuid_text id) (codes ">") crlf_bytes))
+
+pub ids_refused : (stop : Stop) (bytes : List ℕ) → NoneStands IsUuid read_id_text stop bytes → NoneStands IsUuid refers_line stop bytes
+ids_refused stop bytes none = none_same IsUuid read_id_text refers_line stop bytes id_line_is none
+
+pub id_stands : (bytes rest id : List ℕ) → bytes ≡ read_id_text id ++ rest → bytes ≡ refers_line id ++ rest
+id_stands bytes rest id e = e ∙ ap (λ t. t ++ rest) (id_line_is id)
+
+-- ---- the values
 
 -- the id and the target
 abbrev Aimed : List ℕ × List ℕ → Type 0

@@ -1,20 +1,24 @@
 -- What a refusal of all groups says of the rest of a volume.
-use Rattle.std.proofs.Common.{◌≡◌, ℕ, ◌+◌, ◌<◌, ◌≤◌, inl, inr, Bool, false, List, [], ◌++◌, length, length-append, refl, sym, ap, subst, arith}
+use Rattle.std.proofs.Common.{◌≡◌, ℕ, ◌+◌, ◌<◌, ◌≤◌, inl, inr, Bool, true, false, List, [], ◌∷◌, ◌++◌, length, length-append, drop, None, refl, sym, ap, subst, arith}
 use Rattle.sha1.specs.Sha1.{sha1}
 use Rattle.capture.specs.Captures.{taken_back}
-use Rattle.warc_text.specs.Records.{group_text}
-use Rattle.warc_text.specs.StandsFor.{GroupsAreCommitted}
-use Rattle.warc_scan.specs.Asking.{AsksForGroup, IsAsked, IsAskedFor}
+use Rattle.capture.specs.Tails.{IsCommitted, IsTail}
+use Rattle.warc_text.specs.Ids.{id_of}
+use Rattle.warc_text.specs.Lines.{field, opening, type_line, version_line}
+use Rattle.warc_text.specs.Records.{group_text, response_opening}
+use Rattle.warc_text.specs.StandsFor.{GroupsAreCommitted, commit_byte}
+use Rattle.warc_text.specs.declared.id.IdKind.TheVariants as ids
+use Rattle.warc_scan.specs.Asking.{IsAskedFor}
+use Rattle.warc_scan.specs.Fronts.{IsBegun}
 use Rattle.warc_scan.specs.Groups.{IsGroup, reference_in}
-use Rattle.warc_scan.specs.Openings.{IsOpening, Opening}
-use Rattle.warc_scan.specs.Steps.{GroupsReach, HasNoGroup, IsCommittedRest, TellsGroup}
-use Rattle.warc_scan.specs.Stops.{Refuses}
+use Rattle.warc_scan.specs.Openings.{IsOpening, Opening, opening_by}
+use Rattle.warc_scan.specs.Steps.{GroupsReach, HasNoGroup, IsCommittedRest, IsUnfinished, TellsGroup}
+use Rattle.warc_scan.specs.Stops.{Begins, Refuses}
 use Rattle.warc_scan.specs.declared.group.Group.{Group}
-use Rattle.warc_scan.specs.declared.group_step.GroupStep.{GroupStep}
 use Rattle.warc_scan.specs.declared.group_step.GroupStep.TheVariants as group_step
 use Rattle.warc_scan.specs.declared.stop.Stop.{Stop}
 use Rattle.warc_scan.specs.declared.stop.Stop.TheVariants.{Open, Until, Wrong}
-use Rattle.warc_scan.proofs.FindLaws.{sample_is, whole_text}
+use Rattle.warc_scan.proofs.Refusals.{begins_ends}
 use Rattle.warc_scan.proofs.Samples.{opening_with, some_digest_is, some_target, some_target_is}
 
 -- an opening of which there is one
@@ -24,9 +28,52 @@ some_opening = opening_with 0 some_target (sha1 [])
 some_opening_is : IsOpening some_opening
 some_opening_is = record { date_is = omega arith; target = some_target_is; digest_is = some_digest_is; refers = tt; whole = tt }
 
+-- its text
+abbrev some_text : List ℕ → List ℕ
+some_text id = opening_by id some_opening None
+
+some_text_begins : (id : List ℕ) → some_text id ≡ 87 ∷ drop 1 (some_text id)
+unfolding response_opening opening version_line type_line field
+some_text_begins id = refl
+
+some_text_goes_on : (id : List ℕ) → 0 < length (drop 1 (some_text id))
+unfolding response_opening opening version_line type_line field
+some_text_goes_on id = omega arith
+
 -- each group with this number is refused
 abbrev pub RefusesGroups : List ℕ → ℕ → Stop → List ℕ → Type 0
 RefusesGroups namespace number stop bytes = (text : List ℕ) (group : Group) → IsGroup namespace number text group → Refuses stop bytes text
+
+-- ---- what is committed is no tail
+
+apart : (text : List ℕ) → IsCommitted commit_byte text → IsTail commit_byte text → ⊥
+apart text committed tail = elim tail.unfinished [ inl other ↦ other committed.begins | inr one ↦ omega (arith, one, committed.more) ]
+
+pub no_tail : (more : Bool) (bytes : List ℕ) → IsCommittedRest more bytes → ¬ (IsUnfinished more bytes)
+no_tail true bytes committed tail = apart (bytes ++ (0 ∷ [])) (committed (0 ∷ []) (omega arith)) (tail (0 ∷ []) (omega arith))
+no_tail false bytes committed tail = apart (bytes ++ []) (committed [] refl) (tail [] refl)
+
+-- the commit byte and another one may follow
+two_bytes : IsCommitted commit_byte (87 ∷ 87 ∷ [])
+two_bytes = record { begins = refl; more = omega arith }
+
+three_bytes : IsCommitted commit_byte (87 ∷ 87 ∷ 87 ∷ [])
+three_bytes = record { begins = refl; more = omega arith }
+
+pub begun_is_no_tail : (bytes : List ℕ) → IsBegun bytes → ¬ (IsUnfinished true bytes)
+begun_is_no_tail bytes (inl none) tail =
+    apart (87 ∷ 87 ∷ []) two_bytes (subst (λ b. IsTail commit_byte (b ++ (87 ∷ 87 ∷ []))) none (tail (87 ∷ 87 ∷ []) (omega arith)))
+begun_is_no_tail bytes (inr one) tail =
+    apart (87 ∷ 87 ∷ 87 ∷ []) three_bytes (subst (λ b. IsTail commit_byte (b ++ (87 ∷ 87 ∷ []))) one (tail (87 ∷ 87 ∷ []) (omega arith)))
+
+pub begun_is_short : (bytes : List ℕ) → IsBegun bytes → length bytes < 2
+begun_is_short bytes (inl none) = omega (arith, ap length none)
+begun_is_short bytes (inr one) = omega (arith, ap length one)
+
+-- each text that goes on behind the commit byte begins so
+pub begun_begins : (rest bytes : List ℕ) → 0 < length rest → IsBegun bytes → Begins (87 ∷ rest) bytes
+begun_begins rest bytes some (inl none) = record { behind = 87 ∷ rest; composed = ap (λ b. b ++ (87 ∷ rest)) (sym none); more = omega arith }
+begun_begins rest bytes some (inr one) = record { behind = rest; composed = ap (λ b. b ++ rest) (sym one); more = some }
 
 module _ (namespace : List ℕ) (number : ℕ) (bytes : List ℕ) where
   pub wrong_is_damaged : (more : Bool) → RefusesGroups namespace number Wrong bytes → HasNoGroup namespace number more bytes
@@ -37,81 +84,59 @@ module _ (namespace : List ℕ) (number : ℕ) (bytes : List ℕ) where
   fits after text rest none e =
       omega (arith, ap length e, length-append bytes after, length-append text rest, ap length none)
 
-  pub open_is_damaged : RefusesGroups namespace number Open bytes → HasNoGroup namespace number false bytes
+  open_is_damaged : RefusesGroups namespace number Open bytes → HasNoGroup namespace number false bytes
   open_is_damaged refused after group follows begins =
       let longer = refused begins.text group begins.is after begins.rest begins.composed in
       omega (arith, longer, fits after begins.text begins.rest follows begins.composed)
 
-  pub until_is_damaged : (n : ℕ) → RefusesGroups namespace number (Until n) bytes → HasNoGroup namespace number false bytes
+  until_is_damaged : (n : ℕ) → RefusesGroups namespace number (Until n) bytes → HasNoGroup namespace number false bytes
   until_is_damaged n refused after group follows begins =
       let longer = refused begins.text group begins.is after begins.rest begins.composed in
       omega (arith, longer.0, longer.1, fits after begins.text begins.rest follows begins.composed)
 
-  pub open_reaches : RefusesGroups namespace number Open bytes → GroupsReach namespace number bytes (length bytes + 1)
+  open_reaches : RefusesGroups namespace number Open bytes → GroupsReach namespace number bytes (length bytes + 1)
   open_reaches refused after group begins =
       omega (arith, refused begins.text group begins.is after begins.rest begins.composed, begins.is.places.len)
 
-  pub until_reaches : (n : ℕ) → RefusesGroups namespace number (Until n) bytes → GroupsReach namespace number bytes n
+  until_reaches : (n : ℕ) → RefusesGroups namespace number (Until n) bytes → GroupsReach namespace number bytes n
   until_reaches n refused after group begins =
       let longer = refused begins.text group begins.is after begins.rest begins.composed in
       omega (arith, longer.1, begins.is.places.len)
 
   -- ---- where more is asked for
 
-  tells_asked : (more : Bool) (n : ℕ) (step : GroupStep) → IsAsked more (length bytes) n step → IsCommittedRest more bytes
-      → GroupsReach namespace number bytes n → (more ≡ false → HasNoGroup namespace number more bytes)
-      → (n ≤ length bytes → HasNoGroup namespace number more bytes) → TellsGroup namespace number more bytes step
-  tells_asked more n (group_step.Group group) asked committed reach ended come = absurd asked
-  tells_asked more n group_step.End asked committed reach ended come = absurd asked
-  tells_asked more n group_step.Unfinished asked committed reach ended come = absurd asked
-  tells_asked more n group_step.Damaged asked committed reach ended come =
-      (committed, elim asked [ inl none ↦ ended none | inr short ↦ come short ])
-  tells_asked more n (group_step.Need m) asked committed reach ended come =
-      (asked.1, omega (arith, asked.0, asked.2), subst (GroupsReach namespace number bytes) (sym asked.0) reach)
-  tells_asked more n group_step.Memory asked committed reach ended come = absurd asked
+  pub needs_one : (more : Bool) → more ≡ true → IsCommittedRest more bytes → RefusesGroups namespace number Open bytes
+      → TellsGroup namespace number more bytes (group_step.Need (length bytes + 1))
+  needs_one more goes_on committed refused = (goes_on, omega arith, open_reaches refused, no_tail more bytes committed)
 
-  pub asks_asked : (more : Bool) (come n : ℕ) (step : GroupStep) → IsAsked more come n step → IsAskedFor namespace number bytes n
-      → AsksForGroup namespace number bytes step
-  asks_asked more come n (group_step.Group group) asked why = absurd asked
-  asks_asked more come n group_step.End asked why = absurd asked
-  asks_asked more come n group_step.Unfinished asked why = absurd asked
-  asks_asked more come n group_step.Damaged asked why = tt
-  asks_asked more come n (group_step.Need m) asked why = subst (IsAskedFor namespace number bytes) (sym asked.0) why
-  asks_asked more come n group_step.Memory asked why = absurd asked
+  pub needs_record : (more : Bool) (n : ℕ) → more ≡ true → length bytes < n → IsCommittedRest more bytes → RefusesGroups namespace number (Until n) bytes
+      → TellsGroup namespace number more bytes (group_step.Need n)
+  needs_record more n goes_on inside committed refused = (goes_on, inside, until_reaches n refused, no_tail more bytes committed)
 
-  pub tells_open : (more : Bool) (step : GroupStep) → IsAsked more (length bytes) (length bytes + 1) step → IsCommittedRest more bytes
-      → RefusesGroups namespace number Open bytes → TellsGroup namespace number more bytes step
-  tells_open more step asked committed refused =
-      tells_asked more (length bytes + 1) step asked committed (open_reaches refused)
-      (λ none. subst (λ m. HasNoGroup namespace number m bytes) (sym none) (open_is_damaged refused))
-      (λ short. absurd (omega (arith, short)))
+  -- where the file doesn't go on
+  pub ends_open : (more : Bool) → more ≡ false → IsCommittedRest more bytes → RefusesGroups namespace number Open bytes
+      → TellsGroup namespace number more bytes group_step.Damaged
+  ends_open more ends committed refused = (committed, subst (λ m. HasNoGroup namespace number m bytes) (sym ends) (open_is_damaged refused))
 
-  pub tells_until : (more : Bool) (n : ℕ) (step : GroupStep) → IsAsked more (length bytes) n step → IsCommittedRest more bytes
-      → RefusesGroups namespace number (Until n) bytes → TellsGroup namespace number more bytes step
-  tells_until more n step asked committed refused =
-      tells_asked more n step asked committed (until_reaches n refused)
-      (λ none. subst (λ m. HasNoGroup namespace number m bytes) (sym none) (until_is_damaged n refused))
-      (λ short after group follows begins. omega (arith, short, (refused begins.text group begins.is after begins.rest begins.composed).0))
+  pub ends_until : (more : Bool) (n : ℕ) → more ≡ false → IsCommittedRest more bytes → RefusesGroups namespace number (Until n) bytes
+      → TellsGroup namespace number more bytes group_step.Damaged
+  ends_until more n ends committed refused = (committed, subst (λ m. HasNoGroup namespace number m bytes) (sym ends) (until_is_damaged n refused))
 
   -- ---- before the commit byte has a byte behind it
 
-  pub begun_reaches : GroupsAreCommitted → length bytes < 2 → GroupsReach namespace number bytes (length bytes + 1)
+  begun_reaches : GroupsAreCommitted → length bytes < 2 → GroupsReach namespace number bytes (length bytes + 1)
   begun_reaches committed few after group begins =
       let text_is : begins.text ≡ group_text namespace number (taken_back group.stored) group.digest (reference_in group.same) = begins.is.composed in
       let some = (committed namespace number (taken_back group.stored) group.digest (reference_in group.same)).more in
       omega (arith, some, few, ap length text_is, begins.is.places.len)
 
-  pub begun_asks : length bytes < 2 → IsAskedFor namespace number bytes (length bytes + 1)
-  begun_asks few = inl (record {
-    text = whole_text namespace number some_opening [] [];
-    is = sample_is namespace number some_opening [] [] some_opening_is;
-    ends = record {
-      given = [];
-      part = bytes;
-      behind = whole_text namespace number some_opening [] [];
-      begins = refl;
-      composed = refl;
-      value = inl (omega (arith, few));
-    };
-    one_more = refl;
-  })
+  pub needs_second_byte : (more : Bool) → more ≡ true → GroupsAreCommitted → IsBegun bytes → TellsGroup namespace number more bytes (group_step.Need (length bytes + 1))
+  needs_second_byte more goes_on committed begun =
+      (goes_on, omega arith, begun_reaches committed (begun_is_short bytes begun), subst (λ m. ¬ (IsUnfinished m bytes)) (sym goes_on) (begun_is_no_tail bytes begun))
+
+  pub begun_asks : IsBegun bytes → IsAskedFor namespace number bytes (length bytes + 1)
+  begun_asks begun =
+      let id = id_of namespace ids.Response number in
+      let begins : Begins (some_text id) bytes =
+      subst (λ t. Begins t bytes) (sym (some_text_begins id)) (begun_begins (drop 1 (some_text id)) bytes (some_text_goes_on id) begun) in
+      inl (inl (record { o = some_opening; right = some_opening_is; ends = begins_ends (some_text id) bytes begins }), refl)

@@ -1,11 +1,12 @@
 -- Targets at the front of bytes.
-use Rattle.std.proofs.Common.{◌≡◌, ℕ, zero, suc, inr, Bool, true, false, ◌&&◌, List, [], ◌∷◌, ◌++◌, drop, get_or, refl, sym, ap, ◌∙◌, arith}
+use Rattle.std.proofs.Common.{◌≡◌, ℕ, zero, suc, Bool, true, false, ◌&&◌, List, [], ◌∷◌, ◌++◌, drop, get_or, refl, sym, ap, ◌∙◌, arith}
 use Rattle.std.proofs.lemmas.Bool.{and_parts, false≢true}
 use Rattle.httparse.specs.Ascii.{crlf_bytes}
 use Rattle.capture.specs.Target.{authority_of, begins_with_http, is_http_target, is_plain_authority, is_target_byte, is_target_text}
 use Rattle.warc_text.specs.Groups.{IsOneLine}
 use Rattle.warc_scan.specs.Openings.{IsTarget}
-use Rattle.warc_scan.specs.Stops.{NoneStands}
+use Rattle.warc_scan.specs.OpenValues.{IsPartOfTarget}
+use Rattle.warc_scan.specs.Stops.{NoValueStands}
 use Rattle.warc_scan.specs.declared.stop.Stop.TheVariants.{Open, Wrong}
 use Rattle.warc_scan.proofs.LineValues.{ended_line, open_line}
 use Rattle.warc_scan.proofs.Refusals.{wrong_is_not_open}
@@ -45,10 +46,10 @@ text_inside (b ∷ bytes) (c ∷ line) after other one e is =
     both_true (is_target_byte b) (is_target_text bytes) (ap is_target_byte first ∙ parts.0)
     (text_inside bytes line after other (λ k d lt. one (suc k) d (omega arith)) (ap (drop 1) e) parts.1)
 
-pub open_targets : (bytes : List ℕ) → IsOneLine bytes → is_target_text bytes ≡ true → NoneStands IsTarget (λ uri. uri ++ crlf_bytes) Open bytes
-open_targets bytes one is = open_line IsTarget (λ uri. uri) target_is_one_line bytes some_target some_target_is one (inr is)
+pub open_targets : (bytes : List ℕ) → IsOneLine bytes → is_target_text bytes ≡ true → NoValueStands IsTarget (λ uri. uri ++ crlf_bytes) IsPartOfTarget Open bytes
+open_targets bytes one is = open_line IsTarget (λ uri. uri) IsPartOfTarget target_is_one_line bytes some_target some_target_is one is
 
-pub no_targets : (bytes : List ℕ) → IsOneLine bytes → is_target_text bytes ≡ false → NoneStands IsTarget (λ uri. uri ++ crlf_bytes) Wrong bytes
+pub no_targets : (bytes : List ℕ) → IsOneLine bytes → is_target_text bytes ≡ false → NoValueStands IsTarget (λ uri. uri ++ crlf_bytes) IsPartOfTarget Wrong bytes
 no_targets bytes one other_text = record {
   refuses = λ uri target after other e.
       false≢true (sym other_text ∙ text_inside bytes uri after (10 ∷ other) one (e ∙ ended_line uri other) (target_text uri target));

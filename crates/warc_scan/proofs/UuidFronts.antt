@@ -1,14 +1,15 @@
 -- The text of a UUID at the front of bytes.
-use Rattle.std.proofs.Common.{◌≡◌, ℕ, ◌<◌, ◌≤◌, inl, List, [], ◌++◌, length, take, Option, Some, unwrap_or, refl, sym, ap, ◌∙◌, arith}
+use Rattle.std.proofs.Common.{◌≡◌, ℕ, ◌<◌, ◌≤◌, inl, inr, List, [], ◌++◌, length, take, Option, Some, unwrap_or, refl, sym, ap, ◌∙◌, arith}
 use Rattle.std.proofs.lemmas.List.{take_at, take-append-le}
 use Rattle.uuid.specs.Text.{lower, parsed}
 use Rattle.uuid.proofs.RoundTrips.{parses_hyphenated}
-use Rattle.warc_text.specs.Ids.{IsUuid, id_of, id_text, uuid_text}
+use Rattle.warc_text.specs.Ids.{IsUuid, id_of, uuid_text}
 use Rattle.warc_text.specs.declared.id.IdKind.TheVariants.{Info}
-use Rattle.warc_text.proofs.IdLaws.{id_told, uuid_text_told}
+use Rattle.warc_text.proofs.IdLaws.{uuid_text_told}
 use Rattle.warc_text.proofs.Fronts.{fronts}
-use Rattle.warc_text.proofs.LengthLaws.{length-id_text, length-uuid_text}
-use Rattle.warc_scan.specs.Stops.{NoneStands}
+use Rattle.warc_text.proofs.LengthLaws.{length-uuid_text}
+use Rattle.warc_scan.specs.OpenValues.{IsPartOfUuid}
+use Rattle.warc_scan.specs.Stops.{NoValueStands}
 use Rattle.warc_scan.specs.declared.stop.Stop.TheVariants.{Open, Wrong}
 use Rattle.warc_scan.proofs.Refusals.{IsTold, wrong_is_not_open}
 use Rattle.warc_scan.proofs.Samples.{some_id_is}
@@ -29,22 +30,11 @@ uuid_told id is w x y was e =
     (uuid_text_told id w is.length_is was.length_is is.bytes was.bytes texts.0, texts.1)
 
 -- bytes that are too few
-pub open_uuid : (bytes : List ℕ) → length bytes < 36 → NoneStands IsUuid uuid_text Open bytes
+pub open_uuid : (bytes : List ℕ) → length bytes < 36 → NoValueStands IsUuid uuid_text IsPartOfUuid Open bytes
 open_uuid bytes short = record {
   refuses = λ id is after other e. omega (arith, length-uuid_text id);
   line = tt;
-  ends = λ is. (
-    id_of [] Info 0,
-    some_id_is,
-    record {
-      given = [];
-      part = bytes;
-      behind = uuid_text (id_of [] Info 0);
-      begins = refl;
-      composed = refl;
-      value = inl (omega arith);
-    },
-  );
+  ends = λ is. (id_of [] Info 0, some_id_is, inr (short, omega (arith, length-uuid_text (id_of [] Info 0))));
 }
 
 -- ---- thirty-six bytes that are no UUID's text
@@ -54,7 +44,7 @@ same_uuid a b e = ap (λ (o : Option (List ℕ)). unwrap_or o []) e
 
 -- they aren't parsed
 pub not_parsed : (bytes text : List ℕ) → 36 ≤ length bytes → text ≡ take 36 bytes → ((id : List ℕ) → ¬ (parsed text ≡ Some id))
-    → NoneStands IsUuid uuid_text Wrong bytes
+    → NoValueStands IsUuid uuid_text IsPartOfUuid Wrong bytes
 not_parsed bytes text long front none = record {
   refuses = λ id is after other e. none id (ap parsed (front ∙ uuid_front bytes after other id long e) ∙ uuid_parsed id is);
   line = tt;
@@ -63,7 +53,7 @@ not_parsed bytes text long front none = record {
 
 -- they are in another form
 pub other_form : (bytes text written id : List ℕ) → 36 ≤ length bytes → text ≡ take 36 bytes → Some id ≡ parsed text → written ≡ uuid_text id
-    → ¬ (written ≡ text) → NoneStands IsUuid uuid_text Wrong bytes
+    → ¬ (written ≡ text) → NoValueStands IsUuid uuid_text IsPartOfUuid Wrong bytes
 other_form bytes text written id long front read writes differs = record {
   refuses = λ value is after other e.
       let here : text ≡ uuid_text value = front ∙ uuid_front bytes after other value long e in
@@ -72,10 +62,3 @@ other_form bytes text written id long front read writes differs = record {
   line = tt;
   ends = λ is. absurd (wrong_is_not_open Wrong Open refl refl is);
 }
-
--- ---- an id is told by its text
-
-pub id_text_told : (id : List ℕ) → IsUuid id → IsTold IsUuid id_text id
-id_text_told id is w x y was e =
-    let texts = fronts (id_text id) (id_text w) x y (length-id_text id ∙ sym (length-id_text w)) e in
-    (id_told id w is was texts.0, texts.1)

@@ -1,40 +1,72 @@
 -- When more bytes are asked for: what came is right, up to a value that may go on, or up to a block whose length has come.
-use Rattle.std.specs.Prelude.{◌≡◌, ◌⊎◌, ℕ, ◌+◌, ◌<◌, ◌≤◌, Bool, true, false, List, ◌++◌, length, Option, ⊤}
-use Rattle.capture.specs.declared.captured.Taken.{Taken}
+use Rattle.std.specs.Prelude.{◌≡◌, ◌⊎◌, ℕ, ◌+◌, List, ◌++◌, length, ⊤}
+use Rattle.warc_text.specs.Ids.{id_of}
 use Rattle.warc_text.specs.Lines.{ended, length_lines}
-use Rattle.warc_text.specs.Records.{group_text}
-use Rattle.warc_text.specs.References.{Reference}
-use Rattle.warc_scan.specs.Openings.{IsOpening}
-use Rattle.warc_scan.specs.Stops.{EndsInside}
+use Rattle.warc_text.specs.Records.{request_opening}
+use Rattle.warc_text.specs.declared.id.IdKind.TheVariants as ids
+use Rattle.warc_scan.specs.Blocks.{EndsInsideBlock, IsWord}
+use Rattle.warc_scan.specs.Openings.{IsOpening, Opening, opening_text}
+use Rattle.warc_scan.specs.Stops.{Begins, EndsInside}
 use Rattle.warc_scan.specs.declared.group_step.GroupStep.{GroupStep}
 use Rattle.warc_scan.specs.declared.group_step.GroupStep.TheVariants as group_step
 use Rattle.warc_scan.specs.declared.stop.Stop.{Stop}
 use Rattle.warc_scan.specs.declared.stop.Stop.TheVariants.{Open, Until, Wrong, Memory}
 
--- the text is a group by its openings, whatever its blocks are
-pub record HasOpenings (namespace : List ℕ) (number : ℕ) (text : List ℕ) : Type 0 where
-  pub taken : Taken
-  pub digest : List ℕ
-  pub same : Option Reference
-  pub opening : IsOpening (record { date = taken.date; uri = taken.uri; digest = digest; cut = taken.cut; same = same })
-  pub composed : text ≡ group_text namespace number taken digest same
+-- what a group begins with, up to the block of its first record, and from there to that of its second
+abbrev pub first_opening : List ℕ → ℕ → Opening → List ℕ
+first_opening namespace number o = opening_text (id_of namespace ids.Response number) o
 
--- the bytes end inside an opening of a group, or inside a block's length: one more is asked for
-pub record EndsInOpening (namespace : List ℕ) (number : ℕ) (bytes : List ℕ) (n : ℕ) : Type 0 where
-  pub text : List ℕ
-  pub is : HasOpenings namespace number text
-  pub ends : EndsInside text bytes
-  pub one_more : n ≡ length bytes + 1
+abbrev pub second_opening : List ℕ → ℕ → Opening → List ℕ
+second_opening namespace number o =
+    request_opening (id_of namespace ids.Request number) (id_of namespace ids.Response number) o.date o.uri
+
+-- the text stands before the block of a record of a group: the first, or the second, behind the first with any block
+pub record BeforeSecond (namespace : List ℕ) (number : ℕ) (o : Opening) (text : List ℕ) : Type 0 where
+  pub block : List ℕ
+  pub composed : text ≡ (first_opening namespace number o ++ ended block) ++ second_opening namespace number o
+
+abbrev pub IsBeforeBlock : List ℕ → ℕ → Opening → List ℕ → Type 0
+IsBeforeBlock namespace number o text = (text ≡ first_opening namespace number o) ⊎ BeforeSecond namespace number o text
+
+-- the bytes end inside the opening of a group's first record
+pub record EndsInFirst (namespace : List ℕ) (number : ℕ) (bytes : List ℕ) : Type 0 where
+  pub o : Opening
+  pub right : IsOpening o
+  pub ends : EndsInside (first_opening namespace number o) bytes
+
+-- inside that of its second, all of which is known
+pub record EndsInSecond (namespace : List ℕ) (number : ℕ) (bytes : List ℕ) : Type 0 where
+  pub o : Opening
+  pub block : List ℕ
+  pub come : List ℕ
+  pub right : IsOpening o
+  pub composed : bytes ≡ (first_opening namespace number o ++ ended block) ++ come
+  pub begins : Begins (second_opening namespace number o) come
+
+-- or inside the length of the block of one of them
+pub record EndsInLength (namespace : List ℕ) (number : ℕ) (bytes : List ℕ) : Type 0 where
+  pub o : Opening
+  pub before : List ℕ
+  pub len : ℕ
+  pub come : List ℕ
+  pub right : IsOpening o
+  pub is_before : IsBeforeBlock namespace number o before
+  pub word : IsWord len
+  pub composed : bytes ≡ before ++ come
+  pub ends : EndsInside (length_lines len) come
+
+-- there one byte more is asked for
+abbrev pub EndsInOpening : List ℕ → ℕ → List ℕ → ℕ → Type 0
+EndsInOpening namespace number bytes n =
+    (EndsInFirst namespace number bytes ⊎ EndsInSecond namespace number bytes ⊎ EndsInLength namespace number bytes) × (n ≡ length bytes + 1)
 
 -- the bytes end inside the block of a record of a group, or inside the two line ends behind it: the record ends there
 pub record EndsInBlock (namespace : List ℕ) (number : ℕ) (bytes : List ℕ) (n : ℕ) : Type 0 where
+  pub o : Opening
   pub before : List ℕ
-  pub block : List ℕ
-  pub behind : List ℕ
-  pub come : List ℕ
-  pub is : HasOpenings namespace number (before ++ ended block ++ behind)
-  pub composed : bytes ≡ before ++ length_lines (length block) ++ come
-  pub whole : n ≡ length (before ++ ended block)
+  pub right : IsOpening o
+  pub is_before : IsBeforeBlock namespace number o before
+  pub block : EndsInsideBlock before bytes n
 
 -- why a group is asked for up to its byte n
 abbrev pub IsAskedFor : List ℕ → ℕ → List ℕ → ℕ → Type 0
@@ -48,15 +80,6 @@ AsksForGroup namespace number bytes group_step.Unfinished = ⊤
 AsksForGroup namespace number bytes group_step.Damaged = ⊤
 AsksForGroup namespace number bytes (group_step.Need n) = IsAskedFor namespace number bytes n
 AsksForGroup namespace number bytes group_step.Memory = ⊤
-
--- more is asked for up to byte n, where the file goes on and so many bytes haven't come
-abbrev pub IsAsked : Bool → ℕ → ℕ → GroupStep → Type 0
-IsAsked more come n (group_step.Group group) = ⊥
-IsAsked more come n group_step.End = ⊥
-IsAsked more come n group_step.Unfinished = ⊥
-IsAsked more come n group_step.Damaged = (more ≡ false) ⊎ (n ≤ come)
-IsAsked more come n (group_step.Need m) = (m ≡ n) × (more ≡ true) × (come < n)
-IsAsked more come n group_step.Memory = ⊥
 
 -- the same of a stop
 abbrev pub AsksByStop : List ℕ → ℕ → List ℕ → Stop → Type 0

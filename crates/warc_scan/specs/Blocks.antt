@@ -1,5 +1,5 @@
 -- A record's block behind its opening, and the line ends behind it (ISO 28500, WARC 1.1, section 4).
-use Rattle.std.specs.Prelude.{◌≡◌, ℕ, ◌<◌, ◌^◌, List, ◌++◌, length, ⊤}
+use Rattle.std.specs.Prelude.{◌≡◌, ℕ, ◌+◌, ◌<◌, ◌^◌, List, ◌++◌, length, ⊤}
 use Rattle.warc_text.specs.Lines.{ended, length_lines}
 use Rattle.warc_scan.specs.Stops.{EndsInside, Refuses}
 use Rattle.warc_scan.specs.declared.block.Block.{Block}
@@ -20,16 +20,19 @@ abbrev pub RefusesBlock : Stop → List ℕ → List ℕ → Type 0
 RefusesBlock stop opening bytes =
     (block : List ℕ) → length (opening ++ ended block) < 2 ^ 63 → Refuses stop bytes (opening ++ ended block)
 
--- the length of a block has come, and the record ends with its byte n
+-- the length of a block has come, and the record ends with its byte n, behind the block and two line ends
 pub record EndsInsideBlock (opening bytes : List ℕ) (n : ℕ) : Type 0 where
-  pub block : List ℕ
+  pub len : ℕ
   pub come : List ℕ
-  pub composed : bytes ≡ opening ++ length_lines (length block) ++ come
-  pub whole : n ≡ length (opening ++ ended block)
+  pub composed : bytes ≡ opening ++ length_lines len ++ come
+  pub whole : n ≡ length (opening ++ length_lines len) + len + 4
+  pub inside : length bytes < n
+  pub short : n < 2 ^ 63
 
 -- why more is asked for: the bytes end inside the length of some block, or inside the block
 abbrev pub AsksForBlock : List ℕ → List ℕ → Stop → Type 0
-AsksForBlock opening bytes Open = (block : List ℕ) × EndsInside (opening ++ ended block) bytes
+AsksForBlock opening bytes Open =
+    (len : ℕ) × (come : List ℕ) × IsWord len × (bytes ≡ opening ++ come) × EndsInside (length_lines len) come
 AsksForBlock opening bytes (Until n) = EndsInsideBlock opening bytes n
 AsksForBlock opening bytes Wrong = ⊤
 AsksForBlock opening bytes Memory = ⊤

@@ -1,25 +1,84 @@
--- A warcinfo in parts, and how much may be asked for.
-use Rattle.std.specs.Prelude.{ℕ, ◌<◌, ◌≤◌, List, length, ⊤}
-use Rattle.warc_scan.specs.Steps.{BeginsWithInfo}
+-- A warcinfo in parts, and why more of one is asked for.
+use Rattle.std.specs.Prelude.{◌≡◌, ◌⊎◌, ℕ, ◌<◌, ◌≤◌, Bool, true, false, List, ◌++◌, codes, length, ⊤}
+use Rattle.time_text.specs.Texts.{InRange}
+use Rattle.warc_text.specs.Ids.{IsUuid}
+use Rattle.warc_text.specs.Lengths.{info_block_length}
+use Rattle.warc_text.specs.Lines.{content_line, length_lines, opening, software_lines}
+use Rattle.warc_text.specs.Records.{info_text}
+use Rattle.warc_text.specs.declared.kind.RecordKind.TheVariants as kinds
+use Rattle.warc_scan.specs.Infos.{IsInfo}
+use Rattle.warc_scan.specs.OpenValues.{IsPartOfUuid}
+use Rattle.warc_scan.specs.Stops.{Begins, EndsInside, IsLineStop, Refuses}
 use Rattle.warc_scan.specs.declared.info_step.InfoStep.{InfoStep}
 use Rattle.warc_scan.specs.declared.info_step.InfoStep.TheVariants as info_step
-use Rattle.warc_scan.specs.declared.scan_info.Info.{Info}
 use Rattle.warc_scan.specs.declared.stop.Stop.{Stop}
 use Rattle.warc_scan.specs.declared.stop.Stop.TheVariants.{Open, Until, Wrong, Memory}
 
-abbrev pub BeginsWithParts : ℕ → List ℕ → Info → Type 0
-BeginsWithParts volume bytes info = BeginsWithInfo volume bytes info.namespace info.born info.len
+-- ---- its text: the lines up to its date, and those from there up to its namespace, by which its id is known
+
+abbrev pub info_front : List ℕ → ℕ → List ℕ
+info_front id born = opening kinds.Info id born
+
+abbrev pub namespace_mark : List ℕ
+namespace_mark = codes "archive-namespace: "
+
+abbrev pub info_middle : ℕ → List ℕ
+info_middle volume = content_line kinds.Info ++ length_lines (info_block_length volume) ++ software_lines ++ namespace_mark
+
+-- an id and a date
+abbrev pub IsInfoFront : List ℕ × ℕ → Type 0
+IsInfoFront front = IsUuid front.0 × InRange front.1
+
+abbrev pub front_of_info : List ℕ × ℕ → List ℕ
+front_of_info front = info_front front.0 front.1
+
+-- ---- where the bytes end
+
+-- inside the lines up to the date, whatever the id is
+pub record EndsInFront (bytes : List ℕ) : Type 0 where
+  pub id : List ℕ
+  pub born : ℕ
+  pub id_is : IsUuid id
+  pub date : InRange born
+  pub ends : EndsInside (info_front id born) bytes
+
+-- behind that date, before the namespace, or where that may go on
+pub record EndsInMiddle (volume born : ℕ) (bytes : List ℕ) : Type 0 where
+  pub id : List ℕ
+  pub come : List ℕ
+  pub id_is : IsUuid id
+  pub composed : bytes ≡ info_front id born ++ come
+  pub ends : Begins (info_middle volume) come ⊎ ((part : List ℕ) × (come ≡ info_middle volume ++ part) × IsPartOfUuid part)
+
+-- or inside a warcinfo of that date
+pub record EndsInInfo (volume born : ℕ) (bytes : List ℕ) : Type 0 where
+  pub namespace : List ℕ
+  pub namespace_is : IsUuid namespace
+  pub begins : Begins (info_text namespace volume born) bytes
+
+abbrev pub EndsBehindDate : ℕ → ℕ → List ℕ → Type 0
+EndsBehindDate volume born bytes = EndsInMiddle volume born bytes ⊎ EndsInInfo volume born bytes
+
+-- so many bytes has a warcinfo of this date
+abbrev pub IsInfoLen : ℕ → ℕ → ℕ → Type 0
+IsInfoLen volume born n = (namespace : List ℕ) → n ≡ length (info_text namespace volume born)
+
+-- ---- asking: for the least length, that with a date of a whole second, until the date has come, and then for its length
+abbrev pub IsInfoAskedFor : ℕ → List ℕ → ℕ → Type 0
+IsInfoAskedFor volume bytes n =
+    (EndsInFront bytes × IsInfoLen volume 0 n) ⊎ ((born : ℕ) × InRange born × EndsBehindDate volume born bytes × IsInfoLen volume born n)
+
+abbrev pub AsksForInfo : ℕ → List ℕ → InfoStep → Type 0
+AsksForInfo volume bytes (info_step.Info namespace born len) = ⊤
+AsksForInfo volume bytes info_step.End = ⊤
+AsksForInfo volume bytes info_step.Unfinished = ⊤
+AsksForInfo volume bytes info_step.Damaged = ⊤
+AsksForInfo volume bytes (info_step.Need n) = IsInfoAskedFor volume bytes n
+AsksForInfo volume bytes info_step.Memory = ⊤
 
 -- no warcinfo has more bytes
 abbrev pub most_bytes : ℕ
 most_bytes = 512
-
--- the places of its values are known, so that it is asked for by its length alone, which is more than the bytes that are there
-abbrev pub IsLittle : List ℕ → Stop → Type 0
-IsLittle bytes Open = ⊥
-IsLittle bytes (Until n) = (length bytes < n) × (n ≤ most_bytes)
-IsLittle bytes Wrong = ⊤
-IsLittle bytes Memory = ⊤
 
 -- no more is asked for than a warcinfo may have
 abbrev pub AsksForLittle : InfoStep → Type 0
@@ -29,3 +88,20 @@ AsksForLittle info_step.Unfinished = ⊤
 AsksForLittle info_step.Damaged = ⊤
 AsksForLittle (info_step.Need n) = n ≤ most_bytes
 AsksForLittle info_step.Memory = ⊤
+
+-- ---- stops
+
+-- behind a date that stands no namespace does, and no warcinfo with it
+pub record NoNamespaceStands (volume born : ℕ) (stop : Stop) (bytes : List ℕ) : Type 0 where
+  pub refuses : (text namespace : List ℕ) (date len : ℕ) → IsInfo volume text namespace date len → Refuses stop bytes text
+  pub line : IsLineStop stop
+  pub ends : stop ≡ Open → EndsBehindDate volume born bytes
+  pub inside : stop ≡ Open → (namespace : List ℕ) → length bytes < length (info_text namespace volume born)
+
+-- the answer where a text of lines doesn't stand, which has so many bytes
+abbrev pub IsAnswerTo : Stop → Bool → ℕ → InfoStep → Type 0
+IsAnswerTo Open true len step = step ≡ info_step.Need len
+IsAnswerTo Open false len step = step ≡ info_step.Damaged
+IsAnswerTo (Until n) more len step = ⊥
+IsAnswerTo Wrong more len step = step ≡ info_step.Damaged
+IsAnswerTo Memory more len step = step ≡ info_step.Memory

@@ -9,6 +9,7 @@ pub mod Groups
 pub mod InfoParts
 pub mod Infos
 pub mod Kinds
+pub mod OpenValues
 pub mod Openings
 pub mod SplitLines
 pub mod Steps

@@ -53,7 +53,7 @@ TellsGroup namespace number more bytes group_step.End = IsEnd more bytes
 TellsGroup namespace number more bytes group_step.Unfinished = IsUnfinished more bytes
 TellsGroup namespace number more bytes group_step.Damaged = IsCommittedRest more bytes × HasNoGroup namespace number more bytes
 TellsGroup namespace number more bytes (group_step.Need n) =
-    (more ≡ true) × (length bytes < n) × GroupsReach namespace number bytes n
+    (more ≡ true) × (length bytes < n) × GroupsReach namespace number bytes n × ¬ (IsUnfinished more bytes)
 TellsGroup namespace number more bytes group_step.Memory = ⊤
 
 -- ---- warcinfos
@@ -82,5 +82,6 @@ TellsInfo volume more bytes (info_step.Info namespace born len) = BeginsWithInfo
 TellsInfo volume more bytes info_step.End = IsEnd more bytes
 TellsInfo volume more bytes info_step.Unfinished = IsUnfinished more bytes
 TellsInfo volume more bytes info_step.Damaged = IsCommittedRest more bytes × HasNoInfo volume more bytes
-TellsInfo volume more bytes (info_step.Need n) = (more ≡ true) × (length bytes < n) × InfosReach volume bytes n
+TellsInfo volume more bytes (info_step.Need n) =
+    (more ≡ true) × (length bytes < n) × InfosReach volume bytes n × ¬ (IsUnfinished more bytes)
 TellsInfo volume more bytes info_step.Memory = ⊤

@@ -1,6 +1,6 @@
 -- Why bytes don't begin with a text, whatever follows them.
-use Rattle.std.specs.Prelude.{◌≡◌, ◌⊎◌, ℕ, ◌<◌, ◌≤◌, List, ◌++◌, length, IsTrue, ⊤}
-use Rattle.capture.specs.Target.{is_target_text}
+use Rattle.std.specs.Prelude.{◌≡◌, ◌⊎◌, ℕ, ◌<◌, ◌≤◌, List, [], ◌++◌, length, ⊤}
+use Rattle.warc_scan.specs.OpenValues.{IsOpenValue}
 use Rattle.warc_scan.specs.declared.stop.Stop.{Stop}
 use Rattle.warc_scan.specs.declared.stop.Stop.TheVariants.{Open, Until, Wrong, Memory}
 
@@ -15,22 +15,21 @@ Leaves Memory bytes text = ⊤
 abbrev pub Refuses : Stop → List ℕ → List ℕ → Type 0
 Refuses stop bytes text = (after other : List ℕ) → bytes ++ after ≡ text ++ other → Leaves stop bytes text
 
--- more than the text of a date, an id, a digest or a length has
-abbrev pub short_value : ℕ
-short_value = 64
+-- the text begins with the bytes, and goes on behind them
+pub record Begins (text bytes : List ℕ) : Type 0 where
+  pub behind : List ℕ
+  pub composed : text ≡ bytes ++ behind
+  pub more : 0 < length behind
 
--- a value so far: a short one, or bytes of a target
-abbrev pub IsOpenValue : List ℕ → Type 0
-IsOpenValue part = (length part < short_value) ⊎ IsTrue (is_target_text part)
-
--- the bytes are the beginning of the text, up to a value that may go on
+-- the bytes are the beginning of the text, or that up to where a value begins, and what may be the beginning of another value
 pub record EndsInside (text bytes : List ℕ) : Type 0 where
   pub given : List ℕ
   pub part : List ℕ
   pub behind : List ℕ
   pub begins : text ≡ given ++ behind
+  pub more : 0 < length behind
   pub composed : bytes ≡ given ++ part
-  pub value : IsOpenValue part
+  pub value : (part ≡ []) ⊎ IsOpenValue given part
 
 -- inside a line nothing is known of where a record ends
 abbrev pub IsLineStop : Stop → Type 0
@@ -43,13 +42,20 @@ IsLineStop Memory = ⊤
 pub record Differs (stop : Stop) (bytes text : List ℕ) : Type 0 where
   pub refuses : Refuses stop bytes text
   pub line : IsLineStop stop
-  pub ends : stop ≡ Open → EndsInside text bytes
+  pub ends : stop ≡ Open → Begins text bytes
 
 -- the bytes begin with the text of none of these values: they end inside one, or differ from all
 pub record NoneStands {V : Type 0} (Is : V → Type 0) (text : V → List ℕ) (stop : Stop) (bytes : List ℕ) : Type 0 where
   pub refuses : (value : V) → Is value → Refuses stop bytes (text value)
   pub line : IsLineStop stop
   pub ends : stop ≡ Open → (value : V) × Is value × EndsInside (text value) bytes
+
+-- The same of values alone, without the name before them: where the bytes end inside one, they are its beginning, or what may be
+-- the beginning of one.
+pub record NoValueStands {V : Type 0} (Is : V → Type 0) (text : V → List ℕ) (IsPart : List ℕ → Type 0) (stop : Stop) (bytes : List ℕ) : Type 0 where
+  pub refuses : (value : V) → Is value → Refuses stop bytes (text value)
+  pub line : IsLineStop stop
+  pub ends : stop ≡ Open → (value : V) × Is value × (Begins (text value) bytes ⊎ (IsPart bytes × (0 < length (text value))))
 
 -- a message that is there whole is one, or is none
 abbrev pub IsMessageStop : Stop → Type 0

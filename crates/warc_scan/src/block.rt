@@ -3,7 +3,8 @@ ghost use Rattle.std.specs.Prelude.{◌≡◌, ℕ, ◌+◌, ◌<◌, ◌≤◌,
 ghost use Rattle.httparse.specs.Ascii.{crlf_bytes};
 ghost use Rattle.warc_text.specs.Lines.{length_lines};
 ghost use Rattle.warc_scan.specs.Blocks.{AsksForBlock, HasBlock, IsWord, RefusesBlock};
-ghost use Rattle.warc_scan.specs.Stops.{NoneStands};
+ghost use Rattle.warc_scan.specs.OpenValues.{IsPartOfNumber};
+ghost use Rattle.warc_scan.specs.Stops.{NoneStands, NoValueStands};
 
 use crate::fields::split_line;
 use crate::stop::Stop;
@@ -22,7 +23,9 @@ const RECORD_END: &[u8] = b"\r\n\r\n";
 /// A block, and what stands behind its record.
 #[derive(Clone, Copy, Debug)]
 pub struct Block<'b> {
+    /// The block.
     pub block: &'b [u8],
+    /// What stands behind the line ends.
     pub rest: &'b [u8],
 }
 
@@ -71,7 +74,7 @@ fn read_length(bytes: &[u8]) -> Result<(u64, &[u8]), Stop>
 /// Reads a number as it is written, and its line's end.
 fn read_number(bytes: &[u8]) -> Result<(u64, &[u8]), Stop>
     ensures ok { IfOk result (λ read. IsWord read.0 × (bytes.now ≡ (decimal read.0 ++ crlf_bytes) ++ read.1.now)) }
-    ensures err { IfErr result (λ stop. NoneStands IsWord (λ n. decimal n ++ crlf_bytes) stop bytes.now) }
+    ensures err { IfErr result (λ stop. NoValueStands IsWord (λ n. decimal n ++ crlf_bytes) IsPartOfNumber stop bytes.now) }
 {
     let Some((digits, behind)) = split_line(bytes) else {
         if bytes.len() > MOST_DIGITS {

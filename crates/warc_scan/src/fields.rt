@@ -1,14 +1,15 @@
 //! Fields of a record (ISO 28500, WARC 1.1, sections 4 and 5), and the values in them.
-ghost use Rattle.std.specs.Prelude.{◌≡◌, ◌<◌, ◌++◌, length, codes, IfOk, IfErr, IfSome, IfNone, IsErrOf};
+ghost use Rattle.std.specs.Prelude.{◌≡◌, ◌+◌, ◌<◌, ◌++◌, length, codes, IfOk, IfErr, IfSome, IfNone, IsErrOf};
 ghost use Rattle.httparse.specs.Ascii.{crlf_bytes};
 ghost use Rattle.time_text.specs.Texts.{InRange, warc_date};
 ghost use Rattle.warc_text.specs.Groups.{IsOneLine};
 ghost use Rattle.warc_text.specs.Ids.{IsUuid, id_text, uuid_text};
 ghost use Rattle.warc_text.specs.Lines.{date_field, field, id_field};
 ghost use Rattle.warc_scan.specs.Dates.{IsDateLen};
+ghost use Rattle.warc_scan.specs.OpenValues.{IsDateMark, IsPartOfDate, IsPartOfTarget, IsPartOfUuid, IsTargetMark};
 ghost use Rattle.warc_scan.specs.Openings.{IsTarget};
 ghost use Rattle.warc_scan.specs.SplitLines.{IsSplitLine};
-ghost use Rattle.warc_scan.specs.Stops.{Differs, NoneStands};
+ghost use Rattle.warc_scan.specs.Stops.{Differs, NoneStands, NoValueStands};
 
 use crate::stop::Stop;
 use crate::strip::strip;
@@ -70,7 +71,7 @@ fn strip_name<'b>(bytes: &'b [u8], name: &[u8]) -> Result<&'b [u8], Stop>
 /// Reads a date off the front.
 pub fn read_date(bytes: &[u8]) -> Result<(u64, &[u8]), Stop>
     ensures ok { IfOk result (λ read. InRange read.0 × (bytes.now ≡ warc_date read.0 ++ read.1.now)) }
-    ensures err { IfErr result (λ stop. NoneStands InRange warc_date stop bytes.now) }
+    ensures err { IfErr result (λ stop. NoValueStands InRange warc_date IsPartOfDate stop bytes.now) }
     ensures ends { IsErrOf result Stop.Open → length bytes.now < 24 }
 {
     let Some(len) = date_len(bytes) else {
@@ -103,8 +104,10 @@ fn date_len(bytes: &[u8]) -> Option<usize>
 
 /// Reads a field whose value is a date.
 pub fn read_date_field<'b>(bytes: &'b [u8], name: &[u8]) -> Result<(u64, &'b [u8]), Stop>
+    requires { IsDateMark (name.now ++ codes ": ") }
     ensures ok { IfOk result (λ read. InRange read.0 × (bytes.now ≡ date_field name.now read.0 ++ read.1.now)) }
     ensures err { IfErr result (λ stop. NoneStands InRange (λ date. date_field name.now date) stop bytes.now) }
+    ensures ends { IsErrOf result Stop.Open → length bytes.now < length name.now + 28 }
 {
     let given = strip_name(bytes, name)?;
     let (date, end) = read_date(given)?;
@@ -116,7 +119,7 @@ pub fn read_date_field<'b>(bytes: &'b [u8], name: &[u8]) -> Result<(u64, &'b [u8
 pub fn read_target(alloc: Global, bytes: &[u8]) -> Result<(&[u8], &[u8]), Stop>
     ensures ok { IfOk result (λ read. IsTarget read.0.now
         × (bytes.now ≡ (read.0.now ++ crlf_bytes) ++ read.1.now)) }
-    ensures err { IfErr result (λ stop. NoneStands IsTarget (λ uri. uri ++ crlf_bytes) stop bytes.now) }
+    ensures err { IfErr result (λ stop. NoValueStands IsTarget (λ uri. uri ++ crlf_bytes) IsPartOfTarget stop bytes.now) }
 {
     let Some((uri, behind)) = split_line(bytes) else {
         return Err(open_target(bytes));
@@ -133,7 +136,7 @@ pub fn read_target(alloc: Global, bytes: &[u8]) -> Result<(&[u8], &[u8]), Stop>
 /// Whether bytes without a line's end may be the beginning of a target.
 fn open_target(bytes: &[u8]) -> Stop
     requires { IsOneLine bytes.now }
-    ensures { NoneStands IsTarget (λ uri. uri ++ crlf_bytes) result bytes.now }
+    ensures { NoValueStands IsTarget (λ uri. uri ++ crlf_bytes) IsPartOfTarget result bytes.now }
 {
     if is_target_text(bytes) {
         Stop::Open
@@ -159,6 +162,7 @@ pub fn read_target_field<'b>(
     bytes: &'b [u8],
     name: &[u8],
 ) -> Result<(&'b [u8], &'b [u8]), Stop>
+    requires { IsTargetMark (name.now ++ codes ": ") }
     ensures ok { IfOk result (λ read. IsTarget read.0.now
         × (bytes.now ≡ field name.now read.0.now ++ read.1.now)) }
     ensures err { IfErr result (λ stop. NoneStands IsTarget (λ uri. field name.now uri) stop bytes.now) }
@@ -170,7 +174,7 @@ pub fn read_target_field<'b>(
 /// Reads the text of a UUID (RFC 9562, section 4), in lower case and with hyphens.
 pub fn read_uuid(bytes: &[u8]) -> Result<(Uuid, &[u8]), Stop>
     ensures ok { IfOk result (λ read. IsUuid read.0 × (bytes.now ≡ uuid_text read.0 ++ read.1.now)) }
-    ensures err { IfErr result (λ stop. NoneStands IsUuid uuid_text stop bytes.now) }
+    ensures err { IfErr result (λ stop. NoValueStands IsUuid uuid_text IsPartOfUuid stop bytes.now) }
     ensures ends { IsErrOf result Stop.Open → length bytes.now < 36 }
 {
     if bytes.len() < UUID_LEN {
@@ -188,32 +192,4 @@ pub fn read_uuid(bytes: &[u8]) -> Result<(Uuid, &[u8]), Stop>
     } else {
         Err(Stop::Wrong)
     }
-}
-
-/// Reads an id.
-pub fn read_id(bytes: &[u8]) -> Result<(Uuid, &[u8]), Stop>
-    ensures ok { IfOk result (λ read. IsUuid read.0 × (bytes.now ≡ id_text read.0 ++ read.1.now)) }
-    ensures err { IfErr result (λ stop. NoneStands IsUuid id_text stop bytes.now) }
-{
-    let given = strip(bytes, b"<urn:uuid:")?;
-    let read = match read_uuid(given) {
-        Ok(read) => read,
-        Err(stop) => return Err(stop),
-    };
-    let rest = strip(read.1, b">")?;
-    Ok((read.0, rest))
-}
-
-/// Reads a field whose value is an id.
-pub fn read_id_field<'b>(bytes: &'b [u8], name: &[u8]) -> Result<(Uuid, &'b [u8]), Stop>
-    ensures ok { IfOk result (λ read. IsUuid read.0 × (bytes.now ≡ id_field name.now read.0 ++ read.1.now)) }
-    ensures err { IfErr result (λ stop. NoneStands IsUuid (λ id. id_field name.now id) stop bytes.now) }
-{
-    let given = strip_name(bytes, name)?;
-    let read = match read_id(given) {
-        Ok(read) => read,
-        Err(stop) => return Err(stop),
-    };
-    let rest = strip(read.1, b"\r\n")?;
-    Ok((read.0, rest))
 }

@@ -2,6 +2,9 @@
 ghost use Rattle.std.specs.Prelude.{◌≡◌};
 ghost use Rattle.warc_scan.specs.Fronts.{IsFront};
 
+/// The first byte of a finished warcinfo or group.
+const COMMIT_BYTE: u8 = b'W';
+
 /// What the rest of a volume's file is by its first bytes.
 #[derive(Clone, Copy, Debug, PartialEq, Eq)]
 pub enum Front {
@@ -21,8 +24,8 @@ pub fn front_of(bytes: &[u8], more: bool) -> Front
 {
     match bytes {
         [] => { if more { Front::Begun } else { Front::Nothing } }
-        [b'W'] => { if more { Front::Begun } else { Front::Tail } }
-        [b'W', ..] => Front::Committed,
+        [COMMIT_BYTE] => { if more { Front::Begun } else { Front::Tail } }
+        [COMMIT_BYTE, ..] => Front::Committed,
         _ => Front::Tail,
     }
 }

@@ -16,8 +16,6 @@ mod scan_group;
 mod scan_info;
 mod stop;
 mod strip;
-#[cfg(test)]
-mod tests;
 mod wire_digest;
 
 pub use group::{Group, Revisited};

@@ -14,8 +14,11 @@ use uuid::Uuid;
 /// What the opening of a response or revisit record says.
 #[derive(Clone, Copy, Debug)]
 pub struct Opening<'b> {
+    /// The capture's date.
     pub date: u64,
+    /// Its target.
     pub uri: &'b [u8],
+    /// Its payload's digest.
     pub digest: Digest,
     /// Whether the response was cut.
     pub cut: bool,
@@ -28,7 +31,9 @@ pub struct Opening<'b> {
 /// Which of the two records stands there.
 #[derive(Clone, Copy, Debug, PartialEq, Eq)]
 enum AnswerKind {
+    /// A response, whole or cut.
     Response,
+    /// The head of a response whose payload is that of an earlier one.
     Revisit,
 }
 

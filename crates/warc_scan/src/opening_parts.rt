@@ -2,15 +2,14 @@
 ghost use Rattle.std.specs.Prelude.{◌≡◌, ⊤, ◌++◌, length, IfOk, IfErr};
 ghost use Rattle.digest32.specs.Base32.{IsDigest};
 ghost use Rattle.time_text.specs.Texts.{InRange};
-ghost use Rattle.warc_text.specs.Lines.{cut_line, content_line, date_line, digest_line, profile_lines};
+ghost use Rattle.warc_text.specs.Ids.{IsUuid};
+ghost use Rattle.warc_text.specs.Lines.{cut_line, content_line, date_line, digest_line, profile_lines, refers_line};
 ghost use Rattle.warc_text.specs.Records.{request_opening, revisit_end};
 ghost use Rattle.warc_text.specs.declared.kind.RecordKind.TheVariants as kinds;
 ghost use Rattle.warc_scan.specs.Openings.{IsOpening, IsRevisited, IsTarget, front_text, reference_of, start_text};
 ghost use Rattle.warc_scan.specs.Stops.{Differs, NoneStands};
 
-use crate::fields::{
-    read_date_field, read_id_field, read_target_field, strip_field, strip_id_field,
-};
+use crate::fields::{read_date_field, read_target_field, read_uuid, strip_field, strip_id_field};
 use crate::stop::Stop;
 use crate::strip::strip;
 use capture::Digest;
@@ -25,16 +24,22 @@ const DIGEST_LEN: usize = 32;
 /// The record that a revisit refers to.
 #[derive(Clone, Copy, Debug)]
 pub struct Refers<'b> {
+    /// Its id.
     pub id: Uuid,
+    /// Its target.
     pub uri: &'b [u8],
+    /// Its date.
     pub date: u64,
 }
 
 /// What the openings of responses and revisits have in common.
 #[derive(Clone, Copy, Debug)]
 pub struct Common<'b> {
+    /// The capture's date.
     pub date: u64,
+    /// Its target.
     pub uri: &'b [u8],
+    /// Its payload's digest.
     pub digest: Digest,
     /// What stands behind it.
     pub rest: &'b [u8],
@@ -133,7 +138,7 @@ pub fn read_revisit_end(alloc: Global, bytes: &[u8]) -> Result<(Refers<'_>, &[u8
     ensures ok { IfOk result (λ read. bytes.now ≡ revisit_end (reference_of read.0) ++ read.1.now) }
     ensures err { IfErr result (λ stop. NoneStands IsRevisited revisit_end stop bytes.now) }
 {
-    let (id, aimed) = match read_id_field(bytes, b"WARC-Refers-To") {
+    let (id, aimed) = match read_refers_line(bytes) {
         Ok(read) => read,
         Err(stop) => return Err(stop),
     };
@@ -142,6 +147,20 @@ pub fn read_revisit_end(alloc: Global, bytes: &[u8]) -> Result<(Refers<'_>, &[u8
     let typed = strip_profile(profiled)?;
     let rest = strip_content(typed)?;
     Ok((Refers { id, uri, date }, rest))
+}
+
+/// Reads the id of the record that a revisit refers to.
+fn read_refers_line(bytes: &[u8]) -> Result<(Uuid, &[u8]), Stop>
+    ensures ok { IfOk result (λ read. IsUuid read.0 × (bytes.now ≡ refers_line read.0 ++ read.1.now)) }
+    ensures err { IfErr result (λ stop. NoneStands IsUuid refers_line stop bytes.now) }
+{
+    let given = strip(bytes, b"WARC-Refers-To: <urn:uuid:")?;
+    let read = match read_uuid(given) {
+        Ok(read) => read,
+        Err(stop) => return Err(stop),
+    };
+    let rest = strip(read.1, b">\r\n")?;
+    Ok((read.0, rest))
 }
 
 /// What stands behind the profile of a revisit, and that it ends with its head.

@@ -3,7 +3,7 @@ ghost use Rattle.std.specs.Prelude.{◌≡◌, ℕ, List, option_map, IfOk, IfEr
 ghost use Rattle.capture.specs.Target.{is_accepted_uri};
 ghost use Rattle.capture.specs.WellFormed.{IsRequestOf};
 ghost use Rattle.warc_scan.specs.Answers.{IsAnswerOf};
-ghost use Rattle.warc_scan.specs.Asking.{AsksByStop, AsksForGroup, IsAsked};
+ghost use Rattle.warc_scan.specs.Asking.{AsksByStop, AsksForGroup};
 ghost use Rattle.warc_scan.specs.Founds.{IsFound, IsFoundIn, IsGroupIn};
 ghost use Rattle.warc_scan.specs.Groups.{IsGroup, reference_in};
 ghost use Rattle.warc_scan.specs.Openings.{reference_of};
@@ -30,10 +30,15 @@ const RECORD_END: u64 = 4;
 /// The parts of a group, before its messages are read.
 #[derive(Clone, Copy, Debug)]
 struct Found<'b> {
+    /// What the opening of the response or revisit says.
     opening: Opening<'b>,
+    /// Its block.
     answer: &'b [u8],
+    /// The block of the request.
     request: &'b [u8],
+    /// The length of the response or revisit record.
     first_len: u64,
+    /// The length of both.
     len: u64,
 }
 
@@ -57,25 +62,24 @@ pub fn next_group(
         Front::Begun => GroupStep::Need(bytes.len() as u64 + 1),
         Front::Committed => match read_group(alloc, bytes, namespace, number) {
             Ok(group) => GroupStep::Group(group),
-            Err(Stop::Open) => asked(more, bytes.len() as u64, bytes.len() as u64 + 1),
-            Err(Stop::Until(n)) => asked(more, bytes.len() as u64, n),
+            Err(Stop::Open) => {
+                if more {
+                    GroupStep::Need(bytes.len() as u64 + 1)
+                } else {
+                    GroupStep::Damaged
+                }
+            }
+            Err(Stop::Until(n)) => {
+                if more {
+                    GroupStep::Need(n)
+                } else {
+                    GroupStep::Damaged
+                }
+            }
             Err(Stop::Wrong) => GroupStep::Damaged,
             Err(Stop::Memory) => GroupStep::Memory,
         },
     }
-}
-
-/// The answer where a group that stands there has n bytes or more, of which so many came.
-fn asked(more: bool, come: u64, n: u64) -> GroupStep
-    ensures { IsAsked more come n result }
-{
-    if !more {
-        return GroupStep::Damaged;
-    }
-    if n <= come {
-        return GroupStep::Damaged;
-    }
-    GroupStep::Need(n)
 }
 
 /// The group with this number that the bytes begin with.

@@ -1,114 +1,159 @@
 //! Finds the warcinfo of a volume.
-ghost use Rattle.std.specs.Prelude.{◌≡◌, ◌≤◌, ◌<◌, ℕ, List, ⊤, length, IfOk, IfErr};
-ghost use Rattle.std.specs.Bool.{Decides};
+ghost use Rattle.std.specs.Prelude.{◌≡◌, ◌++◌, ◌<◌, ℕ, List, length, IfOk, IfErr, IsErrOf};
 ghost use Rattle.time_text.specs.Texts.{InRange};
+ghost use Rattle.warc_text.specs.Ids.{IsUuid};
 ghost use Rattle.warc_text.specs.Records as spec;
-ghost use Rattle.warc_scan.specs.Infos.{IsInfo};
-ghost use Rattle.warc_scan.specs.Steps.{BeginsWithInfo, TellsInfo};
-ghost use Rattle.warc_scan.specs.InfoParts.{AsksForLittle, BeginsWithParts, IsLittle};
-ghost use Rattle.warc_scan.specs.Stops.{Refuses};
+ghost use Rattle.warc_scan.specs.Steps.{IsCommittedRest, TellsInfo};
+ghost use Rattle.warc_scan.specs.InfoParts.{AsksForInfo, AsksForLittle, IsAnswerTo, IsInfoFront, NoNamespaceStands, front_of_info, info_front, info_middle};
+ghost use Rattle.warc_scan.specs.Stops.{Differs, IsLineStop, NoneStands};
 
 use crate::InfoStep;
-use crate::fields::{read_date, read_uuid};
+use crate::fields::{read_date_field, read_uuid};
 use crate::front::{Front, front_of};
 use crate::stop::Stop;
-use capture::Memory;
+use crate::strip::strip;
+use itoa::Buffer;
 use std::alloc::Global;
-use time_text::warc_len;
 use uuid::Uuid;
 use warc_text::{info_len, info_text};
 
-/// Where the date stands in a warcinfo, behind lines of a fixed length.
-const BORN_AT: usize = 107;
+/// What a warcinfo's block has beside the number of the volume.
+const INFO_BLOCK: u64 = 115;
 
-/// Where the namespace stands, without the length of the date before it.
-const NAMESPACE_AT: usize = 230;
-
-/// What a warcinfo says beside its volume's number.
-#[derive(Clone, Copy, Debug, PartialEq, Eq)]
-struct Info {
-    namespace: Uuid,
+/// The lines of a warcinfo up to its date.
+#[derive(Clone, Copy, Debug)]
+struct InfoFront<'b> {
+    /// Its id, which hangs on the namespace behind it.
+    id: Uuid,
+    /// Its date.
     born: u64,
-    len: u64,
+    /// What stands behind them.
+    rest: &'b [u8],
 }
 
 /// What stands where a volume's file begins, which is to be its warcinfo, of the volume with this number. `bytes` begin there,
 /// and `more` says that the file goes on behind them.
 pub fn next_info(alloc: Global, bytes: &[u8], more: bool, volume: u32) -> InfoStep
     ensures tells { TellsInfo volume more bytes.now result }
+    ensures asks { AsksForInfo volume bytes.now result }
     ensures little { AsksForLittle result }
 {
     match front_of(bytes, more) {
         Front::Nothing => InfoStep::End,
         Front::Tail => InfoStep::Unfinished,
         Front::Begun => InfoStep::Need(info_len(volume, 0)),
-        Front::Committed => match read_info(alloc, bytes, volume) {
-            Ok(info) => InfoStep::Info {
-                namespace: info.namespace,
-                born: info.born,
-                len: info.len,
-            },
-            Err(Stop::Open) => InfoStep::Damaged,
-            Err(Stop::Until(n)) => {
-                if more {
-                    InfoStep::Need(n)
-                } else {
-                    InfoStep::Damaged
-                }
-            }
-            Err(Stop::Wrong) => InfoStep::Damaged,
-            Err(Stop::Memory) => InfoStep::Memory,
-        },
+        Front::Committed => read_info(alloc, bytes, more, volume),
     }
 }
 
-/// The warcinfo that the bytes begin with. It is read by the places of its values, and written anew.
-fn read_info(alloc: Global, bytes: &[u8], volume: u32) -> Result<Info, Stop>
-    ensures ok { IfOk result (BeginsWithParts volume bytes.now) }
-    ensures err { IfErr result (λ stop. (text namespace : List ℕ) (born len : ℕ) → IsInfo volume text namespace born len
-        → Refuses stop bytes.now text) }
-    ensures little { IfErr result (IsLittle bytes.now) }
+/// What the bytes tell, which begin with the commit byte and more.
+fn read_info(alloc: Global, bytes: &[u8], more: bool, volume: u32) -> InfoStep
+    requires { IsCommittedRest more bytes.now }
+    ensures tells { TellsInfo volume more bytes.now result }
+    ensures asks { AsksForInfo volume bytes.now result }
+    ensures little { AsksForLittle result }
 {
-    let least = info_len(volume, 0);
-    if (bytes.len() as u64) < least {
-        return Err(Stop::Until(least));
+    let front = match read_front(bytes) {
+        Ok(front) => front,
+        Err(stop) => return answer_to(stop, more, info_len(volume, 0)),
+    };
+    let len = info_len(volume, front.born);
+    match read_namespace(alloc, bytes, volume, &front) {
+        Ok(namespace) => InfoStep::Info {
+            namespace,
+            born: front.born,
+            len,
+        },
+        Err(stop) => answer_to(stop, more, len),
     }
-    let (_, dated) = bytes.split_at(BORN_AT);
-    let (born, _) = read_date(dated)?;
-    let len = info_len(volume, born);
-    if (bytes.len() as u64) < len {
-        return Err(Stop::Until(len));
+}
+
+/// The answer where the text of a warcinfo, which has so many bytes, doesn't stand whole.
+fn answer_to(stop: Stop, more: bool, len: u64) -> InfoStep
+    requires { IsLineStop stop }
+    ensures { IsAnswerTo stop more len result }
+{
+    match stop {
+        Stop::Open => {
+            if more {
+                InfoStep::Need(len)
+            } else {
+                InfoStep::Damaged
+            }
+        }
+        // A warcinfo is read line by line.
+        Stop::Until(_) => unreachable!(),
+        Stop::Wrong => InfoStep::Damaged,
+        Stop::Memory => InfoStep::Memory,
     }
-    let (text, _) = bytes.split_at(len as usize);
-    let (_, named) = text.split_at(NAMESPACE_AT + warc_len(born));
+}
+
+/// Reads the lines of a warcinfo up to its date, whatever its id is.
+fn read_front(bytes: &[u8]) -> Result<InfoFront<'_>, Stop>
+    ensures id { IfOk result (λ front. IsUuid front.id) }
+    ensures date { IfOk result (λ front. InRange front.born) }
+    ensures ok { IfOk result (λ front. bytes.now ≡ info_front front.id front.born ++ front.rest.now) }
+    ensures err { IfErr result (λ stop. NoneStands IsInfoFront front_of_info stop bytes.now) }
+    ensures ends { IsErrOf result Stop.Open → length bytes.now < 200 }
+{
+    let named = strip(
+        bytes,
+        b"WARC/1.1\r\nWARC-Type: warcinfo\r\nWARC-Record-ID: <urn:uuid:",
+    )?;
+    let read = match read_uuid(named) {
+        Ok(read) => read,
+        Err(stop) => return Err(stop),
+    };
+    let dated = strip(read.1, b">\r\n")?;
+    let (born, rest) = read_date_field(dated, b"WARC-Date")?;
+    Ok(InfoFront {
+        id: read.0,
+        born,
+        rest,
+    })
+}
+
+/// Reads the namespace behind the lines up to the date, with which the text is known: the bytes begin with it.
+fn read_namespace(
+    alloc: Global,
+    bytes: &[u8],
+    volume: u32,
+    front: &InfoFront<'_>,
+) -> Result<Uuid, Stop>
+    requires id { IsUuid front.now.id }
+    requires date { InRange front.now.born }
+    requires front { bytes.now ≡ info_front front.now.id front.now.born ++ front.now.rest.now }
+    ensures namespace { IfOk result IsUuid }
+    ensures ok { IfOk result (λ namespace. (rest : List ℕ) × (bytes.now ≡ spec.info_text namespace volume front.now.born ++ rest)) }
+    ensures err { IfErr result (λ stop. NoNamespaceStands volume front.now.born stop bytes.now) }
+{
+    let named = strip_middle(front.rest, volume)?;
     let read = match read_uuid(named) {
         Ok(read) => read,
         Err(stop) => return Err(stop),
     };
     let namespace = read.0;
-    let same = is_info(alloc, text, &namespace, volume, born)?;
-    if same {
-        Ok(Info {
-            namespace,
-            born,
-            len,
-        })
-    } else {
-        Err(Stop::Wrong)
-    }
+    let text = info_text(alloc, &namespace, volume, front.born)?;
+    strip(bytes, text.as_slice())?;
+    Ok(namespace)
 }
 
-/// Whether the text is the warcinfo with these values.
-fn is_info(
-    alloc: Global,
-    text: &[u8],
-    namespace: &Uuid,
-    volume: u32,
-    born: u64,
-) -> Result<bool, Memory>
-    requires { InRange born }
-    ensures { IfOk result (λ same. Decides same (spec.info_text namespace.now volume born ≡ text.now)) }
+/// What stands behind the lines from a warcinfo's date up to its namespace.
+fn strip_middle(bytes: &[u8], volume: u32) -> Result<&[u8], Stop>
+    ensures ok { IfOk result (λ rest. bytes.now ≡ info_middle volume ++ rest.now) }
+    ensures err { IfErr result (λ stop. Differs stop bytes.now (info_middle volume)) }
 {
-    let written = info_text(alloc, namespace, volume, born)?;
-    Ok(written.as_slice() == text)
+    let mut number = Buffer::new();
+    let block_len = INFO_BLOCK + number.format(volume).len() as u64;
+    let mut length = Buffer::new();
+    let told = length.format(block_len);
+    let given = strip(
+        bytes,
+        b"Content-Type: application/warc-fields\r\nContent-Length: ",
+    )?;
+    let end = strip(given, told.as_bytes())?;
+    strip(
+        end,
+        b"\r\n\r\nsoftware: memproxy\r\narchive-version: 1\r\narchive-namespace: ",
+    )
 }

@@ -1,5 +1,6 @@
-use Rattle.std.proofs.Common.{◌<◌, refl, arith}
-use Rattle.volume_scan.proofs.Judging.{committed_first, committed_there, info_there, info_too_long, no_info_there, tail_there}
+use Rattle.std.proofs.Common.{◌<◌, ◌≤◌, length, arith}
+use Rattle.std.proofs.lemmas.Bool.{ltb-true}
+use Rattle.volume_scan.proofs.Judging.{committed_there, committed_unless_tail, info_there, info_too_long, no_info_there, tail_there}
 use Rattle.volume_scan.proofs.next.judge_info.Goals as goal
 
 pub returns-in-Info-clause-next : goal.returns-in-Info-clause-next
@@ -15,9 +16,10 @@ returns-in-Damaged-clause-next c rest long same = (
   no_info_there c.args.bytes.now rest c.args.room long same c.args.volume c.in-Damaged.ensures.tells.1,
 )
 
-pub returns-then-is_committed-clause-next : goal.returns-then-is_committed-clause-next
-returns-then-is_committed-clause-next c rest long same =
-    let past : c.args.room < c.in-Need.n = omega (arith, c.if-n-room.false) in (
-      committed_first c.args.bytes.now rest c.args.room long same (c.if-is_committed.ensures.committed refl),
+pub returns-else-n-room-clause-next : goal.returns-else-n-room-clause-next
+returns-else-n-room-clause-next c rest long same =
+    let past : c.args.room < c.in-Need.n = omega (arith, c.if-n-room.false) in
+    let two : 2 ≤ length c.args.bytes.now = omega (arith, c.requires.two, ltb-true (length c.args.bytes.now) c.args.room c.in-Need.ensures.tells.0) in (
+      committed_unless_tail c.args.bytes.now rest c.args.room long same two c.in-Need.ensures.tells.3,
       info_too_long c.args.bytes.now rest c.args.room long same c.args.volume c.in-Need.n c.in-Need.ensures.tells.2 past,
     )

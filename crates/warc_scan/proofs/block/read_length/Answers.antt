@@ -1,9 +1,10 @@
 -- A length is a number behind a name, and before an empty line.
-use Rattle.std.proofs.Common.{arith}
+use Rattle.std.proofs.Common.{inr, refl, arith}
 use Rattle.std.specs.Prelude.{codes}
 use Rattle.httparse.specs.Ascii.{crlf_bytes}
 use Rattle.warc_text.specs.Lines.{field, length_lines}
 use Rattle.warc_scan.specs.Blocks.{IsWord}
+use Rattle.warc_scan.specs.OpenValues.{IsPartOfNumber}
 use Rattle.warc_scan.specs.Stops.{NoneStands}
 use Rattle.warc_scan.proofs.Exits.{at_exit}
 use Rattle.warc_scan.proofs.Numbers.{number_line, number_told}
@@ -20,7 +21,8 @@ pub returns-in_err-n-clause-err : goal.returns-in_err-n-clause-err
 unfolding length_lines field
 returns-in_err-n-clause-err c =
     at_exit (λ s. NoneStands IsWord length_lines s c.args.bytes.now) _ c.from_residual-in_err-n.result c.from_residual-in_err-n.ensures.1
-    (at_value IsWord number_line _ (codes "Content-Length: ") crlf_bytes c.args.bytes.now c.in_ok-given.given.now c.in_ok-given.ensures.ok c.in_err-n.ensures.err)
+    (at_value IsWord number_line _ (codes "Content-Length: ") crlf_bytes c.args.bytes.now IsPartOfNumber c.in_ok-given.given.now (λ part. inr (inr (inr (inr (refl, part)))))
+    c.in_ok-given.ensures.ok c.in_err-n.ensures.err)
 
 pub returns-in_err-rest-clause-err : goal.returns-in_err-rest-clause-err
 unfolding length_lines field

@@ -1,7 +1,8 @@
 -- A number is a line of at most twenty digits.
 use Rattle.std.proofs.Common.{arith}
 use Rattle.warc_scan.specs.Blocks.{IsWord}
-use Rattle.warc_scan.specs.Stops.{NoneStands}
+use Rattle.warc_scan.specs.OpenValues.{IsPartOfNumber}
+use Rattle.warc_scan.specs.Stops.{NoValueStands}
 use Rattle.warc_scan.proofs.Exits.{at_exit}
 use Rattle.warc_scan.proofs.Numbers.{long_number, no_number, number_ends, number_line, number_stands, open_number}
 use Rattle.warc_scan.proofs.block.read_number.Goals as goal
@@ -18,7 +19,7 @@ returns-in_default-number_of-clause-err c =
 
 pub returns-in_err-rest-clause-err : goal.returns-in_err-rest-clause-err
 returns-in_err-rest-clause-err c =
-    at_exit (λ s. NoneStands IsWord number_line s c.args.bytes.now) _ c.from_residual.result c.from_residual.ensures.1
+    at_exit (λ s. NoValueStands IsWord number_line IsPartOfNumber s c.args.bytes.now) _ c.from_residual.result c.from_residual.ensures.1
     (number_ends _ c.args.bytes.now c.in-Some.digits.now c.in-Some.behind.now c.in-Some-number_of.n c.in-Some-number_of.ensures.some.0 c.in-Some-number_of.ensures.some.1
     c.in-Some.ensures.some c.in_err-rest.ensures.err)
 

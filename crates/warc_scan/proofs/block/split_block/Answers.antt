@@ -1,5 +1,5 @@
 -- Which blocks may stand behind an opening.
-use Rattle.std.proofs.Common.{◌≡◌, ℕ, ◌-◌, List, ◌++◌, length, drop, take, arith, sym, ap, ◌∙◌}
+use Rattle.std.proofs.Common.{◌≡◌, ℕ, ◌-◌, List, ◌++◌, length, length-append, drop, take, arith, sym, ap, ◌∙◌}
 use Rattle.std.proofs.lemmas.List.{take-append-drop}
 use Rattle.warc_text.specs.Lines.{record_end}
 use Rattle.warc_scan.specs.Blocks.{AsksForBlock, RefusesBlock}
@@ -53,7 +53,7 @@ returns-then-bytes-end-clause-asks c =
     (parts c.args.opening_len c.args.bytes.now c.split_at.result.1.now c.split_at.ensures.back) c.in_ok-told.ensures.ok.1 in
     ends_inside_block opening c.args.bytes.now c.in_ok-told.come.now c.in_ok-told.told read
     (length c.args.bytes.now - length c.in_ok-told.come.now) c.in-Some.end
-    (omega (arith, length-told opening c.args.bytes.now c.in_ok-told.come.now c.in_ok-told.told read)) c.in-Some.ensures.some.0
+    (omega (arith, length-told opening c.args.bytes.now c.in_ok-told.come.now c.in_ok-told.told read)) c.in-Some.ensures.some.0 (omega arith) c.in-Some.ensures.some.1
 
 pub returns-in_err-rest-clause-err : goal.returns-in_err-rest-clause-err
 unfolding record_end
@@ -73,9 +73,16 @@ returns-in_err-rest-clause-asks c =
     let read = telling opening c.args.bytes.now c.split_at.result.1.now c.in_ok-told.come.now c.in_ok-told.told c.in_ok-told.ensures.ok.0
     (parts c.args.opening_len c.args.bytes.now c.split_at.result.1.now c.split_at.ensures.back) c.in_ok-told.ensures.ok.1 in
     at_exit (λ s. AsksForBlock opening c.args.bytes.now s) _ c.from_residual-in_err-rest.result c.from_residual-in_err-rest.ensures.1
-    (asks_for_closing opening c.args.bytes.now c.in_ok-told.come.now c.split_at-2.result.0.now c.split_at-2.result.1.now c.in_ok-told.told _ read
-    (halves c.in_ok-told.told c.in_ok-told.come.now c.split_at-2.result.0.now c.split_at-2.result.1.now c.split_at-2.ensures.front c.split_at-2.ensures.back)
-    c.split_at-2.ensures.front_len c.in_err-rest.ensures.err)
+    (asks_for_closing opening c.args.bytes.now c.split_at-2.result.1.now _
+    (omega (
+      arith,
+      length-told opening c.args.bytes.now c.in_ok-told.come.now c.in_ok-told.told read,
+      c.in-Some.ensures.some.0,
+      ap length (halves c.in_ok-told.told c.in_ok-told.come.now c.split_at-2.result.0.now c.split_at-2.result.1.now c.split_at-2.ensures.front c.split_at-2.ensures.back),
+      length-append c.split_at-2.result.0.now c.split_at-2.result.1.now,
+      c.split_at-2.ensures.front_len,
+    ))
+    c.in_err-rest.ensures.err)
 
 pub returns-clause-ok : goal.returns-clause-ok
 unfolding record_end

@@ -1,12 +1,13 @@
-use Rattle.std.proofs.Common.{◌++◌, append_assoc, sym, subst}
+use Rattle.std.proofs.Common.{[], ◌++◌, append_assoc, inl, inr, sym, subst}
 use Rattle.std.specs.Prelude.{codes}
 use Rattle.std.proofs.lemmas.Result.{err_from_is_err_and, IfOk-weaker, IfErr-weaker}
 use Rattle.httparse.specs.Ascii.{crlf_bytes}
 use Rattle.warc_text.specs.Lines.{field}
+use Rattle.warc_scan.specs.OpenValues.{IsPartOfTarget}
 use Rattle.warc_scan.specs.Openings.{IsTarget}
 use Rattle.warc_scan.specs.Stops.{Differs}
 use Rattle.warc_scan.proofs.Pieces.{before_value, behind_mark}
-use Rattle.warc_scan.proofs.Refusals.{none_behind, none_same}
+use Rattle.warc_scan.proofs.Refusals.{at_mark, none_at, none_same}
 use Rattle.warc_scan.proofs.Samples.{some_target, some_target_is}
 use Rattle.warc_scan.proofs.fields.read_target_field.Goals as goal
 
@@ -34,5 +35,6 @@ returns-clause-err c =
     IfErr-weaker c.read_target.result _ _ (λ stop none.
     none_same IsTarget (λ uri. mark ++ (uri ++ crlf_bytes)) (λ uri. mark ++ uri ++ crlf_bytes) stop c.args.bytes.now
     (λ uri. sym (append_assoc mark uri crlf_bytes))
-    (none_behind IsTarget (λ uri. uri ++ crlf_bytes) stop c.args.bytes.now mark c.in_ok-given.given.now c.in_ok-given.ensures.ok none))
+    (none_at IsTarget (λ uri. uri ++ crlf_bytes) IsPartOfTarget stop c.args.bytes.now mark c.in_ok-given.given.now (λ part. at_mark [] mark c.in_ok-given.given.now (inr (inl (c.requires, part))))
+    c.in_ok-given.ensures.ok none))
     c.read_target.ensures.err

@@ -1,3 +1,4 @@
+use Rattle.std.proofs.Common.{inl, refl}
 use Rattle.warc_text.specs.Lines.{date_line, digest_line, target_line}
 use Rattle.warc_scan.specs.Openings.{IsOpening, front_text, start_text}
 use Rattle.warc_scan.specs.Stops.{NoneStands}
@@ -41,3 +42,9 @@ returns-clause-ok c =
     four (start_text c.args.word.now c.args.id.now) (date_line c.in_ok-date.date) (target_line c.in_ok-uri.uri.now) (digest_line c.in_ok-digest.digest)
     c.args.bytes.now c.in_ok-dated.dated.now c.in_ok-date.aimed.now c.in_ok-uri.digested.now c.in_ok-digest.rest.now
     c.in_ok-dated.ensures.ok c.in_ok-date.ensures.ok.1 c.in_ok-uri.ensures.ok.1 c.in_ok-digest.ensures.ok.1
+
+pub read_date_field-requires : goal.read_date_field-requires
+read_date_field-requires c = inl refl
+
+pub read_target_field-requires : goal.read_target_field-requires
+read_target_field-requires c = inl refl

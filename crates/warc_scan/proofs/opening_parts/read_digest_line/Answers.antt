@@ -1,10 +1,11 @@
-use Rattle.std.proofs.Common.{[], arith}
+use Rattle.std.proofs.Common.{[], inl, inr, refl, arith}
 use Rattle.std.specs.Prelude.{codes}
 use Rattle.std.proofs.lemmas.Bool.{false≢true}
 use Rattle.sha1.specs.Sha1.{sha1}
 use Rattle.httparse.specs.Ascii.{crlf_bytes}
 use Rattle.digest32.specs.Base32.{IsDigest, base32}
 use Rattle.warc_text.specs.Lines.{digest_line, field}
+use Rattle.warc_scan.specs.OpenValues.{IsPartOfDigest}
 use Rattle.warc_scan.specs.Stops.{NoneStands}
 use Rattle.warc_scan.proofs.DigestLines.{digest_stands, digest_told, no_digest, open_digest}
 use Rattle.warc_scan.proofs.Exits.{at_exit}
@@ -21,13 +22,13 @@ returns-in_err-given-clause-err c =
 pub returns-then-given-lt-DIGEST_LEN-clause-err : goal.returns-then-given-lt-DIGEST_LEN-clause-err
 unfolding digest_line field
 returns-then-given-lt-DIGEST_LEN-clause-err c =
-    at_value IsDigest base32 _ (codes "WARC-Payload-Digest: sha1:") crlf_bytes c.args.bytes.now c.in_ok-given.given.now c.in_ok-given.ensures.ok
+    at_value IsDigest base32 _ (codes "WARC-Payload-Digest: sha1:") crlf_bytes c.args.bytes.now IsPartOfDigest c.in_ok-given.given.now (λ part. inr (inr (inl (refl, part)))) c.in_ok-given.ensures.ok
     (open_digest c.in_ok-given.given.now (omega arith))
 
 pub returns-in_default-clause-err : goal.returns-in_default-clause-err
 unfolding digest_line field
 returns-in_default-clause-err c =
-    at_value IsDigest base32 _ (codes "WARC-Payload-Digest: sha1:") crlf_bytes c.args.bytes.now c.in_ok-given.given.now c.in_ok-given.ensures.ok
+    at_value IsDigest base32 _ (codes "WARC-Payload-Digest: sha1:") crlf_bytes c.args.bytes.now IsPartOfDigest c.in_ok-given.given.now (λ part. inr (inr (inl (refl, part)))) c.in_ok-given.ensures.ok
     (no_digest c.in_ok-given.given.now c.split_at.result.0.now (omega arith) c.split_at.ensures.front (λ is. false≢true (c.in_default.ensures.some.1 is)))
 
 pub returns-in_err-rest-clause-err : goal.returns-in_err-rest-clause-err

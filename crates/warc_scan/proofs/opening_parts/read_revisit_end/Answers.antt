@@ -1,3 +1,4 @@
+use Rattle.std.proofs.Common.{inr, refl}
 use Rattle.warc_text.specs.Lines.{refers_date_line, refers_line, refers_target_line}
 use Rattle.warc_text.specs.Records.{revisit_end}
 use Rattle.warc_scan.specs.Openings.{IsRevisited}
@@ -55,3 +56,9 @@ returns-clause-ok c =
     (record { id = c.in-Ok.read.0; uri = c.in_ok-uri.uri.now; date = c.in_ok-date.date })
     c.in-Ok.ensures.ok.1 c.in_ok-uri.ensures.ok.1 c.in_ok-date.ensures.ok.1)
     c.in_ok-typed.ensures.ok c.in_ok-rest.ensures.ok
+
+pub read_date_field-requires : goal.read_date_field-requires
+read_date_field-requires c = inr refl
+
+pub read_target_field-requires : goal.read_target_field-requires
+read_target_field-requires c = inr refl

@@ -1,32 +1,33 @@
-use Rattle.std.proofs.Common.{inl, inr, length, ◌+◌}
-use Rattle.warc_scan.proofs.StepLaws.{asks_asked, begun_asks, tells_open, tells_until, wrong_is_damaged}
+use Rattle.warc_scan.proofs.StepLaws.{begun_asks, ends_open, ends_until, needs_one, needs_record, needs_second_byte, wrong_is_damaged}
 use Rattle.warc_scan.proofs.scan_group.next_group.Goals as goal
+
+pub returns-in-Begun-clause-tells : goal.returns-in-Begun-clause-tells
+returns-in-Begun-clause-tells c =
+    needs_second_byte c.args.namespace.now c.args.number c.args.bytes.now c.args.more c.in-Begun.ensures.0 c.texts_are_committed.ensures.groups c.in-Begun.ensures.1
 
 pub returns-in-Begun-clause-asks : goal.returns-in-Begun-clause-asks
 returns-in-Begun-clause-asks c = begun_asks c.args.namespace.now c.args.number c.args.bytes.now c.in-Begun.ensures.1
 
-pub returns-in-Err-Open-clause-tells : goal.returns-in-Err-Open-clause-tells
-returns-in-Err-Open-clause-tells c =
+pub returns-then-more-clause-tells : goal.returns-then-more-clause-tells
+returns-then-more-clause-tells c =
     let refused = rw c.in-Err-Open.field-0-is at c.in-Err-Open.ensures.err in
-    tells_open c.args.namespace.now c.args.number c.args.bytes.now c.args.more c.asked.result c.asked.ensures c.in-Committed.ensures.1 refused
+    needs_one c.args.namespace.now c.args.number c.args.bytes.now c.args.more c.if-more.true c.in-Committed.ensures.1 refused
 
-pub returns-in-Err-Open-clause-asks : goal.returns-in-Err-Open-clause-asks
-returns-in-Err-Open-clause-asks c =
-    let asks = rw c.in-Err-Open.field-0-is at c.in-Err-Open.ensures.asks in
-    asks_asked c.args.namespace.now c.args.number c.args.bytes.now c.args.more (length c.args.bytes.now) (length c.args.bytes.now + 1) c.asked.result
-    c.asked.ensures (inl asks)
+pub returns-else-more-clause-tells : goal.returns-else-more-clause-tells
+returns-else-more-clause-tells c =
+    let refused = rw c.in-Err-Open.field-0-is at c.in-Err-Open.ensures.err in
+    ends_open c.args.namespace.now c.args.number c.args.bytes.now c.args.more c.if-more.false c.in-Committed.ensures.1 refused
 
-pub returns-in-Err-Until-clause-tells : goal.returns-in-Err-Until-clause-tells
-returns-in-Err-Until-clause-tells c =
+pub returns-then-more-2-clause-tells : goal.returns-then-more-2-clause-tells
+returns-then-more-2-clause-tells c =
     let refused = rw c.in-Err-Until.field-0-is at c.in-Err-Until.ensures.err in
-    tells_until c.args.namespace.now c.args.number c.args.bytes.now c.args.more c.in-Err-Until.n c.asked-in-Err-Until.result c.asked-in-Err-Until.ensures c.in-Committed.ensures.1
-    refused
-
-pub returns-in-Err-Until-clause-asks : goal.returns-in-Err-Until-clause-asks
-returns-in-Err-Until-clause-asks c =
     let asks = rw c.in-Err-Until.field-0-is at c.in-Err-Until.ensures.asks in
-    asks_asked c.args.namespace.now c.args.number c.args.bytes.now c.args.more (length c.args.bytes.now) c.in-Err-Until.n c.asked-in-Err-Until.result
-    c.asked-in-Err-Until.ensures (inr asks)
+    needs_record c.args.namespace.now c.args.number c.args.bytes.now c.args.more c.in-Err-Until.n c.if-more-2.true asks.block.inside c.in-Committed.ensures.1 refused
+
+pub returns-else-more-2-clause-tells : goal.returns-else-more-2-clause-tells
+returns-else-more-2-clause-tells c =
+    let refused = rw c.in-Err-Until.field-0-is at c.in-Err-Until.ensures.err in
+    ends_until c.args.namespace.now c.args.number c.args.bytes.now c.args.more c.in-Err-Until.n c.if-more-2.false c.in-Committed.ensures.1 refused
 
 pub returns-in-Err-Wrong-clause-tells : goal.returns-in-Err-Wrong-clause-tells
 returns-in-Err-Wrong-clause-tells c =

@@ -1,0 +1,5 @@
+use Rattle.volume_scan.proofs.EndLaws.{books_end}
+use Rattle.volume_scan.proofs.laws.books_end_with_what_was_read.Goals as goal
+
+pub returns : goal.returns
+returns c = books_end c.sound_volumes_have_one_text.ensures

@@ -1,0 +1,61 @@
+-- Which bytes may be the beginning of a value in a record's opening or in a warcinfo, and where such a value begins.
+use Rattle.std.specs.Prelude.{◌≡◌, ◌≢◌, ◌⊎◌, ℕ, ◌<◌, ◌≤◌, List, ◌++◌, codes, length, slice_index, IsTrue}
+use Rattle.capture.specs.Target.{is_target_text}
+use Rattle.warc_text.specs.Groups.{IsOneLine}
+
+-- ---- what each value stands behind
+
+abbrev pub IsDateMark : List ℕ → Type 0
+IsDateMark mark = (mark ≡ codes "WARC-Date: ") ⊎ (mark ≡ codes "WARC-Refers-To-Date: ")
+
+abbrev pub IsTargetMark : List ℕ → Type 0
+IsTargetMark mark = (mark ≡ codes "WARC-Target-URI: ") ⊎ (mark ≡ codes "WARC-Refers-To-Target-URI: ")
+
+abbrev pub digest_mark : List ℕ
+digest_mark = codes "WARC-Payload-Digest: sha1:"
+
+abbrev pub refers_mark : List ℕ
+refers_mark = codes "WARC-Refers-To: <urn:uuid:"
+
+-- the id of a warcinfo isn't known before its namespace is
+abbrev pub info_mark : List ℕ
+info_mark = codes "WARC/1.1\r\nWARC-Type: warcinfo\r\nWARC-Record-ID: <urn:uuid:"
+
+abbrev pub IsUuidMark : List ℕ → Type 0
+IsUuidMark mark = (mark ≡ refers_mark) ⊎ (mark ≡ info_mark)
+
+abbrev pub length_mark : List ℕ
+length_mark = codes "Content-Length: "
+
+-- ---- what may have come of it
+
+-- a date has twenty bytes where the last of these is `Z`, else twenty-four
+abbrev pub IsPartOfDate : List ℕ → Type 0
+IsPartOfDate part = (length part < 20) ⊎ ((length part < 24) × (slice_index part 19 ≢ 90))
+
+abbrev pub IsPartOfTarget : List ℕ → Type 0
+IsPartOfTarget part = IsTrue (is_target_text part)
+
+abbrev pub IsPartOfDigest : List ℕ → Type 0
+IsPartOfDigest part = length part < 32
+
+abbrev pub IsPartOfUuid : List ℕ → Type 0
+IsPartOfUuid part = length part < 36
+
+-- a number of 64 bits has at most twenty digits, and ends with its line
+abbrev pub IsPartOfNumber : List ℕ → Type 0
+IsPartOfNumber part = (length part ≤ 20) × IsOneLine part
+
+-- behind this mark
+abbrev pub IsPartBehind : List ℕ → List ℕ → Type 0
+IsPartBehind mark part =
+    (IsDateMark mark × IsPartOfDate part) ⊎ (IsTargetMark mark × IsPartOfTarget part)
+    ⊎ ((mark ≡ digest_mark) × IsPartOfDigest part) ⊎ (IsUuidMark mark × IsPartOfUuid part)
+    ⊎ ((mark ≡ length_mark) × IsPartOfNumber part)
+
+-- what was given ends where a value begins, of which this part may have come
+pub record IsOpenValue (given part : List ℕ) : Type 0 where
+  pub before : List ℕ
+  pub mark : List ℕ
+  pub ends : given ≡ before ++ mark
+  pub value : IsPartBehind mark part
