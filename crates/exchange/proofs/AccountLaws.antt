@@ -1,10 +1,9 @@
 -- The bytes that a link gave are those done, those of the message so far and those in the window.
-use Rattle.std.proofs.Common.{◌≡◌, ℕ, ◌+◌, Bool, true, IsTrue, List, [], ◌++◌, length, take, drop, Option, Some, None, refl, sym, ap, ◌∙◌, inl, inr, append_assoc}
+use Rattle.std.proofs.Common.{◌≡◌, ℕ, Bool, IsTrue, List, [], ◌++◌, take, drop, refl, sym, ap, ◌∙◌, append_assoc}
 use Rattle.std.proofs.lemmas.List.{append-nil, take-append-drop}
-use Rattle.capture.specs.First.{Side, Message, IsFirst}
 use Rattle.http_head.specs.declared.head.WireFault.{WireFault}
 use Rattle.http_head.specs.declared.head.WireFault.TheVariants.{Malformed, HeadTooLong, BodyTooLong, CodingRefused, EndedEarly, Memory}
-use Rattle.http_wire.specs.Reading.{Standing, ComesBeforeTheEnd, TakesSome}
+use Rattle.http_wire.specs.Reading.{ComesBeforeTheEnd}
 use Rattle.exchange.specs.Receiving.{StaysAccounted, BeginsAccounted, IsFrontOf, AccountsFault, MeetsEnd}
 use Rattle.exchange.specs.declared.receiving.Came.TheVariants as came
 

@@ -1,5 +1,5 @@
 -- The final response of a stream, behind its interim ones.
-use Rattle.std.proofs.Common.{◌≡◌, ◌≢◌, ℕ, ◌+◌, ◌<◌, ◌≤◌, Bool, true, false, List, [], ◌∷◌, ◌++◌, length, take, drop, Option, Some, None, Ok, Err, ◌⊎◌, inl, inr, refl, sym, ap, subst, ◌∙◌, arith, append_assoc, append-nil, length-append, length-drop}
+use Rattle.std.proofs.Common.{◌≡◌, ℕ, ◌+◌, ◌<◌, ◌≤◌, Bool, true, false, List, [], ◌∷◌, ◌++◌, length, take, drop, Option, Some, None, Ok, Err, inl, inr, refl, sym, ap, subst, ◌∙◌, arith, append_assoc, append-nil, length-append, length-drop}
 use Rattle.std.specs.Prelude.{Result, All, ⊤}
 use Rattle.std.specs.List.{flat_map}
 use Rattle.std.proofs.Math.Seq.{take-append_seam, drop-append_seam}
@@ -10,8 +10,7 @@ use Rattle.httparse.proofs.GrammarLemmas.{response_unique}
 use Rattle.httparse.specs.Grammar.{ResponseHead, status_code}
 use Rattle.capture.specs.Body.{IsBody, IsCutWire, IsWire}
 use Rattle.capture.specs.Final.{IsInterim, BeginsWithInterim, BehindInterims, Arrived, IsArrival}
-use Rattle.capture.specs.Final.{TooManyInterim as MoreInterim}
-use Rattle.capture.specs.First.{Side, Responses, First, Message, Refused, NothingBegun, HeadNeeded, BodyNeeded, IsFirst, HeadTells, BehindHead, RefusesBody, BeginsBody, fault_at_head}
+use Rattle.capture.specs.First.{Responses, First, Message, Refused, NothingBegun, HeadNeeded, BodyNeeded, IsFirst, BehindHead, RefusesBody, BeginsBody, fault_at_head}
 use Rattle.capture.specs.Framing.{response_framing}
 use Rattle.capture.specs.Head.{front_of, Head, TooLong, Nothing, More}
 use Rattle.capture.specs.Message.{IsResponseHeadText}
@@ -22,21 +21,22 @@ use Rattle.capture.specs.declared.framing.MessageFault.{MessageFault}
 use Rattle.capture.specs.declared.framing.MessageFault.TheVariants as message_fault
 use Rattle.capture.specs.declared.limits.TheConstants.{INTERIM_LIMIT}
 use Rattle.http_head.specs.FrontLaws.{HeadsStay}
-use Rattle.http_head.specs.Heads.{HoldsResponse}
 use Rattle.http_head.specs.declared.head.Received.{Received}
 use Rattle.http_wire.specs.Messages.{IsResponse}
-use Rattle.exchange.specs.Fetches.{Answers, ComesTo, ArrivesWhole, ArrivesCut, Receives, Sends, TakesFirst, Yields, GoesOnWith}
-use Rattle.exchange.specs.Writing.{IsProperFrontOf}
+use Rattle.exchange.specs.Fetches.{Answers, ComesTo, Inflow, Receives, Sends, Yields, GoesOnWith}
 use Rattle.exchange.specs.declared.fetching.FetchFault.{FetchFault}
 use Rattle.exchange.specs.declared.fetching.FetchFault.TheVariants.{DialFault, OriginFault, OriginEnded, OriginMalformed, OriginTooLong, TooManyInterim, Memory}
 use Rattle.exchange.proofs.FrontParts.{parts_of_head}
+
+abbrev pub inflow : List ℕ → List ℕ → Inflow
+inflow given window = record { given = given; window = window }
 
 -- ---- one text is one head
 
 pub one_parse : (text : List ℕ) (h k : ResponseHead) → IsResponseHeadText text h → IsResponseHeadText text k → h ≡ k
 one_parse text h k first second = (response_unique text h k [] [] first.reads second.reads).0
 
-one_head : (f : List ℕ) (skipped other : ℕ) (text text_too : List ℕ) → front_of f ≡ Head skipped text → front_of f ≡ Head other text_too
+pub one_head : (f : List ℕ) (skipped other : ℕ) (text text_too : List ℕ) → front_of f ≡ Head skipped text → front_of f ≡ Head other text_too
     → text ≡ text_too
 one_head f skipped other text text_too e d = let same : Head skipped text ≡ Head other text_too = sym e ∙ d in cc
 
@@ -87,13 +87,13 @@ IsFinal NothingBegun = ⊥
 IsFinal HeadNeeded = ⊤
 IsFinal BodyNeeded = ⊤
 
-no_head_is_none : (k : ℕ) (t : List ℕ) → Nothing ≡ Head k t → ⊥
+pub no_head_is_none : (k : ℕ) (t : List ℕ) → Nothing ≡ Head k t → ⊥
 no_head_is_none k t d = cc
 
-no_head_in_more : (k : ℕ) (t : List ℕ) → More ≡ Head k t → ⊥
+pub no_head_in_more : (k : ℕ) (t : List ℕ) → More ≡ Head k t → ⊥
 no_head_in_more k t d = cc
 
-no_head_too_long : (k : ℕ) (t : List ℕ) → TooLong ≡ Head k t → ⊥
+pub no_head_too_long : (k : ℕ) (t : List ℕ) → TooLong ≡ Head k t → ⊥
 no_head_too_long k t d = cc
 
 abbrev ok_framing : Framing → Result Framing FramingFault
@@ -199,7 +199,7 @@ dropped given window many awaits = flat_map (λ text. text) awaits.interims
 
 pub awaits_next : (answers_head ended : Bool) (given window given_now window_now : List ℕ) (many : ℕ) (received : Received)
     (awaits : Awaits given window many)
-    → GoesOnWith answers_head (Ok received) (dropped given window many awaits) given_now window_now ended
+    → GoesOnWith answers_head (Ok received) (dropped given window many awaits) (inflow given_now window_now) ended
     → received.head.status < 200 → Awaits given_now window_now (many + 1)
 awaits_next answers_head ended given window given_now window_now many received awaits further low =
     let first = further.yields in
@@ -238,7 +238,7 @@ comes_to stay answers_head ended given window given_now stream many awaits first
 
 pub fails : HeadsStay → (answers_head ended : Bool) (given window given_now window_now : List ℕ) (many : ℕ) (fault : FetchFault)
     (awaits : Awaits given window many) → many ≤ INTERIM_LIMIT
-    → GoesOnWith answers_head (Err fault) (dropped given window many awaits) given_now window_now ended
+    → GoesOnWith answers_head (Err fault) (dropped given window many awaits) (inflow given_now window_now) ended
     → Receives answers_head (Err fault) given_now ended
 fails stay answers_head ended given window given_now window_now many fault awaits few further =
     by_fault fault further.yields
@@ -261,7 +261,7 @@ fails stay answers_head ended given window given_now window_now many fault await
 
 pub too_many : (answers_head ended : Bool) (given window given_now window_now : List ℕ) (many : ℕ) (received : Received)
     (awaits : Awaits given window many) → many ≡ INTERIM_LIMIT
-    → GoesOnWith answers_head (Ok received) (dropped given window many awaits) given_now window_now ended
+    → GoesOnWith answers_head (Ok received) (dropped given window many awaits) (inflow given_now window_now) ended
     → received.head.status < 200 → Receives answers_head (Err TooManyInterim) given_now ended
 too_many answers_head ended given window given_now window_now many received awaits full further low =
     let first = further.yields in
@@ -272,7 +272,7 @@ too_many answers_head ended given window given_now window_now many received awai
 
 pub arrives : HeadsStay → (answers_head ended : Bool) (given window given_now window_now : List ℕ) (many : ℕ) (received : Received)
     (awaits : Awaits given window many) → many ≤ INTERIM_LIMIT
-    → GoesOnWith answers_head (Ok received) (dropped given window many awaits) given_now window_now ended
+    → GoesOnWith answers_head (Ok received) (dropped given window many awaits) (inflow given_now window_now) ended
     → 200 ≤ received.head.status → Receives answers_head (Ok received) given_now ended
 arrives stay answers_head ended given window given_now window_now many received awaits few further final =
     by_cut received.cut refl
@@ -332,10 +332,10 @@ all_sent answers_head ended (Err Memory) request taken given all receives = all
 
 -- what was told of any bytes before is told behind the interim responses
 pub further_from : (answers_head other ended : Bool) (result : Result Received FetchFault) (given window given_now window_now : List ℕ) (many : ℕ)
-    (awaits : Awaits given window many) → other ≡ answers_head → Answers other result given window given_now window_now ended
-    → GoesOnWith answers_head result (dropped given window many awaits) given_now window_now ended
+    (awaits : Awaits given window many) → other ≡ answers_head → Answers other result (inflow given window) (inflow given_now window_now) ended
+    → GoesOnWith answers_head result (dropped given window many awaits) (inflow given_now window_now) ended
 further_from answers_head other ended result given window given_now window_now many awaits same answers =
-    subst (λ a. GoesOnWith a result (dropped given window many awaits) given_now window_now ended) same
+    subst (λ a. GoesOnWith a result (dropped given window many awaits) (inflow given_now window_now) ended) same
     (answers (dropped given window many awaits) awaits.composed)
 
 -- from a link that gave nothing a head is to come

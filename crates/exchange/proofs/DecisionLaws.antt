@@ -1,15 +1,13 @@
 -- What was decided of a stream stays so, however the stream goes on.
-use Rattle.std.proofs.Common.{◌≡◌, ℕ, ◌+◌, ◌<◌, ◌≤◌, Bool, true, false, List, [], ◌∷◌, ◌++◌, length, drop, Ok, inl, inr, refl, sym, ap, ◌∙◌, arith, append_assoc, length-append}
+use Rattle.std.proofs.Common.{◌≡◌, ℕ, ◌≤◌, Bool, true, false, List, ◌∷◌, ◌++◌, length, Ok, inl, inr, sym, ap, ◌∙◌, arith, append_assoc, length-append}
 use Rattle.std.specs.Prelude.{Result}
 use Rattle.std.proofs.lemmas.List.{drop-append-le}
 use Rattle.capture.specs.Chunks.{print_chunked, print_cut}
-use Rattle.capture.specs.First.{Side, Message, Refused, IsFirst, BehindHead, HasNoHead, RefusesAtHead, RefusesBehindHead, HoldsBody, RefusesBody, IsRefused, HoldsMessage}
-use Rattle.capture.specs.FirstChunks.{HoldsChunked, RefusesChunked}
+use Rattle.capture.specs.First.{Side, BehindHead, HoldsBody, RefusesBody}
 use Rattle.capture.specs.declared.framing.Framing.{Framing}
 use Rattle.capture.specs.declared.framing.Framing.TheVariants.{Empty, Length, Chunked, ToEnd}
 use Rattle.capture.specs.declared.framing.FramingFault.{FramingFault}
 use Rattle.capture.specs.declared.framing.MessageFault.{MessageFault}
-use Rattle.capture.specs.declared.limits.TheConstants.{BODY_LIMIT}
 use Rattle.exchange.specs.Decisions.{MessagesStay, RefusalsStay}
 use Rattle.http_head.specs.FrontLaws.{HeadsStay, TooLongStays}
 use Rattle.exchange.proofs.FrontParts.{parts_of_head}

@@ -1,20 +1,23 @@
 -- A window that is fed to a reader, by what the reader tells.
-use Rattle.std.proofs.Common.{◌≡◌, ℕ, ◌+◌, ◌*◌, ◌-◌, ◌<◌, ◌≤◌, Bool, true, false, List, [], ◌∷◌, ◌++◌, length, take, drop, Ok, Err, inl, inr, refl, sym, ap, subst, ◌∙◌, arith, length-append}
-use Rattle.std.specs.Prelude.{IsTrue, ◌↔◌, Result}
+use Rattle.std.proofs.Common.{◌≡◌, ℕ, ◌+◌, ◌*◌, ◌-◌, ◌<◌, Bool, false, List, [], ◌∷◌, ◌++◌, length, take, drop, Ok, Err, inl, inr, refl, sym, ap, subst, ◌∙◌, arith, length-append}
+use Rattle.std.specs.Prelude.{IsTrue, IsSome, ◌↔◌, Option, Result}
 use Rattle.std.proofs.lemmas.Bool.{false≢true}
 use Rattle.std.proofs.lemmas.List.{drop_all, take_all}
 use Rattle.capture.specs.First.{Side, Message, IsFirst}
 use Rattle.capture.specs.declared.limits.TheConstants.{HEAD_LIMIT, BODY_LIMIT}
 use Rattle.http_head.specs.declared.head.WireFault.{WireFault}
-use Rattle.http_wire.specs.Answers.{Reaches, LeavesAt, IsWholeNow}
+use Rattle.http_wire.specs.Answers.{HeadsBy, Reaches, LeavesAt, IsWholeNow}
 use Rattle.http_wire.specs.Reading.{Standing, Open, Whole, Failed, HasFault, IsUndecided, ComesBeforeTheEnd, TakesSome}
 use Rattle.http_wire.specs.declared.progress.Fed.{Fed}
 use Rattle.http_wire.specs.declared.progress.Progress.{Progress}
 use Rattle.http_wire.specs.declared.progress.Progress.TheVariants.{More, Head}
 use Rattle.http_wire.specs.declared.progress.Progress.TheVariants.{Whole as WholeNow}
-use Rattle.exchange.specs.Receiving.{Feeds, IsFrontOf, MayGoOn}
+use Rattle.exchange.specs.Receiving.{BringsHead, Feeds, Input, MayGoOn}
 use Rattle.exchange.proofs.AccountLaws.{split_window, front_of_window}
 use Rattle.exchange.proofs.FrontParts.{undecided_is_short}
+
+abbrev pub input : List ℕ → List ℕ → Input
+input stream window = record { stream = stream; window = window }
 
 -- what a reader says of a message that was whole before
 pub record StaysWhole (progress : Progress) (stream stream_now : List ℕ) (standing : Standing) : Type 0 where
@@ -49,7 +52,7 @@ pub feeds_ok : (side : Side) (progress : Progress) (used : ℕ) (stream window s
     → MayGoOn side stream old → stream_now ≡ stream ++ take used window → window_now ≡ drop used window
     → (progress ≡ More → used ≡ length window) → (old ≡ Open → Reaches side progress stream_now) → (old ≡ Open → LeavesAt progress new)
     → (old ≡ Open → IsWholeNow side stream_now new) → (old ≡ Whole → StaysWhole progress stream stream_now new)
-    → Feeds side (Ok progress) stream window stream_now window_now new
+    → Feeds side (Ok progress) (input stream window) (input stream_now window_now) new
 feeds_ok side More used stream window stream_now window_now old new (inl is_open) taken left all reaches leaves whole again =
     let n : used ≡ length window = all refl in
     let every : take used window ≡ window = take_all used window (omega (arith, n)) in
@@ -74,11 +77,24 @@ feeds_ok side WholeNow used stream window stream_now window_now old new (inr was
     )
 
 pub feeds_err : (side : Side) (fault : WireFault) (stream window stream_now window_now : List ℕ) (old new : Standing) → MayGoOn side stream old
-    → TakesSome side stream window stream_now → HasFault side fault stream_now → (old ≡ Open → new ≡ Failed fault)
-    → (old ≡ Open → ComesBeforeTheEnd fault) → (old ≡ Whole → ⊥) → Feeds side (Err fault) stream window stream_now window_now new
-feeds_err side fault stream window stream_now window_now old new (inl is_open) takes has leaves before never =
-    (front_of_window stream window stream_now takes.0 takes.1.stream_is, leaves is_open, has, before is_open)
-feeds_err side fault stream window stream_now window_now old new (inr was) takes has leaves before never = absurd (never was.0)
+    → TakesSome side stream window stream_now → window_now ≡ [] → HasFault side fault stream_now → (old ≡ Open → new ≡ Failed fault)
+    → (old ≡ Open → ComesBeforeTheEnd fault) → (old ≡ Whole → ⊥)
+    → Feeds side (Err fault) (input stream window) (input stream_now window_now) new
+feeds_err side fault stream window stream_now window_now old new (inl is_open) takes none has leaves before never =
+    (front_of_window stream window stream_now takes.0 takes.1.stream_is, none, leaves is_open, has, before is_open)
+feeds_err side fault stream window stream_now window_now old new (inr was) takes none has leaves before never = absurd (never was.0)
+
+-- ---- the head
+
+pub heads_ok : {H : Type 0} → (side : Side) (progress : Progress) (stream : List ℕ) (old new : Option H) (standing : Standing)
+    → MayGoOn side stream standing → (standing ≡ Whole → IsSome old) → (standing ≡ Open → HeadsBy progress old new)
+    → (standing ≡ Whole → (progress ≡ WholeNow) × (new ≡ old)) → BringsHead (Ok progress) old new
+heads_ok side More stream old new standing (inl is_open) held heads again = heads is_open
+heads_ok side Head stream old new standing (inl is_open) held heads again = heads is_open
+heads_ok side WholeNow stream old new standing (inl is_open) held heads again = heads is_open
+heads_ok side More stream old new standing (inr was) held heads again = absurd (more_is_not_whole (again was.0).0)
+heads_ok side Head stream old new standing (inr was) held heads again = absurd (head_is_not_whole (again was.0).0)
+heads_ok side WholeNow stream old new standing (inr was) held heads again = (held was.0, (again was.0).1)
 
 -- ---- the loop
 

@@ -1,13 +1,13 @@
 -- How long a head is that stands at a stream's front, and a stream in which nothing is decided.
-use Rattle.std.proofs.Common.{◌≡◌, ℕ, ◌+◌, ◌-◌, ◌<◌, ◌≤◌, Bool, true, false, ◌&&◌, cond, eqb, leb, ltb, List, [], ◌∷◌, ◌++◌, length, take, drop, Option, Some, None, inl, inr, refl, sym, ap, ◌∙◌, arith, length-append, length-take, length-drop}
+use Rattle.std.proofs.Common.{◌≡◌, ℕ, ◌+◌, ◌-◌, ◌≤◌, Bool, true, false, ◌&&◌, cond, eqb, leb, ltb, List, [], ◌∷◌, length, take, drop, Option, Some, None, inl, inr, refl, sym, ap, ◌∙◌, arith, length-append, length-take, length-drop}
 use Rattle.std.specs.Prelude.{option_map, ⊤}
 use Rattle.std.specs.List.{flat_map}
 use Rattle.std.proofs.lemmas.Bool.{cond_both, leb-true, ltb-false}
 use Rattle.httparse.specs.Grammar.{print_chunk_line}
-use Rattle.capture.specs.Body.{IsCutWire, announced_begun}
-use Rattle.capture.specs.Chunks.{Begun, InLine, InData, InLineEnd, InTrailer, IsBegun, print_begun, print_chunk, print_cut}
-use Rattle.capture.specs.First.{Side, NothingBegun, HeadNeeded, BodyNeeded, IsFirst, BehindHead, BeginsBody}
-use Rattle.capture.specs.Head.{Front, line_ends_len, after_line_ends, head_len, head_end, field_lines, front_of, front_by, front_of_head, front_without_head, Head, TooLong, Nothing, More}
+use Rattle.capture.specs.Body.{announced_begun}
+use Rattle.capture.specs.Chunks.{Begun, InLine, InData, InLineEnd, InTrailer, IsBegun, print_begun, print_chunk}
+use Rattle.capture.specs.First.{Side, BeginsBody}
+use Rattle.capture.specs.Head.{Front, line_ends_len, after_line_ends, head_len, head_end, field_lines, front_of, front_by, front_without_head, Head, TooLong, Nothing, More}
 use Rattle.capture.specs.declared.framing.Framing.{Framing}
 use Rattle.capture.specs.declared.framing.Framing.TheVariants.{Empty, Length, Chunked, ToEnd}
 use Rattle.capture.specs.declared.limits.TheConstants.{HEAD_LIMIT, BODY_LIMIT, FIELD_LIMIT}
@@ -28,10 +28,15 @@ first_holds : (a b : Bool) → (a && b) ≡ true → a ≡ true
 first_holds true b e = refl
 first_holds false b e = e
 
+second_holds : (a b : Bool) → (a && b) ≡ true → b ≡ true
+second_holds true b e = e
+second_holds false b e = absurd cc
+
 -- where a head within the limits ends
 pub record HeadParts (stream : List ℕ) (skipped : ℕ) (text : List ℕ) : Type 0 where
   pub fits : skipped + length text ≤ length stream
   pub short : skipped + length text ≤ HEAD_LIMIT
+  pub few : leb (field_lines text) FIELD_LIMIT ≡ true
 
 no_head_without_end : (stream : List ℕ) (skipped : ℕ) (text : List ℕ) → front_without_head stream ≡ Head skipped text → ⊥
 no_head_without_end stream skipped text =
@@ -40,15 +45,17 @@ no_head_without_end stream skipped text =
     (λ _. cond_both (eqb (line_ends_len stream) (length stream)) Nothing More (λ f. f ≡ Head skipped text → ⊥) (λ _ e. cc) (λ _ e. cc))
 
 parts_of_same : (stream : List ℕ) (n skipped : ℕ) (text : List ℕ) → line_ends_len stream + n ≤ HEAD_LIMIT
+    → leb (field_lines (drop (line_ends_len stream) (take (line_ends_len stream + n) stream))) FIELD_LIMIT ≡ true
     → line_ends_len stream ≡ skipped → drop (line_ends_len stream) (take (line_ends_len stream + n) stream) ≡ text
     → HeadParts stream skipped text
-parts_of_same stream n skipped text short is is_text =
+parts_of_same stream n skipped text short few is is_text =
     let end = line_ends_len stream + n in
     let long : length text ≡ length (take end stream) - line_ends_len stream =
     sym (ap length is_text) ∙ length-drop (line_ends_len stream) (take end stream) in
     record {
       fits = omega (arith, is, long, length-take end stream, line_ends_fit stream);
       short = omega (arith, is, long, length-take end stream, line_ends_fit stream, short);
+      few = ap (λ t. leb (field_lines t) FIELD_LIMIT) (sym is_text) ∙ few;
     }
 
 parts_by : (stream : List ℕ) (found : Option ℕ) (skipped : ℕ) (text : List ℕ)
@@ -62,7 +69,8 @@ parts_by stream (Some n) skipped text e =
     (λ within same.
     let is : line_ends_len stream ≡ skipped = cc in
     let is_text : found ≡ text = cc in
-    parts_of_same stream n skipped text (leb-true end HEAD_LIMIT (first_holds (leb end HEAD_LIMIT) (leb (field_lines found) FIELD_LIMIT) within)) is is_text)
+    parts_of_same stream n skipped text (leb-true end HEAD_LIMIT (first_holds (leb end HEAD_LIMIT) (leb (field_lines found) FIELD_LIMIT) within))
+    (second_holds (leb end HEAD_LIMIT) (leb (field_lines found) FIELD_LIMIT) within) is is_text)
     (λ _ same. absurd (long_is_no_head skipped text same)) e
   where
     long_is_no_head : (k : ℕ) (t : List ℕ) → TooLong ≡ Head k t → ⊥
@@ -96,13 +104,13 @@ nothing_is_short stream e = open_by stream (head_end stream) (rw e tt)
 more_is_short : (stream : List ℕ) → front_of stream ≡ More → length stream ≤ HEAD_LIMIT
 more_is_short stream e = open_by stream (head_end stream) (rw e tt)
 
-begun_is_short : (begun : Begun) → IsBegun begun → length (print_begun begun) ≤ announced_begun begun
+pub begun_is_short : (begun : Begun) → IsBegun begun → length (print_begun begun) ≤ announced_begun begun
 begun_is_short (InLine come) valid = omega arith
 begun_is_short (InData line come) valid = omega (arith, valid.1, length-append (print_chunk_line line) come)
 begun_is_short (InLineEnd line data_bytes come) valid = omega arith
 begun_is_short (InTrailer line come) valid = omega arith
 
-body_is_short : (framing : Framing) (rest : List ℕ) → BeginsBody framing false rest → length rest ≤ BODY_LIMIT
+pub body_is_short : (framing : Framing) (rest : List ℕ) → BeginsBody framing false rest → length rest ≤ BODY_LIMIT
 body_is_short Empty rest body = absurd body
 body_is_short (Length n) rest body = omega (arith, body.0, body.1)
 body_is_short Chunked rest body =

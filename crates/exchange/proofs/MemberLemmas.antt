@@ -1,14 +1,11 @@
 -- The members of a list between commas, the blanks around each, and the names that the Connection fields list.
-use Rattle.std.proofs.Common.{◌≡◌, ℕ, ◌+◌, ◌-◌, ◌<◌, ◌≤◌, suc, Bool, true, false, not, ◌||◌, ◌==◌, List, [], ◌∷◌, ◌++◌, map, reverse, length, take, drop, get_or, cond, filter, Bor, refl, sym, ap, ◌∙◌, append_assoc, append-nil, arith, length-drop, if◌then◌else◌}
-use Rattle.std.specs.List.{prefix_len, list_any, flat_map}
-use Rattle.std.proofs.lemmas.List.{reverse-append, reverse-reverse, length-reverse, take-append-drop, map-append, take_more, take_all}
+use Rattle.std.proofs.Common.{◌≡◌, ℕ, ◌+◌, ◌<◌, ◌≤◌, Bool, true, false, ◌||◌, List, [], ◌∷◌, ◌++◌, map, length, take, get_or, filter, Bor, refl, sym, ap, ◌∙◌, append_assoc, append-nil, if◌then◌else◌}
+use Rattle.std.specs.List.{list_any, flat_map}
+use Rattle.std.proofs.lemmas.List.{map-append, take_more, take_all}
 use Rattle.std.proofs.lemmas.List.Elements.{filter-append}
 use Rattle.std.proofs.lemmas.Grind.{flat_map-append}
-use Rattle.std.proofs.lemmas.List.Sums.{prefix_len-le-length}
-use Rattle.std.proofs.Math.Seq.{take-length}
-use Rattle.httparse.specs.Ascii.{comma}
-use Rattle.httparse.specs.Grammar.{is_ows, skip_ows, trim_ows}
-use Rattle.capture.specs.Fields.{NamedValue, is_named, split_at_commas, onto_first}
+use Rattle.httparse.specs.Grammar.{trim_ows}
+use Rattle.capture.specs.Fields.{NamedValue, is_named, split_at_commas}
 use Rattle.http_head.specs.declared.head.Field.{Field}
 use Rattle.http_head.specs.Heads.{named_value}
 use Rattle.message_body.specs.Framings.{members}

@@ -2,21 +2,22 @@
 use Rattle.std.proofs.Common.{◌≡◌, ℕ, ◌<◌, Bool, true, false, List, [], ◌++◌, length, Option, Some, None, Ok, Err, inl, inr, refl, sym, ap, subst, ◌∙◌, arith, append_assoc, append-nil}
 use Rattle.std.specs.Prelude.{IsSome}
 use Rattle.std.proofs.lemmas.Bool.{false≢true}
-use Rattle.capture.specs.First.{Side, Requests, Responses, Message, Refused, HeadNeeded, BodyNeeded, IsFirst}
+use Rattle.capture.specs.First.{Requests, Responses, Message, BodyNeeded, IsFirst}
 use Rattle.capture.specs.declared.framing.MessageFault.TheVariants as message_fault
 use Rattle.http_head.specs.declared.head.Received.{Received}
 use Rattle.http_head.specs.declared.head.WireFault.{WireFault}
 use Rattle.http_head.specs.declared.head.WireFault.TheVariants.{Malformed, HeadTooLong, BodyTooLong, CodingRefused, EndedEarly, Memory}
 use Rattle.http_wire.specs.HeldBodies.{closed_standing}
 use Rattle.http_wire.specs.Messages.{IsResponse}
-use Rattle.http_wire.specs.Reading.{Standing, Open, Whole, Cut, Failed, HasFault, IsUndecided, Stands}
+use Rattle.http_wire.specs.Reading.{Standing, Whole, Cut, HasFault, IsUndecided, Stands}
 use Rattle.exchange.specs.Decisions.{MessagesStay, RefusalsStay}
-use Rattle.exchange.specs.Fetches.{Answers, CountsFetch, GoesOnWith, IsFaultOf, TakesFirst, Yields}
+use Rattle.exchange.specs.Fetches.{Answers, CountsFetch, IsFaultOf, Yields}
 use Rattle.exchange.specs.Receiving.{StaysAccounted, AccountsFault, MeetsEnd, BeginsAccounted}
 use Rattle.exchange.specs.declared.fetching.FetchFault.{FetchFault}
-use Rattle.exchange.specs.declared.fetching.FetchFault.TheVariants.{DialFault, OriginFault, OriginEnded, OriginMalformed, OriginTooLong, TooManyInterim}
+use Rattle.exchange.specs.declared.fetching.FetchFault.TheVariants.{OriginFault, OriginMalformed, OriginTooLong}
 use Rattle.exchange.specs.declared.fetching.FetchFault.TheVariants.{Memory as WantOfMemory}
 use Rattle.exchange.specs.declared.receiving.Came.TheVariants as came
+use Rattle.exchange.proofs.ArrivalLaws.{inflow}
 
 -- ---- the head comes once
 
@@ -49,7 +50,7 @@ from_window given start window done none split = split ∙ ap (λ s. done ++ (s 
 pub whole_answers : MessagesStay → (answers_head ended : Bool) (given start window0 now stream window : List ℕ) (standing : Standing)
     (received : Received) → start ≡ [] → StaysAccounted given (start ++ window0) now (stream ++ window) → standing ≡ Whole
     → IsFirst (Responses answers_head) false stream (Message (length stream)) → IsResponse answers_head stream received
-    → standing ≡ closed_standing received.cut → Answers answers_head (Ok received) given window0 now window ended
+    → standing ≡ closed_standing received.cut → Answers answers_head (Ok received) (inflow given window0) (inflow now window) ended
 whole_answers stay answers_head ended given start window0 now stream window standing received none accounts whole first response is =
     λ done split. record {
       stream = stream ++ window;
@@ -66,7 +67,7 @@ whole_answers stay answers_head ended given start window0 now stream window stan
 pub ended_answers : (answers_head ended : Bool) (given start window0 now stream window : List ℕ) (standing : Standing)
     (received : Received) → start ≡ [] → StaysAccounted given (start ++ window0) now (stream ++ window) → window ≡ []
     → Stands (Responses answers_head) stream standing → IsResponse answers_head stream received
-    → standing ≡ closed_standing received.cut → ended ≡ true → Answers answers_head (Ok received) given window0 now window ended
+    → standing ≡ closed_standing received.cut → ended ≡ true → Answers answers_head (Ok received) (inflow given window0) (inflow now window) ended
 ended_answers answers_head ended given start window0 now stream window standing received none accounts empty stands response is met =
     let all : stream ++ window ≡ stream = ap (λ w. stream ++ w) empty ∙ append-nil stream in
     λ done split. record {
@@ -101,7 +102,7 @@ broken_yields answers_head ended stream window (inr (inr body)) = inr body
 
 pub broken_answers : (answers_head ended : Bool) (given start window0 now stream window : List ℕ) → start ≡ []
     → StaysAccounted given (start ++ window0) now (stream ++ window) → window ≡ [] → IsUndecided (Responses answers_head) false stream
-    → Answers answers_head (Err OriginFault) given window0 now window ended
+    → Answers answers_head (Err OriginFault) (inflow given window0) (inflow now window) ended
 broken_answers answers_head ended given start window0 now stream window none accounts empty undecided =
     λ done split. record {
       stream = stream;
@@ -114,7 +115,7 @@ broken_answers answers_head ended given start window0 now stream window none acc
 faulty : RefusalsStay → (answers_head ended : Bool) (fault : FetchFault) (given start window0 now stream window : List ℕ) → start ≡ []
     → BeginsAccounted given (start ++ window0) now stream
     → ((rest : List ℕ) → Yields answers_head (Err fault) (stream ++ rest) window ended)
-    → Answers answers_head (Err fault) given window0 now window ended
+    → Answers answers_head (Err fault) (inflow given window0) (inflow now window) ended
 faulty stay answers_head ended fault given start window0 now stream window none begins yields =
     λ done split.
     let front = begins done (from_window given start window0 done none split) in
@@ -127,7 +128,7 @@ faulty stay answers_head ended fault given start window0 now stream window none 
 pub refused_answers : RefusalsStay → (answers_head before ended : Bool) (fault : WireFault) (why : FetchFault) (given start window0 now stream window : List ℕ)
     → start ≡ [] → AccountsFault fault given (start ++ window0) now stream → MeetsEnd (came.Refused fault) before ended
     → HasFault (Responses answers_head) fault stream → IsFaultOf fault why
-    → Answers answers_head (Err why) given window0 now window ended
+    → Answers answers_head (Err why) (inflow given window0) (inflow now window) ended
 refused_answers stay answers_head before ended Malformed why given start window0 now stream window none accounts meets has is =
     rw is (faulty stay answers_head ended OriginMalformed given start window0 now stream window none accounts
     (λ rest. inl (stay (Responses answers_head) ended stream rest message_fault.Malformed has)))

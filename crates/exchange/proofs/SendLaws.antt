@@ -1,7 +1,7 @@
 -- A text that is written piece by piece.
 use Rattle.std.proofs.Common.{◌≡◌, ℕ, ◌<◌, List, [], ◌++◌, length, take, drop, refl, sym, ap, ◌∙◌, append_assoc, rules}
 use Rattle.std.proofs.lemmas.List.{take-append-drop}
-use Rattle.exchange.specs.Writing.{IsProperFrontOf, GrowsByProperFront}
+use Rattle.exchange.specs.Writing.{GrowsByProperFront}
 
 -- the bytes have grown by what stands before the rest of the text
 pub record Sends (before now text rest : List ℕ) : Type 0 where

@@ -1,5 +1,5 @@
 -- Where a request is aimed (RFC 9112, section 3.2).
-use Rattle.std.specs.Prelude.{◌≡◌, ⊤, ℕ, Bool, not, ◌&&◌, ◌==◌, nat_eq, List, codes, Result, Ok, Err, None, if◌then◌else◌}
+use Rattle.std.specs.Prelude.{◌≡◌, ⊤, ℕ, ◌^◌, ◌<◌, Bool, not, ◌&&◌, ◌==◌, nat_eq, List, codes, length, Result, Ok, Err, None, if◌then◌else◌}
 use Rattle.std.specs.List.{starts_with}
 use Rattle.std.specs.Str.{bytes_eq}
 use Rattle.url.specs.Parts.{Parts}
@@ -60,3 +60,8 @@ IsAim expected (Err ConnectRefused) = expected ≡ Err ConnectRefused
 IsAim expected (Err SecureRefused) = expected ≡ Err SecureRefused
 IsAim expected (Err TargetRefused) = expected ≡ Err TargetRefused
 IsAim expected (Err Memory) = ⊤
+
+-- an origin's host is no longer than that of a URL, whose places have 32 bits
+abbrev pub HasShortHost : Aim → Type 0
+HasShortHost (Origin target) = length target.host < 2 ^ 32
+HasShortHost (ToSite path) = ⊤

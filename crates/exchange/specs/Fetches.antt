@@ -67,30 +67,35 @@ Sends (Err OriginTooLong) request taken given = taken ≡ request
 Sends (Err TooManyInterim) request taken given = taken ≡ request
 Sends (Err Memory) request taken given = taken ≡ request
 
+-- what is asked of an origin: where, with which text, and whether by HEAD
+pub record Asking : Type 0 where
+  pub target : Target
+  pub request : List ℕ
+  pub answers_head : Bool
+
 -- The transcript is of one link to the target, which took the request and gave what this came of.
-pub record IsFetched (target : Target) (request : List ℕ) (answers_head : Bool) (t : Transcript) (outcome : Result Received FetchFault) : Type 0 where
-  pub host : t.host ≡ target.host
-  pub port : t.port ≡ target.port
-  pub sent : Sends outcome request t.sent t.given
-  pub received : Receives answers_head outcome t.given t.ended
+pub record IsFetched (asking : Asking) (t : Transcript) (outcome : Result Received FetchFault) : Type 0 where
+  pub host : t.host ≡ asking.target.host
+  pub port : t.port ≡ asking.target.port
+  pub sent : Sends outcome asking.request t.sent t.given
+  pub received : Receives asking.answers_head outcome t.given t.ended
 
 -- The log gains the transcript of the fetch, and no link is left out.
-pub record LogsFetched (target : Target) (request : List ℕ) (answers_head : Bool) (outcome : Result Received FetchFault) (old new : Links Transcript) : Type 0 where
+pub record LogsFetched (asking : Asking) (outcome : Result Received FetchFault) (old new : Links Transcript) : Type 0 where
   pub t : Transcript
   pub gains : new ≡ logged old t
-  pub fetched : IsFetched target request answers_head t outcome
+  pub fetched : IsFetched asking t outcome
 
 -- The log gains the transcript of the fetch, or nothing where no link was made; no link is left out.
-abbrev pub LogsFetch : Target → List ℕ → Bool → Result Received FetchFault → Links Transcript → Links Transcript → Type 0
-LogsFetch target request answers_head (Ok received) old new = LogsFetched target request answers_head (Ok received) old new
-LogsFetch target request answers_head (Err DialFault) old new = new ≡ old
-LogsFetch target request answers_head (Err OriginFault) old new = LogsFetched target request answers_head (Err OriginFault) old new
-LogsFetch target request answers_head (Err OriginEnded) old new = LogsFetched target request answers_head (Err OriginEnded) old new
-LogsFetch target request answers_head (Err OriginMalformed) old new = LogsFetched target request answers_head (Err OriginMalformed) old new
-LogsFetch target request answers_head (Err OriginTooLong) old new = LogsFetched target request answers_head (Err OriginTooLong) old new
-LogsFetch target request answers_head (Err TooManyInterim) old new = LogsFetched target request answers_head (Err TooManyInterim) old new
-LogsFetch target request answers_head (Err Memory) old new =
-    (new ≡ old) ⊎ LogsFetched target request answers_head (Err Memory) old new
+abbrev pub LogsFetch : Asking → Result Received FetchFault → (old new : Links Transcript) → Type 0
+LogsFetch asking (Ok received) old new = LogsFetched asking (Ok received) old new
+LogsFetch asking (Err DialFault) old new = new ≡ old
+LogsFetch asking (Err OriginFault) old new = LogsFetched asking (Err OriginFault) old new
+LogsFetch asking (Err OriginEnded) old new = LogsFetched asking (Err OriginEnded) old new
+LogsFetch asking (Err OriginMalformed) old new = LogsFetched asking (Err OriginMalformed) old new
+LogsFetch asking (Err OriginTooLong) old new = LogsFetched asking (Err OriginTooLong) old new
+LogsFetch asking (Err TooManyInterim) old new = LogsFetched asking (Err TooManyInterim) old new
+LogsFetch asking (Err Memory) old new = (new ≡ old) ⊎ LogsFetched asking (Err Memory) old new
 
 -- A count of faults rises where a fault of the origin is answered, and else stays.
 abbrev pub CountsFetch : ℕ → ℕ → Result Received FetchFault → Type 0
@@ -130,16 +135,21 @@ Yields answers_head (Err OriginTooLong) stream behind ended =
 Yields answers_head (Err TooManyInterim) stream behind ended = ⊥
 Yields answers_head (Err Memory) stream behind ended = ⊤
 
+-- what a link gave so far, and those of these bytes that nobody has used yet
+pub record Inflow : Type 0 where
+  pub given : List ℕ
+  pub window : List ℕ
+
 -- the bytes that were given go on behind those done with this stream
-pub record GoesOnWith (answers_head : Bool) (result : Result Received FetchFault) (done given behind : List ℕ) (ended : Bool) : Type 0 where
+pub record GoesOnWith (answers_head : Bool) (result : Result Received FetchFault) (done : List ℕ) (now : Inflow) (ended : Bool) : Type 0 where
   pub stream : List ℕ
-  pub composed : given ≡ done ++ stream
-  pub yields : Yields answers_head result stream behind ended
+  pub composed : now.given ≡ done ++ stream
+  pub yields : Yields answers_head result stream now.window ended
 
 -- where the bytes given were those done and those in the window, they go on with what came of this
-abbrev pub Answers : Bool → Result Received FetchFault → (given window given_now window_now : List ℕ) → Bool → Type 0
-Answers answers_head result given window given_now window_now ended =
-    (done : List ℕ) → given ≡ done ++ window → GoesOnWith answers_head result done given_now window_now ended
+abbrev pub Answers : Bool → Result Received FetchFault → (old now : Inflow) → (ended : Bool) → Type 0
+Answers answers_head result old now ended =
+    (done : List ℕ) → old.given ≡ done ++ old.window → GoesOnWith answers_head result done now ended
 
 -- why a message that is refused gives no response
 abbrev pub IsFaultOf : WireFault → FetchFault → Type 0

@@ -3,5 +3,6 @@ pub mod Decisions
 pub mod Fetches
 pub mod Receiving
 pub mod Refusals
+pub mod Storing
 pub mod Texts
 pub mod Writing

@@ -10,20 +10,29 @@ use Rattle.http_wire.specs.declared.progress.Progress.TheVariants as progress
 use Rattle.exchange.specs.declared.receiving.Came.{Came}
 use Rattle.exchange.specs.declared.receiving.Came.TheVariants as came
 
--- No byte is lost and none is added: where the bytes given were those done and those pending, they still are.
-abbrev pub StaysAccounted : (given pending : List ℕ) (given_now pending_now : List ℕ) → Type 0
-StaysAccounted given pending given_now pending_now =
-    (done : List ℕ) → given ≡ done ++ pending → given_now ≡ done ++ pending_now
+-- No byte is lost and none is added: where the bytes given were those done and those that weren't, they still are.
+abbrev pub StaysAccounted : (given unread given_now unread_now : List ℕ) → Type 0
+StaysAccounted given unread given_now unread_now =
+    (done : List ℕ) → given ≡ done ++ unread → given_now ≡ done ++ unread_now
 
 -- the whole begins with the front
 pub record IsFrontOf (front whole : List ℕ) : Type 0 where
   pub rest : List ℕ
   pub splits : whole ≡ front ++ rest
 
+-- the bytes of a message so far, and those that stand behind them in the window
+pub record Input : Type 0 where
+  pub stream : List ℕ
+  pub window : List ℕ
+
+-- all of them
+abbrev pub pending : Input → List ℕ
+pending input = input.stream ++ input.window
+
 -- what is read begins with the bytes of the message so far
-abbrev pub BeginsAccounted : (given pending : List ℕ) (given_now stream : List ℕ) → Type 0
-BeginsAccounted given pending given_now stream =
-    (done : List ℕ) → given ≡ done ++ pending → IsFrontOf (done ++ stream) given_now
+abbrev pub BeginsAccounted : (given unread given_now stream : List ℕ) → Type 0
+BeginsAccounted given unread given_now stream =
+    (done : List ℕ) → given ≡ done ++ unread → IsFrontOf (done ++ stream) given_now
 
 -- a message that may be read on: it is open, or is whole in a stream that goes on
 abbrev pub MayGoOn : Side → List ℕ → Standing → Type 0
@@ -32,52 +41,55 @@ MayGoOn side stream standing =
 
 -- ---- one feeding of a window to a reader
 
--- what is left of the message so far and of the window, and what is said of the message
-abbrev pub Feeds : Side → Result Progress WireFault → (stream window stream_now window_now : List ℕ) → Standing → Type 0
-Feeds side (Ok progress.More) stream window stream_now window_now standing =
-    (stream_now ≡ stream ++ window) × (window_now ≡ []) × (standing ≡ Open) × IsUndecided side false stream_now
-Feeds side (Ok progress.Head) stream window stream_now window_now standing =
-    (stream_now ++ window_now ≡ stream ++ window) × TellsBody side stream_now × MayGoOn side stream_now standing
-Feeds side (Ok progress.Whole) stream window stream_now window_now standing =
-    (stream_now ++ window_now ≡ stream ++ window) × (standing ≡ Whole) × IsFirst side false stream_now (Message (length stream_now))
-Feeds side (Err fault) stream window stream_now window_now standing =
-    IsFrontOf stream_now (stream ++ window) × (standing ≡ Failed fault) × HasFault side fault stream_now × ComesBeforeTheEnd fault
+-- What is left of the message so far and of the window, and what is said of the message. Bytes behind a fault are nobody's: the
+-- window is empty.
+abbrev pub Feeds : Side → Result Progress WireFault → (old new : Input) → Standing → Type 0
+Feeds side (Ok progress.More) old new standing =
+    (new.stream ≡ pending old) × (new.window ≡ []) × (standing ≡ Open) × IsUndecided side false new.stream
+Feeds side (Ok progress.Head) old new standing =
+    (pending new ≡ pending old) × TellsBody side new.stream × MayGoOn side new.stream standing
+Feeds side (Ok progress.Whole) old new standing =
+    (pending new ≡ pending old) × (standing ≡ Whole) × IsFirst side false new.stream (Message (length new.stream))
+Feeds side (Err fault) old new standing =
+    IsFrontOf new.stream (pending old) × (new.window ≡ []) × (standing ≡ Failed fault) × HasFault side fault new.stream
+    × ComesBeforeTheEnd fault
 
--- the head comes once, with the answer Head
+-- the head comes once, with the answer Head, or with a fault that comes in its place; the message isn't whole without it
 abbrev pub BringsHead : {H : Type 0} → Result Progress WireFault → Option H → Option H → Type 0
 BringsHead (Ok progress.More) old new = new ≡ old
 BringsHead (Ok progress.Head) old new = (old ≡ None) × IsSome new
-BringsHead (Ok progress.Whole) old new = new ≡ old
-BringsHead (Err fault) old new = ⊤
+BringsHead (Ok progress.Whole) old new = IsSome old × (new ≡ old)
+BringsHead (Err fault) old new = IsSome old → new ≡ old
 
 -- ---- reading up to a head, a message's end or the link's
 
--- the same of a fault: at the end all that was given is of the message
-abbrev pub AccountsFault : WireFault → (given pending : List ℕ) (given_now stream : List ℕ) → Type 0
-AccountsFault Malformed given pending given_now stream = BeginsAccounted given pending given_now stream
-AccountsFault HeadTooLong given pending given_now stream = BeginsAccounted given pending given_now stream
-AccountsFault BodyTooLong given pending given_now stream = BeginsAccounted given pending given_now stream
-AccountsFault CodingRefused given pending given_now stream = BeginsAccounted given pending given_now stream
-AccountsFault EndedEarly given pending given_now stream = StaysAccounted given pending given_now stream
-AccountsFault Memory given pending given_now stream = BeginsAccounted given pending given_now stream
+-- The bytes that were given begin with those done and those of the message, behind which some may be left that are
+-- nobody's; where the link ended too early, there are none.
+abbrev pub AccountsFault : WireFault → (given unread given_now stream : List ℕ) → Type 0
+AccountsFault Malformed given unread given_now stream = BeginsAccounted given unread given_now stream
+AccountsFault HeadTooLong given unread given_now stream = BeginsAccounted given unread given_now stream
+AccountsFault BodyTooLong given unread given_now stream = BeginsAccounted given unread given_now stream
+AccountsFault CodingRefused given unread given_now stream = BeginsAccounted given unread given_now stream
+AccountsFault EndedEarly given unread given_now stream = StaysAccounted given unread given_now stream
+AccountsFault Memory given unread given_now stream = BeginsAccounted given unread given_now stream
 
 -- the bytes that were given are those done, those of the message and those in the window
-abbrev pub Accounts : Came → (given pending : List ℕ) (given_now stream window : List ℕ) → Type 0
-Accounts came.Head given pending given_now stream window = StaysAccounted given pending given_now (stream ++ window)
-Accounts came.Whole given pending given_now stream window = StaysAccounted given pending given_now (stream ++ window)
-Accounts came.Ended given pending given_now stream window = StaysAccounted given pending given_now (stream ++ window)
-Accounts came.Broken given pending given_now stream window = StaysAccounted given pending given_now (stream ++ window)
-Accounts (came.Refused fault) given pending given_now stream window = AccountsFault fault given pending given_now stream
+abbrev pub Accounts : Came → (given : List ℕ) (old : Input) (given_now : List ℕ) (new : Input) → Type 0
+Accounts came.Head given old given_now new = StaysAccounted given (pending old) given_now (pending new)
+Accounts came.Whole given old given_now new = StaysAccounted given (pending old) given_now (pending new)
+Accounts came.Ended given old given_now new = StaysAccounted given (pending old) given_now (pending new)
+Accounts came.Broken given old given_now new = StaysAccounted given (pending old) given_now (pending new)
+Accounts (came.Refused fault) given old given_now new = AccountsFault fault given (pending old) given_now new.stream
 
--- what is said of the message so far; where the link ended or failed, the window is empty
-abbrev pub Brings : Side → Came → (stream window : List ℕ) → Standing → Type 0
-Brings side came.Head stream window standing = TellsBody side stream × MayGoOn side stream standing
-Brings side came.Whole stream window standing = (standing ≡ Whole) × IsFirst side false stream (Message (length stream))
-Brings side came.Ended stream window standing = window ≡ []
-Brings side came.Broken stream window standing = (window ≡ []) × (standing ≡ Open) × IsUndecided side false stream
-Brings side (came.Refused fault) stream window standing = (standing ≡ Failed fault) × HasFault side fault stream
+-- what is said of the message so far; where the link ended or failed, or what came is no message, the window is empty
+abbrev pub Brings : Side → Came → Input → Standing → Type 0
+Brings side came.Head now standing = TellsBody side now.stream × MayGoOn side now.stream standing
+Brings side came.Whole now standing = (standing ≡ Whole) × IsFirst side false now.stream (Message (length now.stream))
+Brings side came.Ended now standing = now.window ≡ []
+Brings side came.Broken now standing = (now.window ≡ []) × (standing ≡ Open) × IsUndecided side false now.stream
+Brings side (came.Refused fault) now standing = (now.window ≡ []) × (standing ≡ Failed fault) × HasFault side fault now.stream
 
--- P, where the link ended between messages
+-- P, where the answer is that the link ended
 abbrev pub OnEnded : Came → Type 0 → Type 0
 OnEnded came.Head P = ⊤
 OnEnded came.Whole P = ⊤
@@ -85,16 +97,18 @@ OnEnded came.Ended P = P
 OnEnded came.Broken P = ⊤
 OnEnded (came.Refused fault) P = ⊤
 
--- the head comes once, and the message isn't whole without it
+-- The head comes once, and the message isn't whole without it. A fault keeps the head that had come; one that comes in
+-- place of the answer Head may bring it.
 abbrev pub HeadsOnce : {H : Type 0} → Came → Option H → Option H → Type 0
 HeadsOnce came.Head old new = (old ≡ None) × IsSome new
-HeadsOnce came.Whole old new = new ≡ old
+HeadsOnce came.Whole old new = IsSome old × (new ≡ old)
 HeadsOnce came.Ended old new = new ≡ old
 HeadsOnce came.Broken old new = new ≡ old
-HeadsOnce (came.Refused fault) old new = ⊤
+HeadsOnce (came.Refused fault) old new = IsSome old → new ≡ old
 
--- whether the link's end is met: where it ended, and with no other answer
-abbrev pub MeetsEnd : Came → Bool → Bool → Type 0
+-- Whether the link's end is met: it is where the link ended, in place or too early; any other answer meets none, so that an
+-- end that is met had been met before.
+abbrev pub MeetsEnd : Came → (before now : Bool) → Type 0
 MeetsEnd came.Head before now = IsTrue now → IsTrue before
 MeetsEnd came.Whole before now = IsTrue now → IsTrue before
 MeetsEnd came.Ended before now = now ≡ true

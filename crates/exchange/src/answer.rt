@@ -1,5 +1,7 @@
 //! The origin's response as the client gets it.
 ghost use Rattle.std.specs.Prelude.{◌≡◌, ◌++◌, OnOk, IfOk};
+ghost use Rattle.capture.specs.Payload.{IsPayload};
+ghost use Rattle.exchange.specs.Fetches.{IsOneResponse};
 ghost use Rattle.exchange.specs.Texts as spec;
 ghost use Rattle.exchange.specs.Texts.{answered, length_line_unless, told_length_line};
 
@@ -24,6 +26,8 @@ pub fn client_text(
     answers_head: bool,
     closes: bool,
 ) -> Result<Bytes, Memory>
+    requires response { IsOneResponse answers_head received.now }
+    requires payload { IsPayload received.now.cut received.now.framing received.now.wire payload.now }
     ensures { IfOk result (λ text. text ≡ answered received.now payload.now answers_head closes) }
 {
     let head = &received.head;
@@ -94,96 +98,5 @@ fn put_told_length(out: &mut Vec<u8>, framing: Framing) -> Result<(), Memory>
         Framing::Empty => Ok(()),
         Framing::Chunked => Ok(()),
         Framing::ToEnd => Ok(()),
-    }
-}
-
-#[cfg(test)]
-mod tests {
-    use super::*;
-    use crate::samples;
-    use std::test::Fail;
-
-    fn received(
-        alloc: Global,
-        status: u16,
-        reason: &str,
-        lines: &[(&str, &str)],
-        framing: Framing,
-        cut: bool,
-    ) -> Result<Received, Fail> {
-        Ok(Received {
-            head: samples::response(alloc, status, reason, lines)?,
-            framing,
-            wire: Bytes::of(Vec::new(alloc)),
-            cut,
-        })
-    }
-
-    #[test]
-    fn drops_what_speaks_of_the_connection(rt: HostRuntime) -> Result<(), Fail> {
-        let alloc = rt.alloc();
-        let lines = [
-            ("Keep-Alive", "timeout=5"),
-            ("X-A", "1"),
-            ("Connection", "keep-alive, x-a"),
-            ("Content-Type", "text/plain"),
-        ];
-        let received = received(alloc, 404, "", &lines, Framing::ToEnd, false)?;
-        let text = client_text(alloc, &received, b"", false, true)?;
-        assert_eq!(rt;
-            text.as_slice(),
-            b"HTTP/1.1 404 \r\nContent-Type: text/plain\r\nVia: 1.1 memproxy\r\nContent-Length: 0\r\nConnection: close\r\n\r\n".as_slice()
-        );
-        Ok(())
-    }
-
-    #[test]
-    fn keeps_the_length_that_came_where_there_is_no_body(rt: HostRuntime) -> Result<(), Fail> {
-        let alloc = rt.alloc();
-        for (status, answers_head, want) in [
-            (
-                200,
-                true,
-                b"HTTP/1.1 200 R\r\nContent-Length: 5\r\nVia: 1.1 memproxy\r\n\r\n".as_slice(),
-            ),
-            (
-                304,
-                false,
-                b"HTTP/1.1 304 R\r\nContent-Length: 5\r\nVia: 1.1 memproxy\r\n\r\n",
-            ),
-            (204, false, b"HTTP/1.1 204 R\r\nVia: 1.1 memproxy\r\n\r\n"),
-        ] {
-            let lines = [("Content-Length", "5")];
-            let received = received(alloc, status, "R", &lines, Framing::Empty, false)?;
-            let text = client_text(alloc, &received, b"", answers_head, false)?;
-            assert_eq!(rt; text.as_slice(), want, "{status}");
-        }
-        Ok(())
-    }
-
-    #[test]
-    fn marks_a_response_that_was_cut(rt: HostRuntime) -> Result<(), Fail> {
-        let alloc = rt.alloc();
-        for (name, value, framing, payload, want) in [
-            (
-                "Content-Length",
-                "5",
-                Framing::Length(5),
-                b"hel".as_slice(),
-                b"HTTP/1.1 200 OK\r\nVia: 1.1 memproxy\r\nX-Archive-Truncated: disconnect\r\nContent-Length: 5\r\nConnection: close\r\n\r\nhel".as_slice(),
-            ),
-            (
-                "Transfer-Encoding",
-                "chunked",
-                Framing::Chunked,
-                b"hell",
-                b"HTTP/1.1 200 OK\r\nVia: 1.1 memproxy\r\nX-Archive-Truncated: disconnect\r\nConnection: close\r\n\r\nhell",
-            ),
-        ] {
-            let received = received(alloc, 200, "OK", &[(name, value)], framing, true)?;
-            let text = client_text(alloc, &received, payload, false, true)?;
-            assert_eq!(rt; text.as_slice(), want, "{name}");
-        }
-        Ok(())
     }
 }

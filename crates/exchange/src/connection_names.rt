@@ -13,7 +13,8 @@ use std::alloc::Global;
 pub fn connection_names(alloc: Global, fields: &[Field]) -> Result<Vec<&[u8]>, Memory>
     ensures { IfOk result (λ names. map (λ n. n.now) names.items ≡ spec.listed_names (map named_value fields.now)) }
 {
-    let mut names = Vec::new(alloc);
+    // Most heads list no more names than they have fields.
+    let mut names = Vec::with_capacity(alloc, fields.len())?;
     for field in fields {
         if is_named(field, b"connection") {
             put_members(&mut names, field.value.as_slice())?;
@@ -22,7 +23,8 @@ pub fn connection_names(alloc: Global, fields: &[Field]) -> Result<Vec<&[u8]>, M
     Ok(names)
 }
 
-/// Whether the name is one of those that are listed, ASCII case ignored.
+/// Whether the name is one of those that are listed, ASCII case ignored. It is asked once for each field of a head, of which
+/// there are at most 128 in at most 65,536 bytes, so a table of the names would save little.
 pub fn is_listed(listed: &[&[u8]], name: &[u8]) -> bool
     ensures { result ≡ spec.is_listed (map (λ n. n.now) listed.now) name.now }
 {
@@ -37,6 +39,7 @@ pub fn is_named(field: &Field, name: &[u8]) -> bool
     field.name.as_slice().eq_ignore_ascii_case(name)
 }
 
+/// Whether two names are the same, ASCII case ignored.
 fn is_same_name(a: &[u8], b: &[u8]) -> bool
     ensures { result ≡ spec.is_same_name a.now b.now }
 {

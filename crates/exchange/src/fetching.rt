@@ -1,5 +1,6 @@
 //! Asks an origin for its response.
-ghost use Rattle.std.specs.Prelude.{◌≡◌, [], IsTrue, OnOk, IfOk};
+ghost use Rattle.std.specs.Prelude.{◌≡◌, ◌≤◌, [], length, IsTrue, OnOk, IfOk};
+ghost use Rattle.capture.specs.declared.limits.TheConstants.{BODY_LIMIT};
 ghost use Rattle.exchange.specs.Fetches.{Answers, CountsFetch, IsFaultOf, IsOneResponse, LogsFetch, Receives, Sends};
 ghost use Rattle.http_wire.specs.ResponseReading.{new_response};
 ghost use Rattle.outside.specs.Link.{IsFresh};
@@ -36,7 +37,8 @@ pub enum FetchFault {
 }
 
 /// Dials the target once, writes the request, reads the final response, whole or cut, and hangs up, also after a fault.
-/// Interim responses before it and bytes behind it are dropped. The window serves the link, and is empty afterwards.
+/// Interim responses before it and bytes behind it are dropped. The window serves the link: it is empty, and is so
+/// afterwards. A client's link has another.
 pub fn fetch<N: Dialer>(
     alloc: Global,
     dialer: &mut N,
@@ -45,12 +47,15 @@ pub fn fetch<N: Dialer>(
     answers_head: bool,
     request: &[u8],
 ) -> Result<Received, FetchFault>
-    ensures logs { IsTrue N.Link.tells → LogsFetch target.now request.now answers_head result (N.links dialer.old) (N.links dialer.new) }
+    requires { window.old ≡ [] }
+    ensures logs { IsTrue N.Link.tells → LogsFetch (record { target = target.now; request = request.now; answers_head = answers_head }) result
+        (N.links dialer.old) (N.links dialer.new) }
     ensures response { IfOk result (IsOneResponse answers_head) }
+    ensures final_status { IfOk result (λ received. 200 ≤ received.head.status) }
+    ensures within { IfOk result (λ received. length received.wire ≤ BODY_LIMIT) }
     ensures counts { CountsFetch (N.faults dialer.old) (N.faults dialer.new) result }
     ensures window { window.new ≡ [] }
 {
-    window.clear();
     let mut link = match dialer.dial(target.host.as_str(), target.port) {
         Ok(link) => link,
         Err(DialError::Failed) => return Err(FetchFault::DialFault),
@@ -75,6 +80,8 @@ fn ask<L: Link>(
     ensures sends { IsTrue L.tells → Sends result request.now (L.traffic link.new).taken (L.traffic link.new).given }
     ensures receives { IsTrue L.tells → Receives answers_head result (L.traffic link.new).given (L.traffic link.new).ended }
     ensures response { IfOk result (IsOneResponse answers_head) }
+    ensures final_status { IfOk result (λ received. 200 ≤ received.head.status) }
+    ensures within { IfOk result (λ received. length received.wire ≤ BODY_LIMIT) }
     ensures counts { CountsFetch (L.faults link.old) (L.faults link.new) result }
     ensures same_host { IsTrue L.tells → (L.traffic link.new).host ≡ (L.traffic link.old).host }
     ensures same_port { IsTrue L.tells → (L.traffic link.new).port ≡ (L.traffic link.old).port }
@@ -97,6 +104,8 @@ fn receive<L: Link>(
     requires empty { window.old ≡ [] }
     ensures receives { IsTrue L.tells → Receives answers_head result (L.traffic link.new).given (L.traffic link.new).ended }
     ensures response { IfOk result (IsOneResponse answers_head) }
+    ensures final_status { IfOk result (λ received. 200 ≤ received.head.status) }
+    ensures within { IfOk result (λ received. length received.wire ≤ BODY_LIMIT) }
     ensures counts { CountsFetch (L.faults link.old) (L.faults link.new) result }
     ensures same_taken { IsTrue L.tells → (L.traffic link.new).taken ≡ (L.traffic link.old).taken }
     ensures same_host { IsTrue L.tells → (L.traffic link.new).host ≡ (L.traffic link.old).host }
@@ -131,9 +140,11 @@ fn next_response<L: Link>(
 ) -> Result<Received, FetchFault>
     requires { reader.old ≡ new_response reader.old.answers_head }
     ensures response { IfOk result (IsOneResponse reader.old.answers_head) }
+    ensures within { IfOk result (λ received. length received.wire ≤ BODY_LIMIT) }
     ensures renewed { OnOk result (reader.new ≡ new_response reader.old.answers_head) }
-    ensures answers { IsTrue L.tells → Answers reader.old.answers_head result (L.traffic link.old).given window.old
-        (L.traffic link.new).given window.new (L.traffic link.new).ended }
+    ensures answers { IsTrue L.tells → Answers reader.old.answers_head result
+        (record { given = (L.traffic link.old).given; window = window.old })
+        (record { given = (L.traffic link.new).given; window = window.new }) (L.traffic link.new).ended }
     ensures counts { CountsFetch (L.faults link.old) (L.faults link.new) result }
     ensures same_taken { IsTrue L.tells → (L.traffic link.new).taken ≡ (L.traffic link.old).taken }
     ensures same_host { IsTrue L.tells → (L.traffic link.new).host ≡ (L.traffic link.old).host }

@@ -57,6 +57,7 @@ pub fn is_content_length(field: &Field) -> bool
     is_named(field, b"content-length")
 }
 
+/// Whether the field goes to the origin: it is passed on, and isn't one that the proxy writes itself.
 fn goes_to_origin(hop: &Hop, listed: &[&[u8]], field: &Field) -> bool
     requires { hop.now ≡ hop_by_hop }
     ensures { result ≡ spec.goes_to_origin (map (λ n. n.now) listed.now) (named_value field.now) }
@@ -64,6 +65,7 @@ fn goes_to_origin(hop: &Hop, listed: &[&[u8]], field: &Field) -> bool
     is_passed_on(hop, listed, field) && !is_named(field, b"host") && !is_content_length(field)
 }
 
+/// Whether the field goes to the client: it is passed on, a Content-Length only where it is kept.
 fn goes_to_client(hop: &Hop, listed: &[&[u8]], keeps_length: bool, field: &Field) -> bool
     requires { hop.now ≡ hop_by_hop }
     ensures { result ≡ spec.goes_to_client (map (λ n. n.now) listed.now) keeps_length (named_value field.now) }
@@ -71,6 +73,7 @@ fn goes_to_client(hop: &Hop, listed: &[&[u8]], keeps_length: bool, field: &Field
     is_passed_on(hop, listed, field) && (keeps_length || !is_content_length(field))
 }
 
+/// Whether the field goes on past the proxy: neither it nor a Connection field says that it speaks of one connection.
 fn is_passed_on(hop: &Hop, listed: &[&[u8]], field: &Field) -> bool
     requires { hop.now ≡ hop_by_hop }
     ensures { result ≡ spec.is_passed_on (map (λ n. n.now) listed.now) (named_value field.now) }

@@ -1,12 +1,11 @@
 //! Reads messages from links.
-ghost use Rattle.std.specs.Prelude.{◌≡◌, ◌++◌, ℕ, List, IsTrue, IsSome, IfOk};
-ghost use Rattle.capture.specs.First.{Requests, Responses};
+ghost use Rattle.std.specs.Prelude.{◌≡◌, ◌++◌, ℕ, List, true, IsTrue, IsSome, IfOk};
+ghost use Rattle.capture.specs.First.{Requests, Responses, NothingBegun, IsFirst};
 ghost use Rattle.exchange.specs.Receiving.{Accounts, Brings, BringsHead, CountsCame, Feeds, HeadsOnce, MayGoOn, MeetsEnd, OnEnded};
-ghost use Rattle.http_wire.specs.Reading.{Stands, IsEnded};
-ghost use Rattle.http_wire.specs.RequestReading.{EndsBetween};
+ghost use Rattle.http_wire.specs.Reading.{Open, Whole, Stands, IsEnded};
 
 use crate::window::Window;
-use capture::Failed;
+use capture::{Failed, chunked_bodies_split_one_way};
 use http_wire::{Progress, RequestReader, ResponseReader, WireFault};
 use outside::Link;
 use std::alloc::Global;
@@ -26,19 +25,22 @@ pub enum Came {
     Refused(WireFault),
 }
 
-/// Reads on in a request up to its head, its end, or the link's. What the reader doesn't take stays in the window.
+/// Reads on in a request up to its head, its end, or the link's. What the reader doesn't take stays in the window; of a message
+/// that is refused nothing does, since where the next one begins isn't known.
 pub fn receive_request<L: Link>(
     alloc: Global,
     link: &mut L,
     window: &mut Window,
     reader: &mut RequestReader,
 ) -> Came
-    requires { MayGoOn Requests reader.old.stream reader.old.standing }
+    requires going { MayGoOn Requests reader.old.stream reader.old.standing }
+    requires held { reader.old.standing ≡ Whole → IsSome reader.old.head }
 
-    ensures accounts { IsTrue L.tells → Accounts result (L.traffic link.old).given (reader.old.stream ++ window.old)
-        (L.traffic link.new).given reader.new.stream window.new }
-    ensures brings { Brings Requests result reader.new.stream window.new reader.new.standing }
-    ensures between { OnEnded result (EndsBetween reader.new.stream reader.new.standing) }
+    ensures accounts { IsTrue L.tells → Accounts result
+        (L.traffic link.old).given (record { stream = reader.old.stream; window = window.old })
+        (L.traffic link.new).given (record { stream = reader.new.stream; window = window.new }) }
+    ensures brings { Brings Requests result (record { stream = reader.new.stream; window = window.new }) reader.new.standing }
+    ensures between { OnEnded result ((reader.new.standing ≡ Open) × IsFirst Requests true reader.new.stream NothingBegun) }
     ensures heads { HeadsOnce result reader.old.head reader.new.head }
     ensures meets_end { IsTrue L.tells → MeetsEnd result (L.traffic link.old).ended (L.traffic link.new).ended }
     ensures counts { CountsCame (L.faults link.old) (L.faults link.new) result }
@@ -57,7 +59,10 @@ pub fn receive_request<L: Link>(
         match window.refill(link) {
             Ok(true) => {}
             Ok(false) => match reader.end() {
-                Ok(()) => return Came::Ended,
+                Ok(()) => {
+                    chunked_bodies_split_one_way();
+                    return Came::Ended;
+                }
                 Err(_) => return Came::Refused(WireFault::EndedEarly),
             },
             Err(Failed) => return Came::Broken,
@@ -65,14 +70,16 @@ pub fn receive_request<L: Link>(
     }
 }
 
-/// Feeds the window to the reader.
+/// Feeds the window to the reader. Behind a fault nothing stays in the window.
 fn feed_request(
     alloc: Global,
     window: &mut Window,
     reader: &mut RequestReader,
 ) -> Result<Progress, WireFault>
-    requires { MayGoOn Requests reader.old.stream reader.old.standing }
-    ensures feeds { Feeds Requests result reader.old.stream window.old reader.new.stream window.new reader.new.standing }
+    requires going { MayGoOn Requests reader.old.stream reader.old.standing }
+    requires held { reader.old.standing ≡ Whole → IsSome reader.old.head }
+    ensures feeds { Feeds Requests result (record { stream = reader.old.stream; window = window.old })
+        (record { stream = reader.new.stream; window = window.new }) reader.new.standing }
     ensures heads { BringsHead result reader.old.head reader.new.head }
 {
     match reader.feed(alloc, window.as_slice()) {
@@ -80,22 +87,28 @@ fn feed_request(
             window.advance(fed.used);
             Ok(fed.progress)
         }
-        Err(fault) => Err(fault),
+        Err(fault) => {
+            window.clear();
+            Err(fault)
+        }
     }
 }
 
-/// Reads on in a response up to its head, its end, or the link's. What the reader doesn't take stays in the window.
+/// Reads on in a response up to its head, its end, or the link's. What the reader doesn't take stays in the window; of a message
+/// that is refused nothing does, since where the next one begins isn't known.
 pub fn receive_response<L: Link>(
     alloc: Global,
     link: &mut L,
     window: &mut Window,
     reader: &mut ResponseReader,
 ) -> Came
-    requires { MayGoOn (Responses reader.old.answers_head) reader.old.stream reader.old.standing }
+    requires going { MayGoOn (Responses reader.old.answers_head) reader.old.stream reader.old.standing }
+    requires held { reader.old.standing ≡ Whole → IsSome reader.old.head }
 
-    ensures accounts { IsTrue L.tells → Accounts result (L.traffic link.old).given (reader.old.stream ++ window.old)
-        (L.traffic link.new).given reader.new.stream window.new }
-    ensures brings { Brings (Responses reader.old.answers_head) result reader.new.stream window.new reader.new.standing }
+    ensures accounts { IsTrue L.tells → Accounts result
+        (L.traffic link.old).given (record { stream = reader.old.stream; window = window.old })
+        (L.traffic link.new).given (record { stream = reader.new.stream; window = window.new }) }
+    ensures brings { Brings (Responses reader.old.answers_head) result (record { stream = reader.new.stream; window = window.new }) reader.new.standing }
     ensures answers_head { reader.new.answers_head ≡ reader.old.answers_head }
     ensures ended { OnEnded result (IsEnded reader.new.standing) }
     ensures stands { OnEnded result (Stands (Responses reader.old.answers_head) reader.new.stream reader.new.standing) }
@@ -125,14 +138,16 @@ pub fn receive_response<L: Link>(
     }
 }
 
-/// Feeds the window to the reader.
+/// Feeds the window to the reader. Behind a fault nothing stays in the window.
 fn feed_response(
     alloc: Global,
     window: &mut Window,
     reader: &mut ResponseReader,
 ) -> Result<Progress, WireFault>
-    requires { MayGoOn (Responses reader.old.answers_head) reader.old.stream reader.old.standing }
-    ensures feeds { Feeds (Responses reader.old.answers_head) result reader.old.stream window.old reader.new.stream window.new reader.new.standing }
+    requires going { MayGoOn (Responses reader.old.answers_head) reader.old.stream reader.old.standing }
+    requires held { reader.old.standing ≡ Whole → IsSome reader.old.head }
+    ensures feeds { Feeds (Responses reader.old.answers_head) result (record { stream = reader.old.stream; window = window.old })
+        (record { stream = reader.new.stream; window = window.new }) reader.new.standing }
     ensures answers_head { reader.new.answers_head ≡ reader.old.answers_head }
     ensures heads { BringsHead result reader.old.head reader.new.head }
 {
@@ -141,6 +156,9 @@ fn feed_response(
             window.advance(fed.used);
             Ok(fed.progress)
         }
-        Err(fault) => Err(fault),
+        Err(fault) => {
+            window.clear();
+            Err(fault)
+        }
     }
 }

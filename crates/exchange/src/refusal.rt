@@ -88,6 +88,7 @@ fn put_numbers(out: &mut Vec<u8>, refusal: &Refusal) -> Result<(), Memory>
     }
 }
 
+/// Puts two numbers, each behind a space.
 fn put_two(out: &mut Vec<u8>, first: u32, second: u32) -> Result<(), Memory>
     ensures { OnOk result (out.new.items ≡ out.old.items ++ (spec.spaced first ++ spec.spaced second)) }
 {
@@ -95,6 +96,7 @@ fn put_two(out: &mut Vec<u8>, first: u32, second: u32) -> Result<(), Memory>
     put_spaced(out, u64::from(second))
 }
 
+/// Puts a number behind a space.
 fn put_spaced(out: &mut Vec<u8>, number: u64) -> Result<(), Memory>
     ensures { OnOk result (out.new.items ≡ out.old.items ++ spec.spaced number) }
 {
@@ -162,45 +164,4 @@ fn name_of(refusal: &Refusal) -> &'static str
         Damaged => "Damaged",
         NotBuilt => "NotBuilt",
     )
-}
-
-#[cfg(test)]
-mod tests {
-    use super::*;
-
-    /// Whether the refusal, which doesn't answer HEAD and doesn't close, is written so.
-    fn is_written(alloc: Global, refusal: &Refusal, want: &str) -> bool {
-        match refusal_text(alloc, refusal, false, false) {
-            Ok(text) => text.as_slice() == want.as_bytes(),
-            Err(_) => false,
-        }
-    }
-
-    #[test]
-    fn writes_a_refusal(rt: HostRuntime) {
-        assert!(rt;
-            is_written(
-                rt.alloc(),
-                &Refusal::MethodRefused,
-                "HTTP/1.1 405 Method Not Allowed\r\nContent-Type: text/plain\r\nAllow: GET, HEAD\r\nContent-Length: 14\r\n\r\nMethodRefused\n",
-            )
-        );
-        assert!(rt;
-            is_written(
-                rt.alloc(),
-                &Refusal::ClockRange {
-                    now: 253402300800000
-                },
-                "HTTP/1.1 500 Internal Server Error\r\nContent-Type: text/plain\r\nContent-Length: 27\r\n\r\nClockRange 253402300800000\n",
-            )
-        );
-    }
-
-    #[test]
-    fn says_that_memory_ran_out(rt: HostRuntime) {
-        assert_eq!(rt;
-            memory_text(),
-            b"HTTP/1.1 503 Service Unavailable\r\nContent-Type: text/plain\r\nContent-Length: 7\r\nConnection: close\r\n\r\nMemory\n".as_slice()
-        );
-    }
 }

@@ -4,6 +4,7 @@ mod FramingLemmas
 mod GainLaws
 mod HostBytes
 mod KeepLaws
+mod OneAnswer
 mod PipeLaws
 mod PlainLemmas
 mod PrepareLaws

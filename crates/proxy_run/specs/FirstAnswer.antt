@@ -5,6 +5,7 @@ use Rattle.capture.specs.Head.{head_end, after_line_ends}
 use Rattle.capture.specs.Message.{IsResponseHeadText}
 use Rattle.capture.specs.declared.framing.Framing.TheVariants.{Length}
 use Rattle.capture.specs.declared.limits.TheConstants.{HEAD_LIMIT}
+use Rattle.exchange.specs.Fetches.{IsOneResponse}
 use Rattle.http_head.specs.declared.head.Received.{Received}
 use Rattle.http_head.specs.declared.head.ResponseHead.{ResponseHead}
 use Rattle.proxy_run.specs.ExchangeForms.{plain_length}
@@ -27,6 +28,12 @@ pub record IsAnswer (given : List ℕ) (received : Received) : Type 0 where
   pub split : given ≡ front ++ received.wire ++ rest
   pub reads : EndsWithResponse front received.head
   pub form : told_length received.head ≡ Some (length received.wire)
+  pub framing : received.framing ≡ Length (length received.wire)
+  pub whole : received.cut ≡ false
+
+-- The response was read, with the body of the length that its head tells.
+pub record IsPlainResponse (received : Received) : Type 0 where
+  pub one : IsOneResponse false received
   pub framing : received.framing ≡ Length (length received.wire)
   pub whole : received.cut ≡ false
 

@@ -20,6 +20,13 @@ AccountsForBody Ended n given pending given_now pending_now = EndsBefore n given
 AccountsForBody Broken n given pending given_now pending_now = ⊤
 AccountsForBody Memory n given pending given_now pending_now = ⊤
 
+-- the body that has come has the length that was told
+abbrev pub HasLength : BodyRead → ℕ → Type 0
+HasLength (Whole body) n = length body.items ≡ n
+HasLength Ended n = ⊤
+HasLength Broken n = ⊤
+HasLength Memory n = ⊤
+
 -- P, if the link ended
 abbrev pub OnBodyEnded : BodyRead → Type 0 → Type 0
 OnBodyEnded (Whole body) P = ⊤

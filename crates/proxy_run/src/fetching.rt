@@ -1,14 +1,15 @@
 //! Fetches an origin's response.
-ghost use Rattle.std.specs.Prelude.{◌≡◌, ◌<◌, ◌++◌, [], IsTrue, IsAscii};
+ghost use Rattle.std.specs.Prelude.{◌≡◌, ◌<◌, ◌++◌, [], IsTrue, IsAscii, IfOk};
 ghost use Rattle.capture.specs.declared.limits.TheConstants.{BODY_LIMIT};
 ghost use Rattle.outside.specs.Link.{IsFresh};
+ghost use Rattle.proxy_run.specs.FirstAnswer.{IsPlainResponse};
 ghost use Rattle.proxy_run.specs.Fetching.{Receives, Sends, CountsFetch, LogsFetch, EndsInHead};
 
 use crate::links::{BodyRead, FrontRead, Window, read_body, read_front, write_all};
 use crate::plain::plain_length;
 use capture::{Bytes, Framing, HEAD_LIMIT};
 use exchange::Target;
-use http_head::{HeadReader, Received, WireFault, read_head};
+use http_head::{HeadReader, Received, WireFault, fronts_stay, read_head};
 use outside::{DialError, Dialer, Link};
 use std::alloc::Global;
 
@@ -36,6 +37,7 @@ pub fn fetch<N: Dialer>(
     request: &[u8],
 ) -> Result<Received, FetchFault>
     ensures logs { IsTrue N.Link.tells → LogsFetch target.now request.now result (N.links dialer.old) (N.links dialer.new) }
+    ensures response { IfOk result IsPlainResponse }
     ensures counts { CountsFetch (N.faults dialer.old) (N.faults dialer.new) result }
 {
     let mut link = match dialer.dial(target.host.as_str(), target.port) {
@@ -53,6 +55,7 @@ fn ask<L: Link>(alloc: Global, link: &mut L, request: &[u8]) -> Result<Received,
     requires { IsTrue L.tells → IsFresh (L.traffic link.old) }
     ensures sends { IsTrue L.tells → Sends result request.now (L.traffic link.new).taken }
     ensures receives { IsTrue L.tells → Receives result (L.traffic link.new).given (L.traffic link.new).ended }
+    ensures response { IfOk result IsPlainResponse }
     ensures counts { CountsFetch (L.faults link.old) (L.faults link.new) result }
     ensures same_host { IsTrue L.tells → (L.traffic link.new).host ≡ (L.traffic link.old).host }
     ensures same_port { IsTrue L.tells → (L.traffic link.new).port ≡ (L.traffic link.old).port }
@@ -67,11 +70,13 @@ fn ask<L: Link>(alloc: Global, link: &mut L, request: &[u8]) -> Result<Received,
 fn receive<L: Link>(alloc: Global, link: &mut L) -> Result<Received, FetchFault>
     requires { IsTrue L.tells → (L.traffic link.old).given ≡ [] }
     ensures receives { IsTrue L.tells → Receives result (L.traffic link.new).given (L.traffic link.new).ended }
+    ensures response { IfOk result IsPlainResponse }
     ensures counts { CountsFetch (L.faults link.old) (L.faults link.new) result }
     ensures same_taken { IsTrue L.tells → (L.traffic link.new).taken ≡ (L.traffic link.old).taken }
     ensures same_host { IsTrue L.tells → (L.traffic link.new).host ≡ (L.traffic link.old).host }
     ensures same_port { IsTrue L.tells → (L.traffic link.new).port ≡ (L.traffic link.old).port }
 {
+    fronts_stay();
     let Ok(mut window) = Window::new(alloc) else {
         return Err(FetchFault::Memory);
     };

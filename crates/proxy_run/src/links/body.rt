@@ -1,7 +1,7 @@
 //! Reads a body of a length that was told.
 ghost use Rattle.std.specs.Prelude.{◌≡◌, ◌<◌, ◌≤◌, ◌++◌, [], true, length, IsTrue};
 ghost use Rattle.capture.specs.declared.limits.TheConstants.{BODY_LIMIT};
-ghost use Rattle.proxy_run.specs.WireBody.{AccountsForBody, OnBodyEnded, CountsBody};
+ghost use Rattle.proxy_run.specs.WireBody.{AccountsForBody, HasLength, OnBodyEnded, CountsBody};
 
 use super::window::Window;
 use capture::{BODY_LIMIT, Failed};
@@ -26,6 +26,7 @@ pub fn read_body<L: Link>(alloc: Global, link: &mut L, window: &mut Window, leng
     requires { length ≤ BODY_LIMIT }
 
     ensures accounts { IsTrue L.tells → AccountsForBody result length (L.traffic link.old).given window.old (L.traffic link.new).given window.new }
+    ensures whole { HasLength result length }
     ensures meets_end { IsTrue L.tells → OnBodyEnded result ((L.traffic link.new).ended ≡ true) }
     ensures counts { CountsBody (L.faults link.old) (L.faults link.new) result }
 

@@ -1,7 +1,7 @@
 //! Stores an exchange before its response is passed on.
 ghost use Rattle.std.specs.Prelude.{◌≡◌, [], List, ℕ, IfOk, IsTrue};
 ghost use Rattle.time_text.specs.Texts.{InRange};
-ghost use Rattle.proxy_run.specs.FirstAnswer.{IsAnswer};
+ghost use Rattle.proxy_run.specs.FirstAnswer.{IsAnswer, IsPlainResponse};
 ghost use Rattle.proxy_run.specs.Rounds as rounds;
 ghost use Rattle.proxy_run.specs.Serving.{IsGetOf, Keeping, IsEnd};
 ghost use Rattle.proxy_run.specs.Storing.{Keeps, empty_book};
@@ -36,6 +36,7 @@ pub fn keep<D: Disk>(
     closes: bool,
 ) -> Result<Prepared, Memory>
     requires date { InRange asked.date }
+    requires response { IsPlainResponse received }
     requires empty { IsTrue D.tells → (D.reading archive.old.disk).warc ≡ [] }
     ensures keeps { (given : List ℕ) → IsGetOf asked.head asked.target → IsAnswer given received
         → asked.request ≡ rounds.sent_of asked.head asked.target

@@ -1,6 +1,7 @@
 //! Replies that are ready to be written.
 ghost use Rattle.std.specs.Prelude.{◌≡◌, true, Some, IfOk};
 ghost use Rattle.capture.specs.declared.refusal.Refusal.TheVariants.{NotBuilt};
+ghost use Rattle.proxy_run.specs.FirstAnswer.{IsPlainResponse};
 ghost use Rattle.proxy_run.specs.Refusals.{refusal_text};
 ghost use Rattle.proxy_run.specs.Rounds as rounds;
 ghost use Rattle.proxy_run.specs.Serving.{EndsBy, IsEnd};
@@ -31,6 +32,7 @@ fn end_of(closes: bool) -> Option<Served>
 
 /// The origin's response, as the client gets it.
 pub fn pass_on(alloc: Global, received: &Received, closes: bool) -> Result<Prepared, Memory>
+    requires { IsPlainResponse received.now }
     ensures text { IfOk result (λ prepared. prepared.text ≡ rounds.passed_on received.now closes) }
     ensures end { IfOk result (λ prepared. EndsBy closes prepared.end) }
     ensures is_end { IfOk result (λ prepared. IsEnd prepared.end) }

@@ -5,7 +5,7 @@ use Rattle.exchange.proofs.connection_names.connection_names.Goals as goal
 use Rattle.exchange.proofs.connection_names.connection_names.Goals.{then-is_named+in_ok-put_members, else-is_named}
 
 pub loop-field-init : goal.loop-field-init
-loop-field-init c = ap (map (λ (m : Bor (List ℕ)). m.now)) c.new-names.ensures.items ∙ no_names_yet c.args.fields.now
+loop-field-init c = ap (map (λ (m : Bor (List ℕ)). m.now)) c.in_ok-names.ensures.items ∙ no_names_yet c.args.fields.now
 
 pub loop-field-preserved : goal.loop-field-preserved
 loop-field-preserved c =

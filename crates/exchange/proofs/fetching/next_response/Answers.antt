@@ -1,5 +1,5 @@
 -- What the reader tells of its bytes is what stands first in what the link gave further.
-use Rattle.std.proofs.Common.{◌≡◌, ◌++◌, length, false, ap, subst, ◌∙◌}
+use Rattle.std.proofs.Common.{◌++◌, length, false, ap, subst, ◌∙◌}
 use Rattle.capture.specs.First.{Responses, Message, IsFirst}
 use Rattle.http_wire.specs.Messages.{IsResponse}
 use Rattle.http_wire.specs.Reading.{HasFault, IsUndecided, Stands}
@@ -7,6 +7,7 @@ use Rattle.http_wire.specs.ResponseReading.{ResponseReading}
 use Rattle.exchange.proofs.AccountLaws.{accounts_then}
 use Rattle.exchange.proofs.DecisionLaws.{messages_stay, refusals_stay}
 use Rattle.exchange.proofs.ResponseLaws.{head_came, whole_answers, ended_answers, broken_answers, refused_answers, accounts_fault_then}
+use Rattle.exchange.proofs.WithinLaws.{whole_within, ended_within}
 use Rattle.exchange.proofs.fetching.next_response.Goals as goal
 
 pub reading-smaller : goal.reading-smaller
@@ -61,9 +62,19 @@ returns-in-Refused-clause-answers g c t =
     let accounts = accounts_fault_then fault (g.L.Link.traffic c.args.link.now).given (c.args.reader.now.stream ++ c.args.window.now)
     (g.L.Link.traffic c.reading.link).given (c.reading.reader.stream ++ c.reading.window) (g.L.Link.traffic c.receive_response.new.link).given stream
     (c.reading.invariant.accounts t) (c.in-Refused.ensures.accounts t) in
-    let has = subst (λ a. HasFault (Responses a) fault stream) ah c.in-Refused.ensures.brings.1 in
+    let has = subst (λ a. HasFault (Responses a) fault stream) ah c.in-Refused.ensures.brings.2 in
     refused_answers (refusals_stay c.fronts_stay.ensures.heads c.fronts_stay.ensures.too_long) c.args.reader.now.answers_head
     (g.L.Link.traffic c.reading.link).ended (g.L.Link.traffic c.receive_response.new.link).ended fault c.fault_of.result
     (g.L.Link.traffic c.args.link.now).given c.args.reader.now.stream c.args.window.now
     (g.L.Link.traffic c.receive_response.new.link).given stream c.receive_response.new.window
     start accounts (c.in-Refused.ensures.meets_end t) has c.fault_of.ensures
+
+pub returns-in-Whole-clause-within : goal.returns-in-Whole-clause-within
+returns-in-Whole-clause-within g c =
+    whole_within c.receive_response.new.reader.answers_head c.reading.reader.answers_head false c.receive_response.new.reader.stream c.take.result
+    c.take.ensures.message c.in-Whole.ensures.brings.1
+
+pub returns-in-Ended-clause-within : goal.returns-in-Ended-clause-within
+returns-in-Ended-clause-within g c =
+    ended_within c.receive_response.new.reader.answers_head c.reading.reader.answers_head c.receive_response.new.reader.stream
+    c.receive_response.new.reader.standing c.take-in-Ended.result c.take-in-Ended.ensures.message c.in-Ended.ensures.stands c.take-in-Ended.ensures.cut

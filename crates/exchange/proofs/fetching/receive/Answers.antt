@@ -1,5 +1,5 @@
 -- What stands behind the interim responses so far.
-use Rattle.std.proofs.Common.{◌≡◌, ℕ, ◌+◌, ap, arith, ◌∙◌, Ok, Err}
+use Rattle.std.proofs.Common.{ap, arith, ◌∙◌, Ok, Err}
 use Rattle.http_wire.specs.ResponseReading.{ResponseReading, new_response}
 use Rattle.exchange.proofs.ArrivalLaws.{further_from, fails, arrives, too_many, awaits_next}
 use Rattle.exchange.proofs.fetching.receive.Goals as goal

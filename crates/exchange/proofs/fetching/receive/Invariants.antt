@@ -1,5 +1,5 @@
 -- The interim responses so far, and the bytes in the window, are what the link gave.
-use Rattle.std.proofs.Common.{◌≡◌, ℕ, ◌-◌, ◌≤◌, IsTrue}
+use Rattle.std.proofs.Common.{◌≡◌, ◌-◌, ◌≤◌, IsTrue}
 use Rattle.capture.specs.declared.limits.TheConstants.{INTERIM_LIMIT}
 use Rattle.http_wire.specs.ResponseReading.{new_response}
 use Rattle.exchange.proofs.ArrivalLaws.{Awaits}

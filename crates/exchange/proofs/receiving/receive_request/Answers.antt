@@ -1,8 +1,10 @@
 -- The message and the window grow, and all that was given is theirs.
-use Rattle.std.proofs.Common.{◌++◌, sym, subst}
-use Rattle.capture.specs.First.{Requests, Responses}
+use Rattle.std.proofs.Common.{false, ◌++◌, sym, subst}
+use Rattle.capture.specs.First.{Requests}
 use Rattle.exchange.specs.Receiving.{StaysAccounted}
 use Rattle.exchange.proofs.AccountLaws.{accounts_more, accounts_all}
+use Rattle.http_wire.specs.Reading.{IsUndecided}
+use Rattle.exchange.proofs.BetweenLaws.{nothing_begun}
 use Rattle.exchange.proofs.FeedLaws.{further_on, nothing_came}
 use Rattle.exchange.proofs.receiving.receive_request.Goals as goal
 
@@ -23,3 +25,9 @@ returns-in-Err-end-clause-accounts g c t =
     c.feed_request.new.reader.stream now c.refill.new.self (c.reading.invariant.accounts t) feeds.0 (c.refill.ensures.gives t) in
     let none = nothing_came c.in-Ok-false.field-0 c.refill.new.self c.in-Ok-false.field-0-test c.in-Ok-false.ensures.some in
     subst (StaysAccounted before pending now) (sym c.end.ensures.stream) (accounts_all before pending now c.feed_request.new.reader.stream c.refill.new.self accounts none)
+
+pub returns-in-Ok-clause-between : goal.returns-in-Ok-clause-between
+returns-in-Ok-clause-between g c =
+    let feeds = rw c.in-Ok-More.field-0-is at c.in-Ok-More.ensures.feeds in
+    let undecided = subst (λ s. IsUndecided Requests false s) (sym c.end.ensures.stream) feeds.3 in
+    nothing_begun c.chunked_bodies_split_one_way.ensures.apart c.end.new.self.stream c.end.new.self.standing undecided c.in-Ok.ensures.between

@@ -1,6 +1,6 @@
 -- The message and the window grow, and all that was given is theirs.
 use Rattle.std.proofs.Common.{◌++◌, sym, subst}
-use Rattle.capture.specs.First.{Requests, Responses}
+use Rattle.capture.specs.First.{Responses}
 use Rattle.exchange.specs.Receiving.{StaysAccounted}
 use Rattle.exchange.proofs.AccountLaws.{accounts_more, accounts_all}
 use Rattle.exchange.proofs.FeedLaws.{further_on, nothing_came}

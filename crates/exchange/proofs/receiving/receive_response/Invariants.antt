@@ -1,13 +1,16 @@
 -- The bytes of the message so far and those in the window are what the link gave.
-use Rattle.std.proofs.Common.{◌≡◌, ℕ, ◌+◌, ◌*◌, ◌-◌, ◌++◌, IsTrue, length}
-use Rattle.capture.specs.First.{Requests, Responses}
+use Rattle.std.proofs.Common.{◌≡◌, ◌+◌, ◌*◌, ◌-◌, ◌++◌, IsTrue, length}
+use Rattle.std.specs.Prelude.{IsSome}
+use Rattle.capture.specs.First.{Responses}
 use Rattle.capture.specs.declared.limits.TheConstants.{HEAD_LIMIT, BODY_LIMIT}
+use Rattle.http_wire.specs.Reading.{Whole}
 use Rattle.exchange.specs.Receiving.{MayGoOn, StaysAccounted}
 use Rattle.exchange.proofs.receiving.receive_response.Given as goal
 
 abbrev pub invariant-reading : goal.invariant-reading
 invariant-reading g l = record {
   going : MayGoOn (Responses l.reader.answers_head) l.reader.stream l.reader.standing;
+  held : l.reader.standing ≡ Whole → IsSome l.reader.head;
   head : l.reader.head ≡ l.fn.reader.head;
   answers_head : l.reader.answers_head ≡ l.fn.reader.answers_head;
   accounts : IsTrue g.L.Link.tells →

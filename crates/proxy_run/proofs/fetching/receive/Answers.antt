@@ -1,5 +1,6 @@
 -- The bytes that the link gave are those of the head, of the body and those left in the window.
 use Rattle.std.proofs.Common.{sym, inl, inr, ap, Err}
+use Rattle.proxy_run.proofs.OneAnswer.{one_answer}
 use Rattle.proxy_run.proofs.ReceiveLaws.{from_start, no_answer, ended_in_head, whole_answer, lacks_body}
 use Rattle.proxy_run.proofs.fetching.receive.Goals as goal
 
@@ -60,3 +61,8 @@ returns-in-Ended-read_body-clause-receives g c t = (
       c.in-Some.ensures.value,
   c.in-Ended-read_body.ensures.meets_end t,
 )
+
+pub returns-in-Whole-clause-response : goal.returns-in-Whole-clause-response
+returns-in-Whole-clause-response g c =
+    rw c.of.ensures (one_answer c.fronts_stay.ensures.heads c.read_front.new.reader c.in-Whole.wire.items c.in-Ok-read_head.head c.in-Some.length
+    c.in-Head.ensures.front (rw c.text.ensures at c.in-Ok-read_head.ensures.ok) c.in-Some.ensures.value c.in-Whole.ensures.whole)
