@@ -1,17 +1,26 @@
 //! Calls of single crates, by name, over one text each. The answer is a text: the value, or the name of the refusal.
 mod addresses;
 mod bodies;
+mod entries;
+mod exchanges;
 mod faults;
 mod framings;
 mod heads;
 mod keys;
 mod pages;
+mod records;
+mod refusals;
+mod tables;
 mod texts;
 mod times;
 mod wholes;
 
-use capture::Memory;
+use capture::{Memory, Site, Text, put_all};
+use digest32::{base32_of, payload_digest};
+pub use exchanges::aimed_at;
+pub use faults::fault_shown;
 use std::alloc::Global;
+pub use wholes::{request_shown, response_shown};
 
 /// A call of a case, and the text that it is given.
 #[derive(Debug, Drop)]
@@ -51,8 +60,38 @@ pub fn answer(alloc: Global, call: &Call) -> Result<Option<Vec<u8>>, Memory> {
         "request_stream" => wholes::request_stream(alloc, text),
         "response_message" => wholes::response_message(alloc, text),
         "rewrite" => Ok(Some(pages::rewritten(alloc, text)?)),
+        _ => answer_above(alloc, call),
+    }
+}
+
+/// What a call of a crate answers that stands above those.
+fn answer_above(alloc: Global, call: &Call) -> Result<Option<Vec<u8>>, Memory> {
+    let text = call.text.as_slice();
+    match call.name {
+        "aim_of" => Ok(Some(exchanges::aim_shown(alloc, text)?)),
+        "forward_text" => Ok(Some(exchanges::forwarded(alloc, text)?)),
+        "client_text" => exchanges::passed_on(alloc, text),
+        "refusal_text" => refusals::refused(alloc, text),
+        "memory_text" => Ok(Some(refusals::lacked(alloc)?)),
+        "group" => records::group_of(alloc, text),
+        "next_group" => records::group_step(alloc, text),
+        "next_info" => records::info_step(alloc, text),
+        "hop_by_hop_field" => Ok(Some(tables::is_hop_by_hop(alloc, text)?)),
+        "memento_field" => Ok(Some(tables::is_kept(alloc, text)?)),
+        "nearest" => entries::nearest_of(alloc, text),
+        "of_key" => entries::of_key(alloc, text),
+        "starting" => entries::starting(alloc, text),
         _ => Ok(None),
     }
+}
+
+/// The site at `http://localhost:8080`.
+fn site_of(alloc: Global) -> Result<Site, Memory> {
+    Ok(Site {
+        base: Text::from_str(alloc, "http://localhost:8080")?,
+        host: Text::from_str(alloc, "localhost")?,
+        port: 8080,
+    })
 }
 
 /// A text in memory of its own.
@@ -64,6 +103,14 @@ fn told(alloc: Global, text: &[u8]) -> Result<Vec<u8>, Memory> {
 fn number(alloc: Global, value: u64) -> Result<Vec<u8>, Memory> {
     let mut out = Vec::new(alloc);
     capture::put_number(&mut out, value)?;
+    Ok(out)
+}
+
+/// The length of a text, and its SHA-1 in base32.
+fn length_and_digest(alloc: Global, text: &[u8]) -> Result<Vec<u8>, Memory> {
+    let mut out = number(alloc, text.len() as u64)?;
+    put_all(&mut out, b" ")?;
+    put_all(&mut out, &base32_of(&payload_digest(text)))?;
     Ok(out)
 }
 

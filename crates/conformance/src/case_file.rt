@@ -1,5 +1,7 @@
-//! The cases of a file.
+//! The cases of a file, and the texts that it names.
+use crate::escapes::decode;
 use crate::line::Line;
+use crate::names::{NamedText, Names};
 use std::alloc::{AllocError, Global};
 
 /// A case: its name, how often it is played, what it is given, and what it is to give.
@@ -38,29 +40,64 @@ impl<'a> Case<'a> {
     }
 }
 
-/// The cases of a text. Empty lines and those that begin with `#` are passed over. What stands before the first case
-/// is a case of its own, which gives nothing that is expected.
-pub fn cases_of<'a>(alloc: Global, text: &'a str) -> Result<Vec<Case<'a>>, AllocError> {
-    let mut cases = Vec::new(alloc);
-    for text in text.lines() {
-        if !text.is_empty() && !text.starts_with('#') {
-            add_line(alloc, &mut cases, text)?;
-        }
-    }
-    Ok(cases)
+/// The cases of a file, and the texts that it names.
+#[derive(Debug, Drop)]
+pub struct CaseFile<'a> {
+    pub texts: Vec<NamedText>,
+    pub cases: Vec<Case<'a>>,
 }
 
-fn add_line<'a>(alloc: Global, cases: &mut Vec<Case<'a>>, text: &'a str) -> Result<(), AllocError> {
-    let line = Line::of(text);
-    if line.word == "case" {
-        cases.push(Case::new(alloc, line.rest))?;
-        return Ok(());
+impl<'a> CaseFile<'a> {
+    /// The cases of a text. Empty lines and those that begin with `#` are passed over. What stands before the first case
+    /// is a case of its own, which gives nothing that is expected.
+    pub fn of(alloc: Global, text: &'a str) -> Result<CaseFile<'a>, AllocError> {
+        let mut file = CaseFile {
+            texts: Vec::new(alloc),
+            cases: Vec::new(alloc),
+        };
+        for text in text.lines() {
+            if !text.is_empty() && !text.starts_with('#') {
+                file.add(alloc, text)?;
+            }
+        }
+        Ok(file)
     }
-    if cases.is_empty() {
-        cases.push(Case::new(alloc, "(before the first case)"))?;
+
+    fn add(&mut self, alloc: Global, text: &'a str) -> Result<(), AllocError> {
+        let line = Line::of(text);
+        if line.word == "case" {
+            self.cases.push(Case::new(alloc, line.rest))?;
+            return Ok(());
+        }
+        if line.word == "text" && self.name_text(alloc, Line::of(line.rest))? {
+            return Ok(());
+        }
+        self.add_line(alloc, text)
     }
-    match cases.last_mut() {
-        Some(case) => case.add(text),
-        None => Ok(()),
+
+    /// Names a text, and says whether it is one.
+    fn name_text(&mut self, alloc: Global, line: Line) -> Result<bool, AllocError> {
+        let names = Names {
+            k: 0,
+            texts: self.texts.as_slice(),
+        };
+        let Some(text) = decode(alloc, line.rest, names)? else {
+            return Ok(false);
+        };
+        let named = NamedText::new(alloc, line.word, text)?;
+        self.texts.push(named)?;
+        Ok(true)
+    }
+
+    /// Adds a line to the last case.
+    fn add_line(&mut self, alloc: Global, text: &'a str) -> Result<(), AllocError> {
+        if self.cases.is_empty() {
+            self.cases
+                .push(Case::new(alloc, "(before the first case)"))?;
+        }
+        match self.cases.last_mut() {
+            Some(case) => case.add(text),
+            None => Ok(()),
+        }
     }
 }

@@ -1,36 +1,64 @@
 //! Compares what a run gave with what a case expects.
 use crate::escapes::{decode, encode};
+use crate::names::Names;
 use crate::outcome::Outcome;
 use std::alloc::{AllocError, Global};
 
 /// A line `front TEXT` is met by each line that TEXT begins with.
 const FRONT: &[u8] = b"front ";
 
-/// The first difference, as a text; none where all is as expected.
+/// A line `maybe TEXT` is met by the line TEXT, and by none.
+const MAYBE: &[u8] = b"maybe ";
+
+/// The line between two lists of lines, one of which is expected.
+const OR: &str = "or";
+
+/// The first difference from the last of the lists that are expected, as a text; none where all is as one of them says.
 pub fn difference(
     alloc: Global,
     expected: &[&str],
     outcome: &Outcome,
-    k: u64,
+    names: Names,
 ) -> Result<Option<String>, AllocError> {
-    let given = outcome.lines.as_slice();
-    for (i, text) in expected.iter().enumerate() {
-        let Some(wanted) = decode(alloc, text, k)? else {
+    let mut found = None;
+    for lines in expected.split(|line| *line == OR) {
+        found = difference_from(alloc, lines, outcome, names)?;
+        if found.is_none() {
+            return Ok(None);
+        }
+    }
+    Ok(found)
+}
+
+/// The first difference from this list of lines.
+fn difference_from(
+    alloc: Global,
+    expected: &[&str],
+    outcome: &Outcome,
+    names: Names,
+) -> Result<Option<String>, AllocError> {
+    let mut given = outcome.lines.as_slice();
+    for text in expected {
+        let Some(wanted) = decode(alloc, text, names)? else {
             return Ok(Some(format!(in alloc; "no line: {text}")?));
         };
-        match given.get(i) {
-            Some(line) if meets(line.as_slice(), wanted.as_slice()) => {}
-            Some(line) => return shown(alloc, text, line.as_slice()),
+        match given.split_first() {
+            Some((line, rest)) if meets(line.as_slice(), wanted.as_slice()) => given = rest,
+            _ if wanted.starts_with(MAYBE) => {}
+            Some((line, _)) => return shown(alloc, text, line.as_slice()),
             None => return Ok(Some(format!(in alloc; "missing: {text}")?)),
         }
     }
-    match given.get(expected.len()) {
+    match given.first() {
         Some(line) => shown(alloc, "nothing more", line.as_slice()),
         None => Ok(None),
     }
 }
 
 fn meets(given: &[u8], wanted: &[u8]) -> bool {
+    if let Some(line) = wanted.strip_prefix(MAYBE) {
+        return given == line;
+    }
     match wanted.strip_prefix(FRONT) {
         Some(whole) => whole.starts_with(given),
         None => given == wanted,

@@ -1,10 +1,12 @@
 //! Texts as case files write them: a byte that can't stand in a line stands in braces.
+use crate::names::Names;
 use crate::numbers::{byte_of, number_of};
 use std::alloc::{AllocError, Global};
 
 /// The bytes of a text: `{crlf}`, `{lf}`, `{cr}`, `{tab}` and `{open}` (an opening brace); `{0x7f}`, a byte; `{k}`, the
-/// number for which the case is played; `{12 ab}`, so many times the text. `None` where braces hold something else.
-pub fn decode(alloc: Global, text: &str, k: u64) -> Result<Option<Vec<u8>>, AllocError> {
+/// number for which the case is played; `{page}`, the text that the file names so, and `{front 12 page}`, the first so many
+/// bytes of it; `{12 ab}`, so many times the text, or the one that it names. `None` where braces hold something else.
+pub fn decode(alloc: Global, text: &str, names: Names) -> Result<Option<Vec<u8>>, AllocError> {
     let mut out = Vec::new(alloc);
     let mut pieces = text.split('{');
     if let Some(first) = pieces.next() {
@@ -14,7 +16,7 @@ pub fn decode(alloc: Global, text: &str, k: u64) -> Result<Option<Vec<u8>>, Allo
         let Some((name, literal)) = piece.split_once('}') else {
             return Ok(None);
         };
-        if !put_named(alloc, &mut out, name, k)? {
+        if !put_named(alloc, &mut out, name, names)? {
             return Ok(None);
         }
         out.extend_from_slice(literal.as_bytes())?;
@@ -23,33 +25,62 @@ pub fn decode(alloc: Global, text: &str, k: u64) -> Result<Option<Vec<u8>>, Allo
 }
 
 /// Puts what the braces hold, and says whether they hold something.
-fn put_named(alloc: Global, out: &mut Vec<u8>, name: &str, k: u64) -> Result<bool, AllocError> {
+fn put_named(
+    alloc: Global,
+    out: &mut Vec<u8>,
+    name: &str,
+    names: Names,
+) -> Result<bool, AllocError> {
     match name {
         "crlf" => out.extend_from_slice(b"\r\n")?,
         "lf" => out.push(b'\n')?,
         "cr" => out.push(b'\r')?,
         "tab" => out.push(b'\t')?,
         "open" => out.push(b'{')?,
-        "k" => out.extend_from_slice(k.to_string(alloc)?.as_bytes())?,
-        _ => return put_other(out, name, k),
+        "k" => out.extend_from_slice(names.k.to_string(alloc)?.as_bytes())?,
+        _ => return put_other(out, name, names),
     }
     Ok(true)
 }
 
-/// Puts a byte by its number, or a text so many times.
-fn put_other(out: &mut Vec<u8>, name: &str, k: u64) -> Result<bool, AllocError> {
+/// Puts a byte by its number, a text by its name, a front of one, or one so many times.
+fn put_other(out: &mut Vec<u8>, name: &str, names: Names) -> Result<bool, AllocError> {
     if let Some(byte) = byte_of(name) {
         out.push(byte)?;
         return Ok(true);
     }
-    let Some((count, text)) = name.split_once(' ') else {
+    if let Some(text) = names.text_of(name) {
+        out.extend_from_slice(text)?;
+        return Ok(true);
+    }
+    match name.split_once(' ') {
+        Some(("front", name)) => put_front(out, name, names),
+        Some((count, text)) => put_times(out, count, text, names),
+        None => Ok(false),
+    }
+}
+
+/// Puts the first so many bytes of a text by its name.
+fn put_front(out: &mut Vec<u8>, front: &str, names: Names) -> Result<bool, AllocError> {
+    let Some((length, name)) = front.split_once(' ') else {
         return Ok(false);
     };
-    let Some(count) = number_of(count, k) else {
+    let (Some(length), Some(text)) = (number_of(length, names.k), names.text_of(name)) else {
         return Ok(false);
     };
+    let (front, _) = text.split_at(text.len().min(length as usize));
+    out.extend_from_slice(front)?;
+    Ok(true)
+}
+
+/// Puts a text, or the one that it names, so many times.
+fn put_times(out: &mut Vec<u8>, count: &str, text: &str, names: Names) -> Result<bool, AllocError> {
+    let Some(count) = number_of(count, names.k) else {
+        return Ok(false);
+    };
+    let text = names.text_of(text).unwrap_or(text.as_bytes());
     for _ in 0..count {
-        out.extend_from_slice(text.as_bytes())?;
+        out.extend_from_slice(text)?;
     }
     Ok(true)
 }

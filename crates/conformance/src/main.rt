@@ -8,11 +8,15 @@ mod calls;
 mod case_file;
 mod compare;
 mod escapes;
+mod fetching;
 mod line;
+mod names;
 mod numbers;
 mod objects;
+mod opening;
 mod outcome;
 mod play;
+mod receiving;
 mod setting;
 
 use play::play_file;

@@ -46,9 +46,10 @@ fn links_of(
 {
     let mut links = Vec::new(alloc);
     for text in texts {
+        let (given, _) = text.as_slice().split_at(text.len().min(front));
         links.push(MemoryLink::in_pieces(
             alloc,
-            text.iter().copied().take(front).collect(alloc)?,
+            given.to_vec(alloc)?,
             most.max(1),
             fails.to_vec(alloc)?,
         ))?;
@@ -69,7 +70,20 @@ fn gate_of(alloc: Global, setting: &Setting) -> Result<MemoryGate, AllocError> {
     Ok(MemoryGate::new(alloc, links, fails.gate.clone()?))
 }
 
-fn dialer_of(alloc: Global, setting: &Setting) -> Result<MemoryDialer, AllocError> {
+/// The link of the last client. `None` where the case has no client.
+pub fn client_of(alloc: Global, setting: &Setting) -> Result<Option<MemoryLink>, AllocError> {
+    let mut links = links_of(
+        alloc,
+        setting.clients.as_slice(),
+        setting.client_front,
+        setting.pieces,
+        setting.fails.client.as_slice(),
+    )?;
+    Ok(links.pop())
+}
+
+/// The dialer that gives the case's origins.
+pub fn dialer_of(alloc: Global, setting: &Setting) -> Result<MemoryDialer, AllocError> {
     let fails = &setting.fails;
     let links = links_of(
         alloc,
@@ -104,7 +118,7 @@ fn crew_of(
 const CALLS: u64 = 3;
 
 /// The disk on which the case's volumes stand, durably. Its calls are numbered from 0 behind that.
-fn disk_of(alloc: Global, setting: &Setting) -> Result<Result<MemoryDisk, Failed>, AllocError> {
+pub fn disk_of(alloc: Global, setting: &Setting) -> Result<Result<MemoryDisk, Failed>, AllocError> {
     let made = CALLS.saturating_mul(setting.volumes.len() as u64);
     let mut fails = Vec::new(alloc);
     for number in setting.fails.disk.as_slice() {
@@ -116,7 +130,10 @@ fn disk_of(alloc: Global, setting: &Setting) -> Result<Result<MemoryDisk, Failed
             return Ok(Err(Failed));
         }
     }
-    Ok(Ok(disk))
+    match setting.disk_fuse {
+        Some(calls) => Ok(Ok(disk.fused(calls))),
+        None => Ok(Ok(disk)),
+    }
 }
 
 #[tactic(auto, using(crate::proofs::FileLaws::is_there, crate::proofs::FileLaws::still_there))]

@@ -9,8 +9,9 @@ use outside::{Heard, Transcript};
 use proxy_run::Status;
 use std::alloc::Global;
 
-/// The lines of an outcome, in order: the answer of a call; or, of a run, the status, what was written on each connection, what was sent over each link,
-/// what was printed, and the files that the disk holds.
+/// The lines of an outcome, in order: the answer of a call or of a fetch; what the steps of a journal say and what an
+/// opening finds; of a run, the status and what was written on each connection; what was sent over each link; what was
+/// printed, and the files that the disk holds.
 #[derive(Debug, Drop)]
 pub struct Outcome {
     pub lines: Vec<Vec<u8>>,
@@ -28,6 +29,26 @@ impl Outcome {
     pub fn put_answer(&mut self, alloc: Global, text: &[u8]) -> Result<(), Memory> {
         let mut line = word(alloc, b"answer ")?;
         put_all(&mut line, text)?;
+        self.push(line)
+    }
+
+    /// `found TEXT`
+    pub fn put_found(&mut self, alloc: Global, text: &str) -> Result<(), Memory> {
+        let mut line = word(alloc, b"found ")?;
+        put_all(&mut line, text.as_bytes())?;
+        self.push(line)
+    }
+
+    /// `step done`, or `step refused`.
+    pub fn put_step(&mut self, alloc: Global, refused: bool) -> Result<(), Memory> {
+        let line = word(
+            alloc,
+            if refused {
+                b"step refused"
+            } else {
+                b"step done"
+            },
+        )?;
         self.push(line)
     }
 

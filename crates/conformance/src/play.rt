@@ -1,13 +1,15 @@
 //! Plays the cases of a file.
 use crate::calls::{Call, answer};
-use crate::case_file::{Case, cases_of};
+use crate::case_file::{Case, CaseFile};
 use crate::compare::difference;
 use crate::line::Line;
+use crate::names::{NamedText, Names};
 use crate::numbers::plays_of;
-use crate::objects::{Objects, objects_of};
+use crate::objects::{Objects, disk_of, objects_of};
 use crate::outcome::Outcome;
-use crate::setting::Setting;
-use capture::Memory;
+use crate::setting::{Played, Setting};
+use crate::{fetching, opening, receiving};
+use capture::{Failed, Memory};
 use disk_model::MemoryDisk;
 use outside::{MemoryClock, MemoryDialer, MemoryGate, MemorySink};
 use proxy_run::{CREW, Crew, Ran, Status, run};
@@ -38,19 +40,20 @@ pub fn play_file<R>(rt: &R, alloc: Global, text: &str) -> io::Result<Tally>
 where
     R: Threads + Wait + Sync + Print,
 {
-    let cases = cases_of(alloc, text)?;
+    let file = CaseFile::of(alloc, text)?;
     let mut differences = 0u64;
-    for case in cases.as_slice() {
-        differences = differences.saturating_add(play_case(rt, alloc, case)?);
+    for case in file.cases.as_slice() {
+        let differed = play_case(rt, alloc, file.texts.as_slice(), case)?;
+        differences = differences.saturating_add(differed);
     }
     Ok(Tally {
-        cases: cases.len() as u64,
+        cases: file.cases.len() as u64,
         differences,
     })
 }
 
 /// Plays a case for each of its numbers, and says how often it differed.
-fn play_case<R>(rt: &R, alloc: Global, case: &Case) -> io::Result<u64>
+fn play_case<R>(rt: &R, alloc: Global, texts: &[NamedText], case: &Case) -> io::Result<u64>
 where
     R: Threads + Wait + Sync + Print,
 {
@@ -64,7 +67,7 @@ where
     }
     let mut differences = 0u64;
     for k in numbers {
-        match play_once(rt, alloc, case, k) {
+        match play_once(rt, alloc, case, Names { k, texts }) {
             Ok(None) => continue,
             Ok(Some(text)) => println!(rt; "{} ({k}): {text}", case.name)?,
             Err(Memory) => println!(rt; "{} ({k}): no memory", case.name)?,
@@ -74,35 +77,71 @@ where
     Ok(differences)
 }
 
-/// Plays a case once. The answer is the first difference.
-fn play_once<R>(rt: &R, alloc: Global, case: &Case, k: u64) -> Result<Option<String>, Memory>
+/// Plays a case for one number, and each of its stops. The answer is the first difference.
+fn play_once<R>(rt: &R, alloc: Global, case: &Case, names: Names) -> Result<Option<String>, Memory>
 where
     R: Threads + Wait + Sync,
 {
     let mut setting = Setting::new(alloc)?;
     for text in case.given.as_slice() {
-        if !setting.take(alloc, Line::of(text), k)? {
+        if !setting.take(alloc, Line::of(text), names)? {
             return Ok(Some(format!(in alloc; "no line: {text}")?));
         }
     }
-    match outcome_of(rt, alloc, &setting)? {
-        Some(outcome) => Ok(difference(alloc, case.expected.as_slice(), &outcome, k)?),
-        None => Ok(Some(String::from_str(alloc, "no such call, or no objects for the case")?)),
+    for stop in setting.stops.from..setting.stops.to {
+        let Some(outcome) = outcome_of(rt, alloc, &setting, stop)? else {
+            return Ok(Some(String::from_str(alloc, "no such call, or no objects for the case")?));
+        };
+        let expected = case.expected.as_slice();
+        if let Some(text) = difference(alloc, expected, &outcome, names)? {
+            return Ok(Some(format!(in alloc; "(stop {stop}) {text}")?));
+        }
     }
+    Ok(None)
 }
 
-/// What the call of the setting gives, or the program over it. `None` where there is no such call, or where an object
-/// of the case could not be made.
-fn outcome_of<R>(rt: &R, alloc: Global, setting: &Setting) -> Result<Option<Outcome>, Memory>
+/// What is played gives, and the files that a stop by this choice leaves behind it. `None` where there is no such call,
+/// or where an object of the case could not be made.
+fn outcome_of<R>(
+    rt: &R,
+    alloc: Global,
+    setting: &Setting,
+    stop: u32,
+) -> Result<Option<Outcome>, Memory>
 where
     R: Threads + Wait + Sync,
 {
-    if let Some(call) = &setting.call {
-        return answered(alloc, call);
+    match &setting.played {
+        Played::Program => match objects_of(alloc, setting)? {
+            Some(objects) => outcome_over(rt, alloc, setting, objects, stop),
+            None => Ok(None),
+        },
+        Played::Call(call) => answered(alloc, call),
+        Played::Fetch(request) => fetching::outcome_of(alloc, setting, request.as_slice()),
+        Played::Requests => receiving::outcome_of(alloc, setting),
+        Played::Opening(skip) => opened(alloc, setting, stop, *skip),
+        Played::Files => worked(alloc, setting, stop),
     }
-    match objects_of(alloc, setting)? {
-        Some(objects) => outcome_over(rt, alloc, setting, objects),
-        None => Ok(None),
+}
+
+/// What is found on the case's disk, behind the steps and the stop.
+fn opened(
+    alloc: Global,
+    setting: &Setting,
+    stop: u32,
+    skip: Option<u32>,
+) -> Result<Option<Outcome>, Memory> {
+    match disk_of(alloc, setting)? {
+        Ok(disk) => opening::outcome_of(alloc, disk, setting.steps.as_slice(), stop, skip),
+        Err(Failed) => Ok(None),
+    }
+}
+
+/// What the case's disk holds, behind the steps and the stop.
+fn worked(alloc: Global, setting: &Setting, stop: u32) -> Result<Option<Outcome>, Memory> {
+    match disk_of(alloc, setting)? {
+        Ok(disk) => opening::files_behind(alloc, disk, setting.steps.as_slice(), stop),
+        Err(Failed) => Ok(None),
     }
 }
 
@@ -121,6 +160,7 @@ fn outcome_over<R>(
     alloc: Global,
     setting: &Setting,
     objects: Objects,
+    stop: u32,
 ) -> Result<Option<Outcome>, Memory>
 where
     R: Threads + Wait + Sync,
@@ -137,7 +177,7 @@ where
     let words = setting.words.as_slice();
     let Ran { status, disk } = run(rt, alloc, words, disk, &mut gate, &mut crew, &mut out);
     let told = told_of(alloc, status, &gate, &crew, &out);
-    match disk.stop(setting.stop) {
+    match disk.stop(stop) {
         Ok(left) => with_files(alloc, told, left),
         Err(_) => Ok(None),
     }

@@ -2,7 +2,9 @@
 use crate::calls::Call;
 use crate::escapes::decode;
 use crate::line::Line;
+use crate::names::Names;
 use crate::numbers::{number_of, numbers_of};
+use crate::opening::{Step, Work};
 use std::alloc::{AllocError, Global};
 
 /// The choice of a stop that leaves what reads give.
@@ -10,6 +12,23 @@ const READING: u32 = 1;
 
 /// The namespace where a case names none.
 const NAMESPACE: &str = "6ba7b810-9dad-11d1-80b4-00c04fd430c8";
+
+/// What a case plays.
+#[derive(Debug, Drop)]
+pub enum Played<'a> {
+    /// A run of the program.
+    Program,
+    /// A call of a single crate.
+    Call(Call<'a>),
+    /// The opening of the volumes, where so many captures are skipped behind the first warcinfo, if the case says so.
+    Opening(Option<u32>),
+    /// The steps of the journal of the volumes, behind which the files are shown.
+    Files,
+    /// The client's requests, which are read one after the other.
+    Requests,
+    /// The fetch of a response, for a client's request of this text.
+    Fetch(Vec<u8>),
+}
 
 /// The numbers of the calls that are to fail, of each object.
 #[derive(Debug, Drop)]
@@ -22,11 +41,19 @@ pub struct Fails {
     pub sink: Vec<u64>,
 }
 
+/// The choices of the stops for each of which a case is played.
+#[derive(Clone, Copy, Debug)]
+pub struct Stops {
+    /// The first choice.
+    pub from: u32,
+    /// The one behind the last.
+    pub to: u32,
+}
+
 /// The words, what client, origins and clock give, what stands on the disk, and which calls are to fail.
 #[derive(Debug, Drop)]
 pub struct Setting<'a> {
-    /// The call of a single crate that takes the program's place, where the case has one.
-    pub call: Option<Call<'a>>,
+    pub played: Played<'a>,
     pub words: Vec<&'a str>,
     pub clock: Vec<u64>,
     /// What the client of each connection gives.
@@ -40,10 +67,13 @@ pub struct Setting<'a> {
     pub origin_front: usize,
     /// The volumes that stand on the disk.
     pub volumes: Vec<Vec<u8>>,
-    /// What the stop behind the run chooses, which leaves the files that are compared: what reads give, where a case
-    /// says nothing.
-    pub stop: u32,
+    /// What is done to the journal of the volumes before they are opened again.
+    pub steps: Vec<Step>,
+    /// What the stop behind all that chooses: what reads give, where a case says nothing.
+    pub stops: Stops,
     pub fails: Fails,
+    /// How many calls of the disk pass before each of them fails.
+    pub disk_fuse: Option<u64>,
 }
 
 impl<'a> Setting<'a> {
@@ -53,7 +83,7 @@ impl<'a> Setting<'a> {
         words.push("pipe")?;
         words.push(NAMESPACE)?;
         Ok(Setting {
-            call: None,
+            played: Played::Program,
             words,
             clock: Vec::new(alloc),
             clients: Vec::new(alloc),
@@ -62,7 +92,11 @@ impl<'a> Setting<'a> {
             client_front: usize::MAX,
             origin_front: usize::MAX,
             volumes: Vec::new(alloc),
-            stop: READING,
+            steps: Vec::new(alloc),
+            stops: Stops {
+                from: READING,
+                to: READING + 1,
+            },
             fails: Fails {
                 client: Vec::new(alloc),
                 gate: Vec::new(alloc),
@@ -71,50 +105,119 @@ impl<'a> Setting<'a> {
                 disk: Vec::new(alloc),
                 sink: Vec::new(alloc),
             },
+            disk_fuse: None,
         })
     }
 
     /// Takes a line of a case, and says whether it is one.
-    pub fn take(&mut self, alloc: Global, line: Line<'a>, k: u64) -> Result<bool, AllocError> {
+    pub fn take(
+        &mut self,
+        alloc: Global,
+        line: Line<'a>,
+        names: Names,
+    ) -> Result<bool, AllocError> {
         match line.word {
             "words" => {
                 self.words = line.rest.split_whitespace().collect(alloc)?;
                 Ok(true)
             }
-            "call" => self.take_call(alloc, Line::of(line.rest), k),
-            "client" => push_text(alloc, &mut self.clients, line.rest, k),
-            "origin" => push_text(alloc, &mut self.origins, line.rest, k),
-            "volume" => push_text(alloc, &mut self.volumes, line.rest, k),
-            "pieces" => Ok(take_length(&mut self.pieces, line.rest, k)),
-            "client-front" => Ok(take_length(&mut self.client_front, line.rest, k)),
-            "origin-front" => Ok(take_length(&mut self.origin_front, line.rest, k)),
-            "stop" => Ok(self.take_stop(line.rest, k)),
-            _ => self.take_numbers(alloc, line, k),
+            "client" => push_text(alloc, &mut self.clients, line.rest, names),
+            "origin" => push_text(alloc, &mut self.origins, line.rest, names),
+            "volume" => push_text(alloc, &mut self.volumes, line.rest, names),
+            "pieces" => Ok(take_length(&mut self.pieces, line.rest, names.k)),
+            "client-front" => Ok(take_length(&mut self.client_front, line.rest, names.k)),
+            "origin-front" => Ok(take_length(&mut self.origin_front, line.rest, names.k)),
+            "stop" => Ok(self.take_stop(line.rest, names.k)),
+            "stops" => Ok(self.take_stops(line.rest, names.k)),
+            "disk-fuse" => Ok(self.take_fuse(line.rest, names.k)),
+            _ => self.take_played(alloc, line, names),
         }
     }
 
-    fn take_call(&mut self, alloc: Global, line: Line<'a>, k: u64) -> Result<bool, AllocError> {
-        let Some(text) = decode(alloc, line.rest, k)? else {
+    /// Takes a line that says what is played.
+    fn take_played(
+        &mut self,
+        alloc: Global,
+        line: Line<'a>,
+        names: Names,
+    ) -> Result<bool, AllocError> {
+        match line.word {
+            "call" => self.take_call(alloc, Line::of(line.rest), names),
+            "fetch" => self.take_fetch(alloc, line.rest, names),
+            "open" => {
+                self.played = Played::Opening(None);
+                Ok(true)
+            }
+            "files" => {
+                self.played = Played::Files;
+                Ok(true)
+            }
+            "receive" => {
+                self.played = Played::Requests;
+                Ok(true)
+            }
+            "open-skipping" => Ok(self.take_skip(line.rest, names.k)),
+            _ => self.take_step(alloc, line, names),
+        }
+    }
+
+    fn take_call(
+        &mut self,
+        alloc: Global,
+        line: Line<'a>,
+        names: Names,
+    ) -> Result<bool, AllocError> {
+        let Some(text) = decode(alloc, line.rest, names)? else {
             return Ok(false);
         };
-        self.call = Some(Call {
+        self.played = Played::Call(Call {
             name: line.word,
             text,
         });
         Ok(true)
     }
 
-    fn take_stop(&mut self, text: &str, k: u64) -> bool {
-        let Some(choice) = number_of(text, k) else {
-            return false;
+    fn take_fetch(&mut self, alloc: Global, text: &str, names: Names) -> Result<bool, AllocError> {
+        let Some(text) = decode(alloc, text, names)? else {
+            return Ok(false);
         };
-        match u32::try_from(choice) {
-            Ok(choice) => {
-                self.stop = choice;
+        self.played = Played::Fetch(text);
+        Ok(true)
+    }
+
+    fn take_skip(&mut self, text: &str, k: u64) -> bool {
+        match small_of(text, k) {
+            Some(captures) => {
+                self.played = Played::Opening(Some(captures));
                 true
             }
-            Err(_) => false,
+            None => false,
         }
+    }
+
+    /// Takes a step of the journal. Behind `again` stands one that is done only where the one before it was refused.
+    fn take_step(
+        &mut self,
+        alloc: Global,
+        line: Line<'a>,
+        names: Names,
+    ) -> Result<bool, AllocError> {
+        let again = line.word == "again";
+        let step = if again { Line::of(line.rest) } else { line };
+        let is_step = matches!(step.word, "append" | "roll" | "repair");
+        if !is_step {
+            return self.take_numbers(alloc, line, names.k);
+        }
+        let Some(text) = decode(alloc, step.rest, names)? else {
+            return Ok(false);
+        };
+        let work = match step.word {
+            "append" => Work::Append(text),
+            "roll" => Work::Roll(text),
+            _ => Work::Repair,
+        };
+        self.steps.push(Step { work, again })?;
+        Ok(true)
     }
 
     fn take_numbers(&mut self, alloc: Global, line: Line<'a>, k: u64) -> Result<bool, AllocError> {
@@ -133,6 +236,38 @@ impl<'a> Setting<'a> {
         }
         Ok(true)
     }
+
+    fn take_stop(&mut self, text: &str, k: u64) -> bool {
+        match small_of(text, k) {
+            Some(choice) => {
+                self.stops = Stops {
+                    from: choice,
+                    to: choice.saturating_add(1),
+                };
+                true
+            }
+            None => false,
+        }
+    }
+
+    /// Takes the choices from the first number to before the second.
+    fn take_stops(&mut self, text: &str, k: u64) -> bool {
+        let Some((from, to)) = text.split_once(' ') else {
+            return false;
+        };
+        match (small_of(from, k), small_of(to, k)) {
+            (Some(from), Some(to)) => {
+                self.stops = Stops { from, to };
+                from < to
+            }
+            _ => false,
+        }
+    }
+
+    fn take_fuse(&mut self, text: &str, k: u64) -> bool {
+        self.disk_fuse = number_of(text, k);
+        self.disk_fuse.is_some()
+    }
 }
 
 fn take_length(length: &mut usize, text: &str, k: u64) -> bool {
@@ -145,13 +280,18 @@ fn take_length(length: &mut usize, text: &str, k: u64) -> bool {
     }
 }
 
+/// A number below 2^32.
+fn small_of(text: &str, k: u64) -> Option<u32> {
+    u32::try_from(number_of(text, k)?).ok()
+}
+
 fn push_text(
     alloc: Global,
     texts: &mut Vec<Vec<u8>>,
     text: &str,
-    k: u64,
+    names: Names,
 ) -> Result<bool, AllocError> {
-    match decode(alloc, text, k)? {
+    match decode(alloc, text, names)? {
         Some(bytes) => {
             texts.push(bytes)?;
             Ok(true)

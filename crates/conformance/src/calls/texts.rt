@@ -1,6 +1,6 @@
 //! Calls of `digest32`, `cdxj_line` and `warc_text`.
-use super::{number_in, told};
-use capture::{Memory, put_all, put_number};
+use super::{length_and_digest, number_in, told};
+use capture::Memory;
 use cdxj_line::{media_type, put_line, read_line};
 use digest32::{base32_of, payload_digest, read_base32};
 use std::alloc::Global;
@@ -59,9 +59,5 @@ pub fn info_of(alloc: Global, text: &[u8]) -> Result<Option<Vec<u8>>, Memory> {
         return Ok(None);
     }
     let info = info_text(alloc, &namespace, volume, born)?;
-    let mut out = Vec::new(alloc);
-    put_number(&mut out, info.as_slice().len() as u64)?;
-    put_all(&mut out, b" ")?;
-    put_all(&mut out, &base32_of(&payload_digest(info.as_slice())))?;
-    Ok(Some(out))
+    Ok(Some(length_and_digest(alloc, info.as_slice())?))
 }

@@ -1,5 +1,6 @@
 //! Calls of `http_wire`.
 ghost use Rattle.std.specs.Prelude.{◌≡◌, ◌⊎◌, IfOk, IfNone};
+ghost use Rattle.exchange.specs.Fetches.{IsOneResponse};
 ghost use Rattle.http_wire.specs.Reading.{Open, Whole};
 
 use super::faults::fault_shown;
@@ -19,7 +20,8 @@ pub fn request_message(alloc: Global, text: &[u8]) -> Result<Vec<u8>, Memory> {
     }
 }
 
-fn request_shown(alloc: Global, message: &RequestMessage) -> Result<Vec<u8>, Memory> {
+/// The request's method, what tells its length, and its payload.
+pub fn request_shown(alloc: Global, message: &RequestMessage) -> Result<Vec<u8>, Memory> {
     let mut out = told(alloc, message.head.method.as_slice())?;
     put_all(&mut out, b" ")?;
     put_framing(&mut out, message.framing)?;
@@ -114,14 +116,22 @@ pub fn response_message(alloc: Global, text: &[u8]) -> Result<Option<Vec<u8>>, M
     let Some((length, stream)) = in_pieces(text) else {
         return Ok(None);
     };
-    match received(alloc, stream, length) {
+    match received(alloc, false, stream, length) {
         Ok(response) => Ok(Some(response_shown(alloc, &response)?)),
         Err(fault) => Ok(Some(fault_shown(alloc, fault)?)),
     }
 }
 
-fn received(alloc: Global, stream: &[u8], length: usize) -> Result<Received, WireFault> {
-    let mut reader = ResponseReader::new(alloc, false);
+/// The first response of a stream that comes in pieces of the length and ends.
+pub fn received(
+    alloc: Global,
+    answers_head: bool,
+    stream: &[u8],
+    length: usize,
+) -> Result<Received, WireFault>
+    ensures { IfOk result (IsOneResponse answers_head) }
+{
+    let mut reader = ResponseReader::new(alloc, answers_head);
     for piece in stream.chunks(length.max(1)) {
         let fed = reader.feed(alloc, piece)?;
         let (_, rest) = piece.split_at(fed.used);
@@ -131,7 +141,8 @@ fn received(alloc: Global, stream: &[u8], length: usize) -> Result<Received, Wir
     Ok(reader.take())
 }
 
-fn response_shown(alloc: Global, response: &Received) -> Result<Vec<u8>, Memory> {
+/// The response's status, what tells its length, whether it was cut, and its wire.
+pub fn response_shown(alloc: Global, response: &Received) -> Result<Vec<u8>, Memory> {
     let mut out = Vec::new(alloc);
     put_number(&mut out, u64::from(response.head.status))?;
     put_all(&mut out, b" ")?;
