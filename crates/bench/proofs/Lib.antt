@@ -1,1 +1,2 @@
 pub mod AllKeys
+mod Numbers

@@ -41,11 +41,12 @@ pub fn measure<R: Clock + Files + Print>(rt: &R, alloc: Global) -> Result<(), St
     Ok(())
 }
 
-/// Adds entries in no order, and gives the time of one in nanoseconds.
+/// Adds entries in no order, neither of keys nor of numbers, and gives the time of one in nanoseconds.
 fn added<R: Clock + Print>(rt: &R, alloc: Global) -> Result<(Index, u64), Stopped> {
     let mut entries = Vec::with_capacity(alloc, ENTRIES as usize)?;
     for i in 0..ENTRIES {
-        entries.push(entry_of(alloc, shuffled(i, ENTRIES), i)?)?;
+        let number = shuffled(i, ENTRIES);
+        entries.push(entry_of(alloc, shuffled(number, ENTRIES), number)?)?;
     }
     let start = Measured::start(rt)?;
     let index = index_of(alloc, entries)?;

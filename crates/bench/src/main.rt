@@ -4,13 +4,21 @@
 //! stands its ratio to a plain loop over the same bytes in the same run.
 #![tactic(auto)]
 
+mod captures;
+mod digests;
 mod entries;
+mod groups;
 mod heads;
 mod index;
+mod keys;
 mod measured;
 mod memory;
 mod pages;
+mod plain;
+mod responses;
 mod stopped;
+mod tables;
+mod volumes;
 
 use std::env;
 use stopped::Stopped;
@@ -19,11 +27,19 @@ fn main(rt: HostRuntime) -> Result<(), Stopped> {
     let mut words = env::args(&rt)?.skip(1);
     let word = words.next();
     match word.as_ref().map(String::as_str) {
+        Some("digests") => digests::measure(&rt, rt.alloc()),
+        Some("groups") => groups::measure(&rt, rt.alloc()),
         Some("heads") => heads::measure(&rt, rt.alloc()),
-        Some("pages") => pages::measure(&rt, rt.alloc()),
         Some("index") => index::measure(&rt, rt.alloc()),
+        Some("keys") => keys::measure(&rt, rt.alloc()),
+        Some("pages") => pages::measure(&rt, rt.alloc()),
+        Some("responses") => responses::measure(&rt, rt.alloc()),
+        Some("tables") => tables::measure(&rt, rt.alloc()),
+        Some("volumes") => volumes::measure(&rt, rt.alloc()),
         _ => {
-            println!(rt; "usage: bench TOPIC, which is heads, index or pages")?;
+            println!(rt;
+                "usage: bench TOPIC, which is digests, groups, heads, index, keys, pages, responses, tables or volumes"
+            )?;
             Ok(())
         }
     }

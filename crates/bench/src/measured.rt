@@ -31,3 +31,28 @@ impl Measured {
         Ok(mean)
     }
 }
+
+/// Prints the mean time of an item, and how many times as long it is as a plain loop over the same bytes.
+pub fn print_beside<R: Print>(
+    rt: &R,
+    what: &str,
+    items: u64,
+    nanos: u64,
+    plain: u64,
+) -> Result<(), Stopped> {
+    let mean = nanos.checked_div(items).unwrap_or(0);
+    let tenths = nanos.saturating_mul(10).checked_div(plain).unwrap_or(0);
+    println!(rt;
+        "{what}: {mean} ns each, {items} of them; {}.{} times the plain loop",
+        tenths / 10,
+        tenths % 10
+    )?;
+    Ok(())
+}
+
+/// Prints how long a loop took in hundredths of another one.
+pub fn print_share<R: Print>(rt: &R, what: &str, nanos: u64, of: u64) -> Result<(), Stopped> {
+    let share = nanos.saturating_mul(100).checked_div(of).unwrap_or(0);
+    println!(rt; "{what}: {share}%")?;
+    Ok(())
+}

@@ -1,13 +1,15 @@
 //! Why a measurement ends early.
 use capture::Memory;
+use http_head::WireFault;
 use std::alloc::{AllocError, AllocFailed};
 use std::io;
 
-/// There was no memory, or the system refused the clock or the output.
+/// There was no memory, the system refused the clock or the output, or bytes were no message.
 #[derive(Debug, Drop)]
 pub enum Stopped {
     Memory,
     System(io::Error),
+    Wire(WireFault),
 }
 
 impl From<Memory> for Stopped {
@@ -31,5 +33,11 @@ impl<T: Drop> From<AllocFailed<T>> for Stopped {
 impl From<io::Error> for Stopped {
     fn from(error: io::Error) -> Stopped {
         Stopped::System(error)
+    }
+}
+
+impl From<WireFault> for Stopped {
+    fn from(fault: WireFault) -> Stopped {
+        Stopped::Wire(fault)
     }
 }

@@ -1,0 +1,34 @@
+//! Digests: what SHA-1 costs.
+use crate::measured::{Measured, print_beside};
+use crate::plain;
+use crate::stopped::Stopped;
+use digest32::payload_digest;
+use std::alloc::Global;
+use std::io::Print;
+use std::rt::Clock;
+
+/// The length of the payload.
+const PAYLOAD: usize = 1_000_000;
+
+/// How often its digest is made.
+const TIMES: u32 = 100;
+
+pub fn measure<R: Clock + Print>(rt: &R, alloc: Global) -> Result<(), Stopped> {
+    let payload = vec![in alloc; b'x'; PAYLOAD]?;
+    let mut firsts = 0u64;
+    let start = Measured::start(rt)?;
+    for _ in 0..TIMES {
+        let digest = payload_digest(payload.as_slice());
+        firsts = firsts.saturating_add(u64::from(digest[0]));
+    }
+    let nanos = start.nanos(rt)?;
+    println!(rt; "the first bytes of the digests, added up: {firsts}")?;
+    let plain = plain::time_of(rt, payload.as_slice(), TIMES)?;
+    print_beside(
+        rt,
+        "the digest of a payload of 1,000,000 bytes",
+        u64::from(TIMES),
+        nanos,
+        plain,
+    )
+}

@@ -1,0 +1,121 @@
+//! Tables: what a look-up costs in the table of digests, and in one of names.
+ghost use Rattle.std.specs.Prelude.{◌<◌, ◌+◌, All, OnOk};
+
+use crate::measured::{Measured, print_beside};
+use crate::plain;
+use crate::stopped::Stopped;
+use capture::{Digest, Memory};
+use digest32::payload_digest;
+use name_table::hop_by_hop_fields;
+use revisit_table::Digests;
+use std::alloc::Global;
+use std::io::Print;
+use std::rt::Clock;
+
+/// How many captures the table of digests holds, each of a digest of its own.
+const CAPTURES: u32 = 1_000_000;
+
+/// How often each of the names is looked up.
+const TIMES: u32 = 100_000;
+
+/// Names of fields as they come in requests and responses, of which three are no proxy's to pass on.
+static NAMES: [&str; 12] = [
+    "Host",
+    "User-Agent",
+    "Accept",
+    "Accept-Encoding",
+    "Proxy-Connection",
+    "Content-Type",
+    "Content-Length",
+    "Connection",
+    "Last-Modified",
+    "Transfer-Encoding",
+    "ETag",
+    "Cache-Control",
+];
+
+pub fn measure<R: Clock + Print>(rt: &R, alloc: Global) -> Result<(), Stopped> {
+    measure_digests(rt, alloc)?;
+    measure_names(rt, alloc)
+}
+
+fn measure_digests<R: Clock + Print>(rt: &R, alloc: Global) -> Result<(), Stopped> {
+    let digests = digests_of(alloc)?;
+    let table = table_of(alloc, digests.as_slice())?;
+    let mut found = 0u64;
+    let start = Measured::start(rt)?;
+    for digest in digests.as_slice() {
+        found = found.saturating_add(table.candidates(digest).len() as u64);
+    }
+    let nanos = start.nanos(rt)?;
+    let plain = plain::time_of(rt, joined(alloc, digests.as_slice())?.as_slice(), 1)?;
+    print_beside(
+        rt,
+        "a digest looked up among 1,000,000",
+        found,
+        nanos,
+        plain,
+    )
+}
+
+/// Digests in no order.
+fn digests_of(alloc: Global) -> Result<Vec<Digest>, Memory> {
+    let mut digests = Vec::with_capacity(alloc, CAPTURES as usize)?;
+    for number in 0..CAPTURES {
+        digests.push(payload_digest(&number.to_le_bytes()))?;
+    }
+    Ok(digests)
+}
+
+/// The table in which each digest is that of the capture with its place's number.
+fn table_of(alloc: Global, digests: &[Digest]) -> Result<Digests, Memory> {
+    let mut table = Digests::new(alloc);
+    let mut number = 0u32;
+    for digest in digests {
+        if number == u32::MAX {
+            return Ok(table);
+        }
+        add_next(alloc, &mut table, digest, number)?;
+        number += 1;
+    }
+    Ok(table)
+}
+
+/// Adds a capture whose number is above all that are there.
+#[tactic(auto, using(crate::proofs::Numbers::below_next))]
+fn add_next(alloc: Global, table: &mut Digests, digest: &Digest, number: u32) -> Result<(), Memory>
+    requires { All (λ entry. entry.1 < number) table.old.kept }
+    ensures { OnOk result (All (λ entry. entry.1 < number + 1) table.new.kept) }
+{
+    table.reserve(alloc, digest)?;
+    table.add(digest, number);
+    Ok(())
+}
+
+fn joined(alloc: Global, digests: &[Digest]) -> Result<Vec<u8>, Memory> {
+    let mut text = Vec::new(alloc);
+    for digest in digests {
+        text.extend_from_slice(digest)?;
+    }
+    Ok(text)
+}
+
+fn measure_names<R: Clock + Print>(rt: &R, alloc: Global) -> Result<(), Stopped> {
+    let table = hop_by_hop_fields();
+    let mut text = Vec::new(alloc);
+    for name in &NAMES {
+        text.extend_from_slice(name.as_bytes())?;
+    }
+    let mut found = 0u64;
+    let start = Measured::start(rt)?;
+    for _ in 0..TIMES {
+        for name in &NAMES {
+            found = found.saturating_add(u64::from(table.has(name.as_bytes())));
+        }
+    }
+    let nanos = start.nanos(rt)?;
+    println!(rt; "names that no proxy passes on: {found}")?;
+    let plain = plain::time_of(rt, text.as_slice(), TIMES)?;
+    let items = u64::from(TIMES).saturating_mul(NAMES.len() as u64);
+    print_beside(rt, "a name looked up among 10", items, nanos, plain)
+}
