@@ -71,7 +71,7 @@ capture_later old new added is number stored sound = record {
 -- ---- a new volume
 
 -- so many volumes that each hold a capture hold so many captures
-filled_count : (volumes : List Volume) → ((k : ℕ) (volume : Volume) → slice_get volumes k ≡ Some volume → 0 < length volume.captures)
+pub filled_count : (volumes : List Volume) → ((k : ℕ) (volume : Volume) → slice_get volumes k ≡ Some volume → 0 < length volume.captures)
     → length volumes ≤ length (captures_in volumes)
 filled_count [] filled = omega arith
 filled_count (v ∷ vs) filled =

@@ -46,7 +46,7 @@ unfolding cut_line field
 short_cut true = omega arith
 short_cut false = omega arith
 
-response_short : (namespace : List ℕ) (number : ℕ) (taken : Taken) (payload : List ℕ) → IsShort taken
+pub response_short : (namespace : List ℕ) (number : ℕ) (taken : Taken) (payload : List ℕ) → IsShort taken
     → length (group_text namespace number taken (sha1 payload) None) < 2 ^ 61
 response_short namespace number taken payload is =
     let date : length (warc_date taken.date) ≤ 24 = (short taken.date).1 in
@@ -57,7 +57,7 @@ response_short namespace number taken payload is =
     length-decimal-le 20 (length taken.request) (omega arith) (omega (arith, is.request)) (omega (arith, is.request)) in
     omega (arith, response_group_length namespace number taken (sha1 payload) (is_digest payload), date, cut, block, asked, is.head, is.wire, is.uri, is.request)
 
-revisit_short : (namespace : List ℕ) (number : ℕ) (taken : Taken) (payload : List ℕ) (reference : Reference) → IsShort taken
+pub revisit_short : (namespace : List ℕ) (number : ℕ) (taken : Taken) (payload : List ℕ) (reference : Reference) → IsShort taken
     → length reference.uri < 2 ^ 61
     → length (group_text namespace number taken (sha1 payload) (Some reference)) < 2 ^ 61 + 2 ^ 60
 revisit_short namespace number taken payload reference is uri =

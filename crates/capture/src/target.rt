@@ -92,36 +92,3 @@ fn is_plain_authority(authority: &[u8]) -> bool
 {
     !authority.is_empty() && !authority.contains(&b'@')
 }
-
-#[cfg(test)]
-mod tests {
-    use super::*;
-    use std::test::Fail;
-
-    #[test]
-    fn accepts_http_urls_alone(rt: HostRuntime) -> Result<(), Fail> {
-        let targets = [
-            (b"http://a.test/x".as_slice(), true),
-            (b"HTTP://A.test:8080?q", true),
-            (b"http://a.test/x@y", true),
-            (b"http://[::1]/", true),
-            (b"http://", false),
-            (b"http:///x", false),
-            (b"http://u@a.test/", false),
-            (b"http://a.test/#f", false),
-            (b"http://a.test/ x", false),
-            (b"http://a.test/\xC3\xA9", false),
-            (b"http://a.test:99999/", false),
-            (b"http://[::1/", false),
-            (b"http://256.1.1.1/", false),
-            (b"http://a%2Fb/", false),
-            (b"https://a.test/", false),
-            (b"/x", false),
-            (b"", false),
-        ];
-        for (target, accepted) in targets {
-            assert_eq!(rt; accepted_uri(rt.alloc(), target)?, accepted, "{target:?}");
-        }
-        Ok(())
-    }
-}

@@ -1,5 +1,5 @@
 //! The small types, once each with ample memory.
-use crate::{Book, Bytes, Items, Kept, Memory, Text, Volume, accepted_uri, put_all, put_number};
+use crate::{Book, Bytes, Items, Kept, Memory, Text, Volume};
 use std::test::Fail;
 use uuid::Uuid;
 
@@ -39,19 +39,5 @@ fn books_are_compared_by_what_they_hold(rt: HostRuntime) -> Result<(), Fail> {
     assert_eq!(rt; none.volumes.into_vec().len(), 0);
     assert!(rt; Kept::Same(1) != Kept::Same(2));
     assert!(rt; Memory == Memory);
-    Ok(())
-}
-
-#[test]
-fn long_texts_are_put_and_read(rt: HostRuntime) -> Result<(), Fail> {
-    let alloc = rt.alloc();
-    let mut uri = Vec::new(alloc);
-    put_all(&mut uri, b"http://a.test/")?;
-    for _ in 0..30 {
-        put_number(&mut uri, 4_294_967_295)?;
-    }
-    assert_eq!(rt; uri.len(), 314);
-    assert!(rt; uri.as_slice().ends_with(b"54294967295"));
-    assert!(rt; accepted_uri(alloc, uri.as_slice())?);
     Ok(())
 }

@@ -1,6 +1,6 @@
 mod BodyLaws
 mod FramingLaws
-mod HeadEnds
+pub mod HeadEnds
 mod HeldLaws
 mod RequestLaws
 mod ResponseLaws

@@ -5,3 +5,4 @@ mod NoSpace
 mod SortedUnique
 pub mod SpacelessKeys
 mod SpacelessUrls
+mod TargetKeys

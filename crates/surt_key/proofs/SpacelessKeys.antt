@@ -129,7 +129,7 @@ record IsSpaceless (url : Parts) : Type 0 where
   body : UpToPath url
   query : IfThere url.query
 
-kept_scheme : (url : Parts) (query fragment : Option (List ℕ)) → (before_tail url query fragment).scheme ≡ url.scheme
+pub kept_scheme : (url : Parts) (query fragment : Option (List ℕ)) → (before_tail url query fragment).scheme ≡ url.scheme
 kept_scheme url query fragment =
     cond_both (not (is_special (kind_of url)) && (is_some query || is_some fragment)) (with_path url (escape_end url.path)) url (λ u. u.scheme ≡ url.scheme) (λ _. refl) (λ _. refl)
 

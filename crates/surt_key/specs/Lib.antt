@@ -2,3 +2,4 @@ pub mod Key
 pub mod Labels
 pub mod Sorted
 pub mod Spaces
+pub mod Targets

@@ -13,5 +13,5 @@ mod url_key;
 
 pub use fault::KeyFault;
 pub use key::Key;
-pub use laws::keys_hold_no_space;
+pub use laws::{accepted_targets_have_keys, keys_hold_no_space};
 pub use url_key::key_of;

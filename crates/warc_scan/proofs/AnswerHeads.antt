@@ -1,17 +1,15 @@
 -- The head of a response at the front of a block.
-use Rattle.std.proofs.Common.{◌≡◌, ℕ, suc, ◌+◌, ◌-◌, ◌<◌, ◌≤◌, ◌^◌, Bool, true, false, ◌&&◌, cond, eqb, leb, ltb, List, [], ◌∷◌, ◌++◌, length, take, drop, Option, Some, None, Ok, Err, append-nil, refl, sym, ap, ◌∙◌, arith}
-use Rattle.std.specs.Prelude.{Result, ◌==◌, option_map, nat_lt}
+use Rattle.std.proofs.Common.{◌≡◌, ℕ, ◌+◌, ◌-◌, ◌<◌, ◌≤◌, ◌^◌, Bool, true, false, ◌&&◌, cond, eqb, leb, ltb, List, [], ◌∷◌, ◌++◌, length, take, drop, Some, Ok, Err, append-nil, refl, sym, ap, ◌∙◌, arith}
+use Rattle.std.specs.Prelude.{Result}
 use Rattle.std.proofs.lemmas.Bool.{cond_both, le-leb, leb-true, ltb-false}
-use Rattle.std.proofs.lemmas.List.{take_all, take_at, length-drop}
-use Rattle.std.proofs.lemmas.Option.{same_Some}
-use Rattle.httparse.specs.Ascii.{carriage_return, line_feed}
+use Rattle.std.proofs.lemmas.List.{take_all, take_at}
 use Rattle.httparse.specs.Grammar as grammar
 use Rattle.httparse.specs.Grammar.{print_response, print_blank, print_version, print_reason, print_end, print_section, status_code}
 use Rattle.httparse.proofs.GrammarLemmas.{response_unique}
 use Rattle.capture.specs.Body.{IsBody, IsCutWire}
 use Rattle.capture.specs.Fields.{named_values}
 use Rattle.capture.specs.Framing.{framing_of_response, response_framing}
-use Rattle.capture.specs.Head.{after_line_ends, begins_with_lf, empty_line_len, field_lines, front_of, front_by, head_end, head_len, line_count, line_ends_len}
+use Rattle.capture.specs.Head.{field_lines, front_of, front_by, head_end, line_count, line_ends_len}
 use Rattle.capture.specs.Head as head
 use Rattle.capture.specs.HeadLaws.{ResponseHeadsEnd}
 use Rattle.capture.specs.Message.{BeginsWithResponse, IsResponseHeadText, IsShortHead}
@@ -221,59 +219,3 @@ short_by_count text n ends none long counted = (
       (le-leb (line_count text - 2) FIELD_LIMIT (omega (arith, leb-true n 130 few, counted))),
   λ short. le-leb n 130 (omega (arith, leb-true (line_count text - 2) FIELD_LIMIT (short_tests text ends none short).1, counted)),
 )
-
--- ---- a head ends within its block
-
--- (as line ends are counted)
-either_le : (b : Bool) (x y n : ℕ) → x ≤ n → y ≤ n → cond b x y ≤ n
-either_le true x y n p q = p
-either_le false x y n p q = q
-
-line_ends_within : (s : List ℕ) → line_ends_len s ≤ length s
-line_ends_within [] = omega arith
-line_ends_within (b ∷ []) = either_le (eqb b 10) 1 0 1 (omega arith) (omega arith)
-line_ends_within (b ∷ c ∷ s) =
-    let one = line_ends_within (c ∷ s) in
-    let two = line_ends_within s in
-    either_le (eqb b 10) (1 + line_ends_len (c ∷ s)) (cond (eqb b 13 && eqb c 10) (2 + line_ends_len s) 0) (length (b ∷ c ∷ s))
-    (omega (arith, one))
-    (either_le (eqb b 13 && eqb c 10) (2 + line_ends_len s) 0 (length (b ∷ c ∷ s)) (omega (arith, two)) (omega arith))
-
-second_holds : (a b : Bool) → (a && b) ≡ true → b ≡ true
-second_holds true b e = e
-second_holds false b e = cc
-
-has_a_byte : (bytes : List ℕ) → begins_with_lf bytes ≡ true → 1 ≤ length bytes
-has_a_byte [] e = cc
-has_a_byte (b ∷ bytes) e = omega arith
-
-empty_line_fits : (bytes : List ℕ) → empty_line_len bytes ≤ length bytes
-empty_line_fits [] = omega arith
-empty_line_fits (b ∷ bytes) =
-    let two = b == carriage_return && begins_with_lf bytes in
-    cond_both (b == line_feed) 1 (cond two 2 0) (λ n. n ≤ suc (length bytes)) (λ _. omega arith)
-    (λ _. cond_both two 2 0 (λ n. n ≤ suc (length bytes))
-    (λ is. omega (arith, has_a_byte bytes (second_holds (b == carriage_return) (begins_with_lf bytes) is))) (λ _. omega arith))
-
-behind_a_byte : (found : Option ℕ) (n long : ℕ) → ((m : ℕ) → found ≡ Some m → m ≤ long) → option_map (λ m. 1 + m) found ≡ Some n → n ≤ suc long
-behind_a_byte None n long fits e = cc
-behind_a_byte (Some m) n long fits e = let is = same_Some (1 + m) n e in omega (arith, fits m refl, is)
-
-head_fits : (bytes : List ℕ) (n : ℕ) → head_len bytes ≡ Some n → n ≤ length bytes
-head_fits [] n e = cc
-head_fits (b ∷ bytes) n e =
-    let here = b == line_feed && nat_lt 0 (empty_line_len bytes) in
-    cond_both here (Some (1 + empty_line_len bytes)) (option_map (λ m. 1 + m) (head_len bytes)) (λ o. o ≡ Some n → n ≤ suc (length bytes))
-    (λ _ is. omega (arith, same_Some (1 + empty_line_len bytes) n is, empty_line_fits bytes))
-    (λ _ is. behind_a_byte (head_len bytes) n (length bytes) (head_fits bytes) is) e
-
-behind_line_ends : (found : Option ℕ) (skipped n long : ℕ) → ((m : ℕ) → found ≡ Some m → m ≤ long - skipped) → skipped ≤ long
-    → option_map (λ m. skipped + m) found ≡ Some n → n ≤ long
-behind_line_ends None skipped n long fits within e = cc
-behind_line_ends (Some m) skipped n long fits within e = let is = same_Some (skipped + m) n e in omega (arith, fits m refl, within, is)
-
-pub end_fits : (stream : List ℕ) (n : ℕ) → Some n ≡ head_end stream → n ≤ length stream
-end_fits stream n found =
-    let behind : (m : ℕ) → head_len (after_line_ends stream) ≡ Some m → m ≤ length stream - line_ends_len stream =
-    λ m e. omega (arith, head_fits (after_line_ends stream) m e, length-drop (line_ends_len stream) stream) in
-    behind_line_ends (head_len (after_line_ends stream)) (line_ends_len stream) n (length stream) behind (line_ends_within stream) (sym found)

@@ -26,4 +26,5 @@ pub use laws::{
     groups_of_books_tell_their_captures, groups_tell_their_captures, numbers_have_one_group,
     sound_volumes_have_one_text, texts_are_committed, texts_stay_when_a_book_grows,
 };
+pub use lengths::request_len;
 pub use same_of::SameOf;

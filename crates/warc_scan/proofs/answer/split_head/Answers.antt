@@ -1,6 +1,7 @@
 use Rattle.std.proofs.Common.{sym, subst, ◌∙◌, arith}
 use Rattle.capture.specs.WellFormed.{IsFinalHead}
-use Rattle.warc_scan.proofs.AnswerHeads.{end_fits, final_status, split_there}
+use Rattle.http_wire.proofs.HeadEnds.{end_fits}
+use Rattle.warc_scan.proofs.AnswerHeads.{final_status, split_there}
 use Rattle.warc_scan.proofs.answer.split_head.Goals as goal
 
 pub split_at-requires : goal.split_at-requires
