@@ -5,19 +5,20 @@ use Rattle.std.specs.declared.cmp.Ordering.{Ordering}
 use Rattle.std.specs.declared.cmp.Ordering.TheVariants.{Less}
 use Rattle.std.specs.Arc.{arc_value}
 use Rattle.std.specs.BTreeMap.{BTreeMap, IsFromIterResult, is_at}
-use Rattle.std.specs.Cmp.{IsTotalOrder}
+use Rattle.std.specs.Cmp.{IsEquivalence, IsTotalOrder}
 use Rattle.std.specs.Cmp.Lexicographic.{slice_cmp}
 use Rattle.std.specs.Iterator.{DrainsIf}
 use Rattle.std.specs.List.{IsDistinct}
-use Rattle.std.specs.List.Sorted.{IsStrictlySortedBy}
+use Rattle.std.specs.List.Sorted.{IsPermutation, IsStrictlySortedBy}
 use Rattle.std.specs.Map.{keys_of, lookup}
 use Rattle.std.specs.Ordering.{eq_by_cmp, is_eq, nat_cmp}
 use Rattle.std.proofs.lemmas.Cmp.{eq_by_cmp_equiv, nat_cmp_total, nat_list_cmp_total, on_total, tied_itself}
 use Rattle.std.proofs.lemmas.Iterator.{YieldsList, items_from_drains}
-use Rattle.std.proofs.lemmas.Map.Keys.{IsDistinct-from_sorted}
+use Rattle.std.proofs.lemmas.List.Sorted.{Contains-permutation, IsPermutation-map, IsPermutation-sym}
+use Rattle.std.proofs.lemmas.Map.Keys.{IsDistinct-IsPermutation, IsDistinct-from_sorted}
 use Rattle.std.proofs.lemmas.Map.Lookups.{CmpEqualImpliesEq, exact_bytes}
 use Rattle.std.proofs.lemmas.Map.Made.{distinct_count-from_IsDistinct, keys_of-map_values, lookup-map_values, update_all_none}
-use Rattle.std.proofs.lemmas.Map.Views.{btree_map_len-from_list}
+use Rattle.std.proofs.lemmas.Map.Views.{btree_map_len-from_list, lookup-from_Contains}
 use Rattle.cdxj_index.specs.Facts.{Facts}
 use Rattle.cdxj_index.specs.Groups.{AreGroups, Group}
 use Rattle.cdxj_index.specs.Maps.{AreKeys, AreMaps, AreNumbers, AreOfKey, Captures, Keys, Shared, entries_of, numbered, shown_all}
@@ -121,8 +122,46 @@ found_some test [] p h passes none = absurd h
 found_some test (first ∷ pairs) p (inl same) passes none = absent_head test (test first.0) first (lookup test pairs) p refl passes (inl same) none
 found_some test (first ∷ pairs) p (inr h) passes none = absent_head test (test first.0) first (lookup test pairs) p refl passes (inr (λ e. found_some test pairs p h passes e)) none
 
-pub numbers_made : (numbers : List (ℕ × Shared)) (made : BTreeMap ℕ Shared) (entries : List Facts) → IsIndex entries → values_shown numbers ≡ by_numbers entries → IsFromIterResult nat_cmp numbers made → AreNumbers entries made
-numbers_made numbers made entries index same is = record {
+-- ---- entries by number in another order
+
+settled_too : (xs ys : List (ℕ × Shared)) → ((p : ℕ × Shared) → Among xs p → Among ys p) → IsDistinct (eq_by_cmp nat_cmp) (keys_of ys) → (q : ℕ) (v : Shared) → lookup (eq_by_cmp nat_cmp q) xs ≡ Some v → lookup (eq_by_cmp nat_cmp q) ys ≡ Some v
+settled_too xs ys within apart q v found =
+    let at = among-lookup nat_cmp nat_cmp_total (eq_by_cmp nat_cmp q) xs v found in
+    let number : at.0.0 ≡ q = sym (number_of_tie q at.0.0 at.2) in
+    let value : at.0.1 ≡ v = at.3 in
+    let pair : at.0 ≡ (q, v) = λ i. (number i, value i) in
+    lookup-from_Contains (eq_by_cmp_equiv nat_cmp_total) q v ys apart (contains_from_among ys (q, v) (subst (Among ys) pair (within at.0 at.1)))
+
+settled_same : (xs ys : List (ℕ × Shared)) → ((p : ℕ × Shared) → Among xs p → Among ys p) → ((p : ℕ × Shared) → Among ys p → Among xs p) → IsDistinct (eq_by_cmp nat_cmp) (keys_of xs) → IsDistinct (eq_by_cmp nat_cmp) (keys_of ys)
+    → (q : ℕ) → lookup (eq_by_cmp nat_cmp q) ys ≡ lookup (eq_by_cmp nat_cmp q) xs
+settled_same xs ys within back apart apart₂ q = which (lookup (eq_by_cmp nat_cmp q) ys) (lookup (eq_by_cmp nat_cmp q) xs) refl refl
+  where
+    which : (o p : Option Shared) → lookup (eq_by_cmp nat_cmp q) ys ≡ o → lookup (eq_by_cmp nat_cmp q) xs ≡ p → o ≡ p
+    which (Some v) p there here = sym (settled_too ys xs back apart q v there) ∙ here
+    which None (Some v) there here = sym there ∙ settled_too xs ys within apart₂ q v here
+    which None None there here = refl
+
+-- a map of entries by number is the same, in whichever order they were
+pub numbers_settled : (numbers settled : List (ℕ × Shared)) (made : BTreeMap ℕ Shared) → IsPermutation numbers settled → IsDistinct (eq_by_cmp nat_cmp) (keys_of numbers) → IsFromIterResult nat_cmp settled made → IsFromIterResult nat_cmp numbers made
+numbers_settled numbers settled made moved apart is = (
+  λ q. is.0 q ∙ update_all_none laws (eq_by_cmp nat_cmp) (λ x y. refl) settled q apart₂ ∙ settled_same numbers settled within back apart apart₂ q ∙ sym (update_all_none laws (eq_by_cmp nat_cmp) (λ x y. refl) numbers q apart),
+  is.1,
+)
+  where
+    laws : IsEquivalence (eq_by_cmp nat_cmp)
+    laws = eq_by_cmp_equiv nat_cmp_total
+
+    apart₂ : IsDistinct (eq_by_cmp nat_cmp) (keys_of settled)
+    apart₂ = IsDistinct-IsPermutation (eq_by_cmp nat_cmp) laws.symm (keys_of numbers) (keys_of settled) (IsPermutation-map (λ (p : ℕ × Shared). p.0) numbers settled moved) apart
+
+    within : (p : ℕ × Shared) → Among numbers p → Among settled p
+    within p h = among_from_contains settled p (Contains-permutation numbers settled p moved (contains_from_among numbers p h))
+
+    back : (p : ℕ × Shared) → Among settled p → Among numbers p
+    back p h = among_from_contains numbers p (Contains-permutation settled numbers p (IsPermutation-sym numbers settled moved) (contains_from_among settled p h))
+
+pub numbers_made : (numbers settled : List (ℕ × Shared)) (made : BTreeMap ℕ Shared) (entries : List Facts) → IsIndex entries → values_shown numbers ≡ by_numbers entries → IsPermutation numbers settled → IsFromIterResult nat_cmp settled made → AreNumbers entries made
+numbers_made numbers settled made entries index same moved from = record {
   found = λ e h. present e (among_from_contains entries e h) (lookup (eq_by_cmp nat_cmp e.number) (by_numbers entries)) refl;
   shown = there;
   count = btree_map_len-from_list nat_cmp_total numbers made is ∙ distinct_count-from_IsDistinct (eq_by_cmp_equiv nat_cmp_total) (keys_of numbers) apart ∙ ap (λ l. length l) keys ∙ length-by_numbers entries;
@@ -133,6 +172,9 @@ numbers_made numbers made entries index same is = record {
 
     apart : IsDistinct (eq_by_cmp nat_cmp) (keys_of numbers)
     apart = subst (IsDistinct (eq_by_cmp nat_cmp)) (sym keys) (distinct entries index.in_order (λ a b h h₂ one. index.alone a b (contains_from_among entries a h) (contains_from_among entries b h₂) one))
+
+    is : IsFromIterResult nat_cmp numbers made
+    is = numbers_settled numbers settled made moved apart from
 
     looked_up : (n : ℕ) → numbered made n ≡ lookup (eq_by_cmp nat_cmp n) (by_numbers entries)
     looked_up n =
@@ -184,11 +226,11 @@ pub made_from : {S A V : Type 0} (steps : S → Option A → S → Type 0) (Give
 made_from steps Gives Q items v ran gives = subst (λ xs. Q xs v) (sym (map_itself ran.1) ∙ items_from_drains ran.1 ran.3 (gives ran.0 ran.2)) ran.4
 
 -- the maps that are made once all were taken
-pub all_made : (groups : List Group) (numbers : List (ℕ × Shared)) (left all : List Facts) (keys : Keys) (made : BTreeMap ℕ Shared) → IsIndex all → AreGroups groups → values_shown numbers ≡ by_numbers (shown_all groups) → shown_all groups ++ left ≡ all → left ≡ []
-    → IsFromIterResult (slice_cmp nat_cmp) groups keys → IsFromIterResult nat_cmp numbers made → AreMaps keys made × (entries_of keys ≡ all)
-all_made groups numbers left all keys made index are same whole none is is₂ =
+pub all_made : (groups : List Group) (numbers settled : List (ℕ × Shared)) (left all : List Facts) (keys : Keys) (made : BTreeMap ℕ Shared) → IsIndex all → AreGroups groups → values_shown numbers ≡ by_numbers (shown_all groups) → shown_all groups ++ left ≡ all → left ≡ []
+    → IsPermutation numbers settled → IsFromIterResult (slice_cmp nat_cmp) groups keys → IsFromIterResult nat_cmp settled made → AreMaps keys made × (entries_of keys ≡ all)
+all_made groups numbers settled left all keys made index are same whole none moved is is₂ =
     let both = keys_made groups keys are is in
     let list : shown_all groups ≡ all = append_none (shown_all groups) left none ∙ whole in
     let listed : entries_of keys ≡ all = both.1 ∙ list in
-    let of_all : AreNumbers all made = numbers_made numbers made all index (same ∙ ap by_numbers list) is₂ in
+    let of_all : AreNumbers all made = numbers_made numbers settled made all index (same ∙ ap by_numbers list) moved is₂ in
     (record { of_keys = both.0; of_numbers = subst (λ es. AreNumbers es made) (sym listed) of_all }, listed)

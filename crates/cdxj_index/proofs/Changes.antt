@@ -1,17 +1,19 @@
 -- The entries after one was put in its place, and after one was taken out.
-use Rattle.std.proofs.Common.{Result, Ok, Err, ◌≡◌, ◌≢◌, ℕ, ◌^◌, ◌<◌, Bool, true, false, ◌&&◌, List, [], ◌⊎◌, inl, inr, cond, Option, None, Some, refl, sym, ap, ◌∙◌, subst}
+use Rattle.std.proofs.Common.{Result, Ok, Err, ◌≡◌, ◌≢◌, ℕ, ◌^◌, ◌<◌, Bool, true, false, ◌&&◌, List, ◌⊎◌, inl, inr, cond, Option, None, Some, refl, sym, ap, ◌∙◌, subst}
 use Rattle.std.specs.Prelude.{option_map, option_and_then, OnErr}
-use Rattle.std.specs.declared.cmp.Ordering.TheVariants.{Equal}
+use Rattle.std.specs.declared.cmp.Ordering.{Ordering}
+use Rattle.std.specs.declared.cmp.Ordering.TheVariants.{Less, Equal, Greater}
 use Rattle.std.specs.Arc.{arc_value}
-use Rattle.std.specs.BTreeMap.{IsOrdered, Updates, get, is_at}
+use Rattle.std.specs.BTreeMap.{BTreeMap, IsOrdered, Updates, get, is_at}
 use Rattle.std.specs.Cmp.Lexicographic.{slice_cmp}
 use Rattle.std.specs.List.Sorted.{IsStrictlySortedBy}
 use Rattle.std.specs.Map.{keys_of, lookup}
-use Rattle.std.specs.Ordering.{nat_cmp, is_eq}
+use Rattle.std.specs.Ordering.{nat_cmp, is_eq, ordering_reverse}
 use Rattle.std.proofs.lemmas.Bool.{and_parts}
 use Rattle.std.proofs.lemmas.Cmp.{nat_list_cmp_total, tied_itself}
 use Rattle.cdxj_index.specs.Facts.{Facts}
-use Rattle.cdxj_index.specs.Maps.{AreKeys, AreOfKey, Captures, IsHeld, Keys, Puts, SameKeys, Shared, Takes, entries_of, held, held_at, is_place}
+use Rattle.cdxj_index.specs.declared.captures.Captures.TheVariants.{One, Many}
+use Rattle.cdxj_index.specs.Maps.{AreKeys, AreOfKey, Captures, Changes, HoldsOnly, HoldsSame, IsHeld, IsInOrder, Keys, Puts, SameKeys, Shared, Takes, entries_of, held, held_at, is_place}
 use Rattle.cdxj_index.specs.Order.{Moment, moment_of, moment_cmp, order, with_entry, without}
 use Rattle.cdxj_index.proofs.Orders.{both_equal, equal_from_is_eq, key_tied, moment_tied, moment_total, order_total}
 use Rattle.cdxj_index.proofs.Members.{Among, same_from_members, Sorted-filter}
@@ -107,13 +109,37 @@ held_written : (old new : Keys) (key : List ℕ) (w : Captures) → Updates (sli
 held_written old new key w updates other moment =
     ap (option_and_then (λ captures. held captures moment)) (updates.0 other) ∙ at_key (is_eq (slice_cmp nat_cmp key other)) (is_eq (slice_cmp nat_cmp key other)) (get (slice_cmp nat_cmp) old other) w moment refl
 
--- what is held of a key after one of its captures was changed
-pub held_changed : (old new : Captures) (moment : Moment) (s : Option Shared) → Updates moment_cmp old new moment s → (when : Moment) → held new when ≡ cond (is_eq (moment_cmp moment when)) (option_map arc_value s) (held old when)
-held_changed old new moment s updates when = ap (option_map arc_value) (updates.0 when) ∙ inside (is_eq (moment_cmp moment when)) (get moment_cmp old when)
+-- what is held of a key with several captures after one of them was changed
+pub many_changed : (old new : BTreeMap Moment Shared) (moment : Moment) (s : Option Shared) → Updates moment_cmp old new moment s → Changes (Many old) (Many new) moment (option_map arc_value s)
+many_changed old new moment s updates when = ap (option_map arc_value) (updates.0 when) ∙ inside (is_eq (moment_cmp moment when)) (get moment_cmp old when)
   where
     inside : (b : Bool) (found : Option Shared) → option_map arc_value (cond b s found) ≡ cond b (option_map arc_value s) (option_map arc_value found)
     inside true found = refl
     inside false found = refl
+
+-- ---- a key with one capture
+
+not_turned : (o : Ordering) → is_eq (ordering_reverse o) ≡ is_eq o
+not_turned Less = refl
+not_turned Equal = refl
+not_turned Greater = refl
+
+tied_turned : (m n : Moment) → is_eq (moment_cmp m n) ≡ is_eq (moment_cmp n m)
+tied_turned m n = ap is_eq (moment_total.antisymm m n) ∙ not_turned (moment_cmp n m)
+
+-- what is held of it
+pub held_of_one : (s : Shared) (when : Moment) → held (One s) when ≡ cond (is_eq (moment_cmp (moment_of (arc_value s)) when)) (Some (arc_value s)) None
+held_of_one s when = inside (is_eq (moment_cmp when (moment_of (arc_value s)))) (is_eq (moment_cmp (moment_of (arc_value s)) when)) (tied_turned when (moment_of (arc_value s)))
+  where
+    inside : (b c : Bool) → b ≡ c → option_map arc_value (cond b (Some s) None) ≡ cond c (Some (arc_value s)) None
+    inside true true same = refl
+    inside true false same = cc
+    inside false true same = cc
+    inside false false same = refl
+
+pub one_in_order : (s : Shared) → IsInOrder (One s)
+unfolding IsStrictlySortedBy
+one_in_order s = (tt, tt)
 
 -- the place of a key and a moment, test by test
 by_place : (b c : Bool) (changed there before elsewhere : Option Facts) → (b ≡ true → there ≡ cond c changed before) → (b ≡ true → before ≡ elsewhere) → cond b there elsewhere ≡ cond (b && c) changed elsewhere
@@ -121,26 +147,22 @@ by_place true c changed there before elsewhere is same = is refl ∙ ap (cond c 
 by_place false c changed there before elsewhere is same = refl
 
 -- after a change of the captures of a key
-pub places_written : (old new : Keys) (key : List ℕ) (before after : Captures) (moment : Moment) (s : Option Shared) → ((when : Moment) → held before when ≡ held_at old key when) → Updates (slice_cmp nat_cmp) old new key (Some after) → Updates moment_cmp before after moment s
-    → (other : List ℕ) (when : Moment) → held_at new other when ≡ cond (is_place key moment other when) (option_map arc_value s) (held_at old other when)
-places_written old new key before after moment s was updates changes other when =
+pub places_written : (old new : Keys) (key : List ℕ) (before after : Captures) (moment : Moment) (w : Option Facts) → ((when : Moment) → held before when ≡ held_at old key when) → Updates (slice_cmp nat_cmp) old new key (Some after) → Changes before after moment w
+    → (other : List ℕ) (when : Moment) → held_at new other when ≡ cond (is_place key moment other when) w (held_at old other when)
+places_written old new key before after moment w was updates changes other when =
     held_written old new key after updates other when
-    ∙ by_place (is_eq (slice_cmp nat_cmp key other)) (is_eq (moment_cmp moment when)) (option_map arc_value s) (held after when) (held before when) (held_at old other when)
-    (λ here. held_changed before after moment s changes when)
+    ∙ by_place (is_eq (slice_cmp nat_cmp key other)) (is_eq (moment_cmp moment when)) w (held after when) (held before when) (held_at old other when)
+    (λ here. changes when)
     (λ here. subst (λ k. held before when ≡ held_at old k when) (key_tied key other (equal_from_is_eq (slice_cmp nat_cmp key other) here)) (was when))
 
--- the captures of a key that is there, and of one that isn't
+-- the captures of a key that is there
 pub was_there : (keys : Keys) (key : List ℕ) (captures : Captures) → get (slice_cmp nat_cmp) keys key ≡ Some captures → (when : Moment) → held captures when ≡ held_at keys key when
 was_there keys key captures found when = sym (ap (option_and_then (λ c. held c when)) found)
 
-pub was_absent : (keys : Keys) (key : List ℕ) (captures : Captures) → get (slice_cmp nat_cmp) keys key ≡ None → captures.entries ≡ [] → (when : Moment) → held captures when ≡ held_at keys key when
-was_absent keys key captures absent empty when =
-    ap (λ es. option_map arc_value (lookup (is_at (moment_cmp when)) es)) empty ∙ sym (ap (option_and_then (λ c. held c when)) absent)
-
-pub AreOfKey-put : (key : List ℕ) (before after : Captures) (moment : Moment) (s : Shared) → AreOfKey key before → IsOrdered moment_cmp after → Updates moment_cmp before after moment (Some s) → IsHeld key moment (arc_value s) → AreOfKey key after
+pub AreOfKey-put : (key : List ℕ) (before after : Captures) (moment : Moment) (s : Shared) → AreOfKey key before → IsInOrder after → Changes before after moment (Some (arc_value s)) → IsHeld key moment (arc_value s) → AreOfKey key after
 AreOfKey-put key before after moment s are ordered changes is = record {
   ordered = ordered;
-  each = λ when f there. which (is_eq (moment_cmp moment when)) when f refl (sym (held_changed before after moment (Some s) changes when) ∙ there);
+  each = λ when f there. which (is_eq (moment_cmp moment when)) when f refl (sym (changes when) ∙ there);
 }
   where
     which : (b : Bool) (when : Moment) (f : Facts) → is_eq (moment_cmp moment when) ≡ b → cond b (Some (arc_value s)) (held before when) ≡ Some f → IsHeld key when f
@@ -150,17 +172,24 @@ AreOfKey-put key before after moment s are ordered changes is = record {
         subst (λ m. IsHeld key m f) same (subst (IsHeld key moment) value is)
     which false when f here there = are.each when f there
 
-pub AreOfKey-take : (key : List ℕ) (before after : Captures) (moment : Moment) → AreOfKey key before → IsOrdered moment_cmp after → Updates moment_cmp before after moment None → AreOfKey key after
+pub AreOfKey-take : (key : List ℕ) (before after : Captures) (moment : Moment) → AreOfKey key before → IsInOrder after → Changes before after moment None → AreOfKey key after
 AreOfKey-take key before after moment are ordered changes = record {
   ordered = ordered;
-  each = λ when f there. are.each when f (taken_members (is_eq (moment_cmp moment when)) f (held before when) (sym (held_changed before after moment None changes when) ∙ there)).1;
+  each = λ when f there. are.each when f (taken_members (is_eq (moment_cmp moment when)) f (held before when) (sym (changes when) ∙ there)).1;
 }
 
-pub AreOfKey-empty : (key : List ℕ) (captures : Captures) → IsOrdered moment_cmp captures → captures.entries ≡ [] → AreOfKey key captures
-AreOfKey-empty key captures ordered empty = record {
-  ordered = ordered;
-  each = λ when f there. let none : None ≡ Some f = ap (λ es. option_map arc_value (lookup (is_at (moment_cmp when)) es)) (sym empty) ∙ there in cc;
+pub AreOfKey-one : (key : List ℕ) (s : Shared) → IsHeld key (moment_of (arc_value s)) (arc_value s) → AreOfKey key (One s)
+AreOfKey-one key s is = record {
+  ordered = one_in_order s;
+  each = λ when f there. which (is_eq (moment_cmp (moment_of (arc_value s)) when)) when f refl (sym (held_of_one s when) ∙ there);
 }
+  where
+    which : (b : Bool) (when : Moment) (f : Facts) → is_eq (moment_cmp (moment_of (arc_value s)) when) ≡ b → cond b (Some (arc_value s)) None ≡ Some f → IsHeld key when f
+    which true when f here there =
+        let value : arc_value s ≡ f = cc in
+        let same = moment_tied (moment_of (arc_value s)) when (equal_from_is_eq (moment_cmp (moment_of (arc_value s)) when) here) in
+        subst (λ m. IsHeld key m f) same (subst (IsHeld key (moment_of (arc_value s))) value is)
+    which false when f here there = cc
 
 pub AreKeys-written : (old new : Keys) (key : List ℕ) (after : Option Captures) → AreKeys old → IsOrdered (slice_cmp nat_cmp) new → Updates (slice_cmp nat_cmp) old new key after → ((captures : Captures) → after ≡ Some captures → AreOfKey key captures) → AreKeys new
 AreKeys-written old new key after are ordered updates is = record {
@@ -173,86 +202,83 @@ AreKeys-written old new key after are ordered updates is = record {
         subst (λ k. AreOfKey k captures) (key_tied key other (equal_from_is_eq (slice_cmp nat_cmp key other) here)) (is captures found)
     which false other captures here found = are.each other captures found
 
--- a key whose captures are none may go
-pub places_dropped : (old middle new : Keys) (key : List ℕ) (before after : Captures) (moment : Moment) → ((when : Moment) → held before when ≡ held_at old key when) → Updates (slice_cmp nat_cmp) old middle key (Some after) → Updates moment_cmp before after moment None
-    → after.entries ≡ [] → Updates (slice_cmp nat_cmp) middle new key None → Takes old new key moment
-places_dropped old middle new key before after moment was updates changes empty drops other when =
-    ap (option_and_then (λ captures. held captures when)) (drops.0 other) ∙ which (is_eq (slice_cmp nat_cmp key other)) refl
-  where
-    none : held after when ≡ None
-    none = ap (λ es. option_map arc_value (lookup (is_at (moment_cmp when)) es)) empty
-
-    which : (b : Bool) → is_eq (slice_cmp nat_cmp key other) ≡ b → option_and_then (λ captures. held captures when) (cond b None (get (slice_cmp nat_cmp) middle other)) ≡ cond (is_place key moment other when) None (held_at old other when)
-    which true here =
-        let written = places_written old middle key before after moment None was updates changes other when in
-        let there : held_at middle other when ≡ held after when =
-        held_written old middle key after updates other when ∙ ap (λ b. cond b (held after when) (held_at old other when)) here in
-        sym (sym written ∙ there ∙ none)
-    which false here = places_written old middle key before after moment None was updates changes other when
-
 -- ---- the calls of the map
 
 -- an entry that was put among the captures of its key
-pub put_there : (old new : Keys) (before after : Captures) (s : Shared) (e : Facts) → e ≡ arc_value s → Some before ≡ get (slice_cmp nat_cmp) old e.key → Updates (slice_cmp nat_cmp) old new e.key (Some after) → Updates moment_cmp before after (moment_of e) (Some s) → Puts old new (arc_value s)
+pub put_there : (old new : Keys) (before after : Captures) (s : Shared) (e : Facts) → e ≡ arc_value s → Some before ≡ get (slice_cmp nat_cmp) old e.key → Updates (slice_cmp nat_cmp) old new e.key (Some after) → Changes before after (moment_of e) (Some (arc_value s)) → Puts old new (arc_value s)
 put_there old new before after s e is found updates changes =
-    let puts = places_written old new e.key before after (moment_of e) (Some s) (was_there old e.key before (sym found)) updates changes in
+    let puts = places_written old new e.key before after (moment_of e) (Some (arc_value s)) (was_there old e.key before (sym found)) updates changes in
     subst (λ f. (key : List ℕ) (moment : Moment) → held_at new key moment ≡ cond (is_place f.key (moment_of f) key moment) (Some (arc_value s)) (held_at old key moment)) is puts
 
 pub keys_there : (old new : Keys) (before after : Captures) (s : Shared) (e : Facts) → e ≡ arc_value s → e.number < 2 ^ 32 → AreKeys old → Some before ≡ get (slice_cmp nat_cmp) old e.key → IsOrdered (slice_cmp nat_cmp) new → Updates (slice_cmp nat_cmp) old new e.key (Some after)
-    → IsOrdered moment_cmp after → Updates moment_cmp before after (moment_of e) (Some s) → AreKeys new
+    → IsInOrder after → Changes before after (moment_of e) (Some (arc_value s)) → AreKeys new
 keys_there old new before after s e is fits are found ordered updates inner changes =
     let held : IsHeld e.key (moment_of e) (arc_value s) = subst (IsHeld e.key (moment_of e)) is (record { keyed = refl; placed = refl; fits = fits }) in
     let kept = AreOfKey-put e.key before after (moment_of e) s (are.each e.key before (sym found)) inner changes held in
     AreKeys-written old new e.key (Some after) are ordered updates (λ captures same. subst (AreOfKey e.key) (cc) kept)
 
 -- an entry that is the first of its key
-pub put_first : (old new : Keys) (before after : Captures) (s : Shared) (e : Facts) → e ≡ arc_value s → get (slice_cmp nat_cmp) old e.key ≡ None → before.entries ≡ [] → Updates (slice_cmp nat_cmp) old new e.key (Some after) → Updates moment_cmp before after (moment_of e) (Some s) → Puts old new (arc_value s)
-put_first old new before after s e is absent empty updates changes =
-    let puts = places_written old new e.key before after (moment_of e) (Some s) (was_absent old e.key before absent empty) updates changes in
-    subst (λ f. (key : List ℕ) (moment : Moment) → held_at new key moment ≡ cond (is_place f.key (moment_of f) key moment) (Some (arc_value s)) (held_at old key moment)) is puts
+pub put_first : (old new : Keys) (s : Shared) (e : Facts) → e ≡ arc_value s → get (slice_cmp nat_cmp) old e.key ≡ None → Updates (slice_cmp nat_cmp) old new e.key (Some (One s)) → Puts old new (arc_value s)
+put_first old new s e is absent updates =
+    subst (λ f. (key : List ℕ) (moment : Moment) → held_at new key moment ≡ cond (is_place f.key (moment_of f) key moment) (Some (arc_value s)) (held_at old key moment)) is (λ other when.
+    held_written old new e.key (One s) updates other when
+    ∙ by_place (is_eq (slice_cmp nat_cmp e.key other)) (is_eq (moment_cmp (moment_of e) when)) (Some (arc_value s)) (held (One s) when) None (held_at old other when)
+    (λ here. held_of_one s when ∙ ap (λ (f : Facts). cond (is_eq (moment_cmp (moment_of f) when)) (Some (arc_value s)) None) (sym is))
+    (λ here.
+    let nowhere : held_at old e.key when ≡ None = ap (option_and_then (λ captures. held captures when)) absent in
+    sym nowhere ∙ ap (λ k. held_at old k when) (key_tied e.key other (equal_from_is_eq (slice_cmp nat_cmp e.key other) here))))
 
-pub keys_first : (old new : Keys) (before after : Captures) (s : Shared) (e : Facts) → e ≡ arc_value s → e.number < 2 ^ 32 → AreKeys old → before.entries ≡ [] → IsOrdered moment_cmp before → IsOrdered (slice_cmp nat_cmp) new → Updates (slice_cmp nat_cmp) old new e.key (Some after)
-    → IsOrdered moment_cmp after → Updates moment_cmp before after (moment_of e) (Some s) → AreKeys new
-keys_first old new before after s e is fits are empty sorted ordered updates inner changes =
+pub keys_first : (old new : Keys) (s : Shared) (e : Facts) → e ≡ arc_value s → e.number < 2 ^ 32 → AreKeys old → IsOrdered (slice_cmp nat_cmp) new → Updates (slice_cmp nat_cmp) old new e.key (Some (One s)) → AreKeys new
+keys_first old new s e is fits are ordered updates =
     let held : IsHeld e.key (moment_of e) (arc_value s) = subst (IsHeld e.key (moment_of e)) is (record { keyed = refl; placed = refl; fits = fits }) in
-    let kept = AreOfKey-put e.key before after (moment_of e) s (AreOfKey-empty e.key before sorted empty) inner changes held in
-    AreKeys-written old new e.key (Some after) are ordered updates (λ captures same. subst (AreOfKey e.key) (cc) kept)
+    let kept : AreOfKey e.key (One s) = AreOfKey-one e.key s (subst (λ (f : Facts). IsHeld e.key (moment_of f) (arc_value s)) is held) in
+    AreKeys-written old new e.key (Some (One s)) are ordered updates (λ captures same. subst (AreOfKey e.key) (cc) kept)
 
 -- captures that hold what they held
-pub same_there : (old new : Keys) (before after : Captures) (key : List ℕ) → Some before ≡ get (slice_cmp nat_cmp) old key → Updates (slice_cmp nat_cmp) old new key (Some after) → after.entries ≡ before.entries → SameKeys old new
+pub same_there : (old new : Keys) (before after : Captures) (key : List ℕ) → Some before ≡ get (slice_cmp nat_cmp) old key → Updates (slice_cmp nat_cmp) old new key (Some after) → HoldsSame before after → SameKeys old new
 same_there old new before after key found updates same other when =
     held_written old new key after updates other when ∙ which (is_eq (slice_cmp nat_cmp key other)) refl
   where
     which : (b : Bool) → is_eq (slice_cmp nat_cmp key other) ≡ b → cond b (held after when) (held_at old other when) ≡ held_at old other when
-    which true here =
-        ap (λ es. option_map arc_value (lookup (is_at (moment_cmp when)) es)) same ∙ was_there old key before (sym found) when
-        ∙ ap (λ k. held_at old k when) (key_tied key other (equal_from_is_eq (slice_cmp nat_cmp key other) here))
+    which true here = same when ∙ was_there old key before (sym found) when ∙ ap (λ k. held_at old k when) (key_tied key other (equal_from_is_eq (slice_cmp nat_cmp key other) here))
     which false here = refl
 
-pub keys_same : (old new : Keys) (before after : Captures) (key : List ℕ) → AreKeys old → Some before ≡ get (slice_cmp nat_cmp) old key → IsOrdered (slice_cmp nat_cmp) new → Updates (slice_cmp nat_cmp) old new key (Some after) → IsOrdered moment_cmp after → after.entries ≡ before.entries → AreKeys new
+pub keys_same : (old new : Keys) (before after : Captures) (key : List ℕ) → AreKeys old → Some before ≡ get (slice_cmp nat_cmp) old key → IsOrdered (slice_cmp nat_cmp) new → Updates (slice_cmp nat_cmp) old new key (Some after) → IsInOrder after → HoldsSame before after → AreKeys new
 keys_same old new before after key are found ordered updates inner same =
     let was = are.each key before (sym found) in
-    let kept : AreOfKey key after = record { ordered = inner; each = λ when f there. was.each when f (sym (ap (λ es. option_map arc_value (lookup (is_at (moment_cmp when)) es)) same) ∙ there) } in
+    let kept : AreOfKey key after = record { ordered = inner; each = λ when f there. was.each when f (sym (same when) ∙ there) } in
     AreKeys-written old new key (Some after) are ordered updates (λ captures is. subst (AreOfKey key) (cc) kept)
 
 -- an entry that was taken out of the captures of its key
-pub taken_there : (old new : Keys) (before after : Captures) (key : List ℕ) (moment : Moment) → Some before ≡ get (slice_cmp nat_cmp) old key → Updates (slice_cmp nat_cmp) old new key (Some after) → Updates moment_cmp before after moment None → Takes old new key moment
+pub taken_there : (old new : Keys) (before after : Captures) (key : List ℕ) (moment : Moment) → Some before ≡ get (slice_cmp nat_cmp) old key → Updates (slice_cmp nat_cmp) old new key (Some after) → Changes before after moment None → Takes old new key moment
 taken_there old new before after key moment found updates changes = places_written old new key before after moment None (was_there old key before (sym found)) updates changes
 
-pub keys_taken : (old new : Keys) (before after : Captures) (key : List ℕ) (moment : Moment) → AreKeys old → Some before ≡ get (slice_cmp nat_cmp) old key → IsOrdered (slice_cmp nat_cmp) new → Updates (slice_cmp nat_cmp) old new key (Some after) → IsOrdered moment_cmp after → Updates moment_cmp before after moment None → AreKeys new
+pub keys_taken : (old new : Keys) (before after : Captures) (key : List ℕ) (moment : Moment) → AreKeys old → Some before ≡ get (slice_cmp nat_cmp) old key → IsOrdered (slice_cmp nat_cmp) new → Updates (slice_cmp nat_cmp) old new key (Some after) → IsInOrder after → Changes before after moment None → AreKeys new
 keys_taken old new before after key moment are found ordered updates inner changes =
     let kept = AreOfKey-take key before after moment (are.each key before (sym found)) inner changes in
     AreKeys-written old new key (Some after) are ordered updates (λ captures is. subst (AreOfKey key) (cc) kept)
 
-pub dropped_there : (old middle new : Keys) (before after : Captures) (key : List ℕ) (moment : Moment) → Some before ≡ get (slice_cmp nat_cmp) old key → Updates (slice_cmp nat_cmp) old middle key (Some after) → Updates moment_cmp before after moment None → after.entries ≡ [] → Updates (slice_cmp nat_cmp) middle new key None
-    → Takes old new key moment
-dropped_there old middle new before after key moment found updates changes empty drops =
-    places_dropped old middle new key before after moment (was_there old key before (sym found)) updates changes empty drops
+-- a key whose only capture is taken may go
+pub dropped_there : (old middle new : Keys) (before after : Captures) (key : List ℕ) (moment : Moment) → Some before ≡ get (slice_cmp nat_cmp) old key → Updates (slice_cmp nat_cmp) old middle key (Some after) → HoldsOnly before moment → Updates (slice_cmp nat_cmp) middle new key None → Takes old new key moment
+dropped_there old middle new before after key moment found updates only drops other when =
+    ap (option_and_then (λ captures. held captures when)) (drops.0 other ∙ ap (cond (is_eq (slice_cmp nat_cmp key other)) None) (updates.0 other))
+    ∙ which (is_eq (slice_cmp nat_cmp key other)) (is_eq (moment_cmp moment when)) refl refl
+  where
+    which : (b c : Bool) → is_eq (slice_cmp nat_cmp key other) ≡ b → is_eq (moment_cmp moment when) ≡ c → option_and_then (λ captures. held captures when) (cond b None (cond b (Some after) (get (slice_cmp nat_cmp) old other))) ≡ cond (b && c) None (held_at old other when)
+    which true true here there = refl
+    which true false here there =
+        sym (ap (λ k. held_at old k when) (sym (key_tied key other (equal_from_is_eq (slice_cmp nat_cmp key other) here))) ∙ sym (was_there old key before (sym found) when) ∙ only when there)
+    which false c here there = refl
 
-pub keys_dropped : (old middle new : Keys) (before after : Captures) (key : List ℕ) (moment : Moment) → AreKeys old → Some before ≡ get (slice_cmp nat_cmp) old key → IsOrdered (slice_cmp nat_cmp) middle → Updates (slice_cmp nat_cmp) old middle key (Some after) → IsOrdered moment_cmp after → Updates moment_cmp before after moment None
-    → IsOrdered (slice_cmp nat_cmp) new → Updates (slice_cmp nat_cmp) middle new key None → AreKeys new
-keys_dropped old middle new before after key moment are found sorted updates inner changes ordered drops =
-    AreKeys-written middle new key None (keys_taken old middle before after key moment are found sorted updates inner changes) ordered drops (λ captures is. cc)
+pub keys_dropped : (old middle new : Keys) (key : List ℕ) (after : Captures) → AreKeys old → Updates (slice_cmp nat_cmp) old middle key (Some after) → IsOrdered (slice_cmp nat_cmp) new → Updates (slice_cmp nat_cmp) middle new key None → AreKeys new
+keys_dropped old middle new key after are updates ordered drops = record {
+  ordered = ordered;
+  each = λ other captures found. which (is_eq (slice_cmp nat_cmp key other)) other captures (sym (drops.0 other ∙ ap (cond (is_eq (slice_cmp nat_cmp key other)) None) (updates.0 other)) ∙ found);
+}
+  where
+    which : (b : Bool) (other : List ℕ) (captures : Captures) → cond b None (cond b (Some after) (get (slice_cmp nat_cmp) old other)) ≡ Some captures → AreOfKey other captures
+    which true other captures found = cc
+    which false other captures found = are.each other captures found
 
 -- nothing is held under a key that isn't there
 pub taken_nowhere : (keys : Keys) (key : List ℕ) (moment : Moment) → get (slice_cmp nat_cmp) keys key ≡ None → Takes keys keys key moment

@@ -3,14 +3,14 @@ use Rattle.std.proofs.Common.{◌≡◌, ℕ, List, [], ◌∷◌, inl, inr, Opt
 use Rattle.std.specs.Prelude.{map, option_map, option_and_then}
 use Rattle.std.specs.declared.cmp.Ordering.TheVariants.{Less}
 use Rattle.std.specs.Arc.{arc_value}
-use Rattle.std.specs.BTreeMap.{get, values, is_at}
+use Rattle.std.specs.BTreeMap.{get, is_at}
 use Rattle.std.specs.Cmp.Lexicographic.{slice_cmp}
 use Rattle.std.specs.List.Sorted.{IsStrictlySortedBy}
-use Rattle.std.specs.Map.{keys_of, values_of}
+use Rattle.std.specs.Map.{keys_of, lookup, values_of}
 use Rattle.std.specs.Ordering.{nat_cmp, ordering_then}
 use Rattle.std.proofs.lemmas.Cmp.{nat_list_cmp_total, tied_itself}
 use Rattle.cdxj_index.specs.Facts.{Facts}
-use Rattle.cdxj_index.specs.Maps.{AreKeys, AreOfKey, Captures, IsHeld, Keys, Shared, entries_of, held, held_at, shown, shown_all}
+use Rattle.cdxj_index.specs.Maps.{AreKeys, AreOfKey, Captures, IsHeld, Keys, Shared, entries_of, held, held_at, placed, shown, shown_all}
 use Rattle.cdxj_index.specs.Order.{Moment, moment_of, moment_cmp, order}
 use Rattle.cdxj_index.proofs.Orders.{moment_total, order_total}
 use Rattle.cdxj_index.proofs.Members.{Among, Among-map, Among-map_back, Among-flat_map, Among-flat_map_back, Sorted-append, all_among, all_from_among}
@@ -21,9 +21,9 @@ use Rattle.cdxj_index.proofs.Places.{lookup-among, among-lookup}
 -- an entry that is shown is held in its place
 pub held_from_shown : (key : List ℕ) (captures : Captures) → AreOfKey key captures → (f : Facts) → Among (shown captures) f → (held captures (moment_of f) ≡ Some f) × (f.key ≡ key)
 held_from_shown key captures are f h =
-    let value = Among-map arc_value (values captures) f h in
-    let entry = Among-map (λ (e : Moment × Shared). e.1) captures.entries value.0 value.1 in
-    let found : get moment_cmp captures entry.0.0 ≡ Some entry.0.1 = lookup-among moment_cmp moment_total captures.entries are.ordered entry.0 entry.1 in
+    let value = Among-map arc_value (values_of (placed captures)) f h in
+    let entry = Among-map (λ (e : Moment × Shared). e.1) (placed captures) value.0 value.1 in
+    let found : lookup (is_at (moment_cmp entry.0.0)) (placed captures) ≡ Some entry.0.1 = lookup-among moment_cmp moment_total (placed captures) are.ordered entry.0 entry.1 in
     let there : held captures entry.0.0 ≡ Some f = ap (option_map arc_value) found ∙ ap Some (ap arc_value entry.2 ∙ value.2) in
     let is = are.each entry.0.0 f there in
     (subst (λ m. held captures m ≡ Some f) (sym is.placed) there, is.keyed)
@@ -35,10 +35,10 @@ some_value (Some s) f e = (s, refl, cc)
 -- an entry that is held is shown
 pub shown_from_held : (captures : Captures) (moment : Moment) (f : Facts) → held captures moment ≡ Some f → Among (shown captures) f
 shown_from_held captures moment f there =
-    let value = some_value (get moment_cmp captures moment) f there in
-    let entry = among-lookup moment_cmp moment_total (is_at (moment_cmp moment)) captures.entries value.0 value.1 in
-    let among : Among (values captures) entry.0.1 = Among-map_back (λ (e : Moment × Shared). e.1) captures.entries entry.0 entry.1 in
-    subst (Among (shown captures)) (ap arc_value entry.3 ∙ value.2) (Among-map_back arc_value (values captures) entry.0.1 among)
+    let value = some_value (lookup (is_at (moment_cmp moment)) (placed captures)) f there in
+    let entry = among-lookup moment_cmp moment_total (is_at (moment_cmp moment)) (placed captures) value.0 value.1 in
+    let among : Among (values_of (placed captures)) entry.0.1 = Among-map_back (λ (e : Moment × Shared). e.1) (placed captures) entry.0 entry.1 in
+    subst (Among (shown captures)) (ap arc_value entry.3 ∙ value.2) (Among-map_back arc_value (values_of (placed captures)) entry.0.1 among)
 
 same_key_below : (f g : Facts) (m n : Moment) → f.key ≡ g.key → moment_of f ≡ m → moment_of g ≡ n → moment_cmp m n ≡ Less → order f g ≡ Less
 same_key_below f g m n keyed at at₂ below =
@@ -66,8 +66,8 @@ sorted_pairs key (e ∷ pairs) sorted each =
 
 pub sorted_shown : (key : List ℕ) (captures : Captures) → AreOfKey key captures → IsStrictlySortedBy order (shown captures)
 sorted_shown key captures are =
-    sorted_pairs key captures.entries are.ordered (λ e h.
-    let found = lookup-among moment_cmp moment_total captures.entries are.ordered e h in
+    sorted_pairs key (placed captures) are.ordered (λ e h.
+    let found = lookup-among moment_cmp moment_total (placed captures) are.ordered e h in
     let is = are.each e.0 (arc_value e.1) (ap (option_map arc_value) found) in
     (is.placed, is.keyed))
 

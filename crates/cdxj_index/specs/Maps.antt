@@ -1,14 +1,18 @@
 -- The maps behind an index.
-use Rattle.std.specs.Prelude.{◌≡◌, ℕ, ◌^◌, ◌<◌, ◌≤◌, List, length, map, Option, Some, None, option_map, option_and_then, Contains, IsSome, Bool, ◌&&◌, if◌then◌else◌, nat_eq, [], ◌∷◌, ◌++◌}
+use Rattle.std.specs.Prelude.{◌≡◌, ℕ, ◌^◌, ◌<◌, ◌≤◌, List, length, map, Option, Some, None, option_map, option_and_then, Contains, IsSome, Bool, ◌&&◌, if◌then◌else◌, false, nat_eq, [], ◌∷◌, ◌++◌}
 use Rattle.std.specs.declared.alloc.Global.{Global}
 use Rattle.std.specs.declared.cmp.Ordering.TheVariants.{Less}
 use Rattle.std.specs.declared.sync.Arc.{Arc}
 use Rattle.std.specs.Arc.{arc_value}
-use Rattle.std.specs.BTreeMap.{BTreeMap, IsOrdered, btree_map_len, get, values}
+use Rattle.std.specs.BTreeMap.{BTreeMap, IsOrdered, btree_map_len, get, is_at}
 use Rattle.std.specs.Cmp.Lexicographic.{slice_cmp}
 use Rattle.std.specs.List.{flat_map, starts_with}
+use Rattle.std.specs.List.Sorted.{IsStrictlySortedBy}
+use Rattle.std.specs.Map.{keys_of, lookup, values_of}
 use Rattle.std.specs.Option.{option_map_or}
 use Rattle.std.specs.Ordering.{nat_cmp, is_eq}
+pub use Rattle.cdxj_index.specs.declared.captures.Captures.{Captures}
+use Rattle.cdxj_index.specs.declared.captures.Captures.TheVariants.{One, Many}
 use Rattle.cdxj_index.specs.Facts.{Facts}
 use Rattle.cdxj_index.specs.Order.{Moment, moment_of, moment_cmp}
 
@@ -16,17 +20,18 @@ use Rattle.cdxj_index.specs.Order.{Moment, moment_of, moment_cmp}
 abbrev pub Shared : Type 0
 Shared = Arc Facts Global
 
--- the captures of a key, by date and number
-abbrev pub Captures : Type 0
-Captures = BTreeMap Moment Shared
-
 -- the captures of each key
 abbrev pub Keys : Type 0
 Keys = BTreeMap (List ℕ) Captures
 
+-- the captures of a key by date and number, in order
+abbrev pub placed : Captures → List (Moment × Shared)
+placed (One entry) = (moment_of (arc_value entry), entry) ∷ []
+placed (Many places) = places.entries
+
 -- the entries of one key, in order
 abbrev pub shown : Captures → List Facts
-shown captures = map arc_value (values captures)
+shown captures = map arc_value (values_of (placed captures))
 
 -- all entries, in order
 abbrev pub shown_all : List (List ℕ × Captures) → List Facts
@@ -37,7 +42,23 @@ entries_of keys = shown_all keys.entries
 
 -- the entry at a date and number
 abbrev pub held : Captures → Moment → Option Facts
-held captures moment = option_map arc_value (get moment_cmp captures moment)
+held captures moment = option_map arc_value (lookup (is_at (moment_cmp moment)) (placed captures))
+
+-- the captures are in order
+abbrev pub IsInOrder : Captures → Type 0
+IsInOrder captures = IsStrictlySortedBy moment_cmp (keys_of (placed captures))
+
+-- the same entries are held at the same dates and numbers
+abbrev pub HoldsSame : Captures → Captures → Type 0
+HoldsSame old new = (when : Moment) → held new when ≡ held old when
+
+-- this is held at a date and number now, and at all others what was
+abbrev pub Changes : Captures → Captures → Moment → Option Facts → Type 0
+Changes old new moment entry = (when : Moment) → held new when ≡ (if is_eq (moment_cmp moment when) then entry else held old when)
+
+-- nothing is held but at this date and number
+abbrev pub HoldsOnly : Captures → Moment → Type 0
+HoldsOnly captures moment = (when : Moment) → is_eq (moment_cmp moment when) ≡ false → held captures when ≡ None
 
 -- the entry of a key at a date and number
 abbrev pub held_at : Keys → List ℕ → Moment → Option Facts
@@ -51,7 +72,7 @@ pub record IsHeld (key : List ℕ) (moment : Moment) (entry : Facts) : Type 0 wh
 
 -- the captures are in order, and each is held in its place
 pub record AreOfKey (key : List ℕ) (captures : Captures) : Type 0 where
-  pub ordered : IsOrdered moment_cmp captures
+  pub ordered : IsInOrder captures
   pub each : (moment : Moment) (entry : Facts) → held captures moment ≡ Some entry → IsHeld key moment entry
 
 -- the keys are in order, and each has captures of its own
@@ -129,9 +150,9 @@ abbrev pub shown_while : List ℕ → List (List ℕ × Captures) → List Facts
 shown_while start [] = []
 shown_while start (e ∷ keys) = if starts_with nat_eq e.0 start then shown e.1 ++ shown_while start keys else []
 
--- the captures that are left of a key
-abbrev pub shown_left : Option (List Shared) → List Facts
-shown_left captures = option_map_or (λ left. map arc_value left) captures []
+-- the captures that are left of a key: the only one, or those of several
+abbrev pub shown_left : Option Facts → Option (List Shared) → List Facts
+shown_left one captures = option_map_or (λ entry. entry ∷ []) one [] ++ option_map_or (λ left. map arc_value left) captures []
 
 -- the captures that are left of a key, and those of the keys that are left and begin with these bytes
 abbrev pub left_of : List ℕ → Option (List (List ℕ × Captures)) → List Facts → List Facts

@@ -6,11 +6,13 @@ ghost use Rattle.std.specs.Cmp.Lexicographic.{slice_cmp};
 ghost use Rattle.std.specs.Ordering.{nat_cmp};
 ghost use Rattle.cdxj_index.specs.Maps.{AreKeys, HasNoneAfter, HasNoneFrom, HasNoneUntil, IsFirstAfter, IsFirstFrom, IsLastUntil, Puts, SameKeys, Takes};
 
+use crate::captures::Captures;
+use crate::many::{first_of, last_of, next_of};
+use crate::only::{only_after, only_from, only_until};
 use crate::{Entry, Steps};
 use capture::Memory;
 use std::alloc::Global;
 use std::collections::BTreeMap;
-use std::ops::Bound;
 use std::sync::Arc;
 use std::sync::ledger::Ledger;
 use surt_key::Key;
@@ -18,13 +20,8 @@ use surt_key::Key;
 /// A date, and a number within the date.
 pub(crate) type Moment = (u64, u32);
 
-/// The captures of one key, by date and number.
-pub(crate) type Captures = BTreeMap<Moment, Arc<Entry>>;
-
-/// Entries by key, and under each key by date and number, so that no look-up copies a key.
-///
-/// An entry stands behind a pointer, since a node of a map has room for fifteen values from the start. A look-up that
-/// takes `steps` counts one.
+/// Entries by key, and under each key by date and number, so that no look-up copies a key. A look-up that takes `steps`
+/// counts one.
 #[derive(Drop)]
 pub(crate) struct EntryMap {
     pub keys: BTreeMap<Key, Captures>,
@@ -50,13 +47,11 @@ impl EntryMap {
         let facts: &Entry = &entry;
         let moment = facts.moment();
         if let Some(captures) = self.keys.get_mut(&facts.key) {
-            captures.insert(moment, entry)?;
+            captures.insert(alloc, moment, entry)?;
             return Ok(());
         }
         let key = facts.key.copy()?;
-        let mut captures = Captures::new(alloc);
-        captures.insert(moment, entry)?;
-        self.keys.insert(key, captures)?;
+        self.keys.insert(key, Captures::One(entry))?;
         Ok(())
     }
 
@@ -69,8 +64,7 @@ impl EntryMap {
         let Some(captures) = self.keys.get_mut(key) else {
             return;
         };
-        captures.remove(&moment);
-        if captures.is_empty() {
+        if captures.remove(moment) {
             self.keys.remove(key);
         }
     }
@@ -87,8 +81,10 @@ pub(crate) fn last_until<'a, L: Ledger>(
     ensures step { steps.new ≡ steps.old + 1 }
 {
     steps.tick();
-    let (_, entry) = captures.range(..=(time, u32::MAX)).next_back()?;
-    Some(entry)
+    match captures {
+        Captures::One(entry) => only_until(entry, time),
+        Captures::Many(places) => last_of(places, time),
+    }
 }
 
 /// The first capture of the date or a later one.
@@ -102,8 +98,10 @@ pub(crate) fn first_from<'a, L: Ledger>(
     ensures step { steps.new ≡ steps.old + 1 }
 {
     steps.tick();
-    let (_, entry) = captures.range((date, 0)..).next()?;
-    Some(entry)
+    match captures {
+        Captures::One(entry) => only_from(entry, date),
+        Captures::Many(places) => first_of(places, date),
+    }
 }
 
 /// The first capture after the time.
@@ -117,7 +115,8 @@ pub(crate) fn first_after<'a, L: Ledger>(
     ensures step { steps.new ≡ steps.old + 1 }
 {
     steps.tick();
-    let after = (Bound::Excluded((time, u32::MAX)), Bound::Unbounded);
-    let (_, entry) = captures.range(after).next()?;
-    Some(entry)
+    match captures {
+        Captures::One(entry) => only_after(entry, time),
+        Captures::Many(places) => next_of(places, time),
+    }
 }

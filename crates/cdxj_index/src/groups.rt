@@ -1,5 +1,5 @@
 //! Entries that come in order, in groups of one key.
-ghost use Rattle.std.specs.Prelude.{◌≡◌, [], ◌∷◌, ◌++◌, Contains, IfOk, OnOk};
+ghost use Rattle.std.specs.Prelude.{◌≡◌, ◌<◌, ◌^◌, [], ◌∷◌, ◌++◌, Contains, IfOk, OnOk};
 ghost use Rattle.std.specs.declared.cmp.Ordering.TheVariants.{Less};
 ghost use Rattle.std.specs.Arc.{arc_value};
 ghost use Rattle.cdxj_index.specs.Facts.{Facts};
@@ -8,7 +8,7 @@ ghost use Rattle.cdxj_index.specs.Maps.{shown, shown_all};
 ghost use Rattle.cdxj_index.specs.Order.{order};
 
 use crate::Entry;
-use crate::entry_map::Captures;
+use crate::captures::Captures;
 use capture::Memory;
 use std::alloc::Global;
 use std::sync::Arc;
@@ -31,29 +31,27 @@ pub(crate) fn append(
     let facts: &Entry = &entry;
     let moment = facts.moment();
     let Some((key, mut captures)) = groups.pop() else {
-        groups.push(group_of(alloc, entry)?)?;
+        groups.push(group_of(entry)?)?;
         return Ok(());
     };
     if key == facts.key {
-        captures.insert(moment, entry)?;
+        captures.insert(alloc, moment, entry)?;
         groups.push((key, captures))?;
         return Ok(());
     }
     groups.push((key, captures))?;
-    groups.push(group_of(alloc, entry)?)?;
+    groups.push(group_of(entry)?)?;
     Ok(())
 }
 
 /// An entry as the only one of its key.
-fn group_of(alloc: Global, entry: Arc<Entry>) -> Result<Group, Memory>
+fn group_of(entry: Arc<Entry>) -> Result<Group, Memory>
+    requires { (arc_value entry).number < 2 ^ 32 }
     ensures key { IfOk result (λ group. group.0 ≡ (arc_value entry).key) }
     ensures group { IfOk result IsGroup }
     ensures shown { IfOk result (λ group. shown group.1 ≡ arc_value entry ∷ []) }
 {
     let facts: &Entry = &entry;
     let key = facts.key.copy()?;
-    let moment = facts.moment();
-    let mut captures = Captures::new(alloc);
-    captures.insert(moment, entry)?;
-    Ok((key, captures))
+    Ok((key, Captures::One(entry)))
 }

@@ -5,6 +5,7 @@ ghost use Rattle.cdxj_index.specs.Queries.{HasNone, IsIndex, IsNearest, of_key, 
 
 use crate::entry_map::{EntryMap, first_after, first_from, last_until};
 use crate::groups::append;
+use crate::settle::settle;
 use crate::{Entry, Range, Starting, Steps};
 use capture::Memory;
 use std::alloc::Global;
@@ -61,6 +62,7 @@ impl Index {
             numbers.push((number, Arc::try_clone(&entry)?))?;
             append(alloc, &mut groups, entry)?;
         }
+        settle(&mut numbers);
         Ok(Index {
             map: EntryMap {
                 keys: BTreeMap::from_iter(alloc, groups)?,
@@ -148,10 +150,8 @@ impl Index {
         ensures { result ≡ of_key key.now self.now }
     {
         match self.map.keys.get(key) {
-            Some(captures) => Range {
-                captures: Some(captures.values()),
-            },
-            None => Range { captures: None },
+            Some(captures) => Range::of(captures),
+            None => Range::none(),
         }
     }
 

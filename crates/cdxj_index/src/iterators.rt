@@ -1,11 +1,12 @@
 //! The entries that were asked for, one at a time.
-ghost use Rattle.std.specs.Prelude.{◌≡◌};
+ghost use Rattle.std.specs.Prelude.{◌≡◌, []};
 ghost use Rattle.std.specs.Iterator.{YieldsFirstRef, item_count};
-ghost use Rattle.cdxj_index.specs.Maps.{AreKeys, entries_of, left_of};
+ghost use Rattle.cdxj_index.specs.Maps.{AreKeys, entries_of, left_of, shown};
 ghost use Rattle.cdxj_index.specs.Queries.{starting_with};
 
 use crate::Entry;
-use crate::entry_map::{Captures, Moment};
+use crate::captures::Captures;
+use crate::entry_map::Moment;
 use std::collections::{BTreeMap, btree_map};
 use std::marker::Model;
 use std::sync::Arc;
@@ -14,17 +15,46 @@ use surt_key::Key;
 /// The entries of a key, in order. A clause sees the list of those that are left.
 #[derive(Drop)]
 pub struct Range<'a> {
-    pub(crate) captures: Option<btree_map::Values<'a, Moment, Arc<Entry>>>,
+    one: Option<&'a Entry>,
+    captures: Option<btree_map::Values<'a, Moment, Arc<Entry>>>,
 }
 
 impl<'a> Model for Range<'a> {
-    ghost use Rattle.std.specs.Prelude.{List};
+    ghost use Rattle.std.specs.Prelude.{List, option_copied};
     ghost use Rattle.cdxj_index.specs.Facts.{Facts};
     ghost use Rattle.cdxj_index.specs.Maps.{shown_left};
 
     ghost Value = { List Facts };
 
-    ghost view = { λ range. shown_left range.captures };
+    ghost view = { λ range. shown_left (option_copied range.one) range.captures };
+}
+
+impl<'a> Range<'a> {
+    /// No entries.
+    pub(crate) fn none() -> Range<'a>
+        ensures { result ≡ [] }
+    {
+        Range {
+            one: None,
+            captures: None,
+        }
+    }
+
+    /// The entries of a key.
+    pub(crate) fn of(captures: &'a Captures) -> Range<'a>
+        ensures { result ≡ shown captures.now }
+    {
+        match captures {
+            Captures::One(entry) => Range {
+                one: Some(entry),
+                captures: None,
+            },
+            Captures::Many(places) => Range {
+                one: None,
+                captures: Some(places.values()),
+            },
+        }
+    }
 }
 
 impl<'a> Iterator for Range<'a> {
@@ -35,6 +65,9 @@ impl<'a> Iterator for Range<'a> {
     ghost remaining = { item_count (λ left. left) };
 
     fn next(&mut self) -> Option<&'a Entry> {
+        if let Some(entry) = self.one.take() {
+            return Some(entry);
+        }
         let captures = self.captures.as_mut()?;
         let entry: &Entry = captures.next()?;
         Some(entry)
@@ -71,12 +104,18 @@ impl<'a> Starting<'a> {
             Some((first, _)) if first.as_slice().starts_with(bytes) => Starting {
                 start: &first.as_slice()[..bytes.len()],
                 keys: Some(keys.range(start..)),
-                captures: Range { captures: None },
+                captures: Range {
+                    one: None,
+                    captures: None,
+                },
             },
             _ => Starting {
                 start: &[],
                 keys: None,
-                captures: Range { captures: None },
+                captures: Range {
+                    one: None,
+                    captures: None,
+                },
             },
         }
     }
@@ -112,8 +151,6 @@ fn next_of<'a>(
             *keys = None;
             return None;
         }
-        *captures = Range {
-            captures: Some(next.values()),
-        };
+        *captures = Range::of(next);
     }
 }

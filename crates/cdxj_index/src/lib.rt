@@ -1,12 +1,16 @@
 //! The index of an archive: its captures by look-up key, date and number.
 #![tactic(auto)]
 
+mod captures;
 mod entry;
 mod entry_map;
 mod groups;
 mod index;
 mod iterators;
 mod laws;
+mod many;
+mod only;
+mod settle;
 mod steps;
 #[cfg(test)]
 mod tests;

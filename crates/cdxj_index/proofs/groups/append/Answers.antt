@@ -5,19 +5,22 @@ use Rattle.cdxj_index.specs.Facts.{Facts}
 use Rattle.cdxj_index.specs.Groups.{AreGroups}
 use Rattle.cdxj_index.specs.Maps.{shown_all}
 use Rattle.cdxj_index.specs.Order.{moment_of}
-use Rattle.cdxj_index.proofs.Grouped.{appended_apart, appended_first, appended_there, other_key, same_key}
+use Rattle.cdxj_index.proofs.Grouped.{appended_apart, appended_first, appended_there, last_group, other_key, same_key}
 use Rattle.cdxj_index.proofs.groups.append.Goals as goal
 
 pub returns-in_default-clause-groups : goal.returns-in_default-clause-groups
 returns-in_default-clause-groups c =
     appended_first c.pop.new.self.items c.push.new.self.items c.in_ok-group_of.field-0 (nil_from_length c.pop.new.self.items (sym c.pop.new.self.ok.0 ∙ c.in_default.ensures.cases.1)) c.in_ok-push.ensures.items c.in_ok-group_of.ensures.group
 
+pub insert-requires : goal.insert-requires
+insert-requires c = (last_group c.args.groups.now.items c.pop.new.self.items (c.in-Some.key, c.in-Some.captures) c.requires.groups c.in-Some.ensures.items).of_key.ordered
+
 there : (c : goal.In_ok-push-2) → AreGroups c.push-then-eq.new.self.items × (shown_all c.push-then-eq.new.self.items ≡ shown_all c.args.groups.now.items ++ arc_value c.args.entry ∷ [])
 there c =
     let is = ap (λ (f : Facts). f.key) (c.facts.view_is ∙ c.deref-facts.ensures) in
     let same = same_key _ _ c.in-Some.key (arc_value c.args.entry).key (sym c.eq.ensures ∙ c.if-eq.true) refl is in
     appended_there c.args.groups.now.items c.push-then-eq.new.self.items c.pop.new.self.items c.in-Some.key c.in-Some.captures c.insert.new.self c.args.entry (arc_value c.args.entry) c.moment-moment.result refl same (c.moment-moment.ensures.value ∙ ap moment_of c.deref-facts.ensures) c.moment-moment.ensures.fits c.requires.groups
-    c.requires.last c.in-Some.ensures.items c.in_ok-push-2.ensures.items c.in_ok-insert.ensures.ordered c.in_ok-insert.ensures.updates
+    c.requires.last c.in-Some.ensures.items c.in_ok-push-2.ensures.items c.in_ok-insert.ensures.ordered c.in_ok-insert.ensures.ok
 
 pub returns-then-eq-clause-groups : goal.returns-then-eq-clause-groups
 returns-then-eq-clause-groups c = (there c).0

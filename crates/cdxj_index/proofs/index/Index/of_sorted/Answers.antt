@@ -40,9 +40,9 @@ loop-entry-preserved c = (
 all : (c : goal.In_ok-from_iter-2) → AreMaps c.in_ok-from_iter.field-0 c.in_ok-from_iter-2.field-0 × (entries_of c.in_ok-from_iter.field-0 ≡ c.args.entries.items)
 all c =
     let keys = made_from _ _ (IsFromIterResult (slice_cmp nat_cmp)) c.loop-entry.groups.items c.in_ok-from_iter.field-0 c.in_ok-from_iter.ensures.ran (λ it b. YieldsList-from_vec {s = it} _ b.0 (b.1 ∙ c.loop-entry.groups.ok.0)) in
-    let numbers = made_from _ _ (IsFromIterResult nat_cmp) c.loop-entry.numbers.items c.in_ok-from_iter-2.field-0 c.in_ok-from_iter-2.ensures.ran (λ it b. YieldsList-from_vec {s = it} _ b.0 (b.1 ∙ c.loop-entry.numbers.ok.0)) in
+    let numbers = made_from _ _ (IsFromIterResult nat_cmp) c.settle.new.numbers.items c.in_ok-from_iter-2.field-0 c.in_ok-from_iter-2.ensures.ran (λ it b. YieldsList-from_vec {s = it} _ b.0 (b.1 ∙ c.settle.new.numbers.ok.0)) in
     let left = c.loop-entry.entry-iterator.rest in
-    all_made c.loop-entry.groups.items c.loop-entry.numbers.items left.items c.args.entries.items c.in_ok-from_iter.field-0 c.in_ok-from_iter-2.field-0 c.requires c.loop-entry.invariant.2 c.loop-entry.invariant.3 c.loop-entry.invariant.4 (nil_from_length left.items (sym left.ok.0 ∙ c.in-None.ensures.steps.0)) keys numbers
+    all_made c.loop-entry.groups.items c.loop-entry.numbers.items c.settle.new.numbers.items left.items c.args.entries.items c.in_ok-from_iter.field-0 c.in_ok-from_iter-2.field-0 c.requires c.loop-entry.invariant.2 c.loop-entry.invariant.3 c.loop-entry.invariant.4 (nil_from_length left.items (sym left.ok.0 ∙ c.in-None.ensures.steps.0)) c.settle.ensures keys numbers
 
 pub invariant_of-result : goal.invariant_of-result
 invariant_of-result c = (all c).0
