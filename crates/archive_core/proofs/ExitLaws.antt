@@ -1,0 +1,518 @@
+-- How a store of an archive ends: without memory, refused by the disk, or with the capture.
+use Rattle.std.proofs.Common.{◌≡◌, ◌≢◌, ◌⊎◌, ℕ, suc, ◌+◌, ◌-◌, ◌^◌, ◌<◌, ◌≤◌, Bool, true, false, IsTrue, List, [], ◌∷◌, ◌++◌, length, Option, Some, None, Result, Ok, Err, if◌then◌else◌, is_some, refl, sym, ap, subst, ◌∙◌, inl, inr, ⊎_elim, arith, length-append}
+use Rattle.std.specs.Prelude.{Contains, IfSome, IsErrAnd, count_by}
+use Rattle.std.proofs.lemmas.Bool.{false≢true}
+use Rattle.std.proofs.lemmas.List.Sums.{count_by-le-length}
+use Rattle.sha1.specs.Sha1.{sha1}
+use Rattle.capture.specs.Captures.{captures, taken_back, HasPayload}
+use Rattle.capture.specs.Faults.{CountsFaults}
+use Rattle.capture.specs.Message.{IsResponseHeadText}
+use Rattle.capture.specs.declared.book.Book.{Book}
+use Rattle.capture.specs.declared.captured.Stored.{Stored}
+use Rattle.capture.specs.declared.captured.Taken.{Taken}
+use Rattle.cdxj_index.proofs.Entries.{without-absent}
+use Rattle.cdxj_index.proofs.Members.{Among, contains_from_among}
+use Rattle.cdxj_index.specs.Facts.{Facts}
+use Rattle.cdxj_index.specs.OfBook.{AreOf}
+use Rattle.cdxj_index.specs.Order.{with_entry, without}
+use Rattle.cdxj_index.specs.Queries.{IsIndex}
+use Rattle.disk_model.specs.declared.disk.Disk.{Ghosts}
+use Rattle.httparse.specs.Grammar as grammar
+use Rattle.revisit_table.specs.Table.{Table}
+use Rattle.warc_journal.specs.Extents.{cdxj_files}
+use Rattle.warc_journal.specs.Journals.{disk_of, last_len, texts}
+use Rattle.warc_journal.specs.declared.journal.Journal.{Journal}
+use Rattle.warc_text.proofs.BookLaws.{get_behind}
+use Rattle.warc_text.specs.Books.{AreVolumeTexts, IsVolumeText}
+use Rattle.warc_text.specs.Fits.{Fits}
+use Rattle.warc_text.specs.Lengths.{request_length}
+use Rattle.archive_shelf.proofs.GainingSoundness.{no_volumes}
+use Rattle.archive_shelf.proofs.StoringLaws.{captures_more}
+use Rattle.archive_shelf.specs.Answers.{HasStored, HasVolumeAlone, IsNotFull}
+use Rattle.archive_shelf.specs.Comparing.{CanRefer, RefersBy}
+use Rattle.archive_shelf.specs.Contents.{Contents}
+use Rattle.archive_shelf.specs.Entering.{TellsOfNew}
+use Rattle.archive_shelf.specs.Gaining.{VolumesAddTheirText}
+use Rattle.archive_shelf.specs.Openings.{IsState}
+use Rattle.archive_shelf.specs.Storing.{Gains, as_stored, is_revisit, kept_of, with_capture, with_volume}
+use Rattle.archive_shelf.specs.declared.fault.StoreFault.{StoreFault}
+use Rattle.archive_shelf.specs.declared.fault.StoreFault.TheVariants as stores
+use Rattle.archive_shelf.specs.declared.receipt.Receipt.{Receipt}
+use Rattle.archive_core.specs.Basis.{StoringBasis}
+use Rattle.archive_core.specs.Entries.{EntersAs, IsEntryAt, entered}
+use Rattle.archive_core.specs.Held.{book_of}
+use Rattle.archive_core.specs.Holdings.{AreLimits, Holdings, IsArchive, contents_of}
+use Rattle.archive_core.specs.Looking.{IsDigestOf, RefersTo}
+use Rattle.archive_core.specs.Ready.{CanCommit, IsReady, record_in}
+use Rattle.archive_core.specs.Shown.{numbered, numbers_from}
+use Rattle.archive_core.specs.Spots.{ArePlaced, AreSpotsOf, text_at, whole_from}
+use Rattle.archive_core.specs.Stores.{Stores}
+use Rattle.archive_core.specs.Storing.{HasRoomFor, IsWay, TakesSo, Writes, texts_with, with_prepared}
+use Rattle.archive_core.specs.Volumes.{HoldsBook, IsMeasured, covers, moment_of, opens}
+use Rattle.archive_core.specs.declared.entering.RecordAt.{RecordAt}
+use Rattle.archive_core.specs.declared.prepared.Prepared.{Prepared}
+use Rattle.archive_core.specs.declared.ready.Incoming.{Incoming}
+use Rattle.archive_core.specs.declared.ready.Ready.{Ready}
+use Rattle.archive_core.specs.declared.spot.Spot.{Spot}
+use Rattle.archive_core.specs.declared.volumes.Volumes.{Volumes}
+use Rattle.archive_core.proofs.ChangeLaws.{DiskLaws}
+use Rattle.archive_core.proofs.EnterLaws.{TellsOfCapture, known_left, known_room, known_with, known_without, tells_of_new}
+use Rattle.archive_core.proofs.PayloadLaws.{has_one, one_payload}
+use Rattle.archive_core.proofs.ReadyLaws.{can_commit, ready_now, with_count, with_end}
+use Rattle.archive_core.proofs.ShownLaws.{numbered_with, taken_out}
+use Rattle.archive_core.proofs.StoreLaws.{quiet_itself, store_covered, store_later, store_moves, store_refused}
+use Rattle.archive_core.proofs.StoredLaws.{archive_left, archive_stored}
+use Rattle.archive_core.proofs.TakenGroup.{IsGroupWith}
+use Rattle.archive_core.proofs.WayLaws.{by_rule, group_with, needed_by, room_captures, room_gains, room_namespace, room_some, way}
+
+-- ---- without memory: all is as it was, but for what is reserved
+
+module _ {D : Type 0} (d : Ghosts D) (was is : Holdings D) (journal_is : is.journal ≡ was.journal) (book_is : is.book ≡ was.book)
+    (index_is : is.index ≡ was.index) (limits_is : is.limits ≡ was.limits) (found_is : is.found ≡ was.found) where
+  pub memory_archive : IsArchive d was → is.spots ≡ was.spots → is.table.kept ≡ was.table.kept → is.revisits ≡ was.revisits → IsArchive d is
+  memory_archive archive spots_are kept revisits_are =
+      let count : length (captures is.book) ≡ length (captures was.book) = ap (λ (b : Book). length (captures b)) book_is in
+      record {
+        holds = subst (λ (b : Book). HoldsBook d is.journal b) (sym book_is) (subst (λ (j : Journal D). HoldsBook d j was.book) (sym journal_is) archive.holds);
+        measured = subst (λ (b : Book). IsMeasured is.journal b) (sym book_is) (subst (λ (j : Journal D). IsMeasured j was.book) (sym journal_is) archive.measured);
+        counted = record {
+          few = omega (arith, count, archive.counted.few);
+          revisits = revisits_are ∙ archive.counted.revisits
+              ∙ sym (ap (λ (b : Book). count_by (λ (stored : Stored). is_revisit stored.kept) (captures b)) book_is);
+          found = omega (arith, count, archive.counted.found, found_is);
+          below = λ entry has. omega (arith, count, archive.counted.below entry (subst (λ (l : List Facts). Contains l entry) index_is has));
+          limits = subst AreLimits (sym limits_is) archive.counted.limits;
+        };
+        spots = subst (λ (l : List Spot). AreSpotsOf is.book l) (sym spots_are) (subst (λ (b : Book). AreSpotsOf b was.spots) (sym book_is) archive.spots);
+        table = kept ∙ archive.table ∙ sym (ap (λ (l : List Spot). whole_from 0 l) spots_are);
+        indexed = subst IsIndex (sym index_is) archive.indexed;
+        placed = λ told. subst (λ (l : List Spot). ArePlaced (texts d is.journal) is.book l) (sym spots_are)
+            (subst (λ (b : Book). ArePlaced (texts d is.journal) b was.spots) (sym book_is)
+            (subst (λ (j : Journal D). ArePlaced (texts d j) was.book was.spots) (sym journal_is) (archive.placed told)));
+        known = λ told. subst (λ (l : List Facts). AreOf is.book l) (sym index_is) (subst (λ (b : Book). AreOf b was.index) (sym book_is) (archive.known told));
+      }
+
+  memory_stores : (taken : Taken) → Stores d was is taken (Err stores.Memory)
+  memory_stores taken = record {
+    leaves = record {
+      seen = book_is;
+      shown = ap numbered index_is;
+      others = λ i. record {
+        tells = d.tells;
+        seen = is.book;
+        shown = numbered is.index;
+        mine = numbers_from (found_is i) (length (captures (book_is i)) - found_is i);
+        limits = limits_is i;
+      };
+    };
+    reading = λ told. ((λ none. ap (λ (j : Journal D). d.reading (disk_of j)) journal_is), ap (λ (j : Journal D). cdxj_files (d.reading (disk_of j))) journal_is);
+    faults = ap (λ (j : Journal D). d.faults (disk_of j)) journal_is;
+    opens = record {
+      later = omega (arith, ap (λ (j : Journal D). moment_of d (disk_of j)) journal_is);
+      moves = λ ids t x le o. inl (subst (λ (j : Journal D). opens d (disk_of j) t x) journal_is o);
+      only = λ ids. tt;
+      refused = λ told ids fault. absurd (false≢true fault);
+      quiet = λ none t x le o. inl (subst (λ (j : Journal D). opens d (disk_of j) t x) journal_is o);
+      covered = λ t le all. subst (λ (j : Journal D). covers d (disk_of j) t) (sym journal_is) all;
+    };
+  }
+
+  -- what a `?` hands out is want of memory
+  pub memory_exit : (taken : Taken) (result : Result Receipt StoreFault) → IsErrAnd result (λ fault. fault ≡ stores.Memory) → Stores d was is taken result
+  memory_exit taken (Ok receipt) fault = absurd fault
+  memory_exit taken (Err other) fault = subst (λ (f : StoreFault). Stores d was is taken (Err f)) (sym fault) (memory_stores taken)
+
+-- ---- on the way
+
+-- the archive with the volumes in which room was made
+abbrev pub in_volumes : {D : Type 0} → Holdings D → Volumes D → Holdings D
+in_volumes was now = record was { journal = now.journal; book = book_of now.held }
+
+pub same_holdings : {D : Type 0} (was : Holdings D) (now : Volumes D) → now.journal ≡ was.journal → book_of now.held ≡ was.book → in_volumes was now ≡ was
+same_holdings was now journal_is book_is = λ i. record was { journal = journal_is i; book = book_is i }
+
+-- the capture is ready, and nothing of it was written; all that is known of it
+pub record IsUnderWay {D : Type 0} (d : Ghosts D) (was : Holdings D) (now : Volumes D) (incoming : Incoming) (ready : Ready) : Type 0 where
+  pub is : IsArchive d (in_volumes was now)
+  pub fits : Fits incoming.taken
+  pub not_full : length (captures (book_of now.held)) < was.limits.captures
+  pub payload : List ℕ
+  pub has : HasPayload incoming.taken.cut incoming.taken.method incoming.taken.head incoming.taken.wire payload
+  pub digested : incoming.digest ≡ sha1 payload
+  pub refers : CanRefer incoming.taken.cut (book_of now.held) incoming.same
+  pub finds : IsTrue d.tells → RefersBy incoming.taken.cut (book_of now.held) payload incoming.same
+  pub ready_is : IsReady now now was.limits.volume_bytes incoming payload ready
+
+under_way_from : {D : Type 0} (d : Ghosts D) → StoringBasis → (was : Holdings D) (old now : Volumes D) (incoming : Incoming) (ready : Ready)
+    → was.journal ≡ old.journal → was.book ≡ book_of old.held → IsArchive d was → Fits incoming.taken
+    → IsNotFull (contents_of d.tells was) was.book → IsDigestOf incoming.taken incoming.digest
+    → RefersTo (contents_of d.tells was) incoming.taken incoming.same
+    → now.journal ≡ old.journal → book_of now.held ≡ book_of old.held
+    → ((payload : List ℕ) → incoming.digest ≡ sha1 payload → IsReady old now was.limits.volume_bytes incoming payload ready)
+    → IsUnderWay d was now incoming ready
+under_way_from {D} d basis was old now incoming ready old_journal old_book archive fits not_full digest refers journal_is book_is ready_is =
+    let there = has_one basis.whole basis.cut incoming.taken fits in
+    let same_book : book_of now.held ≡ was.book = book_is ∙ sym old_book in
+    let same : in_volumes was now ≡ was = same_holdings was now (journal_is ∙ sym old_journal) same_book in
+    let digested : incoming.digest ≡ sha1 there.payload = digest there.payload there.has in
+    record {
+      is = subst (λ (held : Holdings D). IsArchive d held) (sym same) archive;
+      fits = fits;
+      not_full = omega (arith, ap (λ (b : Book). length (captures b)) same_book, not_full);
+      payload = there.payload;
+      has = there.has;
+      digested = digested;
+      refers = subst (λ (b : Book). CanRefer incoming.taken.cut b incoming.same) (sym same_book) refers.can;
+      finds = λ told.
+          let does = refers.does told in
+          subst (λ (b : Book). RefersBy incoming.taken.cut b there.payload incoming.same) (sym same_book)
+          (subst (λ (p : List ℕ). RefersBy incoming.taken.cut was.book p incoming.same)
+          (one_payload basis.one incoming.taken.cut incoming.taken.method incoming.taken.head incoming.taken.wire does.payload there.payload does.has there.has)
+          does.refers);
+      ready_is = ready_now old now was.limits.volume_bytes incoming there.payload ready book_is journal_is (ready_is there.payload digested);
+    }
+
+-- and the same by what clauses see of the archive
+pub under_way : {D : Type 0} (d : Ghosts D) → StoringBasis → (seen was : Holdings D) (old now : Volumes D) (incoming : Incoming) (ready : Ready)
+    → was ≡ seen → was.journal ≡ old.journal → was.book ≡ book_of old.held → IsArchive d was → Fits incoming.taken
+    → IsNotFull (contents_of d.tells seen) seen.book → IsDigestOf incoming.taken incoming.digest
+    → RefersTo (contents_of d.tells seen) incoming.taken incoming.same
+    → now.journal ≡ old.journal → book_of now.held ≡ book_of old.held
+    → ((payload : List ℕ) → incoming.digest ≡ sha1 payload → IsReady old now was.limits.volume_bytes incoming payload ready)
+    → IsUnderWay d was now incoming ready
+under_way {D} d basis seen was old now incoming ready seen_is old_journal old_book archive fits not_full digest refers =
+    under_way_from d basis was old now incoming ready old_journal old_book archive fits
+    (subst (λ (held : Holdings D). IsNotFull (contents_of d.tells held) held.book) (sym seen_is) not_full) digest
+    (subst (λ (held : Holdings D). RefersTo (contents_of d.tells held) incoming.taken incoming.same) (sym seen_is) refers)
+
+-- the texts of the volumes with room
+texts_by : {D : Type 0} (now : Volumes D) (all : List (List ℕ)) (prepared : Option Prepared) → VolumesAddTheirText
+    → AreVolumeTexts (book_of now.held) all → HasRoomFor now prepared → AreVolumeTexts (with_prepared (book_of now.held) prepared) (texts_with all prepared)
+texts_by now all None add are room = are
+texts_by now all (Some p) add are room =
+    subst (λ (text : List ℕ). AreVolumeTexts (with_volume (book_of now.held) p.shadow.born) (all ++ text ∷ [])) (sym room.prepared_is.info)
+    (add (book_of now.held) p.shadow.born all are)
+
+-- one, where it is so
+abbrev pub once : Bool → ℕ
+once b = if b then 1 else 0
+
+once_short : (b : Bool) → once b ≤ 1
+once_short true = omega arith
+once_short false = omega arith
+
+-- there are few enough to count one more
+pub revisits_few : {D : Type 0} (d : Ghosts D) (was : Holdings D) (b : Bool) → IsArchive d was → was.revisits + once b < 2 ^ 32
+revisits_few d was b is =
+    omega (arith, is.counted.revisits, count_by-le-length (λ (stored : Stored). is_revisit stored.kept) (captures was.book), is.counted.few, once_short b)
+
+-- a capture that refers to another one is a revisit
+revisit_by : (cut : Bool) (book : Book) (same : Option ℕ) (wire : List ℕ) → CanRefer cut book same
+    → once (is_some same) ≡ once (is_revisit (kept_of cut wire same))
+revisit_by true book None wire can = refl
+revisit_by true book (Some first) wire can = nothing first can
+  where
+    nothing : (n : ℕ) → Some n ≡ None → once true ≡ once false
+    nothing n e = cc
+revisit_by false book None wire can = refl
+revisit_by false book (Some first) wire can = refl
+
+-- the book with room is one for the capture
+roomy_by : (book : Book) (prepared : Option Prepared) (date : ℕ) → 0 < length (with_prepared book prepared).volumes
+    → IfSome prepared (λ (p : Prepared). p.shadow.born ≡ date)
+    → ((book.volumes ≢ []) × (with_prepared book prepared ≡ book)) ⊎ (with_prepared book prepared ≡ with_volume book date)
+roomy_by book None date some born = inl (no_volumes book.volumes some, refl)
+roomy_by book (Some p) date some born = inr (ap (with_volume book) born)
+
+-- its own number is added to those that its stores gave
+mine_more : (found n m k : ℕ) → found ≤ n → m ≡ n + 1 → k ≡ n → numbers_from found (m - found) ≡ numbers_from found (n - found) ++ k ∷ []
+mine_more found n m k le more is =
+    let long : m - found ≡ suc (n - found) = omega (arith, le, more) in
+    let last : found + (n - found) ≡ k = omega (arith, le, is) in
+    ap (numbers_from found) long ∙ ap (λ (x : ℕ). numbers_from found (n - found) ++ x ∷ []) last
+
+-- where a volume was begun alone, the capture needed it
+left_by : {D : Type 0} (d : Ghosts D) (limit : ℕ) (book : Book) (taken : Taken) (prepared : Option Prepared) (with_it now : Book)
+    → IfSome prepared (λ (p : Prepared). p.shadow.born ≡ taken.date) → TakesSo d limit book taken (with_prepared book prepared) with_it
+    → now ≡ with_prepared book prepared → (now ≡ book) ⊎ HasVolumeAlone d.tells limit book taken now
+left_by d limit book taken None with_it now born takes is = inl is
+left_by d limit book taken (Some p) with_it now born takes is = inr (record {
+  volume = is ∙ ap (with_volume book) born;
+  needed = λ told. needed_by d limit book taken p.shadow.born with_it (takes told);
+})
+
+-- the entry is taken back
+back_by : (n : ℕ) (entry : Option Facts) (index : List Facts) → IfSome entry (λ (e : Facts). e.number ≡ n)
+    → ((f : Facts) → Among index f → f.number < n) → without n (entered entry index) ≡ index
+back_by n None index is below = without-absent n index (λ f among e. omega (arith, below f among, e))
+back_by n (Some entry) index is below = taken_out n entry index is below
+
+-- what an entry adds to those that are shown
+shown_by : (n : ℕ) (entry : Option Facts) (index : List Facts) → IfSome entry (λ (e : Facts). e.number ≡ n)
+    → ((f : Facts) → Among index f → f.number < n)
+    → (numbered (entered entry index) ≡ numbered index) ⊎ ((e : Facts) × (e.number ≡ n) × (numbered (entered entry index) ≡ numbered index ++ e ∷ []))
+shown_by n None index is below = inl refl
+shown_by n (Some e) index is below =
+    inr (e, is, numbered_with e index (λ f among. omega (arith, below f among, is)))
+
+-- and to the index
+entered_by : (n : ℕ) (entry : Option Facts) (index : List Facts) → IfSome entry (λ (e : Facts). e.number ≡ n)
+    → (entered entry index ≡ index) ⊎ ((e : Facts) × (e.number ≡ n) × (entered entry index ≡ with_entry e index))
+entered_by n None index is = inl refl
+entered_by n (Some e) index is = inr (e, is, refl)
+
+module _ {D : Type 0} (d : Ghosts D) (basis : StoringBasis) (was : Holdings D) (now : Volumes D) (incoming : Incoming) (ready : Ready)
+    (u : IsUnderWay d was now incoming ready) where
+  abbrev book : Book
+  book = book_of now.held
+
+  abbrev room : Book
+  room = with_prepared book ready.prepared
+
+  abbrev stored : Stored
+  stored = as_stored incoming.taken incoming.same
+
+  abbrev number : ℕ
+  number = length (captures book)
+
+  abbrev before : Contents
+  before = contents_of d.tells (in_volumes was now)
+
+  some : 0 < length room.volumes
+  some = room_some was.limits.volume_bytes book (last_len now.journal) (length ready.group) ready.prepared u.ready_is.decided
+
+  pub commit_ready : CanCommit d now ready
+  commit_ready =
+      can_commit d now was.limits.volume_bytes incoming u.payload ready u.ready_is u.is.holds u.is.measured u.fits u.refers u.digested u.has u.finds
+      basis.committed basis.groups basis.sound u.is.counted.limits.volume_bytes (omega (arith, u.not_full, u.is.counted.limits.captures))
+
+  below : (f : Facts) → Among was.index f → f.number < number
+  below f among = u.is.counted.below f (contains_from_among was.index f among)
+
+  pub ready_head : IsResponseHeadText ready.stored.head u.has.parsed
+  ready_head = subst (λ (s : Stored). IsResponseHeadText s.head u.has.parsed) (sym u.ready_is.stored) u.has.whole
+
+  takes : TakesSo d was.limits.volume_bytes book incoming.taken room (with_capture room ready.stored)
+  takes told =
+      subst (λ (s : Stored). IsWay d was.limits.volume_bytes book incoming.taken room (with_capture room s)) (sym u.ready_is.stored)
+      (way d now.journal book incoming.taken u.payload incoming.same ready.group told u.is.holds u.has (u.finds told) u.ready_is.group
+      basis.groups u.is.measured.count was.limits.volume_bytes ready.prepared u.ready_is.born u.ready_is.decided)
+
+  module _ (at : RecordAt) (n : ℕ) (at_is : at ≡ record_in now ready n) (n_is : n ≡ length (captures (book_of now.held))) (entry : Option Facts)
+      (enters : (h : grammar.ResponseHead) → IsResponseHeadText ready.stored.head h → EntersAs ready.stored h at entry) where
+    number_by : (e : Option Facts) → EntersAs ready.stored u.has.parsed at e → IfSome e (λ (f : Facts). f.number ≡ length (captures (book_of now.held)))
+    number_by None is = tt
+    number_by (Some e) is = is.number ∙ ap (λ (a : RecordAt). a.number) at_is ∙ n_is
+
+    numbered_so : IfSome entry (λ (f : Facts). f.number ≡ length (captures (book_of now.held)))
+    numbered_so = number_by entry (enters u.has.parsed ready_head)
+
+    behind_by : (e : Option Facts) → IfSome e (λ (f : Facts). f.number ≡ length (captures (book_of now.held)))
+        → IfSome e (λ (f : Facts). (other : Facts) → Contains was.index other → other.number < f.number)
+    behind_by None is = tt
+    behind_by (Some e) is = λ other has. omega (arith, u.is.counted.below other has, is)
+
+    -- the entry stands behind all others
+    pub entry_behind : IfSome entry (λ (e : Facts). (other : Facts) → Contains was.index other → other.number < e.number)
+    entry_behind = behind_by entry numbered_so
+
+    -- ---- the index with it is that of the book
+
+    tells_of : IsTrue d.tells → (e : Facts) → IsEntryAt stored u.has.parsed at e
+        → TellsOfCapture room stored u.has.parsed u.payload ready.group
+        (text_at (texts_with (texts d now.journal) ready.prepared) (length (texts_with (texts d now.journal) ready.prepared) - 1)) e
+    tells_of told e is =
+        let all : List (List ℕ) = texts_with (texts d now.journal) ready.prepared in
+        let count : length all ≡ length room.volumes = with_count book (texts d now.journal) ready.prepared (u.is.holds.texts_are told).count in
+        let volume : e.volume ≡ length room.volumes - 1 = is.volume ∙ ap (λ (a : RecordAt). a.volume) at_is in
+        let last : length all - 1 ≡ e.volume = omega (arith, count, volume) in
+        let all_are = texts_by now (texts d now.journal) ready.prepared basis.volumes (u.is.holds.texts_are told) u.ready_is.room in
+        let len : e.length ≡ ready.layout.record_len = is.len ∙ ap (λ (a : RecordAt). a.len) at_is in
+        let asked : request_length (taken_back stored) ≡ request_length incoming.taken = refl in
+        record {
+          parsed = u.has.whole;
+          keyed = is.keyed;
+          date_is = is.date;
+          number_is = is.number ∙ ap (λ (a : RecordAt). a.number) at_is ∙ n_is ∙ sym (ap (λ (l : List Stored). length l) (room_captures book ready.prepared));
+          uri_is = is.uri;
+          mime_is = is.mime;
+          status_is = is.status;
+          volume_is = omega (arith, volume, some);
+          ends = subst (λ (k : ℕ). IsVolumeText room k (text_at all (length all - 1))) last (all_are.each (length all - 1) (omega (arith, count, some)));
+          offset_is = is.offset ∙ ap (λ (a : RecordAt). a.offset) at_is
+              ∙ sym (with_end d now book ready.prepared told u.is.holds some);
+          digest_is = is.digest ∙ ap (λ (a : RecordAt). a.digest) at_is ∙ u.ready_is.digest ∙ u.digested;
+          length_is = omega (arith, len, asked, u.ready_is.layout.record_len);
+        }
+
+    tells_new : IsTrue d.tells → (e : Facts) → IsEntryAt stored u.has.parsed at e → TellsOfNew room stored e
+    tells_new told e is =
+        tells_of_new room stored u.has.parsed u.payload ready.group
+        (text_at (texts_with (texts d now.journal) ready.prepared) (length (texts_with (texts d now.journal) ready.prepared) - 1)) e
+        (get_behind (captures (with_capture room stored)) (captures room) stored [] (length (captures room)) (captures_more room.volumes stored (no_volumes room.volumes some)) refl)
+        (subst (λ (k : ℕ). IsGroupWith (with_capture room stored) k u.payload ready.group) (sym (ap (λ (l : List Stored). length l) (room_captures book ready.prepared)))
+        (group_with d now.journal book incoming.taken u.payload incoming.same ready.group told u.is.holds u.has (u.finds told) u.ready_is.group
+        (with_capture room stored) (room_namespace book ready.prepared) (room_gains book ready.prepared stored some)))
+        (tells_of told e is)
+
+    known_by : IsTrue d.tells → (e : Option Facts) → ((h : grammar.ResponseHead) → IsResponseHeadText stored.head h → EntersAs stored h at e)
+        → AreOf (with_capture room stored) (entered e was.index)
+    known_by told None enters_so =
+        known_without basis.all room stored was.index some (known_room basis.stay basis.itself book ready.prepared was.index (u.is.known told))
+        (λ found. basis.keys incoming.taken.uri u.fits.well_formed.target ((enters_so found.head found.parsed).none found.asked found.told))
+    known_by told (Some e) enters_so =
+        let is = enters_so u.has.parsed u.has.whole in
+        known_with basis.gain basis.of_new room stored e was.index some (known_room basis.stay basis.itself book ready.prepared was.index (u.is.known told))
+        (record { head = u.has.parsed; parsed = u.has.whole; asked = is.asked; told = is.told })
+        (tells_new told e is)
+
+    known_after : IsTrue d.tells → AreOf (with_capture room ready.stored) (entered entry was.index)
+    known_after told =
+        subst (λ (s : Stored). AreOf (with_capture room s) (entered entry was.index)) (sym u.ready_is.stored)
+        (known_by told entry (λ h parsed. subst (λ (s : Stored). EntersAs s h at entry) u.ready_is.stored
+        (enters h (subst (λ (s : Stored). IsResponseHeadText s.head h) (sym u.ready_is.stored) parsed))))
+
+    module _ (laws : DiskLaws d) (journal : Journal D) (after : Book) (table : Table) (index : List Facts) (spots : List Spot)
+        (holds : HoldsBook d journal after) (measured : IsMeasured journal after) (table_is : table.kept ≡ whole_from 0 spots)
+        (spots_are : AreSpotsOf after spots) (placed : IsTrue d.tells → ArePlaced (texts d journal) after spots)
+        (others : IsTrue d.tells → cdxj_files (d.reading (disk_of journal)) ≡ cdxj_files (d.reading (disk_of now.journal))) where
+      -- ---- refused by the disk
+
+      module _ (left : (after ≡ book_of now.held) ⊎ (after ≡ with_prepared (book_of now.held) ready.prepared))
+          (taken_back_is : index ≡ without (length (captures (book_of now.held))) (entered entry was.index)) where
+        index_stays : index ≡ was.index
+        index_stays = taken_back_is ∙ back_by number entry was.index numbered_so below
+
+        captures_stay : captures after ≡ captures book
+        captures_stay = ⊎_elim
+            (λ (same : after ≡ book). ap (λ (b : Book). captures b) same)
+            (λ (more : after ≡ room). ap (λ (b : Book). captures b) more ∙ room_captures book ready.prepared)
+            left
+
+        pub refused_archive : IsArchive d (record was { journal = journal; book = after; table = table; index = index; spots = spots })
+        refused_archive =
+            archive_left d (in_volumes was now) u.is journal after table holds measured index spots captures_stay index_stays table_is spots_are placed
+            (λ told. known_left basis.stay basis.itself book after ready.prepared was.index left (u.is.known told))
+
+        pub refused_stores : {T E : Type 0} (fault : E)
+            → Writes {T = T} {E = E} d (disk_of now.journal) (disk_of journal) (book_of now.held) (with_prepared (book_of now.held) ready.prepared)
+            (with_capture (with_prepared (book_of now.held) ready.prepared) ready.stored) after (Err fault)
+            → CountsFaults {T = T} {E = E} (d.faults (disk_of now.journal)) (d.faults (disk_of journal)) (Err fault)
+            → Stores d (in_volumes was now) (record was { journal = journal; book = after; table = table; index = index; spots = spots })
+            incoming.taken (Err stores.DiskFault)
+        refused_stores {T} {E} fault writes counts =
+            let is : Holdings D = record was { journal = journal; book = after; table = table; index = index; spots = spots } in
+            let answer : Result T E = Err fault in
+            let old : D = disk_of now.journal in
+            let quiet = quiet_itself d laws old in
+            record {
+              leaves = record {
+                found = book;
+                led = refl;
+                not_full = u.not_full;
+                left = ⊎_elim
+                    (λ (same : after ≡ book). inl same)
+                    (λ (more : after ≡ room). left_by d was.limits.volume_bytes book incoming.taken ready.prepared (with_capture room ready.stored) after u.ready_is.born takes more)
+                    left;
+                shown = ap numbered index_stays;
+                others = λ i. record {
+                  tells = d.tells;
+                  seen = after;
+                  shown = numbered index;
+                  mine = numbers_from was.found (length (captures_stay i) - was.found);
+                  limits = was.limits;
+                };
+              };
+              reading = λ told. ((λ none. absurd none), others told);
+              faults = (counts.later, counts.rose);
+              opens = record {
+                later = store_later d laws old old (disk_of journal) before (contents_of d.tells is) incoming.taken room (with_capture room ready.stored) answer takes quiet writes;
+                moves = store_moves d laws old old (disk_of journal) before (contents_of d.tells is) incoming.taken room (with_capture room ready.stored) answer takes quiet writes;
+                only = λ ids. tt;
+                refused = λ told ids fault_is.
+                    store_refused d laws old old (disk_of journal) before (contents_of d.tells is) incoming.taken room (with_capture room ready.stored) answer takes quiet writes told ids;
+                quiet = λ none. absurd none;
+                covered = store_covered d laws old old (disk_of journal) before (contents_of d.tells is) incoming.taken room (with_capture room ready.stored) answer takes quiet writes;
+              };
+            }
+
+      -- ---- with the capture
+
+      module _ (revisits : ℕ) (with_it : after ≡ with_capture (with_prepared (book_of now.held) ready.prepared) ready.stored)
+          (index_is : index ≡ entered entry was.index) where
+        stored_is : after ≡ with_capture room stored
+        stored_is = with_it ∙ ap (λ (s : Stored). with_capture room s) u.ready_is.stored
+
+        gains : captures after ≡ captures book ++ stored ∷ []
+        gains = ap (λ (b : Book). captures b) stored_is ∙ room_gains book ready.prepared stored some
+
+        pub stored_archive : IsIndex index → revisits ≡ was.revisits + (if is_some incoming.same then 1 else 0)
+            → IsArchive d (record was { journal = journal; book = after; table = table; index = index; spots = spots; revisits = revisits })
+        stored_archive indexed more =
+            archive_stored d (in_volumes was now) u.is journal after table holds measured stored index spots revisits gains u.not_full
+            (subst (λ (l : List Facts). (l ≡ was.index) ⊎ ((e : Facts) × (e.number ≡ number) × (l ≡ with_entry e was.index))) (sym index_is)
+            (entered_by number entry was.index numbered_so))
+            indexed
+            (more ∙ ap (λ (k : ℕ). was.revisits + k) (revisit_by incoming.taken.cut book incoming.same incoming.taken.wire u.refers))
+            table_is spots_are placed
+            (λ told. subst (λ (b : Book). AreOf b index) (sym with_it)
+            (subst (λ (l : List Facts). AreOf (with_capture room ready.stored) l) (sym index_is) (known_after told)))
+
+        has_stored : (receipt : Receipt) → receipt.number ≡ number → receipt.same_as ≡ incoming.same
+            → HasStored true incoming.taken before
+            (contents_of d.tells (record was { journal = journal; book = after; table = table; index = index; spots = spots; revisits = revisits })) receipt
+        has_stored receipt number_is same_is =
+            let count : length (captures after) ≡ number + 1 =
+            omega (arith, ap (λ (l : List Stored). length l) gains, length-append (captures book) (stored ∷ [])) in
+            let mine = mine_more was.found number (length (captures after)) receipt.number u.is.counted.found count number_is in
+            record {
+              found = book;
+              led = refl;
+              not_full = u.not_full;
+              number = number_is;
+              refers = subst (λ (same : Option ℕ). CanRefer incoming.taken.cut book same) (sym same_is) u.refers;
+              gained = subst (λ (same : Option ℕ). Gains book (as_stored incoming.taken same) after) (sym same_is) (record {
+                room = room;
+                roomy = roomy_by book ready.prepared incoming.taken.date some u.ready_is.born;
+                gained = stored_is;
+              });
+              by_rule = λ told.
+                  by_rule d now.journal book incoming.taken u.payload incoming.same ready.group told u.is.holds u.has (u.finds told) u.ready_is.group
+                  basis.groups u.is.measured.count was.limits.volume_bytes ready.prepared u.ready_is.born u.ready_is.decided receipt after same_is stored_is;
+              shown = subst (λ (k : ℕ). (numbered index ≡ numbered was.index) ⊎ ((e : Facts) × (e.number ≡ k) × (numbered index ≡ numbered was.index ++ e ∷ []))) (sym number_is)
+                  (subst (λ (l : List Facts). (numbered l ≡ numbered was.index) ⊎ ((e : Facts) × (e.number ≡ number) × (numbered l ≡ numbered was.index ++ e ∷ []))) (sym index_is)
+                  (shown_by number entry was.index numbered_so below));
+              others = λ i. record {
+                tells = d.tells;
+                seen = after;
+                shown = numbered index;
+                mine = mine i;
+                limits = was.limits;
+              };
+            }
+
+        pub stored_stores : {T E : Type 0} (value : T)
+            → Writes {T = T} {E = E} d (disk_of now.journal) (disk_of journal) (book_of now.held) (with_prepared (book_of now.held) ready.prepared)
+            (with_capture (with_prepared (book_of now.held) ready.prepared) ready.stored) after (Ok value)
+            → CountsFaults {T = T} {E = E} (d.faults (disk_of now.journal)) (d.faults (disk_of journal)) (Ok value)
+            → (receipt : Receipt) → receipt.number ≡ length (captures (book_of now.held)) → receipt.same_as ≡ incoming.same
+            → Stores d (in_volumes was now) (record was { journal = journal; book = after; table = table; index = index; spots = spots; revisits = revisits })
+            incoming.taken (Ok receipt)
+        stored_stores {T} {E} value writes counts receipt number_is same_is =
+            let is : Holdings D = record was { journal = journal; book = after; table = table; index = index; spots = spots; revisits = revisits } in
+            let answer : Result T E = Ok value in
+            let old : D = disk_of now.journal in
+            let quiet = quiet_itself d laws old in
+            record {
+              leaves = has_stored receipt number_is same_is;
+              reading = λ told. ((λ none. absurd none), others told);
+              faults = counts.steady;
+              opens = record {
+                later = store_later d laws old old (disk_of journal) before (contents_of d.tells is) incoming.taken room (with_capture room ready.stored) answer takes quiet writes;
+                moves = store_moves d laws old old (disk_of journal) before (contents_of d.tells is) incoming.taken room (with_capture room ready.stored) answer takes quiet writes;
+                only = λ ids. subst (λ (b : Book). IsState (moment_of d) (opens d) (disk_of journal) b None) (sym with_it) (writes.only ids);
+                refused = λ told ids fault. absurd (false≢true fault);
+                quiet = λ none. absurd none;
+                covered = store_covered d laws old old (disk_of journal) before (contents_of d.tells is) incoming.taken room (with_capture room ready.stored) answer takes quiet writes;
+              };
+            }

@@ -1,0 +1,87 @@
+-- An archive after a call that only reads its disk.
+use Rattle.std.proofs.Common.{◌≡◌, ℕ, ◌<◌, ◌≤◌, IsTrue, List, Result, Ok, Err, sym, ap, subst, ◌∙◌, arith}
+use Rattle.std.specs.Prelude.{count_by, length}
+use Rattle.capture.specs.Captures.{captures}
+use Rattle.capture.specs.declared.book.Book.{Book}
+use Rattle.capture.specs.declared.captured.Brought.{Brought}
+use Rattle.cdxj_index.specs.OfBook.{AreOf, IsEntryOf}
+use Rattle.disk_model.specs.Image.{Image}
+use Rattle.disk_model.specs.declared.disk.Disk.{Ghosts}
+use Rattle.warc_journal.specs.Extents.{texts_in, warc_files}
+use Rattle.warc_journal.specs.Journals.{disk_of, extent_of, texts}
+use Rattle.warc_journal.specs.declared.extent.Extent.{Extent}
+use Rattle.warc_journal.specs.declared.journal.Journal.{Journal}
+use Rattle.capture.specs.declared.captured.Stored.{Stored}
+use Rattle.archive_shelf.specs.Answers.{AgreesAt, Brings, ShowsNone}
+use Rattle.archive_shelf.specs.Storing.{is_revisit}
+use Rattle.archive_shelf.specs.declared.fault.BringFault.{BringFault}
+use Rattle.archive_shelf.specs.declared.fault.BringFault.TheVariants as brings
+use Rattle.archive_core.specs.Bringing.{BringsFrom, OnlyReads}
+use Rattle.archive_core.specs.Held.{book_of}
+use Rattle.archive_core.specs.Holdings.{Holdings, IsArchive, contents_of}
+use Rattle.archive_core.specs.Looking.{OnlyLooks}
+use Rattle.archive_core.specs.Spots.{ArePlaced, AreSpotsOf}
+use Rattle.archive_core.specs.Volumes.{HoldsBook, IsMeasured, IsQuiet}
+use Rattle.archive_core.specs.declared.volumes.Volumes.{Volumes}
+use Rattle.archive_core.proofs.ShownLaws.{shown_from}
+
+module _ {D : Type 0} (d : Ghosts D) (held : Holdings D) (old new : Volumes D)
+    (journal_is : held.journal ≡ old.journal) (book_is : held.book ≡ book_of old.held) (reads : OnlyReads d old new) where
+  pub same_book : book_of new.held ≡ held.book
+  same_book = ap book_of reads.held ∙ sym book_is
+
+  same_texts : IsTrue d.tells → texts d new.journal ≡ texts d held.journal
+  same_texts told =
+      ap (λ (extent : Extent). texts_in extent (warc_files (d.reading (disk_of new.journal)))) reads.extent
+      ∙ ap (λ (image : Image). texts_in (extent_of old.journal) (warc_files image)) (reads.reading told)
+      ∙ sym (ap (λ (j : Journal D). texts d j) journal_is)
+
+  -- it stays an archive
+  pub reads_archive : IsArchive d held → IsArchive d (record held { journal = new.journal; book = book_of new.held })
+  reads_archive is = record {
+    holds = reads.holds (subst (λ (b : Book). HoldsBook d old.journal b) book_is (subst (λ (j : Journal D). HoldsBook d j held.book) journal_is is.holds));
+    measured = reads.measured (subst (λ (b : Book). IsMeasured old.journal b) book_is (subst (λ (j : Journal D). IsMeasured j held.book) journal_is is.measured));
+    counted = record {
+      few = omega (arith, is.counted.few, ap (λ (b : Book). length (captures b)) same_book);
+      revisits = is.counted.revisits ∙ sym (ap (λ (b : Book). count_by (λ (stored : Stored). is_revisit stored.kept) (captures b)) same_book);
+      found = omega (arith, is.counted.found, ap (λ (b : Book). length (captures b)) same_book);
+      below = λ entry has. omega (arith, is.counted.below entry has, ap (λ (b : Book). length (captures b)) same_book);
+      limits = is.counted.limits;
+    };
+    spots = subst (λ (b : Book). AreSpotsOf b held.spots) (sym same_book) is.spots;
+    table = is.table;
+    indexed = is.indexed;
+    placed = λ told. subst (λ (b : Book). ArePlaced (texts d new.journal) b held.spots) (sym same_book)
+        (subst (λ (all : List (List ℕ)). ArePlaced all held.book held.spots) (sym (same_texts told)) (is.placed told));
+    known = λ told. subst (λ (b : Book). AreOf b held.index) (sym same_book) (is.known told);
+  }
+
+  pub looks : OnlyLooks d held (record held { journal = new.journal; book = book_of new.held })
+  looks = record {
+    others = ap (λ (b : Book). record held { journal = new.journal; book = b }) same_book;
+    reading = λ told. reads.reading told ∙ sym (ap (λ (j : Journal D). d.reading (disk_of j)) journal_is);
+    quiet = subst (λ (j : Journal D). IsQuiet d (disk_of j) (disk_of new.journal)) (sym journal_is) reads.quiet;
+  }
+
+-- an entry that is shown under a number is that of the book's capture
+pub agrees : {D : Type 0} (d : Ghosts D) (held : Holdings D) (number : ℕ) → IsArchive d held → IsTrue d.tells
+    → AgreesAt (contents_of d.tells held) number
+agrees d held number is told entry has same =
+    subst (λ (n : ℕ). IsEntryOf held.book n entry) same ((is.known told).each entry (shown_from held.index entry has))
+
+-- and none is shown under one that no capture has
+pub none_shown : {D : Type 0} (d : Ghosts D) (held : Holdings D) (number : ℕ) → IsArchive d held → length (captures held.book) ≤ number
+    → ShowsNone (contents_of d.tells held) number
+none_shown d held number is above entry has same =
+    omega (arith, is.counted.below entry (shown_from held.index entry has), above, same)
+
+-- what bringing a capture that is there answers
+pub brings_by : {D : Type 0} (d : Ghosts D) (held : Holdings D) (number : ℕ) (result : Result Brought BringFault) → IsArchive d held
+    → number < length (captures held.book) → BringsFrom d.tells held.book number result
+    → Brings (contents_of d.tells held) number result
+brings_by d held number (Ok brought) is below answer =
+    (below, answer.0, answer.1, λ told. (answer.2 told, agrees d held number is told))
+brings_by d held number (Err (brings.NoSuch count)) is below answer = absurd answer
+brings_by d held number (Err brings.DiskFault) is below answer = below
+brings_by d held number (Err (brings.Damaged at kept found)) is below answer = (below, answer.0, answer.1, answer.2)
+brings_by d held number (Err brings.Memory) is below answer = tt

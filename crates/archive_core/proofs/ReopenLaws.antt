@@ -1,0 +1,261 @@
+-- What was opened makes an archive, and what may be opened of it then.
+use Rattle.std.proofs.Common.{◌≡◌, ℕ, suc, ◌+◌, ◌-◌, ◌<◌, ◌≤◌, Bool, IsTrue, List, [], ◌∷◌, length, Option, Some, None, Result, Ok, Err, refl, sym, ap, subst, ◌∙◌, inl, cond, ⊎_elim, arith}
+use Rattle.std.specs.Prelude.{Contains, IfErr, IfOk, count_by, slice_get}
+use Rattle.std.specs.List.Sorted.{IsPermutation}
+use Rattle.std.proofs.lemmas.List.Sorted.{Contains-permutation, IsPermutation-sym}
+use Rattle.std.proofs.lemmas.Bool.{cases_lt}
+use Rattle.std.proofs.lemmas.List.Sums.{sum_by-cons}
+use Rattle.std.proofs.lemmas.Option.{same_Some, slice_get_within}
+use Rattle.capture.specs.Captures.{captures}
+use Rattle.capture.specs.declared.book.Book.{Book}
+use Rattle.capture.specs.declared.captured.Kept.{Kept}
+use Rattle.capture.specs.declared.captured.Kept.TheVariants as keeps
+use Rattle.capture.specs.declared.captured.Stored.{Stored}
+use Rattle.capture.specs.declared.limits.Limits.{Limits}
+use Rattle.cdxj_index.specs.Facts.{Facts}
+use Rattle.cdxj_index.specs.OfBook.{AreEntries, AreOf}
+use Rattle.cdxj_index.specs.Queries.{IsIndex}
+use Rattle.disk_model.specs.Image.{Image}
+use Rattle.disk_model.specs.declared.disk.Disk.{Ghosts}
+use Rattle.revisit_table.specs.Table.{Table}
+use Rattle.warc_journal.specs.Extents.{warc_files}
+use Rattle.warc_journal.specs.Journals.{Rests, disk_of, texts}
+use Rattle.warc_journal.specs.declared.journal.Journal.{Journal}
+use Rattle.warc_text.proofs.BookLaws.{files_stand_for_no_volume, files_stand_for_one_book}
+use Rattle.warc_text.specs.Sound.{IsSound}
+use Rattle.warc_text.specs.StandsFor.{IdsDifferIn, StandsFor}
+use Rattle.archive_shelf.specs.Openings.{ImageStandsFor}
+use Rattle.archive_shelf.specs.Storing.{is_revisit}
+use Rattle.archive_shelf.specs.declared.fault.ReopenFault.{ReopenFault}
+use Rattle.archive_shelf.specs.declared.fault.ReopenFault.TheVariants as faults
+use Rattle.archive_core.proofs.ArchiveLaws.{entries_shown}
+use Rattle.archive_core.proofs.ChangeLaws.{DiskLaws, moment_told, now_image, one_of, quiet_by, stands}
+use Rattle.archive_core.specs.Gathering.{IsInStepWith, IsOpened, IsUsable}
+use Rattle.archive_core.specs.Held.{book_of}
+use Rattle.archive_core.specs.Holdings.{AreLimits, Holdings, IsArchive}
+use Rattle.archive_core.specs.Opening.{CountsFault, HoldsOther, IsCause, IsDamageIn, IsIn, IsOtherIn}
+use Rattle.archive_core.specs.Reopening.{IsAskedFor, IsMadeOf, IsNotOpened, IsOutside, IsReopened}
+use Rattle.archive_core.specs.Shown.{numbered, numbers_from}
+use Rattle.archive_core.specs.Spots.{ArePlaced, AreSpotsOf, form_of, is_same_form}
+use Rattle.archive_core.specs.Volumes.{HoldsBook, IsMeasured}
+use Rattle.archive_core.specs.declared.opening.Opened.{Opened}
+use Rattle.archive_core.specs.declared.spot.Spot.{Spot}
+
+-- ---- how many refer to an earlier one
+
+abbrev pub same_spot : Spot → Bool
+same_spot spot = is_same_form spot.form
+
+abbrev refers : Stored → Bool
+refers stored = is_revisit stored.kept
+
+same_kept : (kept : Kept) → is_same_form (form_of kept) ≡ is_revisit kept
+same_kept (keeps.Wire wire) = refl
+same_kept (keeps.Same first) = refl
+same_kept (keeps.Cut wire) = refl
+
+-- each spot is of the capture at its place
+abbrev pub AreForms : List Spot → List Stored → Type 0
+AreForms spots all = (k : ℕ) (spot : Spot) → slice_get spots k ≡ Some spot
+    → (stored : Stored) × (slice_get all k ≡ Some stored) × (spot.form ≡ form_of stored.kept)
+
+counted : (spots : List Spot) (all : List Stored) → length spots ≡ length all → AreForms spots all
+    → count_by same_spot spots ≡ count_by refers all
+counted [] [] same are = refl
+counted [] (stored ∷ others) same are = absurd (omega (arith, same))
+counted (spot ∷ spots) [] same are = absurd (omega (arith, same))
+counted (spot ∷ spots) (stored ∷ others) same are =
+    let at = are 0 spot refl in
+    let is : at.0 ≡ stored = sym (same_Some stored at.0 at.1) in
+    let first : same_spot spot ≡ refers stored = ap is_same_form at.2 ∙ same_kept at.0.kept ∙ ap (λ (s : Stored). is_revisit s.kept) is in
+    let rest = counted spots others (omega (arith, same)) (λ k other placed. are (suc k) other placed) in
+    sum_by-cons (λ (s : Spot). cond (same_spot s) 1 0) spot spots
+    ∙ ap (λ (b : Bool). cond b 1 0 + count_by same_spot spots) first
+    ∙ ap (λ (n : ℕ). cond (refers stored) 1 0 + n) rest
+    ∙ sym (sum_by-cons (λ (s : Stored). cond (refers s) 1 0) stored others)
+
+revisits_are : (book : Book) (spots : List Spot) → AreSpotsOf book spots → count_by same_spot spots ≡ count_by refers (captures book)
+revisits_are book spots are =
+    counted spots (captures book) are.count (λ k spot at. let is = are.each k spot at in (is.stored, is.placed, is.form))
+
+-- ---- the index
+
+-- entries in another order are those of the same book
+of_sorted : (book : Book) (entries index : List Facts) → AreOf book entries → IsPermutation entries index → AreOf book index
+of_sorted book entries index are same =
+    let back : (entry : Facts) → Contains index entry → Contains entries entry =
+    λ entry has. Contains-permutation index entries entry (IsPermutation-sym entries index same) has in
+    record {
+      each = λ entry has. are.each entry (back entry has);
+      found = λ entry stored has. are.found entry stored (back entry has);
+      all = λ number stored placed by_date.
+          let one = are.all number stored placed by_date in
+          (one.0, Contains-permutation entries index one.0 same one.1, one.2);
+    }
+
+-- ---- the archive
+
+-- what is kept of a book
+abbrev pub AreParts : {D : Type 0} → Ghosts D → Journal D → Book → List Spot → Table → List ℕ → List Facts → Type 0
+AreParts d journal book spots table lengths entries =
+    IsInStepWith book spots table lengths × AreSpotsOf book spots × AreEntries book entries × (IsTrue d.tells → ArePlaced (texts d journal) book spots)
+
+-- the parts of what was opened, as they are taken out
+pub parts_of : {D : Type 0} (d : Ghosts D) (opened : Opened D) → IsUsable d opened → (journal : Journal D) (book : Book) (spots : List Spot) (table : Table) (entries : List Facts)
+    → journal ≡ opened.journal → book ≡ book_of opened.gathered.held → spots ≡ opened.gathered.spots.items → table ≡ opened.gathered.table
+    → entries ≡ opened.gathered.entries.items → AreParts d journal book spots table opened.gathered.lengths.items entries
+parts_of d opened is journal book spots table entries ej eb es et ee =
+    let g = opened.gathered in
+    let ls = g.lengths.items in
+    subst (λ (x : Journal _). AreParts d x book spots table ls entries) (sym ej)
+    (subst (λ (x : Book). AreParts d opened.journal x spots table ls entries) (sym eb)
+    (subst (λ (x : List Spot). AreParts d opened.journal (book_of g.held) x table ls entries) (sym es)
+    (subst (λ (x : Table). AreParts d opened.journal (book_of g.held) g.spots.items x ls entries) (sym et)
+    (subst (λ (x : List Facts). AreParts d opened.journal (book_of g.held) g.spots.items g.table ls x) (sym ee)
+    (is.steady, is.spots, is.entries, is.placed)))))
+
+module _ {D : Type 0} (d : Ghosts D) (journal : Journal D) (book : Book) (spots : List Spot) (table : Table) (lengths : List ℕ)
+    (entries index : List Facts) (parts : AreParts d journal book spots table lengths entries) (same : IsPermutation entries index) (is : IsIndex index) where
+  known : AreOf book index
+  known = of_sorted book entries index parts.2.of_book same
+
+  pub shown_sorted : AreEntries book (numbered index)
+  shown_sorted = entries_shown book index is known
+
+  pub made_archive : (limits : Limits) (found revisits : ℕ) → HoldsBook d journal book → IsMeasured journal book
+      → AreLimits limits → found ≡ length spots → revisits ≡ count_by same_spot spots
+      → IsArchive d (record {
+        journal = journal;
+        book = book;
+        index = index;
+        table = table;
+        spots = spots;
+        limits = limits;
+        found = found;
+        revisits = revisits;
+      })
+  made_archive limits found revisits holds measured are_limits found_is revisits_is = record {
+    holds = holds;
+    measured = measured;
+    counted = record {
+      few = omega (arith, parts.0.few, parts.0.count);
+      revisits = revisits_is ∙ revisits_are book spots parts.1;
+      found = omega (arith, found_is, parts.0.count);
+      below = λ entry has. slice_get_within (captures book) entry.number (known.each entry has).group.stored (known.each entry has).group.placed;
+      limits = are_limits;
+    };
+    spots = parts.1;
+    table = parts.0.table_is;
+    indexed = is;
+    placed = parts.3;
+    known = λ told. known;
+  }
+
+-- ---- what isn't refused
+
+-- what files stand for isn't in another namespace
+not_other : (files : List (List ℕ)) (asked : Option (List ℕ)) (other : List ℕ) → HoldsOther files asked other → (book : Book) → IsSound book → IdsDifferIn book
+    → StandsFor files book → IsAskedFor asked book → ⊥
+not_other files None other is book sound ids for its = is.asked_for refl
+not_other files (Some namespace) other is book sound ids for its = ⊎_elim
+    (λ (some : 0 < length book.volumes).
+    let same : book ≡ is.book = files_stand_for_one_book files book is.book sound is.sound ids for is.for some in
+    is.differs namespace refl (sym is.namespace ∙ sym (ap (λ (b : Book). b.namespace) same) ∙ its namespace refl))
+    (λ (none : length book.volumes ≤ 0).
+    let empty : length is.book.volumes ≡ 0 = files_stand_for_no_volume files book is.book for is.for (omega (arith, none)) in
+    absurd (omega (arith, empty, is.some)))
+    (cases_lt 0 (length book.volumes))
+
+outside : (files : List (List ℕ)) (asked : Option (List ℕ)) (fault : ReopenFault) → IsDamageIn files fault → IsOtherIn files asked fault
+    → (book : Book) → IsSound book → IdsDifferIn book → StandsFor files book → IsAskedFor asked book → IsOutside fault
+outside files asked (faults.Damaged kind file place) damage other book sound ids for its = damage.1 book sound for
+outside files asked (faults.OtherNamespace ns) damage other book sound ids for its = not_other files asked ns other book sound ids for its
+outside files asked faults.DiskFault damage other book sound ids for its = tt
+outside files asked faults.Memory damage other book sound ids for its = tt
+
+-- ---- what may be opened of it
+
+none_mine : (n m : ℕ) → n ≡ m → numbers_from n (m - n) ≡ []
+none_mine n m same = let none : m - n ≡ 0 = omega (arith, same) in ap (numbers_from n) none
+
+module _ {D : Type 0} (d : Ghosts D) (laws : DiskLaws d) (disk : D) (asked : Option (List ℕ)) (limits : Limits) where
+  -- each image that is left stands for the book that was opened
+  only_by : (opened : Opened D) → IsUsable d opened → IsTrue d.tells → (image : Image) → d.images (disk_of opened.journal) image
+      → ImageStandsFor image (book_of opened.gathered.held)
+  only_by opened is told image left =
+      stands (book_of opened.gathered.held) (texts d opened.journal) image (is.texts_are told) is.sound (is.left told image left)
+
+  module _ (opened : Opened D) (is : IsOpened d disk asked opened) where
+    module _ (held : Holdings D) (made : IsMadeOf opened limits held) where
+      rests_to : IsTrue d.tells → Rests d disk (disk_of held.journal)
+      rests_to told = subst (λ (j : Journal D). Rests d disk (disk_of j)) (sym made.journal_is) (is.rests told)
+
+      for_book : IsTrue d.tells → (image : Image) → d.images (disk_of held.journal) image → ImageStandsFor image held.book
+      for_book told image left = subst (ImageStandsFor image) (sym made.book_is)
+          (only_by opened is.usable told image (subst (λ (j : Journal D). d.images (disk_of j) image) made.journal_is left))
+
+      reopened_as : IsReopened d disk asked limits held
+      reopened_as = record {
+        sound = subst IsSound (sym made.book_is) is.usable.sound;
+        stands = λ told. subst (StandsFor (warc_files (d.reading disk))) (sym made.book_is) (is.stands told);
+        one = λ told book sound ids for. one_of (d.reading disk) held.book book
+            (record { for = subst (StandsFor (warc_files (d.reading disk))) (sym made.book_is) (is.stands told); sound = subst IsSound (sym made.book_is) is.usable.sound })
+            (record { for = for; sound = sound }) ids;
+        in_namespace = subst (IsIn asked) (sym made.book_is) is.in_namespace;
+        shown = made.shown;
+        mine = none_mine held.found (length (captures held.book)) made.found;
+        limits_are = made.limits_are;
+        rests = rests_to;
+        quiet = quiet_by d laws disk (disk_of held.journal) rests_to;
+        faults = ap (λ (j : Journal D). d.faults (disk_of j)) made.journal_is ∙ is.faults;
+        only = for_book;
+        covered = λ told image left. (
+          held.book,
+          for_book told image (laws.now_only (disk_of held.journal) image
+              (subst (λ (t : ℕ). d.images_since (disk_of held.journal) t image) (moment_told d (disk_of held.journal) told) left)),
+        );
+        state = λ ids x o. inl (one_of o.image x held.book o.stands
+            (for_book o.told o.image (now_image d laws (disk_of held.journal) x o)) ids);
+      }
+
+    -- without memory the disk comes back as it was read
+    refused_as : (refused : ReopenFault × D) → refused ≡ (faults.Memory, disk_of opened.journal) → IsNotOpened d disk asked refused
+    refused_as refused same = subst (IsNotOpened d disk asked) (sym same) (record {
+      cause = tt;
+      damage = λ told. tt;
+      other = λ told. tt;
+      complete = λ told book sound ids for its. tt;
+      rests = is.rests;
+      quiet = quiet_by d laws disk (disk_of opened.journal) is.rests;
+      faults = is.faults;
+    })
+
+    module _ (result : Result (Holdings D) (ReopenFault × D)) where
+      pub reopened : IfOk result (IsMadeOf opened limits) → IfOk result (IsReopened d disk asked limits)
+      reopened made = by result made
+        where
+          by : (r : Result (Holdings D) (ReopenFault × D)) → IfOk r (IsMadeOf opened limits) → IfOk r (IsReopened d disk asked limits)
+          by (Ok held) made = reopened_as held made
+          by (Err refused) made = tt
+
+      pub no_memory : IfErr result (λ refused. refused ≡ (faults.Memory, disk_of opened.journal)) → IfErr result (IsNotOpened d disk asked)
+      no_memory same = by result same
+        where
+          by : (r : Result (Holdings D) (ReopenFault × D)) → IfErr r (λ refused. refused ≡ (faults.Memory, disk_of opened.journal))
+              → IfErr r (IsNotOpened d disk asked)
+          by (Ok held) same = tt
+          by (Err refused) same = refused_as refused same
+
+  -- what reading the volumes refuses
+  pub not_opened : (refused : ReopenFault × D) → IsCause asked refused.0 → (IsTrue d.tells → IsDamageIn (warc_files (d.reading disk)) refused.0)
+      → (IsTrue d.tells → IsOtherIn (warc_files (d.reading disk)) asked refused.0) → (IsTrue d.tells → Rests d disk refused.1)
+      → CountsFault (d.faults disk) (d.faults refused.1) refused.0 → IsNotOpened d disk asked refused
+  not_opened refused cause damage other rests count = record {
+    cause = cause;
+    damage = damage;
+    other = other;
+    complete = λ told book sound ids for its. outside (warc_files (d.reading disk)) asked refused.0 (damage told) (other told) book sound ids for its;
+    rests = rests;
+    quiet = quiet_by d laws disk refused.1 rests;
+    faults = count;
+  }

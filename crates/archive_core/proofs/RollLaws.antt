@@ -1,0 +1,195 @@
+-- An archive that gained a volume, and one whose captures stay.
+use Rattle.std.proofs.Common.{◌≡◌, ℕ, zero, suc, ◌+◌, ◌<◌, Bool, true, false, not, nat_eq, if◌then◌else◌, IsTrue, List, [], ◌∷◌, ◌++◌, length, slice_get, Option, Some, None, Result, Ok, Err, refl, sym, ap, subst, ◌∙◌, append-nil, length-append, arith}
+use Rattle.std.specs.Prelude.{IsErrAnd, count_by, slice_index_or, ⊤}
+use Rattle.std.proofs.lemmas.List.{get_or_append_left}
+use Rattle.capture.specs.Captures.{captures}
+use Rattle.capture.specs.Faults.{CountsFaults}
+use Rattle.capture.specs.Growth.{Grows}
+use Rattle.capture.specs.declared.book.Book.{Book}
+use Rattle.capture.specs.declared.book.Volume.{Volume}
+use Rattle.capture.specs.declared.captured.Stored.{Stored}
+use Rattle.disk_model.specs.declared.disk.Disk.{Ghosts}
+use Rattle.warc_journal.specs.Extents.{cdxj_files}
+use Rattle.warc_journal.specs.Journals.{disk_of, texts}
+use Rattle.warc_journal.specs.declared.journal.Journal.{Journal}
+use Rattle.archive_shelf.specs.Entering.{EntriesStayAll}
+use Rattle.archive_shelf.proofs.StoringLaws.{captures_stay, volume_grows}
+use Rattle.archive_shelf.specs.Storing.{is_revisit, new_volume, rolled_in, with_volume}
+use Rattle.archive_shelf.specs.declared.fault.RollFault.{RollFault}
+use Rattle.archive_shelf.specs.declared.fault.RollFault.TheVariants as rolls
+use Rattle.archive_core.specs.Held.{is_filled}
+use Rattle.archive_core.specs.Holdings.{Holdings, IsArchive}
+use Rattle.archive_core.specs.Rolling.{MayBeRefused, Rolls, WritesNoVolume}
+use Rattle.archive_core.specs.Volumes.{HoldsBook, IsMeasured, Makes}
+use Rattle.archive_core.proofs.SpotLaws.{GoOn, placed_stay, spots_stay}
+
+-- ---- the volumes
+
+pub rolled_none : (volumes : List Volume) (now : ℕ) → is_filled volumes ≡ false → rolled_in volumes now ≡ volumes
+rolled_none [] now empty = refl
+rolled_none (last ∷ []) now empty = by (nat_eq (length last.captures) 0) empty
+  where
+    by : (b : Bool) → not b ≡ false → (if b then last ∷ [] else last ∷ new_volume now ∷ []) ≡ last ∷ []
+    by true e = refl
+    by false e = cc
+rolled_none (first ∷ next ∷ others) now empty = ap (λ (l : List Volume). first ∷ l) (rolled_none (next ∷ others) now empty)
+
+pub rolled_one : (volumes : List Volume) (now : ℕ) → is_filled volumes ≡ true → rolled_in volumes now ≡ volumes ++ new_volume now ∷ []
+rolled_one [] now filled = cc
+rolled_one (last ∷ []) now filled = by (nat_eq (length last.captures) 0) filled
+  where
+    by : (b : Bool) → not b ≡ true → (if b then last ∷ [] else last ∷ new_volume now ∷ []) ≡ last ∷ new_volume now ∷ []
+    by true e = cc
+    by false e = refl
+rolled_one (first ∷ next ∷ others) now filled = ap (λ (l : List Volume). first ∷ l) (rolled_one (next ∷ others) now filled)
+
+-- where the last volume holds a capture, and each before it, all do
+pub all_filled : (volumes : List Volume) → is_filled volumes ≡ true
+    → ((k : ℕ) (volume : Volume) → slice_get volumes k ≡ Some volume → k + 1 < length volumes → 0 < length volume.captures)
+    → (k : ℕ) (volume : Volume) → slice_get volumes k ≡ Some volume → 0 < length volume.captures
+all_filled [] filled before k volume at = cc
+all_filled (last ∷ []) filled before zero volume at = by (length last.captures) filled (ap size at)
+  where
+    size : Option Volume → ℕ
+    size (Some v) = length v.captures
+    size None = 0
+
+    by : (n : ℕ) → not (nat_eq n 0) ≡ true → n ≡ length volume.captures → 0 < length volume.captures
+    by zero e is = cc
+    by (suc n) e is = omega (arith, is)
+all_filled (last ∷ []) filled before (suc k) volume at = cc
+all_filled (first ∷ next ∷ others) filled before zero volume at = before zero volume at (omega arith)
+all_filled (first ∷ next ∷ others) filled before (suc k) volume at =
+    all_filled (next ∷ others) filled (λ j v there less. before (suc j) v there (omega (arith, less))) k volume at
+
+-- ---- the archive
+
+pub texts_go_on : (was : List (List ℕ)) (info : List ℕ) → GoOn was (was ++ info ∷ [])
+texts_go_on was info = record {
+  count = omega (arith, length-append was (info ∷ []));
+  rest = λ k. [];
+  each = λ k less. get_or_append_left was (info ∷ []) [] k less ∙ sym (append-nil (slice_index_or was k []));
+}
+
+pub texts_stay : (was : List (List ℕ)) → GoOn was was
+texts_stay was = record { count = omega arith; rest = λ k. []; each = λ k less. sym (append-nil (slice_index_or was k [])) }
+
+-- an archive stays one where its volumes go on and no capture is gained
+pub stays_archive : {D : Type 0} (d : Ghosts D) → EntriesStayAll → (was : Holdings D) (journal : Journal D) (book : Book)
+    → IsArchive d was → HoldsBook d journal book → IsMeasured journal book → captures book ≡ captures was.book → Grows was.book book
+    → (IsTrue d.tells → GoOn (texts d was.journal) (texts d journal))
+    → IsArchive d (record was { journal = journal; book = book })
+stays_archive d entries_stay was journal book is holds measured same grows on = record {
+  holds = holds;
+  measured = measured;
+  counted = record {
+    few = omega (arith, is.counted.few, ap length same);
+    revisits = is.counted.revisits ∙ sym (ap (λ (all : List Stored). count_by (λ (stored : Stored). is_revisit stored.kept) all) same);
+    found = omega (arith, is.counted.found, ap length same);
+    below = λ entry has. omega (arith, is.counted.below entry has, ap length same);
+    limits = is.counted.limits;
+  };
+  spots = spots_stay was.book book same was.spots is.spots;
+  table = is.table;
+  indexed = is.indexed;
+  placed = λ told. placed_stay (texts d was.journal) (texts d journal) (on told) was.book book []
+      (same ∙ sym (append-nil (captures was.book))) was.spots (is.placed told);
+  known = λ told. entries_stay was.book book was.index grows same (is.known told);
+}
+
+-- ---- a roll
+
+unwritten_full : {X : Type 0} (filled : Bool) → filled ≡ true → WritesNoVolume {T = ⊤} filled (Ok tt) → X
+unwritten_full true e none = absurd none
+unwritten_full false e none = cc
+
+unwritten_fault : {X : Type 0} (filled : Bool) → filled ≡ true → WritesNoVolume {T = ⊤} filled (Err rolls.DiskFault) → X
+unwritten_fault true e none = absurd none
+unwritten_fault false e none = cc
+
+may_be_refused : {T : Type 0} (result : Result T RollFault) (filled : Bool) → filled ≡ true → MayBeRefused filled result
+may_be_refused result true e = tt
+may_be_refused result false e = cc
+
+not_refused : (filled : Bool) → MayBeRefused {T = ⊤} filled (Ok tt)
+not_refused true = tt
+not_refused false = refl
+
+not_filled : {X : Type 0} (filled : Bool) → filled ≡ false → IsTrue filled → X
+not_filled true e is = cc
+not_filled false e is = cc
+
+module _ {D : Type 0} (d : Ghosts D) (was : Holdings D) (now : ℕ) where
+  -- nothing is begun
+  pub rolls_none : is_filled was.book.volumes ≡ false → Rolls {T = ⊤} d was was now (Ok tt)
+  rolls_none empty = record {
+    book = sym (ap (λ (volumes : List Volume). record was.book { volumes = volumes }) (rolled_none was.book.volumes now empty));
+    others = refl;
+    faults = refl;
+    makes = λ filled. not_filled (is_filled was.book.volumes) empty filled;
+    checkpoints = λ told. refl;
+    unwritten = λ none. refl;
+    refused = not_refused (is_filled was.book.volumes);
+  }
+
+  module _ (journal : Journal D) (book : Book) (filled : is_filled was.book.volumes ≡ true)
+      (others : IsTrue d.tells → cdxj_files (d.reading (disk_of journal)) ≡ cdxj_files (d.reading (disk_of was.journal))) where
+    -- a volume was begun
+    pub rolls_ok : {T E : Type 0} (value : T) → book ≡ with_volume was.book now
+        → Makes {T = T} {E = E} d (disk_of was.journal) (disk_of journal) was.book (with_volume was.book now) (Ok value)
+        → CountsFaults {T = T} {E = E} (d.faults (disk_of was.journal)) (d.faults (disk_of journal)) (Ok value)
+        → Rolls {T = ⊤} d was (record was { journal = journal; book = book }) now (Ok tt)
+    rolls_ok value with_it made counts = record {
+      book = with_it ∙ sym (ap (λ (volumes : List Volume). record was.book { volumes = volumes }) (rolled_one was.book.volumes now filled));
+      others = refl;
+      faults = counts.steady;
+      makes = λ full. record { later = made.later; moves = made.moves; only = made.only; refused = made.refused; covered = made.covered };
+      checkpoints = others;
+      unwritten = unwritten_full (is_filled was.book.volumes) filled;
+      refused = not_refused (is_filled was.book.volumes);
+    }
+
+    -- the disk refused it
+    pub rolls_err : {T E : Type 0} (fault : E) → book ≡ was.book
+        → Makes {T = T} {E = E} d (disk_of was.journal) (disk_of journal) was.book (with_volume was.book now) (Err fault)
+        → CountsFaults {T = T} {E = E} (d.faults (disk_of was.journal)) (d.faults (disk_of journal)) (Err fault)
+        → Rolls {T = ⊤} d was (record was { journal = journal; book = book }) now (Err rolls.DiskFault)
+    rolls_err fault same made counts = record {
+      book = same;
+      others = refl;
+      faults = (counts.later, counts.rose);
+      makes = λ full. record { later = made.later; moves = made.moves; only = made.only; refused = made.refused; covered = made.covered };
+      checkpoints = others;
+      unwritten = unwritten_fault (is_filled was.book.volumes) filled;
+      refused = may_be_refused (Err rolls.DiskFault) (is_filled was.book.volumes) filled;
+    }
+
+    pub begun_archive : EntriesStayAll → IsArchive d was → HoldsBook d journal book → IsMeasured journal book
+        → book ≡ with_volume was.book now → (info : List ℕ) → (IsTrue d.tells → texts d journal ≡ texts d was.journal ++ info ∷ [])
+        → IsArchive d (record was { journal = journal; book = book })
+    begun_archive entries_stay is holds measured with_it info goes_on =
+        stays_archive d entries_stay was journal book is holds measured
+        (ap (λ (b : Book). captures b) with_it ∙ captures_stay was.book.volumes now)
+        (subst (λ (b : Book). Grows was.book b) (sym with_it) (volume_grows was.book now))
+        (λ told. subst (λ (after : List (List ℕ)). GoOn (texts d was.journal) after) (sym (goes_on told)) (texts_go_on (texts d was.journal) info))
+
+    pub refused_archive : EntriesStayAll → Grows was.book was.book → IsArchive d was → HoldsBook d journal book → IsMeasured journal book
+        → book ≡ was.book → (IsTrue d.tells → texts d journal ≡ texts d was.journal)
+        → IsArchive d (record was { journal = journal; book = book })
+    refused_archive entries_stay itself is holds measured same stays =
+        stays_archive d entries_stay was journal book is holds measured
+        (ap (λ (b : Book). captures b) same)
+        (subst (λ (b : Book). Grows was.book b) (sym same) itself)
+        (λ told. subst (λ (after : List (List ℕ)). GoOn (texts d was.journal) after) (sym (stays told)) (texts_stay (texts d was.journal)))
+
+-- what is said of a journal and a book is said of the same ones
+pub of_the_same : {D : Type 0} (P : Journal D → Book → ℕ → Type 0) (j k : Journal D) (a b : Book) (m n : ℕ) → j ≡ k → a ≡ b → m ≡ n
+    → P j a m → P k b n
+of_the_same P j k a b m n same_journal same_book same_number p =
+    subst (λ (x : Journal _). P x b n) same_journal (subst (λ (x : Book). P j x n) same_book (subst (λ (x : ℕ). P j a x) same_number p))
+
+-- what a `?` hands out is the disk's fault
+pub at_fault : (P : Result ⊤ RollFault → Type 0) (result : Result ⊤ RollFault) → IsErrAnd result (λ fault. fault ≡ rolls.DiskFault)
+    → P (Err rolls.DiskFault) → P result
+at_fault P (Ok done) is p = absurd is
+at_fault P (Err fault) is p = subst (λ (f : RollFault). P (Err f)) (sym is) p

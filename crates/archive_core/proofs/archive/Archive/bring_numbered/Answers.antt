@@ -1,0 +1,33 @@
+use Rattle.std.proofs.Common.{rules, ◌≡◌, ◌<◌, ◌≤◌, refl, sym, subst, ◌∙◌, arith}
+use Rattle.std.specs.Prelude.{length}
+use Rattle.capture.specs.Captures.{captures}
+use Rattle.capture.specs.declared.book.Book.{Book}
+use Rattle.archive_core.specs.Bringing.{BringsFrom}
+use Rattle.archive_core.specs.Held.{book_of}
+use Rattle.archive_core.specs.Holdings.{Holdings, IsArchive}
+use Rattle.archive_core.specs.View.{holdings_of}
+use Rattle.archive_core.proofs.ReadLaws as laws
+use Rattle.archive_core.proofs.archive.Archive.bring_numbered.Goals as goal
+
+pub returns-then-number-count-clause-brings : goal.returns-then-number-count-clause-brings
+returns-then-number-count-clause-brings g c =
+    let is = subst (λ (held : Holdings _). IsArchive g.D.Disk held) c.self.view_is c.self.invariant in
+    let many : c.len-count.result ≡ length c.self.inside.spots.items = search rules in
+    let count : c.len-count.result ≡ length (captures c.args.self.now.book) =
+    many ∙ subst (λ (held : Holdings _). length c.self.inside.spots.items ≡ length (captures held.book)) c.self.view_is c.self.invariant.spots.count in
+    let above : length (captures c.args.self.now.book) ≤ c.args.number = omega (arith, count, c.if-number-count.true) in
+    (count, c.if-number-count.true, laws.none_shown g.D.Disk c.args.self.now c.args.number is above)
+
+pub invariant_of-self : goal.invariant_of-self
+invariant_of-self g c =
+    laws.reads_archive g.D.Disk (holdings_of c.self.inside) c.self.inside.volumes c.bring.new.self refl refl c.bring.ensures.reads c.self.invariant
+
+pub returns-clause-brings : goal.returns-clause-brings
+returns-clause-brings g c =
+    let many : c.len-count.result ≡ length c.self.inside.spots.items = search rules in
+    let same = laws.same_book g.D.Disk (holdings_of c.self.inside) c.self.inside.volumes c.bring.new.self refl refl c.bring.ensures.reads in
+    laws.brings_by g.D.Disk (record (holdings_of c.self.inside) { journal = c.bring.new.self.journal; book = book_of c.bring.new.self.held })
+    c.args.number c.bring.result
+    (laws.reads_archive g.D.Disk (holdings_of c.self.inside) c.self.inside.volumes c.bring.new.self refl refl c.bring.ensures.reads c.self.invariant)
+    (subst (λ (b : Book). c.args.number < length (captures b)) (sym same) (omega (arith, many, c.self.invariant.spots.count, c.if-number-count.false)))
+    (subst (λ (b : Book). BringsFrom g.D.Disk.tells b c.args.number c.bring.result) (sym same) c.bring.ensures.brings)

@@ -1,0 +1,35 @@
+-- It is full, or all captures were looked at.
+use Rattle.std.specs.Prelude.{IsTrue}
+use Rattle.warc_text.specs.Sound.{IsSound}
+use Rattle.archive_core.specs.Holdings.{contents_of}
+use Rattle.archive_core.proofs.ArchiveLaws.{on_each_ok}
+use Rattle.archive_core.proofs.CompareLaws.{full_compares, full_steady, looks_after, on_no_ok}
+use Rattle.archive_core.proofs.SinceLaws.{full_since}
+use Rattle.archive_core.proofs.archive.Archive.compare.Goals as goal
+
+pub returns-in_err-check_room-clause-looks : goal.returns-in_err-check_room-clause-looks
+returns-in_err-check_room-clause-looks g c =
+    full_compares (contents_of g.D.Disk.tells c.args.self.now) c.args.payload.now c.in_err-check_room.field-0.0 c.from_residual.result c.from_residual.ensures.1
+    c.in_err-check_room.ensures
+
+pub returns-in_err-check_room-clause-faults : goal.returns-in_err-check_room-clause-faults
+returns-in_err-check_room-clause-faults g c =
+    full_steady (contents_of g.D.Disk.tells c.args.self.now) c.in_err-check_room.field-0.0 c.from_residual.result _ c.from_residual.ensures.1
+    c.in_err-check_room.ensures
+
+pub returns-clause-looks : goal.returns-clause-looks
+returns-clause-looks g c =
+    looks_after g.D.Disk c.args.self.now c.look_on.new.self c.args.payload.now c.look_on.result c.look_on.ensures.only_looks c.in_ok-check_room.ensures
+    c.look_on.ensures.looks
+
+pub returns-in_err-check_room-clause-sound : goal.returns-in_err-check_room-clause-sound
+returns-in_err-check_room-clause-sound g c =
+    on_no_ok c.in_err-check_room.field-0.0 c.from_residual.result (IsTrue g.D.Disk.tells → IsSound c.args.self.now.book) c.from_residual.ensures.1
+
+pub returns-clause-sound : goal.returns-clause-sound
+returns-clause-sound g c = on_each_ok c.look_on.result (IsTrue g.D.Disk.tells → IsSound c.look_on.new.self.book) c.look_on.ensures.sound
+
+pub returns-in_err-check_room-clause-since : goal.returns-in_err-check_room-clause-since
+returns-in_err-check_room-clause-since g c =
+    full_since _ (contents_of g.D.Disk.tells c.args.self.now) c.args.looked.upto c.in_err-check_room.field-0.0 c.from_residual.result c.from_residual.ensures.1
+    c.in_err-check_room.ensures

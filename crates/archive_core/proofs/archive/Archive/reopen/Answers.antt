@@ -1,0 +1,24 @@
+use Rattle.archive_core.proofs.ChangeLaws.{DiskLaws}
+use Rattle.archive_core.proofs.ReopenLaws.{no_memory, not_opened, reopened}
+use Rattle.archive_core.proofs.archive.Archive.reopen.Given.{Over}
+use Rattle.archive_core.proofs.archive.Archive.reopen.Goals as goal
+
+-- what is asked of the disk
+disk_laws : (g : Over) → DiskLaws g.D.Disk
+disk_laws g = record { earlier = g.met.D.Disk.earlier; now_counts = g.met.D.Disk.now_counts; now_only = g.met.D.Disk.now_only }
+
+pub archive_of-requires-clause-usable : goal.archive_of-requires-clause-usable
+archive_of-requires-clause-usable g c = c.in-Ok.ensures.opened.usable
+
+pub returns-in-Ok-clause-reopened : goal.returns-in-Ok-clause-reopened
+returns-in-Ok-clause-reopened g c =
+    reopened g.D.Disk (disk_laws g) c.args.disk c.args.namespace c.args.limits c.in-Ok.opened c.in-Ok.ensures.opened c.archive_of.result c.archive_of.ensures.made
+
+pub returns-in-Ok-clause-refused : goal.returns-in-Ok-clause-refused
+returns-in-Ok-clause-refused g c =
+    no_memory g.D.Disk (disk_laws g) c.args.disk c.args.namespace c.args.limits c.in-Ok.opened c.in-Ok.ensures.opened c.archive_of.result c.archive_of.ensures.memory
+
+pub returns-in-Err-clause-refused : goal.returns-in-Err-clause-refused
+returns-in-Err-clause-refused g c =
+    not_opened g.D.Disk (disk_laws g) c.args.disk c.args.namespace c.args.limits c.in-Err.refused c.in-Err.ensures.cause c.in-Err.ensures.damage c.in-Err.ensures.other
+    c.in-Err.ensures.given_back c.in-Err.ensures.faults

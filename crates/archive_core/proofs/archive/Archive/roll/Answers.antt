@@ -1,0 +1,94 @@
+use Rattle.std.specs.Prelude.{Result, ⊤}
+use Rattle.std.proofs.Common.{◌++◌, ◌∷◌, [], ℕ, true, refl, Ok, Err, subst, sym, ap, ◌∙◌, arith}
+use Rattle.capture.specs.Faults.{CountsFaults}
+use Rattle.capture.specs.declared.book.Book.{Book}
+use Rattle.warc_journal.specs.Extents.{cdxj_files}
+use Rattle.warc_journal.specs.Journals.{disk_of, texts, volumes}
+use Rattle.warc_journal.specs.declared.fault.DiskFault.{DiskFault}
+use Rattle.warc_journal.specs.declared.journal.Journal.{Journal}
+use Rattle.archive_shelf.specs.Gaining.{AreFilled}
+use Rattle.archive_shelf.specs.Storing.{with_volume}
+use Rattle.archive_shelf.specs.declared.fault.RollFault.TheVariants as rolls
+use Rattle.archive_core.specs.Held.{book_of}
+use Rattle.archive_core.specs.Holdings.{Holdings}
+use Rattle.archive_core.specs.Rolling.{Rolls}
+use Rattle.archive_core.specs.View.{holdings_of}
+use Rattle.archive_core.specs.Volumes.{Makes}
+use Rattle.archive_shelf.proofs.GainingSoundness.{filled_count}
+use Rattle.archive_core.proofs.RollLaws as laws
+use Rattle.archive_core.proofs.archive.Archive.roll.Goals as goal
+
+pub returns-then-not-is_filled : goal.returns-then-not-is_filled
+returns-then-not-is_filled g c =
+    let empty = sym c.is_filled.ensures ∙ c.if-not-is_filled.true in
+    subst (λ (held : Holdings _). Rolls {T = ⊤} g.D.Disk held held c.args.now (Ok tt)) c.self.view_is
+    (laws.rolls_none g.D.Disk (holdings_of c.self.inside) c.args.now empty)
+
+pub begin-requires-clause-filled : goal.begin-requires-clause-filled
+begin-requires-clause-filled g c =
+    let filled = sym c.is_filled.ensures ∙ c.if-not-is_filled.false in
+    subst (λ (book : Book). AreFilled book) (sym c.in_ok-prepared.ensures.book)
+    (laws.all_filled (book_of c.self.inside.volumes.held).volumes filled c.self.invariant.measured.filled)
+
+pub begin-requires-clause-number : goal.begin-requires-clause-number
+begin-requires-clause-number g c =
+    let filled = sym c.is_filled.ensures ∙ c.if-not-is_filled.false in
+    let few = filled_count (book_of c.self.inside.volumes.held).volumes
+    (laws.all_filled (book_of c.self.inside.volumes.held).volumes filled c.self.invariant.measured.filled) in
+    omega (arith, ap (λ (j : Journal _). volumes j) c.in_ok-prepared.ensures.journal, c.self.invariant.measured.count, few, c.self.invariant.counted.few)
+
+pub invariant_of-self-in_err-begin : goal.invariant_of-self-in_err-begin
+invariant_of-self-in_err-begin g c =
+    let same = c.in_ok-prepared.ensures in
+    laws.refused_archive g.D.Disk (holdings_of c.self.inside) c.args.now c.begin.new.self.journal (book_of c.begin.new.self.held)
+    (sym c.is_filled.ensures ∙ c.if-not-is_filled.false)
+    (λ told. c.begin.ensures.others told ∙ ap (λ (j : Journal _). cdxj_files (g.D.Disk.reading (disk_of j))) same.journal)
+    c.entries_gain_what_is_stored.ensures.same
+    (c.leading_books_grow.ensures.grows true (book_of c.self.inside.volumes.held) (book_of c.self.inside.volumes.held) refl)
+    c.self.invariant c.begin.ensures.holds c.begin.ensures.measured
+    (c.in_err-begin.ensures.book ∙ same.book)
+    (λ told. c.in_err-begin.ensures.texts told ∙ ap (λ (j : Journal _). texts g.D.Disk j) same.journal)
+
+pub returns-in_err-begin : goal.returns-in_err-begin
+returns-in_err-begin g c =
+    let same = c.in_ok-prepared.ensures in
+    laws.at_fault (λ (r : Result _ _). Rolls {T = ⊤} g.D.Disk c.args.self.now (record (holdings_of c.self.inside) { journal = c.begin.new.self.journal; book = book_of c.begin.new.self.held }) c.args.now r)
+    c.from_residual-in_err-begin.result c.from_residual-in_err-begin.ensures.1
+    (subst (λ (held : Holdings _). Rolls {T = ⊤} g.D.Disk held (record (holdings_of c.self.inside) { journal = c.begin.new.self.journal; book = book_of c.begin.new.self.held }) c.args.now (Err rolls.DiskFault)) c.self.view_is
+    (laws.rolls_err g.D.Disk (holdings_of c.self.inside) c.args.now c.begin.new.self.journal (book_of c.begin.new.self.held)
+    (sym c.is_filled.ensures ∙ c.if-not-is_filled.false)
+    (λ told. c.begin.ensures.others told ∙ ap (λ (j : Journal _). cdxj_files (g.D.Disk.reading (disk_of j))) same.journal)
+    c.in_err-begin.field-0.0 (c.in_err-begin.ensures.book ∙ same.book)
+    (laws.of_the_same (λ j b n. Makes {T = ⊤} {E = DiskFault} g.D.Disk (disk_of j) (disk_of c.begin.new.self.journal) b (with_volume b n) (Err c.in_err-begin.field-0.0))
+    c.prepare.new.self.journal c.self.inside.volumes.journal (book_of c.prepare.new.self.held) (book_of c.self.inside.volumes.held)
+    c.in_ok-prepared.prepared.shadow.born c.args.now same.journal same.book same.born c.in_err-begin.ensures.makes)
+    (subst (λ (j : Journal _). CountsFaults {T = ⊤} {E = DiskFault} (g.D.Disk.faults (disk_of j)) (g.D.Disk.faults (disk_of c.begin.new.self.journal)) (Err c.in_err-begin.field-0.0))
+    same.journal c.in_err-begin.ensures.faults)))
+
+pub invariant_of-self-2 : goal.invariant_of-self-2
+invariant_of-self-2 g c =
+    let same = c.in_ok-prepared.ensures in
+    laws.begun_archive g.D.Disk (holdings_of c.self.inside) c.args.now c.begin.new.self.journal (book_of c.begin.new.self.held)
+    (sym c.is_filled.ensures ∙ c.if-not-is_filled.false)
+    (λ told. c.begin.ensures.others told ∙ ap (λ (j : Journal _). cdxj_files (g.D.Disk.reading (disk_of j))) same.journal)
+    c.entries_gain_what_is_stored.ensures.same c.self.invariant c.begin.ensures.holds c.begin.ensures.measured
+    (c.in_ok-begin.ensures.book ∙ ap (λ (b : Book). with_volume b c.in_ok-prepared.prepared.shadow.born) same.book
+    ∙ ap (λ (n : ℕ). with_volume (book_of c.self.inside.volumes.held) n) same.born)
+    c.in_ok-prepared.prepared.info
+    (λ told. c.in_ok-begin.ensures.texts told ∙ ap (λ (j : Journal _). texts g.D.Disk j ++ c.in_ok-prepared.prepared.info ∷ []) same.journal)
+
+pub returns : goal.returns
+returns g c =
+    let same = c.in_ok-prepared.ensures in
+    subst (λ (held : Holdings _). Rolls {T = ⊤} g.D.Disk held (record (holdings_of c.self.inside) { journal = c.begin.new.self.journal; book = book_of c.begin.new.self.held }) c.args.now (Ok tt)) c.self.view_is
+    (laws.rolls_ok g.D.Disk (holdings_of c.self.inside) c.args.now c.begin.new.self.journal (book_of c.begin.new.self.held)
+    (sym c.is_filled.ensures ∙ c.if-not-is_filled.false)
+    (λ told. c.begin.ensures.others told ∙ ap (λ (j : Journal _). cdxj_files (g.D.Disk.reading (disk_of j))) same.journal)
+    c.in_ok-begin.field-0
+    (c.in_ok-begin.ensures.book ∙ ap (λ (b : Book). with_volume b c.in_ok-prepared.prepared.shadow.born) same.book
+    ∙ ap (λ (n : ℕ). with_volume (book_of c.self.inside.volumes.held) n) same.born)
+    (laws.of_the_same (λ j b n. Makes {T = ⊤} {E = DiskFault} g.D.Disk (disk_of j) (disk_of c.begin.new.self.journal) b (with_volume b n) (Ok c.in_ok-begin.field-0))
+    c.prepare.new.self.journal c.self.inside.volumes.journal (book_of c.prepare.new.self.held) (book_of c.self.inside.volumes.held)
+    c.in_ok-prepared.prepared.shadow.born c.args.now same.journal same.book same.born c.in_ok-begin.ensures.makes)
+    (subst (λ (j : Journal _). CountsFaults {T = ⊤} {E = DiskFault} (g.D.Disk.faults (disk_of j)) (g.D.Disk.faults (disk_of c.begin.new.self.journal)) (Ok c.in_ok-begin.field-0))
+    same.journal c.in_ok-begin.ensures.faults))

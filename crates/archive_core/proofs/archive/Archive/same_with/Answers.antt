@@ -1,0 +1,19 @@
+-- What was found among all captures, or the fault that was met.
+use Rattle.archive_shelf.specs.declared.fault.StoreFault.{StoreFault}
+use Rattle.archive_shelf.specs.declared.looked.Looked.{Looked}
+use Rattle.archive_core.proofs.MatchLaws.{finds_all, finds_exit}
+use Rattle.archive_core.proofs.SinceLaws.{since_exit}
+use Rattle.archive_core.proofs.archive.Archive.same_with.Goals as goal
+
+pub returns-in_err-all-clause-finds : goal.returns-in_err-all-clause-finds
+returns-in_err-all-clause-finds g c =
+    let fault : StoreFault = c.in_err-all.field-0.0 in
+    finds_exit g.D.Disk.tells c.look_on.new.self.book c.args.payload.now fault c.from_residual.result c.from_residual.ensures.1 c.in_err-all.ensures.looks
+
+pub returns-clause-finds : goal.returns-clause-finds
+returns-clause-finds g c =
+    finds_all g.D.Disk.tells c.look_on.new.self.book c.args.payload.now c.in_ok-all.all c.in_ok-all.ensures.looks
+
+pub returns-in_err-all-clause-since : goal.returns-in_err-all-clause-since
+returns-in_err-all-clause-since g c =
+    since_exit Looked _ c.args.looked.upto c.in_err-all.field-0.0 c.from_residual.result c.from_residual.ensures.1 c.in_err-all.ensures.since

@@ -1,0 +1,362 @@
+use Rattle.std.proofs.Common.{rules, ◌≡◌, ◌+◌, ℕ, List, length, Some, Ok, Err, refl, sym, ap, subst, ◌∙◌, arith}
+use Rattle.std.specs.Prelude.{is_some}
+use Rattle.capture.specs.Captures.{captures}
+use Rattle.capture.specs.declared.book.Book.{Book}
+use Rattle.capture.specs.declared.captured.Stored.{Stored}
+use Rattle.cdxj_index.specs.Facts.{Facts}
+use Rattle.cdxj_index.specs.Order.{without}
+use Rattle.time_text.specs.Texts.{InRange}
+use Rattle.warc_journal.specs.Journals.{texts}
+use Rattle.archive_shelf.specs.Answers.{IsNotFull}
+use Rattle.archive_shelf.specs.declared.fault.StoreFault.TheVariants as stores
+use Rattle.archive_shelf.specs.declared.receipt.Receipt.{Receipt}
+use Rattle.archive_core.specs.Entries.{entered}
+use Rattle.archive_core.specs.Held.{book_of}
+use Rattle.archive_core.specs.Holdings.{Holdings, contents_of}
+use Rattle.archive_core.specs.Looking.{RefersTo}
+use Rattle.archive_core.specs.Spots.{ArePlaced, AreSpotsOf, whole_from}
+use Rattle.archive_core.specs.Stores.{Stores}
+use Rattle.archive_core.specs.View.{holdings_of}
+use Rattle.archive_core.specs.declared.spot.Spot.{Spot}
+use Rattle.archive_core.proofs.ChangeLaws.{DiskLaws}
+use Rattle.archive_core.proofs.ExitLaws as laws
+use Rattle.archive_core.proofs.PayloadLaws.{has_one}
+use Rattle.archive_core.proofs.SinceLaws.{memory_since}
+use Rattle.archive_core.proofs.archive.Archive.store_compared.Given.{Over}
+use Rattle.archive_core.proofs.archive.Archive.store_compared.Goals as goal
+
+-- what is asked of the disk
+disk_laws : (g : Over) → DiskLaws g.D.Disk
+disk_laws g = record { earlier = g.met.D.Disk.earlier; now_counts = g.met.D.Disk.now_counts; now_only = g.met.D.Disk.now_only }
+
+pub make_ready-requires-clause-spots : goal.make_ready-requires-clause-spots
+make_ready-requires-clause-spots g c =
+    let was : Holdings _ = holdings_of c.self.inside in
+    let given : c.as_slice.result.now ≡ c.self.inside.spots.items = search rules in
+    subst (λ (l : List Spot). AreSpotsOf was.book l) (sym given) c.self.invariant.spots
+
+pub make_ready-requires-clause-few : goal.make_ready-requires-clause-few
+make_ready-requires-clause-few g c =
+    let was : Holdings _ = holdings_of c.self.inside in
+    let not_full : IsNotFull (contents_of g.D.Disk.tells was) was.book =
+    subst (λ (held : Holdings _). IsNotFull (contents_of g.D.Disk.tells held) held.book) (sym c.self.view_is) c.requires.not_full in
+    let given : c.as_slice.result.now ≡ c.self.inside.spots.items = search rules in
+    omega (arith, ap (λ (l : List Spot). length l) given, c.self.invariant.spots.count, not_full, c.self.invariant.counted.limits.captures)
+
+pub make_ready-requires-clause-refers : goal.make_ready-requires-clause-refers
+make_ready-requires-clause-refers g c =
+    let was : Holdings _ = holdings_of c.self.inside in
+    let refers : RefersTo (contents_of g.D.Disk.tells was) c.args.incoming.taken c.args.incoming.same =
+    subst (λ (held : Holdings _). RefersTo (contents_of g.D.Disk.tells held) c.args.incoming.taken c.args.incoming.same) (sym c.self.view_is) c.requires.refers in
+    refers.can
+
+pub make_ready-requires-clause-limit : goal.make_ready-requires-clause-limit
+make_ready-requires-clause-limit g c = c.self.invariant.counted.limits.volume_bytes
+
+pub make_ready-requires-clause-payload : goal.make_ready-requires-clause-payload
+make_ready-requires-clause-payload g c =
+    let there = has_one c.storing_has_a_basis.ensures.whole c.storing_has_a_basis.ensures.cut c.args.incoming.taken c.requires.fits in
+    (there.payload, c.requires.digest there.payload there.has)
+
+pub record_at-requires-clause-measured : goal.record_at-requires-clause-measured
+record_at-requires-clause-measured g c =
+    let was : Holdings _ = holdings_of c.self.inside in
+    let now = c.make_ready.new.self in
+    let ready = c.in_ok-ready.ready in
+    let u = laws.under_way g.D.Disk c.storing_has_a_basis.ensures c.args.self.now was c.self.inside.volumes now c.args.incoming ready c.self.view_is
+    refl refl c.self.invariant c.requires.fits c.requires.not_full c.requires.digest c.requires.refers c.make_ready.ensures.journal
+    c.make_ready.ensures.book c.in_ok-ready.ensures.ready in
+    u.is.measured
+
+pub record_at-requires-clause-room : goal.record_at-requires-clause-room
+record_at-requires-clause-room g c =
+    let was : Holdings _ = holdings_of c.self.inside in
+    let now = c.make_ready.new.self in
+    let ready = c.in_ok-ready.ready in
+    let u = laws.under_way g.D.Disk c.storing_has_a_basis.ensures c.args.self.now was c.self.inside.volumes now c.args.incoming ready c.self.view_is
+    refl refl c.self.invariant c.requires.fits c.requires.not_full c.requires.digest c.requires.refers c.make_ready.ensures.journal
+    c.make_ready.ensures.book c.in_ok-ready.ensures.ready in
+    u.ready_is.room
+
+pub entry_for-requires-clause-date : goal.entry_for-requires-clause-date
+entry_for-requires-clause-date g c =
+    let was : Holdings _ = holdings_of c.self.inside in
+    let now = c.make_ready.new.self in
+    let ready = c.in_ok-ready.ready in
+    let u = laws.under_way g.D.Disk c.storing_has_a_basis.ensures c.args.self.now was c.self.inside.volumes now c.args.incoming ready c.self.view_is
+    refl refl c.self.invariant c.requires.fits c.requires.not_full c.requires.digest c.requires.refers c.make_ready.ensures.journal
+    c.make_ready.ensures.book c.in_ok-ready.ensures.ready in
+    subst (λ (s : Stored). InRange s.date) (sym u.ready_is.stored) c.requires.fits.date
+
+pub entry_for-requires-clause-head : goal.entry_for-requires-clause-head
+entry_for-requires-clause-head g c =
+    let was : Holdings _ = holdings_of c.self.inside in
+    let now = c.make_ready.new.self in
+    let ready = c.in_ok-ready.ready in
+    let u = laws.under_way g.D.Disk c.storing_has_a_basis.ensures c.args.self.now was c.self.inside.volumes now c.args.incoming ready c.self.view_is
+    refl refl c.self.invariant c.requires.fits c.requires.not_full c.requires.digest c.requires.refers c.make_ready.ensures.journal
+    c.make_ready.ensures.book c.in_ok-ready.ensures.ready in
+    (u.has.parsed, laws.ready_head g.D.Disk c.storing_has_a_basis.ensures was now c.args.incoming ready u)
+
+pub enter-requires-clause-indexed : goal.enter-requires-clause-indexed
+enter-requires-clause-indexed g c = c.self.invariant.indexed
+
+pub enter-requires-clause-behind : goal.enter-requires-clause-behind
+enter-requires-clause-behind g c =
+    let was : Holdings _ = holdings_of c.self.inside in
+    let now = c.make_ready.new.self in
+    let ready = c.in_ok-ready.ready in
+    let u = laws.under_way g.D.Disk c.storing_has_a_basis.ensures c.args.self.now was c.self.inside.volumes now c.args.incoming ready c.self.view_is
+    refl refl c.self.invariant c.requires.fits c.requires.not_full c.requires.digest c.requires.refers c.make_ready.ensures.journal
+    c.make_ready.ensures.book c.in_ok-ready.ensures.ready in
+    let many : c.len-number.result ≡ length c.self.inside.spots.items = search rules in
+    let count : c.len-number.result ≡ length (captures was.book) = many ∙ c.self.invariant.spots.count in
+    let number : c.len-number.result ≡ length (captures (book_of now.held)) =
+    count ∙ sym (ap (λ (b : Book). length (captures b)) c.make_ready.ensures.book) in
+    laws.entry_behind g.D.Disk c.storing_has_a_basis.ensures was now c.args.incoming ready u c.record_at.result c.len-number.result
+    c.record_at.ensures number c.in_ok-entry.entry c.in_ok-entry.ensures
+
+pub commit-requires-clause-ready : goal.commit-requires-clause-ready
+commit-requires-clause-ready g c =
+    let was : Holdings _ = holdings_of c.self.inside in
+    let now = c.make_ready.new.self in
+    let ready = c.in_ok-ready.ready in
+    let u = laws.under_way g.D.Disk c.storing_has_a_basis.ensures c.args.self.now was c.self.inside.volumes now c.args.incoming ready c.self.view_is
+    refl refl c.self.invariant c.requires.fits c.requires.not_full c.requires.digest c.requires.refers c.make_ready.ensures.journal
+    c.make_ready.ensures.book c.in_ok-ready.ensures.ready in
+    laws.commit_ready g.D.Disk c.storing_has_a_basis.ensures was now c.args.incoming ready u
+
+pub commit-requires-clause-holds : goal.commit-requires-clause-holds
+commit-requires-clause-holds g c =
+    let was : Holdings _ = holdings_of c.self.inside in
+    let now = c.make_ready.new.self in
+    let ready = c.in_ok-ready.ready in
+    let u = laws.under_way g.D.Disk c.storing_has_a_basis.ensures c.args.self.now was c.self.inside.volumes now c.args.incoming ready c.self.view_is
+    refl refl c.self.invariant c.requires.fits c.requires.not_full c.requires.digest c.requires.refers c.make_ready.ensures.journal
+    c.make_ready.ensures.book c.in_ok-ready.ensures.ready in
+    u.is.holds
+
+pub commit-requires-clause-measured : goal.commit-requires-clause-measured
+commit-requires-clause-measured g c =
+    let was : Holdings _ = holdings_of c.self.inside in
+    let now = c.make_ready.new.self in
+    let ready = c.in_ok-ready.ready in
+    let u = laws.under_way g.D.Disk c.storing_has_a_basis.ensures c.args.self.now was c.self.inside.volumes now c.args.incoming ready c.self.view_is
+    refl refl c.self.invariant c.requires.fits c.requires.not_full c.requires.digest c.requires.refers c.make_ready.ensures.journal
+    c.make_ready.ensures.book c.in_ok-ready.ensures.ready in
+    u.is.measured
+
+pub commit-requires-clause-spots : goal.commit-requires-clause-spots
+commit-requires-clause-spots g c =
+    let was : Holdings _ = holdings_of c.self.inside in
+    let now = c.make_ready.new.self in
+    let ready = c.in_ok-ready.ready in
+    let u = laws.under_way g.D.Disk c.storing_has_a_basis.ensures c.args.self.now was c.self.inside.volumes now c.args.incoming ready c.self.view_is
+    refl refl c.self.invariant c.requires.fits c.requires.not_full c.requires.digest c.requires.refers c.make_ready.ensures.journal
+    c.make_ready.ensures.book c.in_ok-ready.ensures.ready in
+    subst (λ (l : List Spot). AreSpotsOf (book_of now.held) l) (sym c.reserve_kept.ensures.spots) u.is.spots
+
+pub commit-requires-clause-placed : goal.commit-requires-clause-placed
+commit-requires-clause-placed g c told =
+    let was : Holdings _ = holdings_of c.self.inside in
+    let now = c.make_ready.new.self in
+    let ready = c.in_ok-ready.ready in
+    let u = laws.under_way g.D.Disk c.storing_has_a_basis.ensures c.args.self.now was c.self.inside.volumes now c.args.incoming ready c.self.view_is
+    refl refl c.self.invariant c.requires.fits c.requires.not_full c.requires.digest c.requires.refers c.make_ready.ensures.journal
+    c.make_ready.ensures.book c.in_ok-ready.ensures.ready in
+    subst (λ (l : List Spot). ArePlaced (texts g.D.Disk now.journal) (book_of now.held) l) (sym c.reserve_kept.ensures.spots) (u.is.placed told)
+
+pub commit-requires-clause-table : goal.commit-requires-clause-table
+commit-requires-clause-table g c =
+    c.reserve_kept.ensures.table ∙ c.self.invariant.table ∙ sym (ap (λ (l : List Spot). whole_from 0 l) c.reserve_kept.ensures.spots)
+
+pub commit-requires-clause-space : goal.commit-requires-clause-space
+commit-requires-clause-space g c = c.in_ok-reserve_kept.ensures.room
+
+pub commit-requires-clause-reserved : goal.commit-requires-clause-reserved
+commit-requires-clause-reserved g c =
+    let was : Holdings _ = holdings_of c.self.inside in
+    let now = c.make_ready.new.self in
+    let ready = c.in_ok-ready.ready in
+    let u = laws.under_way g.D.Disk c.storing_has_a_basis.ensures c.args.self.now was c.self.inside.volumes now c.args.incoming ready c.self.view_is
+    refl refl c.self.invariant c.requires.fits c.requires.not_full c.requires.digest c.requires.refers c.make_ready.ensures.journal
+    c.make_ready.ensures.book c.in_ok-ready.ensures.ready in
+    c.in_ok-reserve_kept.ensures.reserved ∙ ap (λ (digest : List ℕ). Some digest) (sym u.ready_is.digest)
+
+pub commit-requires-clause-few : goal.commit-requires-clause-few
+commit-requires-clause-few g c =
+    omega (arith, ap (λ (l : List Spot). length l) c.reserve_kept.ensures.spots, c.self.invariant.spots.count, c.self.invariant.counted.few)
+
+pub invariant_of-self : goal.invariant_of-self
+invariant_of-self g c =
+    let was : Holdings _ = holdings_of c.self.inside in
+    laws.memory_archive g.D.Disk was (record was { journal = c.self.inside.volumes.journal; book = book_of c.self.inside.volumes.held; table = c.reserve_kept.new.table; index = c.self.inside.index; spots = c.reserve_kept.new.spots.items }) refl refl refl refl refl
+    c.self.invariant c.reserve_kept.ensures.spots c.reserve_kept.ensures.table refl
+
+pub returns-in_err-reserve_kept-clause-stores : goal.returns-in_err-reserve_kept-clause-stores
+returns-in_err-reserve_kept-clause-stores g c =
+    let was : Holdings _ = holdings_of c.self.inside in
+    let is : Holdings _ = record was { journal = c.self.inside.volumes.journal; book = book_of c.self.inside.volumes.held; table = c.reserve_kept.new.table; index = c.self.inside.index; spots = c.reserve_kept.new.spots.items } in
+    subst (λ (held : Holdings _). Stores g.D.Disk held is c.args.incoming.taken c.from_residual.result) c.self.view_is
+    (laws.memory_exit g.D.Disk was is refl refl refl refl refl c.args.incoming.taken c.from_residual.result c.from_residual.ensures.1)
+
+pub invariant_of-self-in_err-ready : goal.invariant_of-self-in_err-ready
+invariant_of-self-in_err-ready g c =
+    let was : Holdings _ = holdings_of c.self.inside in
+    laws.memory_archive g.D.Disk was (record was { journal = c.make_ready.new.self.journal; book = book_of c.make_ready.new.self.held; table = c.reserve_kept.new.table; index = c.self.inside.index; spots = c.reserve_kept.new.spots.items }) c.make_ready.ensures.journal c.make_ready.ensures.book refl refl refl
+    c.self.invariant c.reserve_kept.ensures.spots c.reserve_kept.ensures.table refl
+
+pub returns-in_err-ready-clause-stores : goal.returns-in_err-ready-clause-stores
+returns-in_err-ready-clause-stores g c =
+    let was : Holdings _ = holdings_of c.self.inside in
+    let is : Holdings _ = record was { journal = c.make_ready.new.self.journal; book = book_of c.make_ready.new.self.held; table = c.reserve_kept.new.table; index = c.self.inside.index; spots = c.reserve_kept.new.spots.items } in
+    subst (λ (held : Holdings _). Stores g.D.Disk held is c.args.incoming.taken c.from_residual-in_err-ready.result) c.self.view_is
+    (laws.memory_exit g.D.Disk was is c.make_ready.ensures.journal c.make_ready.ensures.book refl refl refl c.args.incoming.taken c.from_residual-in_err-ready.result c.from_residual-in_err-ready.ensures.1)
+
+pub invariant_of-self-in_err-entry : goal.invariant_of-self-in_err-entry
+invariant_of-self-in_err-entry g c =
+    let was : Holdings _ = holdings_of c.self.inside in
+    laws.memory_archive g.D.Disk was (record was { journal = c.make_ready.new.self.journal; book = book_of c.make_ready.new.self.held; table = c.reserve_kept.new.table; index = c.self.inside.index; spots = c.reserve_kept.new.spots.items }) c.make_ready.ensures.journal c.make_ready.ensures.book refl refl refl
+    c.self.invariant c.reserve_kept.ensures.spots c.reserve_kept.ensures.table refl
+
+pub returns-in_err-entry-clause-stores : goal.returns-in_err-entry-clause-stores
+returns-in_err-entry-clause-stores g c =
+    let was : Holdings _ = holdings_of c.self.inside in
+    let is : Holdings _ = record was { journal = c.make_ready.new.self.journal; book = book_of c.make_ready.new.self.held; table = c.reserve_kept.new.table; index = c.self.inside.index; spots = c.reserve_kept.new.spots.items } in
+    subst (λ (held : Holdings _). Stores g.D.Disk held is c.args.incoming.taken c.from_residual-in_err-entry.result) c.self.view_is
+    (laws.memory_exit g.D.Disk was is c.make_ready.ensures.journal c.make_ready.ensures.book refl refl refl c.args.incoming.taken c.from_residual-in_err-entry.result c.from_residual-in_err-entry.ensures.1)
+
+pub invariant_of-self-in_err-enter : goal.invariant_of-self-in_err-enter
+invariant_of-self-in_err-enter g c =
+    let was : Holdings _ = holdings_of c.self.inside in
+    laws.memory_archive g.D.Disk was (record was { journal = c.make_ready.new.self.journal; book = book_of c.make_ready.new.self.held; table = c.reserve_kept.new.table; index = c.enter.new.index; spots = c.reserve_kept.new.spots.items }) c.make_ready.ensures.journal c.make_ready.ensures.book c.in_err-enter.ensures.refused refl refl
+    c.self.invariant c.reserve_kept.ensures.spots c.reserve_kept.ensures.table refl
+
+pub returns-in_err-enter-clause-stores : goal.returns-in_err-enter-clause-stores
+returns-in_err-enter-clause-stores g c =
+    let was : Holdings _ = holdings_of c.self.inside in
+    let is : Holdings _ = record was { journal = c.make_ready.new.self.journal; book = book_of c.make_ready.new.self.held; table = c.reserve_kept.new.table; index = c.enter.new.index; spots = c.reserve_kept.new.spots.items } in
+    subst (λ (held : Holdings _). Stores g.D.Disk held is c.args.incoming.taken c.from_residual-in_err-enter.result) c.self.view_is
+    (laws.memory_exit g.D.Disk was is c.make_ready.ensures.journal c.make_ready.ensures.book c.in_err-enter.ensures.refused refl refl c.args.incoming.taken c.from_residual-in_err-enter.result c.from_residual-in_err-enter.ensures.1)
+
+pub invariant_of-self-in-Err : goal.invariant_of-self-in-Err
+invariant_of-self-in-Err g c =
+    let was : Holdings _ = holdings_of c.self.inside in
+    let now = c.make_ready.new.self in
+    let ready = c.in_ok-ready.ready in
+    let u = laws.under_way g.D.Disk c.storing_has_a_basis.ensures c.args.self.now was c.self.inside.volumes now c.args.incoming ready c.self.view_is
+    refl refl c.self.invariant c.requires.fits c.requires.not_full c.requires.digest c.requires.refers c.make_ready.ensures.journal
+    c.make_ready.ensures.book c.in_ok-ready.ensures.ready in
+    let many : c.len-number.result ≡ length c.self.inside.spots.items = search rules in
+    let count : c.len-number.result ≡ length (captures was.book) = many ∙ c.self.invariant.spots.count in
+    let number : c.len-number.result ≡ length (captures (book_of now.held)) =
+    count ∙ sym (ap (λ (b : Book). length (captures b)) c.make_ready.ensures.book) in
+    let back = c.take_back.ensures
+    ∙ ap (λ (l : List Facts). without c.len-number.result l) c.in_ok-enter.ensures.entered
+    ∙ ap (λ (k : ℕ). without k (entered c.in_ok-entry.entry was.index)) number in
+    laws.refused_archive g.D.Disk c.storing_has_a_basis.ensures was now c.args.incoming ready u c.record_at.result c.len-number.result
+    c.record_at.ensures number c.in_ok-entry.entry c.in_ok-entry.ensures (disk_laws g)
+    c.commit.new.self.journal (book_of c.commit.new.self.held) c.commit.new.table c.take_back.new.self c.commit.new.spots.items
+    c.commit.ensures.holds c.commit.ensures.measured c.commit.ensures.table c.commit.ensures.spots c.commit.ensures.placed c.commit.ensures.others
+    c.in-Err.ensures.left back
+
+pub returns-in-Err-clause-stores : goal.returns-in-Err-clause-stores
+returns-in-Err-clause-stores g c =
+    let was : Holdings _ = holdings_of c.self.inside in
+    let now = c.make_ready.new.self in
+    let ready = c.in_ok-ready.ready in
+    let u = laws.under_way g.D.Disk c.storing_has_a_basis.ensures c.args.self.now was c.self.inside.volumes now c.args.incoming ready c.self.view_is
+    refl refl c.self.invariant c.requires.fits c.requires.not_full c.requires.digest c.requires.refers c.make_ready.ensures.journal
+    c.make_ready.ensures.book c.in_ok-ready.ensures.ready in
+    let many : c.len-number.result ≡ length c.self.inside.spots.items = search rules in
+    let count : c.len-number.result ≡ length (captures was.book) = many ∙ c.self.invariant.spots.count in
+    let number : c.len-number.result ≡ length (captures (book_of now.held)) =
+    count ∙ sym (ap (λ (b : Book). length (captures b)) c.make_ready.ensures.book) in
+    let back = c.take_back.ensures
+    ∙ ap (λ (l : List Facts). without c.len-number.result l) c.in_ok-enter.ensures.entered
+    ∙ ap (λ (k : ℕ). without k (entered c.in_ok-entry.entry was.index)) number in
+    let same : laws.in_volumes was now ≡ c.args.self.now =
+    laws.same_holdings was now c.make_ready.ensures.journal c.make_ready.ensures.book ∙ c.self.view_is in
+    let is : Holdings _ = record was {
+      journal = c.commit.new.self.journal;
+      book = book_of c.commit.new.self.held;
+      table = c.commit.new.table;
+      index = c.take_back.new.self;
+      spots = c.commit.new.spots.items;
+    } in
+    subst (λ (held : Holdings _). Stores g.D.Disk held is c.args.incoming.taken (Err stores.DiskFault)) same
+    (laws.refused_stores g.D.Disk c.storing_has_a_basis.ensures was now c.args.incoming ready u c.record_at.result c.len-number.result
+    c.record_at.ensures number c.in_ok-entry.entry c.in_ok-entry.ensures (disk_laws g)
+    c.commit.new.self.journal (book_of c.commit.new.self.held) c.commit.new.table c.take_back.new.self c.commit.new.spots.items
+    c.commit.ensures.holds c.commit.ensures.measured c.commit.ensures.table c.commit.ensures.spots c.commit.ensures.placed c.commit.ensures.others
+    c.in-Err.ensures.left back c.in-Err.field-0 c.in-Err.ensures.writes c.in-Err.ensures.faults)
+
+pub overflow_add-self : goal.overflow_add-self
+overflow_add-self g c =
+    omega (
+      arith,
+      c.revisits_in.ensures,
+      laws.revisits_few g.D.Disk (holdings_of c.self.inside) (is_some c.args.incoming.same) c.self.invariant,
+    )
+
+pub invariant_of-self-in-Ok : goal.invariant_of-self-in-Ok
+invariant_of-self-in-Ok g c =
+    let was : Holdings _ = holdings_of c.self.inside in
+    let now = c.make_ready.new.self in
+    let ready = c.in_ok-ready.ready in
+    let u = laws.under_way g.D.Disk c.storing_has_a_basis.ensures c.args.self.now was c.self.inside.volumes now c.args.incoming ready c.self.view_is
+    refl refl c.self.invariant c.requires.fits c.requires.not_full c.requires.digest c.requires.refers c.make_ready.ensures.journal
+    c.make_ready.ensures.book c.in_ok-ready.ensures.ready in
+    let many : c.len-number.result ≡ length c.self.inside.spots.items = search rules in
+    let count : c.len-number.result ≡ length (captures was.book) = many ∙ c.self.invariant.spots.count in
+    let number : c.len-number.result ≡ length (captures (book_of now.held)) =
+    count ∙ sym (ap (λ (b : Book). length (captures b)) c.make_ready.ensures.book) in
+    let more = ap (λ (k : ℕ). c.self.inside.revisits + k) c.revisits_in.ensures in
+    laws.stored_archive g.D.Disk c.storing_has_a_basis.ensures was now c.args.incoming ready u c.record_at.result c.len-number.result
+    c.record_at.ensures number c.in_ok-entry.entry c.in_ok-entry.ensures (disk_laws g)
+    c.commit.new.self.journal (book_of c.commit.new.self.held) c.commit.new.table c.enter.new.index c.commit.new.spots.items
+    c.commit.ensures.holds c.commit.ensures.measured c.commit.ensures.table c.commit.ensures.spots c.commit.ensures.placed c.commit.ensures.others
+    (c.self.inside.revisits + c.revisits_in.result) c.in-Ok.ensures.stored c.in_ok-enter.ensures.entered c.enter.ensures.indexed more
+
+pub returns-in-Ok-clause-stores : goal.returns-in-Ok-clause-stores
+returns-in-Ok-clause-stores g c =
+    let was : Holdings _ = holdings_of c.self.inside in
+    let now = c.make_ready.new.self in
+    let ready = c.in_ok-ready.ready in
+    let u = laws.under_way g.D.Disk c.storing_has_a_basis.ensures c.args.self.now was c.self.inside.volumes now c.args.incoming ready c.self.view_is
+    refl refl c.self.invariant c.requires.fits c.requires.not_full c.requires.digest c.requires.refers c.make_ready.ensures.journal
+    c.make_ready.ensures.book c.in_ok-ready.ensures.ready in
+    let many : c.len-number.result ≡ length c.self.inside.spots.items = search rules in
+    let count : c.len-number.result ≡ length (captures was.book) = many ∙ c.self.invariant.spots.count in
+    let number : c.len-number.result ≡ length (captures (book_of now.held)) =
+    count ∙ sym (ap (λ (b : Book). length (captures b)) c.make_ready.ensures.book) in
+    let same : laws.in_volumes was now ≡ c.args.self.now =
+    laws.same_holdings was now c.make_ready.ensures.journal c.make_ready.ensures.book ∙ c.self.view_is in
+    let is : Holdings _ = record was {
+      journal = c.commit.new.self.journal;
+      book = book_of c.commit.new.self.held;
+      table = c.commit.new.table;
+      index = c.enter.new.index;
+      spots = c.commit.new.spots.items;
+      revisits = c.self.inside.revisits + c.revisits_in.result;
+    } in
+    let receipt : Receipt = record { number = c.len-number.result; same_as = c.args.incoming.same } in
+    subst (λ (held : Holdings _). Stores g.D.Disk held is c.args.incoming.taken (Ok receipt)) same
+    (laws.stored_stores g.D.Disk c.storing_has_a_basis.ensures was now c.args.incoming ready u c.record_at.result c.len-number.result
+    c.record_at.ensures number c.in_ok-entry.entry c.in_ok-entry.ensures (disk_laws g)
+    c.commit.new.self.journal (book_of c.commit.new.self.held) c.commit.new.table c.enter.new.index c.commit.new.spots.items
+    c.commit.ensures.holds c.commit.ensures.measured c.commit.ensures.table c.commit.ensures.spots c.commit.ensures.placed c.commit.ensures.others
+    (c.self.inside.revisits + c.revisits_in.result) c.in-Ok.ensures.stored c.in_ok-enter.ensures.entered
+    c.in-Ok.field-0 c.in-Ok.ensures.writes c.in-Ok.ensures.faults receipt number refl)
+
+pub returns-in_err-reserve_kept-clause-unread : goal.returns-in_err-reserve_kept-clause-unread
+returns-in_err-reserve_kept-clause-unread g c number = memory_since _ number c.from_residual.result c.from_residual.ensures.1
+
+pub returns-in_err-ready-clause-unread : goal.returns-in_err-ready-clause-unread
+returns-in_err-ready-clause-unread g c number = memory_since _ number c.from_residual-in_err-ready.result c.from_residual-in_err-ready.ensures.1
+
+pub returns-in_err-entry-clause-unread : goal.returns-in_err-entry-clause-unread
+returns-in_err-entry-clause-unread g c number = memory_since _ number c.from_residual-in_err-entry.result c.from_residual-in_err-entry.ensures.1
+
+pub returns-in_err-enter-clause-unread : goal.returns-in_err-enter-clause-unread
+returns-in_err-enter-clause-unread g c number = memory_since _ number c.from_residual-in_err-enter.result c.from_residual-in_err-enter.ensures.1

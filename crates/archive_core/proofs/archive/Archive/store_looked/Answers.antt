@@ -1,0 +1,34 @@
+-- A fault was met while the disk was read, or a store follows.
+use Rattle.std.proofs.Common.{ℕ, Option, sym, subst}
+use Rattle.archive_shelf.specs.Answers.{IsNotFull}
+use Rattle.archive_core.specs.Holdings.{Holdings, contents_of}
+use Rattle.archive_core.proofs.AfterLaws.{fault_exit, stores_after}
+use Rattle.archive_core.proofs.ChangeLaws.{DiskLaws}
+use Rattle.archive_core.proofs.SinceLaws.{since_exit}
+use Rattle.archive_core.proofs.archive.Archive.store_looked.Given.{Over}
+use Rattle.archive_core.proofs.archive.Archive.store_looked.Goals as goal
+
+-- what is asked of the disk
+disk_laws : (g : Over) → DiskLaws g.D.Disk
+disk_laws g = record { earlier = g.met.D.Disk.earlier; now_counts = g.met.D.Disk.now_counts; now_only = g.met.D.Disk.now_only }
+
+pub returns-in_err-same-clause-stores : goal.returns-in_err-same-clause-stores
+returns-in_err-same-clause-stores g c =
+    fault_exit g.D.Disk (disk_laws g) c.args.self.now c.same_of.new.self c.args.taken c.in_err-same.field-0.0 c.from_residual.result
+    c.from_residual.ensures.1 c.in_err-same.ensures.looks c.requires.not_full c.in_err-same.ensures.refers c.in_err-same.ensures.faults
+
+pub store_compared-requires-clause-not_full : goal.store_compared-requires-clause-not_full
+store_compared-requires-clause-not_full g c =
+    subst (λ (held : Holdings _). IsNotFull (contents_of g.D.Disk.tells held) held.book) (sym c.in_ok-same.ensures.looks.others) c.requires.not_full
+
+pub returns-clause-stores : goal.returns-clause-stores
+returns-clause-stores g c =
+    stores_after g.D.Disk (disk_laws g) c.args.self.now c.same_of.new.self c.store_compared.new.self c.args.taken c.store_compared.result
+    c.in_ok-same.ensures.looks c.in_ok-same.ensures.faults c.store_compared.ensures.stores
+
+pub returns-in_err-same-clause-since : goal.returns-in_err-same-clause-since
+returns-in_err-same-clause-since g c =
+    since_exit (Option ℕ) _ c.args.looked.upto c.in_err-same.field-0.0 c.from_residual.result c.from_residual.ensures.1 c.in_err-same.ensures.since
+
+pub returns-clause-since : goal.returns-clause-since
+returns-clause-since g c = c.store_compared.ensures.unread c.args.looked.upto

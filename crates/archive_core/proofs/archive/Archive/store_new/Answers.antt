@@ -1,0 +1,47 @@
+-- It is full, or there is no memory, or a fault was met while the disk was read, or a store follows.
+use Rattle.std.proofs.Common.{refl, sym, subst}
+use Rattle.archive_shelf.specs.Answers.{IsNotFull}
+use Rattle.archive_core.specs.Holdings.{Holdings, contents_of}
+use Rattle.archive_core.proofs.AfterLaws.{fault_exit, full_exit, stores_after}
+use Rattle.archive_core.proofs.ChangeLaws.{DiskLaws}
+use Rattle.archive_core.proofs.ExitLaws.{memory_exit}
+use Rattle.archive_core.proofs.MatchLaws.{digest_by}
+use Rattle.archive_core.proofs.archive.Archive.store_new.Given.{Over}
+use Rattle.archive_core.proofs.archive.Archive.store_new.Goals as goal
+
+-- what is asked of the disk
+disk_laws : (g : Over) → DiskLaws g.D.Disk
+disk_laws g = record { earlier = g.met.D.Disk.earlier; now_counts = g.met.D.Disk.now_counts; now_only = g.met.D.Disk.now_only }
+
+pub returns-in_err-check_room : goal.returns-in_err-check_room
+returns-in_err-check_room g c =
+    full_exit g.D.Disk (disk_laws g) c.args.self.now c.args.taken c.in_err-check_room.field-0.0 c.from_residual.result c.from_residual.ensures.1
+    c.in_err-check_room.ensures
+
+pub returns-in_err-data : goal.returns-in_err-data
+returns-in_err-data g c =
+    memory_exit g.D.Disk c.args.self.now c.args.self.now refl refl refl refl refl c.args.taken c.from_residual-in_err-data.result
+    c.from_residual-in_err-data.ensures.1
+
+pub same_by-requires-clause-right : goal.same_by-requires-clause-right
+same_by-requires-clause-right g c = c.none.ensures.right g.D.Disk.tells c.args.self.now.book c.payload_by-payload.result.now
+
+pub returns-in_err-same : goal.returns-in_err-same
+returns-in_err-same g c =
+    fault_exit g.D.Disk (disk_laws g) c.args.self.now c.same_by.new.self c.args.taken c.in_err-same.field-0.0 c.from_residual-in_err-same.result
+    c.from_residual-in_err-same.ensures.1 c.in_err-same.ensures.looks c.in_ok-check_room.ensures c.in_err-same.ensures.refers
+    c.in_err-same.ensures.faults
+
+pub store_compared-requires-clause-not_full : goal.store_compared-requires-clause-not_full
+store_compared-requires-clause-not_full g c =
+    subst (λ (held : Holdings _). IsNotFull (contents_of g.D.Disk.tells held) held.book) (sym c.in_ok-same.ensures.looks.others) c.in_ok-check_room.ensures
+
+pub store_compared-requires-clause-digest : goal.store_compared-requires-clause-digest
+store_compared-requires-clause-digest g c =
+    digest_by c.wires_have_one_payload.ensures.one c.args.taken c.payload_digest-digest.result c.payload_by-payload.result.now c.payload_by-payload.ensures
+    c.payload_digest-digest.ensures
+
+pub returns : goal.returns
+returns g c =
+    stores_after g.D.Disk (disk_laws g) c.args.self.now c.same_by.new.self c.store_compared.new.self c.args.taken c.store_compared.result
+    c.in_ok-same.ensures.looks c.in_ok-same.ensures.faults c.store_compared.ensures.stores

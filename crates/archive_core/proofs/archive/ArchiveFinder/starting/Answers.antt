@@ -1,0 +1,19 @@
+use Rattle.std.proofs.Common.{IsTrue, subst}
+use Rattle.std.specs.Prelude.{nat_eq, IfOk}
+use Rattle.std.specs.List.{starts_with}
+use Rattle.cdxj_index.specs.OfBook.{AreEntries}
+use Rattle.archive_shelf.specs.Queries.{ArePicked}
+use Rattle.archive_core.specs.Holdings.{Holdings, IsArchive}
+use Rattle.archive_core.specs.Shown.{numbered}
+use Rattle.archive_core.proofs.ArchiveLaws as laws
+use Rattle.archive_core.proofs.archive.ArchiveFinder.starting.Goals as goal
+
+pub returns-clause-found : goal.returns-clause-found
+returns-clause-found g c =
+    subst (λ (held : Holdings _). IfOk c.starting.result (λ entries. ArePicked (λ e. starts_with nat_eq e.key c.args.start.now) (numbered held.index) entries.items)) c.self.view_is c.starting.ensures
+
+pub returns-clause-shows : goal.returns-clause-shows
+returns-clause-shows g c =
+    let is = subst (λ (held : Holdings _). IsArchive g.D.Disk held) c.self.view_is c.self.invariant in
+    laws.on_each_ok c.starting.result (IsTrue g.D.Disk.tells → AreEntries c.args.self.now.book (numbered c.args.self.now.index))
+    (laws.shows_entries g.D.Disk c.args.self.now is)

@@ -1,0 +1,37 @@
+use Rattle.std.proofs.Common.{rules, ◌≡◌, length, refl, ap, ◌∙◌}
+use Rattle.std.specs.Prelude.{count_by}
+use Rattle.archive_core.specs.Held.{book_of}
+use Rattle.archive_core.specs.declared.volumes.Volumes.{Volumes}
+use Rattle.archive_core.proofs.ReopenLaws.{AreParts, made_archive, parts_of, same_spot, shown_sorted}
+use Rattle.archive_core.proofs.reopen.archive_of.Given.{Over}
+use Rattle.archive_core.proofs.reopen.archive_of.Goals as goal
+
+book_is : (g : Over) (c : goal.After-over g) → book_of c.over.result.held ≡ book_of c.args.opened.gathered.held
+book_is g c = ap (λ (v : Volumes _). book_of v.held) c.over.ensures.value ∙ ap book_of c.into_parts-held.ensures.held
+
+parts : (g : Over) (c : goal.After-over g) → AreParts g.D.Disk c.over.result.journal (book_of c.over.result.held) c.into_parts-held.result.1.items
+    c.into_parts-held.result.2 c.args.opened.gathered.lengths.items c.into_parts-held.result.3.items
+parts g c =
+    parts_of g.D.Disk c.args.opened c.requires.usable c.over.result.journal (book_of c.over.result.held) c.into_parts-held.result.1.items
+    c.into_parts-held.result.2 c.into_parts-held.result.3.items (ap (λ (v : Volumes _). v.journal) c.over.ensures.value) (book_is g c)
+    c.into_parts-held.ensures.spots c.into_parts-held.ensures.table c.into_parts-held.ensures.entries
+
+found_is : (g : Over) (c : goal.After-over g) → c.len-found.result ≡ length c.into_parts-held.result.1.items
+found_is g c = search rules
+
+pub invariant_of-result : goal.invariant_of-result
+invariant_of-result g c =
+    made_archive g.D.Disk c.over.result.journal (book_of c.over.result.held) c.into_parts-held.result.1.items c.into_parts-held.result.2
+    c.args.opened.gathered.lengths.items c.into_parts-held.result.3.items c.in-Ok.index (parts g c) c.in-Ok.ensures.same c.in-Ok.ensures.index
+    c.args.limits c.len-found.result c.revisits_among-revisits.result c.over.ensures.holds c.over.ensures.measured c.requires.limits (found_is g c)
+    (c.revisits_among-revisits.ensures ∙ ap (count_by same_spot) c.as_slice.ensures.value)
+
+pub returns-clause-made : goal.returns-clause-made
+returns-clause-made g c = record {
+  journal_is = ap (λ (v : Volumes _). v.journal) c.over.ensures.value;
+  book_is = book_is g c;
+  shown = shown_sorted g.D.Disk c.over.result.journal (book_of c.over.result.held) c.into_parts-held.result.1.items c.into_parts-held.result.2
+      c.args.opened.gathered.lengths.items c.into_parts-held.result.3.items c.in-Ok.index (parts g c) c.in-Ok.ensures.same c.in-Ok.ensures.index;
+  found = found_is g c ∙ (parts g c).0.count;
+  limits_are = refl;
+}

@@ -1,0 +1,45 @@
+-- What stands behind a response's head, whatever bytes these are: the framing that it tells, and the payload.
+use Rattle.std.specs.Prelude.{ℕ, ◌^◌, ◌<◌, Bool, true, false, List, length, Option, Some, None, Ok}
+use Rattle.httparse.specs.Grammar.{ResponseHead}
+use Rattle.capture.specs.Captures.{HasPayload}
+use Rattle.capture.specs.First.{HeadTells, Responses}
+use Rattle.capture.specs.Message.{IsResponseHeadText}
+use Rattle.capture.specs.Methods.{asks_for_head}
+use Rattle.capture.specs.Payload.{IsPayload}
+use Rattle.capture.specs.declared.framing.Framing.{Framing}
+use Rattle.capture.specs.declared.framing.Framing.TheVariants.{Empty, Length, Chunked, ToEnd}
+
+-- whether the text is the head of a response
+abbrev pub IsHead : List ℕ → Bool → Type 0
+IsHead text true = (h : ResponseHead) × IsResponseHeadText text h
+IsHead text false = (h : ResponseHead) → ¬ (IsResponseHeadText text h)
+
+-- the framing of what stands behind a head that answers a request of this method; or that no body which has a length in 64
+-- bits stands behind it
+abbrev pub TellsFraming : List ℕ → List ℕ → Option Framing → Type 0
+TellsFraming method head (Some framing) = HeadTells (Responses (asks_for_head method)) head (Ok framing)
+TellsFraming method head None =
+    (cut : Bool) (wire payload : List ℕ) → length wire < 2 ^ 64 → HasPayload cut method head wire payload → ⊥
+
+-- a wire of this framing is its payload as it stands
+abbrev pub is_plain : Framing → Bool
+is_plain Empty = true
+is_plain (Length n) = true
+is_plain Chunked = false
+is_plain ToEnd = true
+
+-- the payload of a wire, whole or cut; or that it has none
+abbrev pub HoldsPayload : Bool → Framing → List ℕ → Option (List ℕ) → Type 0
+HoldsPayload cut framing wire (Some payload) = IsPayload cut framing wire payload
+HoldsPayload cut framing wire None = (payload : List ℕ) → ¬ (IsPayload cut framing wire payload)
+
+-- a head and a wire, whole or cut, decode to this payload
+pub record Decodes (cut : Bool) (method head wire payload : List ℕ) : Type 0 where
+  pub framing : Framing
+  pub tells : HeadTells (Responses (asks_for_head method)) head (Ok framing)
+  pub decoded : IsPayload cut framing wire payload
+
+-- what a head and a wire decode to; or that they have no payload
+abbrev pub DecodesTo : Bool → List ℕ → List ℕ → List ℕ → Option (List ℕ) → Type 0
+DecodesTo cut method head wire (Some payload) = Decodes cut method head wire payload
+DecodesTo cut method head wire None = (payload : List ℕ) → HasPayload cut method head wire payload → ⊥

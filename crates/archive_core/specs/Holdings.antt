@@ -1,0 +1,66 @@
+-- What an archive over a disk holds, and what is told of it.
+use Rattle.std.specs.Prelude.{◌≡◌, ℕ, ◌-◌, ◌^◌, ◌<◌, ◌≤◌, Bool, IsTrue, List, length, count_by, Contains}
+use Rattle.capture.specs.Captures.{captures}
+use Rattle.capture.specs.declared.book.Book.{Book}
+use Rattle.capture.specs.declared.captured.Stored.{Stored}
+use Rattle.capture.specs.declared.limits.Limits.{Limits}
+use Rattle.cdxj_index.specs.Facts.{Facts}
+use Rattle.cdxj_index.specs.OfBook.{AreOf}
+use Rattle.cdxj_index.specs.Queries.{IsIndex}
+use Rattle.disk_model.specs.declared.disk.Disk.{Ghosts}
+use Rattle.revisit_table.specs.Table.{Table}
+use Rattle.warc_journal.specs.Journals.{texts}
+use Rattle.warc_journal.specs.declared.journal.Journal.{Journal}
+use Rattle.archive_shelf.specs.Contents.{Contents}
+use Rattle.archive_shelf.specs.Storing.{is_revisit}
+use Rattle.archive_core.specs.Shown.{numbered, numbers_from}
+use Rattle.archive_core.specs.Spots.{ArePlaced, AreSpotsOf, whole_from}
+use Rattle.archive_core.specs.Volumes.{HoldsBook, IsMeasured}
+use Rattle.archive_core.specs.declared.spot.Spot.{Spot}
+
+-- What an archive holds: the journal of its volumes and their book, the index, the table of digests, what is kept of each
+-- capture, its limits, how many captures it found when it was opened, and how many refer to another one.
+pub record Holdings (D : Type 0) : Type 0 where
+  pub journal : Journal D
+  pub book : Book
+  pub index : List Facts
+  pub table : Table
+  pub spots : List Spot
+  pub limits : Limits
+  pub found : ℕ
+  pub revisits : ℕ
+
+-- limits under which all numbers and lengths of an archive can be written down
+pub record AreLimits (limits : Limits) : Type 0 where
+  pub captures : limits.captures < 2 ^ 32 - 1
+  pub volume_bytes : limits.volume_bytes < 2 ^ 62
+
+-- whatever the disk tells: its numbers are those of the book's captures
+pub record IsCounted {D : Type 0} (held : Holdings D) : Type 0 where
+  pub few : length (captures held.book) < 2 ^ 32 - 1
+  pub revisits : held.revisits ≡ count_by (λ (stored : Stored). is_revisit stored.kept) (captures held.book)
+  pub found : held.found ≤ length (captures held.book)
+  pub below : (entry : Facts) → Contains held.index entry → entry.number < length (captures held.book)
+  pub limits : AreLimits held.limits
+
+-- What holds of an archive at each call: of every disk what doesn't speak of bytes, and where the disk tells what it holds, that
+-- the captures stand in the volumes where it says, and that the index is that of the book.
+pub record IsArchive {D : Type 0} (d : Ghosts D) (held : Holdings D) : Type 0 where
+  pub holds : HoldsBook d held.journal held.book
+  pub measured : IsMeasured held.journal held.book
+  pub counted : IsCounted held
+  pub spots : AreSpotsOf held.book held.spots
+  pub table : held.table.kept ≡ whole_from 0 held.spots
+  pub indexed : IsIndex held.index
+  pub placed : IsTrue d.tells → ArePlaced (texts d held.journal) held.book held.spots
+  pub known : IsTrue d.tells → AreOf held.book held.index
+
+-- what is told of an archive
+abbrev pub contents_of : {D : Type 0} → Bool → Holdings D → Contents
+contents_of tells held = record {
+  tells = tells;
+  seen = held.book;
+  shown = numbered held.index;
+  mine = numbers_from held.found (length (captures held.book) - held.found);
+  limits = held.limits;
+}

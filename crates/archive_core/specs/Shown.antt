@@ -1,0 +1,18 @@
+-- What an archive shows of its index: the entries in order of their numbers.
+use Rattle.std.specs.Prelude.{ℕ, nat_lt, List, [], ◌∷◌, ◌++◌, zero, suc, ◌+◌, if◌then◌else◌}
+use Rattle.cdxj_index.specs.Facts.{Facts}
+
+-- the entries in order of numbers, with one more in its place
+abbrev pub put : Facts → List Facts → List Facts
+put entry [] = entry ∷ []
+put entry (first ∷ others) = if nat_lt entry.number first.number then entry ∷ first ∷ others else first ∷ put entry others
+
+-- entries in order of their numbers
+abbrev pub numbered : List Facts → List Facts
+numbered [] = []
+numbered (first ∷ others) = put first (numbered others)
+
+-- so many numbers from one on
+abbrev pub numbers_from : ℕ → ℕ → List ℕ
+numbers_from from zero = []
+numbers_from from (suc n) = numbers_from from n ++ (from + n) ∷ []

@@ -1,0 +1,162 @@
+//! The archive over a disk.
+ghost use Rattle.std.specs.Prelude.{◌≡◌, IsTrue, Some, option_copied};
+ghost use Rattle.cdxj_index.specs.Queries.{with_number};
+ghost use Rattle.warc_journal.specs.Journals.{disk_of};
+ghost use Rattle.archive_shelf.specs.Storing.{counts_of};
+ghost use Rattle.archive_core.specs.Holdings.{contents_of};
+ghost use Rattle.archive_core.specs.Stores.{Admits};
+ghost use Rattle.archive_core.specs.Volumes.{OpensNear};
+
+use crate::finding;
+use crate::spot::Spot;
+use crate::volumes::Volumes;
+use archive_shelf::{Counts, Finder, StoreFault};
+use capture::{Limits, Memory};
+use cdxj_index::{Entry, Index};
+use disk_model::{Disk, MemoryDisk};
+use revisit_table::Digests;
+use std::alloc::Global;
+use std::marker::Model;
+use surt_key::Key;
+
+/// An archive over a disk, in which nobody else stores. A clause sees its journal, its book and what is kept of that.
+#[derive(Drop)]
+pub struct Archive<D: Disk> {
+    /// The volumes, and the book that they hold.
+    pub(crate) volumes: Volumes<D>,
+    /// The captures that are found by date.
+    pub(crate) index: Index,
+    /// The captures that keep their whole wire, by the digests of their payloads.
+    pub(crate) table: Digests,
+    /// Where the captures stand.
+    pub(crate) spots: Vec<Spot>,
+    /// How much it takes.
+    pub(crate) limits: Limits,
+    /// How many captures it found when it was opened.
+    pub(crate) found: u32,
+    /// How many captures refer to an earlier one.
+    pub(crate) revisits: u32,
+}
+
+impl<D: Disk> Model for Archive<D> {
+    ghost use Rattle.archive_core.specs.Holdings.{Holdings, IsArchive};
+
+    ghost Value = { Holdings D };
+
+    ghost use Rattle.archive_core.specs.View.{holdings_of};
+
+    ghost view = { λ a. holdings_of a };
+
+    ghost invariant = { λ a. IsArchive D.Disk (holdings_of a) };
+}
+
+impl<D: Disk> Archive<D> {
+    /// How many captures, revisits and volumes there are.
+    pub fn counts(&self) -> Counts
+        ensures { result ≡ counts_of self.now.book }
+    {
+        Counts {
+            captures: self.spots.len() as u32,
+            revisits: self.revisits,
+            volumes: self.volumes.journal.volumes(),
+        }
+    }
+
+    /// How many faults of the disk it has met.
+    pub fn faults(&self) -> u64
+        ensures { result ≡ D.faults (disk_of self.now.journal) }
+    {
+        self.volumes.journal.faults()
+    }
+
+    /// The entry of a number; none exactly where no entry has it. Takes no memory.
+    pub fn entry(&self, number: u32) -> Option<&Entry>
+        ensures { option_copied result ≡ with_number number self.now.index }
+    {
+        self.index.at(number)
+    }
+
+    /// Refuses a capture more where there are as many as there may be.
+    pub(crate) fn check_room(&self) -> Result<(), StoreFault>
+        ensures { Admits (contents_of D.tells self.now) result }
+    {
+        let count = self.spots.len() as u32;
+        let limit = self.limits.captures;
+        if count >= limit {
+            return Err(StoreFault::Full { count, limit });
+        }
+        Ok(())
+    }
+
+    /// Gives the disk back. Where it tells what it holds, what a read gives and what a crash may leave stand for sound books,
+    /// the one that was seen last or one next to it.
+    pub fn close(self) -> D
+        ensures disk { result ≡ disk_of self.journal }
+        ensures near { IsTrue D.tells → OpensNear D.Disk result self.book }
+    {
+        self.volumes.journal.into_disk()
+    }
+}
+
+impl Archive<MemoryDisk> {
+    /// The same archive, with a fuse on its disk: so many further calls of the disk pass, and then each fails.
+    pub fn fused(self, calls: u64) -> Archive<MemoryDisk>
+        ensures { result ≡ record self { journal = record self.journal { disk = record self.journal.disk { fuse = Some calls } } } }
+    {
+        let Volumes { journal, held } = self.volumes;
+        Archive {
+            volumes: Volumes {
+                journal: journal.fused(calls),
+                held,
+            },
+            index: self.index,
+            table: self.table,
+            spots: self.spots,
+            limits: self.limits,
+            found: self.found,
+            revisits: self.revisits,
+        }
+    }
+}
+
+impl<D: Disk> Finder for Archive<D> {
+    ghost use Rattle.std.specs.Prelude.{true};
+    ghost use Rattle.archive_core.specs.Holdings.{contents_of};
+    ghost use Rattle.archive_core.specs.Volumes.{covers, moment_of, opens};
+    ghost use Rattle.warc_journal.specs.Journals.{disk_of};
+
+    ghost alone = { true };
+
+    ghost contents = { λ a. contents_of D.tells a };
+
+    ghost faults = { λ a. D.faults (disk_of a.journal) };
+
+    ghost reading = { λ a. D.reading (disk_of a.journal) };
+
+    ghost moment = { λ a. moment_of D.Disk (disk_of a.journal) };
+
+    ghost openings = { λ a t book. opens D.Disk (disk_of a.journal) t book };
+
+    ghost covered = { λ a t. covers D.Disk (disk_of a.journal) t };
+
+    ghost earlier = { λ a t s book le opened. record {
+      told = opened.told;
+      image = opened.image;
+      left = D.earlier (disk_of a.journal) t s opened.image le opened.left;
+      stands = opened.stands;
+    } };
+
+    ghost covered_later = { λ a t s le all told image left. all told image (D.earlier (disk_of a.journal) t s image le left) };
+
+    fn by_date(&mut self, _alloc: Global, key: &Key, time: u64) -> Result<Option<Entry>, Memory> {
+        finding::nearest(&self.index, key, time)
+    }
+
+    fn map(&mut self, alloc: Global, key: &Key) -> Result<Vec<Entry>, Memory> {
+        finding::with_key(alloc, &self.index, key)
+    }
+
+    fn starting(&mut self, alloc: Global, start: &Key) -> Result<Vec<Entry>, Memory> {
+        finding::starting(alloc, &self.index, start)
+    }
+}

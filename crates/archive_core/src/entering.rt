@@ -1,0 +1,107 @@
+//! The entry of a capture in the index.
+ghost use Rattle.std.specs.Prelude.{◌≡◌, ℕ, List, codes, map, slice_get, option_copied, IfOk};
+ghost use Rattle.capture.specs.Fields.{is_named, named_values, values_of};
+ghost use Rattle.cdxj_index.specs.OfBook.{mime_by};
+ghost use Rattle.http_head.specs.Heads.{IsResponseOf, named_value};
+ghost use Rattle.httparse.specs.Grammar as grammar;
+ghost use Rattle.time_text.specs.Texts.{InRange};
+ghost use Rattle.archive_core.specs.Entries.{EntersAs};
+
+use capture::{Digest, Kept, Memory, Stored, Text};
+use cdxj_index::Entry;
+use cdxj_line::{REVISIT, media_type};
+use http_head::{Field, ResponseHead};
+use std::alloc::Global;
+use surt_key::{KeyFault, key_of};
+
+/// The status of a response that has no body since the client has it: no capture with it is found by date.
+const NOT_MODIFIED: u16 = 304;
+
+/// Which capture a record is of, and where it stands.
+#[derive(Clone, Copy, Debug, PartialEq, Eq)]
+pub(crate) struct RecordAt {
+    /// The capture's number.
+    pub(crate) number: u32,
+    /// The digest of its payload.
+    pub(crate) digest: Digest,
+    /// The volume in which the record stands.
+    pub(crate) volume: u32,
+    /// Its place in the volume's text, in bytes.
+    pub(crate) offset: u64,
+    /// Its length, in bytes.
+    pub(crate) len: u64,
+}
+
+/// The entry of a capture; none where it isn't found by date, since it wasn't asked for by GET or its response is 304 (RFC
+/// 9110, section 15.4.5), or where its target has no key.
+pub(crate) fn entry_of(
+    alloc: Global,
+    stored: &Stored,
+    head: &ResponseHead,
+    at: RecordAt,
+) -> Result<Option<Entry>, Memory>
+    requires date { InRange stored.now.date }
+    requires parsed { (h : grammar.ResponseHead) × IsResponseOf stored.now.head h head.now }
+    ensures { (text : List ℕ) (h : grammar.ResponseHead) → IsResponseOf text h head.now → IfOk result (EntersAs stored.now h at) }
+{
+    if stored.method.as_slice() != b"GET".as_slice() {
+        return Ok(None);
+    }
+    if head.status == NOT_MODIFIED {
+        return Ok(None);
+    }
+    let key = match key_of(alloc, stored.uri.as_slice()) {
+        Ok(key) => key,
+        Err(KeyFault::NotHttp) => return Ok(None),
+        Err(KeyFault::Memory) => return Err(Memory),
+    };
+    Ok(Some(Entry {
+        key,
+        date: stored.date,
+        number: at.number,
+        uri: stored.uri.copy()?,
+        mime: mime_of(alloc, &stored.kept, head)?,
+        status: head.status,
+        digest: at.digest,
+        volume: at.volume,
+        offset: at.offset,
+        length: at.len,
+    }))
+}
+
+/// The media type of an entry: that of a revisit is its own.
+fn mime_of(alloc: Global, kept: &Kept, head: &ResponseHead) -> Result<Text, Memory>
+    ensures { (text : List ℕ) (h : grammar.ResponseHead) → IsResponseOf text h head.now → IfOk result (λ mime. mime ≡ mime_by kept.now (named_values h.fields)) }
+{
+    match kept {
+        Kept::Wire(_) => media_type(alloc, content_type(head)),
+        Kept::Same(_) => Text::from_str(alloc, REVISIT),
+        Kept::Cut(_) => media_type(alloc, content_type(head)),
+    }
+}
+
+/// The value of the first field Content-Type.
+fn content_type(head: &ResponseHead) -> Option<&[u8]>
+    ensures { option_copied result ≡ slice_get (values_of (codes "content-type") (map named_value head.now.fields)) 0 }
+{
+    first_content_type(head.fields.as_slice())
+}
+
+/// The same of fields.
+fn first_content_type(fields: &[Field]) -> Option<&[u8]>
+    ensures { option_copied result ≡ slice_get (values_of (codes "content-type") (map named_value fields.now)) 0 }
+{
+    for field in fields {
+        if is_content_type(field) {
+            return Some(field.value.as_slice());
+        }
+    }
+    None
+}
+
+/// Whether a field is Content-Type.
+fn is_content_type(field: &Field) -> bool
+    ensures { result ≡ is_named (codes "content-type") (named_value field.now) }
+{
+    field.name.as_slice().eq_ignore_ascii_case(b"content-type")
+}

@@ -1,0 +1,83 @@
+//! Opening an archive over a disk.
+ghost use Rattle.std.specs.Prelude.{◌≡◌, IfErr, IfOk, IfSome, count_by};
+ghost use Rattle.warc_journal.specs.Journals.{disk_of};
+ghost use Rattle.warc_text.specs.Ids.{IsUuid};
+ghost use Rattle.archive_shelf.specs.declared.fault.ReopenFault.TheVariants.{Memory as IsMemory};
+ghost use Rattle.archive_core.specs.Gathering.{IsUsable};
+ghost use Rattle.archive_core.specs.Holdings.{AreLimits};
+ghost use Rattle.archive_core.specs.Reopening.{IsMadeOf, IsNotOpened, IsReopened};
+ghost use Rattle.archive_core.specs.Spots.{is_same_form};
+
+use crate::Archive;
+use crate::opening::{Opened, open_volumes};
+use crate::sorting::index_of;
+use crate::spot::Spot;
+use crate::volumes::Volumes;
+use archive_shelf::{Depth, ReopenFault};
+use capture::{Limits, Memory};
+use disk_model::Disk;
+use std::alloc::Global;
+use uuid::Uuid;
+
+impl<D: Disk> Archive<D> {
+    /// Opens the archive that a disk holds, in this namespace where one is given. Each volume is synced and read; nothing is
+    /// written. Refused, the disk is given back.
+    ///
+    /// A disk without volumes opens to an archive without captures, in the namespace that is given, or in that of the UUID of
+    /// zeros. An archive that holds more captures than `limits` allow opens as well, and takes no further one. Each depth
+    /// reads every volume whole.
+    pub fn reopen(
+        alloc: Global,
+        disk: D,
+        namespace: Option<Uuid>,
+        limits: Limits,
+        _depth: Depth,
+    ) -> Result<Archive<D>, (ReopenFault, D)>
+        requires uuid { IfSome namespace IsUuid }
+        requires limits { AreLimits limits }
+        ensures reopened { IfOk result (IsReopened D.Disk disk namespace limits) }
+        ensures refused { IfErr result (IsNotOpened D.Disk disk namespace) }
+    {
+        match open_volumes(alloc, disk, &namespace) {
+            Ok(opened) => archive_of(alloc, opened, limits),
+            Err(refused) => Err(refused),
+        }
+    }
+}
+
+/// The archive of what was opened.
+fn archive_of<D: Disk>(
+    alloc: Global,
+    opened: Opened<D>,
+    limits: Limits,
+) -> Result<Archive<D>, (ReopenFault, D)>
+    requires limits { AreLimits limits }
+    requires usable { IsUsable D.Disk opened }
+    ensures made { IfOk result (IsMadeOf opened limits) }
+    ensures memory { IfErr result (λ refused. refused ≡ (IsMemory, disk_of opened.journal)) }
+{
+    let Opened { journal, gathered } = opened;
+    let (held, spots, table, entries) = gathered.into_parts();
+    let index = match index_of(alloc, entries) {
+        Ok(index) => index,
+        Err(Memory) => return Err((ReopenFault::Memory, journal.into_disk())),
+    };
+    let found = spots.len() as u32;
+    let revisits = revisits_among(spots.as_slice()) as u32;
+    Ok(Archive {
+        volumes: Volumes::over(journal, held),
+        index,
+        table,
+        spots,
+        limits,
+        found,
+        revisits,
+    })
+}
+
+/// How many captures refer to an earlier one.
+fn revisits_among(spots: &[Spot]) -> usize
+    ensures { result ≡ count_by (λ spot. is_same_form spot.form) spots.now }
+{
+    spots.iter().filter(|spot| spot.form.is_same()).count()
+}

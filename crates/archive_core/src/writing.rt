@@ -1,0 +1,70 @@
+//! How a capture is written: a volume for it where it needs one, and its group.
+ghost use Rattle.std.specs.Prelude.{◌≡◌, ◌⊎◌, ◌+◌, ◌-◌, ◌^◌, ◌<◌, IsTrue, IfOk, OnErr, OnOk, length};
+ghost use Rattle.capture.specs.Captures.{captures};
+ghost use Rattle.capture.specs.Faults.{CountsFaults};
+ghost use Rattle.capture.specs.Tails.{IsCommitted};
+ghost use Rattle.warc_journal.specs.Extents.{cdxj_files};
+ghost use Rattle.warc_journal.specs.Journals.{disk_of, texts};
+ghost use Rattle.warc_journal.specs.Texts.{with_more};
+ghost use Rattle.warc_text.specs.Books.{IsGroupText};
+ghost use Rattle.warc_text.specs.Sound.{IsSound};
+ghost use Rattle.warc_text.specs.StandsFor.{commit_byte};
+ghost use Rattle.archive_shelf.specs.Storing.{with_capture};
+ghost use Rattle.archive_core.specs.Held.{book_of};
+ghost use Rattle.archive_core.specs.Storing.{HasRoomFor, Writes, end_with, texts_with, with_prepared};
+ghost use Rattle.archive_core.specs.Volumes.{HoldsBook, IsMeasured};
+
+use crate::prepared::Prepared;
+use crate::volumes::Volumes;
+use capture::Stored;
+use disk_model::Disk;
+use warc_journal::{DiskFault, Place};
+
+impl<D: Disk> Volumes<D> {
+    /// Writes a capture with its group into the last volume, or into the one that was prepared for it, which is begun first.
+    /// Takes no memory. Refused, the book is as before, or it has that volume.
+    pub(crate) fn write(
+        &mut self,
+        prepared: Option<Prepared>,
+        stored: &Stored,
+        group: &[u8],
+    ) -> Result<Place, DiskFault>
+        requires room { HasRoomFor self.old prepared }
+        requires holds { HoldsBook D.Disk self.old.journal (book_of self.old.held) }
+        requires measured { IsMeasured self.old.journal (book_of self.old.held) }
+        requires committed { IsCommitted commit_byte group.now }
+        requires group { IsTrue D.tells → IsGroupText (with_capture (with_prepared (book_of self.old.held) prepared) stored.now)
+            (length (captures (with_prepared (book_of self.old.held) prepared))) group.now }
+        requires sound { IsTrue D.tells → IsSound (with_capture (with_prepared (book_of self.old.held) prepared) stored.now) }
+        requires fits { end_with self.old prepared + length group.now < 2 ^ 62 }
+        ensures stored { OnOk result (book_of self.new.held
+            ≡ with_capture (with_prepared (book_of self.old.held) prepared) stored.now) }
+        ensures left { OnErr result ((book_of self.new.held ≡ book_of self.old.held)
+            ⊎ (book_of self.new.held ≡ with_prepared (book_of self.old.held) prepared)) }
+        ensures holds { HoldsBook D.Disk self.new.journal (book_of self.new.held) }
+        ensures measured { IsMeasured self.new.journal (book_of self.new.held) }
+        ensures place { IfOk result (λ place. place ≡ record {
+          volume = length (with_prepared (book_of self.old.held) prepared).volumes - 1;
+          at = end_with self.old prepared;
+          len = length group.now;
+        }) }
+        ensures text { IsTrue D.tells → OnOk result (texts D.Disk self.new.journal
+            ≡ with_more (texts_with (texts D.Disk self.old.journal) prepared) group.now) }
+        ensures texts_left { IsTrue D.tells → OnErr result ((texts D.Disk self.new.journal ≡ texts D.Disk self.old.journal)
+            ⊎ (texts D.Disk self.new.journal ≡ texts_with (texts D.Disk self.old.journal) prepared)) }
+        ensures others { IsTrue D.tells
+            → cdxj_files (D.reading (disk_of self.new.journal)) ≡ cdxj_files (D.reading (disk_of self.old.journal)) }
+        ensures writes { Writes D.Disk (disk_of self.old.journal) (disk_of self.new.journal) (book_of self.old.held)
+            (with_prepared (book_of self.old.held) prepared)
+            (with_capture (with_prepared (book_of self.old.held) prepared) stored.now) (book_of self.new.held) result }
+        ensures faults { CountsFaults (D.faults (disk_of self.old.journal)) (D.faults (disk_of self.new.journal)) result }
+    {
+        match prepared {
+            Some(prepared) => {
+                self.begin(prepared)?;
+                self.add(stored, group)
+            }
+            None => self.add(stored, group),
+        }
+    }
+}
