@@ -62,6 +62,4 @@ pub enum Refusal {
         kept: Digest,
         found: Option<Digest>,
     },
-    /// The request, or the origin's response, isn't of a form that is built.
-    NotBuilt,
 }

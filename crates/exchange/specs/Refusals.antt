@@ -2,7 +2,7 @@
 use Rattle.std.specs.Prelude.{ℕ, Bool, List, [], ◌∷◌, ◌++◌, codes, decimal, length, if◌then◌else◌}
 use Rattle.httparse.specs.Ascii.{line_feed, space, crlf_bytes}
 use Rattle.capture.specs.declared.refusal.Refusal.{Refusal}
-use Rattle.capture.specs.declared.refusal.Refusal.TheVariants.{Malformed, TargetRefused, BadTime, BadAcceptDatetime, NotAForm, NoCapture, NoSuch, MethodRefused, BodyTooLong, HeadTooLong, ClockRange, ConnectRefused, SecureRefused, CodingRefused, DialFault, OriginFault, OriginEnded, OriginMalformed, OriginTooLong, TooManyInterim, Full, DiskFault, Damaged, NotBuilt}
+use Rattle.capture.specs.declared.refusal.Refusal.TheVariants.{Malformed, TargetRefused, BadTime, BadAcceptDatetime, NotAForm, NoCapture, NoSuch, MethodRefused, BodyTooLong, HeadTooLong, ClockRange, ConnectRefused, SecureRefused, CodingRefused, DialFault, OriginFault, OriginEnded, OriginMalformed, OriginTooLong, TooManyInterim, Full, DiskFault, Damaged}
 use Rattle.exchange.specs.Texts.{length_line, close_line_where}
 
 -- the status code and its reason phrase
@@ -30,7 +30,6 @@ refusal_status TooManyInterim = codes "502 Bad Gateway"
 refusal_status (Full count limit) = codes "507 Insufficient Storage"
 refusal_status DiskFault = codes "507 Insufficient Storage"
 refusal_status (Damaged number kept found) = codes "507 Insufficient Storage"
-refusal_status NotBuilt = codes "501 Not Implemented"
 
 -- the refusal in a word
 unfoldable pub refusal_name : Refusal → List ℕ
@@ -57,7 +56,6 @@ refusal_name TooManyInterim = codes "TooManyInterim"
 refusal_name (Full count limit) = codes "Full"
 refusal_name DiskFault = codes "DiskFault"
 refusal_name (Damaged number kept found) = codes "Damaged"
-refusal_name NotBuilt = codes "NotBuilt"
 
 -- a number behind a space
 abbrev pub spaced : ℕ → List ℕ

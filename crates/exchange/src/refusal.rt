@@ -127,7 +127,7 @@ fn status_of(refusal: &Refusal) -> &'static str
         BodyTooLong => "413 Content Too Large",
         HeadTooLong => "431 Request Header Fields Too Large",
         ClockRange => "500 Internal Server Error",
-        ConnectRefused | SecureRefused | CodingRefused | NotBuilt => "501 Not Implemented",
+        ConnectRefused | SecureRefused | CodingRefused => "501 Not Implemented",
         DialFault | OriginFault | OriginEnded | OriginMalformed | OriginTooLong | TooManyInterim => "502 Bad Gateway",
         Full | DiskFault | Damaged => "507 Insufficient Storage",
     )
@@ -162,6 +162,5 @@ fn name_of(refusal: &Refusal) -> &'static str
         Full => "Full",
         DiskFault => "DiskFault",
         Damaged => "Damaged",
-        NotBuilt => "NotBuilt",
     )
 }

@@ -1,43 +1,23 @@
--- What the command `pipe` leaves, said of the disk that it was given.
-use Rattle.std.proofs.Common.{◌≡◌, ◌≢◌, ℕ, ◌<◌, Bool, List, [], ◌∷◌, length, Option, Some, None, refl, sym, ap, subst, ◌∙◌, arith}
+-- What the command `pipe` leaves.
+use Rattle.std.proofs.Common.{◌≡◌, ◌⊎◌, ℕ, ◌<◌, ◌≤◌, Bool, IsTrue, List, [], ◌∷◌, length, Option, refl, sym, ap, subst, ◌∙◌, inl, inr, arith}
 use Rattle.std.specs.Prelude.{get_or}
-use Rattle.outside.specs.declared.gate.Heard.{Heard}
-use Rattle.outside.specs.Gate.{Connections, heard_of, one_given, one_hung_up, one_served}
-use Rattle.outside.specs.Link.{Traffic, IsFresh}
+use Rattle.archive_core.specs.Holdings.{Holdings, contents_of}
+use Rattle.archive_core.specs.Reopening.{IsReopened}
+use Rattle.archive_core.specs.Volumes.{OpensNear, covers, moment_of}
+use Rattle.capture.specs.Growth.{Grows}
 use Rattle.outside.proofs.HangUps.{connections_hung_up_are_logged}
-use Rattle.disk_model.specs.Image.{Image, files_of, file_count}
-use Rattle.disk_model.specs.declared.kind.Kind.TheVariants.{Warc}
-use Rattle.proxy_run.specs.Gains.{Told}
-use Rattle.proxy_run.specs.Pipe.{Serves, unheard}
-use Rattle.proxy_run.specs.Storing.{Keeps, empty_book}
+use Rattle.outside.specs.Gate.{Connections, heard_of, one_given, one_hung_up, one_served}
+use Rattle.outside.specs.Link.{IsFresh, Traffic}
+use Rattle.outside.specs.declared.gate.Heard.{Heard}
+use Rattle.proxy_run.specs.Objects.{Around, Kinds, Objects}
+use Rattle.proxy_run.specs.Opening.{IsOpened, usual_limits}
+use Rattle.proxy_run.specs.Pipes.{HasServed, HasServedNone, Pipes, around_in}
+use Rattle.proxy_run.specs.Serving.{IsEnd, IsReason, ServesNone, ServesOne, pipe_setting, unheard}
 use Rattle.proxy_run.specs.declared.status.Status.{Status}
-use Rattle.proxy_run.specs.declared.words.Command.{Command}
-use Rattle.proxy_run.specs.declared.words.Command.TheVariants.{Pipe}
-
--- ---- the number of Warc files
-
-none_by_length : (files : List (List ℕ)) → length files ≡ 0 → files ≡ []
-none_by_length [] e = refl
-none_by_length (file ∷ files) e = absurd (omega (arith, e))
-
-pub no_files : (image : Image) (count : ℕ) → count ≡ file_count image Warc → count ≡ 0 → image.warc ≡ []
-unfolding files_of
-no_files image count is none = none_by_length image.warc (sym is ∙ none)
-
-pub some_files : (image : Image) (count : ℕ) → count ≡ file_count image Warc → count ≢ 0 → image.warc ≢ []
-unfolding files_of
-some_files image count is some = λ none. some (is ∙ ap (λ (files : List (List ℕ)). length files) none)
-
--- ---- the namespace that the words name
-
-abbrev namespace_in : Option Command → List ℕ
-namespace_in None = []
-namespace_in (Some (Pipe namespace)) = namespace
-
-pub same_namespace : (found : Option Command) (command : Command) (namespace other : List ℕ) → found ≡ Some (Pipe namespace)
-    → found ≡ Some command → command ≡ Pipe other → other ≡ namespace
-same_namespace found command namespace other asked is pipe =
-    ap namespace_in (ap (λ (c : Command). Some c) (sym pipe) ∙ sym is ∙ asked)
+use Rattle.proxy_run.specs.declared.status.Status.TheVariants.{Outside}
+use Rattle.proxy_run.proofs.ConnectionLaws.{DiskLaws, held_by, leaves_just, served_over}
+use Rattle.proxy_run.proofs.OpeningLaws.{unchanged_by}
+use Rattle.warc_journal.specs.Journals.{disk_of}
 
 -- ---- the gate's connection
 
@@ -46,11 +26,18 @@ pub nothing_heard : (traffic : Traffic) (faults : ℕ) → IsFresh traffic → f
 nothing_heard traffic faults fresh none = ap (λ (t : Traffic). heard_of t faults) fresh ∙ ap (λ (n : ℕ). record unheard { faults = n }) none
 
 -- the connection that was given and hung up is all that was gained
-pub served_and_hung_up : (before given now : Connections) (kept heard : Heard) → given ≡ one_given before
-    → now ≡ one_hung_up given kept → kept ≡ heard → now ≡ one_served before heard
-served_and_hung_up before given now kept heard was is same =
-    is ∙ ap (λ (c : Connections). one_hung_up c kept) was ∙ ap (λ (h : Heard). one_hung_up (one_given before) h) same
-    ∙ connections_hung_up_are_logged before heard
+pub served_and_hung_up : (before given now : Connections) (heard : Heard) → given ≡ one_given before
+    → now ≡ one_hung_up given heard → now ≡ one_served before heard
+served_and_hung_up before given now heard was is =
+    is ∙ ap (λ (c : Connections). one_hung_up c heard) was ∙ connections_hung_up_are_logged before heard
+
+-- nothing but connections might have been gained, and none was
+pub none_gained : (was : Around) (closed : Bool) (before now : ℕ) (connections : Connections) (status : Status) → IsReason closed before now status
+    → connections ≡ was.connections → ServesNone closed before now was (record was { connections = connections }) status
+none_gained was closed before now connections status reason same = record {
+  reason = reason;
+  nothing_gained = ap (λ (k : Connections). record was { connections = k }) same;
+}
 
 -- ---- the first member
 
@@ -58,15 +45,60 @@ pub first_any : {A : Type 0} (items : List A) (a b : A) → 0 < length items →
 first_any [] a b some = absurd (omega (arith, some))
 first_any (item ∷ items) a b some = refl
 
--- ---- the disk
+-- ---- the archive
 
-pub serves_as : (clock_tells closed : Bool) (gate_before gate_now : ℕ) (old new : Connections) (status : Status) (disk_tells : Bool) (faults_now : ℕ)
-    (reading : Image) (images : Image → Type 0) (namespace namespace' : List ℕ) (was was' is is' : Told) (faults faults' : ℕ)
-    → namespace' ≡ namespace → was' ≡ was → is' ≡ is → faults' ≡ faults
-    → Serves clock_tells namespace' closed gate_before gate_now old new was' is' (Keeps disk_tells faults' faults_now reading images (empty_book namespace')) status
-    → Serves clock_tells namespace closed gate_before gate_now old new was is (Keeps disk_tells faults faults_now reading images (empty_book namespace)) status
-serves_as clock_tells closed gate_before gate_now old new status disk_tells faults_now reading images namespace namespace' was was' is is' faults faults' e f h k s =
-    subst (λ (n : List ℕ). Serves clock_tells n closed gate_before gate_now old new was is (Keeps disk_tells faults faults_now reading images (empty_book n)) status) e
-    (subst (λ (w : Told). Serves clock_tells namespace' closed gate_before gate_now old new w is (Keeps disk_tells faults faults_now reading images (empty_book namespace')) status) f
-    (subst (λ (w : Told). Serves clock_tells namespace' closed gate_before gate_now old new was' w (Keeps disk_tells faults faults_now reading images (empty_book namespace')) status) h
-    (subst (λ (n : ℕ). Serves clock_tells namespace' closed gate_before gate_now old new was' is' (Keeps disk_tells n faults_now reading images (empty_book namespace')) status) k s)))
+module _ {D G L P N M C O : Type 0} (kinds : Kinds D G L P N M C O) (laws : DiskLaws kinds.disks) (was is : Objects D G N C O) (asked : Option (List ℕ))
+    (status : Status) (held left : Holdings D) (reopened : IsReopened kinds.disks was.disk asked usual_limits held) (closed : is.disk ≡ disk_of left.journal) where
+  pub has_served : ServesOne (held_by kinds.disks) (pipe_setting kinds.clocks.tells) (around_in kinds was) (around_in kinds is) held left status
+      → HasServed kinds was is (contents_of kinds.disks.tells held) (contents_of kinds.disks.tells left) status
+  unfolding served_over
+  has_served one =
+      subst (λ (d : D). HasServed kinds was (record is { disk = d }) (contents_of kinds.disks.tells held) (contents_of kinds.disks.tells left) status) (sym closed)
+      (record {
+        one = served_over kinds.disks laws was.disk kinds.clocks.tells (around_in kinds was) (around_in kinds is) held left status
+            (unchanged_by kinds.disks was.disk asked held reopened) reopened.faults one;
+        left = leaves_just kinds.disks laws was.disk asked one.connection.rounds held left reopened one.connection.images;
+      })
+
+  pub has_served_none : ServesNone (kinds.gates.closed was.gate) (kinds.gates.faults was.gate) (kinds.gates.faults is.gate) (around_in kinds was) (around_in kinds is) status
+      → left ≡ held → HasServedNone kinds was is (contents_of kinds.disks.tells held) (contents_of kinds.disks.tells left) status
+  has_served_none none same =
+      subst (λ (d : D). HasServedNone kinds was (record is { disk = d }) (contents_of kinds.disks.tells held) (contents_of kinds.disks.tells left) status)
+      (sym (closed ∙ ap (λ (h : Holdings D). disk_of h.journal) same))
+      (record {
+        none = none;
+        unchanged = unchanged_by kinds.disks was.disk asked held reopened;
+        same = ap (λ (h : Holdings D). contents_of kinds.disks.tells h) same;
+      })
+
+  serves_by : (ServesOne (held_by kinds.disks) (pipe_setting kinds.clocks.tells) (around_in kinds was) (around_in kinds is) held left status
+      ⊎ (ServesNone (kinds.gates.closed was.gate) (kinds.gates.faults was.gate) (kinds.gates.faults is.gate) (around_in kinds was) (around_in kinds is) status × (left ≡ held)))
+      → HasServed kinds was is (contents_of kinds.disks.tells held) (contents_of kinds.disks.tells left) status
+      ⊎ HasServedNone kinds was is (contents_of kinds.disks.tells held) (contents_of kinds.disks.tells left) status
+  serves_by (inl one) = inl (has_served one)
+  serves_by (inr none) = inr (has_served_none none.0 none.1)
+
+  pub pipes_by : IsOpened kinds.disks asked was.disk (contents_of kinds.disks.tells held)
+      → (IsTrue kinds.clients_tell → IsTrue kinds.origins_tell
+      → ServesOne (held_by kinds.disks) (pipe_setting kinds.clocks.tells) (around_in kinds was) (around_in kinds is) held left status
+      ⊎ (ServesNone (kinds.gates.closed was.gate) (kinds.gates.faults was.gate) (kinds.gates.faults is.gate) (around_in kinds was) (around_in kinds is) status × (left ≡ held)))
+      → Grows held.book left.book → (IsTrue kinds.disks.tells → OpensNear kinds.disks is.disk left.book)
+      → ((t : ℕ) → t ≤ moment_of kinds.disks (disk_of held.journal) → covers kinds.disks (disk_of held.journal) t → covers kinds.disks (disk_of left.journal) t)
+      → IsEnd status → (status ≡ Outside) ⊎ (kinds.gates.faults is.gate ≡ kinds.gates.faults was.gate)
+      → kinds.disks.faults (disk_of held.journal) ≤ kinds.disks.faults (disk_of left.journal) → is.out ≡ was.out
+      → Pipes kinds asked was is status
+  pipes_by opened serves grows near covered ends gate_failed faults silent = record {
+    before = contents_of kinds.disks.tells held;
+    after = contents_of kinds.disks.tells left;
+    opened = opened;
+    serves = λ clients origins. serves_by (serves clients origins);
+    grows = grows;
+    near = near;
+    covered = λ t le all.
+        subst (λ (d : D). covers kinds.disks d t) (sym closed)
+        (covered t (omega (arith, le, reopened.quiet.later)) (reopened.quiet.covered t le all));
+    ends = ends;
+    gate_failed = gate_failed;
+    disk_faults = omega (arith, faults, reopened.faults, ap (λ (d : D). kinds.disks.faults d) closed);
+    prints_nothing = silent;
+  }

@@ -1,19 +1,19 @@
-//! The call that the program makes, and the parts that serve one connection.
+//! The call that the program makes.
 #![tactic(auto)]
 
-mod archive;
 mod base;
-mod fetching;
-mod links;
+mod checking;
+mod laws;
+mod opening;
 mod piping;
-mod plain;
-mod refuse;
+mod printing;
 mod running;
-mod session;
+mod serving;
 mod status;
-mod storing;
+mod texts;
 mod words;
 
+pub use laws::ready_archives_are_served;
 pub use running::{CREW, Crew, Ran, run};
 pub use status::Status;
 pub use words::{is_pipe, site_of};

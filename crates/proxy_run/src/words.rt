@@ -1,8 +1,10 @@
 //! The words of the command line.
-ghost use Rattle.std.specs.Prelude.{◌≡◌, List, ℕ, map, option_copied, slice_index_or, IfOk, IfSome};
+ghost use Rattle.std.specs.Prelude.{◌≡◌, List, ℕ, option_copied, slice_index_or, IfOk, IfSome};
 ghost use Rattle.std.specs.Borrow.{Bor};
 ghost use Rattle.proxy_run.specs.Base.{IsSiteOf};
 ghost use Rattle.proxy_run.specs.Words as spec;
+ghost use Rattle.proxy_run.specs.Words.{texts};
+ghost use Rattle.warc_text.specs.Ids.{IsUuid};
 
 use crate::base::site_of_base;
 use capture::{Memory, Site};
@@ -12,22 +14,39 @@ use uuid::Uuid;
 /// What the words ask for.
 #[derive(Clone, Copy, Debug, PartialEq, Eq)]
 pub enum Command {
+    /// Say how much the archive holds.
+    Check,
     /// Serve one connection, with an archive of this namespace.
     Pipe(Uuid),
 }
 
 /// What the words ask for, where they ask for something.
 pub fn command_of(words: &[&str]) -> Option<Command>
-    ensures { result ≡ spec.command_of (map (λ word. word.now) words.now) }
+    ensures value { result ≡ spec.command_of (texts words.now) }
+    ensures uuid { IfSome result (λ command. IfSome (spec.asked_of command) IsUuid) }
 {
+    if words.len() == 1 {
+        return command_of_one(words[0]);
+    }
     if words.len() != 2 {
         return None;
     }
     command_of_two(words[0], words[1])
 }
 
+fn command_of_one(name: &str) -> Option<Command>
+    ensures value { result ≡ spec.command_of_one name.now }
+    ensures uuid { IfSome result (λ command. IfSome (spec.asked_of command) IsUuid) }
+{
+    if name == "check" {
+        return Some(Command::Check);
+    }
+    None
+}
+
 fn command_of_two(name: &str, namespace: &str) -> Option<Command>
-    ensures { result ≡ spec.command_of_two name.now namespace.now }
+    ensures value { result ≡ spec.command_of_two name.now namespace.now }
+    ensures uuid { IfSome result (λ command. IfSome (spec.asked_of command) IsUuid) }
 {
     if name != "pipe" {
         return None;
@@ -38,9 +57,19 @@ fn command_of_two(name: &str, namespace: &str) -> Option<Command>
     }
 }
 
+/// The namespace in which a command opens the archive, if it names one.
+pub fn asked_of(command: Command) -> Option<Uuid>
+    ensures { result ≡ spec.asked_of command }
+{
+    match command {
+        Command::Check => None,
+        Command::Pipe(namespace) => Some(namespace),
+    }
+}
+
 /// Whether the one client is at the standard streams: where the first word is `pipe`.
 pub fn is_pipe(words: &[&str]) -> bool
-    ensures { result ≡ spec.is_pipe (map (λ word. word.now) words.now) }
+    ensures { result ≡ spec.is_pipe (texts words.now) }
 {
     match words.first() {
         Some(word) => *word == "pipe",
@@ -60,7 +89,8 @@ pub fn site_of(alloc: Global, words: &[&str]) -> Result<Option<Site>, Memory>
 
 /// The UUID that is written so in lower case with hyphens (RFC 9562, section 4).
 fn namespace_of(text: &str) -> Option<Uuid>
-    ensures { result ≡ spec.namespace_of text.now }
+    ensures value { result ≡ spec.namespace_of text.now }
+    ensures uuid { IfSome result IsUuid }
 {
     match Uuid::parse_str(text) {
         Ok(namespace) => {

@@ -1,9 +1,13 @@
+-- One word, two words, or another number of them.
 use Rattle.std.proofs.Common.{sym, ◌∙◌}
-use Rattle.proxy_run.proofs.WordsLemmas.{command_of-two, command_of-other}
+use Rattle.proxy_run.proofs.WordsLemmas.{command_of-one, command_of-two, command_of-other}
 use Rattle.proxy_run.proofs.words.command_of.Goals as goal
 
-pub returns-then-words-ne2 : goal.returns-then-words-ne2
-returns-then-words-ne2 c = sym (command_of-other _ c.if-words-ne2.true)
+pub returns-then-words-eq1-clause-value : goal.returns-then-words-eq1-clause-value
+returns-then-words-eq1-clause-value c = c.command_of_one.ensures.value ∙ sym (command_of-one _ _ c.if-words-eq1.true)
 
-pub returns : goal.returns
-returns c = c.command_of_two.ensures ∙ sym (command_of-two _ _ _ c.if-words-ne2.false)
+pub returns-then-words-ne2-clause-value : goal.returns-then-words-ne2-clause-value
+returns-then-words-ne2-clause-value c = sym (command_of-other _ c.if-words-eq1.false c.if-words-ne2.true)
+
+pub returns-clause-value : goal.returns-clause-value
+returns-clause-value c = c.command_of_two.ensures.value ∙ sym (command_of-two _ _ _ c.if-words-ne2.false)

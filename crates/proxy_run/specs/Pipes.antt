@@ -1,0 +1,91 @@
+-- What the command `pipe` leaves.
+use Rattle.std.specs.Prelude.{◌≡◌, ◌⊎◌, ◌≤◌, ℕ, List, true, IsTrue, Option}
+use Rattle.archive_core.specs.Volumes.{OpensNear, covers, moment_of, opens}
+use Rattle.archive_shelf.specs.Contents.{Contents}
+use Rattle.archive_shelf.specs.Openings.{HasIds, ImageStandsFor, SameBook, StaysCovered}
+use Rattle.archive_shelf.specs.declared.finder.Finder.{Ghosts as Finders}
+use Rattle.capture.specs.Growth.{Grows}
+use Rattle.capture.specs.declared.book.Book.{Book}
+use Rattle.disk_model.specs.Image.{Image}
+use Rattle.disk_model.specs.declared.disk.Disk.{Ghosts as Disks}
+use Rattle.proxy_run.specs.Objects.{Around, Kinds, Objects, told_around}
+use Rattle.proxy_run.specs.Opening.{IsNotOpened, IsOpened, IsUnchanged}
+use Rattle.proxy_run.specs.Serving.{IsEnd, ServesNone, ServesOne, pipe_setting, pipe_site}
+use Rattle.proxy_run.specs.declared.status.Status.{Status}
+use Rattle.proxy_run.specs.declared.status.Status.TheVariants.{Outside}
+use Rattle.session.specs.Images.{HasAllIds, OpensAtLast}
+use Rattle.session.specs.Rounds.{Round}
+use Rattle.session.specs.Traces.{Terms, terms_of}
+
+-- an archive alone: its disk, and what is told of it
+pub record Alone (D : Type 0) : Type 0 where
+  pub disk : D
+  pub now : Contents
+
+-- the archive on a disk of which this is told
+abbrev pub alone_on : {D : Type 0} → D → Contents → Alone D
+alone_on disk now = record { disk = disk; now = now }
+
+-- what a shelf tells that is an archive alone over a disk
+abbrev pub over : {D : Type 0} → Disks D → Finders (Alone D)
+over disks = record {
+  alone = true;
+  contents = λ kept. kept.now;
+  faults = λ kept. disks.faults kept.disk;
+  reading = λ kept. disks.reading kept.disk;
+  moment = λ kept. moment_of disks kept.disk;
+  openings = λ kept t book. opens disks kept.disk t book;
+  covered = λ kept t. covers disks kept.disk t;
+}
+
+-- where and over what `pipe` serves its connection
+abbrev pub pipe_terms : Contents → Terms
+pipe_terms now = terms_of pipe_site true now
+
+-- Where ids differ, each book for which an image stands that a crash may leave, and so what a read gives, is one that these rounds
+-- leave of the book that was there before.
+abbrev pub LeavesJust : {D : Type 0} → Disks D → Contents → List Round → D → Type 0
+LeavesJust disks before rounds disk =
+    IsTrue disks.tells → HasIds before.seen → HasAllIds rounds
+    → (image : Image) (x : Book) → disks.images disk image → ImageStandsFor image x
+    → OpensAtLast (pipe_terms before) (λ book. SameBook book before.seen) rounds x
+
+module _ {D G L P N M C O : Type 0} (kinds : Kinds D G L P N M C O) where
+  -- what is told around the connection
+  abbrev pub around_in : Objects D G N C O → Around
+  around_in objects = told_around kinds.gates kinds.dialers kinds.clocks objects.gate objects.member
+
+  -- the gate's first connection was served over the archive, and hung up
+  pub record HasServed (was is : Objects D G N C O) (before after : Contents) (status : Status) : Type 0 where
+    pub one : ServesOne (over kinds.disks) (pipe_setting kinds.clocks.tells) (around_in was) (around_in is)
+        (alone_on was.disk before) (alone_on is.disk after) status
+    pub left : LeavesJust kinds.disks before one.connection.rounds is.disk
+
+  -- the gate gave no connection, and nothing was written
+  pub record HasServedNone (was is : Objects D G N C O) (before after : Contents) (status : Status) : Type 0 where
+    pub none : ServesNone (kinds.gates.closed was.gate) (kinds.gates.faults was.gate) (kinds.gates.faults is.gate)
+        (around_in was) (around_in is) status
+    pub unchanged : IsUnchanged kinds.disks was.disk is.disk
+    pub same : after ≡ before
+
+  -- The archive was opened. What holds whatever the links tell: nothing was printed; the book has only grown, and each image that a
+  -- crash may leave, and so what a read gives, stands for a sound book that is that one or next to it; each image since an earlier
+  -- moment stands for a sound book where it did before; a fault of the gate is told.
+  pub record Pipes (asked : Option (List ℕ)) (was is : Objects D G N C O) (status : Status) : Type 0 where
+    pub before : Contents
+    pub after : Contents
+    pub opened : IsOpened kinds.disks asked was.disk before
+    pub serves : IsTrue kinds.clients_tell → IsTrue kinds.origins_tell
+        → HasServed was is before after status ⊎ HasServedNone was is before after status
+    pub grows : Grows before.seen after.seen
+    pub near : IsTrue kinds.disks.tells → OpensNear kinds.disks is.disk after.seen
+    pub covered : StaysCovered (moment_of kinds.disks) (covers kinds.disks) was.disk is.disk
+    pub ends : IsEnd status
+    pub gate_failed : (status ≡ Outside) ⊎ (kinds.gates.faults is.gate ≡ kinds.gates.faults was.gate)
+    pub disk_faults : kinds.disks.faults was.disk ≤ kinds.disks.faults is.disk
+    pub prints_nothing : is.out ≡ was.out
+
+  -- The archive was refused, and neither gate nor crew was touched.
+  pub record Refuses (asked : Option (List ℕ)) (was is : Objects D G N C O) (status : Status) : Type 0 where
+    pub refused : IsNotOpened kinds.disks kinds.sinks asked was.disk is.disk was.out is.out status
+    pub untouched : is ≡ record was { disk = is.disk; out = is.out }

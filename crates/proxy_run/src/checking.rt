@@ -1,0 +1,43 @@
+//! The command `check`: how much an archive holds.
+ghost use Rattle.std.specs.Prelude.{◌⊎◌, None};
+ghost use Rattle.proxy_run.specs.Checks.{IsCounted};
+ghost use Rattle.proxy_run.specs.Opening.{IsNotOpened};
+ghost use Rattle.proxy_run.specs.Printing.{LacksMemory, Prints};
+ghost use Rattle.proxy_run.specs.Texts as spec;
+
+use crate::opening::open;
+use crate::printing::print_as;
+use crate::running::Ran;
+use crate::status::Status;
+use crate::texts::counts_text;
+use archive_shelf::Counts;
+use capture::Memory;
+use disk_model::Disk;
+use outside::Sink;
+use std::alloc::Global;
+
+/// Opens the archive on the disk, prints how much it holds, and closes it. Nothing is written.
+pub fn check<D: Disk, O: Sink>(alloc: Global, disk: D, out: &mut O) -> Ran<D>
+    ensures { IsCounted D.Disk O.Sink disk result.disk out.old out.new result.status
+        ⊎ IsNotOpened D.Disk O.Sink None disk result.disk out.old out.new result.status }
+{
+    let archive = match open(alloc, disk, None, out) {
+        Ok(archive) => archive,
+        Err(ran) => return ran,
+    };
+    let status = print_counts(alloc, out, &archive.counts());
+    Ran {
+        status,
+        disk: archive.close(),
+    }
+}
+
+/// Prints how much an archive holds, unless there is no memory.
+fn print_counts<O: Sink>(alloc: Global, out: &mut O, counts: &Counts) -> Status
+    ensures { Prints O.Sink Status.Done (spec.counts_text counts.now) out.old out.new result ⊎ LacksMemory O.Sink out.old out.new result }
+{
+    match counts_text(alloc, counts) {
+        Ok(text) => print_as(out, text.as_slice(), Status::Done),
+        Err(Memory) => Status::Memory,
+    }
+}

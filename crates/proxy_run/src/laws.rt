@@ -1,0 +1,19 @@
+//! What runs promise to those who build on them.
+ghost use Rattle.proxy_run.specs.Complete.{CapturesComeBack, ChecksAreAnswered, PipesAreAnswered, PipesLeaveReady};
+ghost use Rattle.proxy_run.specs.Objects.{kinds_of};
+
+use disk_model::Disk;
+use outside::{Clock, Dialer, Gate, Sink};
+use warc_text::files_stand_for_one_book;
+
+/// Where no count of faults rises, over a disk that stands for a sound book in the namespace that is asked for, `check` prints how
+/// much there is, and `pipe` goes well unless its client's link fails or ends inside a message: or memory ran out. Each image that
+/// `pipe` may leave stands for such a book again, which holds all captures of the last one in order, and one more at most.
+pub fn ready_archives_are_served<D: Disk, G: Gate, N: Dialer, C: Clock, O: Sink>()
+    ensures checks { ChecksAreAnswered (kinds_of D.Disk G.Gate N.Dialer C.Clock O.Sink G.Link.tells N.Link.tells) }
+    ensures pipes { PipesAreAnswered (kinds_of D.Disk G.Gate N.Dialer C.Clock O.Sink G.Link.tells N.Link.tells) }
+    ensures again { PipesLeaveReady (kinds_of D.Disk G.Gate N.Dialer C.Clock O.Sink G.Link.tells N.Link.tells) }
+    ensures back { CapturesComeBack (kinds_of D.Disk G.Gate N.Dialer C.Clock O.Sink G.Link.tells N.Link.tells) }
+{
+    files_stand_for_one_book();
+}

@@ -1,0 +1,109 @@
+//! Serves the gate's first connection.
+ghost use Rattle.std.specs.Prelude.{◌≡◌, ◌<◌, ◌≤◌, ◌⊎◌, IsTrue, IfOk};
+ghost use Rattle.archive_shelf.specs.Openings.{StaysCovered};
+ghost use Rattle.capture.specs.Growth.{Grows};
+ghost use Rattle.outside.specs.Gate.{Connections, heard_of, one_given, one_hung_up};
+ghost use Rattle.outside.specs.Link.{IsFresh};
+ghost use Rattle.proxy_run.specs.Objects.{told_around};
+ghost use Rattle.proxy_run.specs.Serving as spec;
+ghost use Rattle.proxy_run.specs.Serving.{ServesNone, ServesOne, IsEnd, pipe_setting, pipe_site};
+
+use crate::status::Status;
+use archive_shelf::{Shelf, leading_books_grow};
+use capture::{Memory, Site, Text};
+use outside::{Accepted, Clock, Dialer, Gate, Link};
+use session::{Served, serve};
+use std::alloc::Global;
+
+/// Serves the gate's first connection over an archive, with the dialer and the clock of a member, and hangs it up.
+pub fn serve_first<S: Shelf, G: Gate, N: Dialer, C: Clock>(
+    alloc: Global,
+    shelf: &mut S,
+    gate: &mut G,
+    member: &mut (N, C),
+) -> Status
+    ensures serves { IsTrue G.Link.tells → IsTrue N.Link.tells
+        → ServesOne S.Finder (pipe_setting C.tells) (told_around G.Gate N.Dialer C.Clock gate.old member.old)
+        (told_around G.Gate N.Dialer C.Clock gate.new member.new) shelf.old shelf.new result
+        ⊎ (ServesNone (G.closed gate.old) (G.faults gate.old) (G.faults gate.new) (told_around G.Gate N.Dialer C.Clock gate.old member.old)
+        (told_around G.Gate N.Dialer C.Clock gate.new member.new) result × (shelf.new ≡ shelf.old)) }
+    ensures grows { Grows (S.contents shelf.old).seen (S.contents shelf.new).seen }
+    ensures faults { S.faults shelf.old ≤ S.faults shelf.new }
+    ensures covered { StaysCovered S.moment S.covered shelf.old shelf.new }
+    ensures ends { IsEnd result }
+    ensures gate_failed { (result ≡ Status.Outside) ⊎ (G.faults gate.new ≡ G.faults gate.old) }
+{
+    leading_books_grow();
+    let site = match site_of_pipe(alloc) {
+        Ok(site) => site,
+        Err(Memory) => return Status::Memory,
+    };
+    match gate.accept() {
+        Accepted::Connection(link) => serve_link(alloc, shelf, gate, link, member, &site),
+        Accepted::Closed => Status::Done,
+        Accepted::Failed => Status::Outside,
+        Accepted::Memory => Status::Memory,
+    }
+}
+
+/// Serves a fresh connection, which the gate gave last, and hangs it up.
+fn serve_link<S: Shelf, G: Gate, N: Dialer, C: Clock>(
+    alloc: Global,
+    shelf: &mut S,
+    gate: &mut G,
+    link: G::Link,
+    member: &mut (N, C),
+    site: &Site,
+) -> Status
+    requires out { IsTrue G.Link.tells → 0 < (G.connections gate.old).out }
+    requires no_fault { G.Link.faults link ≡ 0 }
+    requires fresh { IsTrue G.Link.tells → IsFresh (G.Link.traffic link) }
+    requires site { site.now ≡ pipe_site }
+    ensures serves { IsTrue G.Link.tells → IsTrue N.Link.tells → (before : Connections) → G.connections gate.old ≡ one_given before
+        → ServesOne S.Finder (pipe_setting C.tells)
+        (record (told_around G.Gate N.Dialer C.Clock gate.old member.old) { connections = before })
+        (told_around G.Gate N.Dialer C.Clock gate.new member.new) shelf.old shelf.new result }
+    ensures grows { Grows (S.contents shelf.old).seen (S.contents shelf.new).seen }
+    ensures faults { S.faults shelf.old ≤ S.faults shelf.new }
+    ensures covered { StaysCovered S.moment S.covered shelf.old shelf.new }
+    ensures ends { IsEnd result }
+    ensures same_faults { G.faults gate.new ≡ G.faults gate.old }
+{
+    let mut link = link;
+    let served = serve(alloc, shelf, &mut link, &mut member.0, &mut member.1, site);
+    hang_up(gate, link);
+    status_of(served)
+}
+
+/// Hangs a connection up, so that what was heard on it stands in the gate's log.
+fn hang_up<G: Gate>(gate: &mut G, link: G::Link)
+    requires { IsTrue G.Link.tells → 0 < (G.connections gate.old).out }
+    ensures logs { IsTrue G.Link.tells
+        → G.connections gate.new ≡ one_hung_up (G.connections gate.old) (heard_of (G.Link.traffic link) (G.Link.faults link)) }
+    ensures same_faults { G.faults gate.new ≡ G.faults gate.old }
+{
+    gate.hang_up(G::end(link));
+}
+
+/// The status of a program that served one connection.
+fn status_of(served: Served) -> Status
+    ensures value { result ≡ spec.status_of served }
+    ensures ends { IsEnd result }
+{
+    match served {
+        Served::Done | Served::ClientRefused(_) => Status::Done,
+        Served::ClientBroke | Served::ClientEndedEarly => Status::Outside,
+        Served::WantOfMemory => Status::Memory,
+    }
+}
+
+/// The site of the archive that `pipe` serves.
+fn site_of_pipe(alloc: Global) -> Result<Site, Memory>
+    ensures { IfOk result (λ site. site ≡ pipe_site) }
+{
+    Ok(Site {
+        base: Text::from_str(alloc, "http://localhost:8080")?,
+        host: Text::from_str(alloc, "localhost")?,
+        port: 8080,
+    })
+}

@@ -1,0 +1,94 @@
+//! What is printed of an archive.
+ghost use Rattle.std.specs.Prelude.{◌≡◌, IfOk, codes, string_bytes};
+ghost use Rattle.proxy_run.specs.Texts as spec;
+
+use archive_shelf::{Counts, ReopenFault};
+use capture::{Memory, put_all, put_number};
+use disk_model::Kind;
+use std::alloc::{AllocError, Global};
+use uuid::Uuid;
+
+/// How much an archive holds.
+#[tactic(auto, unfolding(crate::specs::Texts::counts_text))]
+pub fn counts_text(alloc: Global, counts: &Counts) -> Result<Vec<u8>, Memory>
+    ensures { IfOk result (λ text. text.items ≡ spec.counts_text counts.now) }
+{
+    let mut text = Vec::new(alloc);
+    put_all(&mut text, b"captures ")?;
+    put_number(&mut text, u64::from(counts.captures))?;
+    put_all(&mut text, b" revisits ")?;
+    put_number(&mut text, u64::from(counts.revisits))?;
+    put_all(&mut text, b" volumes ")?;
+    put_number(&mut text, u64::from(counts.volumes))?;
+    put_all(&mut text, b"\n")?;
+    Ok(text)
+}
+
+/// Why an archive isn't opened. There is no memory for it where want of memory is why.
+pub fn fault_text(alloc: Global, fault: &ReopenFault) -> Result<Vec<u8>, Memory>
+    ensures { IfOk result (λ text. spec.IsFaultText fault.now text.items) }
+{
+    match fault {
+        ReopenFault::Damaged { kind, file, place } => damage_text(alloc, *kind, *file, *place),
+        ReopenFault::OtherNamespace(other) => other_text(alloc, other),
+        ReopenFault::DiskFault => disk_fault_text(alloc),
+        ReopenFault::Memory => Err(Memory),
+    }
+}
+
+/// The file and the place in it where damage begins.
+#[tactic(auto, unfolding(crate::specs::Texts::damage_text))]
+fn damage_text(alloc: Global, kind: Kind, file: u32, place: u64) -> Result<Vec<u8>, Memory>
+    ensures { IfOk result (λ text. text.items ≡ spec.damage_text kind file place) }
+{
+    let name = file_name(alloc, kind, file)?;
+    let mut text = Vec::new(alloc);
+    put_all(&mut text, b"damaged ")?;
+    put_all(&mut text, name.as_str().as_bytes())?;
+    put_all(&mut text, b" ")?;
+    put_number(&mut text, place)?;
+    put_all(&mut text, b"\n")?;
+    Ok(text)
+}
+
+/// The namespace that the archive has in place of the one that was asked for.
+#[tactic(auto, unfolding(crate::specs::Texts::other_text))]
+fn other_text(alloc: Global, namespace: &Uuid) -> Result<Vec<u8>, Memory>
+    ensures { IfOk result (λ text. text.items ≡ spec.other_text namespace.now) }
+{
+    let mut buffer = Uuid::encode_buffer();
+    let written = namespace.hyphenated().encode_lower(&mut buffer);
+    let mut text = Vec::new(alloc);
+    put_all(&mut text, b"other namespace ")?;
+    put_all(&mut text, written.as_bytes())?;
+    put_all(&mut text, b"\n")?;
+    Ok(text)
+}
+
+fn disk_fault_text(alloc: Global) -> Result<Vec<u8>, Memory>
+    ensures { IfOk result (λ text. text.items ≡ codes "disk fault\n") }
+{
+    let mut text = Vec::new(alloc);
+    put_all(&mut text, b"disk fault\n")?;
+    Ok(text)
+}
+
+/// The name of a file of the archive: `vol-`, its number in six digits or more, and its kind.
+#[tactic(auto, using(crate::proofs::FileNames::padded_to_six), unfolding(crate::specs::Texts::file_name))]
+fn file_name(alloc: Global, kind: Kind, file: u32) -> Result<String, AllocError>
+    ensures { IfOk result (λ name. string_bytes name ≡ spec.file_name kind file) }
+{
+    let ending = ending_of(kind);
+    format!(in alloc; "vol-{file:06}{ending}")
+}
+
+/// The ending of a kind of files.
+#[tactic(auto, unfolding(crate::specs::Texts::ending_of))]
+fn ending_of(kind: Kind) -> &'static str
+    ensures { result.now ≡ spec.ending_of kind }
+{
+    match kind {
+        Kind::Warc => ".warc",
+        Kind::Cdxj => ".cdxj",
+    }
+}

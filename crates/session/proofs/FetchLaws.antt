@@ -1,0 +1,138 @@
+-- What asking an origin makes of a round, where no response came.
+use Rattle.std.proofs.Common.{◌≡◌, inl, inr, ℕ, ◌≤◌, Bool, true, List, [], ◌∷◌, ◌++◌, Result, Ok, Err, refl, sym, ◌∙◌, ap, subst}
+use Rattle.std.proofs.lemmas.List.{append-nil}
+use Rattle.archive_shelf.specs.declared.finder.Finder.{Ghosts}
+use Rattle.capture.specs.declared.memory.Memory.{Memory}
+use Rattle.capture.specs.declared.refusal.Refusal.{Refusal}
+use Rattle.capture.specs.declared.refusal.Refusal.TheVariants.{DialFault, OriginFault, OriginEnded, OriginMalformed, OriginTooLong, TooManyInterim}
+use Rattle.capture.specs.declared.site.Site.{Site}
+use Rattle.exchange.specs.Fetches.{Asking, CountsFetch, LogsFetch, LogsFetched}
+use Rattle.exchange.specs.declared.fetching.FetchFault.{FetchFault}
+use Rattle.exchange.specs.declared.fetching.FetchFault.TheVariants as fetch_fault
+use Rattle.http_head.specs.declared.head.Received.{Received}
+use Rattle.outside.specs.Records.{Links}
+use Rattle.outside.specs.declared.dialer.Transcript.{Transcript}
+use Rattle.time_text.specs.Texts.{InRange}
+use Rattle.session.specs.Exchanges.{Exchange, Fails, IsFailure, LacksReply, WentInVain, answers_head, asking_of, sent_of}
+use Rattle.session.specs.Exchanging.{Around, Asks, FailsBy, Refuses, terms_in, traces_of}
+use Rattle.session.specs.Images.{NoDeed, deed_of_failure}
+use Rattle.session.specs.Rounds.{is_disk_fault, is_origin_fault}
+use Rattle.session.specs.Traces.{CountsMet}
+use Rattle.session.specs.declared.answer.Answer.{Answer}
+use Rattle.session.proofs.EndingLaws.{shown_itself}
+use Rattle.session.proofs.ExchangeLaws.{Founded, lacking_comes, refused_comes, untouched}
+use Rattle.session.proofs.GainLaws.{none_met}
+use Rattle.session.proofs.VisitLaws.{rose_met, stayed_below, stayed_met}
+
+-- what clock and dialer tell of one exchange
+abbrev dialed : ℕ → List Transcript → ℕ → ℕ → Around
+dialed date transcripts before now = record { times = date ∷ []; transcripts = transcripts; faults_before = before; faults_now = now }
+
+-- no link was made: the log is as it was
+pub same_log : (old new : Links Transcript) → new ≡ old → new ≡ record old { log = old.log ++ [] }
+same_log old new e = e ∙ ap (λ (l : List Transcript). record old { log = l }) (sym (append-nil old.log))
+
+-- what was asked of the origin, by its parts
+asking_is : (e : Exchange) (request : List ℕ) (asks : Bool) → request ≡ sent_of e → asks ≡ answers_head e
+    → record { target = e.target; request = request; answers_head = asks } ≡ asking_of e
+asking_is e request asks sent same = λ i. record { target = e.target; request = sent i; answers_head = same i }
+
+pub as_asked : (e : Exchange) (request : List ℕ) (asks : Bool) (outcome : Result Received FetchFault) (old new : Links Transcript)
+    → request ≡ sent_of e → asks ≡ answers_head e
+    → LogsFetch (record { target = e.target; request = request; answers_head = asks }) outcome old new → LogsFetch (asking_of e) outcome old new
+as_asked e request asks outcome old new sent same h =
+    subst (λ (a : Asking). LogsFetch a outcome old new) (asking_is e request asks sent same) h
+
+-- the count of faults doesn't fall
+pub fetch_later : (before now : ℕ) (outcome : Result Received FetchFault) → CountsFetch before now outcome → before ≤ now
+fetch_later before now (Ok received) h = stayed_below before now h
+fetch_later before now (Err fetch_fault.DialFault) h = h.0
+fetch_later before now (Err fetch_fault.OriginFault) h = h.0
+fetch_later before now (Err fetch_fault.OriginEnded) h = stayed_below before now h
+fetch_later before now (Err fetch_fault.OriginMalformed) h = stayed_below before now h
+fetch_later before now (Err fetch_fault.OriginTooLong) h = stayed_below before now h
+fetch_later before now (Err fetch_fault.TooManyInterim) h = stayed_below before now h
+fetch_later before now (Err fetch_fault.Memory) h = stayed_below before now h
+
+-- ---- no response came
+
+module _ {S : Type 0} (finder : Ghosts S) (site : Site) (e : Exchange) (closes : Bool) (date : ℕ) (result : Result Answer Memory)
+    (old new : Links Transcript) (before now : ℕ) (shelf : S) (laws : Founded finder) (in_range : InRange date) (asks : Bool) (same : asks ≡ answers_head e) where
+  -- what holds of the one link, by how it ended
+  abbrev Vain : FetchFault → Transcript → Type 0
+  Vain fault t = WentInVain (terms_in finder site e shelf) e fault (traces_of finder site e (dialed date (t ∷ []) before now) (finder.contents shelf).seen shelf shelf)
+
+  -- the link was hung up, and the request refused
+  vain : (fault : FetchFault) (refusal : Refusal) → LogsFetched (asking_of e) (Err fault) old new → deed_of_failure e refusal ≡ NoDeed
+      → CountsMet (is_origin_fault refusal) before now → is_disk_fault refusal ≡ 0
+      → ((t : Transcript) → Vain fault t
+      → IsFailure (terms_in finder site e shelf) e refusal (traces_of finder site e (dialed date (t ∷ []) before now) (finder.contents shelf).seen shelf shelf))
+      → Refuses refusal asks closes result
+      → Asks finder site e closes date result (record { links = old; faults = before; shelf = shelf }) (record { links = new; faults = now; shelf = shelf })
+  vain fault refusal logs deed dialer none is refuses = record {
+    transcripts = logs.t ∷ [];
+    logged = logs.gains;
+    comes = refused_comes finder site e refusal asks closes (dialed date (logs.t ∷ []) before now) result shelf shelf same
+        (λ lacked. untouched finder site e lacked (Fails refusal) (dialed date (logs.t ∷ []) before now) shelf laws deed refl dialer
+        (subst (λ (n : ℕ). CountsMet n (finder.faults shelf) (finder.faults shelf)) (sym none) (none_met (finder.faults shelf)))
+        (is logs.t (record {
+          timed = record { date = date; only = refl; in_range = in_range };
+          linked = record { t = logs.t; only = refl; fetched = logs.fetched };
+          untouched = record { book = refl; shown = shown_itself finder.alone (finder.contents shelf).shown };
+        }))) refuses;
+  }
+
+  -- by the fault
+  pub fetch_failed : (fault : FetchFault) → LogsFetch (asking_of e) (Err fault) old new → CountsFetch before now (Err fault)
+      → FailsBy fault asks closes result
+      → Asks finder site e closes date result (record { links = old; faults = before; shelf = shelf }) (record { links = new; faults = now; shelf = shelf })
+  fetch_failed fetch_fault.DialFault logs counts fails = record {
+    transcripts = [];
+    logged = same_log old new logs;
+    comes = refused_comes finder site e DialFault asks closes (dialed date [] before now) result shelf shelf same
+        (λ lacked. untouched finder site e lacked (Fails DialFault) (dialed date [] before now) shelf laws refl refl
+        (rose_met before now counts.1) (none_met (finder.faults shelf)) (record {
+          timed = record { date = date; only = refl; in_range = in_range };
+          none = refl;
+          untouched = record { book = refl; shown = shown_itself finder.alone (finder.contents shelf).shown };
+        })) fails;
+  }
+  fetch_failed fetch_fault.OriginFault logs counts fails =
+      vain fetch_fault.OriginFault OriginFault logs refl (rose_met before now counts.1) refl (λ t h. h) fails
+  fetch_failed fetch_fault.OriginEnded logs counts fails =
+      vain fetch_fault.OriginEnded OriginEnded logs refl (stayed_met before now counts) refl (λ t h. h) fails
+  fetch_failed fetch_fault.OriginMalformed logs counts fails =
+      vain fetch_fault.OriginMalformed OriginMalformed logs refl (stayed_met before now counts) refl (λ t h. h) fails
+  fetch_failed fetch_fault.OriginTooLong logs counts fails =
+      vain fetch_fault.OriginTooLong OriginTooLong logs refl (stayed_met before now counts) refl (λ t h. h) fails
+  fetch_failed fetch_fault.TooManyInterim logs counts fails =
+      vain fetch_fault.TooManyInterim TooManyInterim logs refl (stayed_met before now counts) refl (λ t h. h) fails
+  fetch_failed fetch_fault.Memory (inl none) counts fails = record {
+    transcripts = [];
+    logged = same_log old new none;
+    comes = lacking_comes finder site e closes (dialed date [] before now) result shelf shelf
+        (untouched finder site e true LacksReply (dialed date [] before now) shelf laws refl refl
+        (stayed_met before now counts) (none_met (finder.faults shelf)) (
+          refl,
+          record {
+            begun = inr (inr (record { timed = record { date = date; only = refl; in_range = in_range }; linked = inl refl }));
+            untouched = record { book = refl; shown = shown_itself finder.alone (finder.contents shelf).shown };
+          },
+        )) fails;
+  }
+  fetch_failed fetch_fault.Memory (inr logs) counts fails = record {
+    transcripts = logs.t ∷ [];
+    logged = logs.gains;
+    comes = lacking_comes finder site e closes (dialed date (logs.t ∷ []) before now) result shelf shelf
+        (untouched finder site e true LacksReply (dialed date (logs.t ∷ []) before now) shelf laws refl refl
+        (stayed_met before now counts) (none_met (finder.faults shelf)) (
+          refl,
+          record {
+            begun = inr (inr (record {
+              timed = record { date = date; only = refl; in_range = in_range };
+              linked = inr (record { t = logs.t; only = refl; fetched = logs.fetched });
+            }));
+            untouched = record { book = refl; shown = shown_itself finder.alone (finder.contents shelf).shown };
+          },
+        )) fails;
+  }

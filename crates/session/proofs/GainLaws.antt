@@ -1,0 +1,86 @@
+-- What is gained in one step after another.
+use Rattle.std.proofs.Common.{◌≡◌, ℕ, ◌+◌, ◌-◌, ◌^◌, ◌<◌, Bool, List, [], ◌++◌, length, refl, sym, ◌∙◌, ap, subst, arith, append_assoc, length-append}
+use Rattle.std.proofs.lemmas.List.{append-nil}
+use Rattle.archive_shelf.specs.Contents.{Contents}
+use Rattle.archive_shelf.specs.declared.finder.Finder.{Ghosts}
+use Rattle.capture.specs.Faults.{RoseBy}
+use Rattle.outside.specs.Records.{Links}
+use Rattle.outside.specs.declared.dialer.Transcript.{Transcript}
+use Rattle.session.specs.Connection.{Setting, Gained}
+use Rattle.session.specs.Gains.{World, Gains, no_gains, both_gains, GainsOutside}
+use Rattle.session.specs.Traces.{CountsMet}
+
+pub behind_text : (a b text more : List ℕ) → b ≡ a ++ text → b ++ more ≡ a ++ (text ++ more)
+behind_text a b text more e = ap (λ x. x ++ more) e ∙ append_assoc a text more
+
+behind_log : (a b log more : List Transcript) → b ≡ a ++ log → b ++ more ≡ a ++ (log ++ more)
+behind_log a b log more e = ap (λ (x : List Transcript). x ++ more) e ∙ append_assoc a log more
+
+-- what is shorter than a list that others stand behind
+shorter_before : (a b more : List ℕ) → b ≡ a ++ more → length b < 2 ^ 64 - 1 → length a < 2 ^ 64 - 1
+shorter_before a b more e h = omega (arith, ap (λ (x : List ℕ). length x) e, length-append a more, h)
+
+asked_on : (a b c m n : List ℕ) → (length b < 2 ^ 64 - 1 → b ≡ a ++ m) → (length c < 2 ^ 64 - 1 → c ≡ b ++ n)
+    → length c < 2 ^ 64 - 1 → c ≡ a ++ (m ++ n)
+asked_on a b c m n f g h = g h ∙ behind_text a b m n (f (shorter_before b c n (g h) h))
+
+logged_on : (a b c : Links Transcript) (m n : List Transcript) → b ≡ record a { log = a.log ++ m } → c ≡ record b { log = b.log ++ n }
+    → c ≡ record a { log = a.log ++ (m ++ n) }
+logged_on a b c m n e f =
+    f ∙ ap (λ (x : Links Transcript). record x { log = x.log ++ n }) e
+    ∙ ap (λ (l : List Transcript). record a { log = l }) (append_assoc a.log m n)
+
+none_before : (a b : ℕ) → a + b ≡ 0 → a ≡ 0
+none_before a b z = omega (arith, z)
+
+none_after : (a b : ℕ) → a + b ≡ 0 → b ≡ 0
+none_after a b z = omega (arith, z)
+
+rose_both : (a b x y z : ℕ) → RoseBy a x y → RoseBy b y z → RoseBy (a + b) x z
+rose_both a b x y z h k = omega (arith, h, k)
+
+pub met_both : (a b x y z : ℕ) → CountsMet a x y → CountsMet b y z → CountsMet (a + b) x z
+met_both a b x y z h k = record {
+  rose = rose_both a b x y z h.rose k.rose;
+  steady = λ e. k.steady (none_after a b e) ∙ h.steady (none_before a b e);
+}
+
+pub none_met : (x : ℕ) → CountsMet 0 x x
+none_met x = record { rose = omega arith; steady = λ _. refl }
+
+stored_on : (a b c : Contents) (m n : List ℕ) → b ≡ record a { seen = b.seen; shown = b.shown; mine = a.mine ++ m }
+    → c ≡ record b { seen = c.seen; shown = c.shown; mine = b.mine ++ n }
+    → c ≡ record a { seen = c.seen; shown = c.shown; mine = a.mine ++ (m ++ n) }
+stored_on a b c m n e f =
+    f ∙ ap (λ (x : Contents). record x { seen = c.seen; shown = c.shown; mine = x.mine ++ n }) e
+    ∙ ap (λ (l : List ℕ). record a { seen = c.seen; shown = c.shown; mine = l }) (append_assoc a.mine m n)
+
+stored_none : (a : Contents) → a ≡ record a { seen = a.seen; shown = a.shown; mine = a.mine ++ [] }
+stored_none a = ap (λ (l : List ℕ). record a { mine = l }) (sym (append-nil a.mine))
+
+outside_both : {S : Type 0} (clock_tells : Bool) (was mid is : World S) (first second : Gains) → GainsOutside clock_tells was mid first
+    → GainsOutside clock_tells mid is second → GainsOutside clock_tells was is (both_gains first second)
+outside_both clock_tells was mid is first second h k = record {
+  asked = λ told. asked_on was.answers mid.answers is.answers first.times second.times (h.asked told) (k.asked told);
+  logged = logged_on was.links mid.links is.links first.transcripts second.transcripts h.logged k.logged;
+}
+
+-- what was gained in one step, and then in others
+pub gained_both : {S : Type 0} (finder : Ghosts S) (setting : Setting) (was mid is : World S) (first second : Gains)
+    → Gained finder setting was mid first → Gained finder setting mid is second → Gained finder setting was is (both_gains first second)
+gained_both finder setting was mid is first second h k = record {
+  around = outside_both setting.clock_tells was mid is first second h.around k.around;
+  stored = stored_on (finder.contents was.shelf) (finder.contents mid.shelf) (finder.contents is.shelf) first.numbers second.numbers h.stored k.stored;
+}
+
+-- where nothing but what was heard has changed, nothing was gained
+pub gained_none : {S : Type 0} (finder : Ghosts S) (setting : Setting) (was is : World S) → is ≡ record was { heard = is.heard }
+    → Gained finder setting was is no_gains
+gained_none {S} finder setting was is e =
+    subst (λ (w : World S). Gained finder setting was w no_gains) (sym e) (record {
+      around = record {
+        asked = λ _ _. sym (append-nil was.answers);
+        logged = ap (λ (l : List Transcript). record was.links { log = l }) (sym (append-nil was.links.log));
+      };
+      stored = stored_none (finder.contents was.shelf);
+    })

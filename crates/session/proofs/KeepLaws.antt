@@ -1,0 +1,360 @@
+-- What storing the capture of an exchange makes of a round.
+use Rattle.std.proofs.Common.{◌≡◌, inr, ℕ, ◌<◌, ◌≤◌, Bool, true, false, ◌||◌, IsTrue, IfOk, List, [], ◌∷◌, ◌++◌, length, Option, Result, Ok, Err, refl, sym, ◌∙◌, ap, subst, arith}
+use Rattle.std.proofs.lemmas.List.{append-nil}
+use Rattle.archive_shelf.specs.Answers.{WritesNone}
+use Rattle.archive_shelf.specs.Contents.{Contents, IsConsistent}
+use Rattle.archive_shelf.specs.Laws.{LeadingGrows, StoresGrow}
+use Rattle.archive_shelf.specs.declared.fault.StoreFault.{StoreFault}
+use Rattle.archive_shelf.specs.declared.fault.StoreFault.TheVariants as store_fault
+use Rattle.archive_shelf.specs.declared.finder.Finder.{Ghosts}
+use Rattle.archive_shelf.specs.declared.receipt.Receipt.{Receipt}
+use Rattle.capture.specs.Captures.{HasPayload, IsPayloadOf, captures}
+use Rattle.capture.specs.Methods.{asks_for_head}
+use Rattle.capture.specs.Payload.{IsPayload}
+use Rattle.capture.specs.declared.book.Book.{Book}
+use Rattle.capture.specs.declared.captured.Taken.{Taken}
+use Rattle.capture.specs.declared.limits.TheConstants.{BODY_LIMIT}
+use Rattle.capture.specs.declared.memory.Memory.{Memory}
+use Rattle.capture.specs.declared.refusal.Refusal.TheVariants.{Full, DiskFault, Damaged}
+use Rattle.capture.specs.declared.site.Site.{Site}
+use Rattle.exchange.specs.Fetches.{IsFetched, IsOneResponse}
+use Rattle.exchange.specs.Storing.{CanBeForwarded, CanBePassedOn}
+use Rattle.exchange.specs.Texts.{answered}
+use Rattle.exchange.specs.declared.fetching.FetchFault.TheVariants as fetch_fault
+use Rattle.http_head.specs.declared.head.Received.{Received}
+use Rattle.outside.specs.declared.dialer.Transcript.{Transcript}
+use Rattle.time_text.specs.Texts.{InRange}
+use Rattle.warc_text.specs.Fits.{Fits}
+use Rattle.session.specs.Exchanges.{Exchange, Fails, Fetched, HasRoom, LacksReply, Passes, answers_head, asking_of, taken_of}
+use Rattle.session.specs.Exchanging.{Around, Comes, FollowsStore, HasCome, Keeps, PassesOn, Replies, Stores, round_of, terms_in, traces_of}
+use Rattle.session.specs.Laws.{StoredCapturesHaveTheirPayload}
+use Rattle.session.specs.Shelving.{GoesOn, IsQuiet}
+use Rattle.session.specs.Traces.{IsConsistentView, view_of}
+use Rattle.session.specs.declared.answer.Answer.{Answer}
+use Rattle.session.proofs.EndingLaws.{shown_itself}
+use Rattle.session.proofs.ExchangeLaws.{Founded, lacking_comes, none_stored, refused_comes, untouched, unwritten}
+use Rattle.session.proofs.GainLaws.{none_met}
+use Rattle.session.proofs.GrowingLaws.{leads_begins, leads_same, past_begins}
+use Rattle.session.proofs.StoreLaws.{images_denied, images_stored}
+use Rattle.session.proofs.VisitLaws.{rose_met, stayed_below, stayed_met, stays_on}
+
+-- ---- the capture
+
+-- the capture of an exchange can be stored
+pub fits : (e : Exchange) (date : ℕ) (received : Received) → CanBeForwarded e.message e.target → CanBePassedOn received e.message.head.method
+    → InRange date → length received.wire ≤ BODY_LIMIT → Fits (taken_of e date received)
+fits e date received sent came in_range within = record {
+  well_formed = record { target = sent.accepted; request = sent.whole; response = came.responds };
+  date = in_range;
+  short = record {
+    uri = omega (arith, sent.short_uri);
+    head = omega (arith, came.short);
+    wire = omega (arith, within);
+    request = sent.short;
+  };
+}
+
+-- the response has the payload of its wire
+has_payload : (received : Received) (method payload : List ℕ) → IsOneResponse (asks_for_head method) received
+    → IsPayload received.cut received.framing received.wire payload
+    → HasPayload received.cut method received.head.text received.wire payload
+has_payload received method payload (stream, response) is = record {
+  parsed = response.tells.0;
+  framing = received.framing;
+  whole = response.tells.1;
+  framed = response.tells.2;
+  wire_is = response.wire_is;
+  decoded = is;
+}
+
+-- ---- a shelf that stored a capture, or didn't
+
+-- whatever a store says, the shelf goes on
+pub stores_go_on : {S : Type 0} (finder : Ghosts S) (taken : Taken) (said : Result Receipt StoreFault) (was is : S) → LeadingGrows → StoresGrow
+    → Stores finder taken said was is → GoesOn finder was is
+stores_go_on finder taken (Ok receipt) was is leading grow h = record {
+  grows = grow finder.alone taken (finder.contents was) (finder.contents is) (Ok receipt) h.leaves;
+  shows = past_begins finder.alone receipt.number (finder.contents was).shown (finder.contents is).shown h.leaves.shown;
+  mine = record { rest = receipt.number ∷ []; splits = ap (λ (x : Contents). x.mine) h.leaves.others };
+  same_tells = ap (λ (x : Contents). x.tells) h.leaves.others;
+  same_limits = ap (λ (x : Contents). x.limits) h.leaves.others;
+  consistent = λ _. h.consistent;
+  faults = stayed_below (finder.faults was) (finder.faults is) h.faults;
+  later = h.later;
+  covered = h.covered;
+}
+stores_go_on finder taken (Err (store_fault.Full count limit)) was is leading grow h =
+    stays_on finder was is leading h.leaves.0 h.consistent (stayed_below (finder.faults was) (finder.faults is) h.faults) h.later h.covered
+stores_go_on finder taken (Err store_fault.DiskFault) was is leading grow h = record {
+  grows = grow finder.alone taken (finder.contents was) (finder.contents is) (Err store_fault.DiskFault) h.leaves;
+  shows = leads_begins finder.alone (finder.contents was).shown (finder.contents is).shown h.leaves.shown;
+  mine = record { rest = []; splits = ap (λ (x : Contents). x.mine) h.leaves.others ∙ sym (append-nil (finder.contents was).mine) };
+  same_tells = ap (λ (x : Contents). x.tells) h.leaves.others;
+  same_limits = ap (λ (x : Contents). x.limits) h.leaves.others;
+  consistent = λ _. h.consistent;
+  faults = h.faults.0;
+  later = h.later;
+  covered = h.covered;
+}
+stores_go_on finder taken (Err (store_fault.Damaged number kept found)) was is leading grow h =
+    stays_on finder was is leading h.leaves.0 h.consistent (stayed_below (finder.faults was) (finder.faults is) h.faults) h.later h.covered
+stores_go_on finder taken (Err store_fault.Memory) was is leading grow h =
+    stays_on finder was is leading h.leaves h.consistent (stayed_below (finder.faults was) (finder.faults is) h.faults) h.later h.covered
+
+-- an answer behind a store closes where the request asks for it
+pub follows_close : (ready : Answer) (asks closes : Bool) (said : Result Receipt StoreFault) (result : Result Answer Memory)
+    → FollowsStore ready asks closes said result → (IsTrue closes → IsTrue ready.closes)
+    → IfOk result (λ answer. IsTrue closes → IsTrue answer.closes)
+follows_close ready asks closes (Ok receipt) (Ok answer) same h = λ c. let e : answer.closes ≡ ready.closes = cc in e ∙ h c
+follows_close ready asks closes (Err (store_fault.Full count limit)) (Ok answer) r h = λ c. r.closes_is ∙ c
+follows_close ready asks closes (Err store_fault.DiskFault) (Ok answer) r h = λ c. r.closes_is ∙ c
+follows_close ready asks closes (Err (store_fault.Damaged number kept found)) (Ok answer) r h = λ c. r.closes_is ∙ c
+follows_close ready asks closes (Err store_fault.Memory) (Ok answer) err h = let bad : ⊥ = cc in absurd bad
+follows_close ready asks closes said (Err memory) r h = tt
+
+or_behind : (a b : Bool) → b ≡ true → (a || b) ≡ true
+or_behind true b e = refl
+or_behind false b e = e
+
+-- the answer that passes a response on closes where the request asks for it
+pub passes_close : (received : Received) (asks closes : Bool) (ready : Answer) → PassesOn received asks closes ready → IsTrue closes → IsTrue ready.closes
+passes_close received asks closes ready h c = h.closes_is ∙ or_behind received.cut closes c
+
+-- what is shown stays consistent, by a disk that tells as it told
+stays_consistent : {S : Type 0} (finder : Ghosts S) (site : Site) (e : Exchange) (was is : S) (faults : ℕ)
+    → (finder.contents is).tells ≡ (finder.contents was).tells → IsConsistent finder.alone (finder.contents is)
+    → IsConsistentView (terms_in finder site e was) (view_of (finder.contents is) faults (finder.faults is))
+stays_consistent finder site e was is faults same h = λ alone tells. h.shown alone (same ∙ tells)
+
+-- what lower crates promise of storing
+pub record Storing {S : Type 0} (finder : Ghosts S) : Type 0 where
+  pub founded : Founded finder
+  pub leading : LeadingGrows
+  pub grow : StoresGrow
+  pub payloads : StoredCapturesHaveTheirPayload
+
+-- the numbers of a shelf's own captures
+mine_stored : (a b : Contents) (m n : ℕ) → m ≡ n → b ≡ record a { seen = b.seen; shown = b.shown; mine = a.mine ++ m ∷ [] }
+    → b ≡ record a { seen = b.seen; shown = b.shown; mine = a.mine ++ n ∷ [] }
+mine_stored a b m n same h = h ∙ ap (λ (k : ℕ). record a { seen = b.seen; shown = b.shown; mine = a.mine ++ k ∷ [] }) same
+
+-- ---- what the exchange left
+
+-- a response came, and there was no memory to pass it on
+lost : (e : Exchange) (received : Received) (t : Transcript) → IsFetched (asking_of e) t (Ok received) → IsFetched (asking_of e) t (Err fetch_fault.Memory)
+lost e received t h = record { host = h.host; port = h.port; sent = h.sent; received = tt }
+
+module _ {S : Type 0} (finder : Ghosts S) (site : Site) (e : Exchange) (closes : Bool) (date : ℕ) (received : Received) (around : Around)
+    (in_range : InRange date) (come : HasCome e date received around) where
+  -- a response has come, over these traces
+  abbrev fetched_in : (found : Book) (was is : S) → Fetched e received (traces_of finder site e around found was is)
+  fetched_in found was is = record {
+    date = date;
+    timed = come.timed;
+    in_range = in_range;
+    t = come.t;
+    linked = come.linked;
+    fetched = come.fetched;
+  }
+
+  abbrev room_in : (found : Book) (was is : S) → length (captures found) < (finder.contents was).limits.captures
+      → HasRoom (terms_in finder site e was) e (traces_of finder site e around found was is)
+  room_in found was is room = record { received = received; fetched = fetched_in found was is; room = room }
+
+  -- there was no memory for the answer
+  pub unready : (shelf : S) → Founded finder → Replies finder site e true LacksReply around shelf shelf
+  unready shelf laws =
+      untouched finder site e true LacksReply around shelf laws refl refl
+      (stayed_met around.faults_before around.faults_now come.steady) (none_met (finder.faults shelf)) (
+        refl,
+        record {
+          begun = inr (inr (record {
+            timed = record { date = date; only = come.timed; in_range = in_range };
+            linked = inr (record { t = come.t; only = come.linked; fetched = lost e received come.t come.fetched });
+          }));
+          untouched = record { book = refl; shown = shown_itself finder.alone (finder.contents shelf).shown };
+        },
+      )
+
+  -- ---- nothing was written
+
+  quiet_by : (said : Result Receipt StoreFault) (was is : S) → Stores finder (taken_of e date received) said was is → WritesNone said
+      → IsQuiet finder (terms_in finder site e was) was is
+  quiet_by said was is h none = record { moves = h.quiet none; reading = λ alone tells. (h.reading alone tells).0 none }
+
+  -- the archive was full
+  full_reply : (count limit : ℕ) (lacked : Bool) (was is : S) → Founded finder → LeadingGrows → StoresGrow
+      → Stores finder (taken_of e date received) (Err (store_fault.Full count limit)) was is
+      → Replies finder site e lacked (Fails (Full count limit)) around was is
+  full_reply count limit lacked was is laws leading grow h =
+      unwritten finder site e lacked (Fails (Full count limit)) around was is laws.earlier h.leaves.0
+      (stores_go_on finder (taken_of e date received) (Err (store_fault.Full count limit)) was is leading grow h)
+      (quiet_by (Err (store_fault.Full count limit)) was is h tt) refl refl
+      (stayed_met around.faults_before around.faults_now come.steady) (stayed_met (finder.faults was) (finder.faults is) h.faults)
+      (record {
+        received = received;
+        fetched = fetched_in (finder.contents is).seen was is;
+        count_is = h.leaves.2;
+        limit_is = h.leaves.3;
+        full = omega (arith, h.leaves.1, h.leaves.2, h.leaves.3);
+        untouched = record { book = refl; shown = h.leaves.0.shown };
+      })
+
+  -- an earlier capture is damaged
+  damaged_reply : (number : ℕ) (kept : List ℕ) (found : Option (List ℕ)) (lacked : Bool) (was is : S) → Founded finder → LeadingGrows → StoresGrow
+      → Stores finder (taken_of e date received) (Err (store_fault.Damaged number kept found)) was is
+      → Replies finder site e lacked (Fails (Damaged number kept found)) around was is
+  damaged_reply number kept found lacked was is laws leading grow h =
+      unwritten finder site e lacked (Fails (Damaged number kept found)) around was is laws.earlier h.leaves.0
+      (stores_go_on finder (taken_of e date received) (Err (store_fault.Damaged number kept found)) was is leading grow h)
+      (quiet_by (Err (store_fault.Damaged number kept found)) was is h tt) refl refl
+      (stayed_met around.faults_before around.faults_now come.steady) (stayed_met (finder.faults was) (finder.faults is) h.faults)
+      (record {
+        room = room_in (finder.contents is).seen was is h.leaves.1;
+        number_is = h.leaves.2;
+        is = h.leaves.3;
+        untouched = record { book = refl; shown = h.leaves.0.shown };
+      })
+
+  -- there was no memory to store the capture
+  unkept_reply : (was is : S) → Founded finder → LeadingGrows → StoresGrow
+      → Stores finder (taken_of e date received) (Err store_fault.Memory) was is
+      → Replies finder site e true LacksReply around was is
+  unkept_reply was is laws leading grow h =
+      unwritten finder site e true LacksReply around was is laws.earlier h.leaves
+      (stores_go_on finder (taken_of e date received) (Err store_fault.Memory) was is leading grow h)
+      (quiet_by (Err store_fault.Memory) was is h tt) refl refl
+      (stayed_met around.faults_before around.faults_now come.steady) (stayed_met (finder.faults was) (finder.faults is) h.faults) (
+        refl,
+        record {
+          begun = inr (inr (record {
+            timed = record { date = date; only = come.timed; in_range = in_range };
+            linked = inr (record { t = come.t; only = come.linked; fetched = lost e received come.t come.fetched });
+          }));
+          untouched = record { book = refl; shown = h.leaves.shown };
+        },
+      )
+
+  -- ---- the disk
+
+  -- the disk failed
+  denied_reply : (lacked : Bool) (was is : S) → LeadingGrows → StoresGrow
+      → Stores finder (taken_of e date received) (Err store_fault.DiskFault) was is
+      → Replies finder site e lacked (Fails DiskFault) around was is
+  denied_reply lacked was is leading grow h = record {
+    found = h.leaves.found;
+    led = h.leaves.led;
+    by = record {
+      room = room_in h.leaves.found was is h.leaves.not_full;
+      left = h.leaves.left;
+      shown = record {
+        shown = h.leaves.shown;
+        consistent = stays_consistent finder site e was is around.faults_now (ap (λ (x : Contents). x.tells) h.leaves.others) h.consistent;
+      };
+    };
+    dialer = stayed_met around.faults_before around.faults_now come.steady;
+    disk = rose_met (finder.faults was) (finder.faults is) h.faults.1;
+    stored = none_stored (finder.contents was) (finder.contents is) [] refl h.leaves.others;
+    images = λ incoming text. images_denied finder (terms_in finder site e was)
+        (round_of finder site e incoming (Fails DiskFault) lacked (traces_of finder site e around h.leaves.found was is) text) e was is
+        (stores_go_on finder (taken_of e date received) (Err store_fault.DiskFault) was is leading grow h)
+        (record {
+          deed = refl;
+          room = room_in h.leaves.found was is h.leaves.not_full;
+          limits = refl;
+          found = λ alone. leads_same finder.alone (finder.contents was).seen h.leaves.found alone h.leaves.led;
+          after = refl;
+          moves = h.moves;
+          checkpoints = λ alone tells. (h.reading alone tells).1;
+          refused = λ alone tells ids. h.refused alone tells ids refl;
+        });
+  }
+
+  -- ---- stored
+
+  -- the payload of the capture that was stored
+  there_is : (payload : List ℕ) (receipt : Receipt) (was is : S) → StoredCapturesHaveTheirPayload
+      → HasPayload received.cut e.message.head.method received.head.text received.wire payload
+      → (h : Stores finder (taken_of e date received) (Ok receipt) was is) → IsTrue (finder.contents was).tells
+      → IsPayloadOf (finder.contents is).seen receipt.number payload
+  there_is payload receipt was is law has h tells =
+      subst (λ (n : ℕ). IsPayloadOf (finder.contents is).seen n payload) (sym h.leaves.number)
+      (law (finder.contents was).limits.volume_bytes h.leaves.found (taken_of e date received) receipt (finder.contents is).seen payload
+      (h.leaves.by_rule tells) has (h.consistent.sound (ap (λ (x : Contents). x.tells) h.leaves.others ∙ tells)).sound)
+
+  -- the capture is stored, and the response is passed on
+  stored_reply : (payload : List ℕ) (receipt : Receipt) (was is : S) → LeadingGrows → StoresGrow → StoredCapturesHaveTheirPayload
+      → IsPayload received.cut received.framing received.wire payload
+      → HasPayload received.cut e.message.head.method received.head.text received.wire payload
+      → Stores finder (taken_of e date received) (Ok receipt) was is
+      → Replies finder site e false (Passes received payload) around was is
+  stored_reply payload receipt was is leading grow law payload_is has h = record {
+    found = h.leaves.found;
+    led = h.leaves.led;
+    by = record {
+      fetched = fetched_in h.leaves.found was is;
+      payload_is = payload_is;
+      room = h.leaves.not_full;
+      receipt = receipt;
+      number_is = h.leaves.number;
+      refers = h.leaves.refers;
+      gained = h.leaves.gained;
+      by_rule = h.leaves.by_rule;
+      there = there_is payload receipt was is law has h;
+      shown = record {
+        shown = h.leaves.shown;
+        consistent = stays_consistent finder site e was is around.faults_now (ap (λ (x : Contents). x.tells) h.leaves.others) h.consistent;
+      };
+    };
+    dialer = stayed_met around.faults_before around.faults_now come.steady;
+    disk = stayed_met (finder.faults was) (finder.faults is) h.faults;
+    stored = mine_stored (finder.contents was) (finder.contents is) receipt.number (length (captures h.leaves.found)) h.leaves.number h.leaves.others;
+    images = λ incoming text. images_stored finder (terms_in finder site e was)
+        (round_of finder site e incoming (Passes received payload) false (traces_of finder site e around h.leaves.found was is) text) e received was is
+        (stores_go_on finder (taken_of e date received) (Ok receipt) was is leading grow h)
+        (record {
+          deed = refl;
+          fetched = fetched_in h.leaves.found was is;
+          limits = refl;
+          found = λ alone. leads_same finder.alone (finder.contents was).seen h.leaves.found alone h.leaves.led;
+          after = refl;
+          moves = h.moves;
+          checkpoints = λ alone tells. (h.reading alone tells).1;
+          only = h.only;
+        });
+  }
+
+  -- ---- by what the store said
+
+  by_said : (ready : Answer) (asks : Bool) (said : Result Receipt StoreFault) (result : Result Answer Memory) (was is : S) → Storing finder
+      → asks ≡ answers_head e → IsOneResponse (asks_for_head e.message.head.method) received → PassesOn received asks closes ready
+      → Stores finder (taken_of e date received) said was is → FollowsStore ready asks closes said result
+      → Comes finder site e around closes result was is
+  by_said ready asks (Ok receipt) (Ok answer) was is laws same response passes h follows =
+      let e_is : answer ≡ ready = cc in
+      rw e_is (record {
+        reply = Passes received passes.payload;
+        replies = stored_reply passes.payload receipt was is laws.leading laws.grow laws.payloads passes.payload_is
+            (has_payload received e.message.head.method passes.payload response passes.payload_is) h;
+        text_is = passes.text_is ∙ ap (λ (b : Bool). answered received passes.payload b (received.cut || closes)) same;
+        closes_is = passes.closes_is;
+      })
+  by_said ready asks (Ok receipt) (Err memory) was is laws same response passes h follows = let bad : ⊥ = cc in absurd bad
+  by_said ready asks (Err (store_fault.Full count limit)) result was is laws same response passes h follows =
+      refused_comes finder site e (Full count limit) asks closes around result was is same
+      (λ lacked. full_reply count limit lacked was is laws.founded laws.leading laws.grow h) follows
+  by_said ready asks (Err store_fault.DiskFault) result was is laws same response passes h follows =
+      refused_comes finder site e DiskFault asks closes around result was is same
+      (λ lacked. denied_reply lacked was is laws.leading laws.grow h) follows
+  by_said ready asks (Err (store_fault.Damaged number kept found)) result was is laws same response passes h follows =
+      refused_comes finder site e (Damaged number kept found) asks closes around result was is same
+      (λ lacked. damaged_reply number kept found lacked was is laws.founded laws.leading laws.grow h) follows
+  by_said ready asks (Err store_fault.Memory) result was is laws same response passes h follows =
+      lacking_comes finder site e closes around result was is (unkept_reply was is laws.founded laws.leading laws.grow h) follows
+
+  -- a response that was to be stored answers the request
+  pub kept_comes : (ready : Answer) (asks : Bool) (result : Result Answer Memory) (was is : S) → Storing finder
+      → asks ≡ answers_head e → IsOneResponse (asks_for_head e.message.head.method) received → PassesOn received asks closes ready
+      → Keeps finder (taken_of e date received) ready asks closes result was is → Comes finder site e around closes result was is
+  kept_comes ready asks result was is laws same response passes k =
+      by_said ready asks k.said result was is laws same response passes k.stores k.follows

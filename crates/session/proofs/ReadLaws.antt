@@ -1,0 +1,547 @@
+-- What came of a client's link makes of reading a request.
+use Rattle.std.proofs.Common.{◌≡◌, ◌≢◌, inl, inr, ℕ, ◌+◌, ◌-◌, Bool, true, false, List, [], ◌++◌, length, drop, Option, Some, None, Result, Ok, Err, refl, sym, ◌∙◌, ap, subst, arith, append_assoc, length-append}
+use Rattle.std.proofs.Math.Seq.{drop-append_seam}
+use Rattle.std.proofs.lemmas.List.{append-nil}
+use Rattle.httparse.proofs.GrammarLemmas.{request_unique}
+use Rattle.httparse.specs.Grammar.{RequestHead as GrammarHead, ReadsRequest}
+use Rattle.std.specs.Prelude.{IsSome, IfOk, OnOk, IfErr, is_ok, ◌&&◌}
+use Rattle.capture.specs.Faults.{Rose}
+use Rattle.capture.specs.First.{Requests, Refused, NothingBegun, HeadNeeded, IsFirst, BehindHead, IsNoHead, BeginsBody}
+use Rattle.capture.specs.Head.{front_of}
+use Rattle.capture.specs.Head as head_front
+use Rattle.capture.specs.Message.{IsRequestHeadText}
+use Rattle.capture.specs.Methods.{asks_for_head}
+use Rattle.capture.specs.declared.framing.Framing.{Framing}
+use Rattle.capture.specs.declared.framing.Framing.TheVariants.{Empty, Length, Chunked, ToEnd}
+use Rattle.capture.specs.declared.framing.MessageFault.{MessageFault}
+use Rattle.capture.specs.declared.refusal.Refusal.{Refusal}
+use Rattle.capture.specs.declared.refusal.Refusal.TheVariants as refusals
+use Rattle.capture.specs.declared.site.Site.{Site}
+use Rattle.exchange.specs.Receiving.{AccountsFault, BeginsAccounted, MeetsEnd, StaysAccounted}
+use Rattle.exchange.specs.declared.receiving.Came.TheVariants as came
+use Rattle.exchange.specs.Refusals.{refusal_text, memory_text}
+use Rattle.exchange.specs.Aim.{HasShortHost, IsAim, aim_of}
+use Rattle.exchange.specs.declared.aim.Aim.{Aim}
+use Rattle.exchange.specs.declared.aim.AimFault.{AimFault}
+use Rattle.exchange.specs.declared.aim.AimFault.TheVariants as aim_fault
+use Rattle.http_head.specs.declared.head.RequestHead.{RequestHead}
+use Rattle.http_head.specs.declared.head.RequestMessage.{RequestMessage}
+use Rattle.http_head.specs.declared.head.WireFault.{WireFault}
+use Rattle.http_head.specs.declared.head.WireFault.TheVariants.{Malformed, HeadTooLong, BodyTooLong, CodingRefused, EndedEarly, Memory}
+use Rattle.http_wire.specs.Heads.{BeginsWithRequest, HoldsHead}
+use Rattle.http_wire.specs.Messages.{IsRequest}
+use Rattle.http_wire.specs.Reading.{Standing, Open, Failed, EndsInside}
+use Rattle.http_wire.specs.Reading.{IsUndecided as WireUndecided, LacksHead as WireLacksHead}
+use Rattle.outside.specs.declared.gate.Heard.{Heard}
+use Rattle.session.specs.Reads.{Client, HasTaken, HasRead, AwaitsRest, ReadsNone, NoMore, Breaking, Refusing, GivingUp, Owes, ComesFaulty, IsBehind, IsWellAsked, LooksAt, ReadsBody, RefusesAim}
+use Rattle.session.specs.Requests.{IsAimed, IsAimedNowhere, IsInside, IsInterim, IsRefused, IsUndecided, LacksHead, aim_of_head, answers_head, interim_of, interim_where, refusal_of, waits_for_answer}
+use Rattle.session.specs.Steps.{EndsRefusal}
+use Rattle.session.specs.Wire.{Tries, Writes}
+use Rattle.session.specs.declared.reading.Asked.{Asked}
+use Rattle.session.specs.declared.served.Served.{Served}
+use Rattle.session.specs.declared.served.Served.TheVariants.{Done, ClientBroke, ClientEndedEarly, WantOfMemory}
+
+-- ---- fronts
+
+nothing_isnt_head : {P : Type 0} (stream text : List ℕ) (skipped : ℕ) → front_of stream ≡ head_front.Nothing → front_of stream ≡ head_front.Head skipped text → P
+nothing_isnt_head stream text skipped e f = let bad : ⊥ = cc in absurd bad
+
+more_isnt_head : {P : Type 0} (stream text : List ℕ) (skipped : ℕ) → front_of stream ≡ head_front.More → front_of stream ≡ head_front.Head skipped text → P
+more_isnt_head stream text skipped e f = let bad : ⊥ = cc in absurd bad
+
+pub long_isnt_head : {P : Type 0} (stream text : List ℕ) (skipped : ℕ) → front_of stream ≡ head_front.TooLong → front_of stream ≡ head_front.Head skipped text → P
+long_isnt_head stream text skipped e f = let bad : ⊥ = cc in absurd bad
+
+pub one_text : (stream text other : List ℕ) (k j : ℕ) → front_of stream ≡ head_front.Head k text → front_of stream ≡ head_front.Head j other → text ≡ other
+one_text stream text other k j e f = cc
+
+-- a stream in which nothing has begun has no head
+pub between_lacks : (stream : List ℕ) → front_of stream ≡ head_front.Nothing → LacksHead stream
+between_lacks stream e head begins = nothing_isnt_head stream head.text begins.skipped e begins.front
+
+-- nor has one of which no head is a request's
+no_head_lacks : (stream : List ℕ) → ((skipped : ℕ) (text : List ℕ) → front_of stream ≡ head_front.Head skipped text → IsNoHead Requests text) → LacksHead stream
+no_head_lacks stream none head begins = none begins.skipped head.text begins.front begins.holds.0 begins.holds.1.reads
+
+wire_lacks : (stream : List ℕ) (standing : Standing) → standing ≢ Failed Memory → WireLacksHead Requests stream standing
+    → (skipped : ℕ) (text : List ℕ) → front_of stream ≡ head_front.Head skipped text → IsNoHead Requests text
+wire_lacks stream standing n (inl failed) = absurd (n failed)
+wire_lacks stream standing n (inr none) = none
+
+-- a head that tells something is a head
+told_isnt_none : {P : Type 0} (stream : List ℕ) (framing : _) (end : ℕ) (rest : List ℕ) → BehindHead Requests stream framing end rest
+    → ((skipped : ℕ) (text : List ℕ) → front_of stream ≡ head_front.Head skipped text → IsNoHead Requests text) → P
+told_isnt_none stream framing end rest h none = absurd (none h.skipped h.text h.front h.tells.0 h.tells.1)
+
+-- ---- accounts
+
+-- what is read begins with the bytes of the message, and goes on with others
+pub begins_rest : (given pending now stream : List ℕ) → BeginsAccounted given pending now stream
+    → (rest : List ℕ) × StaysAccounted given pending now (stream ++ rest)
+begins_rest given pending now stream h = (drop (length given - length pending + length stream) now, at) where
+  at : StaysAccounted given pending now (stream ++ drop (length given - length pending + length stream) now)
+  at done e =
+      let f = h done e in
+      let long : length given ≡ length done + length pending = ap (λ (x : List ℕ). length x) e ∙ length-append done pending in
+      let n : length given - length pending + length stream ≡ length (done ++ stream) = omega (arith, long, length-append done stream) in
+      let rest_is : drop (length given - length pending + length stream) now ≡ f.rest =
+      ap (λ k. drop k now) n ∙ ap (λ (x : List ℕ). drop (length (done ++ stream)) x) f.splits ∙ drop-append_seam (done ++ stream) f.rest in
+      f.splits ∙ append_assoc done stream f.rest ∙ ap (λ (x : List ℕ). done ++ (stream ++ x)) (sym rest_is)
+
+-- first some bytes, and then a fault
+pub faulty_on : (fault : WireFault) (given pending mid unread now stream : List ℕ) → StaysAccounted given pending mid unread
+    → AccountsFault fault mid unread now stream → AccountsFault fault given pending now stream
+faulty_on Malformed given pending mid unread now stream h k = λ done e. k done (h done e)
+faulty_on HeadTooLong given pending mid unread now stream h k = λ done e. k done (h done e)
+faulty_on BodyTooLong given pending mid unread now stream h k = λ done e. k done (h done e)
+faulty_on CodingRefused given pending mid unread now stream h k = λ done e. k done (h done e)
+faulty_on EndedEarly given pending mid unread now stream h k = λ done e. k done (h done e)
+faulty_on Memory given pending mid unread now stream h k = λ done e. k done (h done e)
+
+pub all_taken : (given pending now stream : List ℕ) → StaysAccounted given pending now stream → StaysAccounted given pending now (stream ++ [])
+all_taken given pending now stream h = λ done e. h done e ∙ ap (λ (x : List ℕ). done ++ x) (sym (append-nil stream))
+
+-- ---- the client's end, and a fault of its link
+
+-- the client ended, and nothing has begun
+pub ended_between : (site : Site) (from : Client) (stream window : List ℕ) (now : Heard) → IsFirst Requests true stream NothingBegun → window ≡ []
+    → StaysAccounted from.heard.given from.pending now.given (stream ++ window) → now.written ≡ from.heard.written → now.ended ≡ true → now.faults ≡ 0
+    → ReadsNone site from now Done
+ended_between site from stream window now between none accounts written ended whole = NoMore (record {
+  rest = stream;
+  interim = [];
+  undecided = inl between;
+  interim_is = inr (between_lacks stream between.0, refl);
+  taken = record { accounts = rw none at accounts; written = written ∙ sym (append-nil from.heard.written) };
+  no_more = inl ended;
+  ends = λ served. (record { whole = whole; enough = refl; between = inr between }, refl);
+})
+
+-- what is undecided in a stream without a head
+undecided_without : (site : Site) (stream : List ℕ) → ((skipped : ℕ) (text : List ℕ) → front_of stream ≡ head_front.Head skipped text → IsNoHead Requests text)
+    → WireUndecided Requests false stream → IsUndecided site stream
+undecided_without site stream none (inl between) = inl between
+undecided_without site stream none (inr (inl head)) = inr (inl head)
+undecided_without site stream none (inr (inr body)) = told_isnt_none stream _ _ _ body.head none
+
+needs_not : {P : Type 0} (stream : List ℕ) (head : RequestHead) → BeginsWithRequest stream head → IsFirst Requests false stream HeadNeeded → P
+needs_not stream head begins (inl (nothing, other)) = absurd (other refl)
+needs_not stream head begins (inr more) = more_isnt_head stream head.text begins.skipped more begins.front
+
+-- and in one with a head that goes somewhere
+undecided_behind : (site : Site) (stream : List ℕ) (head : RequestHead) → BeginsWithRequest stream head → IsAimed site head
+    → WireUndecided Requests false stream → IsUndecided site stream
+undecided_behind site stream head begins aimed (inl between) = nothing_isnt_head stream head.text begins.skipped between.0 begins.front
+undecided_behind site stream head begins aimed (inr (inl needed)) = needs_not stream head begins needed
+undecided_behind site stream head begins aimed (inr (inr body)) = inr (inr (record { head = head; begins = begins; aimed = aimed; needed = body }))
+
+-- the link failed before a head had come
+pub broke_without : (site : Site) (from : Client) (stream window : List ℕ) (now : Heard)
+    → ((skipped : ℕ) (text : List ℕ) → front_of stream ≡ head_front.Head skipped text → IsNoHead Requests text) → WireUndecided Requests false stream
+    → window ≡ [] → StaysAccounted from.heard.given from.pending now.given (stream ++ window) → now.written ≡ from.heard.written → now.faults ≢ 0
+    → ReadsNone site from now ClientBroke
+broke_without site from stream window now lacks undecided none accounts written broke = NoMore (record {
+  rest = stream;
+  interim = [];
+  undecided = undecided_without site stream lacks undecided;
+  interim_is = inr (no_head_lacks stream lacks, refl);
+  taken = record { accounts = rw none at accounts; written = written ∙ sym (append-nil from.heard.written) };
+  no_more = inr broke;
+  ends = λ served. (broke, refl);
+})
+
+-- the link failed behind a head that goes somewhere
+pub broke_behind : (site : Site) (from : Client) (stream window : List ℕ) (head : RequestHead) (now : Heard) → BeginsWithRequest stream head
+    → IsAimed site head → WireUndecided Requests false stream → window ≡ []
+    → StaysAccounted from.heard.given from.pending now.given (stream ++ window) → now.written ≡ from.heard.written ++ interim_of site head → now.faults ≢ 0
+    → ReadsNone site from now ClientBroke
+broke_behind site from stream window head now begins aimed undecided none accounts written broke = NoMore (record {
+  rest = stream;
+  interim = interim_of site head;
+  undecided = undecided_behind site stream head begins aimed undecided;
+  interim_is = inl (record { head = head; begins = begins; text_is = refl });
+  taken = record { accounts = rw none at accounts; written = written };
+  no_more = inr broke;
+  ends = λ served. (broke, refl);
+})
+
+-- ---- what is no message
+
+-- what is written before a body is just what is owed
+interim_known : (site : Site) (stream : List ℕ) (standing : Standing) (head : Option RequestHead) (interim : List ℕ) → standing ≢ Failed Memory
+    → HoldsHead stream standing head → Owes site head interim → IsInterim site stream interim
+interim_known site stream standing None interim n holds owed = inr (no_head_lacks stream (wire_lacks stream standing n holds), owed)
+interim_known site stream standing (Some head) interim n holds owed = inl (record { head = head; begins = holds; text_is = owed.1 })
+
+goes_on_false : (framing : Framing) (stream : List ℕ) → BeginsBody framing true stream → BeginsBody framing false stream
+goes_on_false Empty stream h = absurd h
+goes_on_false (Length n) stream h = h
+goes_on_false Chunked stream h = h
+goes_on_false ToEnd stream (e, short) = let bad : ⊥ = cc in absurd bad
+
+inside : (site : Site) (stream : List ℕ) (standing : Standing) (head : Option RequestHead) (interim : List ℕ) → standing ≢ Failed Memory
+    → HoldsHead stream standing head → Owes site head interim → EndsInside Requests stream → IsInside site stream
+inside site stream standing None interim n holds owed (inl needed) = inl needed
+inside site stream standing None interim n holds owed (inr body) = told_isnt_none stream _ _ _ body.head (wire_lacks stream standing n holds)
+inside site stream standing (Some head) interim n holds owed (inl needed) = needs_not stream head holds needed
+inside site stream standing (Some head) interim n holds owed (inr body) = inr (record {
+  head = head;
+  begins = holds;
+  aimed = owed.0;
+  needed = record {
+    framing = body.framing;
+    end = body.end;
+    rest = body.rest;
+    head = body.head;
+    body = goes_on_false body.framing body.rest body.body;
+  };
+})
+
+pub not_memory : (fault : WireFault) (standing : Standing) → standing ≡ Failed fault → fault ≢ Memory → standing ≢ Failed Memory
+not_memory fault standing e n f = n cc
+
+-- the client ended inside a message
+pub ended_early : (site : Site) (from : Client) (stream interim : List ℕ) (standing : Standing) (head : Option RequestHead) (to : Heard)
+    → standing ≡ Failed EndedEarly → HoldsHead stream standing head → Owes site head interim → EndsInside Requests stream
+    → ComesFaulty from EndedEarly stream interim to → to.faults ≡ 0 → ReadsNone site from to ClientEndedEarly
+ended_early site from stream interim standing head to failed holds owed ends h whole =
+    let n : standing ≢ Failed Memory = not_memory EndedEarly standing failed (λ e. let bad : ⊥ = cc in bad) in
+    let within : IsInside site stream = inside site stream standing head interim n holds owed ends in
+    NoMore (record {
+      rest = stream;
+      interim = interim;
+      undecided = inr within;
+      interim_is = interim_known site stream standing head interim n holds owed;
+      taken = record { accounts = all_taken from.heard.given from.pending to.given stream h.accounts; written = h.written };
+      no_more = inl (h.met refl);
+      ends = λ served. record { whole = whole; enough = refl; not_closed = refl; ended = h.met refl; inside = within };
+    })
+
+-- there was no memory to read on
+pub out_of_memory : (site : Site) (from : Client) (stream interim : List ℕ) (standing : Standing) (head : Option RequestHead) (to now : Heard)
+    → HoldsHead stream standing head → Owes site head interim → ComesFaulty from Memory stream interim to → Tries memory_text to now
+    → ReadsNone site from now WantOfMemory
+out_of_memory site from stream interim standing None to now holds owed h tries =
+    let parts = begins_rest from.heard.given from.pending to.given stream h.accounts in
+    GivingUp (record {
+      wire = [];
+      interim = interim;
+      begun = inl (inl (refl, refl));
+      interim_is = inr owed;
+      to = record { heard = to; pending = stream ++ parts.0 };
+      taken = record { accounts = parts.1; written = h.written };
+      tries = tries;
+      ends = refl;
+    })
+out_of_memory site from stream interim standing (Some head) to now holds owed h tries =
+    let parts = begins_rest from.heard.given from.pending to.given stream h.accounts in
+    GivingUp (record {
+      wire = stream;
+      interim = interim;
+      begun = inr (inl (record { head = head; begins = holds; aimed = owed.0 }));
+      interim_is = inl (inl (record { head = head; begins = holds; text_is = owed.1 }));
+      to = record { heard = to; pending = parts.0 };
+      taken = record { accounts = parts.1; written = h.written };
+      tries = tries;
+      ends = refl;
+    })
+
+-- a stream that is refused is so with its head, or without one
+refused_by : (site : Site) (stream interim : List ℕ) (standing : Standing) (head : Option RequestHead) (fault : MessageFault) (refusal : Refusal)
+    → standing ≢ Failed Memory → HoldsHead stream standing head → Owes site head interim → refusal ≡ refusal_of fault
+    → IsFirst Requests false stream (Refused fault) → IsRefused site stream head refusal
+refused_by site stream interim standing None fault refusal n holds owed e (inl (long, f)) = inl (long, e ∙ ap refusal_of f)
+refused_by site stream interim standing None fault refusal n holds owed e (inr (inl (none, f))) = inr (none, e ∙ ap refusal_of f)
+refused_by site stream interim standing None fault refusal n holds owed e (inr (inr (inl at))) =
+    told_isnt_none stream _ _ _ at.head (wire_lacks stream standing n holds)
+refused_by site stream interim standing None fault refusal n holds owed e (inr (inr (inr behind))) =
+    told_isnt_none stream _ _ _ behind.head (wire_lacks stream standing n holds)
+refused_by site stream interim standing (Some head) fault refusal n holds owed e (inl (long, f)) =
+    long_isnt_head stream head.text holds.skipped long holds.front
+refused_by site stream interim standing (Some head) fault refusal n holds owed e (inr (inl (none, f))) =
+    let same : none.text ≡ head.text = one_text stream none.text head.text none.skipped holds.skipped none.front holds.front in
+    let is : IsRequestHeadText none.text holds.holds.0 = subst (λ (t : List ℕ). IsRequestHeadText t holds.holds.0) (sym same) holds.holds.1.reads in
+    absurd (none.none holds.holds.0 is)
+refused_by site stream interim standing (Some head) fault refusal n holds owed e (inr (inr (inl at))) =
+    (holds, inr (record { fault = fault; aimed = owed.0; refused = inl at; refusal_is = e }))
+refused_by site stream interim standing (Some head) fault refusal n holds owed e (inr (inr (inr behind))) =
+    (holds, inr (record { fault = fault; aimed = owed.0; refused = inr behind; refusal_is = e }))
+
+-- bytes that are refused
+pub turned_away : (site : Site) (from : Client) (stream interim : List ℕ) (standing : Standing) (head : Option RequestHead) (fault : MessageFault)
+    (refusal : Refusal) (asks : Bool) (to now : Heard) (end : Served) → standing ≢ Failed Memory → HoldsHead stream standing head → Owes site head interim
+    → refusal ≡ refusal_of fault → IsFirst Requests false stream (Refused fault)
+    → BeginsAccounted from.heard.given from.pending to.given stream → to.written ≡ from.heard.written ++ interim → asks ≡ answers_head head
+    → EndsRefusal refusal (refusal_text refusal asks true) to now end → ReadsNone site from now end
+turned_away site from stream interim standing head fault refusal asks to now end n holds owed e refused accounts written asked ends =
+    let parts = begins_rest from.heard.given from.pending to.given stream accounts in
+    Refusing (record {
+      head = head;
+      refusal = refusal;
+      wire = stream;
+      interim = interim;
+      refused = refused_by site stream interim standing head fault refusal n holds owed e refused;
+      interim_is = interim_known site stream standing head interim n holds owed;
+      to = record { heard = to; pending = parts.0 };
+      taken = record { accounts = parts.1; written = written };
+      ends = subst (λ (b : Bool). EndsRefusal refusal (refusal_text refusal b true) to now end) asked ends;
+    })
+
+-- ---- a head that is looked at
+
+-- a head that goes nowhere, or for which there was no memory
+pub aim_ends : (site : Site) (head : RequestHead) (fault : AimFault) (asks : Bool) (then now : Heard) (end : Served)
+    → IsAim (aim_of_head site head) (Err fault) → asks ≡ asks_for_head head.method → RefusesAim fault asks then now end
+    → LooksAt site head then now (Err end)
+aim_ends site head aim_fault.ConnectRefused asks then now end is asked h =
+    inl (
+      refusals.ConnectRefused,
+      record { fault = aim_fault.ConnectRefused; aimed = is; refusal_is = refl },
+      subst (λ (b : Bool). EndsRefusal refusals.ConnectRefused (refusal_text refusals.ConnectRefused b true) then now end) asked h,
+    )
+aim_ends site head aim_fault.SecureRefused asks then now end is asked h =
+    inl (
+      refusals.SecureRefused,
+      record { fault = aim_fault.SecureRefused; aimed = is; refusal_is = refl },
+      subst (λ (b : Bool). EndsRefusal refusals.SecureRefused (refusal_text refusals.SecureRefused b true) then now end) asked h,
+    )
+aim_ends site head aim_fault.TargetRefused asks then now end is asked h =
+    inl (
+      refusals.TargetRefused,
+      record { fault = aim_fault.TargetRefused; aimed = is; refusal_is = refl },
+      subst (λ (b : Bool). EndsRefusal refusals.TargetRefused (refusal_text refusals.TargetRefused b true) then now end) asked h,
+    )
+aim_ends site head aim_fault.Memory asks then now end is asked h = inr (inl h)
+
+-- a head that goes nowhere asks for nothing
+nowhere_asks : (site : Site) (head : RequestHead) (refusal : Refusal) → IsAimedNowhere site head refusal → interim_of site head ≡ []
+nowhere_asks site head refusal h = by_aim (aim_of_head site head) (waits_for_answer head) h.fault h.aimed where
+  by_aim : (aim : Result Aim AimFault) (waits : Bool) (fault : AimFault) → aim ≡ Err fault → interim_where (is_ok aim && waits) ≡ []
+  by_aim (Err fault) waits f e = refl
+  by_aim (Ok aim) waits f e = absurd (cc)
+
+-- a head that goes nowhere is refused with the bytes that begin with it, or there was no memory, or the link failed in what it
+-- asks for
+pub looked_ends : (site : Site) (from : Client) (stream pending : List ℕ) (head : RequestHead) (then now : Heard) (end : Served)
+    → BeginsWithRequest stream head → HasTaken from stream [] (record { heard = then; pending = pending })
+    → LooksAt site head then now (Err end) → ReadsNone site from now end
+looked_ends site from stream pending head then now end begins taken (inl (refusal, nowhere, ends)) = Refusing (record {
+  head = Some head;
+  refusal = refusal;
+  wire = stream;
+  interim = [];
+  refused = (begins, inl nowhere);
+  interim_is = inl (record { head = head; begins = begins; text_is = sym (nowhere_asks site head refusal nowhere) });
+  to = record { heard = then; pending = pending };
+  taken = taken;
+  ends = ends;
+})
+looked_ends site from stream pending head then now end begins taken (inr (inl (tries, e))) = GivingUp (record {
+  wire = [];
+  interim = [];
+  begun = inl (inl (refl, refl));
+  interim_is = inr refl;
+  to = record { heard = then; pending = stream ++ pending };
+  taken = record { accounts = taken.accounts; written = taken.written };
+  tries = tries;
+  ends = e;
+})
+looked_ends site from stream pending head then now end begins taken (inr (inr (aimed, broke, e))) = Breaking (record {
+  begun = stream;
+  interim = interim_of site head;
+  asked = record { head = head; begins = begins; text_is = refl };
+  to = record { heard = then; pending = pending };
+  taken = taken;
+  broke = broke;
+  ends = e;
+})
+
+-- what is faulty was taken, and some may be left
+pub faulty_taken : (from : Client) (fault : WireFault) (stream : List ℕ) (to : Heard) → ComesFaulty from fault stream [] to
+    → (pending : List ℕ) × HasTaken from stream [] (record { heard = to; pending = pending })
+faulty_taken from fault stream to h = by_fault fault h.accounts where
+  by_fault : (fault : WireFault) → AccountsFault fault from.heard.given from.pending to.given stream
+      → (pending : List ℕ) × HasTaken from stream [] (record { heard = to; pending = pending })
+  by_fault EndedEarly k = ([], record { accounts = all_taken from.heard.given from.pending to.given stream k; written = h.written })
+  by_fault Malformed k =
+      let parts = begins_rest from.heard.given from.pending to.given stream k in (parts.0, record { accounts = parts.1; written = h.written })
+  by_fault HeadTooLong k =
+      let parts = begins_rest from.heard.given from.pending to.given stream k in (parts.0, record { accounts = parts.1; written = h.written })
+  by_fault BodyTooLong k =
+      let parts = begins_rest from.heard.given from.pending to.given stream k in (parts.0, record { accounts = parts.1; written = h.written })
+  by_fault CodingRefused k =
+      let parts = begins_rest from.heard.given from.pending to.given stream k in (parts.0, record { accounts = parts.1; written = h.written })
+  by_fault Memory k =
+      let parts = begins_rest from.heard.given from.pending to.given stream k in (parts.0, record { accounts = parts.1; written = h.written })
+
+-- and then what the head asks for was written
+pub faulty_written : (from : Client) (fault : WireFault) (stream text : List ℕ) (then now : Heard) → ComesFaulty from fault stream [] then
+    → Writes text then now → ComesFaulty from fault stream text now
+faulty_written from fault stream text then now h w = record {
+  accounts = rw (sym w.same_given) at h.accounts;
+  written = w.written ∙ ap (λ (x : List ℕ). x ++ text) h.written ∙ ap (λ (x : List ℕ). x ++ text) (append-nil from.heard.written);
+  met = λ e. w.same_end ∙ h.met e;
+}
+
+-- a fault in the body, behind a head that was looked at
+pub faulty_behind : (site : Site) (from mid : Client) (fault : WireFault) (stream grown : List ℕ) (head : RequestHead) (aim : Aim) (now : Heard)
+    → AwaitsRest site from stream head aim mid → AccountsFault fault mid.heard.given (stream ++ mid.pending) now.given grown
+    → now.written ≡ mid.heard.written → (fault ≡ EndedEarly → now.ended ≡ true) → ComesFaulty from fault grown (interim_of site head) now
+faulty_behind site from mid fault stream grown head aim now h k same met = record {
+  accounts = faulty_on fault from.heard.given from.pending mid.heard.given (stream ++ mid.pending) now.given grown h.taken.accounts k;
+  written = same ∙ h.taken.written;
+  met = met;
+}
+
+-- ---- a body
+
+-- a head goes where another goes that has the same text
+pub same_aim : (site : Site) (stream : List ℕ) (head : RequestHead) (message : RequestMessage) → BeginsWithRequest stream head → IsRequest stream message
+    → aim_of_head site message.head ≡ aim_of_head site head
+same_aim site stream head message begins is =
+    let text : message.head.text ≡ head.text = one_text stream message.head.text head.text is.skipped begins.skipped is.front begins.front in
+    let own = is.holds.1 in
+    let reads : ReadsRequest head.text is.holds.0 [] = subst (λ (t : List ℕ). ReadsRequest t is.holds.0 []) text own.reads.reads in
+    let parse = (request_unique head.text is.holds.0 begins.holds.0 [] [] reads begins.holds.1.reads.reads).0 in
+    let method : message.head.method ≡ head.method = own.method ∙ ap (λ (h : GrammarHead). h.method) parse ∙ sym begins.holds.1.method in
+    let target : message.head.target ≡ head.target = own.target ∙ ap (λ (h : GrammarHead). h.target) parse ∙ sym begins.holds.1.target in
+    ap (λ (m : List ℕ). aim_of site m message.head.target) method ∙ ap (λ (t : List ℕ). aim_of site head.method t) target
+
+-- a request was read whole
+pub read_whole : (site : Site) (from mid : Client) (stream grown : List ℕ) (head : RequestHead) (aim : Aim) (message : RequestMessage) (to : Client)
+    → AwaitsRest site from stream head aim mid → BeginsWithRequest grown head → IsRequest grown message
+    → StaysAccounted mid.heard.given (stream ++ mid.pending) to.heard.given (grown ++ to.pending) → to.heard.written ≡ mid.heard.written
+    → HasRead site from message aim to
+read_whole site from mid stream grown head aim message to h begins is accounts same = record {
+  wire = grown;
+  interim = interim_of site head;
+  asked = record { is = is; aimed = same_aim site grown head message begins is ∙ h.aimed };
+  interim_is = inl (record { head = head; begins = begins; text_is = refl });
+  taken = record { accounts = λ done e. accounts done (h.taken.accounts done e); written = same ∙ h.taken.written };
+}
+
+-- there was no memory for it
+pub read_without_memory : (site : Site) (from mid : Client) (stream grown : List ℕ) (head : RequestHead) (aim : Aim) (to : Client) (now : Heard)
+    → AwaitsRest site from stream head aim mid → BeginsWithRequest grown head
+    → StaysAccounted mid.heard.given (stream ++ mid.pending) to.heard.given (grown ++ to.pending) → to.heard.written ≡ mid.heard.written
+    → Tries memory_text to.heard now → ReadsNone site from now WantOfMemory
+read_without_memory site from mid stream grown head aim to now h begins accounts same tries = GivingUp (record {
+  wire = grown;
+  interim = interim_of site head;
+  begun = inr (inl (record { head = head; begins = begins; aimed = (aim, h.aimed) }));
+  interim_is = inl (inl (record { head = head; begins = begins; text_is = refl }));
+  to = to;
+  taken = record { accounts = λ done e. accounts done (h.taken.accounts done e); written = same ∙ h.taken.written };
+  tries = tries;
+  ends = refl;
+})
+
+-- the link failed in it
+pub body_broke : (site : Site) (from mid : Client) (stream grown window : List ℕ) (head : RequestHead) (aim : Aim) (now : Heard)
+    → AwaitsRest site from stream head aim mid → BeginsWithRequest grown head → WireUndecided Requests false grown → window ≡ []
+    → StaysAccounted mid.heard.given (stream ++ mid.pending) now.given (grown ++ window) → now.written ≡ mid.heard.written → now.faults ≢ 0
+    → ReadsNone site from now ClientBroke
+body_broke site from mid stream grown window head aim now h begins undecided none accounts same broke =
+    broke_behind site from grown window head now begins (aim, h.aimed) undecided none
+    (λ done e. accounts done (h.taken.accounts done e)) (same ∙ h.taken.written) broke
+
+-- a head that was looked at
+pub looked : (site : Site) (from : Client) (stream pending : List ℕ) (head : RequestHead) (aim : Aim) (then now : Heard)
+    → BeginsWithRequest stream head → HasTaken from stream [] (record { heard = then; pending = pending }) → aim_of_head site head ≡ Ok aim
+    → Writes (interim_of site head) then now → AwaitsRest site from stream head aim (record { heard = now; pending = pending })
+looked site from stream pending head aim then now begins taken aimed w = record {
+  begins = begins;
+  aimed = aimed;
+  taken = record {
+    accounts = λ done e. w.same_given ∙ taken.accounts done e;
+    written = w.written ∙ ap (λ (x : List ℕ). x ++ interim_of site head) (taken.written ∙ append-nil from.heard.written);
+  };
+}
+
+-- what taking a request that is whole makes of it
+pub taken_whole : (site : Site) (from mid : Client) (stream grown : List ℕ) (head : RequestHead) (aim : Aim) (to : Client) (now : Heard)
+    (pending : List ℕ) (result : Result RequestMessage Served)
+    → AwaitsRest site from stream head aim mid → BeginsWithRequest grown head
+    → StaysAccounted mid.heard.given (stream ++ mid.pending) to.heard.given (grown ++ to.pending) → to.heard.written ≡ mid.heard.written
+    → to.pending ≡ pending → IfOk result (IsRequest grown) → OnOk result (now ≡ to.heard)
+    → IfErr result (λ end. (end ≡ WantOfMemory) × Tries memory_text to.heard now)
+    → ReadsBody site from aim (record { heard = now; pending = pending }) result
+taken_whole site from mid stream grown head aim to now pending (Ok message) h begins accounts same e is kept gave =
+    let whole : HasRead site from message aim to = read_whole site from mid stream grown head aim message to h begins is accounts same in
+    rw (kept, sym e) whole
+taken_whole site from mid stream grown head aim to now pending (Err end) h begins accounts same e is kept gave =
+    rw gave.0 (read_without_memory site from mid stream grown head aim to now h begins accounts same gave.1)
+
+-- a head that is there stands first
+pub held_begins : (stream : List ℕ) (standing : Standing) (head : Option RequestHead) (known : RequestHead) → HoldsHead stream standing head
+    → head ≡ Some known → BeginsWithRequest stream known
+held_begins stream standing head known holds e = subst (λ (h : Option RequestHead). HoldsHead stream standing h) e holds
+
+-- what a reader without a head read has none
+pub held_lacks : (stream : List ℕ) (standing : Standing) (head : Option RequestHead) → HoldsHead stream standing head → head ≡ None → standing ≢ Failed Memory
+    → (skipped : ℕ) (text : List ℕ) → front_of stream ≡ head_front.Head skipped text → IsNoHead Requests text
+held_lacks stream standing head holds e n = wire_lacks stream standing n (subst (λ (h : Option RequestHead). HoldsHead stream standing h) e holds)
+
+-- with a head, something has begun
+pub begun_with_head : {P : Type 0} (stream : List ℕ) (standing : Standing) (head : Option RequestHead) → HoldsHead stream standing head → IsSome head
+    → IsFirst Requests true stream NothingBegun → P
+begun_with_head stream standing None holds some between = let bad : ⊥ = cc in absurd bad
+begun_with_head stream standing (Some head) holds some between = nothing_isnt_head stream head.text holds.skipped between.0 holds.front
+
+-- ---- what a call of a reader leaves
+
+-- a count that rose isn't 0
+pub rose_above : (before now : ℕ) → Rose before now → now ≢ 0
+rose_above before now rose = λ e. let bad : ⊥ = omega (arith, rose, e) in bad
+
+-- the head is the one that was looked at
+pub still_owed : (site : Site) (old new : Option RequestHead) (head : RequestHead) (aim : Aim) → old ≡ Some head → new ≡ old
+    → aim_of_head site head ≡ Ok aim → Owes site new (interim_of site head)
+still_owed site old new head aim e same aimed =
+    subst (λ (o : Option RequestHead). Owes site o (interim_of site head)) (sym (same ∙ e)) ((aim, aimed), refl)
+
+-- an end that came too early was met
+pub ended_by : (fault : WireFault) (before now : Bool) → fault ≡ EndedEarly → MeetsEnd (came.Refused fault) before now → now ≡ true
+ended_by fault before now e met = rw e at met
+
+-- a reader that is new holds no head
+pub none_new : (old new : Option RequestHead) → old ≡ None → new ≡ old → new ≡ None
+none_new old new e f = f ∙ e
+
+-- what was read from the start on
+pub read_first : (from : Client) (stream : List ℕ) (to : Client) → StaysAccounted from.heard.given from.pending to.heard.given (stream ++ to.pending)
+    → to.heard.written ≡ from.heard.written → HasTaken from stream [] to
+read_first from stream to accounts same = record { accounts = accounts; written = same ∙ sym (append-nil from.heard.written) }
+
+pub faulty_first : (from : Client) (fault : WireFault) (stream : List ℕ) (now : Heard) → AccountsFault fault from.heard.given from.pending now.given stream
+    → now.written ≡ from.heard.written → (fault ≡ EndedEarly → now.ended ≡ true) → ComesFaulty from fault stream [] now
+faulty_first from fault stream now accounts same met =
+    record { accounts = accounts; written = same ∙ sym (append-nil from.heard.written); met = met }
+
+pub open_is_whole : (standing : Standing) → standing ≡ Open → standing ≢ Failed Memory
+open_is_whole standing e f = cc
+
+-- a fault of which a head came, that goes somewhere
+pub owes_held : (site : Site) (held : Option RequestHead) (head : RequestHead) (aim : Aim) → held ≡ Some head → aim_of_head site head ≡ Ok aim
+    → Owes site held (interim_of site head)
+owes_held site held head aim e aimed = subst (λ (o : Option RequestHead). Owes site o (interim_of site head)) (sym e) ((aim, aimed), refl)
+
+-- or of which none came
+pub owes_none : (site : Site) (held : Option RequestHead) → held ≡ None → Owes site held []
+owes_none site held e = subst (λ (o : Option RequestHead). Owes site o []) (sym e) refl
+
+-- whatever the link tells, a request that was taken goes where its head goes
+pub behind : (stream : List ℕ) (old new : Option RequestHead) (standing : Standing) (result : Result RequestMessage Served) → HoldsHead stream standing new
+    → new ≡ old → IfOk result (IsRequest stream)
+    → IfOk result (λ message. (head : RequestHead) → old ≡ Some head → IsBehind head message)
+behind stream old new standing (Ok message) holds same is = λ head e. record {
+  stream = stream;
+  request = is;
+  same_aim = λ site. same_aim site stream head message (held_begins stream standing new head holds (same ∙ e)) is;
+}
+behind stream old new standing (Err end) holds same is = tt
+
+-- what was read of a head that was looked at is well asked
+pub well_asked : (site : Site) (asked : Asked) (head : RequestHead) → IsBehind head asked.message → aim_of_head site head ≡ Ok asked.aim → HasShortHost asked.aim
+    → IsWellAsked site asked
+well_asked site asked head h aimed short = record { stream = h.stream; request = h.request; aimed = h.same_aim site ∙ aimed; short = short }

@@ -1,0 +1,48 @@
+-- The answer that was ready, or the refusal of the store.
+use Rattle.session.specs.Exchanges.{LacksReply}
+use Rattle.session.specs.Exchanging.{exchange_of}
+use Rattle.session.proofs.AnswerLaws.{goes_on_itself}
+use Rattle.session.proofs.KeepLaws.{fits, follows_close, kept_comes, passes_close, stores_go_on, unready}
+use Rattle.session.proofs.exchanging.pass_on.Goals as goal
+
+pub passed_on-requires : goal.passed_on-requires
+passed_on-requires g c = rw c.asks_for_head-answers_head.ensures c.requires.response
+
+pub keep-requires : goal.keep-requires
+keep-requires g c =
+    rw c.taken_of.ensures (fits (exchange_of c.args.sending.proxied) c.args.sending.date c.args.received
+    (c.messages_can_be_stored.ensures.requests c.args.sending.proxied.message c.args.sending.proxied.target c.requires.asked)
+    (c.messages_can_be_stored.ensures.responses c.args.received c.args.sending.proxied.message.head.method c.requires.response c.requires.final_status)
+    c.requires.date c.requires.within)
+
+pub returns-in-Err-clause-passes : goal.returns-in-Err-clause-passes
+returns-in-Err-clause-passes g c site around come = (
+  LacksReply,
+  unready g.S.Finder site (exchange_of c.args.sending.proxied) c.args.sending.proxied.closes c.args.sending.date c.args.received around c.requires.date come
+      c.args.shelf.now (record { leads = c.leading_books_grow.ensures.itself; grows = c.growth_keeps_captures.ensures.itself; earlier = g.met.S.Finder.earlier }),
+)
+
+pub returns-clause-passes : goal.returns-clause-passes
+returns-clause-passes g c site around come =
+    kept_comes g.S.Finder site (exchange_of c.args.sending.proxied) c.args.sending.proxied.closes c.args.sending.date c.args.received around c.requires.date come
+    c.in-Ok.ready c.asks_for_head-answers_head.result c.keep.result c.args.shelf.now c.keep.new.shelf
+    (record {
+      founded = record { leads = c.leading_books_grow.ensures.itself; grows = c.growth_keeps_captures.ensures.itself; earlier = g.met.S.Finder.earlier };
+      leading = c.leading_books_grow.ensures.grows;
+      grow = c.stored_captures_stand_behind.ensures.stores;
+      payloads = c.stored_captures_have_their_payload.ensures;
+    })
+    c.asks_for_head-answers_head.ensures c.requires.response c.in-Ok.ensures (rw c.taken_of.ensures at c.keep.ensures)
+
+pub returns-in-Err-clause-goes_on : goal.returns-in-Err-clause-goes_on
+returns-in-Err-clause-goes_on g c = goes_on_itself g.S.Finder c.args.shelf.now c.growth_keeps_captures.ensures.itself
+
+pub returns-clause-goes_on : goal.returns-clause-goes_on
+returns-clause-goes_on g c =
+    stores_go_on g.S.Finder _ c.keep.ensures.said c.args.shelf.now c.keep.new.shelf c.leading_books_grow.ensures.grows
+    c.stored_captures_stand_behind.ensures.stores c.keep.ensures.stores
+
+pub returns-clause-closes : goal.returns-clause-closes
+returns-clause-closes g c =
+    follows_close c.in-Ok.ready c.asks_for_head-answers_head.result c.args.sending.proxied.closes c.keep.ensures.said c.keep.result c.keep.ensures.follows
+    (λ closes. passes_close c.args.received c.asks_for_head-answers_head.result c.args.sending.proxied.closes c.in-Ok.ready c.in-Ok.ensures closes)

@@ -1,0 +1,79 @@
+-- The capture that an address leads to or names, or that there is none.
+use Rattle.std.proofs.Common.{refl}
+use Rattle.capture.specs.declared.refusal.Refusal.TheVariants.{NoCapture}
+use Rattle.replay_url.specs.declared.form.Form.TheVariants.{Memento}
+use Rattle.session.specs.SiteAnswers.{Refuses, Redirects, names_date}
+use Rattle.session.proofs.FoundLaws.{by_test, memento_keyed}
+use Rattle.session.proofs.LookLaws.{look_lacking, looked_answers, looked_on}
+use Rattle.session.proofs.StoreLaws.{goes_on_both}
+use Rattle.session.proofs.VisitLaws.{refusal_is}
+use Rattle.session.proofs.seeking.visit_memento.Goals as goal
+
+pub seek-requires : goal.seek-requires
+seek-requires g c = record { keyed = memento_keyed _ c.args.sought.time c.args.sought.digits c.args.sought.raw c.args.sought.url.now c.requires.asks.is }
+
+pub replay_found-requires : goal.replay_found-requires
+replay_found-requires g c =
+    let found = rw c.in-Ok-Some.field-0-is at c.in-Ok-Some.ensures.found in
+    record {
+      found = record {
+        reaches = record {
+          entry = c.in-Ok-Some.entry;
+          reaches = record { asks = c.requires.asks; key = found.key; keyed = found.keyed; sought = c.args.sought.time; timed = refl; nearest = found.nearest };
+          named = by_test c.names_date.result (names_date (Memento c.args.sought.time c.args.sought.digits c.args.sought.raw c.args.sought.url.now) c.in-Ok-Some.entry.date) c.names_date.ensures c.if-names_date.true;
+          number_is = c.number_of.ensures;
+        };
+        knows = found.knows;
+      };
+    }
+
+pub returns-then-names_date-clause-answers : goal.returns-then-names_date-clause-answers
+returns-then-names_date-clause-answers g c clock_tells = c.replay_found.ensures.answers clock_tells c.args.shelf.now c.seek.ensures.looks
+
+pub returns-then-names_date-clause-goes_on : goal.returns-then-names_date-clause-goes_on
+returns-then-names_date-clause-goes_on g c =
+    goes_on_both g.S.Finder c.args.shelf.now c.seek.new.shelf c.replay_found.new.shelf c.growth_keeps_captures.ensures.steps
+    (looked_on g.S.Finder c.args.shelf.now c.seek.new.shelf c.leading_books_grow.ensures.itself c.leading_books_grow.ensures.grows c.seek.ensures.looks)
+    c.replay_found.ensures.goes_on
+
+pub returns-else-names_date-clause-answers : goal.returns-else-names_date-clause-answers
+returns-else-names_date-clause-answers g c clock_tells =
+    let found = rw c.in-Ok-Some.field-0-is at c.in-Ok-Some.ensures.found in
+    looked_answers g.S.Finder (record { site = c.args.visit.site.now; clock_tells = clock_tells })
+    (record { message = c.args.visit.message.now; address = c.args.visit.address.now })
+    (Redirects (Memento c.args.sought.time c.args.sought.digits c.args.sought.raw c.args.sought.url.now) c.in-Ok-Some.entry) c.args.visit.closes c.lead_to.result c.args.shelf.now c.seek.new.shelf
+    g.met.S.Finder.earlier c.leading_books_grow.ensures.itself c.leading_books_grow.ensures.grows c.seek.ensures.looks found.knows refl
+    (λ lacked faults. record {
+      reaches = record { asks = c.requires.asks; key = found.key; keyed = found.keyed; sought = c.args.sought.time; timed = refl; nearest = found.nearest };
+      other = by_test c.names_date.result (names_date (Memento c.args.sought.time c.args.sought.digits c.args.sought.raw c.args.sought.url.now) c.in-Ok-Some.entry.date) c.names_date.ensures c.if-names_date.false;
+    })
+    c.lead_to.ensures.text c.lead_to.ensures.closes
+
+pub returns-in-Ok-None-clause-answers : goal.returns-in-Ok-None-clause-answers
+returns-in-Ok-None-clause-answers g c clock_tells =
+    let found = rw c.in-Ok-None.field-0-is at c.in-Ok-None.ensures.found in
+    looked_answers g.S.Finder (record { site = c.args.visit.site.now; clock_tells = clock_tells })
+    (record { message = c.args.visit.message.now; address = c.args.visit.address.now })
+    (Refuses NoCapture) c.args.visit.closes c.refused.result c.args.shelf.now c.seek.new.shelf
+    g.met.S.Finder.earlier c.leading_books_grow.ensures.itself c.leading_books_grow.ensures.grows c.seek.ensures.looks found.knows refl
+    (λ lacked faults. record { form = (Memento c.args.sought.time c.args.sought.digits c.args.sought.raw c.args.sought.url.now); asks = c.requires.asks; key = found.key; keyed = found.keyed; none = found.nearest })
+    (refusal_is c.refused.result NoCapture c.asks_for_head-answers_head.result _ c.args.visit.closes c.asks_for_head-answers_head.ensures c.refused.ensures.text)
+    c.refused.ensures.closes
+
+pub returns-in-Err-clause-answers : goal.returns-in-Err-clause-answers
+returns-in-Err-clause-answers g c clock_tells =
+    look_lacking g.S.Finder (record { site = c.args.visit.site.now; clock_tells = clock_tells })
+    (record { message = c.args.visit.message.now; address = c.args.visit.address.now }) c.args.visit.closes _ c.args.shelf.now c.seek.new.shelf
+    g.met.S.Finder.earlier c.leading_books_grow.ensures.itself c.leading_books_grow.ensures.grows c.seek.ensures.looks
+
+pub returns-else-names_date-clause-goes_on : goal.returns-else-names_date-clause-goes_on
+returns-else-names_date-clause-goes_on g c =
+    looked_on g.S.Finder c.args.shelf.now c.seek.new.shelf c.leading_books_grow.ensures.itself c.leading_books_grow.ensures.grows c.seek.ensures.looks
+
+pub returns-in-Ok-None-clause-goes_on : goal.returns-in-Ok-None-clause-goes_on
+returns-in-Ok-None-clause-goes_on g c =
+    looked_on g.S.Finder c.args.shelf.now c.seek.new.shelf c.leading_books_grow.ensures.itself c.leading_books_grow.ensures.grows c.seek.ensures.looks
+
+pub returns-in-Err-clause-goes_on : goal.returns-in-Err-clause-goes_on
+returns-in-Err-clause-goes_on g c =
+    looked_on g.S.Finder c.args.shelf.now c.seek.new.shelf c.leading_books_grow.ensures.itself c.leading_books_grow.ensures.grows c.seek.ensures.looks

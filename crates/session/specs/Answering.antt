@@ -1,0 +1,58 @@
+-- What answering a request leaves.
+use Rattle.std.specs.Prelude.{◌≡◌, ℕ, Bool, true, false, List, [], Result, Ok, Err}
+use Rattle.archive_shelf.specs.declared.finder.Finder.{Ghosts}
+use Rattle.capture.specs.declared.memory.Memory.{Memory}
+use Rattle.exchange.specs.Refusals.{memory_text}
+use Rattle.exchange.specs.declared.aim.Aim.TheVariants.{Site as ToSite}
+use Rattle.outside.specs.Records.{Links}
+use Rattle.outside.specs.declared.dialer.Transcript.{Transcript}
+use Rattle.outside.specs.declared.gate.Heard.{Heard}
+use Rattle.session.specs.Connection.{Setting, IsMade}
+use Rattle.session.specs.Gains.{World}
+use Rattle.session.specs.Requests.{IsAsked, IsInterim, closes_after}
+use Rattle.session.specs.Rounds.{Outcome, closes_outcome, refusal_in}
+use Rattle.session.specs.SiteAnswers.{SiteRequest}
+use Rattle.session.specs.Traces.{Traces}
+use Rattle.session.specs.declared.answer.Answer.{Answer}
+
+-- a request that is to be answered: how many were served before it, the client's bytes that it took, and the text that was written
+-- in the middle of them
+pub record Incoming : Type 0 where
+  pub served : ℕ
+  pub wire : List ℕ
+  pub interim : List ℕ
+
+module _ {S : Type 0} (finder : Ghosts S) (setting : Setting) where
+  -- a lawful round was made of it, with this text, or there was no memory to go on from what was decided
+  pub record MakesRound (incoming : Incoming) (lacked : Bool) (text : List ℕ) (was is : World S) : Type 0 where
+    pub outcome : Outcome
+    pub traces : Traces
+    pub made : IsMade finder setting incoming.served (record {
+      wire = incoming.wire;
+      outcome = outcome;
+      lacked = lacked;
+      traces = traces;
+      interim = incoming.interim;
+      text = text;
+    }) was is
+    pub unrefused : refusal_in outcome ≡ []
+
+  -- a lawful round was made of it, whose text this is, after which the connection closes as is told
+  pub record IsAnswered (incoming : Incoming) (answer : Answer) (was is : World S) : Type 0 where
+    pub makes : MakesRound incoming false answer.text was is
+    pub closes_is : closes_outcome incoming.served makes.outcome ≡ answer.closes
+
+  -- what comes of a request
+  abbrev pub Answers : Incoming → Result Answer Memory → World S → World S → Type 0
+  Answers incoming (Ok answer) was is = IsAnswered incoming answer was is
+  Answers incoming (Err memory) was is = MakesRound incoming true memory_text was is
+
+  -- what comes of a request to the site, which clock and origins don't see
+  abbrev pub AnswersVisit : SiteRequest → Bool → Result Answer Memory → S → S → Type 0
+  AnswersVisit q closes result was is =
+      (incoming : Incoming) (then now : Heard) (answers : List ℕ) (links : Links Transcript) (faults : ℕ)
+      → closes ≡ closes_after incoming.served q.message.head
+      → IsAsked setting.site incoming.wire q.message (ToSite q.address) → IsInterim setting.site incoming.wire incoming.interim
+      → Answers incoming result
+      (record { heard = then; answers = answers; links = links; dialer_faults = faults; shelf = was })
+      (record { heard = now; answers = answers; links = links; dialer_faults = faults; shelf = is })

@@ -1,0 +1,87 @@
+-- Which requests are answered. Where no object failed, a lawful round of such a request has its answer, or memory ran out.
+use Rattle.std.specs.Prelude.{◌≡◌, ◌⊎◌, ℕ, ◌-◌, ◌^◌, ◌<◌, false, IsTrue, List, length, Contains, Option, ⊤}
+use Rattle.capture.specs.Captures.{captures}
+use Rattle.capture.specs.Final.{Arrived, IsArrival}
+use Rattle.capture.specs.First.{Message}
+use Rattle.capture.specs.declared.refusal.Refusal.{Refusal}
+use Rattle.capture.specs.declared.site.Site.{Site}
+use Rattle.cdxj_index.specs.Queries.{HasNone}
+use Rattle.exchange.specs.Texts.{answered}
+use Rattle.exchange.specs.declared.aim.Aim.{Aim}
+use Rattle.http_head.specs.declared.head.Received.{Received}
+use Rattle.http_head.specs.declared.head.RequestHead.{RequestHead}
+use Rattle.http_head.specs.declared.head.RequestMessage.{RequestMessage}
+use Rattle.outside.specs.declared.dialer.Transcript.{Transcript}
+use Rattle.replay_url.specs.declared.form.Form.{Form}
+use Rattle.replay_url.specs.declared.form.Form.TheVariants.{Memento, Gate, Map, Number}
+use Rattle.session.specs.Exchanges.{Exchange, Reply, Passes, IsPassedOn, answers_head}
+use Rattle.session.specs.Requests.{IsAsked, IsRefused}
+use Rattle.session.specs.Rounds.{Round, Exchanged, Visited, IsRound, closes_exchange}
+use Rattle.session.specs.SiteAnswers.{SiteRequest, SiteReply, Refuses, Redirects, Replays, Lists, LacksSiteReply, Asks, HasKey}
+use Rattle.session.specs.Traces.{Terms, View, Traces}
+use Rattle.time_text.specs.Texts.{InRange}
+
+-- Neither count of faults rose. A count in 64 bits stands still at its last value.
+pub record IsFaultless (traces : Traces) : Type 0 where
+  pub dialer : traces.after.dialer_faults ≡ traces.before.dialer_faults
+  pub dialer_counts : traces.before.dialer_faults < 2 ^ 64 - 1
+  pub disk : traces.after.disk_faults ≡ traces.before.disk_faults
+  pub disk_counts : traces.before.disk_faults < 2 ^ 64 - 1
+
+-- ---- origins
+
+-- the origin gave a whole final response within the limits, behind no more interim ones than are dropped
+abbrev pub GaveResponse : Exchange → Transcript → Type 0
+GaveResponse e t = (behind : ℕ) × (used : ℕ) × IsArrival (answers_head e) t.ended t.given (Arrived behind (Message used))
+
+-- the clock's answer has a text, the origin gave a response, and there is room for its capture
+pub record CanBePassedOn (terms : Terms) (e : Exchange) (traces : Traces) : Type 0 where
+  pub in_range : (date : ℕ) → Contains traces.times date → InRange date
+  pub gave : (t : Transcript) → Contains traces.transcripts t → GaveResponse e t
+  pub room : length (captures traces.before.book) < terms.limits.captures
+
+-- the response was stored and passed on, whole
+pub record GetsResponse (terms : Terms) (served : ℕ) (r : Round) (e : Exchange) (reply : Reply) : Type 0 where
+  pub received : Received
+  pub payload : List ℕ
+  pub reply_is : reply ≡ Passes received payload
+  pub passed : IsPassedOn terms e received payload r.traces
+  pub whole : received.cut ≡ false
+  pub text_is : r.text ≡ answered received payload (answers_head e) (closes_exchange served e reply)
+
+abbrev pub WholeResponsesArePassedOn : Type 0
+WholeResponsesArePassedOn =
+    (terms : Terms) (served : ℕ) (r : Round) (e : Exchange) (reply : Reply)
+    → IsRound terms served r → r.outcome ≡ Exchanged e reply → IsTrue terms.tells → IsFaultless r.traces
+    → CanBePassedOn terms e r.traces → IsTrue r.lacked ⊎ GetsResponse terms served r e reply
+
+-- ---- the site
+
+-- the book has a capture of the number, or one of the URL's key is shown
+abbrev pub HasWanted : View → Form → Type 0
+HasWanted view (Number number) = number < length (captures view.book)
+HasWanted view (Gate url) = (key : List ℕ) → HasKey (Gate url) key → ¬ (HasNone view.shown key)
+HasWanted view (Memento time digits raw url) = (key : List ℕ) → HasKey (Memento time digits raw url) key → ¬ (HasNone view.shown key)
+HasWanted view (Map url) = (key : List ℕ) → HasKey (Map url) key → ¬ (HasNone view.shown key)
+
+-- a redirect, a capture or a list
+abbrev pub IsAnswer : SiteReply → Type 0
+IsAnswer (Refuses refusal) = ⊥
+IsAnswer (Redirects form entry) = ⊤
+IsAnswer (Replays form brought) = ⊤
+IsAnswer (Lists url entries) = ⊤
+IsAnswer LacksSiteReply = ⊥
+
+abbrev pub CapturesThatAreThereAreReplayed : Type 0
+CapturesThatAreThereAreReplayed =
+    (terms : Terms) (served : ℕ) (r : Round) (q : SiteRequest) (reply : SiteReply) (form : Form)
+    → IsRound terms served r → r.outcome ≡ Visited q reply → IsTrue terms.tells → IsFaultless r.traces
+    → Asks q form → HasWanted r.traces.before form → IsTrue r.lacked ⊎ IsAnswer reply
+
+-- ---- requests
+
+-- bytes that are one request which goes somewhere aren't refused for themselves
+abbrev pub RequestsAreNotRefused : Type 0
+RequestsAreNotRefused =
+    (site : Site) (wire : List ℕ) (message : RequestMessage) (aim : Aim) (head : Option RequestHead) (refusal : Refusal)
+    → IsAsked site wire message aim → ¬ (IsRefused site wire head refusal)

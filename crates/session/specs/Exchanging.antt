@@ -1,0 +1,202 @@
+-- What the steps of an exchange with an origin leave: the clock's answer, what the dialer's link gave, and the capture that is stored.
+use Rattle.std.specs.Prelude.{◌≡◌, ℕ, ◌≤◌, Bool, true, false, ◌||◌, List, [], ◌∷◌, ◌++◌, IsErr, IsTrue, IfOk, OnOk, Result, Ok, Err, None}
+use Rattle.archive_shelf.specs.Answers.{CountsIf, LeavesReading, StoreLeaves, WritesNone, is_store_fault}
+use Rattle.archive_shelf.specs.Contents.{IsConsistent, Leads}
+use Rattle.archive_shelf.specs.Openings.{HasIds, IsRefused, IsState, MayLeave, Moves, StaysCovered}
+use Rattle.archive_shelf.specs.declared.fault.StoreFault.{StoreFault}
+use Rattle.archive_shelf.specs.declared.fault.StoreFault.TheVariants as store_fault
+use Rattle.archive_shelf.specs.declared.finder.Finder.{Ghosts}
+use Rattle.archive_shelf.specs.declared.receipt.Receipt.{Receipt}
+use Rattle.capture.specs.Payload.{IsPayload}
+use Rattle.capture.specs.declared.book.Book.{Book}
+use Rattle.capture.specs.declared.captured.Taken.{Taken}
+use Rattle.capture.specs.declared.memory.Memory.{Memory}
+use Rattle.capture.specs.declared.refusal.Refusal.{Refusal}
+use Rattle.capture.specs.declared.refusal.Refusal.TheVariants.{DialFault, OriginFault, OriginEnded, OriginMalformed, OriginTooLong, TooManyInterim, Full, DiskFault, Damaged}
+use Rattle.capture.specs.declared.site.Site.{Site}
+use Rattle.exchange.specs.Fetches.{IsFetched}
+use Rattle.exchange.specs.Refusals.{refusal_text}
+use Rattle.exchange.specs.Texts.{answered}
+use Rattle.exchange.specs.declared.aim.Aim.TheVariants.{Origin}
+use Rattle.exchange.specs.declared.fetching.FetchFault.{FetchFault}
+use Rattle.exchange.specs.declared.fetching.FetchFault.TheVariants as fetch_fault
+use Rattle.http_head.specs.declared.head.Received.{Received}
+use Rattle.outside.specs.Records.{Links}
+use Rattle.outside.specs.declared.dialer.Transcript.{Transcript}
+use Rattle.session.specs.Answering.{Answers, Incoming}
+use Rattle.session.specs.Connection.{Setting}
+use Rattle.session.specs.Exchanges.{Exchange, Reply, IsReply, asking_of, reply_text}
+use Rattle.session.specs.Gains.{World}
+use Rattle.session.specs.Images.{KeepsImages}
+use Rattle.session.specs.Requests.{IsAsked, IsInterim, closes_after}
+use Rattle.session.specs.Rounds.{Round, Exchanged, disk_fault, is_cut_off, numbers_by, origin_fault}
+use Rattle.session.specs.Traces.{Terms, Traces, View, CountsMet, terms_of, view_of}
+use Rattle.session.specs.declared.answer.Answer.{Answer}
+use Rattle.session.specs.declared.exchanging.Proxied.{Proxied}
+
+-- the request, and the origin that it goes to
+abbrev pub exchange_of : Proxied → Exchange
+exchange_of proxied = record { message = proxied.message; target = proxied.target }
+
+-- ---- answers
+
+-- the answer is this refusal, or there was no memory for one
+pub record Refuses (refusal : Refusal) (answers_head closes : Bool) (result : Result Answer Memory) : Type 0 where
+  pub text_is : IfOk result (λ answer. answer.text ≡ refusal_text refusal answers_head closes)
+  pub closes_is : IfOk result (λ answer. answer.closes ≡ closes)
+
+-- the answer to a request of which no response came, by the reason
+abbrev pub FailsBy : FetchFault → Bool → Bool → Result Answer Memory → Type 0
+FailsBy fetch_fault.DialFault answers_head closes result = Refuses DialFault answers_head closes result
+FailsBy fetch_fault.OriginFault answers_head closes result = Refuses OriginFault answers_head closes result
+FailsBy fetch_fault.OriginEnded answers_head closes result = Refuses OriginEnded answers_head closes result
+FailsBy fetch_fault.OriginMalformed answers_head closes result = Refuses OriginMalformed answers_head closes result
+FailsBy fetch_fault.OriginTooLong answers_head closes result = Refuses OriginTooLong answers_head closes result
+FailsBy fetch_fault.TooManyInterim answers_head closes result = Refuses TooManyInterim answers_head closes result
+FailsBy fetch_fault.Memory answers_head closes result = IsErr result
+
+-- The answer passes the response on, with the payload of its wire. One that was cut closes the connection.
+pub record PassesOn (received : Received) (answers_head closes : Bool) (answer : Answer) : Type 0 where
+  pub payload : List ℕ
+  pub payload_is : IsPayload received.cut received.framing received.wire payload
+  pub text_is : answer.text ≡ answered received payload answers_head (received.cut || closes)
+  pub closes_is : answer.closes ≡ (received.cut || closes)
+
+-- the answer to a request whose capture wasn't stored, by the reason
+abbrev pub TurnsDown : StoreFault → Bool → Bool → Result Answer Memory → Type 0
+TurnsDown (store_fault.Full count limit) answers_head closes result = Refuses (Full count limit) answers_head closes result
+TurnsDown store_fault.DiskFault answers_head closes result = Refuses DiskFault answers_head closes result
+TurnsDown (store_fault.Damaged number kept found) answers_head closes result = Refuses (Damaged number kept found) answers_head closes result
+TurnsDown store_fault.Memory answers_head closes result = IsErr result
+
+-- the answer by what a store said: the one that is ready, where the capture is stored
+abbrev pub FollowsStore : Answer → Bool → Bool → Result Receipt StoreFault → Result Answer Memory → Type 0
+FollowsStore ready answers_head closes (Ok receipt) result = result ≡ Ok ready
+FollowsStore ready answers_head closes (Err fault) result = TurnsDown fault answers_head closes result
+
+-- ---- the outside
+
+-- What clock and dialer tell of an exchange: the clock's answers, the transcripts of the links that were hung up, and the count of
+-- the dialer's faults before and behind it.
+pub record Around : Type 0 where
+  pub times : List ℕ
+  pub transcripts : List Transcript
+  pub faults_before : ℕ
+  pub faults_now : ℕ
+
+-- a response came over the one link, behind the clock's one answer
+pub record HasCome (e : Exchange) (date : ℕ) (received : Received) (around : Around) : Type 0 where
+  pub timed : around.times ≡ date ∷ []
+  pub t : Transcript
+  pub linked : around.transcripts ≡ t ∷ []
+  pub fetched : IsFetched (asking_of e) t (Ok received)
+  pub steady : around.faults_now ≡ around.faults_before
+
+-- what a dialer tells, and a shelf
+pub record Beyond (S : Type 0) : Type 0 where
+  pub links : Links Transcript
+  pub faults : ℕ
+  pub shelf : S
+
+module _ {S : Type 0} (finder : Ghosts S) where
+  -- what one store leaves of a shelf, by what it said
+  pub record Stores (taken : Taken) (said : Result Receipt StoreFault) (was is : S) : Type 0 where
+    pub leaves : StoreLeaves finder.alone taken (finder.contents was) (finder.contents is) said
+    pub consistent : IsConsistent finder.alone (finder.contents is)
+    pub reading : IsTrue finder.alone → IsTrue (finder.contents was).tells → LeavesReading (finder.reading was) (finder.reading is) said
+    pub faults : CountsIf (is_store_fault said) (finder.faults was) (finder.faults is)
+    pub later : finder.moment was ≤ finder.moment is
+    pub moves : HasIds (finder.contents was).seen → Moves finder.moment finder.openings was is (MayLeave (finder.contents was) taken)
+    pub only : HasIds (finder.contents was).seen
+        → OnOk said (IsState finder.moment finder.openings is (finder.contents is).seen None)
+    pub refused : IsTrue finder.alone → IsTrue (finder.contents was).tells → HasIds (finder.contents was).seen
+        → IsTrue (is_store_fault said)
+        → IsRefused finder.moment finder.openings was is (finder.contents was) (finder.contents is) taken
+    pub quiet : WritesNone said → Moves finder.moment finder.openings was is (λ x. ⊥)
+    pub covered : StaysCovered finder.moment finder.covered was is
+
+  -- the capture was given to the shelf, once, and the answer follows from what that said
+  pub record Keeps (taken : Taken) (ready : Answer) (answers_head closes : Bool) (result : Result Answer Memory) (was is : S) : Type 0 where
+    pub said : Result Receipt StoreFault
+    pub stores : Stores taken said was is
+    pub follows : FollowsStore ready answers_head closes said result
+
+module _ {S : Type 0} (finder : Ghosts S) (site : Site) (e : Exchange) where
+  -- what holds while the request is answered
+  abbrev pub terms_in : S → Terms
+  terms_in shelf = terms_of site finder.alone (finder.contents shelf)
+
+  -- what was seen when the reply was decided: this book
+  abbrev pub view_before : Around → Book → S → View
+  view_before around found was = record {
+    book = found;
+    shown = (finder.contents was).shown;
+    dialer_faults = around.faults_before;
+    disk_faults = finder.faults was;
+  }
+
+  -- what the exchange left outside
+  abbrev pub traces_of : Around → Book → S → S → Traces
+  traces_of around found was is = record {
+    times = around.times;
+    transcripts = around.transcripts;
+    before = view_before around found was;
+    after = view_of (finder.contents is) around.faults_now (finder.faults is);
+  }
+
+  -- the round that was made
+  abbrev pub round_of : Incoming → Reply → Bool → Traces → List ℕ → Round
+  round_of incoming reply lacked traces text = record {
+    wire = incoming.wire;
+    outcome = Exchanged e reply;
+    lacked = lacked;
+    traces = traces;
+    interim = incoming.interim;
+    text = text;
+  }
+
+  -- how the request is answered follows from what clock, dialer and shelf left
+  pub record Replies (lacked : Bool) (reply : Reply) (around : Around) (was is : S) : Type 0 where
+    pub found : Book
+    pub led : Leads finder.alone (finder.contents was).seen found
+    pub by : IsReply (terms_in was) e lacked reply (traces_of around found was is)
+    pub dialer : CountsMet (origin_fault (Exchanged e reply)) around.faults_before around.faults_now
+    pub disk : CountsMet (disk_fault (Exchanged e reply)) (finder.faults was) (finder.faults is)
+    pub stored : finder.contents is ≡ record (finder.contents was) {
+      seen = (finder.contents is).seen;
+      shown = (finder.contents is).shown;
+      mine = (finder.contents was).mine ++ numbers_by (Exchanged e reply) (view_before around found was);
+    }
+    pub images : (incoming : Incoming) (text : List ℕ)
+        → KeepsImages finder (terms_in was) (round_of incoming reply lacked (traces_of around found was is) text ∷ []) was is
+
+  -- the answer is the text of such a reply
+  pub record HasReply (around : Around) (closes : Bool) (answer : Answer) (was is : S) : Type 0 where
+    pub reply : Reply
+    pub replies : Replies false reply around was is
+    pub text_is : answer.text ≡ reply_text e reply (is_cut_off reply || closes)
+    pub closes_is : answer.closes ≡ (is_cut_off reply || closes)
+
+  -- what comes of the request: the answer that is its reply, or want of memory
+  abbrev pub Comes : Around → Bool → Result Answer Memory → S → S → Type 0
+  Comes around closes (Ok answer) was is = HasReply around closes answer was is
+  Comes around closes (Err memory) was is = (reply : Reply) × Replies true reply around was is
+
+  -- the request was answered behind the clock's answer, and the dialer's log gained the transcripts of its links
+  pub record Asks (closes : Bool) (date : ℕ) (result : Result Answer Memory) (was is : Beyond S) : Type 0 where
+    pub transcripts : List Transcript
+    pub logged : is.links ≡ record was.links { log = was.links.log ++ transcripts }
+    pub comes : Comes (record {
+      times = date ∷ [];
+      transcripts = transcripts;
+      faults_before = was.faults;
+      faults_now = is.faults;
+    }) closes result was.shelf is.shelf
+
+module _ {S : Type 0} (finder : Ghosts S) (setting : Setting) where
+  -- what comes of a request to an origin
+  abbrev pub AnswersProxied : Exchange → Bool → Result Answer Memory → World S → World S → Type 0
+  AnswersProxied e closes result was is =
+      (incoming : Incoming) → closes ≡ closes_after incoming.served e.message.head
+      → IsAsked setting.site incoming.wire e.message (Origin e.target) → IsInterim setting.site incoming.wire incoming.interim
+      → Answers finder setting incoming result was is

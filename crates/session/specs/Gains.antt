@@ -1,0 +1,51 @@
+-- What rounds gain of the outside, and what its objects tell of that.
+use Rattle.std.specs.Prelude.{◌≡◌, ℕ, ◌-◌, ◌^◌, ◌<◌, Bool, List, [], ◌∷◌, ◌++◌, length, IsTrue}
+use Rattle.outside.specs.Records.{Links}
+use Rattle.outside.specs.declared.dialer.Transcript.{Transcript}
+use Rattle.outside.specs.declared.gate.Heard.{Heard}
+use Rattle.session.specs.Rounds.{Round, numbers_by}
+
+-- the clock's answers, the transcripts of the links that were hung up, and the numbers of the captures that were stored
+pub record Gains : Type 0 where
+  pub times : List ℕ
+  pub transcripts : List Transcript
+  pub numbers : List ℕ
+
+-- nothing was gained
+abbrev pub no_gains : Gains
+no_gains = record { times = []; transcripts = []; numbers = [] }
+
+-- one after the other
+abbrev pub both_gains : Gains → Gains → Gains
+both_gains first second = record {
+  times = first.times ++ second.times;
+  transcripts = first.transcripts ++ second.transcripts;
+  numbers = first.numbers ++ second.numbers;
+}
+
+-- what a round gained
+abbrev pub gains_by : Round → Gains
+gains_by r = record {
+  times = r.traces.times;
+  transcripts = r.traces.transcripts;
+  numbers = numbers_by r.outcome r.traces.before;
+}
+
+-- what rounds gained
+abbrev pub gains_of : List Round → Gains
+gains_of [] = no_gains
+gains_of (r ∷ rounds) = both_gains (gains_by r) (gains_of rounds)
+
+-- What the objects around a connection tell so far: what was heard of the client; the clock's answers; the dialer's log, what is
+-- out of it and its faults. The shelf tells of itself.
+pub record World (S : Type 0) : Type 0 where
+  pub heard : Heard
+  pub answers : List ℕ
+  pub links : Links Transcript
+  pub dialer_faults : ℕ
+  pub shelf : S
+
+-- Clock and dialer tell these gains, and no link is left out. A clock that tells does so while its answers are fewer than 2^64 - 1.
+pub record GainsOutside {S : Type 0} (clock_tells : Bool) (was is : World S) (gains : Gains) : Type 0 where
+  pub asked : IsTrue clock_tells → length is.answers < 2 ^ 64 - 1 → is.answers ≡ was.answers ++ gains.times
+  pub logged : is.links ≡ record was.links { log = was.links.log ++ gains.transcripts }

@@ -1,0 +1,99 @@
+-- Which books a stop may leave, while a connection is served over an archive alone.
+use Rattle.std.specs.Prelude.{◌≡◌, ◌⊎◌, ◌≤◌, List, [], ◌∷◌, IsTrue, ⊤}
+use Rattle.archive_shelf.specs.Contents.{Contents}
+use Rattle.archive_shelf.specs.Openings.{SameBook, HasIds, Moves, StaysCovered, MayLeave}
+use Rattle.archive_shelf.specs.Storing.{Storing, stored_by}
+use Rattle.archive_shelf.specs.declared.finder.Finder.{Ghosts}
+use Rattle.capture.specs.declared.book.Book.{Book}
+use Rattle.capture.specs.declared.refusal.Refusal.{Refusal}
+use Rattle.capture.specs.declared.refusal.Refusal.TheVariants.{DiskFault}
+use Rattle.http_head.specs.declared.head.Received.{Received}
+use Rattle.warc_journal.specs.Extents.{cdxj_files}
+use Rattle.session.specs.Exchanges.{Exchange, Fails, Passes, LacksReply, Fetched, HasRoom, taken_of, taken_in}
+use Rattle.session.specs.Rounds.{Outcome, Undecided, Refused, Exchanged, Visited, Round}
+use Rattle.session.specs.Traces.{Terms, View, Traces}
+
+-- what a round did to the archive: nothing, it stored the capture of an exchange, or the disk refused that
+pub data Deed : Type 0 where
+  NoDeed : Deed
+  Stores : (e : Exchange) (received : Received) → Deed
+  IsDenied : (e : Exchange) → Deed
+
+-- a store alone is refused by the disk and may leave something
+abbrev pub deed_of_failure : Exchange → Refusal → Deed
+deed_of_failure e DiskFault = IsDenied e
+deed_of_failure e other = NoDeed
+
+abbrev pub deed_of : Outcome → Deed
+deed_of Undecided = NoDeed
+deed_of (Refused head refusal) = NoDeed
+deed_of (Exchanged e (Fails refusal)) = deed_of_failure e refusal
+deed_of (Exchanged e (Passes received payload)) = Stores e received
+deed_of (Exchanged e LacksReply) = NoDeed
+deed_of (Visited q reply) = NoDeed
+
+-- what a shelf with this view tells
+abbrev pub contents_at : Terms → View → Contents
+contents_at terms view = record { tells = terms.tells; seen = view.book; shown = view.shown; mine = []; limits = terms.limits }
+
+-- storing the capture of an exchange, wherever it is stopped, may leave the book
+abbrev pub MayBeLeft : Terms → Traces → Deed → Book → Type 0
+MayBeLeft terms traces NoDeed x = ⊥
+MayBeLeft terms traces (Stores e received) x =
+    (fetched : Fetched e received traces) × MayLeave (contents_at terms traces.before) (taken_of e fetched.date received) x
+MayBeLeft terms traces (IsDenied e) x =
+    (room : HasRoom terms e traces) × MayLeave (contents_at terms traces.before) (taken_in room) x
+
+-- one of the rounds may leave the book
+abbrev pub IsPassed : Terms → List Round → Book → Type 0
+IsPassed terms [] x = ⊥
+IsPassed terms (r ∷ rounds) x = MayBeLeft terms r.traces (deed_of r.outcome) x ⊎ IsPassed terms rounds x
+
+-- the capture that the disk refused may be there, or the volume that it needs
+abbrev pub IsOfDenied : Terms → Exchange → Traces → Book → Type 0
+IsOfDenied terms e traces x =
+    (room : HasRoom terms e traces)
+    × (storing : Storing terms.limits.volume_bytes traces.before.book (taken_in room))
+    × ((x ≡ storing.unfilled) ⊎ (x ≡ stored_by storing))
+
+-- Which books may be opened behind a round, by those that might be before: behind a store that one alone. Behind a store that the
+-- disk refused also what that may have left, and what might be opened before it where the book stayed.
+abbrev pub OpensBehind : Terms → Traces → Deed → (Book → Type 0) → Book → Type 0
+OpensBehind terms traces NoDeed Before x = Before x
+OpensBehind terms traces (Stores e received) Before x = SameBook x traces.after.book
+OpensBehind terms traces (IsDenied e) Before x =
+    ((traces.after.book ≡ traces.before.book) × Before x) ⊎ SameBook x traces.after.book ⊎ IsOfDenied terms e traces x
+
+-- and behind rounds
+abbrev pub OpensAtLast : Terms → (Book → Type 0) → List Round → Book → Type 0
+OpensAtLast terms Before [] x = Before x
+OpensAtLast terms Before (r ∷ rounds) x = OpensAtLast terms (OpensBehind terms r.traces (deed_of r.outcome) Before) rounds x
+
+-- the ids of the captures of a book differ, and that of one more, where a round may add to it
+abbrev pub NeedsIds : Deed → Book → Type 0
+NeedsIds NoDeed book = ⊤
+NeedsIds (Stores e received) book = HasIds book
+NeedsIds (IsDenied e) book = HasIds book
+
+-- and so of each book on the way
+abbrev pub HasAllIds : List Round → Type 0
+HasAllIds [] = ⊤
+HasAllIds (r ∷ rounds) = NeedsIds (deed_of r.outcome) r.traces.before.book × HasAllIds rounds
+
+-- nothing was written to the disk
+abbrev pub WriteNone : List Round → Type 0
+WriteNone [] = ⊤
+WriteNone (r ∷ rounds) = (deed_of r.outcome ≡ NoDeed) × WriteNone rounds
+
+-- What images do while rounds are served. Where nothing is written a read of the disk gives what it gave, and in any case the
+-- checkpoints that it gave. Where the ids differ, a book that may be opened since a moment might be before the first round, or one
+-- of them may leave it; and those that may be opened at last are told by the rounds in their order.
+pub record KeepsImages {S : Type 0} (finder : Ghosts S) (terms : Terms) (rounds : List Round) (was is : S) : Type 0 where
+  pub later : finder.moment was ≤ finder.moment is
+  pub covered : StaysCovered finder.moment finder.covered was is
+  pub reading : IsTrue terms.alone → IsTrue terms.tells → WriteNone rounds → finder.reading is ≡ finder.reading was
+  pub checkpoints : IsTrue terms.alone → IsTrue terms.tells → cdxj_files (finder.reading is) ≡ cdxj_files (finder.reading was)
+  pub opened : IsTrue terms.alone → HasAllIds rounds → Moves finder.moment finder.openings was is (IsPassed terms rounds)
+  pub left : IsTrue terms.alone → IsTrue terms.tells → HasAllIds rounds
+      → (x : Book) → finder.openings is (finder.moment is) x
+      → OpensAtLast terms (λ b. finder.openings was (finder.moment was) b) rounds x

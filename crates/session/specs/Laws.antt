@@ -1,0 +1,59 @@
+-- What lawful courses promise to those who build on them.
+use Rattle.std.specs.Prelude.{ℕ, List, [], ◌∷◌, IsTrue, length, ⊤}
+use Rattle.archive_shelf.specs.Answers.{IsByRule}
+use Rattle.archive_shelf.specs.Contents.{Begins}
+use Rattle.archive_shelf.specs.Openings.{HasIds}
+use Rattle.archive_shelf.specs.declared.receipt.Receipt.{Receipt}
+use Rattle.capture.specs.Captures.{captures, HasPayload, IsPayloadOf}
+use Rattle.capture.specs.Growth.{Grows}
+use Rattle.capture.specs.Soundness.{HasSoundCaptures}
+use Rattle.capture.specs.declared.book.Book.{Book}
+use Rattle.capture.specs.declared.captured.Taken.{Taken}
+use Rattle.session.specs.Images.{HasAllIds}
+use Rattle.session.specs.Rounds.{Round, IsCourse, origin_faults, disk_faults}
+use Rattle.session.specs.Traces.{Terms, View, CountsMet, IsConsistentView}
+
+-- the book only grows, from round to round and over a course
+abbrev pub CoursesGrow : Type 0
+CoursesGrow =
+    (terms : Terms) (served : ℕ) (was : View) (rounds : List Round) (is : View)
+    → IsCourse terms served was rounds is → Grows was.book is.book
+
+-- what is shown only grows
+abbrev pub CoursesShowOn : Type 0
+CoursesShowOn =
+    (terms : Terms) (served : ℕ) (was : View) (rounds : List Round) (is : View)
+    → IsCourse terms served was rounds is → Begins was.shown is.shown
+
+-- alone, each round's answer is decided by just the entries of its book
+abbrev pub AreConsistent : Terms → List Round → Type 0
+AreConsistent terms [] = ⊤
+AreConsistent terms (r ∷ rounds) = IsConsistentView terms r.traces.before × AreConsistent terms rounds
+
+-- where that holds of the archive before a course
+abbrev pub CoursesStayConsistent : Type 0
+CoursesStayConsistent =
+    (terms : Terms) (served : ℕ) (was : View) (rounds : List Round) (is : View)
+    → IsTrue terms.alone → IsCourse terms served was rounds is → IsConsistentView terms was
+    → AreConsistent terms rounds × IsConsistentView terms is
+
+-- where the ids of the last book's captures differ, and that of one more, those of each book on the way do
+abbrev pub IdsDifferOnTheWay : Type 0
+IdsDifferOnTheWay =
+    (terms : Terms) (served : ℕ) (was : View) (rounds : List Round) (is : View)
+    → IsCourse terms served was rounds is → HasIds is.book → HasAllIds rounds
+
+-- the counts of faults rise by those that rounds met, and stay where none did
+abbrev pub CoursesCountFaults : Type 0
+CoursesCountFaults =
+    (terms : Terms) (served : ℕ) (was : View) (rounds : List Round) (is : View)
+    → IsCourse terms served was rounds is
+    → CountsMet (origin_faults rounds) was.dialer_faults is.dialer_faults × CountsMet (disk_faults rounds) was.disk_faults is.disk_faults
+
+-- A capture that was stored by the rule has its payload, by its number, in the book after it, which is sound: also where another
+-- capture keeps it.
+abbrev pub StoredCapturesHaveTheirPayload : Type 0
+StoredCapturesHaveTheirPayload =
+    (limit : ℕ) (book : Book) (taken : Taken) (receipt : Receipt) (after : Book) (payload : List ℕ)
+    → IsByRule limit book taken receipt after → HasPayload taken.cut taken.method taken.head taken.wire payload
+    → HasSoundCaptures after → IsPayloadOf after (length (captures book)) payload

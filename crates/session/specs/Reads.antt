@@ -1,0 +1,157 @@
+-- What reading a request leaves of a client's link.
+use Rattle.std.specs.Prelude.{◌≡◌, ◌≢◌, ◌⊎◌, ℕ, Bool, true, List, [], ◌++◌, Option, Some, None, Result, Ok, Err}
+use Rattle.capture.specs.Methods.{asks_for_head}
+use Rattle.capture.specs.declared.refusal.Refusal.{Refusal}
+use Rattle.capture.specs.declared.refusal.Refusal.TheVariants.{ConnectRefused, SecureRefused, TargetRefused}
+use Rattle.capture.specs.declared.site.Site.{Site}
+use Rattle.exchange.specs.Receiving.{AccountsFault, StaysAccounted}
+use Rattle.exchange.specs.Refusals.{refusal_text, memory_text}
+use Rattle.exchange.specs.Aim.{HasShortHost}
+use Rattle.exchange.specs.declared.aim.Aim.{Aim}
+use Rattle.exchange.specs.declared.aim.AimFault.{AimFault}
+use Rattle.exchange.specs.declared.aim.AimFault.TheVariants as aim_fault
+use Rattle.http_head.specs.declared.head.RequestHead.{RequestHead}
+use Rattle.http_head.specs.declared.head.RequestMessage.{RequestMessage}
+use Rattle.http_head.specs.declared.head.WireFault.{WireFault}
+use Rattle.http_head.specs.declared.head.WireFault.TheVariants.{EndedEarly}
+use Rattle.http_wire.specs.Heads.{BeginsWithRequest}
+use Rattle.http_wire.specs.Messages.{IsRequest}
+use Rattle.outside.specs.declared.gate.Heard.{Heard}
+use Rattle.session.specs.Requests.{HasInterim, IsAimed, IsAimedNowhere, IsAsked, IsBegun, IsInterim, IsRefused, IsUndecided, aim_of_head, answers_head, interim_of}
+use Rattle.session.specs.Steps.{EndsRefusal}
+use Rattle.session.specs.Stopping.{EndsAs}
+use Rattle.session.specs.Wire.{Breaks, Tries, Writes}
+use Rattle.session.specs.declared.reading.Asked.{Asked}
+use Rattle.session.specs.declared.served.Served.{Served}
+use Rattle.session.specs.declared.served.Served.TheVariants.{ClientBroke, WantOfMemory}
+
+-- what was heard of a client, and those of the bytes that it gave which nobody has used
+pub record Client : Type 0 where
+  pub heard : Heard
+  pub pending : List ℕ
+
+-- these bytes were taken, and this text was written
+pub record HasTaken (from : Client) (wire interim : List ℕ) (to : Client) : Type 0 where
+  pub accounts : StaysAccounted from.heard.given from.pending to.heard.given (wire ++ to.pending)
+  pub written : to.heard.written ≡ from.heard.written ++ interim
+
+-- One request was read, which goes there. Where it asks to be told that its body is awaited, it was.
+pub record HasRead (site : Site) (from : Client) (message : RequestMessage) (aim : Aim) (to : Client) : Type 0 where
+  pub wire : List ℕ
+  pub interim : List ℕ
+  pub asked : IsAsked site wire message aim
+  pub interim_is : IsInterim site wire interim
+  pub taken : HasTaken from wire interim to
+
+-- The head of a request was read, which goes there, and its body is awaited: where it asks to be told so, it was.
+pub record AwaitsRest (site : Site) (from : Client) (stream : List ℕ) (head : RequestHead) (aim : Aim) (to : Client) : Type 0 where
+  pub begins : BeginsWithRequest stream head
+  pub aimed : aim_of_head site head ≡ Ok aim
+  pub taken : HasTaken from stream (interim_of site head) to
+
+-- ---- no request was read
+
+-- no more comes, and what came is no request
+pub record MeetsNoMore (site : Site) (from : Client) (now : Heard) (end : Served) : Type 0 where
+  pub rest : List ℕ
+  pub interim : List ℕ
+  pub undecided : IsUndecided site rest
+  pub interim_is : IsInterim site rest interim
+  pub taken : HasTaken from rest interim (record { heard = now; pending = [] })
+  pub no_more : (now.ended ≡ true) ⊎ (now.faults ≢ 0)
+  pub ends : (served : ℕ) → EndsAs end site (record { served = served; rounds = []; rest = rest }) now
+
+-- the link failed in the text that asks for the body
+pub record BreaksInside (site : Site) (from : Client) (now : Heard) (end : Served) : Type 0 where
+  pub begun : List ℕ
+  pub interim : List ℕ
+  pub asked : HasInterim site begun interim
+  pub to : Client
+  pub taken : HasTaken from begun [] to
+  pub broke : Breaks interim to.heard now
+  pub ends : end ≡ ClientBroke
+
+-- what came is refused
+pub record RefusesBytes (site : Site) (from : Client) (now : Heard) (end : Served) : Type 0 where
+  pub head : Option RequestHead
+  pub refusal : Refusal
+  pub wire : List ℕ
+  pub interim : List ℕ
+  pub refused : IsRefused site wire head refusal
+  pub interim_is : IsInterim site wire interim
+  pub to : Client
+  pub taken : HasTaken from wire interim to
+  pub ends : EndsRefusal refusal (refusal_text refusal (answers_head head) true) to.heard now end
+
+-- there was no memory
+pub record GivesUp (site : Site) (from : Client) (now : Heard) (end : Served) : Type 0 where
+  pub wire : List ℕ
+  pub interim : List ℕ
+  pub begun : IsBegun site wire
+  pub interim_is : IsInterim site wire interim ⊎ (interim ≡ [])
+  pub to : Client
+  pub taken : HasTaken from wire interim to
+  pub tries : Tries memory_text to.heard now
+  pub ends : end ≡ WantOfMemory
+
+-- how a connection ends that reads no request
+pub data ReadsNone (site : Site) (from : Client) (now : Heard) (end : Served) : Type 0 where
+  NoMore : (met : MeetsNoMore site from now end) → ReadsNone site from now end
+  Breaking : (broke : BreaksInside site from now end) → ReadsNone site from now end
+  Refusing : (refused : RefusesBytes site from now end) → ReadsNone site from now end
+  GivingUp : (gave_up : GivesUp site from now end) → ReadsNone site from now end
+
+-- ---- one message that is refused
+
+-- what is written before the body of a message is read: nothing without a head; with one, which goes somewhere, what it asks for
+abbrev pub Owes : Site → Option RequestHead → List ℕ → Type 0
+Owes site None interim = interim ≡ []
+Owes site (Some head) interim = IsAimed site head × (interim ≡ interim_of site head)
+
+-- what came of a client is no message, for this reason, and this was written before
+pub record ComesFaulty (from : Client) (fault : WireFault) (stream interim : List ℕ) (to : Heard) : Type 0 where
+  pub accounts : AccountsFault fault from.heard.given from.pending to.given stream
+  pub written : to.written ≡ from.heard.written ++ interim
+  pub met : fault ≡ EndedEarly → to.ended ≡ true
+
+-- ---- a head that is looked at
+
+-- Where a head goes. It was told that its body is awaited, if it asks for that; or the connection ends: the head goes nowhere, or
+-- there was no memory, or the link failed.
+abbrev pub LooksAt : Site → RequestHead → Heard → Heard → Result Aim Served → Type 0
+LooksAt site head then now (Ok aim) = (aim_of_head site head ≡ Ok aim) × Writes (interim_of site head) then now
+LooksAt site head then now (Err end) =
+    ((refusal : Refusal) × IsAimedNowhere site head refusal
+    × EndsRefusal refusal (refusal_text refusal (asks_for_head head.method) true) then now end)
+    ⊎ (Tries memory_text then now × (end ≡ WantOfMemory))
+    ⊎ (IsAimed site head × Breaks (interim_of site head) then now × (end ≡ ClientBroke))
+
+-- what refusing a head that goes nowhere leaves
+abbrev pub RefusesAim : AimFault → Bool → Heard → Heard → Served → Type 0
+RefusesAim aim_fault.ConnectRefused answers_head then now end = EndsRefusal ConnectRefused (refusal_text ConnectRefused answers_head true) then now end
+RefusesAim aim_fault.SecureRefused answers_head then now end = EndsRefusal SecureRefused (refusal_text SecureRefused answers_head true) then now end
+RefusesAim aim_fault.TargetRefused answers_head then now end = EndsRefusal TargetRefused (refusal_text TargetRefused answers_head true) then now end
+RefusesAim aim_fault.Memory answers_head then now end = Tries memory_text then now × (end ≡ WantOfMemory)
+
+-- Whatever the link tells, what is asked is one request that was read, and it goes there; the host of an origin is short.
+pub record IsWellAsked (site : Site) (asked : Asked) : Type 0 where
+  pub stream : List ℕ
+  pub request : IsRequest stream asked.message
+  pub aimed : aim_of_head site asked.message.head ≡ Ok asked.aim
+  pub short : HasShortHost asked.aim
+
+-- the request is one that was read, and goes where this head goes
+pub record IsBehind (head : RequestHead) (message : RequestMessage) : Type 0 where
+  pub stream : List ℕ
+  pub request : IsRequest stream message
+  pub same_aim : (site : Site) → aim_of_head site message.head ≡ aim_of_head site head
+
+-- what comes of reading the body of a request that goes there
+abbrev pub ReadsBody : Site → Client → Aim → Client → Result RequestMessage Served → Type 0
+ReadsBody site from aim to (Ok message) = HasRead site from message aim to
+ReadsBody site from aim to (Err end) = ReadsNone site from to.heard end
+
+-- what comes of reading a request: one, or the connection's end
+abbrev pub Reads : Site → Client → Client → Result Asked Served → Type 0
+Reads site from to (Ok asked) = HasRead site from asked.message asked.aim to
+Reads site from to (Err end) = ReadsNone site from to.heard end

@@ -1,0 +1,195 @@
+-- What a client's bytes ask, and why they are refused for themselves (RFC 9112, sections 2 and 3). A head is looked at
+-- first, then the method CONNECT, then the target, then what tells of a body, then the body.
+use Rattle.std.specs.Prelude.{◌≡◌, ◌⊎◌, ℕ, ◌+◌, Bool, true, false, ◌&&◌, ◌||◌, ◌==◌, nat_le, List, [], map, codes, Option, Some, None, Result, Ok, Err, is_ok, if◌then◌else◌}
+use Rattle.std.specs.List.{list_any}
+use Rattle.std.specs.Str.{bytes_eq}
+use Rattle.capture.specs.Fields.{NamedValue, is_named, lowered}
+use Rattle.capture.specs.First.{Requests, NothingBegun, HeadNeeded, BodyNeeded, IsFirst, HasNoHead, RefusesAtHead, RefusesBehindHead}
+use Rattle.capture.specs.Head.{front_of}
+use Rattle.capture.specs.Head as head_front
+use Rattle.capture.specs.Methods.{asks_for_head}
+use Rattle.capture.specs.declared.framing.Framing.{Framing}
+use Rattle.capture.specs.declared.framing.Framing.TheVariants.{Empty, Length, Chunked, ToEnd}
+use Rattle.capture.specs.declared.framing.FramingFault.{FramingFault}
+use Rattle.capture.specs.declared.framing.MessageFault.{MessageFault}
+use Rattle.capture.specs.declared.framing.MessageFault.TheVariants as message_fault
+use Rattle.capture.specs.declared.limits.TheConstants.{BODY_LIMIT}
+use Rattle.capture.specs.declared.refusal.Refusal.{Refusal}
+use Rattle.capture.specs.declared.refusal.Refusal.TheVariants.{Malformed, HeadTooLong, BodyTooLong, CodingRefused, ConnectRefused, SecureRefused, TargetRefused}
+use Rattle.capture.specs.declared.site.Site.{Site}
+use Rattle.exchange.specs.Aim.{aim_of}
+use Rattle.exchange.specs.Texts.{connection}
+use Rattle.exchange.specs.declared.aim.Aim.{Aim}
+use Rattle.exchange.specs.declared.aim.AimFault.{AimFault}
+use Rattle.exchange.specs.declared.aim.AimFault.TheVariants as aim_fault
+use Rattle.http_head.specs.Heads.{named_value}
+use Rattle.http_head.specs.declared.head.RequestHead.{RequestHead}
+use Rattle.http_head.specs.declared.head.RequestMessage.{RequestMessage}
+use Rattle.http_head.specs.declared.head.Version.{Version}
+use Rattle.http_head.specs.declared.head.Version.TheVariants.{Http10, Http11}
+use Rattle.http_wire.specs.Heads.{BeginsWithRequest}
+use Rattle.http_wire.specs.Messages.{IsRequest}
+use Rattle.message_body.specs.Framings.{members, told_by_request}
+use Rattle.session.specs.declared.TheConstants.{REQUEST_LIMIT}
+
+-- ---- heads
+
+-- where a head asks to go
+abbrev pub aim_of_head : Site → RequestHead → Result Aim AimFault
+aim_of_head site head = aim_of site head.method head.target
+
+-- a head asks to go somewhere
+abbrev pub IsAimed : Site → RequestHead → Type 0
+IsAimed site head = (aim : Aim) × (aim_of_head site head ≡ Ok aim)
+
+-- it tells of a body, within the limit
+abbrev pub tells_body : Result Framing FramingFault → Bool
+tells_body (Ok Empty) = false
+tells_body (Ok (Length n)) = nat_le n BODY_LIMIT
+tells_body (Ok Chunked) = true
+tells_body (Ok ToEnd) = true
+tells_body (Err fault) = false
+
+-- HTTP/1.1 has many requests a connection, HTTP/1.0 has one
+abbrev pub is_persistent : Version → Bool
+is_persistent Http10 = false
+is_persistent Http11 = true
+
+-- the client waits for an answer before it sends the body (RFC 9110, section 10.1.1)
+abbrev pub is_expectation : NamedValue → Bool
+is_expectation field = is_named (codes "expect") field && bytes_eq (lowered field.1) (codes "100-continue")
+
+abbrev pub expects_answer : RequestHead → Bool
+expects_answer head = list_any is_expectation (map named_value head.fields)
+
+-- a head asks to be told that its body is awaited
+abbrev pub waits_for_answer : RequestHead → Bool
+waits_for_answer head = tells_body (told_by_request head) && is_persistent head.version && expects_answer head
+
+-- and goes somewhere
+abbrev pub asks_to_go_on : Site → RequestHead → Bool
+asks_to_go_on site head = is_ok (aim_of_head site head) && waits_for_answer head
+
+-- the answer that asks for the body (RFC 9110, section 15.2.1)
+unfoldable pub continue_text : List ℕ
+continue_text = codes "HTTP/1.1 100 Continue\r\n\r\n"
+
+abbrev pub interim_where : Bool → List ℕ
+interim_where asks = if asks then continue_text else []
+
+-- what is written before the body of a request with this head is read
+abbrev pub interim_of : Site → RequestHead → List ℕ
+interim_of site head = interim_where (asks_to_go_on site head)
+
+-- the member of a list is `close`, in whatever case
+abbrev pub is_close : List ℕ → Bool
+is_close member = bytes_eq (lowered member) (codes "close")
+
+-- the field is a Connection that lists `close` (RFC 9112, section 9.6)
+abbrev pub lists_close : NamedValue → Bool
+lists_close field = is_named connection field && list_any is_close (members field.1)
+
+-- the request is the last, by its version or by what it says
+abbrev pub is_last_by : Version → List NamedValue → Bool
+is_last_by Http10 fields = true
+is_last_by Http11 fields = list_any lists_close fields
+
+abbrev pub is_last : RequestHead → Bool
+is_last head = is_last_by head.version (map named_value head.fields)
+
+-- the connection closes after a request with this head, behind so many others
+abbrev pub closes_after : ℕ → RequestHead → Bool
+closes_after served head = is_last head || (served + 1 == REQUEST_LIMIT)
+
+-- whether a request asks for a head alone; without a head it doesn't
+abbrev pub answers_head : Option RequestHead → Bool
+answers_head (Some head) = asks_for_head head.method
+answers_head None = false
+
+-- ---- streams
+
+-- no head stands first in the stream
+abbrev pub LacksHead : List ℕ → Type 0
+LacksHead stream = (head : RequestHead) → ¬ (BeginsWithRequest stream head)
+
+-- what the head of the stream asks for, before its body is read
+pub record HasInterim (site : Site) (stream text : List ℕ) : Type 0 where
+  pub head : RequestHead
+  pub begins : BeginsWithRequest stream head
+  pub text_is : text ≡ interim_of site head
+
+-- what is written in the middle of the stream
+abbrev pub IsInterim : Site → List ℕ → List ℕ → Type 0
+IsInterim site stream text = HasInterim site stream text ⊎ (LacksHead stream × (text ≡ []))
+
+-- a head that asks to go somewhere has come, and more of its body is needed
+pub record AwaitsBody (site : Site) (stream : List ℕ) : Type 0 where
+  pub head : RequestHead
+  pub begins : BeginsWithRequest stream head
+  pub aimed : IsAimed site head
+  pub needed : IsFirst Requests false stream BodyNeeded
+
+-- nothing has begun but line ends that are skipped
+abbrev pub IsBetween : List ℕ → Type 0
+IsBetween stream = IsFirst Requests true stream NothingBegun
+
+-- a request has begun, and more of it is needed
+abbrev pub IsInside : Site → List ℕ → Type 0
+IsInside site stream = IsFirst Requests true stream HeadNeeded ⊎ AwaitsBody site stream
+
+-- no request as yet, and no refusal
+abbrev pub IsUndecided : Site → List ℕ → Type 0
+IsUndecided site stream = IsBetween stream ⊎ IsInside site stream
+
+-- the bytes are one request, with the line ends that are skipped before it, which asks to go there
+pub record IsAsked (site : Site) (wire : List ℕ) (message : RequestMessage) (aim : Aim) : Type 0 where
+  pub is : IsRequest wire message
+  pub aimed : aim_of_head site message.head ≡ Ok aim
+
+-- ---- refusals
+
+-- the refusal of a head that asks to go nowhere
+abbrev pub IsAimRefusal : AimFault → Refusal → Type 0
+IsAimRefusal aim_fault.ConnectRefused refusal = refusal ≡ ConnectRefused
+IsAimRefusal aim_fault.SecureRefused refusal = refusal ≡ SecureRefused
+IsAimRefusal aim_fault.TargetRefused refusal = refusal ≡ TargetRefused
+IsAimRefusal aim_fault.Memory refusal = ⊥
+
+-- the refusal of what is no message
+abbrev pub refusal_of : MessageFault → Refusal
+refusal_of message_fault.Malformed = Malformed
+refusal_of message_fault.HeadTooLong = HeadTooLong
+refusal_of message_fault.BodyTooLong = BodyTooLong
+refusal_of message_fault.CodingRefused = CodingRefused
+
+-- the head asks to go nowhere
+pub record IsAimedNowhere (site : Site) (head : RequestHead) (refusal : Refusal) : Type 0 where
+  pub fault : AimFault
+  pub aimed : aim_of_head site head ≡ Err fault
+  pub refusal_is : IsAimRefusal fault refusal
+
+-- the head asks to go somewhere, and it or the body behind it is no message
+pub record IsNoMessage (site : Site) (wire : List ℕ) (head : RequestHead) (refusal : Refusal) : Type 0 where
+  pub fault : MessageFault
+  pub aimed : IsAimed site head
+  pub refused : RefusesAtHead Requests wire fault ⊎ RefusesBehindHead Requests wire fault
+  pub refusal_is : refusal ≡ refusal_of fault
+
+-- the bytes are refused for themselves, with this head or without one
+abbrev pub IsRefused : Site → List ℕ → Option RequestHead → Refusal → Type 0
+IsRefused site wire None refusal =
+    ((front_of wire ≡ head_front.TooLong) × (refusal ≡ HeadTooLong)) ⊎ (HasNoHead Requests wire × (refusal ≡ Malformed))
+IsRefused site wire (Some head) refusal =
+    BeginsWithRequest wire head × (IsAimedNowhere site head refusal ⊎ IsNoMessage site wire head refusal)
+
+-- a head that asks to go somewhere has come; what stands behind it isn't looked at
+pub record BeginsAimed (site : Site) (wire : List ℕ) : Type 0 where
+  pub head : RequestHead
+  pub begins : BeginsWithRequest wire head
+  pub aimed : IsAimed site head
+
+-- the bytes aren't decided, or begin with a head that asks to go somewhere, or are refused for themselves
+abbrev pub IsBegun : Site → List ℕ → Type 0
+IsBegun site wire =
+    IsUndecided site wire ⊎ BeginsAimed site wire
+    ⊎ ((head : Option RequestHead) × (refusal : Refusal) × IsRefused site wire head refusal)

@@ -1,0 +1,178 @@
+-- One connection, as rounds of a request and its answer.
+use Rattle.std.specs.Prelude.{◌≡◌, ◌⊎◌, ℕ, ◌+◌, Bool, true, false, ◌||◌, List, [], ◌∷◌, ◌++◌, length, Option, IsTrue, MatchBool}
+use Rattle.std.specs.List.{flat_map}
+use Rattle.archive_shelf.specs.Contents.{Shows}
+use Rattle.capture.specs.Captures.{captures}
+use Rattle.capture.specs.declared.refusal.Refusal.{Refusal}
+use Rattle.capture.specs.declared.refusal.Refusal.TheVariants.{DialFault, OriginFault, DiskFault}
+use Rattle.exchange.specs.declared.aim.Aim.TheVariants.{Origin}
+use Rattle.exchange.specs.declared.aim.Aim.TheVariants.{Site as ToSite}
+use Rattle.exchange.specs.Refusals.{refusal_text, memory_text}
+use Rattle.http_head.specs.declared.head.RequestHead.{RequestHead}
+use Rattle.session.specs.Exchanges.{Exchange, Reply, Fails, Passes, LacksReply, IsReply, reply_text}
+use Rattle.session.specs.Requests.{IsAsked, IsRefused, IsBegun, IsInterim, answers_head, closes_after}
+use Rattle.session.specs.SiteAnswers.{SiteRequest, SiteReply, Refuses, IsSiteReply, IsSiteText, is_of_shown}
+use Rattle.session.specs.Traces.{Terms, View, Traces, IsIdle, LeadsView, CountsMet}
+
+-- What was decided of a client's bytes: nothing; they were refused for themselves, with a head or without one; they are a request
+-- that goes to an origin, or to the archive's own site.
+pub data Outcome : Type 0 where
+  Undecided : Outcome
+  Refused : (head : Option RequestHead) (refusal : Refusal) → Outcome
+  Exchanged : (exchange : Exchange) (reply : Reply) → Outcome
+  Visited : (request : SiteRequest) (reply : SiteReply) → Outcome
+
+-- One request and its answer: the client's bytes that it took, what was decided of them, whether there was no memory to go on from
+-- there, what that left outside, the text written in the middle of it, and the text of the answer.
+pub record Round : Type 0 where
+  pub wire : List ℕ
+  pub outcome : Outcome
+  pub lacked : Bool
+  pub traces : Traces
+  pub interim : List ℕ
+  pub text : List ℕ
+
+-- ---- closing
+
+-- whether a response was passed on that was cut
+abbrev pub is_cut_off : Reply → Bool
+is_cut_off (Fails refusal) = false
+is_cut_off (Passes received payload) = received.cut
+is_cut_off LacksReply = false
+
+abbrev pub closes_exchange : ℕ → Exchange → Reply → Bool
+closes_exchange served e reply = is_cut_off reply || closes_after served e.message.head
+
+-- whether the connection closes with an outcome, behind so many requests
+abbrev pub closes_outcome : ℕ → Outcome → Bool
+closes_outcome served Undecided = true
+closes_outcome served (Refused head refusal) = true
+closes_outcome served (Exchanged e reply) = closes_exchange served e reply
+closes_outcome served (Visited q reply) = closes_after served q.message.head
+
+-- want of memory closes as well
+abbrev pub closes : ℕ → Round → Bool
+closes served r = r.lacked || closes_outcome served r.outcome
+
+-- ---- faults
+
+-- a fault of the dialer or of one of its links was met
+abbrev pub is_origin_fault : Refusal → ℕ
+is_origin_fault DialFault = 1
+is_origin_fault OriginFault = 1
+is_origin_fault other = 0
+
+abbrev pub origin_fault : Outcome → ℕ
+origin_fault Undecided = 0
+origin_fault (Refused head refusal) = 0
+origin_fault (Exchanged e (Fails refusal)) = is_origin_fault refusal
+origin_fault (Exchanged e (Passes received payload)) = 0
+origin_fault (Exchanged e LacksReply) = 0
+origin_fault (Visited q reply) = 0
+
+-- a fault of the disk was met
+abbrev pub is_disk_fault : Refusal → ℕ
+is_disk_fault DiskFault = 1
+is_disk_fault other = 0
+
+abbrev pub disk_fault : Outcome → ℕ
+disk_fault Undecided = 0
+disk_fault (Refused head refusal) = 0
+disk_fault (Exchanged e (Fails refusal)) = is_disk_fault refusal
+disk_fault (Exchanged e (Passes received payload)) = 0
+disk_fault (Exchanged e LacksReply) = 0
+disk_fault (Visited q (Refuses refusal)) = is_disk_fault refusal
+disk_fault (Visited q other) = 0
+
+-- ---- a lawful round
+
+-- what the bytes are, and what followed
+abbrev pub IsDecided : Terms → Round → Outcome → Type 0
+IsDecided terms r Undecided = IsTrue r.lacked × IsBegun terms.site r.wire × IsIdle terms r.traces
+IsDecided terms r (Refused head refusal) = IsRefused terms.site r.wire head refusal × IsIdle terms r.traces
+IsDecided terms r (Exchanged e reply) =
+    IsAsked terms.site r.wire e.message (Origin e.target) × IsReply terms e r.lacked reply r.traces
+IsDecided terms r (Visited q reply) =
+    IsAsked terms.site r.wire q.message (ToSite q.address) × IsSiteReply terms q r.lacked reply r.traces
+
+-- the text of an answer, where memory sufficed
+abbrev pub IsTextOf : Terms → ℕ → Outcome → List ℕ → Type 0
+IsTextOf terms served Undecided text = text ≡ memory_text
+IsTextOf terms served (Refused head refusal) text = text ≡ refusal_text refusal (answers_head head) true
+IsTextOf terms served (Exchanged e reply) text = text ≡ reply_text e reply (closes_exchange served e reply)
+IsTextOf terms served (Visited q reply) text = IsSiteText terms q reply (closes_after served q.message.head) text
+
+-- A lawful round, behind so many requests. The counts of faults rose by what it met, and else stayed.
+pub record IsRound (terms : Terms) (served : ℕ) (r : Round) : Type 0 where
+  pub decided : IsDecided terms r r.outcome
+  pub dialer : CountsMet (origin_fault r.outcome) r.traces.before.dialer_faults r.traces.after.dialer_faults
+  pub disk : CountsMet (disk_fault r.outcome) r.traces.before.disk_faults r.traces.after.disk_faults
+  pub interim_is : IsInterim terms.site r.wire r.interim ⊎ (IsTrue r.lacked × (r.interim ≡ []))
+  pub text_is : MatchBool r.lacked (r.text ≡ memory_text) (IsTextOf terms served r.outcome r.text)
+
+-- ---- courses
+
+-- the answer is taken from the entries that are shown
+abbrev pub is_from_shown : Outcome → Bool
+is_from_shown Undecided = false
+is_from_shown (Refused head refusal) = false
+is_from_shown (Exchanged e reply) = false
+is_from_shown (Visited q reply) = is_of_shown reply
+
+-- such an answer knows the captures of the book that was left before it
+abbrev pub KnowsBefore : Terms → View → Round → Type 0
+KnowsBefore terms left r =
+    IsTrue terms.tells → IsTrue (is_from_shown r.outcome) → Shows terms.alone left.book r.traces.before.shown
+
+-- Lawful rounds, from this view of the archive to that, each of which leads to the next. Only the last may close.
+abbrev pub IsCourse : Terms → ℕ → View → List Round → View → Type 0
+IsCourse terms served was [] is = LeadsView terms was is
+IsCourse terms served was (r ∷ rounds) is =
+    IsRound terms served r × LeadsView terms was r.traces.before × KnowsBefore terms was r
+    × (closes served r ≡ true → rounds ≡ []) × IsCourse terms (served + 1) r.traces.after rounds is
+
+-- how many faults rounds met: of the dialer with its links, and of the disk
+abbrev pub origin_faults : List Round → ℕ
+origin_faults [] = 0
+origin_faults (r ∷ rounds) = origin_fault r.outcome + origin_faults rounds
+
+abbrev pub disk_faults : List Round → ℕ
+disk_faults [] = 0
+disk_faults (r ∷ rounds) = disk_fault r.outcome + disk_faults rounds
+
+-- all answers
+abbrev pub course_text : List Round → List ℕ
+course_text rounds = flat_map (λ r. r.interim ++ r.text) rounds
+
+-- all bytes taken
+abbrev pub course_wire : List Round → List ℕ
+course_wire rounds = flat_map (λ r. r.wire) rounds
+
+-- some round closes the connection
+abbrev pub is_closed : ℕ → List Round → Bool
+is_closed served [] = false
+is_closed served (r ∷ rounds) = closes served r || is_closed (served + 1) rounds
+
+-- some round ran out of memory
+abbrev pub lacks : List Round → Bool
+lacks [] = false
+lacks (r ∷ rounds) = r.lacked || lacks rounds
+
+-- the bytes that were refused for themselves, of which a lawful course has some at its end alone
+abbrev pub refusal_in : Outcome → List Refusal
+refusal_in Undecided = []
+refusal_in (Refused head refusal) = refusal ∷ []
+refusal_in (Exchanged e reply) = []
+refusal_in (Visited q reply) = []
+
+abbrev pub refusals : List Round → List Refusal
+refusals rounds = flat_map (λ r. refusal_in r.outcome) rounds
+
+-- the number of the capture that was stored
+abbrev pub numbers_by : Outcome → View → List ℕ
+numbers_by Undecided before = []
+numbers_by (Refused head refusal) before = []
+numbers_by (Exchanged e (Fails refusal)) before = []
+numbers_by (Exchanged e (Passes received payload)) before = length (captures before.book) ∷ []
+numbers_by (Exchanged e LacksReply) before = []
+numbers_by (Visited q reply) before = []

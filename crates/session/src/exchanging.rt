@@ -1,0 +1,332 @@
+//! Answers requests to origins: the exchange is stored, durably, before its response is passed on.
+ghost use Rattle.std.specs.Prelude.{◌≡◌, ◌≤◌, [], length, IfOk, IsTrue};
+ghost use Rattle.capture.specs.Body.{IsWire};
+ghost use Rattle.capture.specs.Methods.{asks_for_head as method_asks};
+ghost use Rattle.capture.specs.Payload.{IsPayload};
+ghost use Rattle.capture.specs.declared.limits.TheConstants.{BODY_LIMIT};
+ghost use Rattle.capture.specs.declared.site.Site.{Site};
+ghost use Rattle.exchange.specs.Fetches.{IsOneResponse};
+ghost use Rattle.exchange.specs.Storing.{IsForOrigin};
+ghost use Rattle.exchange.specs.Texts.{forwarded};
+ghost use Rattle.outside.specs.declared.gate.Heard.{Heard};
+ghost use Rattle.session.specs.Exchanges as spec;
+ghost use Rattle.session.specs.Exchanging.{AnswersProxied, Around, Asks, Comes, FailsBy, HasCome, Keeps, PassesOn, TurnsDown, exchange_of};
+ghost use Rattle.session.specs.Shelving.{GoesOn};
+ghost use Rattle.time_text.specs.Texts.{InRange};
+ghost use Rattle.warc_text.specs.Fits.{Fits};
+
+use crate::answer::Answer;
+use crate::heads::asks_for_head;
+use crate::laws::stored_captures_have_their_payload;
+use crate::refusing::refused;
+use archive_shelf::{Shelf, StoreFault, leading_books_grow, stored_captures_stand_behind};
+use capture::{Bytes, Memory, Refusal, Taken, growth_keeps_captures, wires_have_one_payload};
+use exchange::{
+    FetchFault, Target, Window, client_text, fetch, forward_text, messages_can_be_stored,
+};
+use http_wire::{PayloadFault, Received, RequestHead, RequestMessage, payload_of, payload_of_cut};
+use outside::{Clock, Dialer};
+use std::alloc::Global;
+use time_text::LATEST;
+
+/// A request that goes to an origin.
+#[derive(Debug, Drop)]
+pub struct Proxied {
+    /// The request.
+    pub message: RequestMessage,
+    /// The origin.
+    pub target: Target,
+    /// Whether the connection closes behind the answer, by the request or by its number.
+    pub closes: bool,
+}
+
+/// A request as it is sent.
+#[derive(Debug, Drop)]
+struct Sending {
+    /// The client's request, and the origin.
+    proxied: Proxied,
+    /// The clock's answer, in milliseconds since 1970.
+    date: u64,
+    /// The text that the origin gets.
+    request: Bytes,
+}
+
+/// Answers a request to an origin. The clock is asked once, and the origin over one link, which the window serves. The answer is made
+/// ready, the exchange is stored, and only then is the answer given.
+pub fn answer_proxied<S: Shelf, N: Dialer, C: Clock>(
+    alloc: Global,
+    shelf: &mut S,
+    dialer: &mut N,
+    clock: &mut C,
+    window: &mut Window,
+    proxied: Proxied,
+) -> Result<Answer, Memory>
+    requires asked { IsForOrigin proxied.message proxied.target }
+    requires empty { window.old ≡ [] }
+    ensures answers { IsTrue N.Link.tells → (site : Site) (then now : Heard)
+        → AnswersProxied S.Finder (record { site = site; clock_tells = C.tells }) (exchange_of proxied) proxied.closes result
+        (record { heard = then; answers = C.answers clock.old; links = N.links dialer.old; dialer_faults = N.faults dialer.old; shelf = shelf.old })
+        (record { heard = now; answers = C.answers clock.new; links = N.links dialer.new; dialer_faults = N.faults dialer.new; shelf = shelf.new }) }
+    ensures closes { IfOk result (λ answer. IsTrue proxied.closes → IsTrue answer.closes) }
+    ensures goes_on { GoesOn S.Finder shelf.old shelf.new }
+    ensures faults { N.faults dialer.old ≤ N.faults dialer.new }
+    ensures window { window.new ≡ [] }
+{
+    leading_books_grow();
+    growth_keeps_captures();
+    let date = clock.now();
+    if LATEST < date {
+        return refused(
+            alloc,
+            Refusal::ClockRange { now: date },
+            asks_for_head(&proxied.message.head),
+            proxied.closes,
+        );
+    }
+    let request = match forward_text(alloc, &proxied.message, &proxied.target) {
+        Ok(request) => request,
+        Err(Memory) => return Err(Memory),
+    };
+    ask(
+        alloc,
+        shelf,
+        dialer,
+        window,
+        Sending {
+            proxied,
+            date,
+            request,
+        },
+    )
+}
+
+/// Asks the origin, and passes its response on.
+fn ask<S: Shelf, N: Dialer>(
+    alloc: Global,
+    shelf: &mut S,
+    dialer: &mut N,
+    window: &mut Window,
+    sending: Sending,
+) -> Result<Answer, Memory>
+    requires asked { IsForOrigin sending.proxied.message sending.proxied.target }
+    requires request { sending.request ≡ forwarded sending.proxied.message sending.proxied.target }
+    requires date { InRange sending.date }
+    requires empty { window.old ≡ [] }
+    ensures asks { IsTrue N.Link.tells → (site : Site)
+        → Asks S.Finder site (exchange_of sending.proxied) sending.proxied.closes sending.date result
+        (record { links = N.links dialer.old; faults = N.faults dialer.old; shelf = shelf.old })
+        (record { links = N.links dialer.new; faults = N.faults dialer.new; shelf = shelf.new }) }
+    ensures closes { IfOk result (λ answer. IsTrue sending.proxied.closes → IsTrue answer.closes) }
+    ensures goes_on { GoesOn S.Finder shelf.old shelf.new }
+    ensures faults { N.faults dialer.old ≤ N.faults dialer.new }
+    ensures window { window.new ≡ [] }
+{
+    leading_books_grow();
+    growth_keeps_captures();
+    let answers_head = asks_for_head(&sending.proxied.message.head);
+    match fetch(
+        alloc,
+        dialer,
+        window,
+        &sending.proxied.target,
+        answers_head,
+        sending.request.as_slice(),
+    ) {
+        Ok(received) => pass_on(alloc, shelf, sending, received),
+        Err(fault) => fail(alloc, fault, answers_head, sending.proxied.closes),
+    }
+}
+
+/// The answer to a request of which no response came.
+fn fail(
+    alloc: Global,
+    fault: FetchFault,
+    answers_head: bool,
+    closes: bool,
+) -> Result<Answer, Memory>
+    ensures fails { FailsBy fault answers_head closes result }
+    ensures closes { IfOk result (λ answer. answer.closes ≡ closes) }
+{
+    match fault {
+        FetchFault::DialFault => refused(alloc, Refusal::DialFault, answers_head, closes),
+        FetchFault::OriginFault => refused(alloc, Refusal::OriginFault, answers_head, closes),
+        FetchFault::OriginEnded => refused(alloc, Refusal::OriginEnded, answers_head, closes),
+        FetchFault::OriginMalformed => refused(
+            alloc,
+            Refusal::OriginMalformed,
+            answers_head,
+            closes,
+        ),
+        FetchFault::OriginTooLong => refused(alloc, Refusal::OriginTooLong, answers_head, closes),
+        FetchFault::TooManyInterim => refused(alloc, Refusal::TooManyInterim, answers_head, closes),
+        FetchFault::Memory => Err(Memory),
+    }
+}
+
+/// Makes the answer to a response ready, stores the exchange, and gives the answer.
+fn pass_on<S: Shelf>(
+    alloc: Global,
+    shelf: &mut S,
+    sending: Sending,
+    received: Received,
+) -> Result<Answer, Memory>
+    requires asked { IsForOrigin sending.proxied.message sending.proxied.target }
+    requires request { sending.request ≡ forwarded sending.proxied.message sending.proxied.target }
+    requires date { InRange sending.date }
+    requires response { IsOneResponse (method_asks sending.proxied.message.head.method) received }
+    requires final_status { 200 ≤ received.head.status }
+    requires within { length received.wire ≤ BODY_LIMIT }
+    ensures passes { (site : Site) (around : Around) → HasCome (exchange_of sending.proxied) sending.date received around
+        → Comes S.Finder site (exchange_of sending.proxied) around sending.proxied.closes result shelf.old shelf.new }
+    ensures closes { IfOk result (λ answer. IsTrue sending.proxied.closes → IsTrue answer.closes) }
+    ensures goes_on { GoesOn S.Finder shelf.old shelf.new }
+{
+    leading_books_grow();
+    growth_keeps_captures();
+    messages_can_be_stored();
+    stored_captures_stand_behind();
+    stored_captures_have_their_payload();
+    let answers_head = asks_for_head(&sending.proxied.message.head);
+    let closes = sending.proxied.closes;
+    let ready = match passed_on(alloc, &received, answers_head, closes) {
+        Ok(ready) => ready,
+        Err(Memory) => return Err(Memory),
+    };
+    keep(
+        alloc,
+        shelf,
+        taken_of(sending, received),
+        ready,
+        answers_head,
+        closes,
+    )
+}
+
+/// The answer that passes a response on, whole or cut. One that was cut closes the connection.
+fn passed_on(
+    alloc: Global,
+    received: &Received,
+    answers_head: bool,
+    closes: bool,
+) -> Result<Answer, Memory>
+    requires { IsOneResponse answers_head received.now }
+    ensures { IfOk result (λ answer. PassesOn received.now answers_head closes answer) }
+{
+    let payload = match payload_in(alloc, received) {
+        Ok(payload) => payload,
+        Err(Memory) => return Err(Memory),
+    };
+    let closes = received.cut || closes;
+    match client_text(alloc, received, payload.as_slice(), answers_head, closes) {
+        Ok(text) => Ok(Answer { text, closes }),
+        Err(Memory) => Err(Memory),
+    }
+}
+
+/// The payload of a response, whole or cut.
+fn payload_in(alloc: Global, received: &Received) -> Result<Bytes, Memory>
+    requires { IsWire received.now.cut received.now.framing received.now.wire }
+    ensures { IfOk result (λ payload. IsPayload received.now.cut received.now.framing received.now.wire payload) }
+{
+    wires_have_one_payload();
+    if received.cut {
+        return match payload_of_cut(alloc, received.framing, received.wire.as_slice()) {
+            Ok(payload) => Ok(payload),
+            Err(PayloadFault::Malformed) => unreachable!(),
+            Err(PayloadFault::Memory) => Err(Memory),
+        };
+    }
+    match payload_of(alloc, received.framing, received.wire.as_slice()) {
+        Ok(payload) => Ok(payload),
+        Err(PayloadFault::Malformed) => unreachable!(),
+        Err(PayloadFault::Memory) => Err(Memory),
+    }
+}
+
+/// What is stored of an exchange.
+fn taken_of(sending: Sending, received: Received) -> Taken
+    requires { sending.request ≡ forwarded sending.proxied.message sending.proxied.target }
+    ensures { result ≡ spec.taken_of (exchange_of sending.proxied) sending.date received }
+{
+    let Sending {
+        proxied,
+        date,
+        request,
+    } = sending;
+    let Proxied {
+        message,
+        target,
+        ..
+    } = proxied;
+    let RequestMessage { head: asked, .. } = message;
+    let RequestHead { method, .. } = asked;
+    let Target { uri, .. } = target;
+    let Received {
+        head,
+        wire,
+        cut,
+        ..
+    } = received;
+    Taken {
+        method,
+        uri,
+        date,
+        request,
+        head: head.text,
+        wire,
+        cut,
+    }
+}
+
+/// Stores a capture, and gives the answer that is ready; or refuses the request, where the capture isn't stored.
+fn keep<S: Shelf>(
+    alloc: Global,
+    shelf: &mut S,
+    taken: Taken,
+    ready: Answer,
+    answers_head: bool,
+    closes: bool,
+) -> Result<Answer, Memory>
+    requires { Fits taken }
+    ensures { Keeps S.Finder taken ready answers_head closes result shelf.old shelf.new }
+{
+    match shelf.store(alloc, taken) {
+        Ok(_receipt) => Ok(ready),
+        Err(fault) => turn_down(alloc, fault, answers_head, closes),
+    }
+}
+
+/// The answer to a request whose capture wasn't stored.
+fn turn_down(
+    alloc: Global,
+    fault: StoreFault,
+    answers_head: bool,
+    closes: bool,
+) -> Result<Answer, Memory>
+    ensures { TurnsDown fault answers_head closes result }
+{
+    match fault {
+        StoreFault::Full { count, limit } => refused(
+            alloc,
+            Refusal::Full { count, limit },
+            answers_head,
+            closes,
+        ),
+        StoreFault::DiskFault => refused(alloc, Refusal::DiskFault, answers_head, closes),
+        StoreFault::Damaged {
+            number,
+            kept,
+            found,
+        } => refused(
+            alloc,
+            Refusal::Damaged {
+                number,
+                kept,
+                found,
+            },
+            answers_head,
+            closes,
+        ),
+        StoreFault::Memory => Err(Memory),
+    }
+}

@@ -1,0 +1,42 @@
+//! What the definitions promise to those who build on them.
+ghost use Rattle.session.specs.Complete.{CapturesThatAreThereAreReplayed, RequestsAreNotRefused, WholeResponsesArePassedOn};
+ghost use Rattle.session.specs.Laws.{CoursesGrow, CoursesShowOn, CoursesCountFaults, CoursesStayConsistent, IdsDifferOnTheWay, StoredCapturesHaveTheirPayload};
+
+use archive_shelf::{leading_books_grow, stored_captures_stand_behind};
+use capture::{captures_have_one_payload, growth_keeps_captures};
+use exchange::decisions_are_one;
+
+/// Over a lawful course the book only grows, and so does what is shown. Alone, each round is decided by just the entries of its
+/// book, where that holds of the archive before; and where the ids of the last book differ, those of each book on the way do. The
+/// counts of faults rise by those that its rounds met.
+pub fn courses_only_grow()
+    ensures grow { CoursesGrow }
+    ensures show_on { CoursesShowOn }
+    ensures consistent { CoursesStayConsistent }
+    ensures faults { CoursesCountFaults }
+    ensures ids { IdsDifferOnTheWay }
+{
+    growth_keeps_captures();
+    leading_books_grow();
+    stored_captures_stand_behind();
+}
+
+/// A response that was passed on is the archive's last capture, with the payload of the bytes that came, where the book is sound.
+pub fn stored_captures_have_their_payload()
+    ensures { StoredCapturesHaveTheirPayload }
+{
+    stored_captures_stand_behind();
+    growth_keeps_captures();
+    captures_have_one_payload();
+}
+
+/// Where no count of faults rises and the disk is told, a whole response that came with room for its capture is passed on, and a
+/// capture that is there, or one that is shown, is answered with: or memory ran out. Bytes that are a request which goes somewhere
+/// aren't refused for themselves.
+pub fn requests_are_answered()
+    ensures origins { WholeResponsesArePassedOn }
+    ensures site { CapturesThatAreThereAreReplayed }
+    ensures unrefused { RequestsAreNotRefused }
+{
+    decisions_are_one();
+}

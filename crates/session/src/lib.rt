@@ -1,0 +1,25 @@
+//! Serves a client's connection over an archive.
+#![tactic(auto)]
+
+mod answer;
+mod answering;
+mod exchanging;
+mod heads;
+mod laws;
+mod listing;
+mod reading;
+mod refusing;
+mod replaying;
+mod saying;
+mod seeking;
+mod served;
+mod serving;
+mod visit;
+mod visiting;
+
+pub use laws::{courses_only_grow, requests_are_answered, stored_captures_have_their_payload};
+pub use served::Served;
+pub use serving::serve;
+
+/// The greatest number of requests of a connection: the answer to the last closes it.
+pub const REQUEST_LIMIT: usize = 1_000;

@@ -1,0 +1,112 @@
+//! The list of a URL's captures, as an answer.
+ghost use Rattle.std.specs.Prelude.{◌≡◌, ◌<◌, ◌++◌, Bool, length, IsSome, OnOk, IfOk};
+ghost use Rattle.std.specs.List.Sorted.{IsNonDecreasingBy};
+ghost use Rattle.capture.specs.Methods.{asks_for_head as is_head};
+ghost use Rattle.exchange.specs.Refusals.{body_unless};
+ghost use Rattle.replay_url.specs.declared.form.Form.TheVariants.{Map as TheMap};
+ghost use Rattle.session.specs.Answering.{AnswersVisit};
+ghost use Rattle.session.specs.Looking.{FindsAll, LooksOn};
+ghost use Rattle.session.specs.Shelving.{GoesOn};
+ghost use Rattle.session.specs.SiteAnswers as spec;
+ghost use Rattle.session.specs.SiteAnswers.{Asks};
+ghost use Rattle.surt_key.specs.Key.{key_of as the_key_of};
+ghost use Rattle.timemap.specs.LinkList.{timemap_text};
+
+use crate::answer::Answer;
+use crate::heads::asks_for_head;
+use crate::refusing::refused;
+use crate::seeking::key_at;
+use crate::visit::Visit;
+use archive_shelf::{Shelf, leading_books_grow};
+use capture::{Bytes, Memory, Refusal, put_all};
+use cdxj_index::Entry;
+use exchange::{put_close_line, put_length_line, put_line_end};
+use std::alloc::Global;
+use timemap::body;
+
+/// More than the head of such an answer.
+const ADDED: usize = 256;
+
+/// Answers with the list of a URL's captures (RFC 7089, section 5).
+pub fn visit_map<S: Shelf>(
+    alloc: Global,
+    shelf: &mut S,
+    visit: Visit,
+    url: &[u8],
+) -> Result<Answer, Memory>
+    requires asks { Asks (record { message = visit.message.now; address = visit.address.now }) (TheMap url.now) }
+    ensures answers { (clock_tells : Bool) → AnswersVisit S.Finder (record { site = visit.entry.site.now; clock_tells = clock_tells })
+        (record { message = visit.entry.message.now; address = visit.entry.address.now }) visit.entry.closes result shelf.old shelf.new }
+    ensures closes { IfOk result (λ answer. answer.closes ≡ visit.entry.closes) }
+    ensures goes_on { GoesOn S.Finder shelf.old shelf.new }
+{
+    leading_books_grow();
+    let answers_head = asks_for_head(&visit.message.head);
+    match all_of(alloc, shelf, url) {
+        Ok(entries) => {
+            if entries.is_empty() {
+                return refused(alloc, Refusal::NoCapture, answers_head, visit.closes);
+            }
+            list(alloc, visit, url, entries.as_slice())
+        }
+        Err(Memory) => Err(Memory),
+    }
+}
+
+/// All entries of a URL's key, in order of their dates.
+fn all_of<S: Shelf>(alloc: Global, shelf: &mut S, url: &[u8]) -> Result<Vec<Entry>, Memory>
+    requires keyed { IsSome (the_key_of url.now) }
+    ensures found { IfOk result (λ entries. FindsAll S.Finder shelf.new url.now entries.items) }
+    ensures looks { LooksOn S.Finder shelf.old shelf.new }
+{
+    let key = key_at(alloc, url)?;
+    shelf.map(alloc, &key)
+}
+
+/// The answer that lists entries, where `url` was asked for.
+fn list(alloc: Global, visit: Visit, url: &[u8], entries: &[Entry]) -> Result<Answer, Memory>
+    requires some { 0 < length entries.now }
+    requires in_order { IsNonDecreasingBy (λ e. e.date) entries.now }
+    ensures text { IfOk result (λ answer. answer.text ≡ spec.list_text (timemap_text visit.entry.site.now.base url.now entries.now)
+        (is_head visit.entry.message.now.head.method) visit.entry.closes) }
+    ensures closes { IfOk result (λ answer. answer.closes ≡ visit.entry.closes) }
+{
+    let body = body(alloc, visit.site, url, entries)?;
+    let text = list_text(
+        alloc,
+        body.as_slice(),
+        asks_for_head(&visit.message.head),
+        visit.closes,
+    )?;
+    Ok(Answer {
+        text,
+        closes: visit.closes,
+    })
+}
+
+/// The list of a URL's captures as an answer (RFC 7089, section 5), after which the connection closes or not.
+#[tactic(auto, unfolding(crate::specs::SiteAnswers::list_text, crate::specs::SiteAnswers::list_start))]
+fn list_text(alloc: Global, body: &[u8], answers_head: bool, closes: bool) -> Result<Bytes, Memory>
+    ensures { IfOk result (λ text. text ≡ spec.list_text body.now answers_head closes) }
+{
+    let mut out = Vec::with_capacity(alloc, body.len().saturating_add(ADDED))?;
+    put_all(
+        &mut out,
+        b"HTTP/1.1 200 OK\r\nContent-Type: application/link-format\r\n",
+    )?;
+    put_length_line(&mut out, body.len() as u64)?;
+    put_close_line(&mut out, closes)?;
+    put_line_end(&mut out)?;
+    put_body_unless(&mut out, answers_head, body)?;
+    Ok(Bytes::of(out))
+}
+
+/// Puts the body, unless HEAD is answered.
+fn put_body_unless(out: &mut Vec<u8>, answers_head: bool, body: &[u8]) -> Result<(), Memory>
+    ensures { OnOk result (out.new.items ≡ out.old.items ++ body_unless answers_head body.now) }
+{
+    if answers_head {
+        return Ok(());
+    }
+    put_all(out, body)
+}

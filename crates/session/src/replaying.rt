@@ -1,0 +1,137 @@
+//! Answers with captures that are brought from the archive.
+ghost use Rattle.std.specs.Prelude.{◌≡◌, Bool, IfOk};
+ghost use Rattle.archive_shelf.specs.Answers.{IsReplayable};
+ghost use Rattle.capture.specs.Methods.{asks_for_head as is_head};
+ghost use Rattle.replay_answer.specs.Mementos.{IsMemento};
+ghost use Rattle.replay_url.specs.declared.form.Form.TheVariants.{Memento as TheMemento, Number as TheNumber};
+ghost use Rattle.session.specs.Answering.{AnswersVisit};
+ghost use Rattle.session.specs.Looking.{FindsJust, LooksOn};
+ghost use Rattle.session.specs.Shelving.{GoesOn};
+ghost use Rattle.session.specs.SiteAnswers.{Asks};
+
+use crate::answer::Answer;
+use crate::heads::asks_for_head;
+use crate::refusing::refused;
+use crate::visit::{Sought, Visit};
+use archive_shelf::{BringFault, Shelf, leading_books_grow};
+use capture::{Brought, Memory, Refusal, growth_keeps_captures};
+use replay_answer::memento;
+use std::alloc::Global;
+
+/// Answers with the capture of a number, as it was received.
+pub fn replay_number<S: Shelf>(
+    alloc: Global,
+    shelf: &mut S,
+    visit: Visit,
+    number: u32,
+) -> Result<Answer, Memory>
+    requires asks { Asks (record { message = visit.message.now; address = visit.address.now }) (TheNumber number) }
+    ensures answers { (clock_tells : Bool) → AnswersVisit S.Finder (record { site = visit.entry.site.now; clock_tells = clock_tells })
+        (record { message = visit.entry.message.now; address = visit.entry.address.now }) visit.entry.closes result shelf.old shelf.new }
+    ensures closes { IfOk result (λ answer. answer.closes ≡ visit.entry.closes) }
+    ensures goes_on { GoesOn S.Finder shelf.old shelf.new }
+{
+    leading_books_grow();
+    let answers_head = asks_for_head(&visit.message.head);
+    match shelf.bring(alloc, number) {
+        Ok(brought) => replay(alloc, visit, &brought, true),
+        Err(BringFault::NoSuch { count }) => refused(
+            alloc,
+            Refusal::NoSuch { number, count },
+            answers_head,
+            visit.closes,
+        ),
+        Err(BringFault::DiskFault) => refused(
+            alloc,
+            Refusal::DiskFault,
+            answers_head,
+            visit.closes,
+        ),
+        Err(
+            BringFault::Damaged {
+                number: at,
+                kept,
+                found,
+            },
+        ) => refused(
+            alloc,
+            Refusal::Damaged {
+                number: at,
+                kept,
+                found,
+            },
+            answers_head,
+            visit.closes,
+        ),
+        Err(BringFault::Memory) => Err(Memory),
+    }
+}
+
+/// Answers with the capture that was found, whose date the address names, as it was received or for a reader of the archive.
+pub fn replay_found<S: Shelf>(
+    alloc: Global,
+    shelf: &mut S,
+    visit: Visit,
+    sought: Sought,
+    number: u32,
+) -> Result<Answer, Memory>
+    requires found { FindsJust S.Finder shelf.old (record { message = visit.message.now; address = visit.address.now })
+        (TheMemento sought.time sought.digits sought.raw sought.url.now) number }
+    ensures answers { (clock_tells : Bool) (was : S) → LooksOn S.Finder was shelf.old
+        → AnswersVisit S.Finder (record { site = visit.entry.site.now; clock_tells = clock_tells })
+        (record { message = visit.entry.message.now; address = visit.entry.address.now }) visit.entry.closes result was shelf.new }
+    ensures closes { IfOk result (λ answer. answer.closes ≡ visit.entry.closes) }
+    ensures goes_on { GoesOn S.Finder shelf.old shelf.new }
+{
+    leading_books_grow();
+    growth_keeps_captures();
+    let answers_head = asks_for_head(&visit.message.head);
+    match shelf.bring(alloc, number) {
+        Ok(brought) => replay(alloc, visit, &brought, sought.raw),
+        Err(BringFault::NoSuch { .. }) => unreachable!(),
+        Err(BringFault::DiskFault) => refused(
+            alloc,
+            Refusal::DiskFault,
+            answers_head,
+            visit.closes,
+        ),
+        Err(
+            BringFault::Damaged {
+                number: at,
+                kept,
+                found,
+            },
+        ) => refused(
+            alloc,
+            Refusal::Damaged {
+                number: at,
+                kept,
+                found,
+            },
+            answers_head,
+            visit.closes,
+        ),
+        Err(BringFault::Memory) => Err(Memory),
+    }
+}
+
+/// The answer that replays a capture, as it was received or for a reader of the archive.
+fn replay(alloc: Global, visit: Visit, brought: &Brought, raw: bool) -> Result<Answer, Memory>
+    requires { IsReplayable brought.now }
+    ensures text { IfOk result (λ answer. IsMemento visit.entry.site.now.base brought.now raw
+        (is_head visit.entry.message.now.head.method) visit.entry.closes answer.text) }
+    ensures closes { IfOk result (λ answer. answer.closes ≡ visit.entry.closes) }
+{
+    let text = memento(
+        alloc,
+        visit.site,
+        brought,
+        raw,
+        asks_for_head(&visit.message.head),
+        visit.closes,
+    )?;
+    Ok(Answer {
+        text,
+        closes: visit.closes,
+    })
+}

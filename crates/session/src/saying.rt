@@ -1,0 +1,40 @@
+//! Writes answers.
+ghost use Rattle.std.specs.Prelude.{◌≡◌, ◌≤◌, IsTrue, OnOk, MatchResult};
+ghost use Rattle.capture.specs.Faults.{CountsFaults};
+ghost use Rattle.outside.specs.Gate.{heard_of};
+ghost use Rattle.exchange.specs.Refusals as spec;
+ghost use Rattle.session.specs.Wire.{Breaks, Tries, Writes};
+
+use crate::Served;
+use capture::Failed;
+use exchange::{memory_text, write_all};
+use outside::Link;
+
+/// Writes a text to a client whose link is whole.
+pub fn say<L: Link>(client: &mut L, text: &[u8]) -> Result<(), Failed>
+    requires { L.faults client.old ≡ 0 }
+    ensures says { IsTrue L.tells → MatchResult result
+        (λ _. Writes text.now (heard_of (L.traffic client.old) (L.faults client.old)) (heard_of (L.traffic client.new) (L.faults client.new)))
+        (λ _. Breaks text.now (heard_of (L.traffic client.old) (L.faults client.old)) (heard_of (L.traffic client.new) (L.faults client.new))) }
+    ensures whole { OnOk result (L.faults client.new ≡ 0) }
+    ensures counts { CountsFaults (L.faults client.old) (L.faults client.new) result }
+{
+    match write_all(client, text) {
+        Ok(()) => Ok(()),
+        Err(Failed) => Err(Failed),
+    }
+}
+
+/// Answers that there is no memory.
+pub fn give_up<L: Link>(client: &mut L) -> Served
+    requires { L.faults client.old ≡ 0 }
+    ensures ends { result ≡ Served.WantOfMemory }
+    ensures tries { IsTrue L.tells → Tries spec.memory_text
+        (heard_of (L.traffic client.old) (L.faults client.old)) (heard_of (L.traffic client.new) (L.faults client.new)) }
+    ensures later { L.faults client.old ≤ L.faults client.new }
+{
+    match say(client, memory_text()) {
+        Ok(()) => Served::WantOfMemory,
+        Err(Failed) => Served::WantOfMemory,
+    }
+}

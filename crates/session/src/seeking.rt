@@ -1,0 +1,193 @@
+//! Answers requests to the site for a capture by its date (RFC 7089, sections 4 and 4.1.1).
+ghost use Rattle.std.specs.Prelude.{◌≡◌, Bool, true, Some, IfOk, IsSome, MatchResult, codes, map, option_copied};
+ghost use Rattle.capture.specs.Fields.{lowered, values_of};
+ghost use Rattle.http_head.specs.Heads.{named_value};
+ghost use Rattle.replay_url.specs.Forms.{IsForm};
+ghost use Rattle.replay_url.specs.declared.form.Form.TheVariants.{Gate as TheGate, Memento as TheMemento};
+ghost use Rattle.session.specs.Answering.{AnswersVisit};
+ghost use Rattle.session.specs.Looking.{FindsNearest, LooksOn};
+ghost use Rattle.session.specs.Shelving.{GoesOn};
+ghost use Rattle.session.specs.SiteAnswers as spec;
+ghost use Rattle.session.specs.SiteAnswers.{Asks, IsGateTime, NamesNoTime};
+ghost use Rattle.surt_key.specs.Key.{key_of as the_key_of};
+ghost use Rattle.timegate.specs.Redirect.{redirect_text};
+
+use crate::answer::Answer;
+use crate::heads::{asks_for_head, has_name};
+use crate::refusing::refused;
+use crate::replaying::replay_found;
+use crate::visit::{Sought, Visit};
+use archive_shelf::{Shelf, leading_books_grow};
+use capture::{Memory, Refusal, growth_keeps_captures};
+use cdxj_index::Entry;
+use http_head::Field;
+use std::alloc::Global;
+use surt_key::{Key, KeyFault, key_of};
+use time_text::{LATEST, NotATime, read_http};
+use timegate::redirect;
+
+/// Answers a gate by a redirect to the capture that is nearest to the time which the first field Accept-Datetime names, the latest
+/// where there is none (RFC 7089, section 4.1).
+pub fn visit_gate<S: Shelf>(
+    alloc: Global,
+    shelf: &mut S,
+    visit: Visit,
+    url: &[u8],
+) -> Result<Answer, Memory>
+    requires method { spec.serves_method visit.message.now.head.method ≡ true }
+    requires form { IsForm visit.address.now (TheGate url.now) }
+    ensures answers { (clock_tells : Bool) → AnswersVisit S.Finder (record { site = visit.entry.site.now; clock_tells = clock_tells })
+        (record { message = visit.entry.message.now; address = visit.entry.address.now }) visit.entry.closes result shelf.old shelf.new }
+    ensures closes { IfOk result (λ answer. answer.closes ≡ visit.entry.closes) }
+    ensures goes_on { GoesOn S.Finder shelf.old shelf.new }
+{
+    leading_books_grow();
+    growth_keeps_captures();
+    match gate_time(visit.message.head.fields.as_slice()) {
+        Ok(time) => open_gate(alloc, shelf, visit, url, time),
+        Err(NotATime) => refused(
+            alloc,
+            Refusal::BadAcceptDatetime,
+            asks_for_head(&visit.message.head),
+            visit.closes,
+        ),
+    }
+}
+
+/// Answers a gate by a redirect to the capture that is nearest to a time.
+fn open_gate<S: Shelf>(
+    alloc: Global,
+    shelf: &mut S,
+    visit: Visit,
+    url: &[u8],
+    time: u64,
+) -> Result<Answer, Memory>
+    requires asks { Asks (record { message = visit.message.now; address = visit.address.now }) (TheGate url.now) }
+    requires timed { IsGateTime (spec.date_field (record { message = visit.message.now; address = visit.address.now })) time }
+    ensures answers { (clock_tells : Bool) → AnswersVisit S.Finder (record { site = visit.entry.site.now; clock_tells = clock_tells })
+        (record { message = visit.entry.message.now; address = visit.entry.address.now }) visit.entry.closes result shelf.old shelf.new }
+    ensures closes { IfOk result (λ answer. answer.closes ≡ visit.entry.closes) }
+    ensures goes_on { GoesOn S.Finder shelf.old shelf.new }
+{
+    leading_books_grow();
+    let answers_head = asks_for_head(&visit.message.head);
+    match seek(alloc, shelf, url, time) {
+        Ok(Some(entry)) => lead_to(alloc, visit, url, &entry, false, true),
+        Ok(None) => refused(alloc, Refusal::NoCapture, answers_head, visit.closes),
+        Err(Memory) => Err(Memory),
+    }
+}
+
+/// Answers a memento's address by the capture that is nearest to its time: with the capture itself where the address names its date,
+/// else by a redirect to it (RFC 7089, section 4.1.1).
+pub fn visit_memento<S: Shelf>(
+    alloc: Global,
+    shelf: &mut S,
+    visit: Visit,
+    sought: Sought,
+) -> Result<Answer, Memory>
+    requires asks { Asks (record { message = visit.message.now; address = visit.address.now }) (TheMemento sought.time sought.digits sought.raw sought.url.now) }
+    ensures answers { (clock_tells : Bool) → AnswersVisit S.Finder (record { site = visit.entry.site.now; clock_tells = clock_tells })
+        (record { message = visit.entry.message.now; address = visit.entry.address.now }) visit.entry.closes result shelf.old shelf.new }
+    ensures closes { IfOk result (λ answer. answer.closes ≡ visit.entry.closes) }
+    ensures goes_on { GoesOn S.Finder shelf.old shelf.new }
+{
+    leading_books_grow();
+    growth_keeps_captures();
+    let answers_head = asks_for_head(&visit.message.head);
+    match seek(alloc, shelf, sought.url, sought.time) {
+        Ok(Some(entry)) => {
+            if names_date(sought, &entry) {
+                return replay_found(alloc, shelf, visit, sought, number_of(&entry));
+            }
+            lead_to(alloc, visit, sought.url, &entry, sought.raw, false)
+        }
+        Ok(None) => refused(alloc, Refusal::NoCapture, answers_head, visit.closes),
+        Err(Memory) => Err(Memory),
+    }
+}
+
+/// The entry of a URL's key that is nearest to a time, if the key has one.
+fn seek<S: Shelf>(
+    alloc: Global,
+    shelf: &mut S,
+    url: &[u8],
+    time: u64,
+) -> Result<Option<Entry>, Memory>
+    requires keyed { IsSome (the_key_of url.now) }
+    ensures found { IfOk result (λ found. FindsNearest S.Finder shelf.new url.now time found) }
+    ensures looks { LooksOn S.Finder shelf.old shelf.new }
+{
+    let key = key_at(alloc, url)?;
+    shelf.by_date(alloc, &key, time)
+}
+
+/// The key of a URL that has one.
+pub fn key_at(alloc: Global, url: &[u8]) -> Result<Key, Memory>
+    requires { IsSome (the_key_of url.now) }
+    ensures { IfOk result (λ key. the_key_of url.now ≡ Some key) }
+{
+    match key_of(alloc, url) {
+        Ok(key) => Ok(key),
+        Err(KeyFault::NotHttp) => unreachable!(),
+        Err(KeyFault::Memory) => Err(Memory),
+    }
+}
+
+/// Whether the address names the date of the entry, by all its digits.
+fn names_date(sought: Sought, entry: &Entry) -> bool
+    ensures { result ≡ spec.names_date (TheMemento sought.entry.time sought.entry.digits sought.entry.raw sought.entry.url.now) entry.now.date }
+{
+    (sought.digits == 14 || sought.digits == 17) && sought.time == entry.date
+}
+
+/// The number of an entry, as the result of a call, of which the checker knows the range.
+fn number_of(entry: &Entry) -> u32
+    ensures { result ≡ entry.now.number }
+{
+    entry.number
+}
+
+/// The answer that leads to the capture of an entry, where `url` was asked for.
+fn lead_to(
+    alloc: Global,
+    visit: Visit,
+    url: &[u8],
+    entry: &Entry,
+    raw: bool,
+    by_gate: bool,
+) -> Result<Answer, Memory>
+    ensures text { IfOk result (λ answer. answer.text ≡ redirect_text visit.entry.site.now.base url.now entry.now raw by_gate visit.entry.closes) }
+    ensures closes { IfOk result (λ answer. answer.closes ≡ visit.entry.closes) }
+{
+    let text = redirect(alloc, visit.site, url, entry, raw, by_gate, visit.closes)?;
+    Ok(Answer {
+        text,
+        closes: visit.closes,
+    })
+}
+
+/// The time that a gate is asked for, by the first field Accept-Datetime (RFC 7089, section 2.1.1).
+fn gate_time(fields: &[Field]) -> Result<u64, NotATime>
+    ensures { MatchResult result
+        (λ time. IsGateTime (spec.first_of (values_of (codes "accept-datetime") (map named_value fields.now))) time)
+        (λ _. NamesNoTime (spec.first_of (values_of (codes "accept-datetime") (map named_value fields.now)))) }
+{
+    match first_value(fields, b"accept-datetime") {
+        Some(value) => read_http(value),
+        None => Ok(LATEST),
+    }
+}
+
+/// The value of the first field of this name, which is given in lower case.
+fn first_value<'a>(fields: &'a [Field], name: &[u8]) -> Option<&'a [u8]>
+    requires { lowered name.now ≡ name.now }
+    ensures { option_copied result ≡ spec.first_of (values_of name.now (map named_value fields.now)) }
+{
+    for field in fields {
+        if has_name(field, name) {
+            return Some(field.value.as_slice());
+        }
+    }
+    None
+}

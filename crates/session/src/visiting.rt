@@ -1,0 +1,84 @@
+//! Answers requests to the archive's own site (RFC 7089).
+ghost use Rattle.std.specs.Prelude.{◌≡◌, Bool, true, IfOk};
+ghost use Rattle.replay_url.specs.Forms.{IsForm};
+ghost use Rattle.session.specs.Answering.{AnswersVisit};
+ghost use Rattle.session.specs.Shelving.{GoesOn};
+ghost use Rattle.session.specs.SiteAnswers as spec;
+
+use crate::answer::Answer;
+use crate::heads::asks_for_head;
+use crate::listing::visit_map;
+use crate::refusing::refused;
+use crate::replaying::replay_number;
+use crate::seeking::{visit_gate, visit_memento};
+use crate::visit::{Sought, Visit};
+use archive_shelf::{Shelf, leading_books_grow};
+use capture::{Memory, Refusal, growth_keeps_captures};
+use http_wire::RequestMessage;
+use replay_url::{Form, FormFault, read_form};
+use std::alloc::Global;
+
+/// Answers a request to the site by what the archive holds.
+pub fn answer_visit<S: Shelf>(alloc: Global, shelf: &mut S, visit: Visit) -> Result<Answer, Memory>
+    ensures answers { (clock_tells : Bool) → AnswersVisit S.Finder (record { site = visit.entry.site.now; clock_tells = clock_tells })
+        (record { message = visit.entry.message.now; address = visit.entry.address.now }) visit.entry.closes result shelf.old shelf.new }
+    ensures closes { IfOk result (λ answer. answer.closes ≡ visit.entry.closes) }
+    ensures goes_on { GoesOn S.Finder shelf.old shelf.new }
+{
+    leading_books_grow();
+    growth_keeps_captures();
+    let answers_head = asks_for_head(&visit.message.head);
+    if !serves(visit.message) {
+        return refused(alloc, Refusal::MethodRefused, answers_head, visit.closes);
+    }
+    match read_form(alloc, visit.address) {
+        Ok(form) => visit_form(alloc, shelf, visit, &form),
+        Err(FormFault::NotAForm) => refused(alloc, Refusal::NotAForm, answers_head, visit.closes),
+        Err(FormFault::BadTime) => refused(alloc, Refusal::BadTime, answers_head, visit.closes),
+        Err(FormFault::Memory) => Err(Memory),
+    }
+}
+
+/// Whether the site answers requests of this method: GET and HEAD.
+fn serves(message: &RequestMessage) -> bool
+    ensures { result ≡ spec.serves_method message.now.head.method }
+{
+    message.head.method.as_slice() == b"GET".as_slice() || asks_for_head(&message.head)
+}
+
+/// Answers a request for an address that has this form.
+fn visit_form<S: Shelf>(
+    alloc: Global,
+    shelf: &mut S,
+    visit: Visit,
+    form: &Form,
+) -> Result<Answer, Memory>
+    requires method { spec.serves_method visit.message.now.head.method ≡ true }
+    requires form { IsForm visit.address.now form.now }
+    ensures answers { (clock_tells : Bool) → AnswersVisit S.Finder (record { site = visit.entry.site.now; clock_tells = clock_tells })
+        (record { message = visit.entry.message.now; address = visit.entry.address.now }) visit.entry.closes result shelf.old shelf.new }
+    ensures closes { IfOk result (λ answer. answer.closes ≡ visit.entry.closes) }
+    ensures goes_on { GoesOn S.Finder shelf.old shelf.new }
+{
+    match form {
+        Form::Number(number) => replay_number(alloc, shelf, visit, *number),
+        Form::Memento {
+            time,
+            digits,
+            raw,
+            url,
+        } => visit_memento(
+            alloc,
+            shelf,
+            visit,
+            Sought {
+                time: *time,
+                digits: *digits,
+                raw: *raw,
+                url: url.as_slice(),
+            },
+        ),
+        Form::Gate { url } => visit_gate(alloc, shelf, visit, url.as_slice()),
+        Form::Map { url } => visit_map(alloc, shelf, visit, url.as_slice()),
+    }
+}
