@@ -4,19 +4,11 @@
 //! where every case gave what it expects. This crate's README has the language of the files.
 #![tactic(auto)]
 
-mod calls;
-mod case_file;
-mod compare;
-mod escapes;
-mod fetching;
-mod line;
-mod names;
-mod numbers;
 mod objects;
-mod opening;
-mod outcome;
 mod play;
-mod receiving;
+mod ran;
+mod runs;
+mod script;
 mod setting;
 
 use play::play_file;

@@ -3,35 +3,24 @@ ghost use Rattle.std.specs.Prelude.{◌≡◌, IfOk, All, length};
 ghost use Rattle.outside.specs.MemoryLink.{IsNew};
 
 use crate::setting::Setting;
-use capture::Failed;
-use disk_model::{Disk, Kind, MemoryDisk};
 use outside::{MemoryClock, MemoryDialer, MemoryGate, MemoryLink, MemorySink};
 use proxy_run::{CREW, Crew};
 use std::alloc::{AllocError, Global};
 
-/// The objects that a run is given.
+/// The objects that a run is given beside the disk.
 #[derive(Debug, Drop)]
 pub struct Objects {
-    pub disk: MemoryDisk,
     pub gate: MemoryGate,
     pub crew: Crew<MemoryDialer, MemoryClock>,
     pub out: MemorySink,
 }
 
-/// The objects of a case. `None` where its volumes could not be written.
-pub fn objects_of(alloc: Global, setting: &Setting) -> Result<Option<Objects>, AllocError> {
+/// The objects of a run.
+pub fn objects_of(alloc: Global, setting: &Setting) -> Result<Objects, AllocError> {
     let gate = gate_of(alloc, setting)?;
     let crew = crew_of(alloc, setting)?;
     let out = MemorySink::new(alloc, setting.fails.sink.clone()?);
-    match disk_of(alloc, setting)? {
-        Ok(disk) => Ok(Some(Objects {
-            disk,
-            gate,
-            crew,
-            out,
-        })),
-        Err(Failed) => Ok(None),
-    }
+    Ok(Objects { gate, crew, out })
 }
 
 /// A link for each text, of which it gives a front of so many bytes at most; a call moves so many at most.
@@ -112,33 +101,4 @@ fn crew_of(
         ))?;
     }
     Ok(Crew { members })
-}
-
-/// How many calls of the disk it takes to make a file that holds a text.
-const CALLS: u64 = 3;
-
-/// The disk on which the case's volumes stand, durably. Its calls are numbered from 0 behind that.
-pub fn disk_of(alloc: Global, setting: &Setting) -> Result<Result<MemoryDisk, Failed>, AllocError> {
-    let made = CALLS.saturating_mul(setting.volumes.len() as u64);
-    let mut fails = Vec::new(alloc);
-    for number in setting.fails.disk.as_slice() {
-        fails.push(number.saturating_add(made))?;
-    }
-    let mut disk = MemoryDisk::new(alloc, fails);
-    for text in setting.volumes.as_slice() {
-        if put_volume(&mut disk, text.as_slice()).is_err() {
-            return Ok(Err(Failed));
-        }
-    }
-    match setting.disk_fuse {
-        Some(calls) => Ok(Ok(disk.fused(calls))),
-        None => Ok(Ok(disk)),
-    }
-}
-
-#[tactic(auto, using(crate::proofs::FileLaws::is_there, crate::proofs::FileLaws::still_there))]
-fn put_volume<D: Disk>(disk: &mut D, text: &[u8]) -> Result<(), Failed> {
-    let file = disk.create(Kind::Warc)?;
-    disk.write_at(Kind::Warc, file, 0, text)?;
-    disk.sync(Kind::Warc, file)
 }

@@ -1,18 +1,14 @@
 //! Plays the cases of a file.
-use crate::calls::{Call, answer};
-use crate::case_file::{Case, CaseFile};
-use crate::compare::difference;
-use crate::line::Line;
-use crate::names::{NamedText, Names};
-use crate::numbers::plays_of;
-use crate::objects::{Objects, disk_of, objects_of};
-use crate::outcome::Outcome;
+use crate::objects::{client_of, dialer_of};
+use crate::ran::put_sent;
+use crate::runs::outcome_of_runs;
+use crate::script::Script;
 use crate::setting::{Played, Setting};
-use crate::{fetching, opening, receiving};
 use capture::{Failed, Memory};
-use disk_model::MemoryDisk;
-use outside::{MemoryClock, MemoryDialer, MemoryGate, MemorySink};
-use proxy_run::{CREW, Crew, Ran, Status, run};
+use case_archive::Change;
+use case_calls::{Call, answer, fetched, received_requests};
+use case_disk::{Outcome, disk_of};
+use case_language::{Case, CaseFile, Line, NamedText, Names, difference, plays_of};
 use std::alloc::Global;
 use std::io::Print;
 use std::sync::Wait;
@@ -77,50 +73,113 @@ where
     Ok(differences)
 }
 
-/// Plays a case for one number, and each of its stops. The answer is the first difference.
+/// Plays a case for one number, and each choice of its stops. The answer is the first difference.
 fn play_once<R>(rt: &R, alloc: Global, case: &Case, names: Names) -> Result<Option<String>, Memory>
 where
     R: Threads + Wait + Sync,
 {
-    let mut setting = Setting::new(alloc)?;
-    for text in case.given.as_slice() {
-        if !setting.take(alloc, Line::of(text), names)? {
-            return Ok(Some(format!(in alloc; "no line: {text}")?));
-        }
+    let mut script = Script::new(alloc)?;
+    if let Some(text) = set(alloc, &mut script, case, names)? {
+        return Ok(Some(text));
     }
-    for stop in setting.stops.from..setting.stops.to {
-        let Some(outcome) = outcome_of(rt, alloc, &setting, stop)? else {
-            return Ok(Some(String::from_str(alloc, "no such call, or no objects for the case")?));
-        };
-        let expected = case.expected.as_slice();
-        if let Some(text) = difference(alloc, expected, &outcome, names)? {
-            return Ok(Some(format!(in alloc; "(stop {stop}) {text}")?));
+    for turn in 0..script.turns() {
+        if let Some(text) = difference_at(rt, alloc, &script, case, turn, names)? {
+            return Ok(Some(text));
         }
     }
     Ok(None)
 }
 
-/// What is played gives, and the files that a stop by this choice leaves behind it. `None` where there is no such call,
-/// or where an object of the case could not be made.
+/// Takes the lines of what a case is given. The answer is the first that is none, as a text.
+fn set<'a>(
+    alloc: Global,
+    script: &mut Script<'a>,
+    case: &Case<'a>,
+    names: Names,
+) -> Result<Option<String>, Memory> {
+    for text in case.given.as_slice() {
+        if !script.take(alloc, Line::of(text), names)? {
+            return Ok(Some(format!(in alloc; "no line: {text}")?));
+        }
+    }
+    Ok(None)
+}
+
+/// The first difference of a play in this turn.
+fn difference_at<R>(
+    rt: &R,
+    alloc: Global,
+    script: &Script,
+    case: &Case,
+    turn: u32,
+    names: Names,
+) -> Result<Option<String>, Memory>
+where
+    R: Threads + Wait + Sync,
+{
+    let Some(outcome) = outcome_of(rt, alloc, script, turn)? else {
+        return Ok(Some(String::from_str(alloc, "no such call, or no objects for the case")?));
+    };
+    let (expected, given) = (case.expected.as_slice(), outcome.lines.as_slice());
+    match difference(alloc, expected, given, names)? {
+        Some(text) => Ok(Some(format!(in alloc; "(turn {turn}) {text}")?)),
+        None => Ok(None),
+    }
+}
+
+/// What the case gives in this turn. `None` where there is no such call, where an object of the case could not be made, or
+/// where something else than a run stands behind a line `then` or before it.
 fn outcome_of<R>(
     rt: &R,
     alloc: Global,
-    setting: &Setting,
-    stop: u32,
+    script: &Script,
+    turn: u32,
 ) -> Result<Option<Outcome>, Memory>
 where
     R: Threads + Wait + Sync,
 {
+    match &script.first.played {
+        Played::Program if script.goes_on() => outcome_of_runs(rt, alloc, script, turn),
+        Played::Program => Ok(None),
+        _ if script.further.is_empty() => outcome_of_one(alloc, &script.first, turn),
+        _ => Ok(None),
+    }
+}
+
+/// What anything but a run gives, and the files that the stop of this turn leaves behind it.
+fn outcome_of_one(alloc: Global, setting: &Setting, turn: u32) -> Result<Option<Outcome>, Memory> {
+    let stop = setting.stops.at(turn);
     match &setting.played {
-        Played::Program => match objects_of(alloc, setting)? {
-            Some(objects) => outcome_over(rt, alloc, setting, objects, stop),
-            None => Ok(None),
-        },
+        Played::Program => Ok(None),
         Played::Call(call) => answered(alloc, call),
-        Played::Fetch(request) => fetching::outcome_of(alloc, setting, request.as_slice()),
-        Played::Requests => receiving::outcome_of(alloc, setting),
+        Played::Fetch(request) => fetched_for(alloc, setting, request.as_slice()),
+        Played::Requests => requests_of(alloc, setting),
+        Played::Archive => stored(alloc, setting, stop),
+        Played::Altered(change) => stored_altered(alloc, setting, *change),
         Played::Opening(skip) => opened(alloc, setting, stop, *skip),
         Played::Files => worked(alloc, setting, stop),
+    }
+}
+
+/// What the steps of an archive tell over the case's disk.
+fn stored(alloc: Global, setting: &Setting, stop: u32) -> Result<Option<Outcome>, Memory> {
+    match disk_of(alloc, setting.disk())? {
+        Ok(disk) => case_archive::outcome_of(alloc, disk, setting.deeds.as_slice(), stop),
+        Err(Failed) => Ok(None),
+    }
+}
+
+/// The same, where the disk gives another byte in one place.
+fn stored_altered(
+    alloc: Global,
+    setting: &Setting,
+    change: Change,
+) -> Result<Option<Outcome>, Memory> {
+    match disk_of(alloc, setting.disk())? {
+        Ok(disk) => {
+            case_archive::altered_outcome_of(alloc, disk, change, setting.deeds.as_slice())
+        }
+        Err(Failed) => Ok(None),
     }
 }
 
@@ -131,18 +190,46 @@ fn opened(
     stop: u32,
     skip: Option<u32>,
 ) -> Result<Option<Outcome>, Memory> {
-    match disk_of(alloc, setting)? {
-        Ok(disk) => opening::outcome_of(alloc, disk, setting.steps.as_slice(), stop, skip),
+    match disk_of(alloc, setting.disk())? {
+        Ok(disk) => case_disk::outcome_of(alloc, disk, setting.steps.as_slice(), stop, skip),
         Err(Failed) => Ok(None),
     }
 }
 
 /// What the case's disk holds, behind the steps and the stop.
 fn worked(alloc: Global, setting: &Setting, stop: u32) -> Result<Option<Outcome>, Memory> {
-    match disk_of(alloc, setting)? {
-        Ok(disk) => opening::files_behind(alloc, disk, setting.steps.as_slice(), stop),
+    match disk_of(alloc, setting.disk())? {
+        Ok(disk) => case_disk::files_behind(alloc, disk, setting.steps.as_slice(), stop),
         Err(Failed) => Ok(None),
     }
+}
+
+/// What is fetched from the case's origins for a client's request, and what is sent to them.
+fn fetched_for(
+    alloc: Global,
+    setting: &Setting,
+    request: &[u8],
+) -> Result<Option<Outcome>, Memory> {
+    let mut dialer = dialer_of(alloc, setting)?;
+    let Some(text) = fetched(alloc, &mut dialer, request)? else {
+        return Ok(None);
+    };
+    let mut outcome = Outcome::new(alloc);
+    outcome.put_answer(alloc, text.as_slice())?;
+    put_sent(alloc, &mut outcome, dialer.transcripts())?;
+    Ok(Some(outcome))
+}
+
+/// The requests of the case's client. `None` where it has none.
+fn requests_of(alloc: Global, setting: &Setting) -> Result<Option<Outcome>, Memory> {
+    let Some(mut link) = client_of(alloc, setting)? else {
+        return Ok(None);
+    };
+    let mut outcome = Outcome::new(alloc);
+    for text in received_requests(alloc, &mut link)?.as_slice() {
+        outcome.put_answer(alloc, text.as_slice())?;
+    }
+    Ok(Some(outcome))
 }
 
 fn answered(alloc: Global, call: &Call) -> Result<Option<Outcome>, Memory> {
@@ -151,63 +238,5 @@ fn answered(alloc: Global, call: &Call) -> Result<Option<Outcome>, Memory> {
     };
     let mut outcome = Outcome::new(alloc);
     outcome.put_answer(alloc, text.as_slice())?;
-    Ok(Some(outcome))
-}
-
-/// What the program gives over these objects. `None` where the disk could not be stopped.
-fn outcome_over<R>(
-    rt: &R,
-    alloc: Global,
-    setting: &Setting,
-    objects: Objects,
-    stop: u32,
-) -> Result<Option<Outcome>, Memory>
-where
-    R: Threads + Wait + Sync,
-{
-    let Objects {
-        disk,
-        mut gate,
-        mut crew,
-        mut out,
-    } = objects;
-    if crew.members.len() != CREW {
-        return Ok(None);
-    }
-    let words = setting.words.as_slice();
-    let Ran { status, disk } = run(rt, alloc, words, disk, &mut gate, &mut crew, &mut out);
-    let told = told_of(alloc, status, &gate, &crew, &out);
-    match disk.stop(stop) {
-        Ok(left) => with_files(alloc, told, left),
-        Err(_) => Ok(None),
-    }
-}
-
-/// The lines of all but the files.
-fn told_of(
-    alloc: Global,
-    status: Status,
-    gate: &MemoryGate,
-    crew: &Crew<MemoryDialer, MemoryClock>,
-    out: &MemorySink,
-) -> Result<Outcome, Memory> {
-    let mut outcome = Outcome::new(alloc);
-    outcome.put_status(alloc, status)?;
-    outcome.put_heard(alloc, gate.heard())?;
-    if let Some(member) = crew.members.first() {
-        outcome.put_sent(alloc, member.0.transcripts())?;
-    }
-    outcome.put_printed(alloc, out.written())?;
-    Ok(outcome)
-}
-
-/// The same lines, and those of the files.
-fn with_files(
-    alloc: Global,
-    told: Result<Outcome, Memory>,
-    mut disk: MemoryDisk,
-) -> Result<Option<Outcome>, Memory> {
-    let mut outcome = told?;
-    outcome.put_files(alloc, &mut disk)?;
     Ok(Some(outcome))
 }

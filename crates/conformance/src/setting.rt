@@ -1,10 +1,9 @@
 //! What a case gives to the program.
-use crate::calls::Call;
-use crate::escapes::decode;
-use crate::line::Line;
-use crate::names::Names;
-use crate::numbers::{number_of, numbers_of};
-use crate::opening::{Step, Work};
+use case_archive::{Change, Step as Deed};
+use case_calls::Call;
+use case_disk::{DiskSetting, Step, Work};
+use case_language::{Line, Names, decode, number_of, numbers_of};
+use disk_model::MemoryDisk;
 use std::alloc::{AllocError, Global};
 
 /// The choice of a stop that leaves what reads give.
@@ -28,6 +27,10 @@ pub enum Played<'a> {
     Requests,
     /// The fetch of a response, for a client's request of this text.
     Fetch(Vec<u8>),
+    /// The steps of an archive.
+    Archive,
+    /// The steps of an archive over a disk that gives another byte in one place.
+    Altered(Change),
 }
 
 /// The numbers of the calls that are to fail, of each object.
@@ -50,6 +53,19 @@ pub struct Stops {
     pub to: u32,
 }
 
+impl Stops {
+    /// How many choices there are.
+    pub fn turns(&self) -> u32 {
+        self.to.saturating_sub(self.from)
+    }
+
+    /// The choice in this turn, from 0; the last one stays.
+    pub fn at(&self, turn: u32) -> u32 {
+        let last = self.to.saturating_sub(1);
+        self.from.saturating_add(turn).min(last)
+    }
+}
+
 /// The words, what client, origins and clock give, what stands on the disk, and which calls are to fail.
 #[derive(Debug, Drop)]
 pub struct Setting<'a> {
@@ -69,6 +85,8 @@ pub struct Setting<'a> {
     pub volumes: Vec<Vec<u8>>,
     /// What is done to the journal of the volumes before they are opened again.
     pub steps: Vec<Step>,
+    /// What is done with an archive.
+    pub deeds: Vec<Deed<'a>>,
     /// What the stop behind all that chooses: what reads give, where a case says nothing.
     pub stops: Stops,
     pub fails: Fails,
@@ -93,6 +111,7 @@ impl<'a> Setting<'a> {
             origin_front: usize::MAX,
             volumes: Vec::new(alloc),
             steps: Vec::new(alloc),
+            deeds: Vec::new(alloc),
             stops: Stops {
                 from: READING,
                 to: READING + 1,
@@ -107,6 +126,31 @@ impl<'a> Setting<'a> {
             },
             disk_fuse: None,
         })
+    }
+
+    /// What stands on the disk, and which of its calls are to fail.
+    pub fn disk(&self) -> DiskSetting<'_> {
+        DiskSetting {
+            volumes: self.volumes.as_slice(),
+            fails: self.fails.disk.as_slice(),
+            fuse: self.disk_fuse,
+        }
+    }
+
+    /// Whether this is a run over a disk that is there, of which no call is to fail by its number.
+    pub fn goes_on(&self) -> bool {
+        match self.played {
+            Played::Program => self.volumes.is_empty() && self.fails.disk.is_empty(),
+            _ => false,
+        }
+    }
+
+    /// The disk that a further run is given, of which so many calls pass as the case says.
+    pub fn fused(&self, disk: MemoryDisk) -> MemoryDisk {
+        match self.disk_fuse {
+            Some(calls) => disk.fused(calls),
+            None => disk,
+        }
     }
 
     /// Takes a line of a case, and says whether it is one.
@@ -157,6 +201,12 @@ impl<'a> Setting<'a> {
                 Ok(true)
             }
             "open-skipping" => Ok(self.take_skip(line.rest, names.k)),
+            "archive" => {
+                self.played = Played::Archive;
+                Ok(true)
+            }
+            "altered" => self.take_change(alloc, line.rest, names.k),
+            "do" => self.take_deed(alloc, Line::of(line.rest), names, false),
             _ => self.take_step(alloc, line, names),
         }
     }
@@ -195,6 +245,39 @@ impl<'a> Setting<'a> {
         }
     }
 
+    /// Takes a file's number, a place in it, and the byte that a read gives there.
+    fn take_change(&mut self, alloc: Global, text: &str, k: u64) -> Result<bool, AllocError> {
+        let Some(numbers) = numbers_of(alloc, text, k)? else {
+            return Ok(false);
+        };
+        match change_of(numbers.as_slice()) {
+            Some(change) => {
+                self.played = Played::Altered(change);
+                Ok(true)
+            }
+            None => Ok(false),
+        }
+    }
+
+    /// Takes a step of an archive.
+    fn take_deed(
+        &mut self,
+        alloc: Global,
+        line: Line<'a>,
+        names: Names,
+        again: bool,
+    ) -> Result<bool, AllocError> {
+        let Some(text) = decode(alloc, line.rest, names)? else {
+            return Ok(false);
+        };
+        self.deeds.push(Deed {
+            name: line.word,
+            text,
+            again,
+        })?;
+        Ok(true)
+    }
+
     /// Takes a step of the journal. Behind `again` stands one that is done only where the one before it was refused.
     fn take_step(
         &mut self,
@@ -204,6 +287,9 @@ impl<'a> Setting<'a> {
     ) -> Result<bool, AllocError> {
         let again = line.word == "again";
         let step = if again { Line::of(line.rest) } else { line };
+        if again && step.word == "do" {
+            return self.take_deed(alloc, Line::of(step.rest), names, true);
+        }
         let is_step = matches!(step.word, "append" | "roll" | "repair");
         if !is_step {
             return self.take_numbers(alloc, line, names.k);
@@ -277,6 +363,18 @@ fn take_length(length: &mut usize, text: &str, k: u64) -> bool {
             true
         }
         None => false,
+    }
+}
+
+/// A file, a place and a byte.
+fn change_of(numbers: &[u64]) -> Option<Change> {
+    match numbers {
+        [file, place, byte] => Some(Change {
+            file: u32::try_from(*file).ok()?,
+            place: *place,
+            byte: u8::try_from(*byte).ok()?,
+        }),
+        _ => None,
     }
 }
 

@@ -1,0 +1,3 @@
+mod FitLaws
+mod LookingLaws
+mod PreparedLaws

@@ -1,0 +1,198 @@
+//! A disk in memory one byte of which reads as another. It tells nothing of what it holds.
+ghost use Rattle.std.specs.Prelude.{◌≡◌, ◌<◌, ◌≤◌, false, length, OnOk};
+ghost use Rattle.std.proofs.lemmas.Bool.{false≢true};
+ghost use Rattle.capture.specs.Faults.{CountsFaults};
+ghost use Rattle.disk_model.specs.Device.{reading_of};
+ghost use Rattle.disk_model.specs.Image.{file_count, file_of, no_files};
+
+use capture::Failed;
+use disk_model::{Disk, Kind, MemoryDisk};
+
+/// Which byte of a volume's file reads as which.
+#[derive(Clone, Copy, Debug, PartialEq, Eq)]
+pub struct Change {
+    pub file: u32,
+    /// The place in the file, in bytes.
+    pub place: u64,
+    pub byte: u8,
+}
+
+/// A disk that passes each call on to a disk in memory, and changes what a read gives. It asks the inner disk whether the file and
+/// the range are there, and fails where they aren't.
+#[derive(Drop)]
+pub struct AlteredDisk {
+    inner: MemoryDisk,
+    change: Change,
+    faults: u64,
+}
+
+impl AlteredDisk {
+    /// The disk, with this change.
+    pub fn new(inner: MemoryDisk, change: Change) -> AlteredDisk {
+        AlteredDisk {
+            inner,
+            change,
+            faults: 0,
+        }
+    }
+
+    /// Counts a failure.
+    fn answer<T: Drop>(&mut self, answer: Result<T, Failed>) -> Result<T, Failed>
+        ensures { CountsFaults self.old.faults self.new.faults result }
+    {
+        if answer.is_err() {
+            self.faults = self.faults.saturating_add(1);
+            return Err(Failed);
+        }
+        answer
+    }
+}
+
+fn has_file(disk: &mut MemoryDisk, kind: Kind, file: u32) -> Result<(), Failed>
+    ensures there { OnOk result (file < file_count (reading_of disk.new) kind) }
+    ensures reading { reading_of disk.new ≡ reading_of disk.old }
+{
+    match disk.files(kind) {
+        Ok(count) if file < count => Ok(()),
+        _ => Err(Failed),
+    }
+}
+
+fn has_range(disk: &mut MemoryDisk, kind: Kind, file: u32, end: u64) -> Result<(), Failed>
+    ensures there { OnOk result (file < file_count (reading_of disk.new) kind) }
+    ensures in_range { OnOk result (end ≤ length (file_of (reading_of disk.new) kind file)) }
+{
+    if has_file(disk, kind, file).is_err() {
+        return Err(Failed);
+    }
+    match disk.len(kind, file) {
+        Ok(len) if end <= len => Ok(()),
+        _ => Err(Failed),
+    }
+}
+
+fn try_len(disk: &mut MemoryDisk, kind: Kind, file: u32) -> Result<u64, Failed> {
+    if has_file(disk, kind, file).is_err() {
+        return Err(Failed);
+    }
+    disk.len(kind, file)
+}
+
+fn try_read(
+    disk: &mut MemoryDisk,
+    kind: Kind,
+    file: u32,
+    at: u64,
+    into: &mut [u8],
+) -> Result<(), Failed> {
+    let Some(end) = at.checked_add(into.len() as u64) else {
+        return Err(Failed);
+    };
+    if has_range(disk, kind, file, end).is_err() {
+        return Err(Failed);
+    }
+    disk.read(kind, file, at, into)
+}
+
+fn try_write_at(
+    disk: &mut MemoryDisk,
+    kind: Kind,
+    file: u32,
+    at: u64,
+    bytes: &[u8],
+) -> Result<(), Failed> {
+    if has_range(disk, kind, file, at).is_err() {
+        return Err(Failed);
+    }
+    disk.write_at(kind, file, at, bytes)
+}
+
+fn try_cut(disk: &mut MemoryDisk, kind: Kind, file: u32, len: u64) -> Result<(), Failed> {
+    if has_range(disk, kind, file, len).is_err() {
+        return Err(Failed);
+    }
+    disk.cut(kind, file, len)
+}
+
+fn try_sync(disk: &mut MemoryDisk, kind: Kind, file: u32) -> Result<(), Failed> {
+    if has_file(disk, kind, file).is_err() {
+        return Err(Failed);
+    }
+    disk.sync(kind, file)
+}
+
+/// Changes the byte at the place, where the bytes that were read from `at` on hold it.
+fn alter(into: &mut [u8], at: u64, change: Change) {
+    let Some(place) = change.place.checked_sub(at) else {
+        return;
+    };
+    if let Some(byte) = into.get_mut(place as usize) {
+        *byte = change.byte;
+    }
+}
+
+impl Disk for AlteredDisk {
+    ghost tells = { false };
+
+    ghost reading = { λ _. no_files };
+
+    ghost images = { λ _ _. ⊥ };
+
+    ghost moment = { λ _. 0 };
+
+    ghost images_since = { λ _ _ _. ⊥ };
+
+    ghost faults = { λ d. d.faults };
+
+    ghost reading_is_image = { λ d told. absurd (false≢true told) };
+
+    ghost no_more_files = { λ d image kind left. absurd left };
+
+    ghost now_counts = { λ d t image le left. absurd left };
+
+    ghost now_only = { λ d image left. left };
+
+    ghost earlier = { λ d t s image le left. left };
+
+    fn files(&mut self, kind: Kind) -> Result<u32, Failed> {
+        let answer = self.inner.files(kind);
+        self.answer(answer)
+    }
+
+    fn create(&mut self, kind: Kind) -> Result<u32, Failed> {
+        let answer = self.inner.create(kind);
+        self.answer(answer)
+    }
+
+    fn len(&mut self, kind: Kind, file: u32) -> Result<u64, Failed> {
+        let answer = try_len(&mut self.inner, kind, file);
+        self.answer(answer)
+    }
+
+    fn read(&mut self, kind: Kind, file: u32, at: u64, into: &mut [u8]) -> Result<(), Failed> {
+        let answer = try_read(&mut self.inner, kind, file, at, into);
+        if kind == Kind::Warc && file == self.change.file {
+            alter(into, at, self.change);
+        }
+        self.answer(answer)
+    }
+
+    fn write_at(&mut self, kind: Kind, file: u32, at: u64, bytes: &[u8]) -> Result<(), Failed> {
+        let answer = try_write_at(&mut self.inner, kind, file, at, bytes);
+        self.answer(answer)
+    }
+
+    fn cut(&mut self, kind: Kind, file: u32, len: u64) -> Result<(), Failed> {
+        let answer = try_cut(&mut self.inner, kind, file, len);
+        self.answer(answer)
+    }
+
+    fn sync(&mut self, kind: Kind, file: u32) -> Result<(), Failed> {
+        let answer = try_sync(&mut self.inner, kind, file);
+        self.answer(answer)
+    }
+
+    fn faults(&self) -> u64 {
+        self.faults
+    }
+}

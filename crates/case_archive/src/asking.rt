@@ -1,0 +1,90 @@
+//! What is asked of an archive that is open.
+use crate::finding::{brought, entry_text, found_by_date, mapped, starting_with};
+use crate::opening::counts_text;
+use crate::step::Step;
+use crate::storing::{compared, rolled, stored};
+use crate::taking::{exchanged_in, prepared_of};
+use crate::words;
+use archive_core::Archive;
+use capture::Memory;
+use case_calls::number_in;
+use disk_model::Disk;
+use std::alloc::Global;
+
+/// What the step tells. `None` where no step has that name, or the text isn't one that it takes.
+pub fn told<D: Disk>(
+    alloc: Global,
+    archive: &mut Archive<D>,
+    step: &Step,
+) -> Result<Option<Vec<u8>>, Memory> {
+    let text = step.text.as_slice();
+    match step.name {
+        "store" => store(alloc, archive, text),
+        "bring" => bring(alloc, archive, text),
+        "by-date" => found_by_date(alloc, archive, text),
+        "map" => mapped(alloc, archive, text),
+        "starting" => starting_with(alloc, archive, text),
+        "roll" => roll(alloc, archive, text),
+        "compare" => words::text(compared(alloc, archive, text)),
+        "counts" => words::text(counts_text(alloc, archive.counts())),
+        "faults" => words::text(faults_text(alloc, archive.faults())),
+        "entry" => entry(alloc, archive, text),
+        _ => Ok(None),
+    }
+}
+
+fn faults_text(alloc: Global, faults: u64) -> Result<String, Memory> {
+    Ok(format!(in alloc; "{faults}")?)
+}
+
+fn store<D: Disk>(
+    alloc: Global,
+    archive: &mut Archive<D>,
+    text: &[u8],
+) -> Result<Option<Vec<u8>>, Memory> {
+    let Some(exchanged) = exchanged_in(text) else {
+        return Ok(None);
+    };
+    match prepared_of(alloc, &exchanged)? {
+        Some(prepared) => words::text(stored(alloc, archive, prepared.taken)),
+        None => Ok(None),
+    }
+}
+
+/// The number of a capture.
+fn capture_in(text: &[u8]) -> Option<u32> {
+    u32::try_from(number_in(text)?).ok()
+}
+
+fn bring<D: Disk>(
+    alloc: Global,
+    archive: &mut Archive<D>,
+    text: &[u8],
+) -> Result<Option<Vec<u8>>, Memory> {
+    match capture_in(text) {
+        Some(number) => words::bytes(brought(alloc, archive, number)),
+        None => Ok(None),
+    }
+}
+
+fn entry<D: Disk>(
+    alloc: Global,
+    archive: &Archive<D>,
+    text: &[u8],
+) -> Result<Option<Vec<u8>>, Memory> {
+    match capture_in(text) {
+        Some(number) => words::text(entry_text(alloc, archive.entry(number))),
+        None => Ok(None),
+    }
+}
+
+fn roll<D: Disk>(
+    alloc: Global,
+    archive: &mut Archive<D>,
+    text: &[u8],
+) -> Result<Option<Vec<u8>>, Memory> {
+    match number_in(text) {
+        Some(now) => rolled(alloc, archive, now),
+        None => Ok(None),
+    }
+}

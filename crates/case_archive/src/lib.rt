@@ -1,0 +1,19 @@
+//! Cases over an archive: it is opened over a disk in memory, captures are stored, brought back and found by date, calls of the
+//! disk fail, the disk is stopped, and the archive is opened again.
+#![tactic(auto)]
+
+mod altered;
+mod asking;
+mod finding;
+mod held;
+mod looking;
+mod opening;
+mod play;
+mod step;
+mod storing;
+mod taking;
+mod words;
+
+pub use altered::Change;
+pub use play::{altered_outcome_of, outcome_of};
+pub use step::Step;

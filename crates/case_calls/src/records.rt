@@ -1,0 +1,250 @@
+//! Calls of `warc_scan`, and of `warc_text` with a group.
+use crate::exchanges::{forwarded_for, payload_of_response};
+use crate::wholes::received;
+use crate::words::{length_and_digest, number_in, split_word, told};
+use capture::{Bytes, Kept, Memory, Taken, Text, put_all, put_number};
+use digest32::{base32_of, payload_digest};
+use http_wire::{Received, read_request};
+use std::alloc::Global;
+use time_text::LATEST;
+use uuid::Uuid;
+use warc_scan::{Group, GroupStep, InfoStep, next_group, next_info};
+use warc_text::{SameOf, group_text};
+
+/// The namespace of the records.
+const NAMESPACE: &str = "6ba7b810-9dad-11d1-80b4-00c04fd430c8";
+
+/// The capture that a revisit refers to: its target, and its date, 2024-01-31T12:00:00Z in milliseconds since 1970.
+const SAME_URI: &str = "http://a.test/x";
+
+const SAME_DATE: u64 = 1_706_702_400_000;
+
+/// A text that is scanned.
+#[derive(Clone, Copy, Debug)]
+struct Scanned<'a> {
+    bytes: &'a [u8],
+    /// Whether it is said that the file goes on behind them.
+    more: bool,
+    /// The number of the group, or of the volume.
+    number: u32,
+    /// How many bytes may be asked for at most.
+    most: u64,
+}
+
+/// `more` or `last`, a number, how many bytes may be asked for at most, and the text, each behind a space.
+fn scanned_in(text: &[u8]) -> Option<Scanned<'_>> {
+    let (word, rest) = split_word(text)?;
+    let (number, rest) = split_word(rest)?;
+    let (most, bytes) = split_word(rest)?;
+    Some(Scanned {
+        bytes,
+        more: word == "more",
+        number: number.parse::<u32>().ok()?,
+        most: most.parse::<u64>().ok()?,
+    })
+}
+
+/// What stands where a group may begin.
+pub fn group_step(alloc: Global, text: &[u8]) -> Result<Option<Vec<u8>>, Memory> {
+    let (Some(scanned), Ok(namespace)) = (scanned_in(text), Uuid::parse_str(NAMESPACE)) else {
+        return Ok(None);
+    };
+    let shown = match next_group(
+        alloc,
+        scanned.bytes,
+        scanned.more,
+        &namespace,
+        scanned.number,
+    ) {
+        GroupStep::Group(group) => group_shown(alloc, &group)?,
+        GroupStep::End => told(alloc, b"End")?,
+        GroupStep::Unfinished => told(alloc, b"Unfinished")?,
+        GroupStep::Damaged => told(alloc, b"Damaged")?,
+        GroupStep::Need(wanted) => need_shown(alloc, &scanned, wanted)?,
+        GroupStep::Memory => return Err(Memory),
+    };
+    Ok(Some(shown))
+}
+
+/// What stands where a volume may begin.
+pub fn info_step(alloc: Global, text: &[u8]) -> Result<Option<Vec<u8>>, Memory> {
+    let Some(scanned) = scanned_in(text) else {
+        return Ok(None);
+    };
+    let shown = match next_info(alloc, scanned.bytes, scanned.more, scanned.number) {
+        InfoStep::Info {
+            namespace,
+            born,
+            len,
+        } => info_shown(alloc, &namespace, born, len)?,
+        InfoStep::End => told(alloc, b"End")?,
+        InfoStep::Unfinished => told(alloc, b"Unfinished")?,
+        InfoStep::Damaged => told(alloc, b"Damaged")?,
+        InfoStep::Need(wanted) => need_shown(alloc, &scanned, wanted)?,
+        InfoStep::Memory => return Err(Memory),
+    };
+    Ok(Some(shown))
+}
+
+fn info_shown(alloc: Global, namespace: &Uuid, born: u64, len: u64) -> Result<Vec<u8>, Memory> {
+    let text = format!(in alloc; "warcinfo {namespace} {born} {len}")?;
+    told(alloc, text.as_bytes())
+}
+
+/// `Need`, where more bytes are asked for than there are and no more than may be; else with their number.
+fn need_shown(alloc: Global, scanned: &Scanned, wanted: u64) -> Result<Vec<u8>, Memory> {
+    let mut out = told(alloc, b"Need")?;
+    if wanted <= scanned.bytes.len() as u64 || wanted > scanned.most {
+        put_all(&mut out, b" ")?;
+        put_number(&mut out, wanted)?;
+    }
+    Ok(out)
+}
+
+/// The capture's parts, the places of its head and its body, and the lengths of its first record and of the group; and
+/// behind them what a revisit refers to.
+fn group_shown(alloc: Global, group: &Group) -> Result<Vec<u8>, Memory> {
+    let mut out = Vec::new(alloc);
+    put_parts(&mut out, group)?;
+    match &group.same {
+        Some(same) => {
+            let (id, uri, date) = (&same.id, same.uri.as_str(), same.date);
+            let text = format!(in alloc; " of {id} {uri} {date}")?;
+            put_all(&mut out, text.as_bytes())?;
+            Ok(out)
+        }
+        None => Ok(out),
+    }
+}
+
+fn put_parts(out: &mut Vec<u8>, group: &Group) -> Result<(), Memory> {
+    let stored = &group.stored;
+    put_number(out, u64::from(group.number))?;
+    put_all(out, b" ")?;
+    put_all(out, stored.method.as_slice())?;
+    put_all(out, b" ")?;
+    put_all(out, stored.uri.as_slice())?;
+    put_all(out, b" ")?;
+    put_number(out, stored.date)?;
+    put_all(out, b" ")?;
+    put_all(out, &base32_of(&group.digest))?;
+    put_all(out, kept_text(&stored.kept))?;
+    for value in [group.head_at, group.body_at, group.first_len, group.len] {
+        put_all(out, b" ")?;
+        put_number(out, value)?;
+    }
+    Ok(())
+}
+
+fn kept_text(kept: &Kept) -> &'static [u8] {
+    match kept {
+        Kept::Wire(_) => b" whole",
+        Kept::Cut(_) => b" cut",
+        Kept::Same(_) => b" same",
+    }
+}
+
+/// A capture whose group is composed.
+#[derive(Clone, Copy, Debug)]
+struct Asked<'a> {
+    number: u32,
+    date: u64,
+    /// The number of the capture that it is a revisit of.
+    same: Option<u32>,
+    uri: &'a str,
+    /// What the origin sends, up to its end.
+    stream: &'a [u8],
+}
+
+/// A number, a date in milliseconds, the number of another capture or `-`, a target, and the stream, each behind a space.
+fn asked_in(text: &[u8]) -> Option<Asked<'_>> {
+    let (number, rest) = split_word(text)?;
+    let (date, rest) = split_word(rest)?;
+    let (same, rest) = split_word(rest)?;
+    let (uri, stream) = split_word(rest)?;
+    Some(Asked {
+        number: number.parse::<u32>().ok()?,
+        date: number_in(date.as_bytes())?,
+        same: same.parse::<u32>().ok(),
+        uri,
+        stream,
+    })
+}
+
+/// The length and the digest of the group of a capture that was asked for by GET.
+pub fn group_of(alloc: Global, text: &[u8]) -> Result<Option<Vec<u8>>, Memory> {
+    let Some(asked) = asked_in(text) else {
+        return Ok(None);
+    };
+    let Ok(response) = received(alloc, false, asked.stream, asked.stream.len()) else {
+        return Ok(None);
+    };
+    let Ok(payload) = payload_of_response(alloc, &response) else {
+        return Ok(None);
+    };
+    let Some(request) = request_for(alloc, asked.uri)? else {
+        return Ok(None);
+    };
+    match taken_of(alloc, &asked, request, &response)? {
+        Some(taken) => composed(alloc, &asked, &taken, payload.as_slice()),
+        None => Ok(None),
+    }
+}
+
+/// What an origin is sent for a GET of the target. `None` where it isn't for an origin.
+fn request_for(alloc: Global, uri: &str) -> Result<Option<Bytes>, Memory> {
+    let text = format!(in alloc; "GET {uri} HTTP/1.1\r\n\r\n")?;
+    match read_request(alloc, text.as_bytes()) {
+        Ok(message) => forwarded_for(alloc, &message),
+        Err(_) => Ok(None),
+    }
+}
+
+/// `None` where the target isn't ASCII.
+fn taken_of(
+    alloc: Global,
+    asked: &Asked,
+    request: Bytes,
+    response: &Received,
+) -> Result<Option<Taken>, Memory> {
+    let Some(uri) = Text::of(told(alloc, asked.uri.as_bytes())?) else {
+        return Ok(None);
+    };
+    Ok(Some(Taken {
+        method: Text::from_str(alloc, "GET")?,
+        uri,
+        date: asked.date,
+        request,
+        head: response.head.text.copy()?,
+        wire: response.wire.copy()?,
+        cut: response.cut,
+    }))
+}
+
+/// The length and the digest of the group's text. `None` where a record can't have the date.
+fn composed(
+    alloc: Global,
+    asked: &Asked,
+    taken: &Taken,
+    payload: &[u8],
+) -> Result<Option<Vec<u8>>, Memory> {
+    let Ok(namespace) = Uuid::parse_str(NAMESPACE) else {
+        return Ok(None);
+    };
+    if taken.date > LATEST {
+        return Ok(None);
+    }
+    let digest = payload_digest(payload);
+    let text = match asked.same {
+        Some(number) => {
+            let same = SameOf {
+                number,
+                uri: Text::from_str(alloc, SAME_URI)?,
+                date: SAME_DATE,
+            };
+            group_text(alloc, &namespace, asked.number, taken, &digest, Some(&same))?
+        }
+        None => group_text(alloc, &namespace, asked.number, taken, &digest, None)?,
+    };
+    Ok(Some(length_and_digest(alloc, text.as_slice())?))
+}

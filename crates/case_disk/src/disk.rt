@@ -1,0 +1,47 @@
+//! The disk in memory that a case is played over.
+use capture::Failed;
+use disk_model::{Disk, Kind, MemoryDisk};
+use std::alloc::{AllocError, Global};
+
+/// What stands on a disk, and which of its calls are to fail.
+#[derive(Clone, Copy, Debug)]
+pub struct DiskSetting<'a> {
+    /// The volumes that stand on the disk.
+    pub volumes: &'a [Vec<u8>],
+    /// The numbers of the calls that are to fail, from 0.
+    pub fails: &'a [u64],
+    /// How many calls pass before each of them fails.
+    pub fuse: Option<u64>,
+}
+
+/// How many calls of the disk it takes to make a file that holds a text.
+const CALLS: u64 = 3;
+
+/// The disk on which the volumes stand, durably. Its calls are numbered from 0 behind that.
+pub fn disk_of(
+    alloc: Global,
+    setting: DiskSetting,
+) -> Result<Result<MemoryDisk, Failed>, AllocError> {
+    let made = CALLS.saturating_mul(setting.volumes.len() as u64);
+    let mut fails = Vec::new(alloc);
+    for number in setting.fails {
+        fails.push(number.saturating_add(made))?;
+    }
+    let mut disk = MemoryDisk::new(alloc, fails);
+    for text in setting.volumes {
+        if put_volume(&mut disk, text.as_slice()).is_err() {
+            return Ok(Err(Failed));
+        }
+    }
+    match setting.fuse {
+        Some(calls) => Ok(Ok(disk.fused(calls))),
+        None => Ok(Ok(disk)),
+    }
+}
+
+#[tactic(auto, using(crate::proofs::FileLaws::is_there, crate::proofs::FileLaws::still_there))]
+fn put_volume<D: Disk>(disk: &mut D, text: &[u8]) -> Result<(), Failed> {
+    let file = disk.create(Kind::Warc)?;
+    disk.write_at(Kind::Warc, file, 0, text)?;
+    disk.sync(Kind::Warc, file)
+}

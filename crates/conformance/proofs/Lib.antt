@@ -1,2 +1,0 @@
-mod FileLaws
-mod FramingLaws

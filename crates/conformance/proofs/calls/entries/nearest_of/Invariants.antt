@@ -1,4 +1,0 @@
-use Rattle.conformance.proofs.calls.entries.nearest_of.Given as goal
-
-abbrev pub ghosts-number_of_nearest : goal.ghosts-number_of_nearest
-ghosts-number_of_nearest a = record { name = a.blank.name; parts = a.blank.parts }
