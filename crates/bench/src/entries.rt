@@ -49,7 +49,7 @@ pub fn entry_of(alloc: Global, site: u32, number: u32) -> Result<Entry, Memory>
 }
 
 /// The text in memory of its own.
-fn text_of(alloc: Global, text: &str) -> Result<Text, Memory>
+pub fn text_of(alloc: Global, text: &str) -> Result<Text, Memory>
     ensures { IfOk result (λ copy. copy ≡ text.now) }
 {
     match Text::of(Vec::from_slice(alloc, text.as_bytes())?) {

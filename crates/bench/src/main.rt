@@ -4,6 +4,7 @@
 //! stands its ratio to a plain loop over the same bytes in the same run.
 #![tactic(auto)]
 
+mod archive;
 mod captures;
 mod digests;
 mod entries;
@@ -11,6 +12,7 @@ mod groups;
 mod heads;
 mod index;
 mod keys;
+mod load;
 mod measured;
 mod memory;
 mod pages;
@@ -27,6 +29,7 @@ fn main(rt: HostRuntime) -> Result<(), Stopped> {
     let mut words = env::args(&rt)?.skip(1);
     let word = words.next();
     match word.as_ref().map(String::as_str) {
+        Some("archive") => archive::measure(&rt, rt.alloc()),
         Some("digests") => digests::measure(&rt, rt.alloc()),
         Some("groups") => groups::measure(&rt, rt.alloc()),
         Some("heads") => heads::measure(&rt, rt.alloc()),
@@ -38,7 +41,7 @@ fn main(rt: HostRuntime) -> Result<(), Stopped> {
         Some("volumes") => volumes::measure(&rt, rt.alloc()),
         _ => {
             println!(rt;
-                "usage: bench TOPIC, which is digests, groups, heads, index, keys, pages, responses, tables or volumes"
+                "usage: bench TOPIC, which is archive, digests, groups, heads, index, keys, pages, responses, tables or volumes"
             )?;
             Ok(())
         }

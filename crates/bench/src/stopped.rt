@@ -4,10 +4,12 @@ use http_head::WireFault;
 use std::alloc::{AllocError, AllocFailed};
 use std::io;
 
-/// There was no memory, the system refused the clock or the output, or bytes were no message.
+/// There was no memory, the system refused the clock or the output, bytes were no message, or an archive answered otherwise than it
+/// does with ample memory.
 #[derive(Debug, Drop)]
 pub enum Stopped {
     Memory,
+    Archive,
     System(io::Error),
     Wire(WireFault),
 }

@@ -100,7 +100,7 @@ fn texts_of(alloc: Global, namespace: &Uuid, taken: &Taken) -> Result<Vec<u8>, M
 
 /// A journal over an empty disk.
 #[tactic(auto, unfolding(disk_model::specs::Image::files_of))]
-fn journal_of_nothing(alloc: Global) -> Journal<MemoryDisk>
+pub fn journal_of_nothing(alloc: Global) -> Journal<MemoryDisk>
     ensures volumes { volumes result ≡ 0 }
     ensures in_step { IsInStep ⟦<MemoryDisk as Disk>⟧ result }
 {
@@ -132,7 +132,11 @@ fn add_all<D: Disk>(
 }
 
 /// Begins a volume.
-fn begin<D: Disk>(alloc: Global, journal: &mut Journal<D>, namespace: &Uuid) -> Result<(), Stopped>
+pub fn begin<D: Disk>(
+    alloc: Global,
+    journal: &mut Journal<D>,
+    namespace: &Uuid,
+) -> Result<(), Stopped>
     requires volumes { volumes journal.old ≡ 0 }
     requires in_step { IsTrue D.tells → IsInStep D.Disk journal.old }
     ensures volumes { OnOk result (0 < volumes journal.new) }
@@ -150,7 +154,7 @@ fn begin<D: Disk>(alloc: Global, journal: &mut Journal<D>, namespace: &Uuid) -> 
 }
 
 /// Adds a group to the last volume.
-fn add<D: Disk>(
+pub fn add<D: Disk>(
     alloc: Global,
     journal: &mut Journal<D>,
     namespace: &Uuid,

@@ -1,0 +1,246 @@
+//! The archive over a disk in memory: captures stored through the session's call, one connection after another, and opened
+//! again.
+ghost use Rattle.std.specs.Prelude.{◌≡◌, ◌<◌, ◌≤◌, ◌^◌, All, IsTrue};
+ghost use Rattle.outside.specs.MemoryLink.{IsNew};
+ghost use Rattle.warc_journal.specs.Journals.{IsInStep, volumes};
+
+use crate::load;
+use crate::measured::Measured;
+use crate::memory::resident;
+use crate::stopped::Stopped;
+use crate::volumes::{add, begin, journal_of_nothing};
+use archive_core::Archive;
+use archive_shelf::{Counts, Depth};
+use capture::{Limits, Memory, Site, Text};
+use disk_model::{Disk, MemoryDisk};
+use outside::{MemoryClock, MemoryDialer, MemoryLink};
+use session::{Served, serve};
+use std::alloc::Global;
+use std::io::Print;
+use std::rt::{Clock, Files};
+use uuid::Uuid;
+use warc_journal::Journal;
+
+/// How many captures there are, and how many a connection stores.
+const CAPTURES: u32 = 20_000;
+
+const CONNECTION: u32 = 1_000;
+
+/// The length past which a volume takes no further capture, in bytes, and the same for short volumes.
+const VOLUME: u64 = 1_000_000;
+
+const SHORT_VOLUME: u64 = 160_000;
+
+pub fn measure<R: Clock + Files + Print>(rt: &R, alloc: Global) -> Result<(), Stopped> {
+    measure_memory(rt, alloc)?;
+    measure_archive(rt, alloc, CAPTURES, VOLUME)?;
+    measure_archive(rt, alloc, CAPTURES / 4, SHORT_VOLUME)?;
+    measure_archive(rt, alloc, CAPTURES / 2, SHORT_VOLUME)?;
+    measure_archive(rt, alloc, CAPTURES, SHORT_VOLUME)
+}
+
+/// Stores so many captures, and opens the archive again.
+fn measure_archive<R: Clock + Print>(
+    rt: &R,
+    alloc: Global,
+    captures: u32,
+    volume_bytes: u64,
+) -> Result<(), Stopped>
+    requires captures { captures ≤ 20000 }
+    requires volume { volume_bytes < 2 ^ 62 }
+{
+    let disk = stored(rt, alloc, captures, volume_bytes)?;
+    open_again(rt, alloc, disk, volume_bytes)
+}
+
+/// A disk on which so many captures were stored, of which it prints the time.
+fn stored<R: Clock + Print>(
+    rt: &R,
+    alloc: Global,
+    captures: u32,
+    volume_bytes: u64,
+) -> Result<MemoryDisk, Stopped>
+    requires captures { captures ≤ 20000 }
+    requires volume { volume_bytes < 2 ^ 62 }
+{
+    let disk = MemoryDisk::new(alloc, Vec::new(alloc));
+    let mut archive = opened(alloc, disk, volume_bytes)?;
+    let nanos = fill(rt, alloc, &mut archive, captures);
+    let counts = archive.counts();
+    let disk = archive.close();
+    print_counts(rt, "stored", &counts, nanos)?;
+    Ok(disk)
+}
+
+/// What an archive keeps of a capture. No other archive was made before, whose memory it could be given.
+fn measure_memory<R: Files + Print>(rt: &R, alloc: Global) -> Result<(), Stopped> {
+    let disk = with_captures(alloc, CAPTURES)?;
+    let before = resident(rt, alloc);
+    let archive = opened(alloc, disk, VOLUME)?;
+    let bytes = resident(rt, alloc).saturating_sub(before);
+    let counts = archive.counts();
+    let _disk = archive.close();
+    println!(rt;
+        "memory of a capture: {} bytes, {} of them",
+        bytes.checked_div(u64::from(counts.captures)).unwrap_or(0),
+        counts.captures
+    )?;
+    Ok(())
+}
+
+/// A disk with a volume of so many captures.
+fn with_captures(alloc: Global, captures: u32) -> Result<MemoryDisk, Stopped> {
+    let mut journal = journal_of_nothing(alloc);
+    add_captures(alloc, &mut journal, captures)?;
+    Ok(journal.into_disk())
+}
+
+/// Begins a volume, and adds so many captures to it.
+fn add_captures<D: Disk>(
+    alloc: Global,
+    journal: &mut Journal<D>,
+    captures: u32,
+) -> Result<(), Stopped>
+    requires volumes { volumes journal.old ≡ 0 }
+    requires in_step { IsTrue D.tells → IsInStep D.Disk journal.old }
+{
+    let namespace = Uuid::from_bytes([7; 16]);
+    begin(alloc, journal, &namespace)?;
+    'adding: for number in 0..captures {
+        let taken = load::taken(alloc, number)?;
+        add(alloc, journal, &namespace, number, &taken)?;
+    }
+    Ok(())
+}
+
+/// Opens an archive, and prints how long that took.
+fn open_again<R: Clock + Print>(
+    rt: &R,
+    alloc: Global,
+    disk: MemoryDisk,
+    volume_bytes: u64,
+) -> Result<(), Stopped>
+    requires volume { volume_bytes < 2 ^ 62 }
+{
+    let start = Measured::start(rt);
+    let archive = opened(alloc, disk, volume_bytes)?;
+    let nanos = nanos_of(rt, start);
+    let counts = archive.counts();
+    let _disk = archive.close();
+    print_counts(rt, "opened", &counts, nanos)
+}
+
+/// Stores so many captures, and gives the nanoseconds that this took.
+fn fill<R: Clock>(
+    rt: &R,
+    alloc: Global,
+    archive: &mut Archive<MemoryDisk>,
+    captures: u32,
+) -> Result<u64, Stopped>
+    requires captures { captures ≤ 20000 }
+{
+    let site = site(alloc)?;
+    let mut nanos = 0u64;
+    for connection in 0..captures / CONNECTION {
+        let taken = serve_one(rt, alloc, archive, &site, connection * CONNECTION)?;
+        nanos = nanos.saturating_add(taken);
+    }
+    Ok(nanos)
+}
+
+/// Stores the captures of one connection, from this number on, and gives the nanoseconds that this took.
+fn serve_one<R: Clock>(
+    rt: &R,
+    alloc: Global,
+    archive: &mut Archive<MemoryDisk>,
+    site: &Site,
+    from: u32,
+) -> Result<u64, Stopped>
+    requires from { from ≤ 20000 }
+{
+    let to = from + CONNECTION;
+    let client = load::client(alloc, from, to)?;
+    let origins = load::origins(alloc, from, to)?;
+    let times = load::times(alloc, from, to)?;
+    serve_timed(rt, alloc, archive, site, client, origins, times)
+}
+
+/// Serves one connection, and gives the nanoseconds that this took.
+fn serve_timed<R: Clock>(
+    rt: &R,
+    alloc: Global,
+    archive: &mut Archive<MemoryDisk>,
+    site: &Site,
+    client: Vec<u8>,
+    origins: Vec<MemoryLink>,
+    times: Vec<u64>,
+) -> Result<u64, Stopped>
+    requires origins { All IsNew origins.items }
+{
+    let mut client = MemoryLink::new(alloc, client, Vec::new(alloc));
+    let mut dialer = MemoryDialer::new(alloc, origins, Vec::new(alloc));
+    let mut clock = MemoryClock::new(times);
+    let start = Measured::start(rt);
+    let served = serve(alloc, archive, &mut client, &mut dialer, &mut clock, site);
+    nanos_if_done(rt, start, &served)
+}
+
+/// The nanoseconds that went by, where the connection was served to its end.
+fn nanos_if_done<R: Clock>(
+    rt: &R,
+    start: Result<Measured, Stopped>,
+    served: &Served,
+) -> Result<u64, Stopped> {
+    match served {
+        Served::Done => nanos_of(rt, start),
+        _ => Err(Stopped::Archive),
+    }
+}
+
+fn nanos_of<R: Clock>(rt: &R, start: Result<Measured, Stopped>) -> Result<u64, Stopped> {
+    start?.nanos(rt)
+}
+
+fn print_counts<R: Print>(
+    rt: &R,
+    done: &str,
+    counts: &Counts,
+    nanos: Result<u64, Stopped>,
+) -> Result<(), Stopped> {
+    println!(rt;
+        "{} captures {done}, {} of them revisits, in {} volumes: {} ms",
+        counts.captures,
+        counts.revisits,
+        counts.volumes,
+        nanos? / 1_000_000
+    )?;
+    Ok(())
+}
+
+/// The archive on a disk.
+fn opened(
+    alloc: Global,
+    disk: MemoryDisk,
+    volume_bytes: u64,
+) -> Result<Archive<MemoryDisk>, Stopped>
+    requires volume { volume_bytes < 2 ^ 62 }
+{
+    let limits = Limits {
+        volume_bytes,
+        captures: 1_000_000,
+    };
+    let namespace = Uuid::from_bytes([7; 16]);
+    match Archive::reopen(alloc, disk, Some(namespace), limits, Depth::Whole) {
+        Ok(archive) => Ok(archive),
+        Err(_) => Err(Stopped::Archive),
+    }
+}
+
+/// The archive's own site.
+fn site(alloc: Global) -> Result<Site, Memory> {
+    Ok(Site {
+        base: Text::from_str(alloc, "http://localhost:8080")?,
+        host: Text::from_str(alloc, "localhost")?,
+        port: 8080,
+    })
+}
