@@ -1,15 +1,15 @@
 //! A disk in memory one byte of which reads as another. It tells nothing of what it holds.
-ghost use Rattle.std.specs.Prelude.{◌≡◌, ◌<◌, ◌≤◌, false, length, OnOk};
+ghost use Rattle.std.specs.Prelude.{false};
 ghost use Rattle.std.proofs.lemmas.Bool.{false≢true};
 ghost use Rattle.capture.specs.Faults.{CountsFaults};
-ghost use Rattle.disk_model.specs.Device.{reading_of};
-ghost use Rattle.disk_model.specs.Image.{file_count, file_of, no_files};
+ghost use Rattle.disk_model.specs.Image.{no_files};
 
 use capture::Failed;
+use case_disk::reach;
 use disk_model::{Disk, Kind, MemoryDisk};
 
 /// Which byte of a volume's file reads as which.
-#[derive(Clone, Copy, Debug, PartialEq, Eq)]
+#[derive(Clone, Copy, Debug)]
 pub struct Change {
     pub file: u32,
     /// The place in the file, in bytes.
@@ -46,79 +46,6 @@ impl AlteredDisk {
         }
         answer
     }
-}
-
-fn has_file(disk: &mut MemoryDisk, kind: Kind, file: u32) -> Result<(), Failed>
-    ensures there { OnOk result (file < file_count (reading_of disk.new) kind) }
-    ensures reading { reading_of disk.new ≡ reading_of disk.old }
-{
-    match disk.files(kind) {
-        Ok(count) if file < count => Ok(()),
-        _ => Err(Failed),
-    }
-}
-
-fn has_range(disk: &mut MemoryDisk, kind: Kind, file: u32, end: u64) -> Result<(), Failed>
-    ensures there { OnOk result (file < file_count (reading_of disk.new) kind) }
-    ensures in_range { OnOk result (end ≤ length (file_of (reading_of disk.new) kind file)) }
-{
-    if has_file(disk, kind, file).is_err() {
-        return Err(Failed);
-    }
-    match disk.len(kind, file) {
-        Ok(len) if end <= len => Ok(()),
-        _ => Err(Failed),
-    }
-}
-
-fn try_len(disk: &mut MemoryDisk, kind: Kind, file: u32) -> Result<u64, Failed> {
-    if has_file(disk, kind, file).is_err() {
-        return Err(Failed);
-    }
-    disk.len(kind, file)
-}
-
-fn try_read(
-    disk: &mut MemoryDisk,
-    kind: Kind,
-    file: u32,
-    at: u64,
-    into: &mut [u8],
-) -> Result<(), Failed> {
-    let Some(end) = at.checked_add(into.len() as u64) else {
-        return Err(Failed);
-    };
-    if has_range(disk, kind, file, end).is_err() {
-        return Err(Failed);
-    }
-    disk.read(kind, file, at, into)
-}
-
-fn try_write_at(
-    disk: &mut MemoryDisk,
-    kind: Kind,
-    file: u32,
-    at: u64,
-    bytes: &[u8],
-) -> Result<(), Failed> {
-    if has_range(disk, kind, file, at).is_err() {
-        return Err(Failed);
-    }
-    disk.write_at(kind, file, at, bytes)
-}
-
-fn try_cut(disk: &mut MemoryDisk, kind: Kind, file: u32, len: u64) -> Result<(), Failed> {
-    if has_range(disk, kind, file, len).is_err() {
-        return Err(Failed);
-    }
-    disk.cut(kind, file, len)
-}
-
-fn try_sync(disk: &mut MemoryDisk, kind: Kind, file: u32) -> Result<(), Failed> {
-    if has_file(disk, kind, file).is_err() {
-        return Err(Failed);
-    }
-    disk.sync(kind, file)
 }
 
 /// Changes the byte at the place, where the bytes that were read from `at` on hold it.
@@ -165,12 +92,21 @@ impl Disk for AlteredDisk {
     }
 
     fn len(&mut self, kind: Kind, file: u32) -> Result<u64, Failed> {
-        let answer = try_len(&mut self.inner, kind, file);
+        if reach(&mut self.inner, kind, file, 0).is_err() {
+            return self.answer(Err(Failed));
+        }
+        let answer = self.inner.len(kind, file);
         self.answer(answer)
     }
 
     fn read(&mut self, kind: Kind, file: u32, at: u64, into: &mut [u8]) -> Result<(), Failed> {
-        let answer = try_read(&mut self.inner, kind, file, at, into);
+        let Some(end) = at.checked_add(into.len() as u64) else {
+            return self.answer(Err(Failed));
+        };
+        if reach(&mut self.inner, kind, file, end).is_err() {
+            return self.answer(Err(Failed));
+        }
+        let answer = self.inner.read(kind, file, at, into);
         if kind == Kind::Warc && file == self.change.file {
             alter(into, at, self.change);
         }
@@ -178,17 +114,26 @@ impl Disk for AlteredDisk {
     }
 
     fn write_at(&mut self, kind: Kind, file: u32, at: u64, bytes: &[u8]) -> Result<(), Failed> {
-        let answer = try_write_at(&mut self.inner, kind, file, at, bytes);
+        if reach(&mut self.inner, kind, file, at).is_err() {
+            return self.answer(Err(Failed));
+        }
+        let answer = self.inner.write_at(kind, file, at, bytes);
         self.answer(answer)
     }
 
     fn cut(&mut self, kind: Kind, file: u32, len: u64) -> Result<(), Failed> {
-        let answer = try_cut(&mut self.inner, kind, file, len);
+        if reach(&mut self.inner, kind, file, len).is_err() {
+            return self.answer(Err(Failed));
+        }
+        let answer = self.inner.cut(kind, file, len);
         self.answer(answer)
     }
 
     fn sync(&mut self, kind: Kind, file: u32) -> Result<(), Failed> {
-        let answer = try_sync(&mut self.inner, kind, file);
+        if reach(&mut self.inner, kind, file, 0).is_err() {
+            return self.answer(Err(Failed));
+        }
+        let answer = self.inner.sync(kind, file);
         self.answer(answer)
     }
 

@@ -1,13 +1,13 @@
 //! What is asked of an archive that is open.
 use crate::finding::{brought, entry_text, found_by_date, mapped, starting_with};
 use crate::opening::counts_text;
-use crate::step::Step;
 use crate::storing::{compared, rolled, stored};
 use crate::taking::{exchanged_in, prepared_of};
 use crate::words;
 use archive_core::Archive;
 use capture::Memory;
-use case_calls::number_in;
+use case_disk::Deed;
+use case_language::number_in;
 use disk_model::Disk;
 use std::alloc::Global;
 
@@ -15,7 +15,7 @@ use std::alloc::Global;
 pub fn told<D: Disk>(
     alloc: Global,
     archive: &mut Archive<D>,
-    step: &Step,
+    step: &Deed,
 ) -> Result<Option<Vec<u8>>, Memory> {
     let text = step.text.as_slice();
     match step.name {

@@ -9,11 +9,9 @@ mod held;
 mod looking;
 mod opening;
 mod play;
-mod step;
 mod storing;
 mod taking;
 mod words;
 
 pub use altered::Change;
 pub use play::{altered_outcome_of, outcome_of};
-pub use step::Step;

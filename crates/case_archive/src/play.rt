@@ -4,31 +4,27 @@ use crate::asking::told;
 use crate::held::Held;
 use crate::looking::{stored_after, timed_in};
 use crate::opening::{opened, opening_in};
-use crate::step::Step;
 use capture::Memory;
-use case_calls::number_in;
-use case_disk::Outcome;
+use case_disk::{Deed, Outcome};
+use case_language::number_in;
 use disk_model::{Disk, MemoryDisk};
 use std::alloc::Global;
 
 /// What is told where no archive is open.
 const CLOSED: &[u8] = b"closed";
 
-/// The line of a step in which the disk failed.
-const REFUSED: &[u8] = b"answer DiskFault";
-
 /// What each step tells, over a disk that can be stopped. A step `stop` without a number stops by this choice. `None` where a step is
 /// none, or the disk could not be stopped.
 pub fn outcome_of(
     alloc: Global,
     disk: MemoryDisk,
-    steps: &[Step],
+    steps: &[Deed],
     choice: u32,
 ) -> Result<Option<Outcome>, Memory> {
     let mut outcome = Outcome::new(alloc);
     let mut held = Held::Disk(disk);
     for step in steps {
-        if step.again && !is_refused(&outcome) {
+        if !step.is_due(&outcome) {
             continue;
         }
         held = match taken(alloc, &mut outcome, held, step, choice)? {
@@ -44,11 +40,14 @@ pub fn altered_outcome_of(
     alloc: Global,
     disk: MemoryDisk,
     change: Change,
-    steps: &[Step],
+    steps: &[Deed],
 ) -> Result<Option<Outcome>, Memory> {
     let mut outcome = Outcome::new(alloc);
     let mut held = Held::Disk(AlteredDisk::new(disk, change));
     for step in steps {
+        if !step.is_due(&outcome) {
+            continue;
+        }
         held = match done(alloc, &mut outcome, held, step)? {
             Some(held) => held,
             None => return Ok(None),
@@ -57,20 +56,12 @@ pub fn altered_outcome_of(
     Ok(Some(outcome))
 }
 
-/// Whether the disk failed in the last step.
-fn is_refused(outcome: &Outcome) -> bool {
-    match outcome.lines.last() {
-        Some(line) => line.as_slice() == REFUSED,
-        None => false,
-    }
-}
-
 /// Does a step over a disk that can be stopped. `None` where it is none.
 fn taken(
     alloc: Global,
     outcome: &mut Outcome,
     held: Held<MemoryDisk>,
-    step: &Step,
+    step: &Deed,
     choice: u32,
 ) -> Result<Option<Held<MemoryDisk>>, Memory> {
     match step.name {
@@ -139,7 +130,7 @@ fn done<D: Disk + Drop>(
     alloc: Global,
     outcome: &mut Outcome,
     held: Held<D>,
-    step: &Step,
+    step: &Deed,
 ) -> Result<Option<Held<D>>, Memory> {
     match step.name {
         "open" => match opening_in(step.text.as_slice()) {
@@ -154,7 +145,7 @@ fn asked<D: Disk + Drop>(
     alloc: Global,
     outcome: &mut Outcome,
     held: Held<D>,
-    step: &Step,
+    step: &Deed,
 ) -> Result<Option<Held<D>>, Memory> {
     match held {
         Held::Disk(disk) => closed(alloc, outcome, disk),

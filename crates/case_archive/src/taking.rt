@@ -9,7 +9,8 @@ ghost use Rattle.http_wire.specs.Messages.{IsRequest};
 ghost use Rattle.warc_text.specs.Fits.{Fits};
 
 use capture::{Bytes, Memory, Site, Taken, Text};
-use case_calls::{number_in, received, split_word};
+use case_language::{number_in, split_word};
+use case_messages::received;
 use exchange::{Aim, AimFault, Target, aim_of, forward_text, messages_can_be_stored};
 use http_wire::{Progress, Received, RequestMessage, RequestReader, WireFault};
 use message_body::{PayloadFault, payload_of, payload_of_cut};

@@ -3,10 +3,10 @@ ghost use Rattle.std.specs.Prelude.{IfOk};
 ghost use Rattle.capture.specs.Payload.{IsPayload};
 ghost use Rattle.exchange.specs.Fetches.{IsOneResponse};
 
-use crate::faults::fault_shown;
-use crate::wholes::received;
-use crate::words::{site_of, split_word, told};
 use capture::{Bytes, Memory, put_all, put_number};
+use case_language::split_word;
+use case_messages::{fault_shown, received};
+use case_texts::{site_of, told};
 use exchange::{Aim, AimFault, Target, aim_of, client_text, forward_text};
 use http_head::{RequestHead, read_request_head};
 use http_wire::{Received, RequestMessage, read_request};

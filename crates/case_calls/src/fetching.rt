@@ -1,8 +1,8 @@
 //! A response that is fetched from an origin for a client's request, as `exchange` does.
 use crate::exchanges::aimed_at;
-use crate::wholes::response_shown;
-use crate::words::told;
 use capture::Memory;
+use case_messages::response_shown;
+use case_texts::told;
 use exchange::{FetchFault, Target, Window, fetch, forward_text};
 use http_wire::{Received, RequestMessage, WireFault, read_request};
 use outside::Dialer;

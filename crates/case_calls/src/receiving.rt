@@ -1,8 +1,7 @@
 //! What is read of a client's requests, as `exchange` does.
-use crate::faults::fault_shown;
-use crate::wholes::request_shown;
-use crate::words::told;
 use capture::Memory;
+use case_messages::{fault_shown, request_shown};
+use case_texts::told;
 use exchange::{Came, Window, receive_request};
 use http_wire::RequestReader;
 use outside::Link;

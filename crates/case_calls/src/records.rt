@@ -1,15 +1,16 @@
-//! Calls of `warc_scan`, and of `warc_text` with a group.
+//! Calls of `warc_scan` and of `warc_text`.
 use crate::exchanges::{forwarded_for, payload_of_response};
-use crate::wholes::received;
-use crate::words::{length_and_digest, number_in, split_word, told};
 use capture::{Bytes, Kept, Memory, Taken, Text, put_all, put_number};
+use case_language::{number_in, split_word};
+use case_messages::received;
+use case_texts::{number, told};
 use digest32::{base32_of, payload_digest};
 use http_wire::{Received, read_request};
 use std::alloc::Global;
 use time_text::LATEST;
 use uuid::Uuid;
 use warc_scan::{Group, GroupStep, InfoStep, next_group, next_info};
-use warc_text::{SameOf, group_text};
+use warc_text::{SameOf, group_text, info_text};
 
 /// The namespace of the records.
 const NAMESPACE: &str = "6ba7b810-9dad-11d1-80b4-00c04fd430c8";
@@ -18,6 +19,34 @@ const NAMESPACE: &str = "6ba7b810-9dad-11d1-80b4-00c04fd430c8";
 const SAME_URI: &str = "http://a.test/x";
 
 const SAME_DATE: u64 = 1_706_702_400_000;
+
+/// The length of a text, and its SHA-1 in base32.
+fn length_and_digest(alloc: Global, text: &[u8]) -> Result<Vec<u8>, Memory> {
+    let mut out = number(alloc, text.len() as u64)?;
+    put_all(&mut out, b" ")?;
+    put_all(&mut out, &base32_of(&payload_digest(text)))?;
+    Ok(out)
+}
+
+/// The length and the digest of the warcinfo of a volume, which the text names by its number and its birth in
+/// milliseconds.
+pub fn info_of(alloc: Global, text: &[u8]) -> Result<Option<Vec<u8>>, Memory> {
+    let mut words = text.split(|byte| *byte == b' ');
+    let (Some(volume), Some(born)) = (words.next(), words.next()) else {
+        return Ok(None);
+    };
+    let (Some(volume), Some(born)) = (number_in(volume), number_in(born)) else {
+        return Ok(None);
+    };
+    let (Ok(volume), Ok(namespace)) = (u32::try_from(volume), Uuid::parse_str(NAMESPACE)) else {
+        return Ok(None);
+    };
+    if born > LATEST {
+        return Ok(None);
+    }
+    let info = info_text(alloc, &namespace, volume, born)?;
+    Ok(Some(length_and_digest(alloc, info.as_slice())?))
+}
 
 /// A text that is scanned.
 #[derive(Clone, Copy, Debug)]

@@ -1,6 +1,7 @@
 //! The texts that `exchange` has for requests without a response.
-use crate::words::{split_word, told};
 use capture::{Memory, Refusal};
+use case_language::split_word;
+use case_texts::told;
 use exchange::{memory_text, refusal_text};
 use std::alloc::Global;
 

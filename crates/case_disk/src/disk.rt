@@ -22,12 +22,7 @@ pub fn disk_of(
     alloc: Global,
     setting: DiskSetting,
 ) -> Result<Result<MemoryDisk, Failed>, AllocError> {
-    let made = CALLS.saturating_mul(setting.volumes.len() as u64);
-    let mut fails = Vec::new(alloc);
-    for number in setting.fails {
-        fails.push(number.saturating_add(made))?;
-    }
-    let mut disk = MemoryDisk::new(alloc, fails);
+    let mut disk = MemoryDisk::new(alloc, behind_volumes(alloc, setting)?);
     for text in setting.volumes {
         if put_volume(&mut disk, text.as_slice()).is_err() {
             return Ok(Err(Failed));
@@ -37,6 +32,16 @@ pub fn disk_of(
         Some(calls) => Ok(Ok(disk.fused(calls))),
         None => Ok(Ok(disk)),
     }
+}
+
+/// The numbers of the calls that are to fail, counted from the first by which the volumes are put.
+pub fn behind_volumes(alloc: Global, setting: DiskSetting) -> Result<Vec<u64>, AllocError> {
+    let made = CALLS.saturating_mul(setting.volumes.len() as u64);
+    let mut fails = Vec::new(alloc);
+    for number in setting.fails {
+        fails.push(number.saturating_add(made))?;
+    }
+    Ok(fails)
 }
 
 #[tactic(auto, using(crate::proofs::FileLaws::is_there, crate::proofs::FileLaws::still_there))]

@@ -1,11 +1,20 @@
-//! Cases over a disk in memory: the volumes that stand on it, steps of their journal, what an opening finds, and what the
-//! files hold.
+//! Cases over a disk in memory: its calls, the volumes that stand on it, steps of their journal, what an opening finds, and what
+//! the files hold.
 #![tactic(auto)]
 
+mod call;
+mod calls;
+mod deed;
 mod disk;
 mod opening;
 mod outcome;
+mod reaching;
+mod told;
+mod witnessed;
 
+pub use calls::outcome_of_calls;
+pub use deed::Deed;
 pub use disk::{DiskSetting, disk_of};
 pub use opening::{Step, Work, files_behind, outcome_of};
 pub use outcome::Outcome;
+pub use reaching::{Absent, reach};

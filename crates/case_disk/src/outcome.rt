@@ -7,6 +7,18 @@ use digest32::{base32_of, payload_digest};
 use disk_model::{Disk, Kind, MemoryDisk};
 use std::alloc::Global;
 
+/// The line of a step in which the disk failed.
+const REFUSED: &[u8] = b"answer DiskFault";
+
+/// What is put of a file.
+#[derive(Clone, Copy)]
+enum Part {
+    /// Its length and its digest.
+    Digest,
+    /// Its bytes.
+    Text,
+}
+
 /// The lines of an outcome, in the order in which they are put.
 #[derive(Debug, Drop)]
 pub struct Outcome {
@@ -39,8 +51,22 @@ impl Outcome {
 
     /// `volume LENGTH DIGEST` or `checkpoint LENGTH DIGEST` for each file of the disk; `disk failed` where a call does.
     pub fn put_files(&mut self, alloc: Global, disk: &mut MemoryDisk) -> Result<(), Memory> {
-        self.put_kind(alloc, disk, b"volume ", Kind::Warc)?;
-        self.put_kind(alloc, disk, b"checkpoint ", Kind::Cdxj)
+        self.put_kind(alloc, disk, b"volume ", Kind::Warc, Part::Digest)?;
+        self.put_kind(alloc, disk, b"checkpoint ", Kind::Cdxj, Part::Digest)
+    }
+
+    /// `warc TEXT` or `cdxj TEXT` for each file of the disk; `disk failed` where a call does.
+    pub fn put_texts(&mut self, alloc: Global, disk: &mut MemoryDisk) -> Result<(), Memory> {
+        self.put_kind(alloc, disk, b"warc ", Kind::Warc, Part::Text)?;
+        self.put_kind(alloc, disk, b"cdxj ", Kind::Cdxj, Part::Text)
+    }
+
+    /// Whether the disk failed in the last step.
+    pub fn is_refused(&self) -> bool {
+        match self.lines.last() {
+            Some(line) => line.as_slice() == REFUSED,
+            None => false,
+        }
     }
 
     fn put_kind(
@@ -49,20 +75,34 @@ impl Outcome {
         disk: &mut MemoryDisk,
         name: &[u8],
         kind: Kind,
+        part: Part,
     ) -> Result<(), Memory> {
         let Ok(count) = disk.files(kind) else {
             return self.put_failed(alloc);
         };
         for file in 0..count {
             match contents(alloc, disk, kind, file)? {
-                Ok(text) => self.put_file(alloc, name, text.as_slice())?,
+                Ok(text) => self.put_file(alloc, name, text.as_slice(), part)?,
                 Err(Failed) => return self.put_failed(alloc),
             }
         }
         Ok(())
     }
 
-    fn put_file(&mut self, alloc: Global, name: &[u8], text: &[u8]) -> Result<(), Memory> {
+    fn put_file(
+        &mut self,
+        alloc: Global,
+        name: &[u8],
+        text: &[u8],
+        part: Part,
+    ) -> Result<(), Memory> {
+        match part {
+            Part::Digest => self.put_digest(alloc, name, text),
+            Part::Text => self.put(alloc, name, text),
+        }
+    }
+
+    fn put_digest(&mut self, alloc: Global, name: &[u8], text: &[u8]) -> Result<(), Memory> {
         let mut line = Vec::from_slice(alloc, name)?;
         put_number(&mut line, text.len() as u64)?;
         put_all(&mut line, b" ")?;

@@ -1,8 +1,6 @@
 //! The objects in memory that a case is played over.
-ghost use Rattle.std.specs.Prelude.{◌≡◌, IfOk, All, length};
-ghost use Rattle.outside.specs.MemoryLink.{IsNew};
-
 use crate::setting::Setting;
+use case_objects::links_of;
 use outside::{MemoryClock, MemoryDialer, MemoryGate, MemoryLink, MemorySink};
 use proxy_run::{CREW, Crew};
 use std::alloc::{AllocError, Global};
@@ -21,29 +19,6 @@ pub fn objects_of(alloc: Global, setting: &Setting) -> Result<Objects, AllocErro
     let crew = crew_of(alloc, setting)?;
     let out = MemorySink::new(alloc, setting.fails.sink.clone()?);
     Ok(Objects { gate, crew, out })
-}
-
-/// A link for each text, of which it gives a front of so many bytes at most; a call moves so many at most.
-fn links_of(
-    alloc: Global,
-    texts: &[Vec<u8>],
-    front: usize,
-    most: usize,
-    fails: &[u64],
-) -> Result<Vec<MemoryLink>, AllocError>
-    ensures { IfOk result (λ links. All IsNew links.items) }
-{
-    let mut links = Vec::new(alloc);
-    for text in texts {
-        let (given, _) = text.as_slice().split_at(text.len().min(front));
-        links.push(MemoryLink::in_pieces(
-            alloc,
-            given.to_vec(alloc)?,
-            most.max(1),
-            fails.to_vec(alloc)?,
-        ))?;
-    }
-    Ok(links)
 }
 
 /// The gate that gives the case's clients.

@@ -6,9 +6,10 @@ use crate::script::Script;
 use crate::setting::{Played, Setting};
 use capture::{Failed, Memory};
 use case_archive::Change;
-use case_calls::{Call, answer, fetched, received_requests};
-use case_disk::{Outcome, disk_of};
+use case_calls::{fetched, received_requests};
+use case_disk::{Outcome, disk_of, outcome_of_calls};
 use case_language::{Case, CaseFile, Line, NamedText, Names, difference, plays_of};
+use case_texts::Call;
 use std::alloc::Global;
 use std::io::Print;
 use std::sync::Wait;
@@ -158,6 +159,7 @@ fn outcome_of_one(alloc: Global, setting: &Setting, turn: u32) -> Result<Option<
         Played::Altered(change) => stored_altered(alloc, setting, *change),
         Played::Opening(skip) => opened(alloc, setting, stop, *skip),
         Played::Files => worked(alloc, setting, stop),
+        Played::Disk => outcome_of_calls(alloc, setting.disk(), setting.deeds.as_slice(), stop),
     }
 }
 
@@ -232,11 +234,29 @@ fn requests_of(alloc: Global, setting: &Setting) -> Result<Option<Outcome>, Memo
     Ok(Some(outcome))
 }
 
+/// What a call answers.
 fn answered(alloc: Global, call: &Call) -> Result<Option<Outcome>, Memory> {
-    let Some(text) = answer(alloc, call)? else {
+    let Some(text) = answer_to(alloc, call)? else {
         return Ok(None);
     };
     let mut outcome = Outcome::new(alloc);
     outcome.put_answer(alloc, text.as_slice())?;
     Ok(Some(outcome))
+}
+
+/// The answer of the crate that has a call of this name.
+fn answer_to(alloc: Global, call: &Call) -> Result<Option<Vec<u8>>, Memory> {
+    if let Some(text) = case_texts::answer(alloc, call)? {
+        return Ok(Some(text));
+    }
+    if let Some(text) = case_tables::answer(alloc, call)? {
+        return Ok(Some(text));
+    }
+    if let Some(text) = case_messages::answer(alloc, call)? {
+        return Ok(Some(text));
+    }
+    if let Some(text) = case_calls::answer(alloc, call)? {
+        return Ok(Some(text));
+    }
+    case_objects::answer(alloc, call)
 }

@@ -1,8 +1,8 @@
 //! What a case gives to the program.
-use case_archive::{Change, Step as Deed};
-use case_calls::Call;
-use case_disk::{DiskSetting, Step, Work};
+use case_archive::Change;
+use case_disk::{Deed, DiskSetting, Step, Work};
 use case_language::{Line, Names, decode, number_of, numbers_of};
+use case_texts::Call;
 use disk_model::MemoryDisk;
 use std::alloc::{AllocError, Global};
 
@@ -31,6 +31,8 @@ pub enum Played<'a> {
     Archive,
     /// The steps of an archive over a disk that gives another byte in one place.
     Altered(Change),
+    /// Calls of the disk.
+    Disk,
 }
 
 /// The numbers of the calls that are to fail, of each object.
@@ -85,7 +87,7 @@ pub struct Setting<'a> {
     pub volumes: Vec<Vec<u8>>,
     /// What is done to the journal of the volumes before they are opened again.
     pub steps: Vec<Step>,
-    /// What is done with an archive.
+    /// What is done with an archive, or with the disk.
     pub deeds: Vec<Deed<'a>>,
     /// What the stop behind all that chooses: what reads give, where a case says nothing.
     pub stops: Stops,
@@ -205,6 +207,10 @@ impl<'a> Setting<'a> {
                 self.played = Played::Archive;
                 Ok(true)
             }
+            "disk" => {
+                self.played = Played::Disk;
+                Ok(true)
+            }
             "altered" => self.take_change(alloc, line.rest, names.k),
             "do" => self.take_deed(alloc, Line::of(line.rest), names, false),
             _ => self.take_step(alloc, line, names),
@@ -259,7 +265,7 @@ impl<'a> Setting<'a> {
         }
     }
 
-    /// Takes a step of an archive.
+    /// Takes a step of an archive or of the disk.
     fn take_deed(
         &mut self,
         alloc: Global,

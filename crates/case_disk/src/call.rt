@@ -1,0 +1,95 @@
+//! A call of a disk, as a step of a case names it.
+use case_language::{number_in, split_front};
+use disk_model::Kind;
+
+/// A call of a disk and what it is given, or what is done with the disk between two calls.
+#[derive(Clone, Copy)]
+pub enum Call<'a> {
+    Files(Kind),
+    Create(Kind),
+    /// A file is made, written and synced.
+    Put(Kind, &'a [u8]),
+    Len(Kind, u32),
+    Sync(Kind, u32),
+    Cut(Kind, u32, u64),
+    /// So many bytes from a place on.
+    Read(Kind, u32, u64, u64),
+    Write(Kind, u32, u64, &'a [u8]),
+    /// Each byte is written by a call of its own.
+    WriteEach(Kind, u32, u64, &'a [u8]),
+    /// The counts of the disk are told.
+    Counts,
+    /// So many further calls pass, and each behind them fails.
+    Fuse(u64),
+    /// The disk stops by a choice, or by the case's own.
+    Stop(Option<u32>),
+}
+
+impl<'a> Call<'a> {
+    /// The call of that name. `None` where there is none, or it isn't given what it takes.
+    pub fn of(name: &str, text: &'a [u8]) -> Option<Call<'a>> {
+        match name {
+            "files" => Some(Call::Files(kind_in(text)?)),
+            "create" => Some(Call::Create(kind_in(text)?)),
+            "counts" => Some(Call::Counts),
+            "fuse" => Some(Call::Fuse(number_in(text)?)),
+            "stop" => stop_in(text),
+            _ => call_of_file(name, text),
+        }
+    }
+}
+
+/// A call of a file, or a file that is put.
+fn call_of_file<'a>(name: &str, text: &'a [u8]) -> Option<Call<'a>> {
+    let (kind, rest) = split_front(text)?;
+    let kind = kind_in(kind)?;
+    match name {
+        "put" => Some(Call::Put(kind, rest)),
+        "len" => Some(Call::Len(kind, small_in(rest)?)),
+        "sync" => Some(Call::Sync(kind, small_in(rest)?)),
+        _ => call_at(name, kind, rest),
+    }
+}
+
+/// A call of a place in a file.
+fn call_at<'a>(name: &str, kind: Kind, text: &'a [u8]) -> Option<Call<'a>> {
+    let (file, rest) = split_front(text)?;
+    let file = small_in(file)?;
+    if name == "cut" {
+        return Some(Call::Cut(kind, file, number_in(rest)?));
+    }
+    let (at, rest) = split_front(rest)?;
+    let at = number_in(at)?;
+    match name {
+        "read" => Some(Call::Read(kind, file, at, number_in(rest)?)),
+        "write" => Some(Call::Write(kind, file, at, rest)),
+        "write-each" => Some(Call::WriteEach(kind, file, at, rest)),
+        _ => None,
+    }
+}
+
+fn stop_in<'a>(text: &[u8]) -> Option<Call<'a>> {
+    if text.is_empty() {
+        return Some(Call::Stop(None));
+    }
+    Some(Call::Stop(Some(small_in(text)?)))
+}
+
+const WARC: &[u8] = b"warc";
+
+const CDXJ: &[u8] = b"cdxj";
+
+fn kind_in(text: &[u8]) -> Option<Kind> {
+    if text == WARC {
+        return Some(Kind::Warc);
+    }
+    if text == CDXJ {
+        return Some(Kind::Cdxj);
+    }
+    None
+}
+
+/// A number below 2^32.
+fn small_in(text: &[u8]) -> Option<u32> {
+    u32::try_from(number_in(text)?).ok()
+}

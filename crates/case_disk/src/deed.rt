@@ -1,0 +1,18 @@
+//! A step of a case, by its name.
+use crate::outcome::Outcome;
+
+/// What is done with an archive or with a disk, by its name, and the text that it is given.
+#[derive(Debug, Drop)]
+pub struct Deed<'a> {
+    pub name: &'a str,
+    pub text: Vec<u8>,
+    /// Whether it is done only where the disk failed in the step before it.
+    pub again: bool,
+}
+
+impl<'a> Deed<'a> {
+    /// Whether it is to be done behind the steps that told this.
+    pub fn is_due(&self, outcome: &Outcome) -> bool {
+        !self.again || outcome.is_refused()
+    }
+}

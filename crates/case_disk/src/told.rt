@@ -1,0 +1,40 @@
+//! What a step of a disk tells.
+use crate::outcome::Outcome;
+use crate::reaching::Absent;
+use capture::{Memory, put_number};
+use std::alloc::Global;
+
+/// What a call of a disk answers, or why it wasn't made.
+#[derive(Drop)]
+pub enum Told {
+    Done,
+    Number(u64),
+    Bytes(Vec<u8>),
+    /// The call failed.
+    DiskFault,
+    /// The call wasn't made, since the file or the range isn't there.
+    Absent(Absent),
+    /// The step is no call.
+    Nothing,
+}
+
+impl Told {
+    /// Puts a line `answer` that says it.
+    pub fn put(&self, alloc: Global, outcome: &mut Outcome) -> Result<(), Memory> {
+        match self {
+            Told::Done => outcome.put_answer(alloc, b"done"),
+            Told::Number(number) => put_count(alloc, outcome, *number),
+            Told::Bytes(bytes) => outcome.put_answer(alloc, bytes.as_slice()),
+            Told::DiskFault => outcome.put_answer(alloc, b"DiskFault"),
+            Told::Absent(Absent::File) => outcome.put_answer(alloc, b"NoFile"),
+            Told::Absent(Absent::Range) => outcome.put_answer(alloc, b"NoRange"),
+            Told::Nothing => Ok(()),
+        }
+    }
+}
+
+fn put_count(alloc: Global, outcome: &mut Outcome, number: u64) -> Result<(), Memory> {
+    let mut digits = Vec::new(alloc);
+    put_number(&mut digits, number)?;
+    outcome.put_answer(alloc, digits.as_slice())
+}

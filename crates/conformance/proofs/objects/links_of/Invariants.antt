@@ -1,6 +1,0 @@
-use Rattle.std.specs.Prelude.{All}
-use Rattle.outside.specs.MemoryLink.{IsNew}
-use Rattle.conformance.proofs.objects.links_of.Given as goal
-
-abbrev pub invariant-loop-text : goal.invariant-loop-text
-invariant-loop-text l = All IsNew l.links.items
