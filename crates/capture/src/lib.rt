@@ -14,8 +14,6 @@ mod put;
 mod refusal;
 mod site;
 mod target;
-#[cfg(test)]
-mod tests;
 mod text;
 
 pub use book::{Book, Volume};

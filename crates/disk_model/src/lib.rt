@@ -8,12 +8,8 @@ mod file;
 mod kind;
 mod laws;
 mod memory_disk;
-#[cfg(test)]
-mod silent_disk;
 mod stop;
 mod synced;
-#[cfg(test)]
-mod tests;
 
 pub use change::Change;
 pub use disk::Disk;

@@ -1,3 +1,5 @@
+//! Appends over a disk whose failed calls act in part, and which counts what it is asked. No case can say it: the disk of a case
+//! does a call whole or not at all.
 ghost use Rattle.std.specs.Prelude.{◌≡◌};
 
 use crate::GatedFile;

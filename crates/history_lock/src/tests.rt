@@ -1,3 +1,4 @@
+//! A lock in eight threads, and the numbers of its passes. No case can say it: a case has one thread, and passes have no text.
 ghost use Rattle.std.specs.Prelude.{◌≡◌, ◌≤◌, [], ◌∷◌, IfOk, MatchBool};
 ghost use Rattle.std.specs.List.{All};
 

@@ -26,6 +26,7 @@ mod tests {
         )
     }
 
+    // No case can say it: a case has no enum of its own.
     #[test]
     fn gives_the_row_of_a_variant(rt: HostRuntime) {
         assert_eq!(rt; status(&Fault::Closed), (502, "Bad Gateway"));

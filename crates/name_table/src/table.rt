@@ -61,6 +61,7 @@ fn compare_lowered(row: &str, name: &[u8]) -> Ordering
 mod tests {
     use super::*;
 
+    // No case reaches it: every table of the program has more rows.
     #[test]
     fn searches_a_table_of_one_row(rt: HostRuntime) {
         let table = NameTable::<1>::new(["a href"]);

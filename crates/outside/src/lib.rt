@@ -18,8 +18,6 @@ mod memory_sink;
 mod records;
 mod sink;
 mod source;
-#[cfg(test)]
-mod tests;
 
 pub use capture::Failed;
 pub use clock::Clock;

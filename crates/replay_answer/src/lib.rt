@@ -7,7 +7,5 @@ mod fields;
 mod lines;
 mod names;
 mod replay;
-#[cfg(test)]
-mod tests;
 
 pub use answer::memento;

@@ -9,8 +9,6 @@ mod link;
 mod number;
 mod put;
 mod read;
-#[cfg(test)]
-mod tests;
 mod url;
 
 pub use fault::FormFault;

@@ -3,7 +3,5 @@
 
 mod digests;
 mod lists;
-#[cfg(test)]
-mod tests;
 
 pub use digests::Digests;

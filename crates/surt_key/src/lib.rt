@@ -7,8 +7,6 @@ mod host_labels;
 mod key;
 mod laws;
 mod pieces;
-#[cfg(test)]
-mod tests;
 mod url_key;
 
 pub use fault::KeyFault;

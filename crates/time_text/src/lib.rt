@@ -14,8 +14,6 @@ mod digits;
 mod http;
 mod laws;
 mod parts;
-#[cfg(test)]
-mod tests;
 mod warc;
 
 pub use digits::{TimeText, ends_with_a_unit, read_time, write_digits, write_time};

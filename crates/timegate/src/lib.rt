@@ -3,7 +3,5 @@
 
 mod answer;
 mod lines;
-#[cfg(test)]
-mod tests;
 
 pub use answer::redirect;

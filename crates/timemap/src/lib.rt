@@ -5,8 +5,6 @@ mod dates;
 mod law;
 mod list;
 mod mementos;
-#[cfg(test)]
-mod tests;
 
 pub use law::entries_of_a_key_are_in_order;
 pub use list::body;

@@ -1,10 +1,7 @@
-//! What stops leave over a disk whose failed calls act in part.
-ghost use Rattle.std.specs.Prelude.{◌≡◌, ◌<◌, IsTrue, OnOk};
-ghost use Rattle.warc_journal.specs.Journals.{IsInStep, volumes};
-
+//! What stops leave over a disk whose failed calls act in part. No case can say it: the disk of a case does a call whole or not
+//! at all.
 use crate::partial_disk::PartialDisk;
-use crate::{Extent, Further, Journal, Place};
-use disk_model::{Disk, MemoryDisk};
+use crate::{Extent, Further, Journal};
 use std::alloc::{AllocError, Global};
 use std::test::Fail;
 
@@ -209,63 +206,5 @@ fn each_failing_call_keeps_the_texts(rt: HostRuntime) -> Result<(), Fail> {
             }
         }
     }
-    Ok(())
-}
-
-/// A journal over an empty disk.
-#[tactic(auto, unfolding(disk_model::specs::Image::files_of))]
-fn journal_of_nothing(alloc: Global) -> Journal<MemoryDisk>
-    ensures volumes { volumes result ≡ 0 }
-    ensures in_step { IsInStep ⟦<MemoryDisk as Disk>⟧ result }
-{
-    let nothing = Extent {
-        volumes: 0,
-        end: 0,
-        is_dirty: false,
-        further: Further::Absent,
-    };
-    Journal::over(MemoryDisk::new(alloc, Vec::new(alloc)), nothing)
-}
-
-/// Begins a volume and adds two texts, a long one first. It answers the place of the second.
-fn write<D: Disk>(alloc: Global, journal: &mut Journal<D>) -> Result<Place, Fail>
-    requires volumes { volumes journal.old ≡ 0 }
-    requires in_step { IsTrue D.tells → IsInStep D.Disk journal.old }
-    ensures volumes { OnOk result (volumes journal.new ≡ 1) }
-    ensures in_step { IsTrue D.tells → IsInStep D.Disk journal.new }
-{
-    let mut text = vec![in alloc; 0; 200_000]?;
-    text[0] = b'W';
-    journal.roll(b"Winfo").ok().ok_or("roll")?;
-    journal.append(text.as_slice()).ok().ok_or("append")?;
-    let place = journal.append(b"Wab").ok().ok_or("append again")?;
-    Ok(place)
-}
-
-/// The length of the first volume's file, and its last three bytes.
-fn read_end<D: Disk>(journal: &mut Journal<D>) -> Result<(u64, [u8; 3]), Fail>
-    requires volumes { 0 < volumes journal.old }
-    requires in_step { IsTrue D.tells → IsInStep D.Disk journal.old }
-{
-    let len = journal.len(0).ok().ok_or("len")?;
-    let mut bytes = [0u8; 3];
-    if len >= 3 {
-        journal.read(0, len - 3, &mut bytes).ok().ok_or("read")?;
-    }
-    Ok((len, bytes))
-}
-
-#[test]
-fn volumes_are_written_and_read(rt: HostRuntime) -> Result<(), Fail> {
-    let alloc = rt.alloc();
-    let mut journal = journal_of_nothing(alloc);
-    let place = write(alloc, &mut journal)?;
-    let end = read_end(&mut journal)?;
-    let expected = Place {
-        volume: 0,
-        at: 200_005,
-        len: 3,
-    };
-    assert_eq!(rt; (place, end), (expected, (200_008, *b"Wab")));
     Ok(())
 }

@@ -15,8 +15,6 @@ mod lengths;
 mod lines;
 mod put;
 mod same_of;
-#[cfg(test)]
-mod tests;
 
 pub use group::{group_len, group_text, put_group};
 pub use id::{IdKind, id_of};
