@@ -99,8 +99,8 @@ fn after_authority(target: &[u8]) -> &[u8]
     path
 }
 
-/// The host's text, an IPv6 address in brackets.
-fn host_of(url: &Url) -> &str
+/// The host that is dialed for a URL, an IPv6 address in brackets. It is empty where the URL has none.
+pub fn host_of(url: &Url) -> &str
     ensures { result.now ≡ target_spec.host_of url.now }
 {
     match url.host_str() {

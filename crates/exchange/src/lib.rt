@@ -18,7 +18,7 @@ mod refusal;
 mod window;
 
 pub use aim::{Aim, AimFault, HTTP_PORT, Target};
-pub use aiming::aim_of;
+pub use aiming::{aim_of, host_of};
 pub use answer::client_text;
 pub use fetching::{FetchFault, fetch};
 pub use filter::is_content_length;

@@ -1,6 +1,7 @@
 mod CompleteLaws
 mod ConnectionLaws
 mod FileNames
+mod HostTexts
 mod NextLaws
 mod OpeningLaws
 mod PipeLaws

@@ -1,7 +1,6 @@
 //! The words of the command line.
-ghost use Rattle.std.specs.Prelude.{◌≡◌, List, ℕ, option_copied, slice_index_or, IfOk, IfSome};
-ghost use Rattle.std.specs.Borrow.{Bor};
-ghost use Rattle.proxy_run.specs.Base.{IsSiteOf};
+ghost use Rattle.std.specs.Prelude.{◌≡◌, IfOk, IfSome};
+ghost use Rattle.proxy_run.specs.Base.{IsSiteAmong};
 ghost use Rattle.proxy_run.specs.Words as spec;
 ghost use Rattle.proxy_run.specs.Words.{texts};
 ghost use Rattle.warc_text.specs.Ids.{IsUuid};
@@ -77,9 +76,9 @@ pub fn is_pipe(words: &[&str]) -> bool
     }
 }
 
-/// The site that a server has clients come to: that of the third word, where it is a base.
+/// The site that a server has clients come to: that of the third word, where there is one and it is a base.
 pub fn site_of(alloc: Global, words: &[&str]) -> Result<Option<Site>, Memory>
-    ensures { IfOk result (λ found. IfSome found (λ site. (d : Bor (List ℕ)) → IsSiteOf (slice_index_or words.now 2 d).now site)) }
+    ensures { IfOk result (IsSiteAmong (texts words.now)) }
 {
     match words.get(2) {
         Some(base) => site_of_base(alloc, base),
