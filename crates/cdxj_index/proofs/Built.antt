@@ -1,9 +1,8 @@
 -- The maps of an index, as they are made of groups and of numbered entries.
-use Rattle.std.proofs.Common.{◌≡◌, ℕ, suc, Bool, true, false, List, [], ◌∷◌, ◌++◌, ◌⊎◌, inl, inr, cond, length, Option, None, Some, refl, sym, ap, append_assoc, ◌∙◌, subst}
-use Rattle.std.specs.Prelude.{Contains, map, option_map}
+use Rattle.std.proofs.Common.{◌≡◌, ℕ, suc, ◌+◌, Bool, true, false, List, [], ◌∷◌, ◌++◌, ◌⊎◌, inl, inr, cond, length, Option, None, Some, refl, sym, ap, append_assoc, drop, ◌∙◌, subst}
+use Rattle.std.specs.Prelude.{Contains, map, option_map, slice_get}
 use Rattle.std.specs.declared.cmp.Ordering.{Ordering}
 use Rattle.std.specs.declared.cmp.Ordering.TheVariants.{Less}
-use Rattle.std.specs.Arc.{arc_value}
 use Rattle.std.specs.BTreeMap.{BTreeMap, IsFromIterResult, is_at}
 use Rattle.std.specs.Cmp.{IsEquivalence, IsTotalOrder}
 use Rattle.std.specs.Cmp.Lexicographic.{slice_cmp}
@@ -14,14 +13,16 @@ use Rattle.std.specs.Map.{keys_of, lookup}
 use Rattle.std.specs.Ordering.{eq_by_cmp, is_eq, nat_cmp}
 use Rattle.std.proofs.lemmas.Cmp.{eq_by_cmp_equiv, nat_cmp_total, nat_list_cmp_total, on_total, tied_itself}
 use Rattle.std.proofs.lemmas.Iterator.{YieldsList, items_from_drains}
+use Rattle.std.proofs.lemmas.List.{drop_more}
 use Rattle.std.proofs.lemmas.List.Sorted.{Contains-permutation, IsPermutation-map, IsPermutation-sym}
 use Rattle.std.proofs.lemmas.Map.Keys.{IsDistinct-IsPermutation, IsDistinct-from_sorted}
 use Rattle.std.proofs.lemmas.Map.Lookups.{CmpEqualImpliesEq, exact_bytes}
 use Rattle.std.proofs.lemmas.Map.Made.{distinct_count-from_IsDistinct, keys_of-map_values, lookup-map_values, update_all_none}
 use Rattle.std.proofs.lemmas.Map.Views.{btree_map_len-from_list, lookup-from_Contains}
+use Rattle.std.proofs.lemmas.Option.{get_or_from_slice_get, slice_get_within}
 use Rattle.cdxj_index.specs.Facts.{Facts}
 use Rattle.cdxj_index.specs.Groups.{AreGroups, Group}
-use Rattle.cdxj_index.specs.Maps.{AreKeys, AreMaps, AreNumbers, AreOfKey, Captures, Keys, Shared, entries_of, numbered, shown_all}
+use Rattle.cdxj_index.specs.Maps.{AreKeys, AreMaps, AreNumbers, AreOfKey, Captures, Keys, Shared, entries_of, entry_of, numbered, shown_all}
 use Rattle.cdxj_index.specs.Order.{order}
 use Rattle.cdxj_index.specs.Queries.{IsIndex}
 use Rattle.cdxj_index.proofs.Orders.{equal_from_is_eq, key_tied, order_total}
@@ -75,17 +76,17 @@ by_numbers entries = map (λ (e : Facts). (e.number, e)) entries
 
 -- the entries behind the pointers
 abbrev pub values_shown : List (ℕ × Shared) → List (ℕ × Facts)
-values_shown numbers = map (λ (p : ℕ × Shared). (p.0, arc_value p.1)) numbers
+values_shown numbers = map (λ (p : ℕ × Shared). (p.0, entry_of p.1)) numbers
 
 map_push : {A X : Type 0} (f : A → X) (list : List A) (a : A) → map f (list ++ a ∷ []) ≡ map f list ++ f a ∷ []
 map_push f [] a = refl
 map_push f (b ∷ list) a = ap (λ l. f b ∷ l) (map_push f list a)
 
-pub numbers_push : (old new : List (ℕ × Shared)) (n : ℕ) (s : Shared) (e : Facts) (done done₂ : List Facts) → new ≡ old ++ (n, s) ∷ [] → n ≡ e.number → arc_value s ≡ e → done₂ ≡ done ++ e ∷ [] → values_shown old ≡ by_numbers done → values_shown new ≡ by_numbers done₂
+pub numbers_push : (old new : List (ℕ × Shared)) (n : ℕ) (s : Shared) (e : Facts) (done done₂ : List Facts) → new ≡ old ++ (n, s) ∷ [] → n ≡ e.number → entry_of s ≡ e → done₂ ≡ done ++ e ∷ [] → values_shown old ≡ by_numbers done → values_shown new ≡ by_numbers done₂
 numbers_push old new n s e done done₂ put number value more are =
-    let pair : (n, arc_value s) ≡ (e.number, e) = λ i. (number i, value i) in
-    ap values_shown put ∙ map_push (λ (p : ℕ × Shared). (p.0, arc_value p.1)) old (n, s)
-    ∙ ap (λ l. l ++ (n, arc_value s) ∷ []) are ∙ ap (λ (p : ℕ × Facts). by_numbers done ++ p ∷ []) pair
+    let pair : (n, entry_of s) ≡ (e.number, e) = λ i. (number i, value i) in
+    ap values_shown put ∙ map_push (λ (p : ℕ × Shared). (p.0, entry_of p.1)) old (n, s)
+    ∙ ap (λ l. l ++ (n, entry_of s) ∷ []) are ∙ ap (λ (p : ℕ × Facts). by_numbers done ++ p ∷ []) pair
     ∙ sym (map_push (λ (f : Facts). (f.number, f)) done e) ∙ ap by_numbers (sym more)
 
 not_same : (b : Bool) (m n : ℕ) → is_eq (nat_cmp m n) ≡ b → (m ≡ n → ⊥) → is_eq (nat_cmp m n) ≡ false
@@ -168,7 +169,7 @@ numbers_made numbers settled made entries index same moved from = record {
 }
   where
     keys : keys_of numbers ≡ keys_of (by_numbers entries)
-    keys = sym (keys_of-map_values arc_value numbers) ∙ ap keys_of same
+    keys = sym (keys_of-map_values entry_of numbers) ∙ ap keys_of same
 
     apart : IsDistinct (eq_by_cmp nat_cmp) (keys_of numbers)
     apart = subst (IsDistinct (eq_by_cmp nat_cmp)) (sym keys) (distinct entries index.in_order (λ a b h h₂ one. index.alone a b (contains_from_among entries a h) (contains_from_among entries b h₂) one))
@@ -178,8 +179,8 @@ numbers_made numbers settled made entries index same moved from = record {
 
     looked_up : (n : ℕ) → numbered made n ≡ lookup (eq_by_cmp nat_cmp n) (by_numbers entries)
     looked_up n =
-        ap (option_map arc_value) (is.0 n ∙ update_all_none (eq_by_cmp_equiv nat_cmp_total) (eq_by_cmp nat_cmp) (λ x y. refl) numbers n apart)
-        ∙ sym (lookup-map_values arc_value (eq_by_cmp nat_cmp n) numbers) ∙ ap (lookup (eq_by_cmp nat_cmp n)) same
+        ap (option_map entry_of) (is.0 n ∙ update_all_none (eq_by_cmp_equiv nat_cmp_total) (eq_by_cmp nat_cmp) (λ x y. refl) numbers n apart)
+        ∙ sym (lookup-map_values entry_of (eq_by_cmp nat_cmp n) numbers) ∙ ap (lookup (eq_by_cmp nat_cmp n)) same
 
     there : (n : ℕ) (f : Facts) → numbered made n ≡ Some f → Contains entries f × (f.number ≡ n)
     there n f some =
@@ -211,6 +212,11 @@ next_behind done left rest all e f index whole steps h =
 
 pub next_taken : (done done₂ left rest all : List Facts) (e : Facts) → done ++ left ≡ all → left ≡ e ∷ rest → done₂ ≡ done ++ e ∷ [] → done₂ ++ rest ≡ all
 next_taken done done₂ left rest all e whole steps more = ap (λ l. l ++ rest) more ∙ append_assoc done (e ∷ []) rest ∙ ap (λ l. done ++ l) (sym steps) ∙ whole
+
+-- what is left of a list from a place, where an element stands
+pub left_from : (xs : List Facts) (i : ℕ) (x : Facts) → slice_get xs i ≡ Some x → drop i xs ≡ x ∷ drop (i + 1) xs
+left_from xs i x got =
+    drop_more xs i x (slice_get_within xs i x got) ∙ ap (λ e. e ∷ drop (i + 1) xs) (get_or_from_slice_get xs i x x got)
 
 append_none : (xs ys : List Facts) → ys ≡ [] → xs ≡ xs ++ ys
 append_none [] ys none = sym none

@@ -1,7 +1,6 @@
 -- What the calls of an index owe, over its maps.
 use Rattle.std.proofs.Common.{Result, Ok, Err, ◌≡◌, ◌≢◌, ℕ, suc, ◌+◌, ◌<◌, ◌≤◌, ◌-◌, true, false, List, [], Option, None, Some, sym, ap, ◌∙◌, subst, arith, bytes_eq}
 use Rattle.std.specs.Prelude.{if◌then◌else◌, is_err, is_some, OnErr, OnOk, IfNone, IfSome, IsSome, option_and_then, option_map}
-use Rattle.std.specs.Arc.{arc_value}
 use Rattle.std.specs.BTreeMap.{BTreeMap, Updates, btree_map_len, get}
 use Rattle.std.specs.Cmp.Lexicographic.{slice_cmp}
 use Rattle.std.specs.List.Sorted.{IsStrictlySortedBy}
@@ -9,7 +8,7 @@ use Rattle.std.specs.Option.{option_map_or}
 use Rattle.std.specs.Ordering.{nat_cmp}
 use Rattle.std.proofs.lemmas.Slice.Eq.{bytes_eq-Decides}
 use Rattle.cdxj_index.specs.Facts.{Facts}
-use Rattle.cdxj_index.specs.Maps.{AreKeys, AreMaps, AreNumbers, AreOfKey, Captures, HasNoneAfter, HasNoneFrom, HasNoneUntil, IsFirstAfter, IsFirstFrom, IsLastUntil, Keys, Puts, SameKeys, Shared, Takes, entries_of, held, numbered, shown}
+use Rattle.cdxj_index.specs.Maps.{AreKeys, AreMaps, AreNumbers, AreOfKey, Captures, HasNoneAfter, HasNoneFrom, HasNoneUntil, IsFirstAfter, IsFirstFrom, IsLastUntil, Keys, Puts, SameKeys, Shared, Takes, entries_of, entry_of, held, numbered, shown}
 use Rattle.cdxj_index.specs.Order.{Moment, moment_of, order, with_entry, without}
 use Rattle.cdxj_index.specs.Queries.{IsIndex, IsNearest, of_key, with_number}
 use Rattle.cdxj_index.proofs.Orders.{order_total}
@@ -128,7 +127,7 @@ module _ (keys : Keys) (key : List ℕ) (captures : Captures) (time : ℕ) (are 
 apart_from : (entries : List Facts) (e : Facts) → with_number e.number entries ≡ None → (f : Facts) → Among entries f → e.number ≢ f.number
 apart_from entries e absent f h same = with_number-none e.number entries absent f h (sym same)
 
-pub maps_put : (old new : Keys) (numbers numbers₂ : BTreeMap ℕ Shared) (s : Shared) (e : Facts) → arc_value s ≡ e → AreMaps old numbers → with_number e.number (entries_of old) ≡ None → AreKeys new → Puts old new e → Updates nat_cmp numbers numbers₂ e.number (Some s) → btree_map_len numbers₂ ≡ suc (btree_map_len numbers)
+pub maps_put : (old new : Keys) (numbers numbers₂ : BTreeMap ℕ Shared) (s : Shared) (e : Facts) → entry_of s ≡ e → AreMaps old numbers → with_number e.number (entries_of old) ≡ None → AreKeys new → Puts old new e → Updates nat_cmp numbers numbers₂ e.number (Some s) → btree_map_len numbers₂ ≡ suc (btree_map_len numbers)
     → AreMaps new numbers₂ × (entries_of new ≡ with_entry e (entries_of old))
 maps_put old new numbers numbers₂ s e value are absent keys puts updates count =
     let list = entries_put old new e are.of_keys keys puts (apart_from (entries_of old) e absent) in (
@@ -153,7 +152,7 @@ maps_undone old new numbers numbers₂ numbers₃ n s are absent keys same puts 
 one_more : (entries : List Facts) (numbers numbers₂ : BTreeMap ℕ Shared) (n : ℕ) (was : Option Shared) → AreNumbers entries numbers → with_number n entries ≡ None → was ≡ get nat_cmp numbers n → btree_map_len numbers₂ ≡ btree_map_len numbers + (if is_some was then 0 else 1) → btree_map_len numbers₂ ≡ suc (btree_map_len numbers)
 one_more entries numbers numbers₂ n None are absent is count = omega (arith, count)
 one_more entries numbers numbers₂ n (Some s) are absent is count =
-    let at : numbered numbers n ≡ Some (arc_value s) = ap (option_map arc_value) (sym is) in
+    let at : numbered numbers n ≡ Some (entry_of s) = ap (option_map entry_of) (sym is) in
     let none = numbered-is entries numbers n are in
     cc (at, none, absent)
 
@@ -171,7 +170,7 @@ on_error (Err x) e p = p
 
 -- both maps have one more
 pub added : {X E : Type 0} (old new : Keys) (numbers numbers₂ : BTreeMap ℕ Shared) (s t : Shared) (e : Facts) (n : ℕ) (was : Option Shared) (entries : List Facts) (put : Result X E)
-    → arc_value s ≡ e → arc_value t ≡ e → n ≡ e.number → AreMaps old numbers → entries_of old ≡ entries → with_number e.number entries ≡ None → AreKeys new → is_err put ≡ false → OnOk put (Puts old new (arc_value t))
+    → entry_of s ≡ e → entry_of t ≡ e → n ≡ e.number → AreMaps old numbers → entries_of old ≡ entries → with_number e.number entries ≡ None → AreKeys new → is_err put ≡ false → OnOk put (Puts old new (entry_of t))
     → was ≡ get nat_cmp numbers n → Updates nat_cmp numbers numbers₂ n (Some s) → btree_map_len numbers₂ ≡ btree_map_len numbers + (if is_some was then 0 else 1)
     → AreMaps new numbers₂ × (entries_of new ≡ with_entry e entries)
 added old new numbers numbers₂ s t e n was entries put value value₂ number are view absent keys ok puts is updates count =
@@ -193,10 +192,10 @@ undone old new numbers numbers₂ numbers₃ n s was had entries put are view ab
     let both = maps_undone old new numbers numbers₂ numbers₃ n s are none keys (on_error put err same) updates takes (omega (arith, more, fewer)) in
     (both.0, both.1 ∙ view)
 
-pub maps_taken : (old new : Keys) (numbers numbers₂ : BTreeMap ℕ Shared) (n : ℕ) (s : Shared) (e : Facts) → arc_value s ≡ e → AreMaps old numbers → Some s ≡ get nat_cmp numbers n → AreKeys new → Takes old new e.key (moment_of e) → Updates nat_cmp numbers numbers₂ n None → suc (btree_map_len numbers₂) ≡ btree_map_len numbers
+pub maps_taken : (old new : Keys) (numbers numbers₂ : BTreeMap ℕ Shared) (n : ℕ) (s : Shared) (e : Facts) → entry_of s ≡ e → AreMaps old numbers → Some s ≡ get nat_cmp numbers n → AreKeys new → Takes old new e.key (moment_of e) → Updates nat_cmp numbers numbers₂ n None → suc (btree_map_len numbers₂) ≡ btree_map_len numbers
     → AreMaps new numbers₂ × (entries_of new ≡ without n (entries_of old))
 maps_taken old new numbers numbers₂ n s e value are found keys takes updates count =
-    let at : numbered numbers n ≡ Some e = ap (option_map arc_value) (sym found) ∙ ap Some value in
+    let at : numbered numbers n ≡ Some e = ap (option_map entry_of) (sym found) ∙ ap Some value in
     let is = are.of_numbers.shown n e at in
     let among = among_from_contains (entries_of old) e is.0 in
     let only = λ (f : Facts) (h : Among (entries_of old) f) (same : f.number ≡ e.number). alone (entries_of old) numbers are.of_numbers e f among h same in
@@ -206,7 +205,7 @@ maps_taken old new numbers numbers₂ n s e value are found keys takes updates c
 
 -- both maps have one fewer
 pub taken : (old new : Keys) (numbers numbers₂ : BTreeMap ℕ Shared) (n : ℕ) (s : Shared) (e : Facts) (key : List ℕ) (when : Moment) (entries : List Facts)
-    → arc_value s ≡ e → key ≡ e.key → when ≡ moment_of e → AreMaps old numbers → entries_of old ≡ entries → Some s ≡ get nat_cmp numbers n → AreKeys new → Takes old new key when
+    → entry_of s ≡ e → key ≡ e.key → when ≡ moment_of e → AreMaps old numbers → entries_of old ≡ entries → Some s ≡ get nat_cmp numbers n → AreKeys new → Takes old new key when
     → Updates nat_cmp numbers numbers₂ n None → btree_map_len numbers₂ + 1 ≡ btree_map_len numbers
     → AreMaps new numbers₂ × (entries_of new ≡ without n entries)
 taken old new numbers numbers₂ n s e key when entries value keyed placed are view found keys takes updates count =
@@ -217,5 +216,5 @@ taken old new numbers numbers₂ n s e key when entries value keyed placed are v
 -- nothing is taken where there is no such number
 pub taken_nothing : (keys : Keys) (numbers : BTreeMap ℕ Shared) (n : ℕ) → AreMaps keys numbers → None ≡ get nat_cmp numbers n → entries_of keys ≡ without n (entries_of keys)
 taken_nothing keys numbers n are absent =
-    let none : with_number n (entries_of keys) ≡ None = sym (numbered-is (entries_of keys) numbers n are.of_numbers) ∙ ap (option_map arc_value) (sym absent) in
+    let none : with_number n (entries_of keys) ≡ None = sym (numbered-is (entries_of keys) numbers n are.of_numbers) ∙ ap (option_map entry_of) (sym absent) in
     sym (without-absent n (entries_of keys) (λ f h same. with_number-none n (entries_of keys) none f h same))

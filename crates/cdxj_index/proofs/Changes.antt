@@ -1,10 +1,10 @@
 -- The entries after one was put in its place, and after one was taken out.
-use Rattle.std.proofs.Common.{Result, Ok, Err, ◌≡◌, ◌≢◌, ℕ, ◌^◌, ◌<◌, Bool, true, false, ◌&&◌, List, ◌⊎◌, inl, inr, cond, Option, None, Some, refl, sym, ap, ◌∙◌, subst}
+use Rattle.std.proofs.Common.{Result, Ok, Err, ◌≡◌, ◌≢◌, ℕ, ◌^◌, ◌<◌, Bool, true, false, ◌&&◌, List, [], ◌⊎◌, inl, inr, cond, Option, None, Some, refl, sym, ap, ◌∙◌, subst}
 use Rattle.std.specs.Prelude.{option_map, option_and_then, OnErr}
 use Rattle.std.specs.declared.cmp.Ordering.{Ordering}
 use Rattle.std.specs.declared.cmp.Ordering.TheVariants.{Less, Equal, Greater}
-use Rattle.std.specs.Arc.{arc_value}
 use Rattle.std.specs.BTreeMap.{BTreeMap, IsOrdered, Updates, get, is_at}
+use Rattle.std.specs.Global.{Box}
 use Rattle.std.specs.Cmp.Lexicographic.{slice_cmp}
 use Rattle.std.specs.List.Sorted.{IsStrictlySortedBy}
 use Rattle.std.specs.Map.{keys_of, lookup}
@@ -13,7 +13,7 @@ use Rattle.std.proofs.lemmas.Bool.{and_parts}
 use Rattle.std.proofs.lemmas.Cmp.{nat_list_cmp_total, tied_itself}
 use Rattle.cdxj_index.specs.Facts.{Facts}
 use Rattle.cdxj_index.specs.declared.captures.Captures.TheVariants.{One, Many}
-use Rattle.cdxj_index.specs.Maps.{AreKeys, AreOfKey, Captures, Changes, HoldsOnly, HoldsSame, IsHeld, IsInOrder, Keys, Puts, SameKeys, Shared, Takes, entries_of, held, held_at, is_place}
+use Rattle.cdxj_index.specs.Maps.{AreKeys, AreOfKey, Captures, Changes, HoldsOnly, HoldsSame, IsHeld, IsInOrder, Keys, Puts, SameKeys, Shared, Takes, entries_of, entry_of, held, held_at, is_place}
 use Rattle.cdxj_index.specs.Order.{Moment, moment_of, moment_cmp, order, with_entry, without}
 use Rattle.cdxj_index.proofs.Orders.{both_equal, equal_from_is_eq, key_tied, moment_tied, moment_total, order_total}
 use Rattle.cdxj_index.proofs.Members.{Among, same_from_members, Sorted-filter}
@@ -110,10 +110,10 @@ held_written old new key w updates other moment =
     ap (option_and_then (λ captures. held captures moment)) (updates.0 other) ∙ at_key (is_eq (slice_cmp nat_cmp key other)) (is_eq (slice_cmp nat_cmp key other)) (get (slice_cmp nat_cmp) old other) w moment refl
 
 -- what is held of a key with several captures after one of them was changed
-pub many_changed : (old new : BTreeMap Moment Shared) (moment : Moment) (s : Option Shared) → Updates moment_cmp old new moment s → Changes (Many old) (Many new) moment (option_map arc_value s)
-many_changed old new moment s updates when = ap (option_map arc_value) (updates.0 when) ∙ inside (is_eq (moment_cmp moment when)) (get moment_cmp old when)
+pub many_changed : (old new : Box (BTreeMap Moment Shared)) (moment : Moment) (s : Option Shared) → Updates moment_cmp old.value new.value moment s → Changes (Many old) (Many new) moment (option_map entry_of s)
+many_changed old new moment s updates when = ap (option_map entry_of) (updates.0 when) ∙ inside (is_eq (moment_cmp moment when)) (get moment_cmp old.value when)
   where
-    inside : (b : Bool) (found : Option Shared) → option_map arc_value (cond b s found) ≡ cond b (option_map arc_value s) (option_map arc_value found)
+    inside : (b : Bool) (found : Option Shared) → option_map entry_of (cond b s found) ≡ cond b (option_map entry_of s) (option_map entry_of found)
     inside true found = refl
     inside false found = refl
 
@@ -128,14 +128,30 @@ tied_turned : (m n : Moment) → is_eq (moment_cmp m n) ≡ is_eq (moment_cmp n 
 tied_turned m n = ap is_eq (moment_total.antisymm m n) ∙ not_turned (moment_cmp n m)
 
 -- what is held of it
-pub held_of_one : (s : Shared) (when : Moment) → held (One s) when ≡ cond (is_eq (moment_cmp (moment_of (arc_value s)) when)) (Some (arc_value s)) None
-held_of_one s when = inside (is_eq (moment_cmp when (moment_of (arc_value s)))) (is_eq (moment_cmp (moment_of (arc_value s)) when)) (tied_turned when (moment_of (arc_value s)))
+pub held_of_one : (s : Shared) (when : Moment) → held (One s) when ≡ cond (is_eq (moment_cmp (moment_of (entry_of s)) when)) (Some (entry_of s)) None
+held_of_one s when = inside (is_eq (moment_cmp when (moment_of (entry_of s)))) (is_eq (moment_cmp (moment_of (entry_of s)) when)) (tied_turned when (moment_of (entry_of s)))
   where
-    inside : (b c : Bool) → b ≡ c → option_map arc_value (cond b (Some s) None) ≡ cond c (Some (arc_value s)) None
+    inside : (b c : Bool) → b ≡ c → option_map entry_of (cond b (Some s) None) ≡ cond c (Some (entry_of s)) None
     inside true true same = refl
     inside true false same = cc
     inside false true same = cc
     inside false false same = refl
+
+-- what is held after another one was put beside it
+pub both_held : (none one both : BTreeMap Moment Shared) (box : Box (BTreeMap Moment Shared)) (first shared entry : Shared) (at moment : Moment) → none.entries ≡ [] → entry_of shared ≡ entry_of first → at ≡ moment_of (entry_of first)
+    → Updates moment_cmp none one at (Some shared) → Updates moment_cmp one both moment (Some entry) → box.value ≡ both → Changes (One first) (Many box) moment (Some (entry_of entry))
+both_held none one both box first shared entry at moment empty same place put put₂ is when =
+    ap (λ places. option_map entry_of (get moment_cmp places when)) is
+    ∙ ap (option_map entry_of)
+    (put₂.0 when ∙ ap (cond (is_eq (moment_cmp moment when)) (Some entry)) (put.0 when ∙ ap (λ es. cond (is_eq (moment_cmp at when)) (Some shared) (lookup (is_at (moment_cmp when)) es)) empty))
+    ∙ inside (is_eq (moment_cmp moment when)) (is_eq (moment_cmp at when))
+    ∙ ap (cond (is_eq (moment_cmp moment when)) (Some (entry_of entry)))
+    (ap (λ e. cond (is_eq (moment_cmp at when)) (Some e) None) same ∙ ap (λ m. cond (is_eq (moment_cmp m when)) (Some (entry_of first)) None) place ∙ sym (held_of_one first when))
+  where
+    inside : (b c : Bool) → option_map entry_of (cond b (Some entry) (cond c (Some shared) None)) ≡ cond b (Some (entry_of entry)) (cond c (Some (entry_of shared)) None)
+    inside true c = refl
+    inside false true = refl
+    inside false false = refl
 
 pub one_in_order : (s : Shared) → IsInOrder (One s)
 unfolding IsStrictlySortedBy
@@ -159,15 +175,15 @@ places_written old new key before after moment w was updates changes other when 
 pub was_there : (keys : Keys) (key : List ℕ) (captures : Captures) → get (slice_cmp nat_cmp) keys key ≡ Some captures → (when : Moment) → held captures when ≡ held_at keys key when
 was_there keys key captures found when = sym (ap (option_and_then (λ c. held c when)) found)
 
-pub AreOfKey-put : (key : List ℕ) (before after : Captures) (moment : Moment) (s : Shared) → AreOfKey key before → IsInOrder after → Changes before after moment (Some (arc_value s)) → IsHeld key moment (arc_value s) → AreOfKey key after
+pub AreOfKey-put : (key : List ℕ) (before after : Captures) (moment : Moment) (s : Shared) → AreOfKey key before → IsInOrder after → Changes before after moment (Some (entry_of s)) → IsHeld key moment (entry_of s) → AreOfKey key after
 AreOfKey-put key before after moment s are ordered changes is = record {
   ordered = ordered;
   each = λ when f there. which (is_eq (moment_cmp moment when)) when f refl (sym (changes when) ∙ there);
 }
   where
-    which : (b : Bool) (when : Moment) (f : Facts) → is_eq (moment_cmp moment when) ≡ b → cond b (Some (arc_value s)) (held before when) ≡ Some f → IsHeld key when f
+    which : (b : Bool) (when : Moment) (f : Facts) → is_eq (moment_cmp moment when) ≡ b → cond b (Some (entry_of s)) (held before when) ≡ Some f → IsHeld key when f
     which true when f here there =
-        let value : arc_value s ≡ f = cc in
+        let value : entry_of s ≡ f = cc in
         let same = moment_tied moment when (equal_from_is_eq (moment_cmp moment when) here) in
         subst (λ m. IsHeld key m f) same (subst (IsHeld key moment) value is)
     which false when f here there = are.each when f there
@@ -178,17 +194,17 @@ AreOfKey-take key before after moment are ordered changes = record {
   each = λ when f there. are.each when f (taken_members (is_eq (moment_cmp moment when)) f (held before when) (sym (changes when) ∙ there)).1;
 }
 
-pub AreOfKey-one : (key : List ℕ) (s : Shared) → IsHeld key (moment_of (arc_value s)) (arc_value s) → AreOfKey key (One s)
+pub AreOfKey-one : (key : List ℕ) (s : Shared) → IsHeld key (moment_of (entry_of s)) (entry_of s) → AreOfKey key (One s)
 AreOfKey-one key s is = record {
   ordered = one_in_order s;
-  each = λ when f there. which (is_eq (moment_cmp (moment_of (arc_value s)) when)) when f refl (sym (held_of_one s when) ∙ there);
+  each = λ when f there. which (is_eq (moment_cmp (moment_of (entry_of s)) when)) when f refl (sym (held_of_one s when) ∙ there);
 }
   where
-    which : (b : Bool) (when : Moment) (f : Facts) → is_eq (moment_cmp (moment_of (arc_value s)) when) ≡ b → cond b (Some (arc_value s)) None ≡ Some f → IsHeld key when f
+    which : (b : Bool) (when : Moment) (f : Facts) → is_eq (moment_cmp (moment_of (entry_of s)) when) ≡ b → cond b (Some (entry_of s)) None ≡ Some f → IsHeld key when f
     which true when f here there =
-        let value : arc_value s ≡ f = cc in
-        let same = moment_tied (moment_of (arc_value s)) when (equal_from_is_eq (moment_cmp (moment_of (arc_value s)) when) here) in
-        subst (λ m. IsHeld key m f) same (subst (IsHeld key (moment_of (arc_value s))) value is)
+        let value : entry_of s ≡ f = cc in
+        let same = moment_tied (moment_of (entry_of s)) when (equal_from_is_eq (moment_cmp (moment_of (entry_of s)) when) here) in
+        subst (λ m. IsHeld key m f) same (subst (IsHeld key (moment_of (entry_of s))) value is)
     which false when f here there = cc
 
 pub AreKeys-written : (old new : Keys) (key : List ℕ) (after : Option Captures) → AreKeys old → IsOrdered (slice_cmp nat_cmp) new → Updates (slice_cmp nat_cmp) old new key after → ((captures : Captures) → after ≡ Some captures → AreOfKey key captures) → AreKeys new
@@ -205,33 +221,33 @@ AreKeys-written old new key after are ordered updates is = record {
 -- ---- the calls of the map
 
 -- an entry that was put among the captures of its key
-pub put_there : (old new : Keys) (before after : Captures) (s : Shared) (e : Facts) → e ≡ arc_value s → Some before ≡ get (slice_cmp nat_cmp) old e.key → Updates (slice_cmp nat_cmp) old new e.key (Some after) → Changes before after (moment_of e) (Some (arc_value s)) → Puts old new (arc_value s)
+pub put_there : (old new : Keys) (before after : Captures) (s : Shared) (e : Facts) → e ≡ entry_of s → Some before ≡ get (slice_cmp nat_cmp) old e.key → Updates (slice_cmp nat_cmp) old new e.key (Some after) → Changes before after (moment_of e) (Some (entry_of s)) → Puts old new (entry_of s)
 put_there old new before after s e is found updates changes =
-    let puts = places_written old new e.key before after (moment_of e) (Some (arc_value s)) (was_there old e.key before (sym found)) updates changes in
-    subst (λ f. (key : List ℕ) (moment : Moment) → held_at new key moment ≡ cond (is_place f.key (moment_of f) key moment) (Some (arc_value s)) (held_at old key moment)) is puts
+    let puts = places_written old new e.key before after (moment_of e) (Some (entry_of s)) (was_there old e.key before (sym found)) updates changes in
+    subst (λ f. (key : List ℕ) (moment : Moment) → held_at new key moment ≡ cond (is_place f.key (moment_of f) key moment) (Some (entry_of s)) (held_at old key moment)) is puts
 
-pub keys_there : (old new : Keys) (before after : Captures) (s : Shared) (e : Facts) → e ≡ arc_value s → e.number < 2 ^ 32 → AreKeys old → Some before ≡ get (slice_cmp nat_cmp) old e.key → IsOrdered (slice_cmp nat_cmp) new → Updates (slice_cmp nat_cmp) old new e.key (Some after)
-    → IsInOrder after → Changes before after (moment_of e) (Some (arc_value s)) → AreKeys new
+pub keys_there : (old new : Keys) (before after : Captures) (s : Shared) (e : Facts) → e ≡ entry_of s → e.number < 2 ^ 32 → AreKeys old → Some before ≡ get (slice_cmp nat_cmp) old e.key → IsOrdered (slice_cmp nat_cmp) new → Updates (slice_cmp nat_cmp) old new e.key (Some after)
+    → IsInOrder after → Changes before after (moment_of e) (Some (entry_of s)) → AreKeys new
 keys_there old new before after s e is fits are found ordered updates inner changes =
-    let held : IsHeld e.key (moment_of e) (arc_value s) = subst (IsHeld e.key (moment_of e)) is (record { keyed = refl; placed = refl; fits = fits }) in
+    let held : IsHeld e.key (moment_of e) (entry_of s) = subst (IsHeld e.key (moment_of e)) is (record { keyed = refl; placed = refl; fits = fits }) in
     let kept = AreOfKey-put e.key before after (moment_of e) s (are.each e.key before (sym found)) inner changes held in
     AreKeys-written old new e.key (Some after) are ordered updates (λ captures same. subst (AreOfKey e.key) (cc) kept)
 
 -- an entry that is the first of its key
-pub put_first : (old new : Keys) (s : Shared) (e : Facts) → e ≡ arc_value s → get (slice_cmp nat_cmp) old e.key ≡ None → Updates (slice_cmp nat_cmp) old new e.key (Some (One s)) → Puts old new (arc_value s)
+pub put_first : (old new : Keys) (s : Shared) (e : Facts) → e ≡ entry_of s → get (slice_cmp nat_cmp) old e.key ≡ None → Updates (slice_cmp nat_cmp) old new e.key (Some (One s)) → Puts old new (entry_of s)
 put_first old new s e is absent updates =
-    subst (λ f. (key : List ℕ) (moment : Moment) → held_at new key moment ≡ cond (is_place f.key (moment_of f) key moment) (Some (arc_value s)) (held_at old key moment)) is (λ other when.
+    subst (λ f. (key : List ℕ) (moment : Moment) → held_at new key moment ≡ cond (is_place f.key (moment_of f) key moment) (Some (entry_of s)) (held_at old key moment)) is (λ other when.
     held_written old new e.key (One s) updates other when
-    ∙ by_place (is_eq (slice_cmp nat_cmp e.key other)) (is_eq (moment_cmp (moment_of e) when)) (Some (arc_value s)) (held (One s) when) None (held_at old other when)
-    (λ here. held_of_one s when ∙ ap (λ (f : Facts). cond (is_eq (moment_cmp (moment_of f) when)) (Some (arc_value s)) None) (sym is))
+    ∙ by_place (is_eq (slice_cmp nat_cmp e.key other)) (is_eq (moment_cmp (moment_of e) when)) (Some (entry_of s)) (held (One s) when) None (held_at old other when)
+    (λ here. held_of_one s when ∙ ap (λ (f : Facts). cond (is_eq (moment_cmp (moment_of f) when)) (Some (entry_of s)) None) (sym is))
     (λ here.
     let nowhere : held_at old e.key when ≡ None = ap (option_and_then (λ captures. held captures when)) absent in
     sym nowhere ∙ ap (λ k. held_at old k when) (key_tied e.key other (equal_from_is_eq (slice_cmp nat_cmp e.key other) here))))
 
-pub keys_first : (old new : Keys) (s : Shared) (e : Facts) → e ≡ arc_value s → e.number < 2 ^ 32 → AreKeys old → IsOrdered (slice_cmp nat_cmp) new → Updates (slice_cmp nat_cmp) old new e.key (Some (One s)) → AreKeys new
+pub keys_first : (old new : Keys) (s : Shared) (e : Facts) → e ≡ entry_of s → e.number < 2 ^ 32 → AreKeys old → IsOrdered (slice_cmp nat_cmp) new → Updates (slice_cmp nat_cmp) old new e.key (Some (One s)) → AreKeys new
 keys_first old new s e is fits are ordered updates =
-    let held : IsHeld e.key (moment_of e) (arc_value s) = subst (IsHeld e.key (moment_of e)) is (record { keyed = refl; placed = refl; fits = fits }) in
-    let kept : AreOfKey e.key (One s) = AreOfKey-one e.key s (subst (λ (f : Facts). IsHeld e.key (moment_of f) (arc_value s)) is held) in
+    let held : IsHeld e.key (moment_of e) (entry_of s) = subst (IsHeld e.key (moment_of e)) is (record { keyed = refl; placed = refl; fits = fits }) in
+    let kept : AreOfKey e.key (One s) = AreOfKey-one e.key s (subst (λ (f : Facts). IsHeld e.key (moment_of f) (entry_of s)) is held) in
     AreKeys-written old new e.key (Some (One s)) are ordered updates (λ captures same. subst (AreOfKey e.key) (cc) kept)
 
 -- captures that hold what they held

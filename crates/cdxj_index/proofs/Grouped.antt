@@ -3,7 +3,6 @@ use Rattle.std.proofs.Common.{◌≡◌, ◌≢◌, ℕ, ◌^◌, ◌<◌, Bool,
 use Rattle.std.specs.Prelude.{Contains, nat_eq}
 use Rattle.std.specs.declared.cmp.Ordering.{Ordering}
 use Rattle.std.specs.declared.cmp.Ordering.TheVariants.{Less, Equal, Greater}
-use Rattle.std.specs.Arc.{arc_value}
 use Rattle.std.specs.Cmp.Lexicographic.{pointwise, slice_cmp, texts_ties}
 use Rattle.std.specs.List.Sorted.{IsStrictlySortedBy}
 use Rattle.std.specs.Map.{keys_of}
@@ -12,7 +11,7 @@ use Rattle.std.proofs.lemmas.Cmp.{nat_list_cmp_total, tied_itself}
 use Rattle.cdxj_index.specs.Facts.{Facts}
 use Rattle.cdxj_index.specs.declared.captures.Captures.TheVariants.{One}
 use Rattle.cdxj_index.specs.Groups.{AreGroups, Group, IsGroup}
-use Rattle.cdxj_index.specs.Maps.{AreOfKey, Captures, Changes, IsHeld, IsInOrder, Shared, held, shown, shown_all}
+use Rattle.cdxj_index.specs.Maps.{AreOfKey, Captures, Changes, IsHeld, IsInOrder, Shared, entry_of, held, shown, shown_all}
 use Rattle.cdxj_index.specs.Order.{Moment, moment_of, moment_cmp, order}
 use Rattle.cdxj_index.proofs.Orders.{equal_from_is_eq, key_tied, moment_tied, moment_total, order_total}
 use Rattle.cdxj_index.proofs.Members.{Among, Among-append, Among-append_left, Among-append_right, Among-flat_map_back, Among-map_back, Sorted-append, all_among, among_from_contains, contains_from_among, not_below_itself, same_from_members}
@@ -71,7 +70,7 @@ below_in_key : (e f : Facts) → f.key ≡ e.key → order f e ≡ Less → mome
 below_in_key e f keyed below =
     moment_below (slice_cmp nat_cmp f.key e.key) (moment_cmp (moment_of f) (moment_of e)) (ap (λ k. slice_cmp nat_cmp k e.key) keyed ∙ tied_itself nat_list_cmp_total e.key) below
 
-pub shown-put : (before after : Captures) (s : Shared) (e : Facts) → arc_value s ≡ e → AreOfKey e.key before → AreOfKey e.key after → Changes before after (moment_of e) (Some (arc_value s))
+pub shown-put : (before after : Captures) (s : Shared) (e : Facts) → entry_of s ≡ e → AreOfKey e.key before → AreOfKey e.key after → Changes before after (moment_of e) (Some (entry_of s))
     → ((f : Facts) → Among (shown before) f → order f e ≡ Less) → shown after ≡ shown before ++ e ∷ []
 shown-put before after s e value are are₂ changes below =
     same_from_members order order_total (shown after) (shown before ++ e ∷ []) (sorted_shown e.key after are₂)
@@ -90,7 +89,7 @@ shown-put before after s e value are are₂ changes below =
         | inl is ↦
             subst (Among (shown after)) is
             (shown_from_held after (moment_of e) e
-            (changes (moment_of e) ∙ ap (λ o. cond (is_eq o) (Some (arc_value s)) (held before (moment_of e))) (tied_itself moment_total (moment_of e)) ∙ ap Some value))
+            (changes (moment_of e) ∙ ap (λ o. cond (is_eq o) (Some (entry_of s)) (held before (moment_of e))) (tied_itself moment_total (moment_of e)) ∙ ap Some value))
         | inr none ↦ absurd none
       ]
     ])
@@ -136,7 +135,7 @@ AreGroups-last groups group other are same is = record {
 }
 
 -- a key and its only capture
-pub one_group : (key : List ℕ) (s : Shared) → key ≡ (arc_value s).key → (arc_value s).number < 2 ^ 32 → IsGroup (key, One s)
+pub one_group : (key : List ℕ) (s : Shared) → key ≡ (entry_of s).key → (entry_of s).number < 2 ^ 32 → IsGroup (key, One s)
 one_group key s keyed fits = record {
   of_key = AreOfKey-one key s (record { keyed = sym keyed; placed = refl; fits = fits });
   some = λ none. cc;
@@ -162,8 +161,8 @@ last_shown old rest group e was below f h =
 
 -- it has the key of the last group
 pub appended_there : (old new rest : List Group) (key : List ℕ) (before after : Captures) (s : Shared) (e : Facts) (m : Moment)
-    → arc_value s ≡ e → key ≡ e.key → m ≡ moment_of e → m.1 < 2 ^ 32 → AreGroups old → ((f : Facts) → Contains (shown_all old) f → order f e ≡ Less)
-    → old ≡ rest ++ (key, before) ∷ [] → new ≡ rest ++ (key, after) ∷ [] → IsInOrder after → Changes before after m (Some (arc_value s))
+    → entry_of s ≡ e → key ≡ e.key → m ≡ moment_of e → m.1 < 2 ^ 32 → AreGroups old → ((f : Facts) → Contains (shown_all old) f → order f e ≡ Less)
+    → old ≡ rest ++ (key, before) ∷ [] → new ≡ rest ++ (key, after) ∷ [] → IsInOrder after → Changes before after m (Some (entry_of s))
     → AreGroups new × (shown_all new ≡ shown_all old ++ e ∷ [])
 appended_there old new rest key before after s e m value keyed at fits are below was is ordered changes = (
   subst AreGroups (sym is) (AreGroups-last rest (key, before) (key, after) (subst AreGroups was are) refl group),
@@ -174,10 +173,10 @@ appended_there old new rest key before after s e m value keyed at fits are below
     of_before : AreOfKey e.key before
     of_before = subst (λ k. AreOfKey k before) keyed (last_group old rest (key, before) are was).of_key
 
-    puts : Changes before after (moment_of e) (Some (arc_value s))
-    puts = subst (λ n. Changes before after n (Some (arc_value s))) at changes
+    puts : Changes before after (moment_of e) (Some (entry_of s))
+    puts = subst (λ n. Changes before after n (Some (entry_of s))) at changes
 
-    is_held : IsHeld e.key (moment_of e) (arc_value s)
+    is_held : IsHeld e.key (moment_of e) (entry_of s)
     is_held = subst (IsHeld e.key (moment_of e)) (sym value) (record { keyed = refl; placed = refl; fits = subst (λ (n : Moment). n.1 < 2 ^ 32) at fits })
 
     of_after : AreOfKey e.key after

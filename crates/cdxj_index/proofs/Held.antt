@@ -2,7 +2,6 @@
 use Rattle.std.proofs.Common.{◌≡◌, ℕ, List, [], ◌∷◌, inl, inr, Option, None, Some, refl, sym, ap, ◌∙◌, subst}
 use Rattle.std.specs.Prelude.{map, option_map, option_and_then}
 use Rattle.std.specs.declared.cmp.Ordering.TheVariants.{Less}
-use Rattle.std.specs.Arc.{arc_value}
 use Rattle.std.specs.BTreeMap.{get, is_at}
 use Rattle.std.specs.Cmp.Lexicographic.{slice_cmp}
 use Rattle.std.specs.List.Sorted.{IsStrictlySortedBy}
@@ -10,7 +9,7 @@ use Rattle.std.specs.Map.{keys_of, lookup, values_of}
 use Rattle.std.specs.Ordering.{nat_cmp, ordering_then}
 use Rattle.std.proofs.lemmas.Cmp.{nat_list_cmp_total, tied_itself}
 use Rattle.cdxj_index.specs.Facts.{Facts}
-use Rattle.cdxj_index.specs.Maps.{AreKeys, AreOfKey, Captures, IsHeld, Keys, Shared, entries_of, held, held_at, placed, shown, shown_all}
+use Rattle.cdxj_index.specs.Maps.{AreKeys, AreOfKey, Captures, IsHeld, Keys, Shared, entries_of, entry_of, held, held_at, placed, shown, shown_all}
 use Rattle.cdxj_index.specs.Order.{Moment, moment_of, moment_cmp, order}
 use Rattle.cdxj_index.proofs.Orders.{moment_total, order_total}
 use Rattle.cdxj_index.proofs.Members.{Among, Among-map, Among-map_back, Among-flat_map, Among-flat_map_back, Sorted-append, all_among, all_from_among}
@@ -21,14 +20,14 @@ use Rattle.cdxj_index.proofs.Places.{lookup-among, among-lookup}
 -- an entry that is shown is held in its place
 pub held_from_shown : (key : List ℕ) (captures : Captures) → AreOfKey key captures → (f : Facts) → Among (shown captures) f → (held captures (moment_of f) ≡ Some f) × (f.key ≡ key)
 held_from_shown key captures are f h =
-    let value = Among-map arc_value (values_of (placed captures)) f h in
+    let value = Among-map entry_of (values_of (placed captures)) f h in
     let entry = Among-map (λ (e : Moment × Shared). e.1) (placed captures) value.0 value.1 in
     let found : lookup (is_at (moment_cmp entry.0.0)) (placed captures) ≡ Some entry.0.1 = lookup-among moment_cmp moment_total (placed captures) are.ordered entry.0 entry.1 in
-    let there : held captures entry.0.0 ≡ Some f = ap (option_map arc_value) found ∙ ap Some (ap arc_value entry.2 ∙ value.2) in
+    let there : held captures entry.0.0 ≡ Some f = ap (option_map entry_of) found ∙ ap Some (ap entry_of entry.2 ∙ value.2) in
     let is = are.each entry.0.0 f there in
     (subst (λ m. held captures m ≡ Some f) (sym is.placed) there, is.keyed)
 
-some_value : (found : Option Shared) (f : Facts) → option_map arc_value found ≡ Some f → (s : Shared) × (found ≡ Some s) × (arc_value s ≡ f)
+some_value : (found : Option Shared) (f : Facts) → option_map entry_of found ≡ Some f → (s : Shared) × (found ≡ Some s) × (entry_of s ≡ f)
 some_value None f e = cc
 some_value (Some s) f e = (s, refl, cc)
 
@@ -38,7 +37,7 @@ shown_from_held captures moment f there =
     let value = some_value (lookup (is_at (moment_cmp moment)) (placed captures)) f there in
     let entry = among-lookup moment_cmp moment_total (is_at (moment_cmp moment)) (placed captures) value.0 value.1 in
     let among : Among (values_of (placed captures)) entry.0.1 = Among-map_back (λ (e : Moment × Shared). e.1) (placed captures) entry.0 entry.1 in
-    subst (Among (shown captures)) (ap arc_value entry.3 ∙ value.2) (Among-map_back arc_value (values_of (placed captures)) entry.0.1 among)
+    subst (Among (shown captures)) (ap entry_of entry.3 ∙ value.2) (Among-map_back entry_of (values_of (placed captures)) entry.0.1 among)
 
 same_key_below : (f g : Facts) (m n : Moment) → f.key ≡ g.key → moment_of f ≡ m → moment_of g ≡ n → moment_cmp m n ≡ Less → order f g ≡ Less
 same_key_below f g m n keyed at at₂ below =
@@ -47,20 +46,20 @@ same_key_below f g m n keyed at at₂ below =
     ∙ ap (λ p. moment_cmp p (moment_of g)) at ∙ ap (moment_cmp m) at₂ ∙ below
 
 -- entries of one key in order of date and number are in order
-sorted_pairs : (key : List ℕ) (pairs : List (Moment × Shared)) → IsStrictlySortedBy moment_cmp (keys_of pairs) → ((e : Moment × Shared) → Among pairs e → (moment_of (arc_value e.1) ≡ e.0) × ((arc_value e.1).key ≡ key)) → IsStrictlySortedBy order (map arc_value (values_of pairs))
+sorted_pairs : (key : List ℕ) (pairs : List (Moment × Shared)) → IsStrictlySortedBy moment_cmp (keys_of pairs) → ((e : Moment × Shared) → Among pairs e → (moment_of (entry_of e.1) ≡ e.0) × ((entry_of e.1).key ≡ key)) → IsStrictlySortedBy order (map entry_of (values_of pairs))
 unfolding IsStrictlySortedBy
 sorted_pairs key [] sorted each = tt
 sorted_pairs key (e ∷ pairs) sorted each =
     let here = each e (inl refl) in
-    let first = arc_value e.1 in
+    let first = entry_of e.1 in
     let P : Facts → Type 0 = λ f. order first f ≡ Less in (
-      all_from_among P (map arc_value (values_of pairs)) (λ f h.
-          let value = Among-map arc_value (values_of pairs) f h in
+      all_from_among P (map entry_of (values_of pairs)) (λ f h.
+          let value = Among-map entry_of (values_of pairs) f h in
           let pair = Among-map (λ (p : Moment × Shared). p.1) pairs value.0 value.1 in
           let there = each pair.0 (inr pair.1) in
-          let is : arc_value pair.0.1 ≡ f = ap arc_value pair.2 ∙ value.2 in
+          let is : entry_of pair.0.1 ≡ f = ap entry_of pair.2 ∙ value.2 in
           let below : moment_cmp e.0 pair.0.0 ≡ Less = all_among (λ m. moment_cmp e.0 m ≡ Less) (keys_of pairs) sorted.0 pair.0.0 (Among-map_back (λ (p : Moment × Shared). p.0) pairs pair.0 pair.1) in
-          subst P is (same_key_below first (arc_value pair.0.1) e.0 pair.0.0 (here.1 ∙ sym there.1) here.0 there.0 below)),
+          subst P is (same_key_below first (entry_of pair.0.1) e.0 pair.0.0 (here.1 ∙ sym there.1) here.0 there.0 below)),
       sorted_pairs key pairs sorted.1 (λ p h. each p (inr h)),
     )
 
@@ -68,7 +67,7 @@ pub sorted_shown : (key : List ℕ) (captures : Captures) → AreOfKey key captu
 sorted_shown key captures are =
     sorted_pairs key (placed captures) are.ordered (λ e h.
     let found = lookup-among moment_cmp moment_total (placed captures) are.ordered e h in
-    let is = are.each e.0 (arc_value e.1) (ap (option_map arc_value) found) in
+    let is = are.each e.0 (entry_of e.1) (ap (option_map entry_of) found) in
     (is.placed, is.keyed))
 
 -- ---- the captures of all keys

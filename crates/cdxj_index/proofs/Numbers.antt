@@ -2,13 +2,12 @@
 use Rattle.std.proofs.Common.{◌≡◌, ◌≢◌, ℕ, suc, Bool, true, false, not, ◌==◌, List, [], ◌∷◌, inl, inr, cond, length, Option, None, Some, refl, sym, ap, ◌∙◌, subst, arith}
 use Rattle.std.specs.Prelude.{Contains, option_map}
 use Rattle.std.specs.declared.cmp.Ordering.TheVariants.{Less, Equal}
-use Rattle.std.specs.Arc.{arc_value}
 use Rattle.std.specs.BTreeMap.{BTreeMap, Updates, btree_map_len, get}
 use Rattle.std.specs.List.Sorted.{IsStrictlySortedBy}
 use Rattle.std.specs.Ordering.{nat_cmp, is_eq}
 use Rattle.std.proofs.lemmas.Cmp.{ranked, nat_cmp_total, tied_itself}
 use Rattle.cdxj_index.specs.Facts.{Facts}
-use Rattle.cdxj_index.specs.Maps.{AreNumbers, Shared, numbered}
+use Rattle.cdxj_index.specs.Maps.{AreNumbers, Shared, entry_of, numbered}
 use Rattle.cdxj_index.specs.Order.{order, with_entry, without}
 use Rattle.cdxj_index.specs.Queries.{with_number}
 use Rattle.cdxj_index.proofs.Orders.{equal_from_is_eq, order_total}
@@ -19,15 +18,15 @@ pub number_of_tie : (a b : ℕ) → is_eq (nat_cmp a b) ≡ true → a ≡ b
 number_of_tie a b tied = ranked a b Equal (sym (equal_from_is_eq (nat_cmp a b) tied))
 
 -- what is numbered after a change at a number
-numbered_changed : (old new : BTreeMap ℕ Shared) (n : ℕ) (s : Option Shared) → Updates nat_cmp old new n s → (m : ℕ) → numbered new m ≡ cond (is_eq (nat_cmp n m)) (option_map arc_value s) (numbered old m)
-numbered_changed old new n s updates m = ap (option_map arc_value) (updates.0 m) ∙ inside (is_eq (nat_cmp n m)) (get nat_cmp old m)
+numbered_changed : (old new : BTreeMap ℕ Shared) (n : ℕ) (s : Option Shared) → Updates nat_cmp old new n s → (m : ℕ) → numbered new m ≡ cond (is_eq (nat_cmp n m)) (option_map entry_of s) (numbered old m)
+numbered_changed old new n s updates m = ap (option_map entry_of) (updates.0 m) ∙ inside (is_eq (nat_cmp n m)) (get nat_cmp old m)
   where
-    inside : (b : Bool) (found : Option Shared) → option_map arc_value (cond b s found) ≡ cond b (option_map arc_value s) (option_map arc_value found)
+    inside : (b : Bool) (found : Option Shared) → option_map entry_of (cond b s found) ≡ cond b (option_map entry_of s) (option_map entry_of found)
     inside true found = refl
     inside false found = refl
 
-numbered_itself : (old new : BTreeMap ℕ Shared) (n : ℕ) (s : Option Shared) → Updates nat_cmp old new n s → numbered new n ≡ option_map arc_value s
-numbered_itself old new n s updates = ap (option_map arc_value) updates.1
+numbered_itself : (old new : BTreeMap ℕ Shared) (n : ℕ) (s : Option Shared) → Updates nat_cmp old new n s → numbered new n ≡ option_map entry_of s
+numbered_itself old new n s updates = ap (option_map entry_of) updates.1
 
 -- no two entries have one number
 pub alone : (entries : List Facts) (numbers : BTreeMap ℕ Shared) → AreNumbers entries numbers → (e f : Facts) → Among entries e → Among entries f → f.number ≡ e.number → f ≡ e
@@ -53,7 +52,7 @@ found_number entries numbers n None are is = absent (numbered numbers n) refl
 pub numbered-is : (entries : List Facts) (numbers : BTreeMap ℕ Shared) (n : ℕ) → AreNumbers entries numbers → numbered numbers n ≡ with_number n entries
 numbered-is entries numbers n are = found_number entries numbers n (with_number n entries) are refl
 
-pub AreNumbers-put : (entries : List Facts) (old new : BTreeMap ℕ Shared) (s : Shared) (e : Facts) → arc_value s ≡ e → AreNumbers entries old → with_number e.number entries ≡ None → Updates nat_cmp old new e.number (Some s) → btree_map_len new ≡ suc (btree_map_len old)
+pub AreNumbers-put : (entries : List Facts) (old new : BTreeMap ℕ Shared) (s : Shared) (e : Facts) → entry_of s ≡ e → AreNumbers entries old → with_number e.number entries ≡ None → Updates nat_cmp old new e.number (Some s) → btree_map_len new ≡ suc (btree_map_len old)
     → AreNumbers (with_entry e entries) new
 AreNumbers-put entries old new s e value are absent updates count = record {
   found = λ f h. elim (Among-with_entry e entries f (among_from_contains (with_entry e entries) f h)) [
@@ -67,9 +66,9 @@ AreNumbers-put entries old new s e value are absent updates count = record {
     later : (f : Facts) → Among entries f → (b : Bool) → is_eq (nat_cmp e.number f.number) ≡ b → numbered new f.number ≡ Some f
     later f among true tied = absurd (with_number-none e.number entries absent f among (sym (number_of_tie e.number f.number tied)))
     later f among false apart =
-        numbered_changed old new e.number (Some s) updates f.number ∙ ap (λ b. cond b (Some (arc_value s)) (numbered old f.number)) apart ∙ are.found f (contains_from_among entries f among)
+        numbered_changed old new e.number (Some s) updates f.number ∙ ap (λ b. cond b (Some (entry_of s)) (numbered old f.number)) apart ∙ are.found f (contains_from_among entries f among)
 
-    which : (n : ℕ) (f : Facts) (b : Bool) → is_eq (nat_cmp e.number n) ≡ b → cond b (Some (arc_value s)) (numbered old n) ≡ Some f → Contains (with_entry e entries) f × (f.number ≡ n)
+    which : (n : ℕ) (f : Facts) (b : Bool) → is_eq (nat_cmp e.number n) ≡ b → cond b (Some (entry_of s)) (numbered old n) ≡ Some f → Contains (with_entry e entries) f × (f.number ≡ n)
     which n f true tied there =
         let is : e ≡ f = cc (there, value) in
         (contains_from_among (with_entry e entries) f (Among-with_entry_back e entries f (inl is)), ap (λ g. g.number) (sym is) ∙ number_of_tie e.number n tied)
@@ -137,7 +136,7 @@ AreNumbers-undone entries old middle new n s are absent puts takes count = recor
         ap (numbered new) (sym is) ∙ numbered_itself middle new n None takes ∙ sym (found_number entries old n None are absent) ∙ ap (numbered old) is
     at m false apart =
         numbered_changed middle new n None takes m ∙ ap (λ b. cond b None (numbered middle m)) apart
-        ∙ numbered_changed old middle n (Some s) puts m ∙ ap (λ b. cond b (Some (arc_value s)) (numbered old m)) apart
+        ∙ numbered_changed old middle n (Some s) puts m ∙ ap (λ b. cond b (Some (entry_of s)) (numbered old m)) apart
 
     same : (m : ℕ) → numbered new m ≡ numbered old m
     same m = at m (is_eq (nat_cmp n m)) refl

@@ -1,5 +1,5 @@
 -- What the index knows of a capture.
-use Rattle.std.specs.Prelude.{◌≡◌, ℕ, ◌≤◌, List, Some}
+use Rattle.std.specs.Prelude.{◌≡◌, ℕ, ◌≤◌, List, [], Some}
 use Rattle.surt_key.specs.Key.{key_of}
 use Rattle.time_text.specs.Texts.{InRange}
 
@@ -14,6 +14,10 @@ pub record Facts : Type 0 where
   pub volume : ℕ
   pub offset : ℕ
   pub length : ℕ
+
+-- what stands past the end of a list
+abbrev pub past_end : Facts
+past_end = record { key = []; date = 0; number = 0; uri = []; mime = []; status = 0; digest = []; volume = 0; offset = 0; length = 0 }
 
 -- the date has a text, the status is of three digits, and the key is that of the uri
 pub record IsEntry (key : List ℕ) (date status : ℕ) (uri : List ℕ) : Type 0 where

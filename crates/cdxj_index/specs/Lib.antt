@@ -4,3 +4,4 @@ pub mod Maps
 pub mod OfBook
 pub mod Order
 pub mod Queries
+pub mod Sharing

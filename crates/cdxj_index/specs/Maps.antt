@@ -1,9 +1,6 @@
 -- The maps behind an index.
 use Rattle.std.specs.Prelude.{◌≡◌, ℕ, ◌^◌, ◌<◌, ◌≤◌, List, length, map, Option, Some, None, option_map, option_and_then, Contains, IsSome, Bool, ◌&&◌, if◌then◌else◌, false, nat_eq, [], ◌∷◌, ◌++◌}
-use Rattle.std.specs.declared.alloc.Global.{Global}
 use Rattle.std.specs.declared.cmp.Ordering.TheVariants.{Less}
-use Rattle.std.specs.declared.sync.Arc.{Arc}
-use Rattle.std.specs.Arc.{arc_value}
 use Rattle.std.specs.BTreeMap.{BTreeMap, IsOrdered, btree_map_len, get, is_at}
 use Rattle.std.specs.Cmp.Lexicographic.{slice_cmp}
 use Rattle.std.specs.List.{flat_map, starts_with}
@@ -15,10 +12,7 @@ pub use Rattle.cdxj_index.specs.declared.captures.Captures.{Captures}
 use Rattle.cdxj_index.specs.declared.captures.Captures.TheVariants.{One, Many}
 use Rattle.cdxj_index.specs.Facts.{Facts}
 use Rattle.cdxj_index.specs.Order.{Moment, moment_of, moment_cmp}
-
--- an entry behind its pointer
-abbrev pub Shared : Type 0
-Shared = Arc Facts Global
+pub use Rattle.cdxj_index.specs.Sharing.{Shared, entry_of}
 
 -- the captures of each key
 abbrev pub Keys : Type 0
@@ -26,12 +20,12 @@ Keys = BTreeMap (List ℕ) Captures
 
 -- the captures of a key by date and number, in order
 abbrev pub placed : Captures → List (Moment × Shared)
-placed (One entry) = (moment_of (arc_value entry), entry) ∷ []
-placed (Many places) = places.entries
+placed (One entry) = (moment_of (entry_of entry), entry) ∷ []
+placed (Many places) = places.value.entries
 
 -- the entries of one key, in order
 abbrev pub shown : Captures → List Facts
-shown captures = map arc_value (values_of (placed captures))
+shown captures = map entry_of (values_of (placed captures))
 
 -- all entries, in order
 abbrev pub shown_all : List (List ℕ × Captures) → List Facts
@@ -42,7 +36,7 @@ entries_of keys = shown_all keys.entries
 
 -- the entry at a date and number
 abbrev pub held : Captures → Moment → Option Facts
-held captures moment = option_map arc_value (lookup (is_at (moment_cmp moment)) (placed captures))
+held captures moment = option_map entry_of (lookup (is_at (moment_cmp moment)) (placed captures))
 
 -- the captures are in order
 abbrev pub IsInOrder : Captures → Type 0
@@ -82,7 +76,7 @@ pub record AreKeys (keys : Keys) : Type 0 where
 
 -- the entry of a number
 abbrev pub numbered : BTreeMap ℕ Shared → ℕ → Option Facts
-numbered numbers number = option_map arc_value (get nat_cmp numbers number)
+numbered numbers number = option_map entry_of (get nat_cmp numbers number)
 
 -- the numbers are those of the entries
 pub record AreNumbers (entries : List Facts) (numbers : BTreeMap ℕ Shared) : Type 0 where
@@ -152,7 +146,7 @@ shown_while start (e ∷ keys) = if starts_with nat_eq e.0 start then shown e.1 
 
 -- the captures that are left of a key: the only one, or those of several
 abbrev pub shown_left : Option Facts → Option (List Shared) → List Facts
-shown_left one captures = option_map_or (λ entry. entry ∷ []) one [] ++ option_map_or (λ left. map arc_value left) captures []
+shown_left one captures = option_map_or (λ entry. entry ∷ []) one [] ++ option_map_or (λ left. map entry_of left) captures []
 
 -- the captures that are left of a key, and those of the keys that are left and begin with these bytes
 abbrev pub left_of : List ℕ → Option (List (List ℕ × Captures)) → List Facts → List Facts

@@ -1,32 +1,30 @@
 //! The captures of one key, by date and number.
 ghost use Rattle.std.specs.Prelude.{◌≡◌, false, None, Some, IfOk, IsTrue, OnOk, OnErr};
-ghost use Rattle.std.specs.Arc.{arc_value};
 ghost use Rattle.cdxj_index.specs.declared.captures.Captures.TheVariants.{One, Many};
-ghost use Rattle.cdxj_index.specs.Maps.{Changes, HoldsOnly, HoldsSame, IsInOrder};
+ghost use Rattle.cdxj_index.specs.Maps.{Changes, HoldsOnly, HoldsSame, IsInOrder, entry_of};
 
-use crate::Entry;
 use crate::entry_map::Moment;
+use crate::shared::Shared;
 use capture::Memory;
 use std::alloc::Global;
 use std::collections::BTreeMap;
-use std::sync::Arc;
 
-/// Captures by date and number, each behind a pointer, since a node of a map has room for fifteen values from the start.
-pub(crate) type Places = BTreeMap<Moment, Arc<Entry>>;
+/// Captures by date and number, behind a pointer, since a map takes more room than the one capture that most keys have.
+pub(crate) type Places = Box<BTreeMap<Moment, Shared>>;
 
 /// The captures of a key. Most keys have one, for which a node would take more memory than the entry itself.
 #[derive(Drop)]
 pub(crate) enum Captures {
-    One(Arc<Entry>),
+    One(Shared),
     Many(Places),
 }
 
 impl Captures {
     /// Puts an entry in its place. After `Memory` the captures are as they were.
-    pub fn insert(&mut self, alloc: Global, moment: Moment, entry: Arc<Entry>) -> Result<(), Memory>
+    pub fn insert(&mut self, alloc: Global, moment: Moment, entry: Shared) -> Result<(), Memory>
         requires { IsInOrder self.old }
         ensures ordered { IsInOrder self.new }
-        ensures ok { OnOk result (Changes self.old self.new moment (Some (arc_value entry))) }
+        ensures ok { OnOk result (Changes self.old self.new moment (Some (entry_of entry))) }
         ensures err { OnErr result (HoldsSame self.old self.new) }
     {
         match self {
@@ -51,7 +49,7 @@ impl Captures {
     {
         match self {
             Captures::One(entry) => {
-                let place = entry.moment();
+                let place = entry.facts().moment();
                 moment.cmp(&place).is_eq()
             }
             Captures::Many(places) => {
@@ -63,19 +61,14 @@ impl Captures {
 }
 
 /// The only capture of a key and another one.
-fn both_of(
-    alloc: Global,
-    first: &Arc<Entry>,
-    moment: Moment,
-    entry: Arc<Entry>,
-) -> Result<Places, Memory>
+fn both_of(alloc: Global, first: &Shared, moment: Moment, entry: Shared) -> Result<Places, Memory>
     ensures ordered { IfOk result (λ places. IsInOrder (Many places)) }
-    ensures changes { IfOk result (λ places. Changes (One first.now) (Many places) moment (Some (arc_value entry))) }
+    ensures changes { IfOk result (λ places. Changes (One first.now) (Many places) moment (Some (entry_of entry))) }
 {
-    let shared = Arc::try_clone(first)?;
-    let facts: &Entry = first;
-    let mut places = Places::new(alloc);
-    places.insert(facts.moment(), shared)?;
+    let shared = first.share()?;
+    let mut places = BTreeMap::new(alloc);
+    places.insert(first.facts().moment(), shared)?;
     places.insert(moment, entry)?;
+    let places = Box::new(alloc, places)?;
     Ok(places)
 }

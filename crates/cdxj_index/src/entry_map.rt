@@ -1,19 +1,18 @@
 //! The ordered map behind an index: entries by key, and under each key by date and number.
 ghost use Rattle.std.specs.Prelude.{◌≡◌, ◌+◌, IfNone, IfSome, OnOk, OnErr, option_copied};
-ghost use Rattle.std.specs.Arc.{arc_value};
 ghost use Rattle.std.specs.BTreeMap.{get};
 ghost use Rattle.std.specs.Cmp.Lexicographic.{slice_cmp};
 ghost use Rattle.std.specs.Ordering.{nat_cmp};
-ghost use Rattle.cdxj_index.specs.Maps.{AreKeys, HasNoneAfter, HasNoneFrom, HasNoneUntil, IsFirstAfter, IsFirstFrom, IsLastUntil, Puts, SameKeys, Takes};
+ghost use Rattle.cdxj_index.specs.Maps.{AreKeys, HasNoneAfter, HasNoneFrom, HasNoneUntil, IsFirstAfter, IsFirstFrom, IsLastUntil, Puts, SameKeys, Takes, entry_of};
 
 use crate::captures::Captures;
 use crate::many::{first_of, last_of, next_of};
 use crate::only::{only_after, only_from, only_until};
+use crate::shared::Shared;
 use crate::{Entry, Steps};
 use capture::Memory;
 use std::alloc::Global;
 use std::collections::BTreeMap;
-use std::sync::Arc;
 use std::sync::ledger::Ledger;
 use surt_key::Key;
 
@@ -38,13 +37,13 @@ impl EntryMap {
     }
 
     /// Puts an entry in its place. After `Memory` the entries are as they were.
-    pub fn insert(&mut self, alloc: Global, entry: Arc<Entry>) -> Result<(), Memory>
+    pub fn insert(&mut self, alloc: Global, entry: Shared) -> Result<(), Memory>
         requires { AreKeys self.old.keys }
         ensures keys { AreKeys self.new.keys }
-        ensures ok { OnOk result (Puts self.old.keys self.new.keys (arc_value entry)) }
+        ensures ok { OnOk result (Puts self.old.keys self.new.keys (entry_of entry)) }
         ensures err { OnErr result (SameKeys self.old.keys self.new.keys) }
     {
-        let facts: &Entry = &entry;
+        let facts = entry.facts();
         let moment = facts.moment();
         if let Some(captures) = self.keys.get_mut(&facts.key) {
             captures.insert(alloc, moment, entry)?;

@@ -6,6 +6,7 @@ ghost use Rattle.cdxj_index.specs.Queries.{HasNone, IsIndex, IsNearest, of_key, 
 use crate::entry_map::{EntryMap, first_after, first_from, last_until};
 use crate::groups::append;
 use crate::settle::settle;
+use crate::shared::Shared;
 use crate::{Entry, Range, Starting, Steps};
 use capture::Memory;
 use std::alloc::Global;
@@ -21,7 +22,7 @@ use surt_key::Key;
 #[derive(Drop)]
 pub struct Index {
     map: EntryMap,
-    numbers: BTreeMap<u32, Arc<Entry>>,
+    numbers: BTreeMap<u32, Shared>,
 }
 
 impl Model for Index {
@@ -54,15 +55,20 @@ impl Index {
         requires { IsIndex entries.items }
         ensures { IfOk result (λ index. index ≡ entries.items) }
     {
+        // Fails only for a list that leaves no number out, which would take 512 GiB.
+        let Ok(count) = u32::try_from(entries.len()) else {
+            return Err(Memory);
+        };
         let mut numbers = Vec::with_capacity(alloc, entries.len())?;
         let mut groups = Vec::with_capacity(alloc, entries.len())?;
-        for entry in entries {
-            let number = entry.number;
-            let entry = Arc::new(alloc, entry)?;
-            numbers.push((number, Arc::try_clone(&entry)?))?;
+        let all = Arc::new(alloc, entries)?;
+        for place in 0..count {
+            let entry = Shared::among(alloc, &all, place)?;
+            let facts = entry.facts();
+            numbers.push((facts.number, entry.share()?))?;
             append(alloc, &mut groups, entry)?;
         }
-        settle(&mut numbers);
+        settle(alloc, &mut numbers);
         Ok(Index {
             map: EntryMap {
                 keys: BTreeMap::from_iter(alloc, groups)?,
@@ -78,8 +84,8 @@ impl Index {
         ensures err { OnErr result (self.new ≡ self.old) }
     {
         let number = entry.number;
-        let entry = Arc::new(alloc, entry)?;
-        let shared = Arc::try_clone(&entry)?;
+        let entry = Shared::alone(alloc, entry)?;
+        let shared = entry.share()?;
         self.numbers.insert(number, shared)?;
         if self.map.insert(alloc, entry).is_err() {
             self.numbers.remove(&number);
@@ -92,9 +98,11 @@ impl Index {
     pub fn take_back(&mut self, number: u32)
         ensures { self.new ≡ without number self.old }
     {
-        if let Some(entry) = self.numbers.remove(&number) {
-            let entry: &Entry = &entry;
+        if let Some(taken) = self.numbers.remove(&number) {
+            let entry = taken.facts();
             self.map.remove(&entry.key, entry.moment());
+            // As a call, so that what is known of the index is not split by where the entry stood.
+            drop(taken);
         }
     }
 
@@ -102,8 +110,8 @@ impl Index {
     pub fn at(&self, number: u32) -> Option<&Entry>
         ensures { option_copied result ≡ with_number number self.now }
     {
-        let entry: &Entry = self.numbers.get(&number)?;
-        Some(entry)
+        let entry = self.numbers.get(&number)?;
+        Some(entry.facts())
     }
 
     /// How many entries there are.

@@ -7,16 +7,16 @@ ghost use Rattle.cdxj_index.specs.Queries.{starting_with};
 use crate::Entry;
 use crate::captures::Captures;
 use crate::entry_map::Moment;
+use crate::shared::Shared;
 use std::collections::{BTreeMap, btree_map};
 use std::marker::Model;
-use std::sync::Arc;
 use surt_key::Key;
 
 /// The entries of a key, in order. A clause sees the list of those that are left.
 #[derive(Drop)]
 pub struct Range<'a> {
     one: Option<&'a Entry>,
-    captures: Option<btree_map::Values<'a, Moment, Arc<Entry>>>,
+    captures: Option<btree_map::Values<'a, Moment, Shared>>,
 }
 
 impl<'a> Model for Range<'a> {
@@ -46,7 +46,7 @@ impl<'a> Range<'a> {
     {
         match captures {
             Captures::One(entry) => Range {
-                one: Some(entry),
+                one: Some(entry.facts()),
                 captures: None,
             },
             Captures::Many(places) => Range {
@@ -69,8 +69,8 @@ impl<'a> Iterator for Range<'a> {
             return Some(entry);
         }
         let captures = self.captures.as_mut()?;
-        let entry: &Entry = captures.next()?;
-        Some(entry)
+        let entry = captures.next()?;
+        Some(entry.facts())
     }
 }
 

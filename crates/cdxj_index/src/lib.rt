@@ -10,10 +10,10 @@ mod iterators;
 mod laws;
 mod many;
 mod only;
+mod ranks;
 mod settle;
+mod shared;
 mod steps;
-#[cfg(test)]
-mod tests;
 
 pub use entry::Entry;
 pub use index::Index;

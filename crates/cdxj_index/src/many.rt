@@ -13,7 +13,7 @@ pub(crate) fn last_of(places: &Places, time: u64) -> Option<&Entry>
     ensures some { IfSome result (λ last. IsLastUntil (Many places.now) time last.now) }
 {
     let (_, entry) = places.range(..=(time, u32::MAX)).next_back()?;
-    Some(entry)
+    Some(entry.facts())
 }
 
 /// The first capture of the date or a later one.
@@ -22,7 +22,7 @@ pub(crate) fn first_of(places: &Places, date: u64) -> Option<&Entry>
     ensures some { IfSome result (λ first. IsFirstFrom (Many places.now) date first.now) }
 {
     let (_, entry) = places.range((date, 0)..).next()?;
-    Some(entry)
+    Some(entry.facts())
 }
 
 /// The first capture after the time.
@@ -32,5 +32,5 @@ pub(crate) fn next_of(places: &Places, time: u64) -> Option<&Entry>
 {
     let after = (Bound::Excluded((time, u32::MAX)), Bound::Unbounded);
     let (_, entry) = places.range(after).next()?;
-    Some(entry)
+    Some(entry.facts())
 }

@@ -4,14 +4,14 @@ ghost use Rattle.cdxj_index.specs.declared.captures.Captures.TheVariants.{One};
 ghost use Rattle.cdxj_index.specs.Maps.{HasNoneAfter, HasNoneFrom, HasNoneUntil, IsFirstAfter, IsFirstFrom, IsLastUntil};
 
 use crate::Entry;
-use std::sync::Arc;
+use crate::shared::Shared;
 
 /// The capture, where it is from the time or before it.
-pub(crate) fn only_until(entry: &Arc<Entry>, time: u64) -> Option<&Entry>
+pub(crate) fn only_until(entry: &Shared, time: u64) -> Option<&Entry>
     ensures none { IfNone result (HasNoneUntil (One entry.now) time) }
     ensures some { IfSome result (λ last. IsLastUntil (One entry.now) time last.now) }
 {
-    let facts: &Entry = entry;
+    let facts = entry.facts();
     if facts.date <= time {
         Some(facts)
     } else {
@@ -20,11 +20,11 @@ pub(crate) fn only_until(entry: &Arc<Entry>, time: u64) -> Option<&Entry>
 }
 
 /// The capture, where it is of the date or a later one.
-pub(crate) fn only_from(entry: &Arc<Entry>, date: u64) -> Option<&Entry>
+pub(crate) fn only_from(entry: &Shared, date: u64) -> Option<&Entry>
     ensures none { IfNone result (HasNoneFrom (One entry.now) date) }
     ensures some { IfSome result (λ first. IsFirstFrom (One entry.now) date first.now) }
 {
-    let facts: &Entry = entry;
+    let facts = entry.facts();
     if date <= facts.date {
         Some(facts)
     } else {
@@ -33,10 +33,10 @@ pub(crate) fn only_from(entry: &Arc<Entry>, date: u64) -> Option<&Entry>
 }
 
 /// The capture, where it is after the time.
-pub(crate) fn only_after(entry: &Arc<Entry>, time: u64) -> Option<&Entry>
+pub(crate) fn only_after(entry: &Shared, time: u64) -> Option<&Entry>
     ensures none { IfNone result (HasNoneAfter (One entry.now) time) }
     ensures some { IfSome result (λ first. IsFirstAfter (One entry.now) time first.now) }
 {
-    let facts: &Entry = entry;
+    let facts = entry.facts();
     if time < facts.date { Some(facts) } else { None }
 }

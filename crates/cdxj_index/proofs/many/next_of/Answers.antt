@@ -7,7 +7,7 @@ use Rattle.cdxj_index.proofs.many.next_of.Goals as goal
 pub returns-in_err-entry-clause-none : goal.returns-in_err-entry-clause-none
 returns-in_err-entry-clause-none c =
     on_none c.from_residual.result (λ other after.
-    none_held c.args.places.now other ((c.range.ensures.in_range tt).5 c.in_err-entry.ensures.steps.0 other (is_after other c.args.time after, tt)))
+    none_held c.args.places.now c.deref.result.now other c.deref.ensures ((c.range.ensures.in_range tt).5 c.in_err-entry.ensures.steps.0 other (is_after other c.args.time after, tt)))
 
 pub returns-clause-some : goal.returns-clause-some
 returns-clause-some c =
@@ -16,5 +16,5 @@ returns-clause-some c =
     let shared = c.in_ok-entry.entry.now in
     let steps = c.in_ok-entry.ensures.steps in
     let there = told_first _ c.range.result c.next.new.self (moment, shared) steps told.1 in
-    subst (IsFirstAfter (Many c.args.places.now) c.args.time) (sym c.deref.ensures)
-    (next_is c.args.places.now c.args.time moment shared there.0.0 there.1 (λ other within some. told_first _ c.range.result c.next.new.self (moment, shared) steps (told.2 other (within, tt) some)))
+    subst (IsFirstAfter (Many c.args.places.now) c.args.time) (sym c.facts.ensures)
+    (next_is c.args.places.now c.deref.result.now c.args.time moment shared c.deref.ensures there.0.0 there.1 (λ other within some. told_first _ c.range.result c.next.new.self (moment, shared) steps (told.2 other (within, tt) some)))

@@ -7,5 +7,5 @@ use Rattle.cdxj_index.proofs.only.only_after.Goals as goal
 
 pub returns-then-time-facts-clause-some : goal.returns-then-time-facts-clause-some
 returns-then-time-facts-clause-some c =
-    let date = ap (λ (f : Facts). f.date) (c.facts.view_is ∙ c.deref-facts.ensures) in
-    subst (IsFirstAfter (One c.args.entry.now) c.args.time) (sym c.deref-facts.ensures) (one_after c.args.entry.now c.args.time (subst (λ d. c.args.time < d) date c.if-time-facts.true))
+    let date = ap (λ (f : Facts). f.date) (c.facts.view_is ∙ c.facts-facts.ensures) in
+    subst (IsFirstAfter (One c.args.entry.now) c.args.time) (sym c.facts-facts.ensures) (one_after c.args.entry.now c.args.time (subst (λ d. c.args.time < d) date c.if-time-facts.true))

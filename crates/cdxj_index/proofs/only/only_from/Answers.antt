@@ -7,5 +7,5 @@ use Rattle.cdxj_index.proofs.only.only_from.Goals as goal
 
 pub returns-then-date-facts-clause-some : goal.returns-then-date-facts-clause-some
 returns-then-date-facts-clause-some c =
-    let date = ap (λ (f : Facts). f.date) (c.facts.view_is ∙ c.deref-facts.ensures) in
-    subst (IsFirstFrom (One c.args.entry.now) c.args.date) (sym c.deref-facts.ensures) (one_from c.args.entry.now c.args.date (subst (λ d. c.args.date ≤ d) date c.if-date-facts.true))
+    let date = ap (λ (f : Facts). f.date) (c.facts.view_is ∙ c.facts-facts.ensures) in
+    subst (IsFirstFrom (One c.args.entry.now) c.args.date) (sym c.facts-facts.ensures) (one_from c.args.entry.now c.args.date (subst (λ d. c.args.date ≤ d) date c.if-date-facts.true))

@@ -7,5 +7,5 @@ use Rattle.cdxj_index.proofs.only.only_until.Goals as goal
 
 pub returns-then-facts-time-clause-some : goal.returns-then-facts-time-clause-some
 returns-then-facts-time-clause-some c =
-    let date = ap (λ (f : Facts). f.date) (c.facts.view_is ∙ c.deref-facts.ensures) in
-    subst (IsLastUntil (One c.args.entry.now) c.args.time) (sym c.deref-facts.ensures) (one_until c.args.entry.now c.args.time (subst (λ d. d ≤ c.args.time) date c.if-facts-time.true))
+    let date = ap (λ (f : Facts). f.date) (c.facts.view_is ∙ c.facts-facts.ensures) in
+    subst (IsLastUntil (One c.args.entry.now) c.args.time) (sym c.facts-facts.ensures) (one_until c.args.entry.now c.args.time (subst (λ d. d ≤ c.args.time) date c.if-facts-time.true))

@@ -1,6 +1,5 @@
 use Rattle.std.proofs.Common.{◌≡◌, ◌^◌, ◌<◌, Some, rules, ap, subst, sym, ◌∙◌}
-use Rattle.std.specs.Arc.{arc_value}
-use Rattle.cdxj_index.specs.Maps.{Changes}
+use Rattle.cdxj_index.specs.Maps.{Changes, entry_of}
 use Rattle.cdxj_index.specs.Order.{Moment, moment_of}
 use Rattle.cdxj_index.proofs.Changes.{put_there, keys_there, put_first, keys_first, same_there, keys_same, keys_alike, on_err}
 use Rattle.cdxj_index.proofs.entry_map.EntryMap.insert.Goals as goal
@@ -23,15 +22,15 @@ returns-in-Some-clause-keys c =
     let moment : c.moment-moment.result ≡ (c.facts.inside.date, c.facts.inside.number) = c.moment-moment.ensures.value ∙ ap moment_of (sym c.facts.view_is) in
     let fits : c.facts.inside.number < 2 ^ 32 = subst (λ (m : Moment). m.1 < 2 ^ 32) moment c.moment-moment.ensures.fits in
     let written = c.get_mut.follows.holds c.insert.new.self in
-    keys_there c.args.self.now.keys (c.get_mut.follows.lender c.insert.new.self) c.in-Some.captures.now c.insert.new.self c.args.entry _ (c.facts.view_is ∙ c.deref-facts.ensures) fits c.requires c.in-Some.ensures.value written.4 (written.3 (search rules)) c.in_ok-insert.ensures.ordered
-    (subst (λ m. Changes c.in-Some.captures.now c.insert.new.self m (Some (arc_value c.args.entry))) moment c.in_ok-insert.ensures.ok)
+    keys_there c.args.self.now.keys (c.get_mut.follows.lender c.insert.new.self) c.in-Some.captures.now c.insert.new.self c.args.entry _ (c.facts.view_is ∙ c.facts-facts.ensures) fits c.requires c.in-Some.ensures.value written.4 (written.3 (search rules)) c.in_ok-insert.ensures.ordered
+    (subst (λ m. Changes c.in-Some.captures.now c.insert.new.self m (Some (entry_of c.args.entry))) moment c.in_ok-insert.ensures.ok)
 
 pub returns-in-Some-clause-ok : goal.returns-in-Some-clause-ok
 returns-in-Some-clause-ok c =
     let moment : c.moment-moment.result ≡ (c.facts.inside.date, c.facts.inside.number) = c.moment-moment.ensures.value ∙ ap moment_of (sym c.facts.view_is) in
     let written = c.get_mut.follows.holds c.insert.new.self in
-    put_there c.args.self.now.keys (c.get_mut.follows.lender c.insert.new.self) c.in-Some.captures.now c.insert.new.self c.args.entry _ (c.facts.view_is ∙ c.deref-facts.ensures) c.in-Some.ensures.value (written.3 (search rules))
-    (subst (λ m. Changes c.in-Some.captures.now c.insert.new.self m (Some (arc_value c.args.entry))) moment c.in_ok-insert.ensures.ok)
+    put_there c.args.self.now.keys (c.get_mut.follows.lender c.insert.new.self) c.in-Some.captures.now c.insert.new.self c.args.entry _ (c.facts.view_is ∙ c.facts-facts.ensures) c.in-Some.ensures.value (written.3 (search rules))
+    (subst (λ m. Changes c.in-Some.captures.now c.insert.new.self m (Some (entry_of c.args.entry))) moment c.in_ok-insert.ensures.ok)
 
 pub returns-in_err-insert-2-clause-keys : goal.returns-in_err-insert-2-clause-keys
 returns-in_err-insert-2-clause-keys c =
@@ -43,9 +42,9 @@ returns-clause-keys c =
     let moment : c.moment-moment.result ≡ (c.facts.inside.date, c.facts.inside.number) = c.moment-moment.ensures.value ∙ ap moment_of (sym c.facts.view_is) in
     let fits : c.facts.inside.number < 2 ^ 32 = subst (λ (m : Moment). m.1 < 2 ^ 32) moment c.moment-moment.ensures.fits in
     let updates = rw c.in_ok-key.ensures at (rw c.get_mut.follows.holds-at-none at c.in_ok-insert-2.ensures.updates) in
-    keys_first c.args.self.now.keys c.insert-2.new.self c.args.entry _ (c.facts.view_is ∙ c.deref-facts.ensures) fits c.requires c.in_ok-insert-2.ensures.ordered updates
+    keys_first c.args.self.now.keys c.insert-2.new.self c.args.entry _ (c.facts.view_is ∙ c.facts-facts.ensures) fits c.requires c.in_ok-insert-2.ensures.ordered updates
 
 pub returns-clause-ok : goal.returns-clause-ok
 returns-clause-ok c =
     let updates = rw c.in_ok-key.ensures at (rw c.get_mut.follows.holds-at-none at c.in_ok-insert-2.ensures.updates) in
-    put_first c.args.self.now.keys c.insert-2.new.self c.args.entry _ (c.facts.view_is ∙ c.deref-facts.ensures) (sym c.in_default.ensures.value) updates
+    put_first c.args.self.now.keys c.insert-2.new.self c.args.entry _ (c.facts.view_is ∙ c.facts-facts.ensures) (sym c.in_default.ensures.value) updates

@@ -6,7 +6,7 @@ use Rattle.cdxj_index.proofs.index.Index.add.Goals as goal
 
 pub invariant_of-self-else-is_err : goal.invariant_of-self-else-is_err
 invariant_of-self-else-is_err c =
-    (added c.self.inside.map.keys c.insert-2.new.self.keys c.self.inside.numbers c.insert.new.self c.in_ok-shared.shared c.in_ok-entry.entry c.args.entry c.entry.inside.number c.in_ok-insert.field-0 c.args.self.now c.insert-2.result (c.in_ok-shared.ensures ∙ c.in_ok-entry.ensures.ok) c.in_ok-entry.ensures.ok (ap (λ (f : Facts). f.number) c.entry.view_is) c.self.invariant c.self.view_is c.requires c.insert-2.ensures.keys (sym c.is_err.ensures.value ∙ c.if-is_err.false) c.insert-2.ensures.ok c.in_ok-insert.ensures.old c.in_ok-insert.ensures.updates c.in_ok-insert.ensures.len).0
+    (added c.self.inside.map.keys c.insert-2.new.self.keys c.self.inside.numbers c.insert.new.self c.in_ok-shared.shared c.in_ok-entry.entry c.args.entry c.entry.inside.number c.in_ok-insert.field-0 c.args.self.now c.insert-2.result (c.in_ok-shared.ensures ∙ c.in_ok-entry.ensures) c.in_ok-entry.ensures (ap (λ (f : Facts). f.number) c.entry.view_is) c.self.invariant c.self.view_is c.requires c.insert-2.ensures.keys (sym c.is_err.ensures.value ∙ c.if-is_err.false) c.insert-2.ensures.ok c.in_ok-insert.ensures.old c.in_ok-insert.ensures.updates c.in_ok-insert.ensures.len).0
 
 pub invariant_of-self-then-is_err : goal.invariant_of-self-then-is_err
 invariant_of-self-then-is_err c =
@@ -14,7 +14,7 @@ invariant_of-self-then-is_err c =
 
 pub returns-clause-ok : goal.returns-clause-ok
 returns-clause-ok c =
-    (added c.self.inside.map.keys c.insert-2.new.self.keys c.self.inside.numbers c.insert.new.self c.in_ok-shared.shared c.in_ok-entry.entry c.args.entry c.entry.inside.number c.in_ok-insert.field-0 c.args.self.now c.insert-2.result (c.in_ok-shared.ensures ∙ c.in_ok-entry.ensures.ok) c.in_ok-entry.ensures.ok (ap (λ (f : Facts). f.number) c.entry.view_is) c.self.invariant c.self.view_is c.requires c.insert-2.ensures.keys (sym c.is_err.ensures.value ∙ c.if-is_err.false) c.insert-2.ensures.ok c.in_ok-insert.ensures.old c.in_ok-insert.ensures.updates c.in_ok-insert.ensures.len).1
+    (added c.self.inside.map.keys c.insert-2.new.self.keys c.self.inside.numbers c.insert.new.self c.in_ok-shared.shared c.in_ok-entry.entry c.args.entry c.entry.inside.number c.in_ok-insert.field-0 c.args.self.now c.insert-2.result (c.in_ok-shared.ensures ∙ c.in_ok-entry.ensures) c.in_ok-entry.ensures (ap (λ (f : Facts). f.number) c.entry.view_is) c.self.invariant c.self.view_is c.requires c.insert-2.ensures.keys (sym c.is_err.ensures.value ∙ c.if-is_err.false) c.insert-2.ensures.ok c.in_ok-insert.ensures.old c.in_ok-insert.ensures.updates c.in_ok-insert.ensures.len).1
 
 pub returns-then-is_err-clause-err : goal.returns-then-is_err-clause-err
 returns-then-is_err-clause-err c =

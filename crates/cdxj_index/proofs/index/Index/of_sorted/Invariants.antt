@@ -1,11 +1,10 @@
-use Rattle.std.proofs.Common.{◌≡◌, ◌++◌}
+use Rattle.std.proofs.Common.{◌≡◌, ◌++◌, drop}
 use Rattle.cdxj_index.specs.Groups.{AreGroups}
 use Rattle.cdxj_index.specs.Maps.{shown_all}
 use Rattle.cdxj_index.proofs.Built.{by_numbers, values_shown}
 use Rattle.cdxj_index.proofs.index.Index.of_sorted.Given as goal
 
-abbrev pub invariant-loop-entry : goal.invariant-loop-entry
-invariant-loop-entry l =
-    (goal.iterator-loop-entry).can_next l.entry-iterator × (goal.iterator-loop-entry).is_finite l.entry-iterator
-    × AreGroups l.groups.items × (values_shown l.numbers.items ≡ by_numbers (shown_all l.groups.items))
-    × (shown_all l.groups.items ++ l.entry-iterator.rest.items ≡ l.fn.entries.items)
+abbrev pub invariant-loop-place : goal.invariant-loop-place
+invariant-loop-place l =
+    AreGroups l.groups.items × (values_shown l.numbers.items ≡ by_numbers (shown_all l.groups.items))
+    × (shown_all l.groups.items ++ drop l.place l.fn.entries.items ≡ l.fn.entries.items)
