@@ -18,17 +18,21 @@ pub(crate) fn without_brackets(host: &str) -> &str
 mod tests {
     use super::*;
 
+    /// Hosts with and without brackets.
+    static HOSTS: [(&str, &str); 6] = [
+        ("[::1]", "::1"),
+        ("a.test", "a.test"),
+        ("[", "["),
+        ("[::1", "[::1"),
+        ("::1]", "::1]"),
+        ("[]", ""),
+    ];
+
+    // No case can say it: a case neither binds nor dials a host of its own by TCP.
     #[test]
     fn takes_brackets_off_as_a_pair(rt: HostRuntime) {
-        for (host, want) in [
-            ("[::1]", "::1"),
-            ("a.test", "a.test"),
-            ("[", "["),
-            ("[::1", "[::1"),
-            ("::1]", "::1]"),
-            ("[]", ""),
-        ] {
-            assert_eq!(rt; without_brackets(host), want);
+        for (host, want) in &HOSTS {
+            assert_eq!(rt; without_brackets(host), *want);
         }
     }
 }

@@ -107,8 +107,22 @@ fn counted_dial(faults: &mut u64, error: DialError) -> DialError
 #[cfg(test)]
 mod tests {
     use super::*;
-    use outside::Link;
+    use outside::{Failed, Link};
 
+    const REQUEST: &[u8] = b"GET /x HTTP/1.1\r\nHost: a.test\r\n\r\n";
+
+    const RESPONSE: &[u8] =
+        b"HTTP/1.1 200 OK\r\nContent-Type: text/plain\r\nContent-Length: 3\r\n\r\n/x\n";
+
+    /// What a write of the request and a read answer, and whether the response was read.
+    fn asked<L: Link>(link: &mut L) -> ([Result<usize, Failed>; 2], bool) {
+        let mut into = [0u8; 128];
+        let sent = link.write(REQUEST);
+        let read = link.read(&mut into);
+        ([sent, read], into.starts_with(RESPONSE))
+    }
+
+    // No case can say it: a case dials its own origin, and not through the objects of the system.
     #[test]
     fn dials_the_trial_origin(rt: HostRuntime) {
         let mut dialer: RealDialer<HostRuntime> = RealDialer::Echo {
@@ -118,13 +132,9 @@ mod tests {
         let Ok(mut link) = dialer.dial("a.test", 80) else {
             panic!(rt; "no link");
         };
-        let request = b"GET /x HTTP/1.1\r\nHost: a.test\r\n\r\n";
-        assert_eq!(rt; link.write(request), Ok(request.len()));
-        let mut into = [0u8; 128];
-        let want = b"HTTP/1.1 200 OK\r\nContent-Type: text/plain\r\nContent-Length: 3\r\n\r\n/x\n";
-        assert_eq!(rt; link.read(&mut into), Ok(want.len()));
-        assert!(rt; into.starts_with(want));
+        let answers = asked(&mut link);
         dialer.hang_up(link);
+        assert_eq!(rt; answers, ([Ok(REQUEST.len()), Ok(RESPONSE.len())], true));
         assert!(rt; matches!(dialer, RealDialer::Echo { faults: 0, .. }));
     }
 }

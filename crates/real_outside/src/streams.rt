@@ -89,10 +89,15 @@ mod tests {
     use super::*;
 
     /// A stream whose calls are interrupted so often, and then give or take so much.
-    #[derive(Drop)]
+    #[derive(Clone, Copy)]
     struct Interrupted {
         often: u32,
         then: usize,
+    }
+
+    /// A stream that is interrupted so often, and has so much then.
+    fn stream_of(often: u32, then: usize) -> Interrupted {
+        Interrupted { often, then }
     }
 
     impl Interrupted {
@@ -123,28 +128,34 @@ mod tests {
         }
     }
 
+    /// How often a call is interrupted, what the stream has then, and what a read and a write answer.
+    type Row = (u32, usize, Option<usize>, Option<usize>);
+
+    static ROWS: [Row; 4] = [
+        (0, 3, Some(3), Some(3)),
+        (2, 9, Some(4), Some(4)),
+        (2, 0, Some(0), None),
+        (1_000, 3, None, None),
+    ];
+
+    // No case can say it: no call of a case is interrupted by a signal.
     #[test]
     fn tries_again(rt: HostRuntime) {
         let mut into = [0u8; 4];
-        for (often, then, read, written) in [
-            (0, 3, Some(3), Some(3)),
-            (2, 9, Some(4), Some(4)),
-            (2, 0, Some(0), None),
-            (1_000, 3, None, None),
-        ] {
-            let n = read_some(&mut Interrupted { often, then }, &mut into).ok();
-            assert_eq!(rt; n, read);
-            let n = write_some(&mut Interrupted { often, then }, b"four").ok();
-            assert_eq!(rt; n, written);
+        for (often, then, read, written) in &ROWS {
+            let came = read_some(&mut stream_of(*often, *then), &mut into).ok();
+            let went = write_some(&mut stream_of(*often, *then), b"four").ok();
+            assert_eq!(rt; (came, went), (*read, *written));
         }
     }
 
+    // No case can say it: the input of a case gives nothing more after its end.
     #[test]
     fn stays_at_its_end(rt: HostRuntime) {
         let mut into = [0u8; 4];
         let mut input = EndingInput::new(Interrupted { often: 0, then: 0 });
-        assert_eq!(rt; input.read(&mut into).ok(), Some(0));
+        let end = input.read(&mut into).ok();
         input.stream.then = 3;
-        assert_eq!(rt; input.read(&mut into).ok(), Some(0));
+        assert_eq!(rt; (end, input.read(&mut into).ok()), (Some(0), Some(0)));
     }
 }

@@ -86,15 +86,21 @@ impl FileSystem for HostRuntime {
 #[cfg(test)]
 mod tests {
     use super::*;
-    use std::test::Fail;
+
+    /// Which syncs of what can't be synced are refused: of data, of a whole file and of a folder.
+    fn refused_syncs(rt: &mut HostRuntime, file: &File) -> [bool; 3] {
+        let data = rt.sync_data(file).is_err();
+        let all = rt.sync_all(file).is_err();
+        [data, all, rt.sync_folder("/proc").is_err()]
+    }
 
     /// What can't be synced is refused, so the calls are the system's.
+    // No case can say it: a case has a disk in memory, and asks the system for no sync.
     #[test]
-    fn syncs_are_asked_of_the_system(mut rt: HostRuntime) -> Result<(), Fail> {
-        let null = rt.open("/dev/null", Access::Update)?;
-        assert!(rt; rt.sync_data(&null).is_err());
-        assert!(rt; rt.sync_all(&null).is_err());
-        assert!(rt; rt.sync_folder("/proc").is_err());
-        Ok(())
+    fn syncs_are_asked_of_the_system(mut rt: HostRuntime) {
+        let Ok(null) = rt.open("/dev/null", Access::Update) else {
+            panic!(rt; "no file");
+        };
+        assert_eq!(rt; refused_syncs(&mut rt, &null), [true, true, true]);
     }
 }

@@ -100,22 +100,48 @@ impl Network for HostRuntime {
 #[cfg(test)]
 mod tests {
     use super::*;
-    use std::test::Fail;
 
-    /// What a socket was told is what the system says of it.
-    #[test]
-    fn settings_are_the_systems(mut rt: HostRuntime) -> Result<(), Fail> {
+    /// A listener, and a connection of this process to it.
+    fn connected(mut rt: HostRuntime) -> io::Result<(TcpListener, SystemSocket)> {
         let listener = rt.listen("127.0.0.1", 0)?;
         let address = listener.local_addr()?;
-        let mut socket = Network::connect(&mut rt, address, 10_000)?;
+        let socket = Network::connect(&mut rt, address, 10_000)?;
+        Ok((listener, socket))
+    }
+
+    /// Tells a socket its settings.
+    fn tell(socket: &mut SystemSocket) -> io::Result<()> {
         socket.limit_reads(1_000)?;
         socket.limit_writes(2_000)?;
-        socket.send_at_once()?;
-        assert!(rt; socket.stream.nodelay()?);
+        socket.send_at_once()
+    }
+
+    /// Whether a socket sends at once, and the limits of its reads and its writes.
+    type Settings = (bool, Option<Duration>, Option<Duration>);
+
+    /// What the system says of a socket.
+    fn settings_of(socket: &SystemSocket) -> io::Result<Settings> {
+        let at_once = socket.stream.nodelay()?;
         let reads = socket.stream.read_timeout()?;
-        assert_eq!(rt; reads, Some(Duration::from_secs(1)));
-        let writes = socket.stream.write_timeout()?;
-        assert_eq!(rt; writes, Some(Duration::from_secs(2)));
-        Ok(())
+        Ok((at_once, reads, socket.stream.write_timeout()?))
+    }
+
+    /// What the system says of a socket that was told its settings.
+    fn told_settings(rt: HostRuntime) -> io::Result<Settings> {
+        let (_listener, mut socket) = connected(rt)?;
+        tell(&mut socket)?;
+        settings_of(&socket)
+    }
+
+    /// What a socket was told is what the system says of it.
+    // No case can say it: the links of a case are no sockets, and have no settings.
+    #[test]
+    fn settings_are_the_systems(rt: HostRuntime) {
+        let want = (
+            true,
+            Some(Duration::from_secs(1)),
+            Some(Duration::from_secs(2)),
+        );
+        assert_eq!(rt; told_settings(rt).ok(), Some(want));
     }
 }

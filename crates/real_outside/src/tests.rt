@@ -3,6 +3,8 @@
 mod accepting;
 mod durability;
 mod loopback;
+mod real_folder;
 mod recorded_files;
 mod recorded_network;
 mod waiting;
+mod written;

@@ -1,13 +1,14 @@
 //! What the folder asks of the file system, in which order, and what a call that fails leaves.
+//! No case can say it: a case plays over a disk in memory, which asks no file system.
 use super::recorded_files::RecordedFiles;
+use super::written::{Written, check, joined, written};
 use crate::folder_disk::FolderDisk;
 use disk_model::{Disk, Kind};
-use std::alloc::{AllocError, Global};
+use std::alloc::Global;
 use std::io::ErrorKind;
-use std::test::Fail;
 
 /// One call of the disk, on Warc files.
-#[derive(Clone, Copy, Debug)]
+#[derive(Clone, Copy)]
 enum Step {
     Files,
     Create,
@@ -21,16 +22,16 @@ enum Step {
 use Step::{Create, Cut, Files, Len, Read, Sync, Write};
 
 /// The calls that steps made, and behind them how many steps failed.
-fn calls_of(alloc: Global, files: RecordedFiles, steps: &[Step]) -> Result<String, AllocError> {
+fn calls_of(alloc: Global, files: RecordedFiles, steps: &[Step]) -> Written {
     let mut disk = FolderDisk::new(files, alloc);
     for step in steps {
         take(&mut disk, *step);
     }
-    let faults = disk.faults();
-    let calls = disk.system().calls.as_str();
-    format!(in alloc; "{calls}{faults}")
+    let faults = written(disk.faults());
+    joined(disk.system().calls, faults.as_str())
 }
 
+/// Takes one step. The count of faults says whether it failed.
 fn take(disk: &mut FolderDisk<RecordedFiles>, step: Step) {
     let mut into = [0u8; 2];
     let _ok = match step {
@@ -44,112 +45,114 @@ fn take(disk: &mut FolderDisk<RecordedFiles>, step: Step) {
     };
 }
 
+/// A folder without files.
+fn no_volume() -> RecordedFiles {
+    RecordedFiles::new(["", "", ""], 0)
+}
+
 /// A folder of two volumes of three bytes.
-fn two_volumes(alloc: Global) -> RecordedFiles {
-    let mut files = RecordedFiles::new(alloc);
-    files.names = ["vol-000001.warc", "lock", "vol-000000.warc"];
-    files.len = 3;
-    files
+fn two_volumes() -> RecordedFiles {
+    RecordedFiles::new(["vol-000001.warc", "lock", "vol-000000.warc"], 3)
 }
 
 #[test]
-fn a_file_is_durable_before_it_is_told(rt: HostRuntime) -> Result<(), Fail> {
-    let mut files = RecordedFiles::new(rt.alloc());
+fn a_file_is_durable_before_it_is_told(rt: HostRuntime) {
+    let mut files = no_volume();
     files.fails[0] = (0, ErrorKind::NotFound);
-    let calls = calls_of(
-        rt.alloc(),
-        files,
-        &[Files, Create, Write(0), Sync(0), Create],
-    )?;
-    assert_eq!(rt;
-        calls.as_str(),
-        "lock archive/lock;make archive;lock archive/lock;create vol-000000.warc;sync all vol-000000.warc;sync folder archive;sync folder .;write 3 at 0 of vol-000000.warc;sync data vol-000000.warc;create vol-000001.warc;sync all vol-000001.warc;sync folder archive;0"
+    check(
+        &rt,
+        calls_of(
+            rt.alloc(),
+            files,
+            &[Files, Create, Write(0), Sync(0), Create],
+        ),
+        "lock archive/lock;make archive;lock archive/lock;create vol-000000.warc;sync all vol-000000.warc;sync folder archive;sync folder .;write 3 at 0 of vol-000000.warc;sync data vol-000000.warc;create vol-000001.warc;sync all vol-000001.warc;sync folder archive;0",
     );
-    Ok(())
 }
 
 #[test]
-fn two_files_stay_open_with_their_lengths(rt: HostRuntime) -> Result<(), Fail> {
-    let steps = [
-        Files,
-        Write(1),
-        Sync(1),
-        Sync(1),
-        Read(0),
-        Len(0),
-        Read(1),
-        Cut(1),
-        Read(1),
-    ];
-    let calls = calls_of(rt.alloc(), two_volumes(rt.alloc()), &steps)?;
-    assert_eq!(rt;
-        calls.as_str(),
-        "lock archive/lock;list archive;open to write vol-000001.warc;len vol-000001.warc;write 3 at 0 of vol-000001.warc;sync data vol-000001.warc;sync folder archive;sync folder .;sync data vol-000001.warc;open to read vol-000000.warc;len vol-000000.warc;read 2 at 1 of vol-000000.warc;read 2 at 1 of vol-000001.warc;cut to 1 vol-000001.warc;1"
+fn two_files_stay_open_with_their_lengths(rt: HostRuntime) {
+    check(
+        &rt,
+        calls_of(
+            rt.alloc(),
+            two_volumes(),
+            &[
+                Files,
+                Write(1),
+                Sync(1),
+                Sync(1),
+                Read(0),
+                Len(0),
+                Read(1),
+                Cut(1),
+                Read(1),
+            ],
+        ),
+        "lock archive/lock;list archive;open to write vol-000001.warc;len vol-000001.warc;write 3 at 0 of vol-000001.warc;sync data vol-000001.warc;sync folder archive;sync folder .;sync data vol-000001.warc;open to read vol-000000.warc;len vol-000000.warc;read 2 at 1 of vol-000000.warc;read 2 at 1 of vol-000001.warc;cut to 1 vol-000001.warc;1",
     );
-    Ok(())
 }
 
 #[test]
-fn short_reads_and_writes_go_on(rt: HostRuntime) -> Result<(), Fail> {
-    let mut files = two_volumes(rt.alloc());
+fn short_reads_and_writes_go_on(rt: HostRuntime) {
+    let mut files = two_volumes();
     files.most = 2;
     files.fails[0] = (4, ErrorKind::Interrupted);
-    let calls = calls_of(rt.alloc(), files, &[Files, Write(0), Read(0)])?;
-    assert_eq!(rt;
-        calls.as_str(),
-        "lock archive/lock;list archive;open to write vol-000000.warc;len vol-000000.warc;write 2 at 0 of vol-000000.warc;write 2 at 0 of vol-000000.warc;write 1 at 2 of vol-000000.warc;read 2 at 1 of vol-000000.warc;0"
+    check(
+        &rt,
+        calls_of(rt.alloc(), files, &[Files, Write(0), Read(0)]),
+        "lock archive/lock;list archive;open to write vol-000000.warc;len vol-000000.warc;write 2 at 0 of vol-000000.warc;write 2 at 0 of vol-000000.warc;write 1 at 2 of vol-000000.warc;read 2 at 1 of vol-000000.warc;0",
     );
-    Ok(())
 }
 
+/// How the lock is refused alone and shared, what is done, and the calls and faults of that.
+type Refused = (ErrorKind, ErrorKind, &'static [Step], &'static str);
+
+static REFUSED: [Refused; 3] = [
+    (
+        ErrorKind::ReadOnlyFilesystem,
+        ErrorKind::NotFound,
+        &[Files, Read(0), Write(0), Cut(0), Create],
+        "lock archive/lock;share archive/lock;list archive;open to read vol-000000.warc;len vol-000000.warc;read 2 at 1 of vol-000000.warc;3",
+    ),
+    (
+        ErrorKind::PermissionDenied,
+        ErrorKind::NotFound,
+        &[Files, Read(0), Write(0), Cut(0), Create],
+        "lock archive/lock;share archive/lock;list archive;open to read vol-000000.warc;len vol-000000.warc;read 2 at 1 of vol-000000.warc;3",
+    ),
+    (
+        ErrorKind::PermissionDenied,
+        ErrorKind::WouldBlock,
+        &[Files, Files, Read(0)],
+        "lock archive/lock;share archive/lock;lock archive/lock;list archive;open to read vol-000000.warc;len vol-000000.warc;read 2 at 1 of vol-000000.warc;1",
+    ),
+];
+
 #[test]
-fn a_folder_is_read_where_it_cannot_be_written(rt: HostRuntime) -> Result<(), Fail> {
-    for (kind, shared, want) in [
-        (
-            ErrorKind::ReadOnlyFilesystem,
-            ErrorKind::NotFound,
-            "lock archive/lock;share archive/lock;list archive;open to read vol-000000.warc;len vol-000000.warc;read 2 at 1 of vol-000000.warc;3",
-        ),
-        (
-            ErrorKind::PermissionDenied,
-            ErrorKind::NotFound,
-            "lock archive/lock;share archive/lock;list archive;open to read vol-000000.warc;len vol-000000.warc;read 2 at 1 of vol-000000.warc;3",
-        ),
-        (
-            ErrorKind::PermissionDenied,
-            ErrorKind::WouldBlock,
-            "lock archive/lock;share archive/lock;lock archive/lock;list archive;open to read vol-000000.warc;len vol-000000.warc;read 2 at 1 of vol-000000.warc;1",
-        ),
-    ] {
-        let mut files = two_volumes(rt.alloc());
-        files.fails = [(0, kind), (1, shared)];
-        let calls = match shared {
-            ErrorKind::WouldBlock => calls_of(rt.alloc(), files, &[Files, Files, Read(0)])?,
-            _ => calls_of(
-                rt.alloc(),
-                files,
-                &[Files, Read(0), Write(0), Cut(0), Create],
-            )?,
-        };
-        assert_eq!(rt; calls.as_str(), want);
+fn a_folder_is_read_where_it_cannot_be_written(rt: HostRuntime) {
+    for (alone, shared, steps, want) in &REFUSED {
+        let mut files = two_volumes();
+        files.fails = [(0, *alone), (1, *shared)];
+        check(&rt, calls_of(rt.alloc(), files, steps), want);
     }
-    Ok(())
 }
 
 #[test]
-fn a_folder_is_refused(rt: HostRuntime) -> Result<(), Fail> {
-    let mut held = RecordedFiles::new(rt.alloc());
+fn a_folder_is_refused(rt: HostRuntime) {
+    let mut held = no_volume();
     held.fails[0] = (0, ErrorKind::WouldBlock);
-    let calls = calls_of(rt.alloc(), held, &[Files])?;
-    assert_eq!(rt; calls.as_str(), "lock archive/lock;1");
-    let mut gap = RecordedFiles::new(rt.alloc());
-    gap.names = ["vol-000000.warc", "vol-000002.warc", ""];
-    let calls = calls_of(rt.alloc(), gap, &[Files, Create])?;
-    assert_eq!(rt;
-        calls.as_str(),
-        "lock archive/lock;list archive;list archive;2"
+    check(
+        &rt,
+        calls_of(rt.alloc(), held, &[Files]),
+        "lock archive/lock;1",
     );
-    Ok(())
+    let gap = RecordedFiles::new(["vol-000000.warc", "vol-000002.warc", ""], 0);
+    check(
+        &rt,
+        calls_of(rt.alloc(), gap, &[Files, Create]),
+        "lock archive/lock;list archive;list archive;2",
+    );
 }
 
 /// What each call that fails once leaves to do.
@@ -165,12 +168,14 @@ static FAILING_ONCE: [&str; 8] = [
 ];
 
 #[test]
-fn each_call_fails_once(rt: HostRuntime) -> Result<(), Fail> {
+fn each_call_fails_once(rt: HostRuntime) {
     for (number, want) in FAILING_ONCE.iter().enumerate() {
-        let mut files = RecordedFiles::new(rt.alloc());
+        let mut files = no_volume();
         files.fails[0] = (number, ErrorKind::Other);
-        let calls = calls_of(rt.alloc(), files, &[Files, Create, Write(0), Sync(0)])?;
-        assert_eq!(rt; calls.as_str(), *want);
+        check(
+            &rt,
+            calls_of(rt.alloc(), files, &[Files, Create, Write(0), Sync(0)]),
+            want,
+        );
     }
-    Ok(())
 }

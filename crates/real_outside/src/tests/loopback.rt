@@ -1,4 +1,5 @@
 //! Connections on the loopback, once each.
+//! No case can say it: a case has no sockets, so nothing there is reset, waited for or lost on its way.
 use crate::dialer::RealDialer;
 use crate::gate::RealGate;
 use crate::limits::{LIMITS, Limits};
@@ -8,7 +9,6 @@ use outside::{Accepted, Dialer, Failed, Gate, Link};
 use std::alloc::Global;
 use std::io::{Read, Write};
 use std::net::{Shutdown, TcpListener, TcpStream};
-use std::test::Fail;
 use std::thread;
 
 const HOST: &str = "127.0.0.1";
@@ -29,17 +29,28 @@ const SHORT: Limits = Limits {
     most_pauses: 1,
 };
 
-/// A gate that listens, and its port.
-fn gate_on(rt: HostRuntime, limits: Limits) -> Result<(RealGate<HostRuntime>, u16), Fail> {
-    let listener = TcpListener::bind(&rt, (HOST, 0))?;
-    let port = listener.local_addr()?.port();
-    let gate = RealGate::Tcp {
-        gate: TcpGate::listening(rt, listener, limits),
-        faults: 0,
-    };
-    Ok((gate, port))
+/// A listener on a port of the system's choice, and that port.
+fn listener(rt: HostRuntime) -> Option<(TcpListener, u16)> {
+    let listener = TcpListener::bind(&rt, (HOST, 0)).ok()?;
+    let port = listener.local_addr().ok()?.port();
+    Some((listener, port))
 }
 
+/// A gate that listens there.
+fn gate_of(rt: HostRuntime, listener: TcpListener, limits: Limits) -> RealGate<HostRuntime> {
+    RealGate::Tcp {
+        gate: TcpGate::listening(rt, listener, limits),
+        faults: 0,
+    }
+}
+
+/// A gate that listens, and its port.
+fn gate_on(rt: HostRuntime, limits: Limits) -> Option<(RealGate<HostRuntime>, u16)> {
+    let (listener, port) = listener(rt)?;
+    Some((gate_of(rt, listener, limits), port))
+}
+
+/// A dialer with these limits.
 fn dialer_on(rt: HostRuntime, limits: Limits) -> RealDialer<HostRuntime> {
     RealDialer::Tcp {
         network: rt,
@@ -95,98 +106,184 @@ fn read_all<L: Link>(alloc: Global, link: &mut L, many: usize) -> Option<Vec<u8>
 
 /// So many bytes, of which none is its neighbour's.
 fn pattern(alloc: Global, many: usize) -> Option<Vec<u8>> {
-    let mut bytes = Vec::with_capacity(alloc, many).ok()?;
-    for i in 0..many {
-        bytes.push((i % 251) as u8).ok()?;
+    let mut bytes = vec![in alloc; 0; many].ok()?;
+    for (i, byte) in bytes.iter_mut().enumerate() {
+        *byte = (i % 251) as u8;
     }
     Some(bytes)
 }
 
-/// Sends bytes to a port, and answers whether the same came back and then the end.
-fn asks_for_echo(rt: HostRuntime, port: u16) -> Option<bool> {
-    let mut dialer = dialer_on(rt, LIMITS);
-    let bytes = pattern(rt.alloc(), ECHO)?;
-    let mut link = dialer.dial(HOST, port).ok()?;
-    let sent = write_all(&mut link, bytes.as_slice());
-    let back = read_all(rt.alloc(), &mut link, ECHO)?;
+/// Whether bytes that are sent come back, and then the end.
+fn comes_back<L: Link>(alloc: Global, link: &mut L, bytes: &[u8]) -> bool {
+    let sent = write_all(link, bytes);
+    let same = match read_all(alloc, link, ECHO) {
+        Some(back) => back.as_slice() == bytes,
+        None => false,
+    };
     let ends = link.read(&mut [0u8; 1]) == Ok(0);
+    sent && same && ends
+}
+
+/// Sends bytes to a port, and answers whether the same came back and then the end.
+fn asks_for_echo(rt: HostRuntime, port: u16) -> bool {
+    let Some(bytes) = pattern(rt.alloc(), ECHO) else {
+        return false;
+    };
+    let mut dialer = dialer_on(rt, LIMITS);
+    let Ok(mut link) = dialer.dial(HOST, port) else {
+        return false;
+    };
+    let same = comes_back(rt.alloc(), &mut link, bytes.as_slice());
     dialer.hang_up(link);
-    Some(sent && ends && back.as_slice() == bytes.as_slice())
+    same
+}
+
+/// Whether a megabyte came on a link and was given back.
+fn goes_back<L: Link>(alloc: Global, link: &mut L) -> bool {
+    match read_all(alloc, link, ECHO) {
+        Some(bytes) => bytes.len() == ECHO && write_all(link, bytes.as_slice()),
+        None => false,
+    }
 }
 
 /// Gives the next connection back what came on it.
-fn gives_echo(rt: HostRuntime, mut gate: RealGate<HostRuntime>) -> Option<bool> {
-    let mut link = accepted(&mut gate)?;
-    let bytes = read_all(rt.alloc(), &mut link, ECHO)?;
-    let given = write_all(&mut link, bytes.as_slice());
+fn gives_echo(rt: HostRuntime, listener: TcpListener) -> bool {
+    let mut gate = gate_of(rt, listener, LIMITS);
+    let Some(mut link) = accepted(&mut gate) else {
+        return false;
+    };
+    let given = goes_back(rt.alloc(), &mut link);
     gate.hang_up(RealGate::<HostRuntime>::end(link));
-    Some(given && bytes.len() == ECHO)
+    given
 }
 
 #[test]
-fn echoes_a_megabyte(rt: HostRuntime) -> Result<(), Fail> {
-    let (gate, port) = gate_on(rt, LIMITS)?;
+fn echoes_a_megabyte(rt: HostRuntime) {
+    let Some((listener, port)) = listener(rt) else {
+        panic!(rt; "no listener");
+    };
     let both = thread::join(
         &rt,
-        move || gives_echo(rt, gate),
+        move || gives_echo(rt, listener),
         move || asks_for_echo(rt, port),
     );
-    assert_eq!(rt; both, (Some(true), Some(true)));
-    Ok(())
+    assert_eq!(rt; both, (true, true));
 }
 
-#[test]
-fn answers_a_client_that_ended(rt: HostRuntime) -> Result<(), Fail> {
+/// A connection that a client made to a gate.
+#[derive(Drop)]
+struct Met {
+    gate: RealGate<HostRuntime>,
+    client: TcpStream,
+    link: RealLink<HostRuntime>,
+}
+
+/// A client's connection to a port.
+fn client_of(rt: HostRuntime, port: u16) -> Option<TcpStream> {
+    TcpStream::connect(&rt, (HOST, port)).ok()
+}
+
+/// Sends all that a client says.
+fn says(client: &mut TcpStream, bytes: &[u8]) -> bool {
+    client.write_all(bytes).is_ok() && client.shutdown(Shutdown::Write).is_ok()
+}
+
+/// A connection on which nothing was said yet.
+fn meet(rt: HostRuntime) -> Option<Met> {
     let (mut gate, port) = gate_on(rt, LIMITS)?;
-    let mut client = TcpStream::connect(&rt, (HOST, port))?;
-    client.write_all(b"ask")?;
-    client.shutdown(Shutdown::Write)?;
-    let Some(mut link) = accepted(&mut gate) else {
-        panic!(rt; "no connection");
-    };
+    let client = client_of(rt, port)?;
+    let link = accepted(&mut gate)?;
+    Some(Met { gate, client, link })
+}
+
+/// How many bytes two reads of a client give.
+fn two_reads(client: &mut TcpStream) -> [Option<usize>; 2] {
     let mut into = [0u8; 16];
-    assert_eq!(rt; link.read(&mut into), Ok(3));
-    assert_eq!(rt; link.read(&mut into), Ok(0));
-    assert_eq!(rt; link.write(b"answer"), Ok(6));
-    assert_eq!(rt; link.read(&mut into), Ok(0));
-    assert!(rt; !link.has_failed());
-    gate.hang_up(RealGate::<HostRuntime>::end(link));
-    assert_eq!(rt; client.read(&mut into)?, 6);
-    assert_eq!(rt; client.read(&mut into)?, 0);
-    Ok(())
+    let first = client.read(&mut into).ok();
+    [first, client.read(&mut into).ok()]
+}
+
+/// What so many calls of a link answered.
+type Calls<const N: usize> = [Result<usize, Failed>; N];
+
+/// Reads what a client asked and its end, answers, and reads once more.
+fn served(link: &mut RealLink<HostRuntime>) -> Calls<4> {
+    let mut into = [0u8; 16];
+    let asked = link.read(&mut into);
+    let end = link.read(&mut into);
+    let answered = link.write(b"answer");
+    [asked, end, answered, link.read(&mut into)]
 }
 
 #[test]
-fn a_reset_is_no_end(rt: HostRuntime) -> Result<(), Fail> {
-    let (mut gate, port) = gate_on(rt, LIMITS)?;
-    let client = TcpStream::connect(&rt, (HOST, port))?;
-    let Some(mut link) = accepted(&mut gate) else {
+fn answers_a_client_that_ended(rt: HostRuntime) {
+    let Some(
+        Met {
+            mut gate,
+            mut client,
+            mut link,
+        },
+    ) = meet(rt)
+    else {
         panic!(rt; "no connection");
     };
-    assert_eq!(rt; link.write(b"unread"), Ok(6));
+    let said = says(&mut client, b"ask");
+    let calls = served(&mut link);
+    let failed = link.has_failed();
+    gate.hang_up(RealGate::<HostRuntime>::end(link));
+    assert_eq!(rt;
+        (said, calls, failed, two_reads(&mut client)),
+        (
+            true,
+            [Ok(3), Ok(0), Ok(6), Ok(0)],
+            false,
+            [Some(6), Some(0)]
+        )
+    );
+}
+
+/// Writes to a client that closes its connection, and reads twice.
+fn reset(met: Met) -> (Calls<3>, bool) {
+    let Met {
+        gate: _gate,
+        client,
+        mut link,
+    } = met;
+    let mut into = [0u8; 16];
+    let written = link.write(b"unread");
     drop(client);
-    let mut into = [0u8; 16];
-    assert_eq!(rt; link.read(&mut into), Err(Failed));
-    assert_eq!(rt; link.read(&mut into), Err(Failed));
-    assert!(rt; link.has_failed());
-    Ok(())
+    let first = link.read(&mut into);
+    let second = link.read(&mut into);
+    ([written, first, second], link.has_failed())
 }
 
 #[test]
-fn an_answer_arrives_before_what_nobody_read(rt: HostRuntime) -> Result<(), Fail> {
-    let (mut gate, port) = gate_on(rt, LIMITS)?;
-    let mut client = TcpStream::connect(&rt, (HOST, port))?;
-    client.write_all(&[b'x'; 100_000])?;
-    client.shutdown(Shutdown::Write)?;
-    let Some(mut link) = accepted(&mut gate) else {
+fn a_reset_is_no_end(rt: HostRuntime) {
+    let Some(met) = meet(rt) else {
         panic!(rt; "no connection");
     };
-    assert_eq!(rt; link.write(b"refused"), Ok(7));
+    assert_eq!(rt; reset(met), ([Ok(6), Err(Failed), Err(Failed)], true));
+}
+
+#[test]
+fn an_answer_arrives_before_what_nobody_read(rt: HostRuntime) {
+    let Some(
+        Met {
+            mut gate,
+            mut client,
+            mut link,
+        },
+    ) = meet(rt)
+    else {
+        panic!(rt; "no connection");
+    };
+    let said = says(&mut client, &[b'x'; 100_000]);
+    let answered = link.write(b"refused");
     gate.hang_up(RealGate::<HostRuntime>::end(link));
-    let mut into = [0u8; 16];
-    assert_eq!(rt; client.read(&mut into)?, 7);
-    assert_eq!(rt; client.read(&mut into)?, 0);
-    Ok(())
+    assert_eq!(rt;
+        (said, answered, two_reads(&mut client)),
+        (true, Ok(7), [Some(7), Some(0)])
+    );
 }
 
 /// Writes until the peer takes no more, and answers whether that was a failure.
@@ -199,31 +296,35 @@ fn fills<L: Link>(link: &mut L) -> bool {
     false
 }
 
-#[test]
-fn nobody_is_waited_for_without_a_limit(rt: HostRuntime) -> Result<(), Fail> {
+/// What a read from each end of a connection answers where nothing comes, and whether writes fail at last where nothing is read.
+fn waited(rt: HostRuntime) -> Option<(Calls<2>, bool)> {
     let (mut gate, port) = gate_on(rt, SHORT)?;
     let mut dialer = dialer_on(rt, SHORT);
-    let Ok(mut silent_origin) = dialer.dial(HOST, port) else {
-        panic!(rt; "no link");
-    };
-    let Some(mut silent_client) = accepted(&mut gate) else {
-        panic!(rt; "no connection");
-    };
+    let mut silent_origin = dialer.dial(HOST, port).ok()?;
+    let mut silent_client = accepted(&mut gate)?;
     let mut into = [0u8; 16];
-    assert_eq!(rt; silent_origin.read(&mut into), Err(Failed));
-    assert_eq!(rt; silent_client.read(&mut into), Err(Failed));
-    assert!(rt; fills(&mut silent_client));
-    Ok(())
+    let of_origin = silent_origin.read(&mut into);
+    let of_client = silent_client.read(&mut into);
+    Some(([of_origin, of_client], fills(&mut silent_client)))
+}
+
+#[test]
+fn nobody_is_waited_for_without_a_limit(rt: HostRuntime) {
+    assert_eq!(rt; waited(rt), Some(([Err(Failed), Err(Failed)], true)));
 }
 
 /// How many connections come at once.
 const CLIENTS: u8 = 64;
 
-/// Connects once more, and sends one byte.
-fn client_of(rt: HostRuntime, port: u16, byte: u8) -> Result<TcpStream, Fail> {
-    let mut client = TcpStream::connect(&rt, (HOST, port))?;
-    client.write_all(&[byte])?;
-    Ok(client)
+/// Connections of so many clients, of which each sends one byte.
+fn clients(rt: HostRuntime, port: u16) -> Option<Vec<TcpStream>> {
+    let mut clients = Vec::new(rt.alloc());
+    for byte in 0..CLIENTS {
+        let mut client = client_of(rt, port)?;
+        client.write_all(&[byte]).ok()?;
+        clients.push(client).ok()?;
+    }
+    Some(clients)
 }
 
 /// The byte that comes on the next connection.
@@ -234,44 +335,66 @@ fn byte_of_next(gate: &mut RealGate<HostRuntime>) -> Option<u8> {
     if n == 1 { Some(into[0]) } else { None }
 }
 
-#[test]
-fn accepts_what_came_at_once_in_turn(rt: HostRuntime) -> Result<(), Fail> {
+/// How many connections come in the order in which they were made.
+fn in_turn(gate: &mut RealGate<HostRuntime>) -> u8 {
+    for byte in 0..CLIENTS {
+        if byte_of_next(gate) != Some(byte) {
+            return byte;
+        }
+    }
+    CLIENTS
+}
+
+/// How many clients connected, and how many of them came in turn.
+fn came(rt: HostRuntime) -> Option<(usize, u8)> {
     let (mut gate, port) = gate_on(rt, LIMITS)?;
-    let mut clients = Vec::new(rt.alloc());
-    for byte in 0..CLIENTS {
-        clients.push(client_of(rt, port, byte)?)?;
-    }
-    for byte in 0..CLIENTS {
-        assert_eq!(rt; byte_of_next(&mut gate), Some(byte));
-    }
-    assert_eq!(rt; clients.len(), 64);
-    Ok(())
+    let clients = clients(rt, port)?;
+    Some((clients.len(), in_turn(&mut gate)))
 }
 
 #[test]
-fn counts_faults(rt: HostRuntime) -> Result<(), Fail> {
-    let taken = TcpListener::bind(&rt, (HOST, 0))?;
-    let port = taken.local_addr()?.port();
-    drop(taken);
+fn accepts_what_came_at_once_in_turn(rt: HostRuntime) {
+    assert_eq!(rt; came(rt), Some((64, 64)));
+}
+
+/// A port of the system's choice at which nobody listens any more.
+fn closed_port(rt: HostRuntime) -> Option<u16> {
+    let (_listener, port) = listener(rt)?;
+    Some(port)
+}
+
+#[test]
+fn counts_faults_of_a_dialer(rt: HostRuntime) {
+    let Some(port) = closed_port(rt) else {
+        panic!(rt; "no port");
+    };
     let mut dialer = dialer_on(rt, LIMITS);
-    assert!(rt; dialer.dial(HOST, port).is_err());
-    assert!(rt; matches!(dialer, RealDialer::Tcp { faults: 1, .. }));
+    let refused = dialer.dial(HOST, port).is_err();
+    assert!(rt; refused && matches!(dialer, RealDialer::Tcp { faults: 1, .. }));
+}
+
+#[test]
+fn counts_faults_of_a_gate(rt: HostRuntime) {
     let mut gate: RealGate<HostRuntime> = RealGate::Tcp {
         gate: TcpGate::new(rt, None, LIMITS),
         faults: 0,
     };
-    assert!(rt; matches!(gate.accept(), Accepted::Failed));
-    assert!(rt; matches!(gate, RealGate::Tcp { faults: 1, .. }));
-    Ok(())
+    let failed = matches!(gate.accept(), Accepted::Failed);
+    assert!(rt; failed && matches!(gate, RealGate::Tcp { faults: 1, .. }));
+}
+
+/// Whether a gate is closed.
+fn is_closed(gate: &mut RealGate<HostRuntime>) -> bool {
+    matches!(gate.accept(), Accepted::Closed)
 }
 
 #[test]
 fn gives_the_streams_once(rt: HostRuntime) {
     let mut gate = RealGate::Once { system: Some(rt) };
-    let Accepted::Connection(link) = gate.accept() else {
+    let Some(link) = accepted(&mut gate) else {
         panic!(rt; "no connection");
     };
-    assert!(rt; matches!(gate.accept(), Accepted::Closed));
+    let before = is_closed(&mut gate);
     gate.hang_up(RealGate::<HostRuntime>::end(link));
-    assert!(rt; matches!(gate.accept(), Accepted::Closed));
+    assert_eq!(rt; (before, is_closed(&mut gate)), (true, true));
 }

@@ -1,18 +1,17 @@
 //! A file system of records: it writes each call down, fails at one of them, and holds nothing.
 ghost use Rattle.std.specs.Prelude.{false, []};
 
+use super::written::{Written, joined, written};
 use crate::file_system::{Access, FileSystem, Lock};
 use crate::tally::Tally;
-use std::alloc::Global;
 use std::io;
 use std::io::ErrorKind;
 
 /// Writes each call down as a word, behind the words before, and gives a file's path as its handle.
-#[derive(Drop)]
+#[derive(Clone, Copy)]
 pub(crate) struct RecordedFiles {
-    pub(crate) alloc: Global,
-    pub(crate) calls: String,
-    pub(crate) made: usize,
+    pub(crate) calls: Written,
+    made: usize,
     /// Which calls fail, counted from 0, and how.
     pub(crate) fails: [(usize, ErrorKind); 2],
     /// The names in each folder.
@@ -24,25 +23,23 @@ pub(crate) struct RecordedFiles {
 }
 
 impl RecordedFiles {
-    /// A folder without files.
-    pub(crate) fn new(alloc: Global) -> RecordedFiles {
+    /// A folder with these names, whose files have this length.
+    pub(crate) fn new(names: [&'static str; 3], len: u64) -> RecordedFiles {
         RecordedFiles {
-            alloc,
-            calls: String::new(alloc),
+            calls: Written::new(),
             made: 0,
             fails: [(usize::MAX, ErrorKind::Other); 2],
-            names: ["", "", ""],
-            len: 0,
+            names,
+            len,
             most: usize::MAX,
         }
     }
 
-    fn call(&mut self, word: &str, path: &str) -> io::Result<()> {
+    /// Writes a call down, and answers whether it fails.
+    fn call(&mut self, call: Written) -> io::Result<()> {
+        self.calls = joined(joined(self.calls, call.as_str()), ";");
         let number = self.made;
         self.made = self.made.saturating_add(1);
-        self.calls.push_str(word)?;
-        self.calls.push_str(path)?;
-        self.calls.push_str(";")?;
         for (call, kind) in &self.fails {
             if *call == number {
                 return Err(io::Error::from(*kind));
@@ -61,7 +58,7 @@ fn name_of(path: &str) -> &str {
 }
 
 impl FileSystem for RecordedFiles {
-    type File = String;
+    type File = Written;
 
     ghost tells = { false };
 
@@ -70,67 +67,73 @@ impl FileSystem for RecordedFiles {
     ghost placed = { λ _ _. [] };
 
     fn make_folder(&mut self, path: &str) -> io::Result<()> {
-        self.call("make ", path)
+        self.call(written(format_args!("make {path}")))
     }
 
     fn list(&mut self, path: &str, tally: &mut Tally) -> io::Result<()> {
-        self.call("list ", path)?;
+        self.call(written(format_args!("list {path}")))?;
         for name in &self.names {
             tally.add(name)?;
         }
         Ok(())
     }
 
-    fn open(&mut self, path: &str, access: Access) -> io::Result<String> {
-        match access {
-            Access::Read => self.call("open to read ", name_of(path))?,
-            Access::Update => self.call("open to write ", name_of(path))?,
-            Access::New => self.call("create ", name_of(path))?,
-        }
-        Ok(String::from_str(self.alloc, name_of(path))?)
+    fn open(&mut self, path: &str, access: Access) -> io::Result<Written> {
+        let name = name_of(path);
+        let word = match access {
+            Access::Read => "open to read",
+            Access::Update => "open to write",
+            Access::New => "create",
+        };
+        self.call(written(format_args!("{word} {name}")))?;
+        Ok(written(name))
     }
 
-    fn lock(&mut self, path: &str, lock: Lock) -> io::Result<String> {
-        match lock {
-            Lock::Alone => self.call("lock ", path)?,
-            Lock::Shared => self.call("share ", path)?,
-        }
-        Ok(String::from_str(self.alloc, path)?)
+    fn lock(&mut self, path: &str, lock: Lock) -> io::Result<Written> {
+        let word = match lock {
+            Lock::Alone => "lock",
+            Lock::Shared => "share",
+        };
+        self.call(written(format_args!("{word} {path}")))?;
+        Ok(written(path))
     }
 
-    fn len(&mut self, file: &String) -> io::Result<u64> {
-        self.call("len ", file.as_str())?;
+    fn len(&mut self, file: &Written) -> io::Result<u64> {
+        let name = file.as_str();
+        self.call(written(format_args!("len {name}")))?;
         Ok(self.len)
     }
 
-    fn read_at(&mut self, file: &String, into: &mut [u8], at: u64) -> io::Result<usize> {
+    fn read_at(&mut self, file: &Written, into: &mut [u8], at: u64) -> io::Result<usize> {
         let n = into.len().min(self.most);
-        let word = format!(in self.alloc; "read {n} at {at} of ")?;
-        self.call(word.as_str(), file.as_str())?;
+        let name = file.as_str();
+        self.call(written(format_args!("read {n} at {at} of {name}")))?;
         Ok(n)
     }
 
-    fn write_at(&mut self, file: &String, piece: &[u8], at: u64) -> io::Result<usize> {
+    fn write_at(&mut self, file: &Written, piece: &[u8], at: u64) -> io::Result<usize> {
         let n = piece.len().min(self.most);
-        let word = format!(in self.alloc; "write {n} at {at} of ")?;
-        self.call(word.as_str(), file.as_str())?;
+        let name = file.as_str();
+        self.call(written(format_args!("write {n} at {at} of {name}")))?;
         Ok(n)
     }
 
-    fn set_len(&mut self, file: &String, len: u64) -> io::Result<()> {
-        let word = format!(in self.alloc; "cut to {len} ")?;
-        self.call(word.as_str(), file.as_str())
+    fn set_len(&mut self, file: &Written, len: u64) -> io::Result<()> {
+        let name = file.as_str();
+        self.call(written(format_args!("cut to {len} {name}")))
     }
 
-    fn sync_data(&mut self, file: &String) -> io::Result<()> {
-        self.call("sync data ", file.as_str())
+    fn sync_data(&mut self, file: &Written) -> io::Result<()> {
+        let name = file.as_str();
+        self.call(written(format_args!("sync data {name}")))
     }
 
-    fn sync_all(&mut self, file: &String) -> io::Result<()> {
-        self.call("sync all ", file.as_str())
+    fn sync_all(&mut self, file: &Written) -> io::Result<()> {
+        let name = file.as_str();
+        self.call(written(format_args!("sync all {name}")))
     }
 
     fn sync_folder(&mut self, path: &str) -> io::Result<()> {
-        self.call("sync folder ", path)
+        self.call(written(format_args!("sync folder {path}")))
     }
 }

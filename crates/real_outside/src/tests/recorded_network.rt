@@ -1,15 +1,29 @@
 //! A network of records: it gives what a test lists, and writes each call down.
 ghost use Rattle.std.specs.Prelude.{◌≤◌, length, IfOk};
 
+use super::written::{Written, joined, written};
+use crate::limits::Limits;
 use crate::network::{Network, Socket};
-use std::alloc::Global;
 use std::io;
 use std::io::{Error, ErrorKind, Read, Write};
 use std::net::SocketAddr;
 use std::time::Duration;
 
+/// Limits of which each has a length of its own.
+pub(crate) const LIMITS: Limits = Limits {
+    idle: 300,
+    message: 5_000,
+    origin: 7_000,
+    write: 2_000,
+    connect: 900,
+    linger: 400,
+    linger_bytes: 20_000,
+    pause: 5,
+    most_pauses: 3,
+};
+
 /// A peer as a test wants it.
-#[derive(Clone, Copy, Debug)]
+#[derive(Clone, Copy)]
 pub(crate) enum Peer {
     /// It sends so many bytes with each read, for ever.
     Sends(usize),
@@ -30,9 +44,9 @@ pub(crate) enum Peer {
 }
 
 /// A socket that waits for nobody: what would wait past its limit moves its clock on by the limit.
-#[derive(Drop)]
+#[derive(Clone, Copy)]
 pub(crate) struct RecordedSocket {
-    pub(crate) calls: String,
+    pub(crate) calls: Written,
     pub(crate) peer: Peer,
     pub(crate) millis: u64,
     read_limit: u64,
@@ -41,9 +55,9 @@ pub(crate) struct RecordedSocket {
 
 impl RecordedSocket {
     /// A connection to this peer.
-    pub(crate) fn new(alloc: Global, peer: Peer) -> RecordedSocket {
+    pub(crate) fn new(peer: Peer) -> RecordedSocket {
         RecordedSocket {
-            calls: String::new(alloc),
+            calls: Written::new(),
             peer,
             millis: 0,
             read_limit: 0,
@@ -51,12 +65,12 @@ impl RecordedSocket {
         }
     }
 
-    fn call(&mut self, word: &str) -> io::Result<()> {
-        self.calls.push_str(word)?;
-        self.calls.push_str(";")?;
-        Ok(())
+    /// Writes a call down.
+    fn call(&mut self, word: &str) {
+        self.calls = joined(joined(self.calls, word), ";");
     }
 
+    /// The error of a call that waited so long.
     fn wait(&mut self, limit: u64) -> io::Error {
         self.millis = self.millis.saturating_add(limit);
         Error::from(ErrorKind::WouldBlock)
@@ -65,7 +79,7 @@ impl RecordedSocket {
 
 impl Read for RecordedSocket {
     fn read(&mut self, buf: &mut [u8]) -> io::Result<usize> {
-        self.call("read")?;
+        self.call("read");
         match self.peer {
             Peer::Sends(n) => {
                 self.millis = self.millis.saturating_add(1);
@@ -90,7 +104,7 @@ impl Read for RecordedSocket {
 
 impl Write for RecordedSocket {
     fn write(&mut self, buf: &[u8]) -> io::Result<usize> {
-        self.call("write")?;
+        self.call("write");
         match self.peer {
             Peer::TakesNothing => Err(self.wait(self.write_limit)),
             _ => Ok(buf.len()),
@@ -119,11 +133,13 @@ impl Socket for RecordedSocket {
     }
 
     fn send_at_once(&mut self) -> io::Result<()> {
-        self.call("at once")
+        self.call("at once");
+        Ok(())
     }
 
     fn end_output(&mut self) -> io::Result<()> {
-        self.call("end output")
+        self.call("end output");
+        Ok(())
     }
 
     fn time(&mut self) -> io::Result<Duration> {
@@ -132,7 +148,7 @@ impl Socket for RecordedSocket {
 }
 
 /// What an accept, or a connect, gives next.
-#[derive(Clone, Copy, Debug)]
+#[derive(Clone, Copy)]
 pub(crate) enum Comes {
     /// A connection to this peer.
     Connection(Peer),
@@ -141,12 +157,11 @@ pub(crate) enum Comes {
 }
 
 /// Gives three things in turn, and then the last again.
-#[derive(Drop)]
+#[derive(Clone, Copy)]
 pub(crate) struct RecordedNetwork {
-    pub(crate) alloc: Global,
-    pub(crate) calls: String,
-    pub(crate) comes: [Comes; 3],
-    pub(crate) given: usize,
+    pub(crate) calls: Written,
+    comes: [Comes; 3],
+    given: usize,
     /// How many addresses each host has.
     pub(crate) many: usize,
     /// The error of a call that listens or looks a host up.
@@ -155,10 +170,9 @@ pub(crate) struct RecordedNetwork {
 
 impl RecordedNetwork {
     /// A network that gives these things.
-    pub(crate) fn new(alloc: Global, comes: [Comes; 3]) -> RecordedNetwork {
+    pub(crate) fn new(comes: [Comes; 3]) -> RecordedNetwork {
         RecordedNetwork {
-            alloc,
-            calls: String::new(alloc),
+            calls: Written::new(),
             comes,
             given: 0,
             many: 2,
@@ -166,17 +180,12 @@ impl RecordedNetwork {
         }
     }
 
-    fn call(&mut self, word: &str) -> io::Result<()> {
-        self.calls.push_str(word)?;
-        self.calls.push_str(";")?;
-        Ok(())
+    /// Writes a call down.
+    fn call(&mut self, call: Written) {
+        self.calls = joined(joined(self.calls, call.as_str()), ";");
     }
 
-    fn write_pause(&mut self, millis: u64) -> io::Result<()> {
-        let word = format!(in self.alloc; "pause {millis}")?;
-        self.call(word.as_str())
-    }
-
+    /// What comes next.
     fn next(&mut self) -> io::Result<RecordedSocket> {
         let comes = match self.comes.get(self.given) {
             Some(comes) => *comes,
@@ -184,7 +193,7 @@ impl RecordedNetwork {
         };
         self.given = self.given.saturating_add(1);
         match comes {
-            Comes::Connection(peer) => Ok(RecordedSocket::new(self.alloc, peer)),
+            Comes::Connection(peer) => Ok(RecordedSocket::new(peer)),
             Comes::Error(number) => Err(Error::from_raw_os_error(number)),
         }
     }
@@ -196,8 +205,7 @@ impl Network for RecordedNetwork {
     type Listener = ();
 
     fn listen(&mut self, host: &str, port: u16) -> io::Result<()> {
-        let word = format!(in self.alloc; "listen {host} {port}")?;
-        self.call(word.as_str())?;
+        self.call(written(format_args!("listen {host} {port}")));
         match self.refuses {
             Some(number) => Err(Error::from_raw_os_error(number)),
             None => Ok(()),
@@ -205,13 +213,12 @@ impl Network for RecordedNetwork {
     }
 
     fn accept(&mut self, _listener: &()) -> io::Result<RecordedSocket> {
-        self.call("accept")?;
+        self.call(written("accept"));
         self.next()
     }
 
     fn find(&mut self, host: &str, port: u16, found: &mut [SocketAddr]) -> io::Result<usize> {
-        let word = format!(in self.alloc; "find {host} {port}")?;
-        self.call(word.as_str())?;
+        self.call(written(format_args!("find {host} {port}")));
         match self.refuses {
             Some(number) => Err(Error::from_raw_os_error(number)),
             None => Ok(found.len().min(self.many)),
@@ -219,12 +226,11 @@ impl Network for RecordedNetwork {
     }
 
     fn connect(&mut self, _address: SocketAddr, millis: u64) -> io::Result<RecordedSocket> {
-        let word = format!(in self.alloc; "connect within {millis}")?;
-        self.call(word.as_str())?;
+        self.call(written(format_args!("connect within {millis}")));
         self.next()
     }
 
     fn pause(&mut self, millis: u64) {
-        let _written = self.write_pause(millis);
+        self.call(written(format_args!("pause {millis}")));
     }
 }

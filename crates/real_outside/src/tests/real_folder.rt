@@ -1,0 +1,145 @@
+//! The folder `archive` over the system's files.
+//! No case can say it: a case has a disk in memory, and no folder is shared there.
+use crate::folder_disk::FolderDisk;
+use disk_model::Kind::{Cdxj, Warc};
+use disk_model::{Disk, Kind};
+use std::fs;
+use std::process::Abort;
+
+/// One call of the disk.
+#[derive(Clone, Copy)]
+enum Step {
+    Files(Kind),
+    Create(Kind),
+    Len(Kind, u32),
+    /// Five bytes from a place on.
+    Read(Kind, u32, u64),
+    Write(Kind, u32, u64, &'static [u8]),
+    Cut(Kind, u32, u64),
+    Sync(Kind, u32),
+    Faults,
+}
+
+use Step::{Create, Cut, Faults, Files, Len, Read, Sync, Write};
+
+/// A call, and the number that it answers: 0 where it tells none, and none at all where it fails.
+type Row = (Step, Option<u64>);
+
+/// What a call answers that tells no number.
+const DONE: Option<u64> = Some(0);
+
+/// What a call answers that was done or not.
+fn number_if(done: bool) -> Option<u64> {
+    if done { DONE } else { None }
+}
+
+/// Takes one step.
+fn answer_of(disk: &mut FolderDisk<HostRuntime>, step: Step) -> Option<u64> {
+    match step {
+        Files(kind) => widened(disk.files(kind).ok()),
+        Create(kind) => widened(disk.create(kind).ok()),
+        Len(kind, file) => disk.len(kind, file).ok(),
+        Read(kind, file, at) => number_if(bytes_at(disk, kind, file, at).is_some()),
+        Write(kind, file, at, bytes) => number_if(disk.write_at(kind, file, at, bytes).is_ok()),
+        Cut(kind, file, len) => number_if(disk.cut(kind, file, len).is_ok()),
+        Sync(kind, file) => number_if(disk.sync(kind, file).is_ok()),
+        Faults => Some(disk.faults()),
+    }
+}
+
+/// A number as the rows have it.
+fn widened(number: Option<u32>) -> Option<u64> {
+    match number {
+        Some(number) => Some(u64::from(number)),
+        None => None,
+    }
+}
+
+/// Five bytes of a file from a place on.
+fn bytes_at(disk: &mut FolderDisk<HostRuntime>, kind: Kind, file: u32, at: u64) -> Option<[u8; 5]> {
+    let mut into = [0u8; 5];
+    match disk.read(kind, file, at, &mut into) {
+        Ok(()) => Some(into),
+        Err(_) => None,
+    }
+}
+
+/// Asserts that each step answers so.
+fn check<R: Abort>(rt: &R, disk: &mut FolderDisk<HostRuntime>, rows: &[Row]) {
+    for (number, (step, want)) in rows.iter().enumerate() {
+        assert_eq!(rt; answer_of(disk, *step), *want, "row {number}");
+    }
+}
+
+/// What an empty folder takes.
+static FIRST: [Row; 8] = [
+    (Files(Warc), Some(0)),
+    (Create(Warc), Some(0)),
+    (Create(Cdxj), Some(0)),
+    (Create(Warc), Some(1)),
+    (Write(Warc, 0, 0, b"hello world"), DONE),
+    (Write(Warc, 1, 0, b"second"), DONE),
+    (Write(Warc, 0, 6, b"folder"), DONE),
+    (Len(Warc, 0), Some(12)),
+];
+
+/// A cut, and then what isn't there.
+static CUT: [Row; 9] = [
+    (Cut(Warc, 0, 5), DONE),
+    (Sync(Warc, 0), DONE),
+    (Faults, Some(0)),
+    (Read(Warc, 0, 1), None),
+    (Write(Warc, 0, 6, b"x"), None),
+    (Cut(Warc, 0, 6), None),
+    (Len(Cdxj, 1), None),
+    (Sync(Warc, 2), None),
+    (Faults, Some(5)),
+];
+
+/// What a second process is answered.
+static LOCKED: [Row; 2] = [(Files(Warc), None), (Len(Warc, 1), None)];
+
+/// What another run finds.
+static LATER: [Row; 5] = [
+    (Files(Warc), Some(2)),
+    (Files(Cdxj), Some(1)),
+    (Len(Warc, 1), Some(6)),
+    (Sync(Warc, 0), DONE),
+    (Create(Warc), Some(2)),
+];
+
+/// What is answered where the folder was removed.
+static REMOVED: [Row; 3] = [
+    (Create(Warc), None),
+    (Files(Warc), Some(0)),
+    (Create(Warc), Some(0)),
+];
+
+/// Whether the first volume holds just this text.
+fn first_holds(rt: HostRuntime, want: &str) -> bool {
+    match fs::read_to_string(&rt, "archive/vol-000000.warc") {
+        Ok(text) => text.as_str() == want,
+        Err(_) => false,
+    }
+}
+
+/// Removes the folder, and answers whether that succeeded.
+fn removes(rt: HostRuntime) -> bool {
+    fs::remove_dir_all(&rt, "archive").is_ok()
+}
+
+#[test]
+fn keeps_numbered_files(rt: HostRuntime) {
+    let mut disk = FolderDisk::new(rt, rt.alloc());
+    check(&rt, &mut disk, &FIRST);
+    assert_eq!(rt; bytes_at(&mut disk, Warc, 0, 4), Some(*b"o fol"));
+    check(&rt, &mut disk, &CUT);
+    let mut later = FolderDisk::new(rt, rt.alloc());
+    check(&rt, &mut later, &LOCKED);
+    drop(disk);
+    check(&rt, &mut later, &LATER);
+    assert!(rt; first_holds(rt, "hello"));
+    assert!(rt; removes(rt));
+    check(&rt, &mut later, &REMOVED);
+    assert!(rt; removes(rt));
+}

@@ -1,0 +1,24 @@
+//! What recorded objects write down. A text of a fixed size takes no memory and is nothing to drop.
+use std::fmt::{Display, InlineText};
+use std::process::Abort;
+
+/// The most bytes of such a text. One that is longer ends in three dots.
+const MOST: usize = 1_024;
+
+/// What was called and answered, in that order.
+pub(crate) type Written = InlineText<{ MOST }>;
+
+/// What is printed of one thing.
+pub(crate) fn written<D: Display + Drop>(thing: D) -> Written {
+    Written::of(thing)
+}
+
+/// What was written before, and behind it a word.
+pub(crate) fn joined(before: Written, word: &str) -> Written {
+    before.and_str(word, MOST)
+}
+
+/// Asserts that just this was written.
+pub(crate) fn check<R: Abort>(rt: &R, written: Written, want: &str) {
+    assert_eq!(rt; written.as_str(), want);
+}
