@@ -1,4 +1,4 @@
-//! The call that serves, over real objects.
+//! The call that serves, over real objects, which no case has.
 use disk_model::{Disk, Kind};
 use outside::MemorySink;
 use proxy_run::{CREW, Crew, Status, run};
