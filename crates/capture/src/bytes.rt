@@ -42,14 +42,6 @@ impl Bytes {
         let list = Vec::from_slice(*self.list.allocator(), self.list.as_slice())?;
         Ok(Bytes { list })
     }
-
-    /// The list itself. Takes no memory.
-    pub fn into_vec(self) -> Vec<u8>
-        ensures { result.items ≡ self }
-    {
-        let Bytes { list } = self;
-        list
-    }
 }
 
 impl PartialEq for Bytes {

@@ -1,5 +1,7 @@
 //! An exchange, from its receipt to its place in the archive.
-use crate::{Bytes, Text};
+ghost use Rattle.std.specs.Prelude.{◌≡◌, IfOk};
+
+use crate::{Bytes, Memory, Text};
 
 /// The SHA-1 digest of a payload (FIPS 180-4).
 pub type Digest = [u8; 20];
@@ -21,6 +23,28 @@ pub struct Taken {
     pub wire: Bytes,
     /// Whether the origin ended inside the body, so that `wire` is only as much as came.
     pub cut: bool,
+}
+
+impl Taken {
+    /// The same exchange in memory of its own. Where memory is refused nothing is left.
+    pub fn copy(&self) -> Result<Taken, Memory>
+        ensures { IfOk result (λ copy. copy ≡ self.now) }
+    {
+        let method = self.method.copy()?;
+        let uri = self.uri.copy()?;
+        let request = self.request.copy()?;
+        let head = self.head.copy()?;
+        let wire = self.wire.copy()?;
+        Ok(Taken {
+            method,
+            uri,
+            date: self.date,
+            request,
+            head,
+            wire,
+            cut: self.cut,
+        })
+    }
 }
 
 /// What a capture keeps of its body.

@@ -1,4 +1,5 @@
 //! How long a message's body is, and why no message is there.
+use thiserror::Error;
 
 /// What tells a body's length (RFC 9112, section 6.3).
 #[derive(Clone, Copy, Debug, PartialEq, Eq)]
@@ -14,23 +15,29 @@ pub enum Framing {
 }
 
 /// Why a head tells no framing.
-#[derive(Clone, Copy, Debug, PartialEq, Eq)]
+#[derive(Clone, Copy, Debug, PartialEq, Eq, Error)]
 pub enum FramingFault {
     /// The fields contradict one another or the version, or a length is no number.
+    #[error("the fields tell no length of a body")]
     Malformed,
     /// The transfer coding isn't `chunked` alone.
+    #[error("the transfer coding isn't `chunked` alone")]
     CodingRefused,
 }
 
 /// Why no message can stand at the front of a stream.
-#[derive(Clone, Copy, Debug, PartialEq, Eq)]
+#[derive(Clone, Copy, Debug, PartialEq, Eq, Error)]
 pub enum MessageFault {
     /// A head, a size line, the end of a chunk or a trailer isn't one of HTTP/1.1, or a head tells no framing.
+    #[error("no message of HTTP/1.1")]
     Malformed,
     /// The head, or the trailer section, passes a limit.
+    #[error("a head that is too long")]
     HeadTooLong,
     /// The body passes its limit, or is sure to.
+    #[error("a body that is too long")]
     BodyTooLong,
     /// The transfer coding isn't `chunked` alone.
+    #[error("the transfer coding isn't `chunked` alone")]
     CodingRefused,
 }

@@ -32,14 +32,6 @@ impl<X> Items<X> {
     {
         self.list.as_slice()
     }
-
-    /// The list itself. Takes no memory.
-    pub fn into_vec(self) -> Vec<X>
-        ensures { result.items ≡ self }
-    {
-        let Items { list } = self;
-        list
-    }
 }
 
 impl<X: PartialEq> PartialEq for Items<X> {

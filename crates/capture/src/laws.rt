@@ -1,8 +1,10 @@
 //! What the definitions promise to those who build on them.
+ghost use Rattle.std.specs.Prelude.{◌≡◌, ◌*◌};
 ghost use Rattle.capture.specs.BodyLaws.{BodiesHaveAPayload, CapturesHaveOnePayload, CutBodiesSplitOneWay, CutWiresHaveAPayload, NoBodyIsWholeAndCut, WholeBodiesSplitOneWay, WiresHaveOnePayload};
 ghost use Rattle.capture.specs.CutLaws.{CutResponsesNeedBody, EndedBodiesAreCut};
 ghost use Rattle.capture.specs.GrowthLaws.{GrowsFromItself, GrowthGoesOn, GrowthKeepsCaptures, GrowthKeepsPayloads};
 ghost use Rattle.capture.specs.HeadLaws.{RequestHeadsEnd, ResponseHeadsEnd, SectionsEnd};
+ghost use Rattle.capture.specs.declared.limits.TheConstants.{BODY_LIMIT, FIELD_LIMIT, HEAD_LIMIT, INTERIM_LIMIT, SIZE_LINE_LIMIT};
 
 /// A head that begins with its first line ends exactly at the first empty line, whatever follows, and so does a
 /// trailer section (RFC 9112, sections 2.1 and 7.1.2).
@@ -45,4 +47,14 @@ pub fn growth_keeps_captures()
 pub fn ended_bodies_are_cut()
     ensures needs_body { CutResponsesNeedBody }
     ensures holds_cut { EndedBodiesAreCut }
+{}
+
+/// What the limits are that the definitions speak of: the bytes and the field lines of a head or of a trailer section,
+/// the bytes of a body (64 MiB) and of a chunk's size line, and how many interim responses are dropped.
+pub fn limits_are_these()
+    ensures head { HEAD_LIMIT ≡ 65536 }
+    ensures fields { FIELD_LIMIT ≡ 128 }
+    ensures body { BODY_LIMIT ≡ 64 * 1024 * 1024 }
+    ensures size_line { SIZE_LINE_LIMIT ≡ 1024 }
+    ensures interims { INTERIM_LIMIT ≡ 8 }
 {}

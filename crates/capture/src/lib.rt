@@ -24,7 +24,8 @@ pub use framing::{Framing, FramingFault, MessageFault};
 pub use items::Items;
 pub use laws::{
     captures_have_one_payload, chunked_bodies_split_one_way, ended_bodies_are_cut,
-    growth_keeps_captures, heads_end_at_the_first_empty_line, wires_have_one_payload,
+    growth_keeps_captures, heads_end_at_the_first_empty_line, limits_are_these,
+    wires_have_one_payload,
 };
 pub use limits::{BODY_LIMIT, FIELD_LIMIT, HEAD_LIMIT, INTERIM_LIMIT, Limits, SIZE_LINE_LIMIT};
 pub use memory::Memory;

@@ -12,6 +12,8 @@ pub enum Refusal {
     BadTime,
     /// The field Accept-Datetime names no moment (RFC 7089, section 2.1.1).
     BadAcceptDatetime,
+    /// The text behind `/web/cdx?` is no query.
+    BadQuery,
     /// The address is none of the archive's forms.
     NotAForm,
     /// Nothing was captured of that URL.

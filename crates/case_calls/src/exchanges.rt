@@ -69,7 +69,7 @@ pub fn aimed_at(alloc: Global, head: &RequestHead) -> Result<Option<Target>, Mem
 pub fn forwarded(alloc: Global, text: &[u8]) -> Result<Vec<u8>, Memory> {
     match read_request(alloc, text) {
         Ok(message) => match forwarded_for(alloc, &message) {
-            Ok(Some(text)) => Ok(text.into_vec()),
+            Ok(Some(text)) => told(alloc, text.as_slice()),
             Ok(None) => told(alloc, b"None"),
             Err(Memory) => Err(Memory),
         },
@@ -115,7 +115,7 @@ fn client_shown(
         Err(PayloadFault::Malformed) => return told(alloc, b"Malformed"),
     };
     let text = client_text(alloc, response, payload.as_slice(), answers_head, closes)?;
-    Ok(text.into_vec())
+    told(alloc, text.as_slice())
 }
 
 /// The payload of a response, whole or cut.

@@ -18,7 +18,7 @@ pub fn refused(alloc: Global, text: &[u8]) -> Result<Option<Vec<u8>>, Memory> {
         return Ok(None);
     };
     let text = refusal_text(alloc, &refusal, method == "HEAD", word == "closes")?;
-    Ok(Some(text.into_vec()))
+    Ok(Some(told(alloc, text.as_slice())?))
 }
 
 /// What a client gets where memory ran out.
@@ -71,6 +71,7 @@ fn plain_refusal(name: &str) -> Option<Refusal> {
         "TargetRefused" => Some(Refusal::TargetRefused),
         "BadTime" => Some(Refusal::BadTime),
         "BadAcceptDatetime" => Some(Refusal::BadAcceptDatetime),
+        "BadQuery" => Some(Refusal::BadQuery),
         "NotAForm" => Some(Refusal::NotAForm),
         "NoCapture" => Some(Refusal::NoCapture),
         "MethodRefused" => Some(Refusal::MethodRefused),

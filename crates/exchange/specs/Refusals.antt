@@ -2,7 +2,7 @@
 use Rattle.std.specs.Prelude.{ℕ, Bool, List, [], ◌∷◌, ◌++◌, codes, decimal, length, if◌then◌else◌}
 use Rattle.httparse.specs.Ascii.{line_feed, space, crlf_bytes}
 use Rattle.capture.specs.declared.refusal.Refusal.{Refusal}
-use Rattle.capture.specs.declared.refusal.Refusal.TheVariants.{Malformed, TargetRefused, BadTime, BadAcceptDatetime, NotAForm, NoCapture, NoSuch, MethodRefused, BodyTooLong, HeadTooLong, ClockRange, ConnectRefused, SecureRefused, CodingRefused, DialFault, OriginFault, OriginEnded, OriginMalformed, OriginTooLong, TooManyInterim, Full, DiskFault, Damaged}
+use Rattle.capture.specs.declared.refusal.Refusal.TheVariants.{Malformed, TargetRefused, BadTime, BadAcceptDatetime, BadQuery, NotAForm, NoCapture, NoSuch, MethodRefused, BodyTooLong, HeadTooLong, ClockRange, ConnectRefused, SecureRefused, CodingRefused, DialFault, OriginFault, OriginEnded, OriginMalformed, OriginTooLong, TooManyInterim, Full, DiskFault, Damaged}
 use Rattle.exchange.specs.Texts.{length_line, close_line_where}
 
 -- the status code and its reason phrase
@@ -11,6 +11,7 @@ refusal_status Malformed = codes "400 Bad Request"
 refusal_status TargetRefused = codes "400 Bad Request"
 refusal_status BadTime = codes "400 Bad Request"
 refusal_status BadAcceptDatetime = codes "400 Bad Request"
+refusal_status BadQuery = codes "400 Bad Request"
 refusal_status NotAForm = codes "404 Not Found"
 refusal_status NoCapture = codes "404 Not Found"
 refusal_status (NoSuch number count) = codes "404 Not Found"
@@ -37,6 +38,7 @@ refusal_name Malformed = codes "Malformed"
 refusal_name TargetRefused = codes "TargetRefused"
 refusal_name BadTime = codes "BadTime"
 refusal_name BadAcceptDatetime = codes "BadAcceptDatetime"
+refusal_name BadQuery = codes "BadQuery"
 refusal_name NotAForm = codes "NotAForm"
 refusal_name NoCapture = codes "NoCapture"
 refusal_name (NoSuch number count) = codes "NoSuch"

@@ -121,7 +121,7 @@ fn status_of(refusal: &Refusal) -> &'static str
     ensures { result.now ≡ spec.refusal_status refusal.now }
 {
     match_rows!(refusal, Refusal;
-        Malformed | TargetRefused | BadTime | BadAcceptDatetime => "400 Bad Request",
+        Malformed | TargetRefused | BadTime | BadAcceptDatetime | BadQuery => "400 Bad Request",
         NotAForm | NoCapture | NoSuch => "404 Not Found",
         MethodRefused => "405 Method Not Allowed",
         BodyTooLong => "413 Content Too Large",
@@ -143,6 +143,7 @@ fn name_of(refusal: &Refusal) -> &'static str
         TargetRefused => "TargetRefused",
         BadTime => "BadTime",
         BadAcceptDatetime => "BadAcceptDatetime",
+        BadQuery => "BadQuery",
         NotAForm => "NotAForm",
         NoCapture => "NoCapture",
         NoSuch => "NoSuch",

@@ -8,7 +8,7 @@ use Rattle.capture.specs.First.{First, Message, Refused as RefusedFirst, HeadNee
 use Rattle.capture.specs.declared.framing.MessageFault.{MessageFault}
 use Rattle.capture.specs.declared.framing.MessageFault.TheVariants as message_fault
 use Rattle.capture.specs.declared.refusal.Refusal.{Refusal}
-use Rattle.capture.specs.declared.refusal.Refusal.TheVariants.{Malformed, TargetRefused, BadTime, BadAcceptDatetime, NotAForm, NoCapture, NoSuch, MethodRefused, BodyTooLong, HeadTooLong, ClockRange, ConnectRefused, SecureRefused, CodingRefused, DialFault, OriginFault, OriginEnded, OriginMalformed, OriginTooLong, TooManyInterim, Full, DiskFault, Damaged}
+use Rattle.capture.specs.declared.refusal.Refusal.TheVariants.{Malformed, TargetRefused, BadTime, BadAcceptDatetime, BadQuery, NotAForm, NoCapture, NoSuch, MethodRefused, BodyTooLong, HeadTooLong, ClockRange, ConnectRefused, SecureRefused, CodingRefused, DialFault, OriginFault, OriginEnded, OriginMalformed, OriginTooLong, TooManyInterim, Full, DiskFault, Damaged}
 use Rattle.exchange.specs.Fetches.{ComesTo, ArrivesCut}
 use Rattle.exchange.specs.Refusals.{memory_text}
 use Rattle.http_head.specs.declared.head.Received.{Received}
@@ -103,6 +103,7 @@ no_failure terms e (Damaged number kept found) traces once tells whole origin di
 no_failure terms e (NoSuch number count) traces once tells whole origin disk can h = absurd h
 no_failure terms e Malformed traces once tells whole origin disk can h = absurd h
 no_failure terms e TargetRefused traces once tells whole origin disk can h = absurd h
+no_failure terms e BadQuery traces once tells whole origin disk can h = absurd h
 no_failure terms e BadTime traces once tells whole origin disk can h = absurd h
 no_failure terms e BadAcceptDatetime traces once tells whole origin disk can h = absurd h
 no_failure terms e NotAForm traces once tells whole origin disk can h = absurd h

@@ -4,7 +4,7 @@ use Rattle.std.specs.Prelude.{IsSome}
 use Rattle.std.proofs.lemmas.Fmt.{decimal_injective}
 use Rattle.capture.specs.Captures.{captures}
 use Rattle.capture.specs.declared.refusal.Refusal.{Refusal}
-use Rattle.capture.specs.declared.refusal.Refusal.TheVariants.{Malformed, TargetRefused, BadTime, BadAcceptDatetime, NotAForm, NoCapture, NoSuch, MethodRefused, BodyTooLong, HeadTooLong, ClockRange, ConnectRefused, SecureRefused, CodingRefused, DialFault, OriginFault, OriginEnded, OriginMalformed, OriginTooLong, TooManyInterim, Full, DiskFault, Damaged}
+use Rattle.capture.specs.declared.refusal.Refusal.TheVariants.{Malformed, TargetRefused, BadTime, BadAcceptDatetime, BadQuery, NotAForm, NoCapture, NoSuch, MethodRefused, BodyTooLong, HeadTooLong, ClockRange, ConnectRefused, SecureRefused, CodingRefused, DialFault, OriginFault, OriginEnded, OriginMalformed, OriginTooLong, TooManyInterim, Full, DiskFault, Damaged}
 use Rattle.replay_url.specs.Address.{Parts, Numbered, Mapped, Timed, Modified, Open, Outside, parts_at}
 use Rattle.replay_url.specs.Forms.{FormAt, NoFormAt, BadTimeAt, IsForm, IsNumber, IsUrl, IsNoUrl}
 use Rattle.replay_url.specs.declared.form.Form.{Form}
@@ -170,6 +170,7 @@ no_rejection terms q TooManyInterim traces form tells whole disk asks wanted h =
 no_rejection terms q (Full count limit) traces form tells whole disk asks wanted h = absurd h
 no_rejection terms q Malformed traces form tells whole disk asks wanted h = absurd h
 no_rejection terms q TargetRefused traces form tells whole disk asks wanted h = absurd h
+no_rejection terms q BadQuery traces form tells whole disk asks wanted h = absurd h
 no_rejection terms q BodyTooLong traces form tells whole disk asks wanted h = absurd h
 no_rejection terms q HeadTooLong traces form tells whole disk asks wanted h = absurd h
 no_rejection terms q ConnectRefused traces form tells whole disk asks wanted h = absurd h

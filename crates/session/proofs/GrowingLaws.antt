@@ -11,7 +11,7 @@ use Rattle.capture.specs.GrowthLaws.{GrowsFromItself, GrowthGoesOn, GrowthKeepsC
 use Rattle.capture.specs.declared.book.Book.{Book}
 use Rattle.capture.specs.declared.captured.Stored.{Stored}
 use Rattle.capture.specs.declared.refusal.Refusal.{Refusal}
-use Rattle.capture.specs.declared.refusal.Refusal.TheVariants.{Malformed, TargetRefused, BadTime, BadAcceptDatetime, NotAForm, NoCapture, NoSuch, MethodRefused, BodyTooLong, HeadTooLong, ClockRange, ConnectRefused, SecureRefused, CodingRefused, DialFault, OriginFault, OriginEnded, OriginMalformed, OriginTooLong, TooManyInterim, Full, DiskFault, Damaged}
+use Rattle.capture.specs.declared.refusal.Refusal.TheVariants.{Malformed, TargetRefused, BadTime, BadAcceptDatetime, BadQuery, NotAForm, NoCapture, NoSuch, MethodRefused, BodyTooLong, HeadTooLong, ClockRange, ConnectRefused, SecureRefused, CodingRefused, DialFault, OriginFault, OriginEnded, OriginMalformed, OriginTooLong, TooManyInterim, Full, DiskFault, Damaged}
 use Rattle.cdxj_index.specs.Facts.{Facts}
 use Rattle.http_head.specs.declared.head.Received.{Received}
 use Rattle.session.specs.Exchanges.{Exchange, Fails, Passes, LacksReply, IsFailure, IsRefusedByDisk, IsPassedOn}
@@ -53,6 +53,7 @@ failure_leaves terms e (Damaged number kept found) traces h = Stayed h.untouched
 failure_leaves terms e (NoSuch number count) traces h = absurd h
 failure_leaves terms e Malformed traces h = absurd h
 failure_leaves terms e TargetRefused traces h = absurd h
+failure_leaves terms e BadQuery traces h = absurd h
 failure_leaves terms e BadTime traces h = absurd h
 failure_leaves terms e BadAcceptDatetime traces h = absurd h
 failure_leaves terms e NotAForm traces h = absurd h
