@@ -1,6 +1,6 @@
 -- The lengths of the texts.
 use Rattle.std.proofs.Common.{◌≡◌, ℕ, ◌+◌, List, [], ◌∷◌, ◌++◌, length, length-append, refl, ap, ◌∙◌, arith}
-use Rattle.std.specs.Prelude.{decimal, codes, Option, Some, None}
+use Rattle.std.specs.Prelude.{decimal, codes, Some, None}
 use Rattle.uuid.proofs.TextLemmas.{by_index_length}
 use Rattle.digest32.specs.Base32.{base32, IsDigest}
 use Rattle.digest32.proofs.Texts.{length-digest_text}
@@ -11,8 +11,7 @@ use Rattle.warc_text.specs.declared.kind.RecordKind.{RecordKind}
 use Rattle.warc_text.specs.declared.kind.RecordKind.TheVariants as kinds
 use Rattle.warc_text.specs.Ids.{id_of, id_text, uuid_text}
 use Rattle.warc_text.specs.Lines.{field, id_field, date_field, version_line, type_line, id_line, date_line, opening, target_line, digest_line, concurrent_line, refers_line, refers_target_line, refers_date_line, profile_lines, cut_line, content_line, length_lines, record_end, ended, software_lines, namespace_line, volume_line, info_block}
-use Rattle.warc_text.specs.References.{Reference, reference_to, reference_of}
-use Rattle.warc_text.specs.declared.same_of.SameOf.{SameOf}
+use Rattle.warc_text.specs.References.{Reference}
 use Rattle.warc_text.specs.Records.{info_opening, info_text, response_opening, response_text, refers_to, revisit_front, revisit_end, revisit_opening, revisit_text, request_opening, request_text, group_text, answer_text}
 use Rattle.warc_text.specs.Lengths.{ended_length, info_block_length, info_length, response_length, revisit_length, request_length}
 
@@ -218,10 +217,3 @@ revisit_group_length namespace number taken digest reference is =
     let request_id = id_of namespace ids.Request number in
     length-append (revisit_text id taken digest reference) (request_text request_id id taken)
     ∙ omega (arith, length-revisit_text id taken digest reference is, length-request_text request_id id taken)
-
--- of a revisit that refers by a number
-pub same_group_length : (namespace : List ℕ) (number : ℕ) (taken : Taken) (digest : List ℕ) (o : Option SameOf) (same : SameOf) → o ≡ Some same → IsDigest digest
-    → length (group_text namespace number taken digest (reference_of namespace o)) ≡ revisit_length taken (reference_to namespace same) + request_length taken
-same_group_length namespace number taken digest o same e is =
-    ap (λ (p : Option SameOf). length (group_text namespace number taken digest (reference_of namespace p))) e
-    ∙ revisit_group_length namespace number taken digest (reference_to namespace same) is

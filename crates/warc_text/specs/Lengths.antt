@@ -4,7 +4,6 @@ use Rattle.time_text.specs.Texts.{warc_date}
 use Rattle.capture.specs.declared.captured.Taken.{Taken}
 use Rattle.warc_text.specs.Lines.{cut_line}
 use Rattle.warc_text.specs.References.{Reference}
-use Rattle.warc_text.specs.declared.same_of.SameOf.{SameOf}
 
 -- a capture whose group has a length below 2^63
 pub record IsShort (taken : Taken) : Type 0 where
@@ -12,10 +11,6 @@ pub record IsShort (taken : Taken) : Type 0 where
   pub head : length taken.head < 2 ^ 58
   pub wire : length taken.wire < 2 ^ 58
   pub request : length taken.request < 2 ^ 34
-
--- a capture that such a group may refer to
-pub record IsShortSame (same : SameOf) : Type 0 where
-  pub uri : length same.uri < 2 ^ 61
 
 -- a block with the length before it and the line ends round it
 abbrev pub ended_length : ℕ → ℕ

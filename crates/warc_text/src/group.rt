@@ -1,15 +1,12 @@
 //! The records of a capture.
-ghost use Rattle.std.specs.Prelude.{◌≡◌, ◌++◌, ◌≤◌, ◌<◌, ◌^◌, ℕ, List, length, IfOk, OnOk, IfSome, option_copied};
+ghost use Rattle.std.specs.Prelude.{◌≡◌, ◌++◌, IfOk, OnOk, IfSome, option_copied};
 ghost use Rattle.time_text.specs.Texts.{InRange};
-ghost use Rattle.digest32.specs.Base32.{IsDigest};
-ghost use Rattle.warc_text.specs.Lengths.{IsShort, IsShortSame};
 ghost use Rattle.warc_text.specs.References.{reference_to, reference_of};
 ghost use Rattle.warc_text.specs.Records as spec;
 
 use crate::SameOf;
 use crate::id::{IdKind, id_of};
 use crate::kind::RecordKind;
-use crate::lengths::{request_len, response_len, revisit_len};
 use crate::lines::{
     put_block, put_concurrent_line, put_content_line, put_cut_line, put_digest_line, put_opening,
     put_profile_lines, put_refers_date_line, put_refers_line, put_refers_target_line,
@@ -73,21 +70,6 @@ pub fn group_text(
     let mut out = Vec::new(alloc);
     put_group(&mut out, namespace, number, taken, digest, same)?;
     Ok(Bytes::of(out))
-}
-
-/// The length of that group in bytes, which depends on no number. Takes no memory.
-#[tactic(auto, using(crate::proofs::LengthLaws::response_group_length, crate::proofs::LengthLaws::revisit_group_length))]
-pub fn group_len(taken: &Taken, same: Option<&SameOf>) -> u64
-    requires taken { IsShort taken.now }
-    requires same { IfSome (option_copied same) (λ s. IsShortSame s) }
-    ensures value { (namespace : List ℕ) → (number : ℕ) → (digest : List ℕ) → IsDigest digest
-        → result ≡ length (spec.group_text namespace number taken.now digest (reference_of namespace (option_copied same.entry))) }
-    ensures short { result < 2 ^ 63 }
-{
-    match same {
-        None => response_len(taken) + request_len(taken),
-        Some(same) => revisit_len(taken, same) + request_len(taken),
-    }
 }
 
 /// Room for the group, which needn't be exact. A revisit has no wire, and another target.

@@ -16,7 +16,7 @@ mod lines;
 mod put;
 mod same_of;
 
-pub use group::{group_len, group_text, put_group};
+pub use group::{group_text, put_group};
 pub use id::{IdKind, id_of};
 pub use info::{info_len, info_text, put_info};
 pub use laws::{
