@@ -2,8 +2,8 @@
 use Rattle.std.proofs.Common.{◌≡◌, ◌<◌, ℕ, List, [], ◌∷◌, ◌++◌, length, sym, ap, ◌∙◌, subst, arith, inr}
 use Rattle.disk_model.specs.Changes.{done, replayed, left_by, may_leave, left_since}
 use Rattle.disk_model.specs.ChangesLaws.{replayed-push, left_after-push, counts_of_left, elapses-push}
-use Rattle.disk_model.specs.Crash.{OnFile, MayCreate, HasFile, Follows, Elapses}
-use Rattle.disk_model.specs.CrashLaws.{on_file_none}
+use Rattle.disk_model.specs.Crash.{OnFile, MayCreate, HasFile, Follows, Stepped, Elapses}
+use Rattle.disk_model.specs.CrashLaws.{elapses_weaker, on_file_none}
 use Rattle.disk_model.specs.Device.{Device, reading_of, images_of}
 use Rattle.disk_model.specs.Image.{Image, file_count, file_of, with_new}
 use Rattle.disk_model.specs.ImageLaws.{file_count-with_new, file_of-with_new}
@@ -60,6 +60,13 @@ pub made_follows : (old new : Device) (kind : Kind) → new.first ≡ old.first 
 made_follows old new kind first changes image left =
     let from = changed_images old new (Made kind) first changes image left in
     (from.0, from.1, inr (counts_of_left old.changes old.first from.0 kind from.1, from.2))
+
+-- within the call a crash left the file, or didn't
+pub made_time : (old new : Device) (kind : Kind) → new.first ≡ old.first → new.changes ≡ old.changes ++ Made kind ∷ []
+    → Elapses (length old.changes) (length new.changes) (left_since old.changes old.first) (left_since new.changes new.first) (Stepped (MayCreate kind (file_count (reading_of old) kind)) (images_of old))
+made_time old new kind first changes =
+    elapses_weaker (length old.changes) (length new.changes) (left_since old.changes old.first) (left_since new.changes new.first) (images_of new) _
+    (made_follows old new kind first changes) (changed_time old new (Made kind) first changes)
 
 -- after a sync each image has the file as a read gives it
 pub synced_is_there : (old new : Device) (kind : Kind) (file : ℕ) → new.first ≡ old.first → new.changes ≡ old.changes ++ Synced kind file ∷ [] → file < file_count (reading_of old) kind → (image : Image) → images_of new image → HasFile kind file (file_of (reading_of old) kind file) image

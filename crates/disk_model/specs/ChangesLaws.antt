@@ -88,6 +88,7 @@ pub elapses-push : (changes : List Change) (change : Change) (first : Image)
     → Elapses (length changes) (length (changes ++ change ∷ [])) (left_since changes first) (left_since (changes ++ change ∷ []) first) (may_leave (changes ++ change ∷ []) first)
 elapses-push changes change first = record {
   later = omega (arith, length_push changes change);
+  by_one = omega (arith, length_push changes change);
   nothing_else = λ t image le left. ⊎_elim (λ now. inr (last t image left now)) (λ past. inl (earlier t image left past)) (cases_lt (length changes) left.0);
   keeps = λ t image le left.
       (left.0, left.1, omega (arith, length_push changes change, left.2), subst (λ (some : List Change). may_leave some first image) (sym (take-append-le left.0 changes (change ∷ []) left.2)) left.3);

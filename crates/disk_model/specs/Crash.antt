@@ -48,8 +48,10 @@ Follows Step old new = (image : Image) → new image → Stepped Step old image
 abbrev pub Leaves : (Image → Type 0) → (Image → Type 0) → Type 0
 Leaves images P = (image : Image) → images image → P image
 
--- Time goes on: a crash since t might have left what it might have left before the call, or what it may leave now.
+-- Time goes on, by one at most: a crash since t might have left what it might have left before the call, or one of these
+-- images.
 pub record Elapses (before now : ℕ) (past since : ℕ → Image → Type 0) (images : Image → Type 0) : Type 0 where
   pub later : before ≤ now
+  pub by_one : now ≤ before + 1
   pub nothing_else : (t : ℕ) (image : Image) → t ≤ before → since t image → past t image ⊎ images image
   pub keeps : (t : ℕ) (image : Image) → t ≤ before → past t image → since t image

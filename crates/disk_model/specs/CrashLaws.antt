@@ -1,5 +1,5 @@
 -- Laws of torn writes, of cuts and of time.
-use Rattle.std.proofs.Common.{◌≡◌, ◌<◌, ◌≤◌, ◌+◌, ◌-◌, ℕ, min, List, [], ◌∷◌, ◌++◌, length, take, drop, get_or, refl, sym, ap, ◌∙◌, arith, inl, ⊎_elim, append_assoc, length-append, length-take, length-drop, take-append-drop}
+use Rattle.std.proofs.Common.{◌≡◌, ◌<◌, ◌≤◌, ◌+◌, ◌-◌, ℕ, min, List, [], ◌∷◌, ◌++◌, length, take, drop, get_or, refl, sym, ap, ◌∙◌, arith, inl, inr, ⊎_elim, append_assoc, length-append, length-take, length-drop, take-append-drop}
 use Rattle.std.proofs.lemmas.Bool.{cases_lt}
 use Rattle.std.proofs.lemmas.List.{append-nil, take_all, take_at, take_min, drop_all, take-take, take-append-le, drop-drop, drop_at, drop_more, drop-take}
 use Rattle.disk_model.specs.Image.{Image, written, file_of}
@@ -167,4 +167,14 @@ on_file_none kind file Step image none = record { bytes = file_of image kind fil
 
 -- no time has gone by
 pub elapses_none : (now : ℕ) (since : ℕ → Image → Type 0) (images : Image → Type 0) → Elapses now now since since images
-elapses_none now since images = record { later = omega arith; nothing_else = λ t image le left. inl left; keeps = λ t image le left. left }
+elapses_none now since images = record { later = omega arith; by_one = omega arith; nothing_else = λ t image le left. inl left; keeps = λ t image le left. left }
+
+-- of more images
+pub elapses_weaker : (before now : ℕ) (past since : ℕ → Image → Type 0) (few more : Image → Type 0) → ((image : Image) → few image → more image)
+    → Elapses before now past since few → Elapses before now past since more
+elapses_weaker before now past since few more gives time = record {
+  later = time.later;
+  by_one = time.by_one;
+  nothing_else = λ t image le left. ⊎_elim (λ was. inl was) (λ is. inr (gives image is)) (time.nothing_else t image le left);
+  keeps = time.keeps;
+}

@@ -1,7 +1,7 @@
 //! A disk of numbered files: what a read gives, and what a crash may leave.
 ghost use Rattle.std.specs.Prelude.{◌≡◌, ◌+◌, ◌<◌, ◌≤◌, ℕ, Bool, IsTrue, [], length, take, drop, IfOk, OnOk, OnErr};
 ghost use Rattle.capture.specs.Faults.{CountsFaults};
-ghost use Rattle.disk_model.specs.Crash.{Torn, Cut, OnFile, MayCreate, HasFile, Within, Follows, Leaves, Elapses};
+ghost use Rattle.disk_model.specs.Crash.{Torn, Cut, OnFile, MayCreate, HasFile, Within, Follows, Stepped, Leaves, Elapses};
 ghost use Rattle.disk_model.specs.Image.{Image, file_count, file_of, with_file, with_new, written};
 
 use crate::Kind;
@@ -27,7 +27,7 @@ pub trait Disk {
     /// The images that a crash now may leave.
     ghost images: { Self → Image → Type 0 };
 
-    /// The moment, as a number that doesn't fall.
+    /// The moment, as a number that doesn't fall, and that a call raises by one at most.
     ghost moment: { Self → ℕ };
 
     /// The images that a crash at some moment from that one on might have left, during a call or between two.
@@ -47,7 +47,8 @@ pub trait Disk {
         ensures faults { CountsFaults (faults self.old) (faults self.new) result };
 
     /// Makes an empty file and answers its number, the number of files before. Once it answers `Ok`, each crash
-    /// leaves the file there; until then the file is there or not. A call that fails may have made it.
+    /// leaves the file there. During the call a crash leaves it there or not, also where the call then fails and has
+    /// made none. A call that fails may have made it.
     fn create(&mut self, kind: Kind) -> Result<u32, Failed>
         ensures number { IsTrue tells → IfOk result
             (λ file. file ≡ file_count (reading self.old) kind) }
@@ -58,8 +59,8 @@ pub trait Disk {
         ensures crash { Follows (MayCreate kind (file_count (reading self.old) kind))
             (images self.old) (images self.new) }
         ensures durable { IfOk result (λ file. Leaves (images self.new) (HasFile kind file [])) }
-        ensures time { Elapses (moment self.old) (moment self.new)
-            (images_since self.old) (images_since self.new) (images self.new) }
+        ensures time { Elapses (moment self.old) (moment self.new) (images_since self.old) (images_since self.new)
+            (Stepped (MayCreate kind (file_count (reading self.old) kind)) (images self.old)) }
         ensures faults { CountsFaults (faults self.old) (faults self.new) result };
 
     /// The length of a file in bytes.

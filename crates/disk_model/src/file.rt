@@ -61,7 +61,7 @@ impl File {
     }
 }
 
-// The part past the end is added first, since that alone can fail.
+/// The part past the end is added first, since that alone can fail.
 fn overwrite(old: &mut Vec<u8>, at: usize, bytes: &[u8]) -> Result<(), Memory>
     ensures ok { OnOk result (old.new.items ≡ written old.old.items at bytes.now) }
     ensures err { OnErr result (old.new.items ≡ old.old.items) }

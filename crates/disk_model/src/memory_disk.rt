@@ -3,7 +3,7 @@ ghost use Rattle.std.specs.Prelude.{◌≡◌, ◌<◌, ◌≤◌, ◌↔◌, �
 ghost use Rattle.capture.specs.Faults.{CountsFaults};
 ghost use Rattle.disk_model.specs.Changes.{done, replayed, stopped_changes};
 ghost use Rattle.disk_model.specs.ChangesLaws.{replayed_is_left, no_more_left, left_now, left_only_now, left_earlier};
-ghost use Rattle.disk_model.specs.Crash.{Torn, Cut, OnFile, MayCreate, HasFile, Within, Follows, Leaves, Elapses};
+ghost use Rattle.disk_model.specs.Crash.{Torn, Cut, OnFile, MayCreate, HasFile, Within, Follows, Stepped, Leaves, Elapses};
 ghost use Rattle.disk_model.specs.Device.{Device, new_device, reading_of, images_of, moment_of, images_since_of, is_to_fail, called, read_called, faulted, changed, stopped};
 ghost use Rattle.disk_model.specs.Image.{file_count, files_of, file_of, with_file, with_new, written};
 
@@ -131,7 +131,7 @@ impl MemoryDisk {
         })
     }
 
-    // The files that a stop leaves.
+    /// The files that a stop leaves.
     fn left_at_stop(&self, choice: u32) -> Result<Contents, Memory>
         ensures { IfOk result (λ files. files ≡ replayed
             (stopped_changes choice self.now.changes) self.now.first) }
@@ -151,7 +151,7 @@ impl MemoryDisk {
         }
     }
 
-    // Counts a call, which fails where the list or the fuse says so.
+    /// Counts a call, which fails where the list or the fuse says so.
     fn begin(&mut self) -> Result<(), Failed>
         ensures fails { IsErr result ↔ IsTrue (is_to_fail self.old) }
         ensures ok { OnOk result (self.new ≡ called self.old) }
@@ -171,7 +171,7 @@ impl MemoryDisk {
         Ok(())
     }
 
-    // Counts a failure.
+    /// Counts a failure.
     fn fault(&mut self) -> Failed
         ensures faulted { self.new ≡ faulted self.old }
         ensures later { self.old.faults ≤ self.new.faults }
@@ -180,7 +180,7 @@ impl MemoryDisk {
         Failed
     }
 
-    // Makes a change and keeps it in the record, or counts a failure where memory was refused.
+    /// Makes a change and keeps it in the record, or counts a failure where memory was refused.
     fn change(&mut self, change: Change) -> Result<(), Failed>
         ensures ok { OnOk result (self.new ≡ changed change self.old) }
         ensures err { OnErr result (self.new ≡ faulted self.old) }
@@ -251,7 +251,8 @@ impl Disk for MemoryDisk {
             (images_of self.old) (images_of self.new) }
         ensures durable { IfOk result (λ file. Leaves (images_of self.new) (HasFile kind file [])) }
         ensures time { Elapses (moment_of self.old) (moment_of self.new)
-            (images_since_of self.old) (images_since_of self.new) (images_of self.new) }
+            (images_since_of self.old) (images_since_of self.new)
+            (Stepped (MayCreate kind (file_count (reading_of self.old) kind)) (images_of self.old)) }
         ensures faults { CountsFaults self.old.faults self.new.faults result }
     {
         if self.begin().is_err() {
@@ -403,7 +404,7 @@ impl Disk for MemoryDisk {
     }
 }
 
-// Makes a change of the files and keeps it at the end of the record, or does neither.
+/// Makes a change of the files and keeps it at the end of the record, or does neither.
 fn apply_and_keep(
     files: &mut Contents,
     changes: &mut Vec<Change>,

@@ -28,7 +28,7 @@ pub fn replay(
     Ok(files)
 }
 
-// Makes one change, and answers for how many bytes pending ones are made from then on.
+/// Makes one change, and answers for how many bytes pending ones are made from then on.
 fn step(
     alloc: Global,
     files: &mut Contents,
@@ -49,7 +49,7 @@ fn step(
     }
 }
 
-// Makes a pending change for so many bytes.
+/// Makes a pending change for so many bytes.
 fn tear(
     alloc: Global,
     files: &mut Contents,
@@ -79,7 +79,7 @@ fn tear(
     Ok(Some(budget))
 }
 
-// The bytes, and a commit byte behind them.
+/// The bytes, and a commit byte behind them.
 fn with_commit_byte(alloc: Global, bytes: &[u8]) -> Result<Vec<u8>, Memory>
     ensures { IfOk result (λ torn. torn.items ≡ bytes.now ++ 87 ∷ []) }
 {

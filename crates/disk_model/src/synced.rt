@@ -46,7 +46,7 @@ impl Synced {
         }
     }
 
-    // Whether a change is pending, by the changes after it, which were seen before it.
+    /// Whether a change is pending, by the changes after it, which were seen before it.
     fn see(&mut self, change: &Change) -> Result<bool, Memory>
         ensures pending { IfOk result (λ pending. (later : List Change) → Marks self.old later →
             pending ≡ is_pending change.now later) }

@@ -66,6 +66,9 @@ impl GatedFile {
         ensures known { IsTrue D.tells → IsKnown self.old (D.reading disk.old) (D.images disk.old)
             → IsKnown self.new (D.reading disk.new) (D.images disk.new) }
 
+        // How much the moment goes on: by the three steps, and by the mending of a file that is dirty.
+        ensures quick { D.moment disk.new ≤ D.moment disk.old + (if self.old.is_dirty then 13 else 6) }
+
         ensures faults { CountsFaults (D.faults disk.old) (D.faults disk.new) result }
     {
         let known = *self;
@@ -100,6 +103,8 @@ impl GatedFile {
             (IsAdded self.old (D.reading disk.old) (D.images disk.old) [])) }
         ensures known { IsTrue D.tells → IsKnown self.new (D.reading disk.new) (D.images disk.new) }
 
+        ensures quick { D.moment disk.new ≤ D.moment disk.old + 7 }
+
         ensures faults { CountsFaults (D.faults disk.old) (D.faults disk.new) result }
     {
         let known = *self;
@@ -109,7 +114,7 @@ impl GatedFile {
         Ok(())
     }
 
-    // Takes away what stands behind the text, where the file is dirty.
+    /// Takes away what stands behind the text, where the file is dirty.
     fn clean<D: Disk>(&self, disk: &mut D) -> Result<(), Failed>
         requires there { IsTrue D.tells → self.now.file < file_count (D.reading disk.old) self.now.kind }
         requires in_range { IsTrue D.tells → self.now.end ≤ length (bytes_of self.now (D.reading disk.old)) }
@@ -122,6 +127,7 @@ impl GatedFile {
             AddsOnly D.moment D.images_since disk.old disk.new (IsFinished self.now (D.reading disk.old) (D.images disk.old)) }
         ensures only { IsTrue D.tells → IsKnown self.now (D.reading disk.old) (D.images disk.old) → OnOk result
             (Leaves (D.images disk.new) (IsAdded self.now (D.reading disk.old) (D.images disk.old) [])) }
+        ensures quick { D.moment disk.new ≤ D.moment disk.old + (if self.now.is_dirty then 7 else 0) }
         ensures faults { CountsFaults (D.faults disk.old) (D.faults disk.new) result }
     {
         if self.is_dirty {
@@ -130,7 +136,7 @@ impl GatedFile {
         Ok(())
     }
 
-    // Takes away what stands behind the text. After the first sync what a read gives is what stands there.
+    /// Takes away what stands behind the text. After the first sync what a read gives is what stands there.
     fn take_away<D: Disk>(&self, disk: &mut D) -> Result<(), Failed>
         requires there { IsTrue D.tells → self.now.file < file_count (D.reading disk.old) self.now.kind }
         requires in_range { IsTrue D.tells → self.now.end ≤ length (bytes_of self.now (D.reading disk.old)) }
@@ -142,6 +148,7 @@ impl GatedFile {
             AddsOnly D.moment D.images_since disk.old disk.new (IsFinished self.now (D.reading disk.old) (D.images disk.old)) }
         ensures only { IsTrue D.tells → OnOk result (Leaves (D.images disk.new)
             (IsAdded self.now (D.reading disk.old) (D.images disk.old) [])) }
+        ensures quick { D.moment disk.new ≤ D.moment disk.old + 7 }
         ensures faults { CountsFaults (D.faults disk.old) (D.faults disk.new) result }
     {
         disk.sync(self.kind, self.file)?;
@@ -149,7 +156,7 @@ impl GatedFile {
         self.cut_off(disk)
     }
 
-    // Puts a text behind the finished one, its commit byte last.
+    /// Puts a text behind the finished one, its commit byte last.
     fn put<D: Disk>(&self, disk: &mut D, text: &[u8]) -> Result<(), Failed>
         requires there { IsTrue D.tells → self.now.file < file_count (D.reading disk.old) self.now.kind }
         requires in_range { IsTrue D.tells → self.now.end ≤ length (bytes_of self.now (D.reading disk.old)) }
@@ -164,6 +171,7 @@ impl GatedFile {
             AddsOnly D.moment D.images_since disk.old disk.new (IsEither self.now (D.reading disk.old) (D.images disk.old) text.now) }
         ensures only { IsTrue D.tells → IsEnded self.now (D.reading disk.old) (D.images disk.old) → OnOk result
             (Leaves (D.images disk.new) (IsAdded self.now (D.reading disk.old) (D.images disk.old) text.now)) }
+        ensures quick { D.moment disk.new ≤ D.moment disk.old + 6 }
         ensures faults { CountsFaults (D.faults disk.old) (D.faults disk.new) result }
     {
         let (commit, rest) = text.split_at(1);
@@ -172,7 +180,7 @@ impl GatedFile {
         self.write(disk, self.end, commit)
     }
 
-    // Takes the commit byte off what stands behind the end of a file that is synced, so that it is a tail.
+    /// Takes the commit byte off what stands behind the end of a file that is synced, so that it is a tail.
     fn uncommit<D: Disk>(&self, disk: &mut D) -> Result<(), Failed>
         requires there { IsTrue D.tells → self.now.file < file_count (D.reading disk.old) self.now.kind }
         requires in_range { IsTrue D.tells → self.now.end ≤ length (bytes_of self.now (D.reading disk.old)) }
@@ -183,6 +191,7 @@ impl GatedFile {
             (IsSynced self.now (D.reading disk.new) (D.images disk.new)) }
         ensures leaves { IsTrue D.tells → IsSynced self.now (D.reading disk.old) (D.images disk.old) →
             AddsOnly D.moment D.images_since disk.old disk.new (IsFinished self.now (D.reading disk.old) (D.images disk.old)) }
+        ensures quick { D.moment disk.new ≤ D.moment disk.old + (if is_ok result then 4 else 5) }
         ensures faults { CountsFaults (D.faults disk.old) (D.faults disk.new) result }
     {
         if self.is_committed(disk)? {
@@ -191,7 +200,7 @@ impl GatedFile {
         Ok(())
     }
 
-    // Whether a whole text stands behind the end, by its commit byte.
+    /// Whether a whole text stands behind the end, by its commit byte.
     fn is_committed<D: Disk>(&self, disk: &mut D) -> Result<bool, Failed>
         requires there { IsTrue D.tells → self.now.file < file_count (D.reading disk.old) self.now.kind }
         requires in_range { IsTrue D.tells → self.now.end ≤ length (bytes_of self.now (D.reading disk.old)) }
@@ -200,6 +209,7 @@ impl GatedFile {
         ensures reading { IsTrue D.tells → D.reading disk.new ≡ D.reading disk.old }
         ensures crash { Within (D.images disk.old) (D.images disk.new) }
         ensures leaves { AddsOnly D.moment D.images_since disk.old disk.new (D.images disk.old) }
+        ensures quick { D.moment disk.new ≤ D.moment disk.old + 2 }
         ensures faults { CountsFaults (D.faults disk.old) (D.faults disk.new) result }
     {
         let len = disk.len(self.kind, self.file)?;
@@ -211,8 +221,8 @@ impl GatedFile {
         Ok(first[0] == self.commit)
     }
 
-    // Writes `-` over a commit byte and syncs that. Where the sync fails, the byte may still stand on the disk, whatever
-    // a read gives and a later sync answers. So it is put back, for the next mending to write `-` anew.
+    /// Writes `-` over a commit byte and syncs that. Where the sync fails, the byte may still stand on the disk, whatever
+    /// a read gives and a later sync answers. So it is put back, for the next mending to write `-` anew.
     fn close<D: Disk>(&self, disk: &mut D) -> Result<(), Failed>
         requires there { IsTrue D.tells → self.now.file < file_count (D.reading disk.old) self.now.kind }
         requires in_range { IsTrue D.tells → self.now.end ≤ length (bytes_of self.now (D.reading disk.old)) }
@@ -224,6 +234,7 @@ impl GatedFile {
             IsSynced self.now (D.reading disk.old) (D.images disk.old) →
             AddsOnly D.moment D.images_since disk.old disk.new (Stepped
             (OnFile self.now.kind self.now.file (Torn self.now.end 1)) (D.images disk.old)) }
+        ensures quick { D.moment disk.new ≤ D.moment disk.old + (if is_ok result then 2 else 3) }
         ensures faults { CountsFaults (D.faults disk.old) (D.faults disk.new) result }
     {
         disk.write_at(self.kind, self.file, self.end, &[CLOSED])?;
@@ -234,7 +245,7 @@ impl GatedFile {
         Ok(())
     }
 
-    // Writes bytes and syncs them.
+    /// Writes bytes and syncs them.
     fn write<D: Disk>(&self, disk: &mut D, at: u64, bytes: &[u8]) -> Result<(), Failed>
         requires there { IsTrue D.tells → self.now.file < file_count (D.reading disk.old) self.now.kind }
         requires in_range { IsTrue D.tells → at ≤ length (bytes_of self.now (D.reading disk.old)) }
@@ -248,13 +259,14 @@ impl GatedFile {
             (D.images disk.old) (D.images disk.new) }
         ensures leaves { AddsOnly D.moment D.images_since disk.old disk.new
             (Stepped (OnFile self.now.kind self.now.file (Torn at (length bytes.now))) (D.images disk.old)) }
+        ensures quick { D.moment disk.new ≤ D.moment disk.old + 2 }
         ensures faults { CountsFaults (D.faults disk.old) (D.faults disk.new) result }
     {
         disk.write_at(self.kind, self.file, at, bytes)?;
         disk.sync(self.kind, self.file)
     }
 
-    // Cuts the file at its end and syncs that.
+    /// Cuts the file at its end and syncs that.
     fn cut_off<D: Disk>(&self, disk: &mut D) -> Result<(), Failed>
         requires there { IsTrue D.tells → self.now.file < file_count (D.reading disk.old) self.now.kind }
         requires in_range { IsTrue D.tells → self.now.end ≤ length (bytes_of self.now (D.reading disk.old)) }
@@ -267,6 +279,7 @@ impl GatedFile {
             (D.images disk.old) (D.images disk.new) }
         ensures leaves { AddsOnly D.moment D.images_since disk.old disk.new
             (Stepped (OnFile self.now.kind self.now.file (Cut self.now.end)) (D.images disk.old)) }
+        ensures quick { D.moment disk.new ≤ D.moment disk.old + 2 }
         ensures faults { CountsFaults (D.faults disk.old) (D.faults disk.new) result }
     {
         disk.cut(self.kind, self.file, self.end)?;

@@ -45,7 +45,7 @@ impl PartialDisk {
         self.calls
     }
 
-    // Counts a call, and answers whether it is the one that fails.
+    /// Counts a call, and answers whether it is the one that fails.
     fn is_failing(&mut self) -> bool
         ensures { self.new.faults ≡ self.old.faults }
     {
@@ -54,7 +54,7 @@ impl PartialDisk {
         number == self.fails
     }
 
-    // Counts a failure where there is no answer, or where the call is the one that fails.
+    /// Counts a failure where there is no answer, or where the call is the one that fails.
     fn answer<T: Drop>(&mut self, fails: bool, answer: Option<T>) -> Result<T, Failed>
         ensures { CountsFaults self.old.faults self.new.faults result }
     {

@@ -1,7 +1,7 @@
 -- A further file is made: what that leaves.
 use Rattle.std.proofs.Common.{◌≡◌, ◌≢◌, ◌⊎◌, ◌<◌, ◌≤◌, ℕ, ◌+◌, false, List, [], ◌∷◌, ◌++◌, length, get_or, refl, sym, ap, subst, ◌∙◌, inl, inr, ⊎_elim, arith}
 use Rattle.std.proofs.lemmas.List.{get_or_append_left, length_push}
-use Rattle.disk_model.specs.Crash.{Elapses, Follows, HasFile, Leaves, MayCreate}
+use Rattle.disk_model.specs.Crash.{Elapses, Follows, HasFile, Leaves, MayCreate, Stepped}
 use Rattle.disk_model.specs.Image.{Image, file_count}
 use Rattle.disk_model.specs.ImageLaws.{files_of-with_new, files_of-with_new_kind}
 use Rattle.disk_model.specs.Moments.{goes_on, none_added}
@@ -26,7 +26,8 @@ module _ {D : Type 0} (d : Ghosts D)
     (clean : old.extent.is_dirty ≡ false) (absent : old.extent.further ≡ Absent)
     (fewer : (i : Image) → d.images old.disk i → file_count i Warc ≤ file_count (d.reading old.disk) Warc)
     (follows : Follows (MayCreate Warc (file_count (d.reading old.disk) Warc)) (d.images old.disk) (d.images disk))
-    (time : Elapses (d.moment old.disk) (d.moment disk) (d.images_since old.disk) (d.images_since disk) (d.images disk))
+    (time : Elapses (d.moment old.disk) (d.moment disk) (d.images_since old.disk) (d.images_since disk)
+    (Stepped (MayCreate Warc (file_count (d.reading old.disk) Warc)) (d.images old.disk)))
     (read : MayCreate Warc (file_count (d.reading old.disk) Warc) (d.reading old.disk) (d.reading disk)) where
   abbrev ts : List (List ℕ)
   ts = texts d old
@@ -40,24 +41,27 @@ module _ {D : Type 0} (d : Ghosts D)
   count : length ts ≡ old.extent.volumes
   count = length_texts old.extent (warc_files (d.reading old.disk)) in_step.enough
 
+  -- an image from before, with a new file or without one
+  abbrev MayHaveNew : Image → Type 0
+  MayHaveNew = Stepped (MayCreate Warc n) (d.images old.disk)
+
   -- what holds of the files with and without a new one, holds of each image
   of_each : (P : List (List ℕ) → Type 0) → ((i : Image) → d.images old.disk i → P (warc_files i))
       → ((i : Image) → d.images old.disk i → length (warc_files i) ≤ length ts → P (warc_files i ++ [] ∷ []))
-      → (i : Image) → d.images disk i → P (warc_files i)
-  of_each P as_was pushed i left =
-      let made = follows i left in
+      → (i : Image) → MayHaveNew i → P (warc_files i)
+  of_each P as_was pushed i made =
       ⊎_elim
       (λ same. subst P (sym same) (as_was made.0 made.1))
       (λ more. subst P (sym more) (pushed made.0 made.1 (omega (arith, fewer made.0 made.1, in_step.absent absent, count))))
       (may_be_pushed n made.0 i made.2)
 
-  sealed : (i : Image) → d.images disk i → AreSealed ts (warc_files i)
+  sealed : (i : Image) → MayHaveNew i → AreSealed ts (warc_files i)
   sealed = of_each (AreSealed ts) in_step.sealed (λ i was few. sealed_pushed ts (warc_files i) (in_step.sealed i was) few)
 
-  just : (i : Image) → d.images disk i → IsLastJust ts (warc_files i)
+  just : (i : Image) → MayHaveNew i → IsLastJust ts (warc_files i)
   just = of_each (IsLastJust ts) (in_step.clean clean) (λ i was few. last_pushed ts (warc_files i) (in_step.sealed i was) (in_step.clean clean i was))
 
-  empty : (i : Image) → d.images disk i → IsFurtherEmpty ts (warc_files i)
+  empty : (i : Image) → MayHaveNew i → IsFurtherEmpty ts (warc_files i)
   empty = of_each (IsFurtherEmpty ts) (in_step.known known) (λ i was few. further_pushed ts (warc_files i) (in_step.sealed i was) few)
 
   same : texts_in old.extent (warc_files (d.reading disk)) ≡ ts
@@ -83,16 +87,16 @@ module _ {D : Type 0} (d : Ghosts D)
       (may_be_pushed n (d.reading old.disk) (d.reading disk) read) in
       omega (arith, in_step.within k is, ap length one)
 
-  -- a crash leaves the texts, with or without the file
+  -- a crash leaves the texts, with or without the file, also within a call that fails
   pub made_prepared : Prepares d old (record { disk = disk; extent = record old.extent { further = Empty } })
   made_prepared = record {
     leaves =
-        goes_on d.moment d.images_since old.disk old.disk disk (IsLeft (d.images old.disk) (Hold ts)) (d.images disk) (none_added d.moment d.images_since old.disk (IsLeft (d.images old.disk) (Hold ts))) time
-        (λ i left. record {
-          before = (follows i left).0;
-          was = (follows i left).1;
-          others = cdxj_stay n (follows i left).0 i (follows i left).2;
-          described = hold_just ts (warc_files i) (sealed i left) (just i left) (empty i left);
+        goes_on d.moment d.images_since old.disk old.disk disk (IsLeft (d.images old.disk) (Hold ts)) MayHaveNew (none_added d.moment d.images_since old.disk (IsLeft (d.images old.disk) (Hold ts))) time
+        (λ i new. record {
+          before = new.0;
+          was = new.1;
+          others = cdxj_stay n new.0 i new.2;
+          described = hold_just ts (warc_files i) (sealed i new) (just i new) (empty i new);
         });
     same = same;
     others = cdxj_stay n (d.reading old.disk) (d.reading disk) read;
@@ -107,8 +111,8 @@ module _ {D : Type 0} (d : Ghosts D)
     enough = read_enough;
     one_more = read_one_more;
     within = within;
-    sealed = sealed;
-    clean = λ is. just;
+    sealed = λ i left. sealed i (follows i left);
+    clean = λ is i left. just i (follows i left);
     known = λ apart. absurd (apart refl);
     absent = λ is. cc is;
     there = λ is. cc is;
@@ -121,9 +125,9 @@ module _ {D : Type 0} (d : Ghosts D)
     enough = read_enough;
     one_more = read_one_more;
     within = within;
-    sealed = sealed;
-    clean = λ is. just;
-    known = λ apart. empty;
+    sealed = λ i left. sealed i (follows i left);
+    clean = λ is i left. just i (follows i left);
+    known = λ apart i left. empty i (follows i left);
     absent = λ is. cc is;
     there = λ is i left. omega (arith, (durable i left).there, in_step.enough);
     held = λ dirty. cc (sym clean ∙ dirty);

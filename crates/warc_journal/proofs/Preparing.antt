@@ -5,16 +5,17 @@ use Rattle.std.proofs.lemmas.Bool.{false≢true}
 use Rattle.std.proofs.lemmas.List.{append-nil, length-set}
 use lib.ListN.{set}
 use Rattle.capture.specs.Tails.{HoldsText, IsRest}
-use Rattle.disk_model.specs.Crash.{Leaves}
+use Rattle.disk_model.specs.Crash.{Leaves, OnFile}
 use Rattle.disk_model.specs.Image.{Image, file_count, file_of, files_of, with_file}
-use Rattle.disk_model.specs.ImageLaws.{files_of-with_files, files_of-with_file_kind}
+use Rattle.disk_model.specs.ImageLaws.{file_count-with_file, files_of-with_files, files_of-with_file_kind}
 use Rattle.disk_model.specs.Moments.{AddsOnly, joined, now_has, weakened}
 use Rattle.disk_model.specs.declared.disk.Disk.{Ghosts}
+use Rattle.disk_model.specs.declared.kind.Kind.{Kind}
 use Rattle.disk_model.specs.declared.kind.Kind.TheVariants.{Warc, Cdxj}
 use Rattle.gated_file.specs.Files.{HoldsBefore, IsAdded, IsFinished, KeepsText, Rewrites}
 use Rattle.warc_text.specs.StandsFor.{commit_byte}
 use Rattle.warc_journal.specs.Journals.{IsInStep, IsLeft, Prepares, texts}
-use Rattle.warc_journal.specs.Extents.{Reaches, cdxj_files, further_of, texts_in, warc_files}
+use Rattle.warc_journal.specs.Extents.{MakesNoFile, Reaches, cdxj_files, further_of, texts_in, warc_files}
 use Rattle.warc_journal.specs.Texts.{AreSealed, Hold, IsFurtherEmpty, IsLastJust}
 use Rattle.warc_journal.specs.declared.extent.Extent.{Extent}
 use Rattle.warc_journal.specs.declared.extent.Further.{Further}
@@ -38,6 +39,10 @@ warc_written image file bytes = files_of-with_files image Warc (set (files_of im
 
 pub cdxj_written : (image : Image) (file : ℕ) (bytes : List ℕ) → cdxj_files (with_file image Warc file bytes) ≡ cdxj_files image
 cdxj_written image file bytes = files_of-with_file_kind image Warc file bytes Cdxj (λ same. cc)
+
+-- a call on a file makes none
+pub no_file : (kind : Kind) (file : ℕ) (Step : List ℕ → List ℕ → Type 0) (old new : Image) → OnFile kind file Step old new → MakesNoFile old new
+no_file kind file Step old new stays = ap (λ (i : Image). file_count i Warc) stays.whole ∙ file_count-with_file old kind file stays.bytes Warc
 
 pub file_is : (image : Image) (file : ℕ) → file_of image Warc file ≡ get_or (warc_files image) file []
 unfolding file_of

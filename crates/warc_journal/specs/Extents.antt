@@ -1,5 +1,5 @@
 -- How far the texts of volumes reach, and what is known of the files that hold them.
-use Rattle.std.specs.Prelude.{◌≡◌, ◌≢◌, ◌<◌, ◌≤◌, ℕ, ◌+◌, ◌-◌, Bool, true, false, List, [], length, set, slice_index_or, take}
+use Rattle.std.specs.Prelude.{◌≡◌, ◌≢◌, ◌<◌, ◌≤◌, ℕ, ◌+◌, ◌-◌, Bool, true, false, if◌then◌else◌, List, [], length, set, slice_index_or, take}
 use Rattle.disk_model.specs.Crash.{Leaves}
 use Rattle.disk_model.specs.Image.{Image, files_of}
 use Rattle.disk_model.specs.declared.kind.Kind.TheVariants.{Warc, Cdxj}
@@ -7,6 +7,7 @@ use Rattle.gated_file.specs.declared.file.GatedFile.{GatedFile}
 use Rattle.warc_text.specs.StandsFor.{commit_byte}
 use Rattle.warc_journal.specs.Texts.{AreSealed, Hold, IsFurtherEmpty, IsLastJust}
 use Rattle.warc_journal.specs.declared.extent.Extent.{Extent}
+use Rattle.warc_journal.specs.declared.extent.Further.{Further}
 use Rattle.warc_journal.specs.declared.extent.Further.TheVariants.{Absent, Empty, Unknown}
 
 -- the files of the volumes, in order
@@ -33,6 +34,26 @@ last_of extent = record { kind = Warc; file = extent.volumes - 1; commit = commi
 -- the file behind it
 abbrev pub further_of : Extent → Bool → GatedFile
 further_of extent is_dirty = record { kind = Warc; file = extent.volumes; commit = commit_byte; end = 0; is_dirty = is_dirty }
+
+-- nothing but the texts stands in the files, and that is known
+pub record IsClean (extent : Extent) : Type 0 where
+  pub last : extent.is_dirty ≡ false
+  pub further : extent.further ≢ Unknown
+
+-- how far the moment goes on at most where what may stand in a further file is taken away: the files are counted, and the
+-- file is mended
+abbrev pub further_mending : Further → ℕ
+further_mending Absent = 0
+further_mending Empty = 0
+further_mending Unknown = 8
+
+-- and where that is done in both files: not at all where they are clean
+abbrev pub mending : Extent → ℕ
+mending extent = further_mending extent.further + (if extent.is_dirty then 7 else 0)
+
+-- one image has as many Warc files as the other
+abbrev pub MakesNoFile : Image → Image → Type 0
+MakesNoFile old new = length (warc_files new) ≡ length (warc_files old)
 
 -- these files hold texts that reach so far, with what the extent says behind them
 pub record IsFound (extent : Extent) (files : List (List ℕ)) : Type 0 where

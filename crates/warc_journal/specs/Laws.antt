@@ -1,12 +1,13 @@
 -- Laws for those who add texts, and who work on other files of the disk.
-use Rattle.std.proofs.Common.{◌≡◌, ℕ, List, [], ◌∷◌, length, get_or, refl, sym, ap, subst, ◌∙◌, inl, inr, arith}
+use Rattle.std.proofs.Common.{◌≡◌, ◌≤◌, ℕ, List, [], ◌∷◌, length, get_or, refl, sym, ap, subst, ◌∙◌, inl, inr, ⊎_elim, arith}
 use Rattle.std.proofs.lemmas.List.{append-nil, get_or_append_left, get_or_push, length_push}
 use Rattle.disk_model.specs.Crash.{Leaves}
 use Rattle.disk_model.specs.Image.{Image}
+use Rattle.disk_model.specs.Moments.{AddsOnly, now_has}
 use Rattle.disk_model.specs.declared.disk.Disk.{Ghosts}
-use Rattle.warc_journal.specs.Extents.{Reaches, texts_in, warc_files}
-use Rattle.warc_journal.specs.Journals.{IsInStep, texts}
-use Rattle.warc_journal.specs.Texts.{AreJust, AreSealed, Hold, IsFurtherEmpty, IsLastJust}
+use Rattle.warc_journal.specs.Extents.{Reaches, cdxj_files, texts_in, warc_files}
+use Rattle.warc_journal.specs.Journals.{IsInStep, IsLeft, texts}
+use Rattle.warc_journal.specs.Texts.{AreJust, AreSealed, Hold, HoldEither, IsFurtherEmpty, IsLastJust}
 use Rattle.warc_journal.specs.declared.extent.Extent.{Extent}
 use Rattle.warc_journal.specs.declared.journal.Journal.{Journal}
 
@@ -26,6 +27,30 @@ TextsStayBesideOtherWork {D} d =
     (old : Journal D) (disk : D) → warc_files (d.reading disk) ≡ warc_files (d.reading old.disk)
     → Leaves (d.images disk) (HasWarcOf (d.images old.disk)) → IsInStep d old
     → IsInStep d (record old { disk = disk })
+
+-- an image with the Cdxj files of an image from before
+pub record HasCdxjOf (images : Image → Type 0) (image : Image) : Type 0 where
+  pub before : Image
+  pub was : images before
+  pub same : cdxj_files image ≡ cdxj_files before
+
+-- where a run leaves the texts before or after, with the Cdxj files of an image from before, each image has such Cdxj files
+abbrev pub CheckpointsStayBesideTexts : {D : Type 0} → Ghosts D → Type 0
+CheckpointsStayBesideTexts {D} d =
+    (old disk : D) (before after : List (List ℕ))
+    → AddsOnly d.moment d.images_since old disk (IsLeft (d.images old) (HoldEither before after))
+    → Leaves (d.images disk) (HasCdxjOf (d.images old))
+
+pub checkpoints_stay : {D : Type 0} (d : Ghosts D)
+    → ((disk : D) (t : ℕ) (i : Image) → t ≤ d.moment disk → d.images disk i → d.images_since disk t i)
+    → ((disk : D) (i : Image) → d.images_since disk (d.moment disk) i → d.images disk i)
+    → CheckpointsStayBesideTexts d
+checkpoints_stay d counts only old disk before after leaves image left =
+    ⊎_elim
+    (λ was. record { before = image; was = was; same = refl })
+    (λ is. record { before = is.before; was = is.was; same = is.others })
+    (now_has d.moment d.images_since old disk (d.images old) (IsLeft (d.images old) (HoldEither before after)) (d.images disk)
+    (λ i now. counts disk (d.moment old) i leaves.later now) (only old) leaves image left)
 
 pub just_are_held : JustTextsAreHeld
 just_are_held texts files (inl same) = record {

@@ -1,9 +1,11 @@
 //! Why a journal answers no Ok.
 
 use capture::Failed;
+use thiserror::Error;
 
 /// A call of the disk failed.
-#[derive(Clone, Copy, Debug, PartialEq, Eq)]
+#[derive(Clone, Copy, Debug, PartialEq, Eq, Error)]
+#[error("the disk failed")]
 pub struct DiskFault;
 
 impl From<Failed> for DiskFault {

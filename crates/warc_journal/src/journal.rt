@@ -6,7 +6,8 @@ ghost use Rattle.capture.specs.Tails.{IsCommitted};
 ghost use Rattle.disk_model.specs.Crash.{Leaves};
 ghost use Rattle.warc_text.specs.StandsFor.{commit_byte};
 ghost use Rattle.warc_journal.specs.Texts.{Hold, with_more};
-ghost use Rattle.warc_journal.specs.Extents.{AreVolumesSynced, IsFound, warc_files};
+ghost use Rattle.warc_journal.specs.Extents.{AreVolumesSynced, IsClean, IsFound, MakesNoFile, further_mending, mending, warc_files};
+ghost use Rattle.warc_journal.specs.declared.extent.Further.TheVariants.{Absent};
 ghost use Rattle.warc_journal.specs.Journals.{Changes, IsInStep, Rests, disk_of, extent_of, last_len, texts, volumes};
 
 mod preparing;
@@ -79,6 +80,9 @@ impl<D: Disk> Journal<D> {
             ≡ (if is_ok result then last_len self.old + length text.now else last_len self.old) }
         ensures place { IfOk result (λ place. place
             ≡ record { volume = volumes self.old - 1; at = last_len self.old; len = length text.now }) }
+        ensures clean { OnOk result (IsClean (extent_of self.new)) }
+        ensures no_file { IsTrue D.tells → MakesNoFile (D.reading (disk_of self.old)) (D.reading (disk_of self.new)) }
+        ensures quick { D.moment (disk_of self.new) ≤ D.moment (disk_of self.old) + mending (extent_of self.old) + 6 }
         ensures faults { CountsFaults (D.faults (disk_of self.old)) (D.faults (disk_of self.new)) result }
     {
         self.clean()?;
@@ -99,6 +103,9 @@ impl<D: Disk> Journal<D> {
         ensures in_step { IsTrue D.tells → IsInStep D.Disk self.new }
         ensures volumes { volumes self.new ≡ (if is_ok result then volumes self.old + 1 else volumes self.old) }
         ensures last_len { last_len self.new ≡ (if is_ok result then length info.now else last_len self.old) }
+        ensures clean { OnOk result (IsClean (extent_of self.new)) }
+        ensures absent { OnOk result ((extent_of self.new).further ≡ Absent) }
+        ensures quick { D.moment (disk_of self.new) ≤ D.moment (disk_of self.old) + mending (extent_of self.old) + 7 }
         ensures faults { CountsFaults (D.faults (disk_of self.old)) (D.faults (disk_of self.new)) result }
     {
         self.clean()?;
@@ -114,6 +121,9 @@ impl<D: Disk> Journal<D> {
         ensures in_step { IsTrue D.tells → IsInStep D.Disk self.new }
         ensures volumes { volumes self.new ≡ volumes self.old }
         ensures last_len { last_len self.new ≡ last_len self.old }
+        ensures clean { OnOk result (IsClean (extent_of self.new)) }
+        ensures no_file { IsTrue D.tells → MakesNoFile (D.reading (disk_of self.old)) (D.reading (disk_of self.new)) }
+        ensures quick { D.moment (disk_of self.new) ≤ D.moment (disk_of self.old) + further_mending (extent_of self.old).further + 7 }
         ensures faults { CountsFaults (D.faults (disk_of self.old)) (D.faults (disk_of self.new)) result }
     {
         self.clear_further()?;

@@ -1,5 +1,5 @@
 //! What the journal promises to those who add texts, and to those who work on other files of its disk.
-ghost use Rattle.warc_journal.specs.Laws.{JustTextsAreHeld, TextsStayBesideOtherWork};
+ghost use Rattle.warc_journal.specs.Laws.{CheckpointsStayBesideTexts, JustTextsAreHeld, TextsStayBesideOtherWork};
 
 use disk_model::Disk;
 
@@ -13,4 +13,10 @@ pub fn just_texts_are_held()
 #[tactic(auto, using(crate::specs::Laws::in_step_beside))]
 pub fn texts_stay_beside_other_work<D: Disk>()
     ensures { TextsStayBesideOtherWork D.Disk }
+{}
+
+/// Work on texts keeps the Cdxj files of an image from before, in each image. What `append`, `roll` and `repair` say that they
+/// leave gives the premise.
+pub fn checkpoints_stay_beside_texts<D: Disk>()
+    ensures { CheckpointsStayBesideTexts D.Disk }
 {}

@@ -16,6 +16,6 @@ mod tests;
 pub use extent::{Extent, Further};
 pub use fault::DiskFault;
 pub use journal::Journal;
-pub use laws::{just_texts_are_held, texts_stay_beside_other_work};
+pub use laws::{checkpoints_stay_beside_texts, just_texts_are_held, texts_stay_beside_other_work};
 pub use opening::sync_volumes;
 pub use place::Place;

@@ -25,8 +25,8 @@ impl PartialFile {
         })
     }
 
-    // What a stop leaves of it: at 0 what was synced, at 1 what a read gives. At n above 1 n - 2 bytes more than were
-    // synced, and a `W` where more was written; or n - 2 bytes fewer, where it was cut; or the bytes of either.
+    /// What a stop leaves of it: at 0 what was synced, at 1 what a read gives. At n above 1 n - 2 bytes more than were
+    /// synced, and a `W` where more was written; or n - 2 bytes fewer, where it was cut; or the bytes of either.
     fn left(&self, alloc: Global, choice: usize) -> Result<Vec<u8>, AllocError> {
         let (now, synced) = (self.bytes.as_slice(), self.synced.as_slice());
         let some = choice.saturating_sub(2);
@@ -106,7 +106,7 @@ impl PartialDisk {
         }
     }
 
-    // Counts a call, and answers whether it is one that fails.
+    /// Counts a call, and answers whether it is one that fails.
     fn is_failing(&mut self, kind: Kind) -> bool
         ensures { self.new.faults ≡ self.old.faults }
     {
@@ -115,7 +115,7 @@ impl PartialDisk {
         number == self.fails.0 || number == self.fails.1 || kind == Kind::Cdxj
     }
 
-    // Counts a failure where there is no answer, or where the call is one that fails.
+    /// Counts a failure where there is no answer, or where the call is one that fails.
     fn answer<T: Drop>(&mut self, fails: bool, answer: Option<T>) -> Result<T, Failed>
         ensures { CountsFaults self.old.faults self.new.faults result }
     {
@@ -133,7 +133,7 @@ fn count_of(files: &[PartialFile]) -> Option<u32> {
     u32::try_from(files.len()).ok()
 }
 
-// Makes a file, which a stop may lose where the call fails.
+/// Makes a file, which a stop may lose where the call fails.
 fn make(alloc: Global, files: &mut Vec<PartialFile>, fails: bool) -> Option<u32> {
     let number = count_of(files.as_slice())?;
     let mut file = PartialFile::of(alloc, &[]).ok()?;

@@ -4,7 +4,7 @@ use Rattle.disk_model.specs.Crash.{HasFile, Leaves}
 use Rattle.disk_model.specs.Image.{file_count}
 use Rattle.disk_model.specs.Device.{Device, reading_of, images_of, called, changed}
 use Rattle.disk_model.specs.declared.change.Change.TheVariants.{Made}
-use Rattle.disk_model.proofs.Steps.{changed_reading, made_is_there, made_follows}
+use Rattle.disk_model.proofs.Steps.{changed_reading, made_is_there, made_follows, made_time}
 use Rattle.disk_model.proofs.memory_disk.MemoryDiskDisk.create.Goals as goal
 
 pub returns-clause-created : goal.returns-clause-created
@@ -23,3 +23,8 @@ returns-clause-durable c =
     let number : length c.files.result.now ≡ file_count (reading_of c.args.self.now) c.args.kind = search rules in
     subst (λ (n : ℕ). Leaves (images_of c.change.new.self) (HasFile c.args.kind n [])) (sym number)
     (made_is_there c.args.self.now c.change.new.self c.args.kind (ap (λ (d : Device). d.first) same) (ap (λ (d : Device). d.changes) same))
+
+pub returns-clause-time : goal.returns-clause-time
+returns-clause-time c =
+    let same : c.change.new.self ≡ changed (Made c.args.kind) (called c.args.self.now) = search rules in
+    made_time c.args.self.now c.change.new.self c.args.kind (ap (λ (d : Device). d.first) same) (ap (λ (d : Device). d.changes) same)

@@ -8,7 +8,7 @@ pub returns-in_err-create-in-Absent-clause-prepared : goal.returns-in_err-create
 returns-in_err-create-in-Absent-clause-prepared g c told =
     let d = g.D.Disk in
     let old = c.args.self.now in
-    made_unknown d old c.create.new.self (c.requires.in_step told) c.requires.clean c.in-Absent.is
+    made_unknown d old c.create.new.self (c.requires.in_step told) c.requires.clean.last c.in-Absent.is
     (λ i left. g.met.D.Disk.no_more_files old.disk i Warc left)
     c.create.ensures.crash c.create.ensures.time (c.in_err-create-in-Absent.ensures.partial told)
 
@@ -16,7 +16,7 @@ pub returns-in_err-create-in-Absent-clause-in_step : goal.returns-in_err-create-
 returns-in_err-create-in-Absent-clause-in_step g c told =
     let d = g.D.Disk in
     let old = c.args.self.now in
-    make_failed d old c.create.new.self (c.requires.in_step told) c.requires.clean c.in-Absent.is
+    make_failed d old c.create.new.self (c.requires.in_step told) c.requires.clean.last c.in-Absent.is
     (λ i left. g.met.D.Disk.no_more_files old.disk i Warc left)
     c.create.ensures.crash c.create.ensures.time (c.in_err-create-in-Absent.ensures.partial told)
 
@@ -24,7 +24,7 @@ pub returns-in_ok-create-in-Absent-clause-prepared : goal.returns-in_ok-create-i
 returns-in_ok-create-in-Absent-clause-prepared g c told =
     let d = g.D.Disk in
     let old = c.args.self.now in
-    made_prepared d old c.create.new.self (c.requires.in_step told) c.requires.clean c.in-Absent.is
+    made_prepared d old c.create.new.self (c.requires.in_step told) c.requires.clean.last c.in-Absent.is
     (λ i left. g.met.D.Disk.no_more_files old.disk i Warc left)
     c.create.ensures.crash c.create.ensures.time (inr (refl, c.in_ok-create-in-Absent.ensures.created told))
 
@@ -33,7 +33,7 @@ returns-in_ok-create-in-Absent-clause-in_step g c told =
     let d = g.D.Disk in
     let old = c.args.self.now in
     let new = c.create.new.self in
-    made d old new (c.requires.in_step told) c.requires.clean c.in-Absent.is
+    made d old new (c.requires.in_step told) c.requires.clean.last c.in-Absent.is
     (λ i left. g.met.D.Disk.no_more_files old.disk i Warc left)
     c.create.ensures.crash c.create.ensures.time (inr (refl, c.in_ok-create-in-Absent.ensures.created told))
     (subst (λ (file : ℕ). Leaves (d.images new) (HasFile Warc file [])) (c.in_ok-create-in-Absent.ensures.number told) c.in_ok-create-in-Absent.ensures.durable)

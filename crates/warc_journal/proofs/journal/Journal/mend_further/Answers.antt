@@ -3,7 +3,7 @@ use Rattle.disk_model.specs.Crash.{Leaves}
 use Rattle.disk_model.specs.Moments.{AddsOnly}
 use Rattle.gated_file.specs.Files.{IsAdded, IsFinished, KeepsText}
 use Rattle.gated_file.specs.declared.file.GatedFile.{GatedFile}
-use Rattle.warc_journal.proofs.Preparing.{further_cleared, further_failed, further_prepared}
+use Rattle.warc_journal.proofs.Preparing.{further_cleared, further_failed, further_prepared, no_file}
 use Rattle.warc_journal.proofs.journal.Journal.mend_further.Goals as goal
 
 pub returns-in_err-mend-clause-prepared : goal.returns-in_err-mend-clause-prepared
@@ -48,3 +48,13 @@ returns-clause-in_step g c told =
     (subst (λ (f : GatedFile). KeepsText f (d.reading old.disk) (d.reading new)) c.further_file.ensures (c.mend.ensures.stays told))
     (subst (λ (f : GatedFile). AddsOnly d.moment d.images_since old.disk new (IsFinished f (d.reading old.disk) (d.images old.disk))) c.further_file.ensures (c.mend.ensures.leaves told))
     (subst (λ (f : GatedFile). Leaves (d.images new) (IsAdded f (d.reading old.disk) (d.images old.disk) [])) c.further_file.ensures (c.in_ok-mend.ensures.only told))
+
+pub returns-in_err-mend-clause-no_file : goal.returns-in_err-mend-clause-no_file
+returns-in_err-mend-clause-no_file g c told =
+    let d = g.D.Disk in
+    no_file _ _ _ (d.reading c.args.self.now.disk) (d.reading c.mend.new.disk) (c.mend.ensures.stays told)
+
+pub returns-clause-no_file : goal.returns-clause-no_file
+returns-clause-no_file g c told =
+    let d = g.D.Disk in
+    no_file _ _ _ (d.reading c.args.self.now.disk) (d.reading c.mend.new.disk) (c.mend.ensures.stays told)

@@ -5,6 +5,7 @@ use Rattle.gated_file.specs.Files.{HoldsBefore, IsAdded, IsFinished, KeepsText, 
 use Rattle.gated_file.specs.declared.file.GatedFile.{GatedFile}
 use Rattle.warc_journal.specs.Extents.{last_of}
 use Rattle.warc_journal.proofs.Last.{last_failed, last_mended, last_prepared, last_within}
+use Rattle.warc_journal.proofs.Preparing.{no_file}
 use Rattle.warc_journal.proofs.journal.Journal.mend_last.Goals as goal
 
 pub mend-requires-clause-in_range : goal.mend-requires-clause-in_range
@@ -62,3 +63,13 @@ returns-clause-in_step g c told =
     (HoldsBefore (last_of old.extent) (d.reading old.disk))
     (subst (λ (f : GatedFile). AddsOnly d.moment d.images_since old.disk new (IsFinished f (d.reading old.disk) (d.images old.disk))) c.last_file-last.ensures (c.mend.ensures.leaves told))
     (subst (λ (f : GatedFile). Leaves (d.images new) (IsAdded f (d.reading old.disk) (d.images old.disk) [])) c.last_file-last.ensures (c.in_ok-mend.ensures.only told))
+
+pub returns-in_err-mend-clause-no_file : goal.returns-in_err-mend-clause-no_file
+returns-in_err-mend-clause-no_file g c told =
+    let d = g.D.Disk in
+    no_file _ _ _ (d.reading c.args.self.now.disk) (d.reading c.mend.new.disk) (c.mend.ensures.stays told)
+
+pub returns-clause-no_file : goal.returns-clause-no_file
+returns-clause-no_file g c told =
+    let d = g.D.Disk in
+    no_file _ _ _ (d.reading c.args.self.now.disk) (d.reading c.mend.new.disk) (c.mend.ensures.stays told)
