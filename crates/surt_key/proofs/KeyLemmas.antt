@@ -1,5 +1,5 @@
 -- The key of a text, by what is known of the text.
-use Rattle.std.proofs.Common.{◌≡◌, ℕ, ◌<◌, true, false, List, [], ◌++◌, None, Some, Ok, Err, IsAscii, cond, ap, ◌∙◌, arith, lt-ltb, ltb-true}
+use Rattle.std.proofs.Common.{◌≡◌, ℕ, ◌<◌, Bool, true, false, List, [], ◌++◌, Option, None, Some, Ok, Err, IsAscii, cond, refl, ap, ◌∙◌, arith, lt-ltb, ltb-true}
 use Rattle.std.specs.List.{list_all}
 use Rattle.std.specs.Char.{is_ascii}
 use Rattle.std.specs.Str.{IsNotAscii}
@@ -40,6 +40,17 @@ key_of-other_scheme uri url h parsed http =
 
 pub key_of-refused : (uri : List ℕ) (e : ParseError) → IsAscii uri → parse_url None uri ≡ Err e → key_of uri ≡ None
 key_of-refused uri e h refused = key_of-ascii uri h ∙ ap key_of_parsed refused
+
+passed : (v : Bool) (x : Option (List ℕ)) (key : List ℕ) → cond v x None ≡ Some key → v ≡ true
+passed true x key e = refl
+passed false x key e = absurd (cc)
+
+-- a text that has a key is of ASCII
+pub keyed_is_ascii : (uri key : List ℕ) → key_of uri ≡ Some key → IsAscii uri
+unfolding key_of
+keyed_is_ascii uri key e =
+    let all : list_all is_ascii uri ≡ true = passed (list_all is_ascii uri) (key_of_parsed (parse_url None uri)) key e in
+    IsAscii-from_all uri (All-weaker (λ b. is_ascii b ≡ true) (λ b. b < 128) (λ b below. ltb-true b 128 below) uri (AllPass-from_list_all is_ascii uri all))
 
 -- five texts, put one behind the other
 pub five_put : (a b c d e o0 o1 o2 o3 o4 o5 : List ℕ) → o0 ≡ [] → o1 ≡ o0 ++ a → o2 ≡ o1 ++ b → o3 ≡ o2 ++ c → o4 ≡ o3 ++ d → o5 ≡ o4 ++ e → o5 ≡ a ++ b ++ c ++ d ++ e

@@ -1,20 +1,19 @@
 -- An accepted target has a look-up key: it is a URL, and the scheme of that URL is `http`.
-use Rattle.std.proofs.Common.{◌≡◌, ℕ, ◌-◌, ◌<◌, ◌≤◌, Bool, true, false, not, ◌&&◌, ◌||◌, nat_le, cond, List, [], ◌∷◌, ◌++◌, length, get_or, take, drop, reverse, codes, bytes_eq, Option, Some, None, Ok, Err, is_ok, is_some, unwrap_or, All, refl, sym, ap, ◌∙◌, subst, arith, take_all, true≢false}
+use Rattle.std.proofs.Common.{◌≡◌, ℕ, ◌-◌, ◌<◌, ◌≤◌, true, not, ◌&&◌, ◌||◌, nat_le, List, [], ◌∷◌, ◌++◌, length, get_or, take, drop, reverse, codes, bytes_eq, Option, Some, None, Ok, Err, is_ok, unwrap_or, All, refl, sym, ap, ◌∙◌, subst, arith, take_all, true≢false}
 use Rattle.std.specs.Char.{is_ascii, is_ascii_alphabetic, to_ascii_lowercase}
 use Rattle.std.specs.List.{list_all, prefix_len}
 use Rattle.std.proofs.Math.Nat.{sub-zero}
-use Rattle.std.proofs.lemmas.Bool.{and_parts, cond-true, cond-false, cond_both, leb-true, lt-leb, lt-ltb, ne_eqb}
+use Rattle.std.proofs.lemmas.Bool.{and_parts, cond-true, cond-false, leb-true, lt-leb, lt-ltb, ne_eqb}
 use Rattle.std.proofs.lemmas.Bool.Decides.{nat_tests}
 use Rattle.std.proofs.lemmas.List.{get_or-reverse, length-reverse}
 use Rattle.std.proofs.lemmas.List.Elements.{All-nil, All-cons, All-head, All-tail, All-weaker}
 use Rattle.std.proofs.lemmas.Slice.Eq.{bytes_eq-Decides}
-use Rattle.url.specs.declared.error.ParseError.{ParseError}
 use Rattle.url.specs.Host.{parse_host}
 use Rattle.url.specs.Input.{is_c0_control_or_space, is_tab_or_new_line, trim_c0_control_and_space, strip_tabs_and_new_lines, lowercase, split_once, rsplit_once}
-use Rattle.url.specs.Parser.{Parsed, and_then, split_port, lacks_host, parse_port, parse_authority, with_path, skip_slashes, after_double_slash, parse_body, with_tail, before_tail, parse_parts, split_scheme, parse_by_scheme, parse_url}
-use Rattle.url.specs.Parts.{Parts, kind_of}
-use Rattle.url.specs.Path.{segment_len, parse_path_start, escape_end}
-use Rattle.url.specs.Scheme.{default_port, scheme_type, scheme_len, is_special, is_scheme_byte}
+use Rattle.url.specs.Parser.{Parsed, split_port, lacks_host, parse_port, parse_authority, with_path, skip_slashes, after_double_slash, parse_body, with_tail, before_tail, parse_parts, split_scheme, parse_by_scheme, parse_url}
+use Rattle.url.specs.Parts.{Parts}
+use Rattle.url.specs.Path.{segment_len, parse_path_start}
+use Rattle.url.specs.Scheme.{default_port, scheme_type, scheme_len, is_scheme_byte}
 use Rattle.url.proofs.InputLemmas.{IsNot, Passes, prefix_len_at, split_once_none, filter_all, list_all_from_All, All_from_list_all}
 use Rattle.capture.specs.Fields.{lowered}
 use Rattle.capture.specs.Target.{is_target_byte, is_target_text, begins_with_http, http_prefix, authority_of, is_plain_authority, is_http_target}

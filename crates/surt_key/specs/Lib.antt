@@ -1,3 +1,4 @@
+pub mod Addresses
 pub mod Key
 pub mod Labels
 pub mod Sorted

@@ -3,13 +3,16 @@ ghost use Rattle.std.specs.Prelude.{◌≡◌};
 
 use capture::Memory;
 use std::alloc::AllocError;
+use thiserror::Error;
 
-/// Why `key_of` gave no key.
-#[derive(Clone, Copy, Debug, PartialEq, Eq)]
+/// Why `key_of` or `key_of_address` gave no key.
+#[derive(Clone, Copy, Debug, PartialEq, Eq, Error)]
 pub enum KeyFault {
     /// The text isn't a URL of ASCII with the scheme http or https.
+    #[error("no URL of ASCII with the scheme http or https")]
     NotHttp,
     /// Memory ran out, or the URL comes to 4 GB.
+    #[error("memory ran out")]
     Memory,
 }
 

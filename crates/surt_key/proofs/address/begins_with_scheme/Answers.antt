@@ -2,7 +2,7 @@
 use Rattle.std.proofs.Common.{◌≡◌, ◌∙◌, length, take, ap}
 use Rattle.std.proofs.lemmas.List.{take_min}
 use Rattle.std.specs.Str.{str_eq_ignore_ascii_case}
-use Rattle.replay_url.proofs.url.begins_with_scheme.Goals as goal
+use Rattle.surt_key.proofs.address.begins_with_scheme.Goals as goal
 
 pub returns : goal.returns
 returns c =
