@@ -1,8 +1,10 @@
+pub mod Cuts
 pub mod Digests
+pub mod Escapes
 pub mod FileNames
 pub mod Objects
-pub mod Parts
 pub mod ReadNumbers
 pub mod Told
+pub mod ToldLaws
 pub mod Trimming
 pub mod Whole

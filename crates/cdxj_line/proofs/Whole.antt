@@ -1,5 +1,5 @@
 -- A whole line, by its parts.
-use Rattle.std.proofs.Common.{◌≡◌, ◌≢◌, ℕ, ◌<◌, List, [], ◌∷◌, ◌++◌, true, not, true≢false, Some, ap, ◌∙◌, arith}
+use Rattle.std.proofs.Common.{◌≡◌, ◌≢◌, ℕ, ◌<◌, false, List, [], ◌∷◌, ◌++◌, true, not, true≢false, Some, ap, ◌∙◌, arith}
 use Rattle.std.specs.Prelude.{All, bytes_eq}
 use Rattle.std.proofs.lemmas.List.{append_assoc}
 use Rattle.std.proofs.lemmas.List.Elements.{All-weaker}
@@ -24,7 +24,7 @@ digit_is_no_blank b digit blank = omega arith
 pub date_has_no_blank : (date : ℕ) → InRange date → All (λ b. b ≢ 32) (time_digits date)
 date_has_no_blank date fits = All-weaker IsDigit (λ b. b ≢ 32) digit_is_no_blank (time_digits date) (time_is_digits date fits)
 
-pub line_parts : (line : Line) (text : List ℕ) → text ≡ line_text line → text ≡ line.key ++ 32 ∷ (time_digits line.date ++ 32 ∷ (object_text line ++ 10 ∷ []))
+pub line_parts : (line : Line) (text : List ℕ) → text ≡ line_text line → text ≡ line.key ++ 32 ∷ (time_digits line.date ++ 32 ∷ (object_text false line ++ 10 ∷ []))
 unfolding line_text
 line_parts line text is = is ∙ simp append_assoc
 

@@ -1,3 +1,6 @@
 pub mod Lines
 pub mod MediaType
+pub mod Parts
 pub mod Shown
+pub mod Told
+pub mod Written

@@ -1,5 +1,5 @@
 -- CDXJ lines: the text of what a line says of a capture.
-use Rattle.std.specs.Prelude.{◌≡◌, ℕ, ◌-◌, ◌^◌, ◌<◌, ◌≤◌, List, [], ◌∷◌, ◌++◌, length, replicate, codes, decimal, IsAscii, Some}
+use Rattle.std.specs.Prelude.{◌≡◌, ℕ, ◌-◌, ◌^◌, ◌<◌, ◌≤◌, Bool, false, List, [], ◌∷◌, ◌++◌, length, replicate, codes, decimal, IsAscii, Some, if◌then◌else◌}
 use Rattle.digest32.specs.Base32.{base32, IsDigest}
 use Rattle.serde_json.specs.Data.{Data, string, object, Members, no_members, member}
 use Rattle.serde_json.specs.Written.{compact_text}
@@ -20,9 +20,13 @@ abbrev pub strings : List (List ℕ × List ℕ) → Members
 strings [] = no_members
 strings (pair ∷ pairs) = member pair.0 (string pair.1) (strings pairs)
 
--- the members of a line's JSON object, in the order of the bytes of their keys
-abbrev pub members_of : Line → List (List ℕ × List ℕ)
-members_of line =
+-- a member that an answer to a query has beside those of a line
+abbrev pub where_further : Bool → List ℕ × List ℕ → List (List ℕ × List ℕ)
+where_further further pair = if further then pair ∷ [] else []
+
+-- the members of a line's JSON object, in the order of the bytes of their keys; an answer to a query has two more
+abbrev pub members_of : Bool → Line → List (List ℕ × List ℕ)
+members_of further line =
     (codes "digest", base32 line.digest)
     ∷ (codes "filename", file_name line.volume)
     ∷ (codes "length", decimal line.length)
@@ -31,20 +35,20 @@ members_of line =
     ∷ (codes "number", decimal line.number)
     ∷ (codes "offset", decimal line.offset)
     ∷ (codes "status", decimal line.status)
-    ∷ (codes "url", line.url)
-    ∷ []
+    ∷ (where_further further (codes "timestamp", time_digits line.date)
+    ++ ((codes "url", line.url) ∷ where_further further (codes "urlkey", line.key)))
 
 -- the JSON object of a line
-abbrev pub object_of : Line → Data
-object_of line = object (strings (members_of line))
+abbrev pub object_of : Bool → Line → Data
+object_of further line = object (strings (members_of further line))
 
 -- that object's text, which has no blank between its parts
-unfoldable pub object_text : Line → List ℕ
-object_text line = compact_text (object_of line)
+unfoldable pub object_text : Bool → Line → List ℕ
+object_text further line = compact_text (object_of further line)
 
 -- the text of a line: the key, the date and the object, with a blank after the first two and LF after the last
 unfoldable pub line_text : Line → List ℕ
-line_text line = line.key ++ codes " " ++ time_digits line.date ++ codes " " ++ object_text line ++ codes "\n"
+line_text line = line.key ++ codes " " ++ time_digits line.date ++ codes " " ++ object_text false line ++ codes "\n"
 
 -- the line can be written: its date has a text, its status is of three digits, and the key is that of the url
 pub record IsWritable (line : Line) : Type 0 where

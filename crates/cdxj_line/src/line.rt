@@ -1,4 +1,8 @@
 //! What a line says of a capture.
+ghost use Rattle.std.specs.Prelude.{◌≡◌};
+ghost use Rattle.cdxj_line.specs.Parts.{line_of};
+
+use crate::LineParts;
 use capture::{Digest, Text};
 use surt_key::Key;
 
@@ -29,4 +33,25 @@ pub struct Line {
     pub status: u16,
     /// The target that the client sent, in absolute form.
     pub url: Text,
+}
+
+impl Line {
+    /// Its parts, lent.
+    pub fn parts(&self) -> LineParts<'_>
+        ensures { line_of result ≡ self.now }
+    {
+        LineParts {
+            key: self.key.as_slice(),
+            date: self.date,
+            digest: &self.digest,
+            volume: self.volume,
+            length: self.length,
+            method: self.method.as_slice(),
+            mime: self.mime.as_slice(),
+            number: self.number,
+            offset: self.offset,
+            status: self.status,
+            url: self.url.as_slice(),
+        }
+    }
 }

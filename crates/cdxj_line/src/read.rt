@@ -1,5 +1,5 @@
 //! A line that is read.
-ghost use Rattle.std.specs.Prelude.{◌≡◌, ◌≢◌, ℕ, List, [], ◌∷◌, ◌++◌, All, Some, Ok, IfOk, IfSome, IfNone, IsSomeAnd};
+ghost use Rattle.std.specs.Prelude.{◌≡◌, ◌≢◌, ℕ, false, List, [], ◌∷◌, ◌++◌, All, Some, Ok, IfOk, IfSome, IfNone, IsSomeAnd};
 ghost use Rattle.time_text.specs.Texts.{InRange, time_digits};
 ghost use Rattle.cdxj_line.specs.Lines as spec;
 ghost use Rattle.cdxj_line.specs.Lines.{IsLine, IsWritable, object_text};
@@ -64,7 +64,7 @@ fn cut_at_blank(text: &[u8]) -> Option<(&[u8], &[u8])>
 fn line_of(alloc: Global, date: &[u8], object: &[u8]) -> Result<Option<Line>, Memory>
     ensures writable { IfOk result (λ read. IfSome read IsWritable) }
     ensures reads_back { (line : Line) → IsLine line → date.now ≡ time_digits line.date
-        → object.now ≡ object_text line → IfOk result (λ read. read ≡ Some line) }
+        → object.now ≡ object_text false line → IfOk result (λ read. read ≡ Some line) }
 {
     let Ok(date) = read_time(date) else {
         return Ok(None);

@@ -1,11 +1,12 @@
 //! A line's text.
-ghost use Rattle.std.specs.Prelude.{◌≡◌, ◌++◌, false, IfOk, OnOk};
+ghost use Rattle.std.specs.Prelude.{◌≡◌, ◌++◌, IfOk, OnOk};
 ghost use Rattle.time_text.specs.Texts.{InRange, time_digits};
 ghost use Rattle.cdxj_line.specs.Lines as spec;
 ghost use Rattle.cdxj_line.specs.Lines.{IsWritable};
+ghost use Rattle.cdxj_line.specs.Parts.{line_of};
 
-use crate::Line;
-use crate::members::object_text;
+use crate::object::put_object;
+use crate::{Line, LineParts};
 use capture::{Bytes, Memory, put_all};
 use std::alloc::Global;
 use time_text::write_time;
@@ -18,12 +19,19 @@ pub fn put_line(out: &mut Vec<u8>, line: &Line) -> Result<(), Memory>
     requires { IsWritable line.now }
     ensures { OnOk result (out.new.items ≡ out.old.items ++ spec.line_text line.now) }
 {
-    let object = object_text(*out.allocator(), line)?;
-    put_all(out, line.key.as_slice())?;
+    put_parts(out, &line.parts())
+}
+
+/// Puts the text of a line whose parts are lent, as `put_line` does.
+pub fn put_parts(out: &mut Vec<u8>, parts: &LineParts<'_>) -> Result<(), Memory>
+    requires { InRange parts.now.date }
+    ensures { OnOk result (out.new.items ≡ out.old.items ++ spec.line_text (line_of parts.now)) }
+{
+    put_all(out, parts.key)?;
     put_all(out, b" ")?;
-    put_date(out, line.date)?;
+    put_date(out, parts.date)?;
     put_all(out, b" ")?;
-    put_all(out, object.as_slice())?;
+    put_object(out, parts, false)?;
     put_all(out, b"\n")
 }
 

@@ -1,5 +1,5 @@
 use Rattle.std.proofs.Common.{ap, length, arith}
-use Rattle.cdxj_line.proofs.Parts.{cut_before_blank}
+use Rattle.cdxj_line.proofs.Cuts.{cut_before_blank}
 use Rattle.cdxj_line.proofs.read.cut_at_blank.Goals as goal
 
 pub returns-in_err-rest : goal.returns-in_err-rest

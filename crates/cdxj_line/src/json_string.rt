@@ -1,0 +1,89 @@
+//! Strings of JSON (RFC 8259, section 7), as `serde_json` writes them.
+ghost use Rattle.std.specs.Prelude.{◌≡◌, ◌++◌, ◌<◌, OnOk};
+ghost use Rattle.std.specs.Char.{digit_char};
+ghost use Rattle.std.specs.List.{list_all};
+ghost use Rattle.cdxj_line.specs.Written as spec;
+ghost use Rattle.json.specs.Print.{escape, escape_byte, escape_letter, quoted};
+
+use capture::{Memory, put_all};
+
+/// Puts a text in quotes.
+pub(crate) fn put_quoted(out: &mut Vec<u8>, text: &[u8]) -> Result<(), Memory>
+    ensures { OnOk result (out.new.items ≡ out.old.items ++ quoted text.now) }
+{
+    out.push(b'"')?;
+    put_escaped(out, text)?;
+    out.push(b'"')?;
+    Ok(())
+}
+
+/// Puts a text with its quotes, backslashes and controls escaped.
+fn put_escaped(out: &mut Vec<u8>, text: &[u8]) -> Result<(), Memory>
+    ensures { OnOk result (out.new.items ≡ out.old.items ++ escape text.now) }
+{
+    if is_plain(text) {
+        return put_all(out, text);
+    }
+    for byte in text {
+        put_escaped_byte(out, *byte)?;
+    }
+    Ok(())
+}
+
+/// Whether no byte has to be escaped, as of nearly every text.
+fn is_plain(text: &[u8]) -> bool
+    ensures { result ≡ list_all spec.is_plain text.now }
+{
+    text.iter().all(|b| is_plain_byte(*b))
+}
+
+/// Whether the byte stands for itself.
+fn is_plain_byte(byte: u8) -> bool
+    ensures { result ≡ spec.is_plain byte }
+{
+    byte != b'"' && byte != b'\\' && byte >= 32
+}
+
+/// Puts a byte, escaped where it has to be.
+fn put_escaped_byte(out: &mut Vec<u8>, byte: u8) -> Result<(), Memory>
+    ensures { OnOk result (out.new.items ≡ out.old.items ++ escape_byte byte) }
+{
+    let letter = letter_of(byte);
+    if letter > 0 {
+        return put_all(out, &[b'\\', letter]);
+    }
+    if byte < 32 {
+        let (high, low) = (hex_digit(byte / 16), hex_digit(byte % 16));
+        return put_all(out, &[b'\\', b'u', b'0', b'0', high, low]);
+    }
+    out.push(byte)?;
+    Ok(())
+}
+
+/// The letter of a byte's short escape, or 0 where it has none.
+fn letter_of(byte: u8) -> u8
+    ensures { result ≡ escape_letter byte }
+{
+    match byte {
+        b'"' => b'"',
+        b'\\' => b'\\',
+        8 => b'b',
+        12 => b'f',
+        b'\n' => b'n',
+        b'\r' => b'r',
+        b'\t' => b't',
+        _ => 0,
+    }
+}
+
+/// A digit of a hexadecimal number, in lower case.
+fn hex_digit(number: u8) -> u8
+    requires { number < 16 }
+    ensures { result ≡ digit_char number }
+{
+    if number < 10 {
+        b'0' + number
+    } else {
+        b'a' + (number - 10)
+    }
+}
