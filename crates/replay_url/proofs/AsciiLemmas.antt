@@ -1,5 +1,5 @@
 -- Texts of ASCII.
-use Rattle.std.proofs.Common.{◌≡◌, ◌<◌, ◌^◌, ℕ, Bool, true, false, ◌&&◌, cond, eqb, List, [], ◌∷◌, ◌++◌, codes, decimal, Option, Some, None, refl, arith}
+use Rattle.std.proofs.Common.{◌≡◌, ◌<◌, ◌^◌, ℕ, Bool, true, false, ◌&&◌, eqb, List, [], ◌∷◌, ◌++◌, codes, decimal, refl, arith}
 use Rattle.std.proofs.lemmas.Bool.{false≢true, ltb-true, eq-eqb}
 use Rattle.std.proofs.lemmas.Fmt.{IsAscii-decimal}
 use Rattle.std.proofs.lemmas.Str.{IsAscii-append}
@@ -9,7 +9,6 @@ use Rattle.std.specs.Cmp.Lexicographic.{pointwise}
 use Rattle.std.specs.List.{All, list_all}
 use Rattle.std.specs.Str.{IsAscii}
 use Rattle.time_text.specs.Bytes.{IsDigit}
-use Rattle.surt_key.specs.Key.{key_of}
 use Rattle.replay_url.specs.Forms.{gate_address, map_address, memento_address, number_address, raw_text}
 
 both : (a b : Bool) → (a && b) ≡ true → (a ≡ true) × (b ≡ true)
@@ -21,15 +20,6 @@ ascii_of_all [] e = IsAscii-nil
 ascii_of_all (b ∷ t) e =
     let parts = both (is_ascii b) (list_all is_ascii t) e in
     IsAscii-cons b t (ltb-true b 128 parts.0) (ascii_of_all t parts.1)
-
-some_true : (v : Bool) (x : Option (List ℕ)) (key : List ℕ) → cond v x None ≡ Some key → v ≡ true
-some_true true x key e = refl
-some_true false x key e = absurd (cc)
-
--- a text that has a key is of ASCII
-pub keyed_is_ascii : (t key : List ℕ) → key_of t ≡ Some key → IsAscii t
-unfolding key_of
-keyed_is_ascii t key e = ascii_of_all t (some_true (list_all is_ascii t) _ key e)
 
 -- digits are of ASCII
 pub digits_are_ascii : (t : List ℕ) → All IsDigit t → IsAscii t

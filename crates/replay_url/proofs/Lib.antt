@@ -1,3 +1,4 @@
 pub mod AsciiLemmas
+pub mod OneForm
 pub mod ReadBackLaws
 pub mod ReadBackLemmas

@@ -4,7 +4,8 @@ use Rattle.std.proofs.lemmas.Bool.{cond-true}
 use Rattle.std.specs.List.{All}
 use Rattle.time_text.specs.Bytes.{IsDigit}
 use Rattle.time_text.specs.Texts.{InRange, all_digits}
-use Rattle.replay_url.specs.Address.{Parts, has_scheme}
+use Rattle.surt_key.specs.Addresses.{has_scheme}
+use Rattle.replay_url.specs.Address.{Parts}
 use Rattle.replay_url.specs.Forms.{CanBePut, FormAt, IsForm, IsUrl, address_text, memento_digits}
 use Rattle.replay_url.specs.ReadBack.{IsTold, StandsAlone}
 use Rattle.replay_url.specs.declared.form.Form.{Form}

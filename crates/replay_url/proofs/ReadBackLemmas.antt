@@ -11,7 +11,8 @@ use Rattle.std.specs.Str.{bytes_eq, str_eq_ignore_ascii_case, str_to_ascii_lower
 use Rattle.time_text.specs.Bytes.{IsDigit}
 use Rattle.time_text.specs.Reading.{lengths}
 use Rattle.time_text.specs.Texts.{all_digits}
-use Rattle.replay_url.specs.Address.{Numbered, Mapped, Timed, Open, behind_digits, behind_web, digits_first, has_scheme, parts_at}
+use Rattle.replay_url.specs.Address.{Numbered, Mapped, Timed, Open, behind_digits, behind_web, digits_first, parts_at}
+use Rattle.surt_key.specs.Addresses.{has_scheme}
 use Rattle.replay_url.specs.Forms.{gate_address, map_address, memento_address, memento_digits, number_address, raw_text}
 
 -- a byte that is `h` in lower case

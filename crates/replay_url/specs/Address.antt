@@ -1,10 +1,9 @@
 -- An address of the archive's site, by what it begins with (RFC 7089, section 4, leaves their form to the archive).
-use Rattle.std.specs.Prelude.{ℕ, zero, suc, Bool, true, false, ◌&&◌, ◌||◌, ◌==◌, List, ◌++◌, nat_eq, nat_le, length, take, drop, slice_index, codes, if◌then◌else◌}
+use Rattle.std.specs.Prelude.{ℕ, zero, suc, Bool, true, false, ◌&&◌, ◌==◌, List, nat_eq, nat_le, length, take, drop, slice_index, codes, if◌then◌else◌}
 use Rattle.std.specs.Char.{is_ascii_digit, is_ascii_lowercase}
 use Rattle.std.specs.List.{prefix_len, starts_with}
 use Rattle.replay_url.specs.declared.address.Address.{Address}
 use Rattle.replay_url.specs.declared.address.Address.TheVariants.{ANumber, AMap, AMemento, AModified, AGate, AnotherPath}
-use Rattle.std.specs.Str.{str_eq_ignore_ascii_case}
 
 -- an address by its parts: what stands behind `rec/`; the URL behind `timemap/link/`; digits, whether `id_` follows
 -- them, and the URL behind them; digits with another modifier; any other URL; or an address outside `/web/`
@@ -64,12 +63,3 @@ behind_web text =
 
 unfoldable pub parts_at : List ℕ → Parts
 parts_at target = if begins_with (codes "/web/") target then behind_web (drop 5 target) else Outside
-
--- the URL has a scheme of the web, in whatever case
-abbrev pub has_scheme : List ℕ → Bool
-has_scheme text =
-    str_eq_ignore_ascii_case (take 7 text) (codes "http://") || str_eq_ignore_ascii_case (take 8 text) (codes "https://")
-
--- the URL, with a scheme
-abbrev pub url_of : List ℕ → List ℕ
-url_of text = if has_scheme text then text else codes "http://" ++ text

@@ -2,12 +2,13 @@
 use Rattle.std.specs.Prelude.{◌≡◌, ℕ, ◌^◌, ◌<◌, Bool, List, [], ◌++◌, length, take, codes, decimal, None, IsSome, Contains, ⊤, if◌then◌else◌}
 use Rattle.time_text.specs.Texts.{InRange, all_digits}
 use Rattle.time_text.specs.Reading.{IsEarliest, Names, lengths}
+use Rattle.surt_key.specs.Addresses.{url_of}
 use Rattle.surt_key.specs.Key.{key_of}
 use Rattle.replay_url.specs.declared.fault.FormFault.{FormFault}
 use Rattle.replay_url.specs.declared.fault.FormFault.TheVariants.{NotAForm, BadTime, Memory}
 use Rattle.replay_url.specs.declared.form.Form.{Form}
 use Rattle.replay_url.specs.declared.form.Form.TheVariants.{Memento, Gate, Map, Number}
-use Rattle.replay_url.specs.Address.{Parts, Numbered, Mapped, Timed, Modified, Open, Outside, parts_at, url_of}
+use Rattle.replay_url.specs.Address.{Parts, Numbered, Mapped, Timed, Modified, Open, Outside, parts_at}
 
 -- the URL of an address, which has a key
 pub record IsUrl (text url : List ℕ) : Type 0 where

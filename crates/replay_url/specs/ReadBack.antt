@@ -1,8 +1,8 @@
 -- An address that is written is read back.
 use Rattle.std.specs.Prelude.{◌≡◌, ℕ, ◌^◌, ◌<◌, true, List, [], IsSome}
 use Rattle.time_text.specs.Reading.{IsEarliest}
+use Rattle.surt_key.specs.Addresses.{has_scheme}
 use Rattle.surt_key.specs.Key.{key_of}
-use Rattle.replay_url.specs.Address.{has_scheme}
 use Rattle.replay_url.specs.Forms.{CanBePut, IsForm, address_text, memento_digits}
 use Rattle.replay_url.specs.declared.form.Form.{Form}
 use Rattle.replay_url.specs.declared.form.Form.TheVariants.{Memento, Gate, Map, Number}
@@ -27,3 +27,7 @@ IsTold (Number number) = number < 2 ^ 32
 -- behind a base, the address of a form is read as that form
 abbrev pub AddressesAreReadBack : Type 0
 AddressesAreReadBack = (form : Form) → CanBePut form → IsTold form → IsForm (address_text [] form) form
+
+-- an address has one form
+abbrev pub AddressesHaveOneForm : Type 0
+AddressesHaveOneForm = (target : List ℕ) (a b : Form) → IsForm target a → IsForm target b → a ≡ b

@@ -3,15 +3,19 @@ ghost use Rattle.std.specs.Prelude.{◌≡◌};
 
 use capture::Memory;
 use std::alloc::AllocError;
+use thiserror::Error;
 
-/// Why `read_form` gave no form.
-#[derive(Clone, Copy, Debug, PartialEq, Eq)]
+/// Why `read_form` or `read_keyed_form` gave no form.
+#[derive(Clone, Copy, Debug, PartialEq, Eq, Error)]
 pub enum FormFault {
     /// The address is none of the forms.
+    #[error("no address of the archive")]
     NotAForm,
     /// It is a memento's, and its digits name no time.
+    #[error("no time is named by the digits")]
     BadTime,
     /// Memory ran out.
+    #[error("memory ran out")]
     Memory,
 }
 

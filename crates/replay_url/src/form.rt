@@ -1,5 +1,9 @@
 //! The forms of an address. This is the one place that lists them.
+ghost use Rattle.std.specs.Prelude.{◌≡◌};
+ghost use Rattle.replay_url.specs.Keyed.{form_of};
+
 use capture::Text;
+use surt_key::KeyedUrl;
 
 /// What an address asks for.
 #[derive(Debug, PartialEq, Eq, Drop)]
@@ -27,4 +31,68 @@ pub enum Form {
     },
     /// The capture of this number.
     Number(u32),
+}
+
+/// A form with the look-up key of its URL, so that who answers it needn't make the key again.
+#[derive(Debug, PartialEq, Eq, Drop)]
+pub enum KeyedForm {
+    /// As `Form::Memento`.
+    Memento {
+        /// The time in milliseconds since 1970: the earliest that the digits name.
+        time: u64,
+        /// How many digits gave it.
+        digits: usize,
+        /// Whether the capture is asked for as it was received.
+        raw: bool,
+        /// The URL, with its scheme and its key.
+        of: KeyedUrl,
+    },
+    /// As `Form::Gate`.
+    Gate {
+        /// The URL, with its scheme and its key.
+        of: KeyedUrl,
+    },
+    /// As `Form::Map`.
+    Map {
+        /// The URL, with its scheme and its key.
+        of: KeyedUrl,
+    },
+    /// As `Form::Number`.
+    Number(u32),
+}
+
+impl KeyedForm {
+    /// The form without the key. Takes no memory.
+    pub fn into_form(self) -> Form
+        ensures { result ≡ form_of self }
+    {
+        match self {
+            KeyedForm::Memento {
+                time,
+                digits,
+                raw,
+                of,
+            } => Form::Memento {
+                time,
+                digits,
+                raw,
+                url: without_key(of),
+            },
+            KeyedForm::Gate { of } => Form::Gate {
+                url: without_key(of),
+            },
+            KeyedForm::Map { of } => Form::Map {
+                url: without_key(of),
+            },
+            KeyedForm::Number(number) => Form::Number(number),
+        }
+    }
+}
+
+/// The URL alone.
+fn without_key(of: KeyedUrl) -> Text
+    ensures { result ≡ of.url }
+{
+    let KeyedUrl { url, key: _key } = of;
+    url
 }

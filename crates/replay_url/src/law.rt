@@ -1,5 +1,5 @@
 //! What holds of every address.
-ghost use Rattle.replay_url.specs.ReadBack.{AddressesAreReadBack};
+ghost use Rattle.replay_url.specs.ReadBack.{AddressesAreReadBack, AddressesHaveOneForm};
 
 use time_text::texts_have_no_blanks;
 
@@ -10,3 +10,9 @@ pub fn addresses_are_read_back()
 {
     texts_have_no_blanks();
 }
+
+/// An address has one form.
+#[tactic(auto, using(crate::proofs::OneForm::addresses_have_one_form))]
+pub fn addresses_have_one_form()
+    ensures { AddressesHaveOneForm }
+{}
