@@ -2,6 +2,7 @@ pub mod Attributes
 pub mod Inside
 pub mod LawLemmas
 pub mod LinkLemmas
+pub mod NameLemmas
 pub mod PageLemmas
 pub mod Places
 pub mod Runs

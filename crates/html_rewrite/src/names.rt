@@ -1,11 +1,11 @@
 //! The tables of names.
-ghost use Rattle.std.specs.Prelude.{◌≡◌, IfOk};
+ghost use Rattle.std.specs.Prelude.{◌≡◌, ◌+◌, ◌++◌, ◌≤◌, length};
+ghost use Rattle.arrayvec.specs.ArrayVec.{array_vec_len};
 ghost use Rattle.html_rewrite.specs.Names.{link_attributes, raw_text_elements};
 ghost use Rattle.html_rewrite.specs.Names as spec;
 
-use capture::Memory;
+use arrayvec::ArrayVec;
 use name_table::NameTable;
-use std::alloc::Global;
 
 /// The attributes that hold a link: an element, a space, and its attribute (HTML Standard, section 4).
 #[tactic(auto, unfolding(crate::specs::Names::link_attributes))]
@@ -43,21 +43,35 @@ fn raw_text_elements() -> NameTable<8>
     ])
 }
 
+/// How long the longest row of the link attributes is, in bytes.
+const LONGEST: usize = 15;
+
 /// Whether the element's attribute holds a link. ASCII case is ignored.
-pub fn is_link(alloc: Global, element: &[u8], attribute: &[u8]) -> Result<bool, Memory>
-    ensures { IfOk result (λ linked. linked ≡ spec.is_link element.now attribute.now) }
+///
+/// Takes no memory, and looks at names that are longer than each row no further: a page may have a long name beside many
+/// attributes.
+pub fn is_link(element: &[u8], attribute: &[u8]) -> bool
+    ensures { result ≡ spec.is_link element.now attribute.now }
 {
-    let mut row = Vec::with_capacity(
-        alloc,
-        element
-            .len()
-            .saturating_add(attribute.len())
-            .saturating_add(1),
-    )?;
-    row.extend_from_slice(element)?;
-    row.push(b' ')?;
-    row.extend_from_slice(attribute)?;
-    Ok(link_attributes().has(row.as_slice()))
+    if element.len() + 1 + attribute.len() > LONGEST {
+        return false;
+    }
+    let mut row = ArrayVec::new();
+    put(&mut row, element);
+    put(&mut row, b" ");
+    put(&mut row, attribute);
+    link_attributes().has(row.as_slice())
+}
+
+/// Puts these bytes, for which there is room, at the end of a row.
+fn put(row: &mut ArrayVec<u8, LONGEST>, piece: &[u8])
+    requires { array_vec_len row.old + length piece.now ≤ 15 }
+    ensures items { row.new.items ≡ row.old.items ++ piece.now }
+    ensures len { array_vec_len row.new ≡ array_vec_len row.old + length piece.now }
+{
+    if row.try_extend_from_slice(piece).is_err() {
+        unreachable!();
+    }
 }
 
 /// Whether the element's contents are text. ASCII case is ignored.

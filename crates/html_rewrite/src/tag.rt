@@ -78,7 +78,7 @@ impl<'a> Cuts<'a> {
         requires { len ≤ length (spec.ahead self.old) }
         ensures { OnOk result (Reads element.now attribute.now len self.old self.new) }
     {
-        if is_link(*self.list.allocator(), element, attribute)? {
+        if is_link(element, attribute) {
             return self.link(len);
         }
         self.pass(len);
