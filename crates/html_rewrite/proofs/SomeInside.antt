@@ -4,7 +4,7 @@ use Rattle.std.proofs.lemmas.List.{length-append, take-append-drop}
 use Rattle.std.proofs.lemmas.Bool.{cases_lt, eqb-true}
 use Rattle.std.specs.List.{prefix_len}
 use Rattle.html_rewrite.specs.Bytes.{greater, begins, is_gap, IsRun}
-use Rattle.html_rewrite.specs.Reading.{BeginsAttribute, IsValueAt, sign_len}
+use Rattle.html_rewrite.specs.Reading.{BeginsAttribute, HasInside, IsValueAt, LacksInside, sign_len}
 use Rattle.html_rewrite.specs.Tags.{Attribute, IsAttribute, IsInside, attribute_text, inside_text, is_attribute_byte, is_value_byte, quote_at, quote_text}
 use Rattle.html_rewrite.proofs.Attributes.{attribute_unique, end_or_attribute}
 use Rattle.html_rewrite.proofs.Runs.{run_at, run_is}
@@ -12,20 +12,8 @@ use Rattle.html_rewrite.proofs.Steps.{IsNamed, name_at, named_attribute, named_i
 use Rattle.html_rewrite.proofs.TagLemmas.{assigned_longer}
 use Rattle.html_rewrite.proofs.Values.{sign_missing, value_found, value_unclosed}
 
--- the inside of a tag stands here
-pub record HasInside (t : List ℕ) : Type 0 where
-  pub attributes : List Attribute
-  pub gap : List ℕ
-  pub rest : List ℕ
-  pub inside : IsInside attributes gap rest
-  pub parts : t ≡ inside_text attributes gap rest
-
--- none stands here
-abbrev pub HasNoInside : List ℕ → Type 0
-HasNoInside t = (attributes : List Attribute) (gap rest : List ℕ) → IsInside attributes gap rest → t ≡ inside_text attributes gap rest → ⊥
-
 abbrev pub IsTold : List ℕ → Type 0
-IsTold t = HasInside t ⊎ HasNoInside t
+IsTold t = HasInside t ⊎ LacksInside t
 
 -- behind an attribute it goes on, or it doesn't
 attribute_first : (t u : List ℕ) (a : Attribute) → IsAttribute a u → t ≡ attribute_text a u → IsTold u → IsTold t
@@ -41,14 +29,14 @@ attribute_first t u a is parts told =
       | inr none ↦ inr (back none)
     ]
   where
-    back : HasNoInside u → (attributes : List Attribute) (gap rest : List ℕ) → IsInside attributes gap rest → t ≡ inside_text attributes gap rest → ⊥
+    back : LacksInside u → (attributes : List Attribute) (gap rest : List ℕ) → IsInside attributes gap rest → t ≡ inside_text attributes gap rest → ⊥
     back none [] gap rest inside e = end_or_attribute a u gap rest is inside.last (sym parts ∙ e)
     back none (b ∷ attributes) gap rest inside e =
         let found = attribute_unique a b u (inside_text attributes gap rest) is inside.each.0 (sym parts ∙ e) in
         none attributes gap rest (record { each = inside.each.1; last = inside.last }) found.1
 
 -- the text ends behind the gap
-ends_here : (t : List ℕ) → drop (prefix_len is_gap t) t ≡ [] → HasNoInside t
+ends_here : (t : List ℕ) → drop (prefix_len is_gap t) t ≡ [] → LacksInside t
 ends_here t end = none
   where
     nothing : (gap behind : List ℕ) (b : ℕ) → IsRun is_gap gap (b ∷ behind) → t ≡ gap ++ (b ∷ behind) → ⊥

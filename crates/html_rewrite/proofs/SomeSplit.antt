@@ -7,13 +7,14 @@ use Rattle.html_rewrite.specs.declared.opening.Opening.{Opening}
 use Rattle.html_rewrite.specs.declared.opening.Opening.TheVariants.{Comment, Declaration, EndTag, StartTag, Other}
 use Rattle.html_rewrite.specs.Bytes.{less, begins_with, is_name_end, IsRun, IsUpTo}
 use Rattle.html_rewrite.specs.Names.{is_raw_text}
+use Rattle.html_rewrite.specs.Reading.{HasInside, LacksInside}
 use Rattle.html_rewrite.specs.Split.{Element, HasSplit, IsRawText, IsRead, IsThrough, Part, Takes, Untouched, ends_raw_text, opening_at, part_pieces, part_text}
 use Rattle.html_rewrite.specs.Tags.{IsInside, IsTag, Tag, inside_text, tag_text}
 use Rattle.html_rewrite.proofs.Attributes.{tails}
 use Rattle.html_rewrite.proofs.PageLemmas.{read_joined}
 use Rattle.html_rewrite.proofs.Places.{through_at, through_closer}
 use Rattle.html_rewrite.proofs.Runs.{run_unique}
-use Rattle.html_rewrite.proofs.SomeInside.{HasInside, HasNoInside, inside_told}
+use Rattle.html_rewrite.proofs.SomeInside.{inside_told}
 use Rattle.html_rewrite.proofs.TagLemmas.{OpensElement, inside_longer, opens_element}
 
 -- the first place that passes the test, or the text's end
@@ -106,7 +107,7 @@ element_here page name behind opens element h =
     }
 
 -- a page that ends inside a tag
-unfinished : (page name behind : List ℕ) → opening_at page ≡ StartTag → OpensElement page name behind → HasNoInside behind → NextPart page
+unfinished : (page name behind : List ℕ) → opening_at page ≡ StartTag → OpensElement page name behind → LacksInside behind → NextPart page
 unfinished page name behind opens element none = record {
   part = Untouched page;
   rest = [];
@@ -141,9 +142,9 @@ next_part b t = by_opening (opening_at (b ∷ t)) refl
     by_opening Other e = untouched (b ∷ t) 1 Other e (omega arith) (omega arith) refl
 
 -- the parts of a page
-record HasParts (page : List ℕ) : Type 0 where
-  parts : List Part
-  read : IsRead parts page
+pub record HasParts (page : List ℕ) : Type 0 where
+  pub parts : List Part
+  pub read : IsRead parts page
 
 parts_within : (fuel : ℕ) (page : List ℕ) → length page < fuel → HasParts page
 parts_within zero page within = absurd (omega (arith, within))
@@ -153,9 +154,12 @@ parts_within (suc fuel) (b ∷ t) within =
     let others = parts_within fuel next.rest (omega (arith, within, next.shorter)) in
     record { parts = next.part ∷ others.parts; read = (next.rest, next.parts, next.taken, others.read) }
 
+pub parts_of : (page : List ℕ) → HasParts page
+parts_of page = parts_within (length page + 1) page (omega arith)
+
 pub split_of : (page : List ℕ) → HasSplit page
 split_of page =
-    let all = parts_within (length page + 1) page (omega arith) in
+    let all = parts_of page in
     record {
       pieces = flat_map part_pieces all.parts;
       split = record { parts = all.parts; read = all.read; of_parts = refl; joins = read_joined all.parts page all.read };

@@ -1,17 +1,18 @@
 -- Reading one attribute.
-use Rattle.std.proofs.Common.{◌≡◌, ℕ, ◌+◌, ◌<◌, ◌≤◌, Bool, true, false, not, ◌==◌, List, [], ◌∷◌, ◌++◌, length, take, drop, refl, sym, ◌∙◌, ap, subst, arith, Option, Some, None}
+use Rattle.std.proofs.Common.{◌≡◌, ℕ, ◌+◌, ◌<◌, Bool, true, false, not, ◌==◌, List, [], ◌∷◌, ◌++◌, length, take, drop, refl, sym, ◌∙◌, ap, subst, arith, Option, Some, None}
 use Rattle.std.proofs.Math.Numerals.{one-add}
-use Rattle.std.proofs.lemmas.List.{append_assoc, append-nil, length-append, length-drop, length-take, take-take, take-append-drop, take_at, drop_at}
+use Rattle.std.proofs.lemmas.List.{append_assoc, append-nil, length-append, length-drop, take-append-drop, take_at, drop_at}
 use Rattle.std.proofs.lemmas.List.Concat.{flat_map-append}
 use Rattle.std.proofs.lemmas.Bool.{false≢true}
 use Rattle.std.specs.List.{flat_map, prefix_len}
-use Rattle.html_rewrite.specs.declared.cuts.Cuts.{Cuts}
+use Rattle.html_rewrite.specs.declared.rewriter.Rewriter.{Rewriter}
 use Rattle.html_rewrite.specs.Bytes.{greater, equals, is_gap, begins, IsRun}
 use Rattle.html_rewrite.specs.Pieces.{Piece, piece_with, replaced}
 use Rattle.html_rewrite.specs.Tags.{Assignment, Attribute, IsAssignedIfAny, IsAttribute, IsInside, assigns, assigned_text, attribute_text, inside_text, is_attribute_byte, quote_text}
 use Rattle.html_rewrite.specs.Split.{attribute_pieces, value_piece}
 use Rattle.html_rewrite.specs.Names.{is_link}
-use Rattle.html_rewrite.specs.Reading.{BeginsAttribute, IsUnclosed, IsValueAt, LacksEnd, Later, LeadsOn, Passes, Reads, ahead, done}
+use Rattle.html_rewrite.specs.Reading.{BeginsAttribute, IsUnclosed, IsValueAt, LacksInside, Later, LeadsOn, Passes, Reads, ahead, done, grown}
+use Rattle.html_rewrite.proofs.Grown.{grown_four_times, grown_twice}
 use Rattle.html_rewrite.proofs.Attributes.{attribute_unique, end_or_attribute, heads, tails}
 use Rattle.html_rewrite.proofs.Runs.{run_at, run_unique}
 
@@ -76,19 +77,18 @@ pub replaced-append : (link : List ℕ → List ℕ) (xs ys : List Piece) → re
 replaced-append link xs ys = flat_map-append (piece_with link) xs ys
 
 -- the inside of a tag goes on behind an attribute that was read
-pub leads_on : (element : List ℕ) (old new : Cuts) (a : Attribute) → IsAttribute a (ahead new) → ahead old ≡ attribute_text a (ahead new) → ((link : List ℕ → List ℕ) → done link new ≡ done link old ++ replaced link (attribute_pieces element a)) → take (length old.list.items) new.list.items ≡ old.list.items → length (ahead new) < length (ahead old) → LeadsOn element old new
-leads_on element old new a is parts written kept shorter = record {
+pub leads_on : (limit : ℕ) (link : List ℕ → List ℕ) (element : List ℕ) (old new : Rewriter) (a : Attribute) → IsAttribute a (ahead new) → ahead old ≡ attribute_text a (ahead new) → done limit new ≡ grown limit (done limit old) (replaced link (attribute_pieces element a)) → length (ahead new) < length (ahead old) → LeadsOn limit link element old new
+leads_on limit link element old new a is parts written shorter = record {
   onward = λ attributes gap rest inside e. record {
     whole = a ∷ attributes;
     inside = record { each = (subst (λ (x : List ℕ). IsAttribute a x) e is, inside.each); last = inside.last };
     parts = parts ∙ ap (attribute_text a) e;
-    written = λ link.
-        ap (λ x. done link old ++ x) (replaced-append link (attribute_pieces element a) (flat_map (attribute_pieces element) attributes))
-        ∙ sym (append_assoc (done link old) (replaced link (attribute_pieces element a)) (replaced link (flat_map (attribute_pieces element) attributes)))
-        ∙ ap (λ x. x ++ replaced link (flat_map (attribute_pieces element) attributes)) (sym (written link));
+    written =
+        ap (grown limit (done limit old)) (replaced-append link (attribute_pieces element a) (flat_map (attribute_pieces element) attributes))
+        ∙ sym (grown_twice limit (done limit old) (replaced link (attribute_pieces element a)) (replaced link (flat_map (attribute_pieces element) attributes)))
+        ∙ ap (λ x. grown limit x (replaced link (flat_map (attribute_pieces element) attributes))) (sym written);
   };
   back = λ attributes gap rest inside e. goes_back attributes gap rest inside e;
-  kept = kept;
   shorter = shorter;
 }
   where
@@ -119,24 +119,13 @@ value_steps t lead len closing v =
     let fourth : drop len (drop lead t) ≡ quote_text a.quote ++ v.rest = ap (drop len) second ∙ drop_at a.value (quote_text a.quote ++ v.rest) len v.lasts in
     (first, second, third, fourth, ap (take closing) fourth ∙ take_at (quote_text a.quote) v.rest closing v.closes, ap (drop closing) fourth ∙ drop_at (quote_text a.quote) v.rest closing v.closes)
 
--- the links so far stay over two steps
-pub kept_over : (one two three : Cuts) → take (length one.list.items) two.list.items ≡ one.list.items → take (length two.list.items) three.list.items ≡ two.list.items → take (length one.list.items) three.list.items ≡ one.list.items
-kept_over one two three first second =
-    let n = length one.list.items in
-    let m = length two.list.items in
-    let sizes : length (take n two.list.items) ≡ n = ap length first in
-    let short : n ≤ m = omega (arith, sizes, length-take n two.list.items) in
-    let inner : take n (take m three.list.items) ≡ take n three.list.items = take-take n m three.list.items short in
-    sym inner ∙ ap (take n) second ∙ first
-
 -- a gap and a name were read
-pub record Named (len : ℕ) (name : List ℕ) (old new : Cuts) : Type 0 where
+pub record Named (len : ℕ) (name : List ℕ) (old new : Rewriter) : Type 0 where
   pub is : IsNamed (ahead old) len name (ahead new)
-  pub written : (link : List ℕ → List ℕ) → done link new ≡ done link old ++ (take len (ahead old) ++ name)
-  pub kept : take (length old.list.items) new.list.items ≡ old.list.items
+  pub written : (limit : ℕ) → done limit new ≡ grown limit (done limit old) (take len (ahead old) ++ name)
   pub shorter : length (ahead new) < length (ahead old)
 
-pub reads_name : (old one two : Cuts) (len : ℕ) (name : List ℕ) → BeginsAttribute (ahead old) len → Passes len old one → name ≡ take (1 + prefix_len is_attribute_byte (drop 1 (ahead one))) (ahead one) → Passes (length name) one two → Named len name old two
+pub reads_name : (old one two : Rewriter) (len : ℕ) (name : List ℕ) → BeginsAttribute (ahead old) len → Passes len old one → name ≡ take (1 + prefix_len is_attribute_byte (drop 1 (ahead one))) (ahead one) → Passes (length name) one two → Named len name old two
 reads_name old one two len name begun first is second =
     let t = ahead old in
     let u = drop len t in
@@ -149,8 +138,11 @@ reads_name old one two len name begun first is second =
     let sizes : length t ≡ length (take len t ++ (named.first ∷ (named.others ++ behind))) = ap length named.parts in
     record {
       is = subst (λ (x : List ℕ). IsNamed t len name x) (sym rest) named;
-      written = λ link. second.written link ∙ ap (λ x. x ++ take (length name) (ahead one)) (first.written link) ∙ ap (λ x. done link old ++ take len t ++ x) read ∙ append_assoc (done link old) (take len t) name;
-      kept = kept_over old one two first.kept second.kept;
+      written = λ limit.
+          second.written limit
+          ∙ ap (λ x. grown limit x (take (length name) (ahead one))) (first.written limit)
+          ∙ ap (λ x. grown limit (grown limit (done limit old) (take len t)) x) read
+          ∙ grown_twice limit (done limit old) (take len t) name;
       shorter = omega (arith, sizes, ap length rest, length-append (take len t) (named.first ∷ (named.others ++ behind)), length-append named.others behind);
     }
 
@@ -158,10 +150,10 @@ name_written : (gap others : List ℕ) (first : ℕ) (name : List ℕ) → name 
 name_written gap others first name e = ap (λ x. gap ++ x) e ∙ sym (append-nil (gap ++ (first ∷ others)))
 
 -- an attribute without a value
-pub leads_missing : (element name : List ℕ) (len : ℕ) (old new : Cuts) → Named len name old new → assigns (ahead new) ≡ false → LeadsOn element old new
-leads_missing element name len old new n none =
+pub leads_missing : (limit : ℕ) (link : List ℕ → List ℕ) (element name : List ℕ) (len : ℕ) (old new : Rewriter) → Named len name old new → assigns (ahead new) ≡ false → LeadsOn limit link element old new
+leads_missing limit link element name len old new n none =
     let t = ahead old in
-    leads_on element old new (named_attribute t len name (ahead new) n.is None) (named_is_attribute t len name (ahead new) n.is None (ahead new) refl none) (named_text t len name (ahead new) n.is None (ahead new) refl) (λ link. n.written link ∙ ap (λ x. done link old ++ x) (name_written (take len t) n.is.others n.is.first name n.is.named)) n.kept n.shorter
+    leads_on limit link element old new (named_attribute t len name (ahead new) n.is None) (named_is_attribute t len name (ahead new) n.is None (ahead new) refl none) (named_text t len name (ahead new) n.is None (ahead new) refl) (n.written limit ∙ ap (grown limit (done limit old)) (name_written (take len t) n.is.others n.is.first name n.is.named)) n.shorter
 
 -- no tag ends behind an attribute whose value has no end
 pub no_end_behind : (t name behind : List ℕ) (len : ℕ) → IsNamed t len name behind → IsUnclosed behind → (attributes : List Attribute) (gap rest : List ℕ) → IsInside attributes gap rest → t ≡ inside_text attributes gap rest → ⊥
@@ -185,16 +177,15 @@ no_end_behind t name behind len n unclosed = none
         by_value b.assigned after inside.each.0.assigned others.1
 
 -- an attribute whose value has no end
-pub lacks_unclosed : (name : List ℕ) (len : ℕ) (old new : Cuts) → Named len name old new → IsUnclosed (ahead new) → LacksEnd old new
-lacks_unclosed name len old new n unclosed =
-    record { none = no_end_behind (ahead old) name (ahead new) len n.is unclosed; kept = n.kept }
+pub lacks_unclosed : (name : List ℕ) (len : ℕ) (old new : Rewriter) → Named len name old new → IsUnclosed (ahead new) → LacksInside (ahead old)
+lacks_unclosed name len old new n unclosed = no_end_behind (ahead old) name (ahead new) len n.is unclosed
 
-gather : (before gap others lead value quote name : List ℕ) (first : ℕ) → name ≡ first ∷ others → before ++ (gap ++ name) ++ lead ++ value ++ quote ≡ before ++ ((gap ++ (first ∷ (others ++ lead))) ++ (value ++ (quote ++ [])))
-gather before gap others lead value quote name first e = rw e (simp (append_assoc, append-nil))
+gather : (gap others lead value quote name : List ℕ) (first : ℕ) → name ≡ first ∷ others → (gap ++ name) ++ (lead ++ (value ++ quote)) ≡ (gap ++ (first ∷ (others ++ lead))) ++ (value ++ (quote ++ []))
+gather gap others lead value quote name first e = rw e (simp (append_assoc, append-nil))
 
 -- an attribute with its value
-pub leads_value : (element name : List ℕ) (len lead size closing : ℕ) (old two three four five : Cuts) → Named len name old two → IsValueAt (ahead two) lead size closing → Passes lead two three → Reads element name size three four → Passes closing four five → LeadsOn element old five
-leads_value element name len lead size closing old two three four five n v first second third =
+pub leads_value : (limit : ℕ) (link : List ℕ → List ℕ) (element name : List ℕ) (len lead size closing : ℕ) (old two three four five : Rewriter) → Named len name old two → IsValueAt (ahead two) lead size closing → Passes lead two three → Reads limit link element name size three four → Passes closing four five → LeadsOn limit link element old five
+leads_value limit link element name len lead size closing old two three four five n v first second third =
     let t = ahead old in
     let a = v.assignment in
     let steps = value_steps (ahead two) lead size closing v in
@@ -203,17 +194,16 @@ leads_value element name len lead size closing old two three four five n v first
     let at_five : ahead five ≡ v.rest = third.rest ∙ ap (drop closing) at_four ∙ steps.5 in
     let is = named_is_attribute t len name (ahead two) n.is (Some a) v.rest v.parts v.assigned in
     let parts = named_text t len name (ahead two) n.is (Some a) v.rest v.parts in
-    let reads : (List ℕ → List ℕ) → List ℕ → List ℕ = λ link x. piece_with link (value_piece (is_link element name) x) in
+    let reads : List ℕ → List ℕ = λ x. piece_with link (value_piece (is_link element name) x) in
     let linked : is_link element name ≡ is_link element (n.is.first ∷ n.is.others) = ap (is_link element) n.is.named in
     let sizes : length (ahead five) ≡ length (drop closing (drop size (drop lead (ahead two)))) = ap length (third.rest ∙ ap (drop closing) at_four) in
-    leads_on element old five (named_attribute t len name (ahead two) n.is (Some a)) (subst (λ (x : List ℕ). IsAttribute (named_attribute t len name (ahead two) n.is (Some a)) x) (sym at_five) is) (subst (λ (x : List ℕ). ahead old ≡ attribute_text (named_attribute t len name (ahead two) n.is (Some a)) x) (sym at_five) parts)
-    (λ link.
-    third.written link
-    ∙ ap (λ x. done link four ++ x) (ap (take closing) at_four ∙ steps.4)
-    ∙ ap (λ x. x ++ quote_text a.quote) (second.written link ∙ ap (λ x. done link three ++ reads link x) (ap (take size) at_three ∙ steps.2))
-    ∙ ap (λ x. x ++ reads link a.value ++ quote_text a.quote) (first.written link ∙ ap (λ x. done link two ++ x) steps.0)
-    ∙ ap (λ x. x ++ lead_text a ++ reads link a.value ++ quote_text a.quote) (n.written link)
-    ∙ gather (done link old) (take len t) n.is.others (lead_text a) (reads link a.value) (quote_text a.quote) name n.is.first n.is.named
-    ∙ ap (λ x. done link old ++ ((take len t ++ (n.is.first ∷ (n.is.others ++ lead_text a))) ++ (piece_with link (value_piece x a.value) ++ (quote_text a.quote ++ [])))) linked)
-    (kept_over old two five n.kept (kept_over two three five first.kept (kept_over three four five second.kept third.kept)))
+    leads_on limit link element old five (named_attribute t len name (ahead two) n.is (Some a)) (subst (λ (x : List ℕ). IsAttribute (named_attribute t len name (ahead two) n.is (Some a)) x) (sym at_five) is) (subst (λ (x : List ℕ). ahead old ≡ attribute_text (named_attribute t len name (ahead two) n.is (Some a)) x) (sym at_five) parts)
+    (third.written limit
+    ∙ ap (grown limit (done limit four)) (ap (take closing) at_four ∙ steps.4)
+    ∙ ap (λ x. grown limit x (quote_text a.quote)) (second.written ∙ ap (λ x. grown limit (done limit three) (reads x)) (ap (take size) at_three ∙ steps.2))
+    ∙ ap (λ x. grown limit (grown limit x (reads a.value)) (quote_text a.quote)) (first.written limit ∙ ap (grown limit (done limit two)) steps.0)
+    ∙ ap (λ x. grown limit (grown limit (grown limit x (lead_text a)) (reads a.value)) (quote_text a.quote)) (n.written limit)
+    ∙ grown_four_times limit (done limit old) (take len t ++ name) (lead_text a) (reads a.value) (quote_text a.quote)
+    ∙ ap (grown limit (done limit old)) (gather (take len t) n.is.others (lead_text a) (reads a.value) (quote_text a.quote) name n.is.first n.is.named)
+    ∙ ap (λ x. grown limit (done limit old) ((take len t ++ (n.is.first ∷ (n.is.others ++ lead_text a))) ++ (piece_with link (value_piece x a.value) ++ (quote_text a.quote ++ [])))) linked)
     (omega (arith, sizes, n.shorter, length-drop closing (drop size (drop lead (ahead two))), length-drop size (drop lead (ahead two)), length-drop lead (ahead two)))

@@ -6,17 +6,19 @@ use Rattle.std.proofs.lemmas.List.Sums.{prefix_len-le-length}
 use Rattle.std.proofs.lemmas.Bool.{false≢true, eqb-true}
 use Rattle.std.specs.Char.{is_ascii_alphabetic}
 use Rattle.std.specs.List.{flat_map, prefix_len}
-use Rattle.html_rewrite.specs.declared.cuts.Cuts.{Cuts}
 use Rattle.html_rewrite.specs.declared.opening.Opening.{Opening}
 use Rattle.html_rewrite.specs.declared.opening.Opening.TheVariants.{Comment, Declaration, EndTag, StartTag, Other}
+use Rattle.html_rewrite.specs.declared.rewriter.Rewriter.{Rewriter}
 use Rattle.html_rewrite.specs.Bytes.{equals, greater, less, begins, begins_with, is_name_end, IsRun}
 use Rattle.html_rewrite.specs.Pieces.{Plain, replaced}
 use Rattle.html_rewrite.specs.Tags.{Assignment, Attribute, IsInside, IsTag, Tag, assigned_text, attributes_text, inside_text, quote_text, tag_text, value_text}
 use Rattle.html_rewrite.specs.Split.{Element, IsRawText, Part, Takes, Untouched, attribute_pieces, opening_at}
-use Rattle.html_rewrite.specs.Reading.{LacksEnd, Passes, ReadsInside, ReadsPart, ahead, cuts_text, done}
+use Rattle.html_rewrite.specs.Reading.{LacksInside, Passes, ReadsInside, ReadsParts, ahead, done, grown}
+use Rattle.html_rewrite.proofs.Grown.{grown_twice}
+use Rattle.html_rewrite.proofs.Parts.{one_part}
 use Rattle.html_rewrite.proofs.Runs.{run_at, run_unique}
 use Rattle.html_rewrite.proofs.Attributes.{tails}
-use Rattle.html_rewrite.proofs.Steps.{kept_over, replaced-append}
+use Rattle.html_rewrite.proofs.Steps.{replaced-append}
 
 start_of : (a b c d : Bool) → cond a Comment (cond b Declaration (cond c EndTag (cond d StartTag Other))) ≡ StartTag → d ≡ true
 start_of true b c d e = absurd (cc)
@@ -93,12 +95,12 @@ attributes_longer (a ∷ attributes) rest =
 pub inside_longer : (attributes : List Attribute) (gap rest : List ℕ) → length rest < length (inside_text attributes gap rest)
 inside_longer attributes gap rest = omega (arith, attributes_longer attributes (gap ++ (greater ∷ rest)), length-append gap (greater ∷ rest))
 
-tag_gather : (before name inside gap raw : List ℕ) → before ++ name ++ (inside ++ (gap ++ (greater ∷ []))) ++ raw ≡ before ++ (name ++ (inside ++ ((gap ++ (greater ∷ raw)) ++ [])))
-tag_gather before name inside gap raw = simp (append_assoc, append-nil)
+tag_gather : (inside gap raw : List ℕ) → (inside ++ (gap ++ (greater ∷ []))) ++ raw ≡ inside ++ ((gap ++ (greater ∷ raw)) ++ [])
+tag_gather inside gap raw = simp (append_assoc, append-nil)
 
 -- a start tag and the text behind it
-pub reads_tag : (old one two three : Cuts) (name : List ℕ) (k : ℕ) → opening_at (ahead old) ≡ StartTag → OpensElement (ahead old) name (ahead one) → Passes (1 + length name) old one → ReadsInside name one two → IsRawText name (take k (ahead two)) (drop k (ahead two)) → Passes k two three → ReadsPart old three
-reads_tag old one two three name k opens element first inside raw second =
+pub reads_tag : (limit : ℕ) (link : List ℕ → List ℕ) (old one two three : Rewriter) (name : List ℕ) (k : ℕ) → opening_at (ahead old) ≡ StartTag → OpensElement (ahead old) name (ahead one) → Passes (1 + length name) old one → ReadsInside limit link name one two → IsRawText name (take k (ahead two)) (drop k (ahead two)) → Passes k two three → ReadsParts limit link old three
+reads_tag limit link old one two three name k opens element first inside raw second =
     let text = take k (ahead two) in
     let split : ahead two ≡ text ++ ahead three = sym (take-append-drop k (ahead two)) ∙ ap (λ x. text ++ x) (sym second.rest) in
     let insides : ahead one ≡ inside_text inside.attributes inside.gap (text ++ ahead three) = inside.parts ∙ ap (inside_text inside.attributes inside.gap) split in
@@ -112,37 +114,42 @@ reads_tag old one two three name k opens element first inside raw second =
     let is_raw : IsRawText name text (ahead three) = subst (λ (x : List ℕ). IsRawText name text x) (sym second.rest) raw in
     let part : Part = Element (record { name = name; attributes = inside.attributes; gap = inside.gap }) text in
     let lengths : length (ahead old) ≡ length (less ∷ (name ++ ahead one)) = ap length element.parts in
-    record {
+    let links = replaced link (flat_map (attribute_pieces name) inside.attributes) in
+    one_part limit link old three (record {
       part = part;
       taken = subst (λ (x : Opening). Takes x part (ahead three)) (sym opens) (is_tag, is_raw);
       parts = whole;
-      written = λ link.
-          second.written link
-          ∙ ap (λ x. x ++ text) (inside.written link)
-          ∙ ap (λ x. x ++ (replaced link (flat_map (attribute_pieces name) inside.attributes) ++ (inside.gap ++ (greater ∷ []))) ++ text) (first.written link ∙ ap (λ x. done link old ++ x) front)
-          ∙ tag_gather (done link old) (less ∷ name) (replaced link (flat_map (attribute_pieces name) inside.attributes)) inside.gap text
-          ∙ ap (λ x. done link old ++ ((less ∷ name) ++ x)) (sym (replaced-append link (flat_map (attribute_pieces name) inside.attributes) (Plain (inside.gap ++ (greater ∷ text)) ∷ [])));
+      written =
+          second.written limit
+          ∙ ap (λ x. grown limit x text) inside.written
+          ∙ ap (λ x. grown limit (grown limit x (links ++ (inside.gap ++ (greater ∷ [])))) text) (first.written limit ∙ ap (grown limit (done limit old)) front)
+          ∙ grown_twice limit (grown limit (done limit old) (less ∷ name)) (links ++ (inside.gap ++ (greater ∷ []))) text
+          ∙ grown_twice limit (done limit old) (less ∷ name) ((links ++ (inside.gap ++ (greater ∷ []))) ++ text)
+          ∙ ap (λ x. grown limit (done limit old) ((less ∷ name) ++ x)) (tag_gather links inside.gap text ∙ sym (replaced-append link (flat_map (attribute_pieces name) inside.attributes) (Plain (inside.gap ++ (greater ∷ text)) ∷ [])));
       shorter = omega (arith, lengths, ap length second.rest, length-drop k (ahead two), ap length inside.parts, inside_longer inside.attributes inside.gap (ahead two), length-append name (ahead one));
-    }
+    })
 
 -- no start tag stands where the page ends inside it
-pub reads_rest : (old one two new : Cuts) (name : List ℕ) → opening_at (ahead old) ≡ StartTag → OpensElement (ahead old) name (ahead one) → Passes (1 + length name) old one → LacksEnd one two → new.list.items ≡ take (length old.list.items) two.list.items → new.run.now ≡ old.run.now → new.read ≡ length old.run.now → ReadsPart old new
-reads_rest old one two new name opens element first lacks items run read =
+pub reads_rest : (limit : ℕ) (link : List ℕ → List ℕ) (old one new : Rewriter) (name : List ℕ) → opening_at (ahead old) ≡ StartTag → OpensElement (ahead old) name (ahead one) → Passes (1 + length name) old one → LacksInside (ahead one) → Passes (length (ahead one)) one new → ReadsParts limit link old new
+reads_rest limit link old one new name opens element first lacks second =
     let t = ahead old in
-    let end : ahead new ≡ [] = ap (λ x. drop new.read x) run ∙ drop_all new.read old.run.now (omega (arith, read)) in
-    record {
+    let u = ahead one in
+    let end : ahead new ≡ [] = second.rest ∙ drop_all (length u) u (omega arith) in
+    let front : take (1 + length name) t ≡ less ∷ name = ap (take (1 + length name)) element.parts ∙ take_at (less ∷ name) u (1 + length name) (omega arith) in
+    one_part limit link old new (record {
       part = Untouched t;
       taken = subst (λ (x : Opening). Takes x (Untouched t) (ahead new)) (sym opens) (none, end);
       parts = sym (append-nil t) ∙ ap (λ x. t ++ x) (sym end);
-      written = λ link.
-          ap (λ x. cuts_text link x ++ take new.read new.run.now) (items ∙ kept_over old one two first.kept lacks.kept)
-          ∙ ap (λ x. cuts_text link old.list.items ++ x) (ap (take new.read) run ∙ take_all new.read old.run.now (omega (arith, read)) ∙ sym (take-append-drop old.read old.run.now))
-          ∙ sym (append_assoc (cuts_text link old.list.items) (take old.read old.run.now) t)
-          ∙ ap (λ x. done link old ++ x) (sym (append-nil t));
+      written =
+          second.written limit
+          ∙ ap (grown limit (done limit one)) (take_all (length u) u (omega arith))
+          ∙ ap (λ x. grown limit x u) (first.written limit ∙ ap (grown limit (done limit old)) front)
+          ∙ grown_twice limit (done limit old) (less ∷ name) u
+          ∙ ap (grown limit (done limit old)) (sym element.parts ∙ sym (append-nil t));
       shorter = omega (arith, ap length end, ap length element.parts);
-    }
+    })
   where
     none : (tag : Tag) (rest : List ℕ) → IsTag tag rest → ahead old ≡ tag_text tag rest → ⊥
     none tag rest is e =
         let same = run_unique (λ b. not (is_name_end b)) name tag.name (ahead one) (inside_text tag.attributes tag.gap rest) element.run is.name (tails less less (name ++ ahead one) (tag.name ++ inside_text tag.attributes tag.gap rest) (sym element.parts ∙ e)) in
-        lacks.none tag.attributes tag.gap rest is.inside same.1
+        lacks tag.attributes tag.gap rest is.inside same.1

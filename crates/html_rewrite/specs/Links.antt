@@ -61,9 +61,13 @@ leads_nowhere reference = is_empty reference || begins (λ b. b == number_sign) 
 abbrev pub text_target : Option Parts → List ℕ → Option Parts
 text_target base reference = if is_utf8 reference then target_from base reference else None
 
+-- where a value that was read leads to, if it is to be replaced
+abbrev pub target_read : Option Parts → List ℕ → Option Parts
+target_read base reference = if leads_nowhere reference then None else text_target base reference
+
 -- where a value leads to, if it is to be replaced
 abbrev pub target_of : Option Parts → List ℕ → Option Parts
-target_of base value = if leads_nowhere (decoded value) then None else text_target base (decoded value)
+target_of base value = target_read base (decoded value)
 
 -- the address of a target in the archive
 abbrev pub address : List ℕ → Parts → List ℕ

@@ -2,9 +2,10 @@
 ghost use Rattle.std.specs.Prelude.{◌≡◌, ◌+◌, ◌<◌, ◌≤◌, length, take, drop};
 ghost use Rattle.std.specs.List.{prefix_len};
 ghost use Rattle.html_rewrite.specs.Tags as spec;
+ghost use Rattle.html_rewrite.specs.declared.attribute.Quote.TheVariants.{Bare};
 ghost use Rattle.html_rewrite.specs.Reading.{IsFound, IsNext, sign_len};
 
-use crate::bytes::{blank_len, gap_len, is_blank, is_name_end};
+use crate::bytes::{blank_len, gap_len, is_blank, is_name_end, place_of};
 
 /// The quotes round a value.
 #[derive(Clone, Copy, Debug, PartialEq, Eq)]
@@ -140,17 +141,23 @@ fn value_len(text: &[u8], quote: Quote) -> usize
     ensures value { result ≡ prefix_len (spec.is_value_byte quote) text.now }
     ensures within { result ≤ length text.now }
 {
-    text.iter()
-        .take_while(|&&b| is_value_byte(quote, b))
-        .count()
+    match quote {
+        Quote::Double => place_of(b'"', text),
+        Quote::Single => place_of(b'\'', text),
+        Quote::Bare => bare_len(text),
+    }
 }
 
-fn is_value_byte(quote: Quote, b: u8) -> bool
-    ensures { result ≡ spec.is_value_byte quote b }
+/// How long the value without quotes is that the text begins with.
+fn bare_len(text: &[u8]) -> usize
+    ensures value { result ≡ prefix_len (spec.is_value_byte Bare) text.now }
+    ensures within { result ≤ length text.now }
 {
-    match quote {
-        Quote::Double => b != b'"',
-        Quote::Single => b != b'\'',
-        Quote::Bare => !(is_blank(b) || b == b'>'),
-    }
+    text.iter().take_while(|&&b| is_bare_byte(b)).count()
+}
+
+fn is_bare_byte(b: u8) -> bool
+    ensures { result ≡ spec.is_value_byte Bare b }
+{
+    !(is_blank(b) || b == b'>')
 }

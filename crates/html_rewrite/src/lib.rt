@@ -3,7 +3,6 @@
 
 mod attribute;
 mod bytes;
-mod cuts;
 mod law;
 mod link;
 mod names;
@@ -12,11 +11,12 @@ mod page;
 mod raw_text;
 mod reading;
 mod reference;
-mod scan;
+mod rewriter;
 mod tag;
 #[cfg(test)]
 mod tests;
 mod through;
+mod written;
 
 pub use law::{a_page_has_a_split, a_page_has_one_split};
 pub use link::web_target;

@@ -5,29 +5,43 @@ ghost use Rattle.html_rewrite.specs.Links as spec;
 
 use crate::reference::{decode, put_escaped};
 use capture::{Memory, Site};
+use memchr::memchr;
 use std::alloc::Global;
 use time_text::write_time;
 use url::{ParseError, Url};
 
-/// What the links of a page lead to.
+/// What the links of a page lead to, and how long that may make the page.
 #[derive(Drop)]
 pub struct Links {
     /// What stands before the address of a target.
     pub prefix: Vec<u8>,
     /// The page's own address, if that is a URL.
     pub base: Option<Url>,
+    /// How many bytes the page with its links replaced has at most.
+    pub limit: usize,
 }
 
 impl Links {
     /// The links of a page that was captured from this address at this time.
-    pub fn new(alloc: Global, base: &[u8], time: u64, site: &Site) -> Result<Links, Memory>
+    pub fn new(
+        alloc: Global,
+        base: &[u8],
+        time: u64,
+        site: &Site,
+        limit: usize,
+    ) -> Result<Links, Memory>
         requires { InRange time }
         ensures prefix { IfOk result (λ links. links.prefix.items ≡ spec.archive_prefix site.now.base time) }
         ensures base { IfOk result (λ links. links.base ≡ spec.page_url base.now) }
+        ensures limit { IfOk result (λ links. links.limit ≡ limit) }
     {
         let base = page_url(alloc, base)?;
         let prefix = archive_prefix(alloc, time, site)?;
-        Ok(Links { prefix, base })
+        Ok(Links {
+            prefix,
+            base,
+            limit,
+        })
     }
 
     /// Puts what the value is replaced by behind what is written.
@@ -46,15 +60,27 @@ impl Links {
         }
     }
 
-    // Where a value leads to, if it is to be replaced.
+    /// Where a value leads to, if it is to be replaced.
     fn target(&self, alloc: Global, value: &[u8]) -> Result<Option<Url>, Memory>
         ensures { IfOk result (λ target. target ≡ spec.target_of self.now.base value.now) }
     {
-        let reference = decode(alloc, value)?;
-        if begins_as_none(reference.as_slice()) {
+        match memchr(b'&', value) {
+            Some(_) => {
+                let reference = decode(alloc, value)?;
+                self.read_target(reference.as_slice())
+            }
+            None => self.read_target(value),
+        }
+    }
+
+    /// Where a value that was read leads to, if it is to be replaced.
+    fn read_target(&self, reference: &[u8]) -> Result<Option<Url>, Memory>
+        ensures { IfOk result (λ target. target ≡ spec.target_read self.now.base reference.now) }
+    {
+        if begins_as_none(reference) {
             return Ok(None);
         }
-        text_target(self.base.as_ref(), reference.as_slice())
+        text_target(self.base.as_ref(), reference)
     }
 }
 
@@ -67,6 +93,7 @@ pub fn web_target(alloc: Global, base: &[u8], reference: &[u8]) -> Result<Option
     text_target(base.as_ref(), reference)
 }
 
+/// Where a reference leads to, if it is a text.
 fn text_target(base: Option<&Url>, reference: &[u8]) -> Result<Option<Url>, Memory>
     ensures { IfOk result (λ target. target ≡ spec.text_target (option_copied base.entry) reference.now) }
 {
@@ -76,7 +103,7 @@ fn text_target(base: Option<&Url>, reference: &[u8]) -> Result<Option<Url>, Memo
     }
 }
 
-// An empty reference, or one to a place in the page itself.
+/// Whether it is an empty reference, or one to a place in the page itself.
 fn begins_as_none(reference: &[u8]) -> bool
     ensures { result ≡ spec.leads_nowhere reference.now }
 {
@@ -86,6 +113,7 @@ fn begins_as_none(reference: &[u8]) -> bool
     }
 }
 
+/// Where a reference leads to from the page's own address, if that is a URL and it leads to http or https.
 fn target_from(base: Option<&Url>, reference: &str) -> Result<Option<Url>, Memory>
     ensures { IfOk result (λ target. target ≡ spec.target_from (option_copied base.entry) reference.now) }
 {
@@ -106,6 +134,7 @@ fn is_http(url: &Url) -> bool
     url.scheme() == "http" || url.scheme() == "https"
 }
 
+/// The URL of the page, if its address is one.
 fn page_url(alloc: Global, base: &[u8]) -> Result<Option<Url>, Memory>
     ensures { IfOk result (λ url. url ≡ spec.page_url base.now) }
 {
@@ -119,6 +148,7 @@ fn page_url(alloc: Global, base: &[u8]) -> Result<Option<Url>, Memory>
     }
 }
 
+/// What stands before each target's address.
 fn archive_prefix(alloc: Global, time: u64, site: &Site) -> Result<Vec<u8>, Memory>
     requires { InRange time }
     ensures { IfOk result (λ prefix. prefix.items ≡ spec.archive_prefix site.now.base time) }

@@ -1,13 +1,16 @@
 //! Rewriting a page.
-ghost use Rattle.std.specs.Prelude.{◌≡◌, ◌++◌, ◌<◌, length, IfOk, OnOk, MatchBool};
+ghost use Rattle.std.specs.Prelude.{◌<◌, length, IfOk, OnOk};
 ghost use Rattle.time_text.specs.Texts.{InRange};
 ghost use Rattle.html_rewrite.specs.Links.{archive_prefix, link, page_url};
 ghost use Rattle.html_rewrite.specs.Reading as spec;
+ghost use Rattle.html_rewrite.specs.Reading.{ReadsParts, link_by};
 ghost use Rattle.html_rewrite.specs.Rewritten.{IsRewritten};
 
-use crate::cuts::Cut;
+use crate::bytes::plain_len;
 use crate::link::Links;
-use crate::scan::cut;
+use crate::opening::{Opening, opening_at};
+use crate::rewriter::Rewriter;
+use crate::through::through_len;
 use capture::{Bytes, Memory, Site};
 use std::alloc::Global;
 
@@ -30,43 +33,35 @@ pub fn rewrite(
     requires { InRange time }
     ensures { IfOk result (λ rewritten. IsRewritten PAGE_LIMIT (link (archive_prefix site.now.base time) (page_url base.now)) page.now rewritten) }
 {
-    let links = Links::new(alloc, base, time, site)?;
-    rewrite_within(alloc, page, &links, PAGE_LIMIT)
+    let links = Links::new(alloc, base, time, site, PAGE_LIMIT)?;
+    rewrite_by(alloc, page, &links)
 }
 
-/// The same, with a limit of so many bytes.
-pub fn rewrite_within(
-    alloc: Global,
-    page: &[u8],
-    links: &Links,
-    limit: usize,
-) -> Result<Option<Bytes>, Memory>
-    ensures { IfOk result (λ rewritten. IsRewritten limit (link links.now.prefix.items links.now.base) page.now rewritten) }
+/// The same, for these links and their limit. What is written is all the memory that it takes, beside that for one link.
+pub fn rewrite_by(alloc: Global, page: &[u8], links: &Links) -> Result<Option<Bytes>, Memory>
+    ensures { IfOk result (λ rewritten. IsRewritten links.now.limit (link_by links.now) page.now rewritten) }
 {
-    let cuts = cut(alloc, page)?;
-    let mut out = Vec::with_capacity(alloc, page.len().min(limit))?;
-    if !put_cuts(&mut out, cuts.list.as_slice(), links, limit)? {
-        return Ok(None);
+    let mut rewriter = Rewriter::new(alloc, page, links.limit)?;
+    'reading: while !rewriter.is_done() {
+        rewriter.parts(links)?;
     }
-    out.extend_from_slice(cuts.last())?;
-    if out.len() > limit {
-        return Ok(None);
-    }
-    Ok(Some(Bytes::of(out)))
+    rewriter.finish(links.limit)
 }
 
-// Puts the links with what stands before each; false as soon as more than the limit is written.
-fn put_cuts(out: &mut Vec<u8>, cuts: &[Cut], links: &Links, limit: usize) -> Result<bool, Memory>
-    ensures { IfOk result (λ fits. MatchBool fits
-        (out.new.items ≡ out.old.items ++ spec.cuts_text (link links.now.prefix.items links.now.base) cuts.now)
-        (limit < length (out.old.items ++ spec.cuts_text (link links.now.prefix.items links.now.base) cuts.now))) }
-{
-    for cut in cuts {
-        out.extend_from_slice(cut.plain)?;
-        links.put(out, cut.value)?;
-        if limit < out.len() {
-            return Ok(false);
+impl Rewriter<'_> {
+    /// Reads what opens here, or all bytes up to the next place where something may open.
+    fn parts(&mut self, links: &Links) -> Result<(), Memory>
+        requires { 0 < length (spec.ahead self.old) }
+        ensures { OnOk result (ReadsParts links.now.limit (link_by links.now) self.old self.new) }
+    {
+        let ahead = self.ahead();
+        match opening_at(ahead) {
+            Opening::Comment => self.pass(through_len(ahead, 4, b"-->")),
+            Opening::Declaration => self.pass(through_len(ahead, 2, b">")),
+            Opening::EndTag => self.pass(through_len(ahead, 2, b">")),
+            Opening::StartTag => return self.tag(links),
+            Opening::Other => self.pass(plain_len(ahead)),
         }
+        Ok(())
     }
-    Ok(true)
 }

@@ -6,7 +6,7 @@ ghost use Rattle.html_rewrite.specs.Bytes as bytes_spec;
 ghost use Rattle.html_rewrite.specs.Split.{IsRawText};
 ghost use Rattle.html_rewrite.specs.Split as spec;
 
-use crate::bytes::is_name_end;
+use crate::bytes::{is_name_end, place_of};
 use crate::names::is_raw_text;
 
 /// How long the text is that is passed over behind the start tag of this element.
@@ -21,13 +21,15 @@ pub fn raw_text_len(element: &[u8], text: &[u8]) -> usize
     }
 }
 
+/// Where the element's end tag begins first, or the text's length where it doesn't.
 fn len_before_end_tag(element: &[u8], text: &[u8]) -> usize
     ensures within { result ≤ length text.now }
     ensures front { bytes_spec.IsUpTo (spec.ends_raw_text element.now) (take result text.now) (drop result text.now) }
 {
-    let mut len = 0;
+    let mut len = place_of(b'<', text);
     'places: while len < text.len() && !is_end_tag(element, &text[len..]) {
         len += 1;
+        len += place_of(b'<', &text[len..]);
     }
     len
 }

@@ -3,6 +3,7 @@ ghost use Rattle.std.specs.Prelude.{◌≡◌, ◌++◌, ◌≤◌, length, IfOk
 ghost use Rattle.html_rewrite.specs.Links as spec;
 
 use capture::Memory;
+use memchr::memchr2;
 use std::alloc::Global;
 
 /// The value as it is read: each `&amp;` as `&`.
@@ -32,6 +33,18 @@ fn behind_reference(first: u8, others: &[u8]) -> &[u8]
 
 /// Puts the address behind what is written, so that it is read back from a value in any quotes.
 pub fn put_escaped(out: &mut Vec<u8>, address: &[u8]) -> Result<(), Memory>
+    ensures { OnOk result (out.new.items ≡ out.old.items ++ spec.escaped address.now) }
+{
+    match memchr2(b'&', b'\'', address) {
+        Some(_) => put_escaped_bytes(out, address),
+        None => {
+            out.extend_from_slice(address)?;
+            Ok(())
+        }
+    }
+}
+
+fn put_escaped_bytes(out: &mut Vec<u8>, address: &[u8]) -> Result<(), Memory>
     ensures { OnOk result (out.new.items ≡ out.old.items ++ spec.escaped address.now) }
 {
     for byte in address {

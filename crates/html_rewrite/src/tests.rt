@@ -1,6 +1,6 @@
 //! The limit of a page, which no case can say: the call that has it is private, and its limit is more than memory holds.
 use crate::link::Links;
-use crate::page::rewrite_within;
+use crate::page::rewrite_by;
 use capture::{Memory, Site, Text};
 use std::alloc::Global;
 use std::test::Fail;
@@ -16,8 +16,8 @@ fn fits(alloc: Global, page: &[u8], limit: usize) -> Result<bool, Memory> {
         host: Text::from_str(alloc, "localhost")?,
         port: 8080,
     };
-    let links = Links::new(alloc, PAGE, NOON, &site)?;
-    Ok(rewrite_within(alloc, page, &links, limit)?.is_some())
+    let links = Links::new(alloc, PAGE, NOON, &site, limit)?;
+    Ok(rewrite_by(alloc, page, &links)?.is_some())
 }
 
 // Pages, and how long they are once they are rewritten.

@@ -2,16 +2,16 @@
 use Rattle.std.proofs.Common.{◌≡◌, ◌∙◌, ◌+◌, List, ℕ, false, take, drop, ap, subst}
 use Rattle.std.specs.List.{prefix_len}
 use Rattle.html_rewrite.specs.Tags.{assigns, is_attribute_byte}
-use Rattle.html_rewrite.specs.Reading.{IsUnclosed, IsValueAt, ahead}
+use Rattle.html_rewrite.specs.Reading.{IsUnclosed, IsValueAt, ahead, link_by}
 use Rattle.html_rewrite.proofs.Steps.{reads_name, leads_missing, lacks_unclosed, leads_value}
-use Rattle.html_rewrite.proofs.cuts.Cuts.attribute.Goals as goal
+use Rattle.html_rewrite.proofs.rewriter.Rewriter.attribute.Goals as goal
 
 pub returns-in-Missing : goal.returns-in-Missing
 returns-in-Missing c =
     let name = c.attribute_name-name.result.now in
     let is : name ≡ take (1 + prefix_len is_attribute_byte (drop 1 (ahead c.pass.new.self))) (ahead c.pass.new.self) = c.attribute_name-name.ensures ∙ ap (λ x. take (1 + prefix_len is_attribute_byte (drop 1 x)) x) c.ahead.ensures in
     let named = reads_name c.args.self.now c.pass.new.self c.pass-2.new.self c.args.gap name c.requires c.pass.ensures is c.pass-2.ensures in
-    leads_missing c.args.element.now name c.args.gap c.args.self.now c.pass-2.new.self named (subst (λ (x : List ℕ). assigns x ≡ false) c.ahead-2.ensures c.in-Missing.ensures)
+    leads_missing c.args.links.now.limit (link_by c.args.links.now) c.args.element.now name c.args.gap c.args.self.now c.pass-2.new.self named (subst (λ (x : List ℕ). assigns x ≡ false) c.ahead-2.ensures c.in-Missing.ensures)
 
 pub returns-in-Unclosed : goal.returns-in-Unclosed
 returns-in-Unclosed c =
@@ -26,4 +26,4 @@ returns-in_ok-value-in-Value c =
     let is : name ≡ take (1 + prefix_len is_attribute_byte (drop 1 (ahead c.pass.new.self))) (ahead c.pass.new.self) = c.attribute_name-name.ensures ∙ ap (λ x. take (1 + prefix_len is_attribute_byte (drop 1 x)) x) c.ahead.ensures in
     let named = reads_name c.args.self.now c.pass.new.self c.pass-2.new.self c.args.gap name c.requires c.pass.ensures is c.pass-2.ensures in
     let found = subst (λ (x : List ℕ). IsValueAt x c.in-Value.lead c.in-Value.len c.in-Value.closing) c.ahead-2.ensures c.in-Value.ensures in
-    leads_value c.args.element.now name c.args.gap c.in-Value.lead c.in-Value.len c.in-Value.closing c.args.self.now c.pass-2.new.self c.pass-in-Value.new.self c.value.new.self c.pass-in-Value-2.new.self named found c.pass-in-Value.ensures c.in_ok-value-in-Value.ensures c.pass-in-Value-2.ensures
+    leads_value c.args.links.now.limit (link_by c.args.links.now) c.args.element.now name c.args.gap c.in-Value.lead c.in-Value.len c.in-Value.closing c.args.self.now c.pass-2.new.self c.pass-in-Value.new.self c.value.new.self c.pass-in-Value-2.new.self named found c.pass-in-Value.ensures c.in_ok-value-in-Value.ensures c.pass-in-Value-2.ensures

@@ -1,6 +1,6 @@
 use Rattle.std.proofs.Common.{◌≡◌, ◌++◌, take}
 use Rattle.html_rewrite.specs.Links.{escaped}
-use Rattle.html_rewrite.proofs.reference.put_escaped.Given as goal
+use Rattle.html_rewrite.proofs.reference.put_escaped_bytes.Given as goal
 
 -- the bytes so far
 abbrev pub invariant-loop-byte : goal.invariant-loop-byte
