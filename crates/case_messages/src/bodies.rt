@@ -49,9 +49,18 @@ fn fed(alloc: Global, reader: BodyReader, stream: &[u8], length: usize) -> Resul
     let wire = reader.into_wire();
     let wire = wire.as_slice();
     match progress {
-        BodyProgress::More => came(alloc, b"More", wire, payload_of_cut(alloc, framing, wire)),
+        BodyProgress::More => came(alloc, b"More", wire, payload_so_far(alloc, framing, wire)),
         BodyProgress::Whole => came(alloc, b"Whole", wire, payload_of(alloc, framing, wire)),
         BodyProgress::Refused(fault) => reached(alloc, fault_text(fault), wire),
+    }
+}
+
+/// What came of the payload of a body that is to go on.
+fn payload_so_far(alloc: Global, framing: Framing, wire: &[u8]) -> Result<Bytes, PayloadFault> {
+    match framing {
+        // Where the stream ended here the body would be whole.
+        Framing::ToEnd => payload_of(alloc, framing, wire),
+        _ => payload_of_cut(alloc, framing, wire),
     }
 }
 

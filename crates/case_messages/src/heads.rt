@@ -1,10 +1,10 @@
 //! Calls of `http_head`.
 use capture::{Items, Memory, put_all, put_number};
-use case_language::in_pieces;
+use case_language::{in_pieces, split_front};
 use case_texts::told;
 use http_head::{
-    Field, HeadProgress, HeadReader, RequestHead, ResponseHead, Version, WireFault, read_head,
-    read_request_head,
+    Field, HeadProgress, HeadReader, RequestHead, ResponseHead, Version, WireFault,
+    find_section_end, first_value, read_head, read_request_head, read_section,
 };
 use std::alloc::Global;
 
@@ -50,6 +50,50 @@ fn version_text(version: Version) -> &'static [u8] {
     match version {
         Version::Http10 => b"HTTP/1.0",
         Version::Http11 => b"HTTP/1.1",
+    }
+}
+
+/// The fields of a section, or the fault.
+pub fn section(alloc: Global, text: &[u8]) -> Result<Vec<u8>, Memory> {
+    match read_section(alloc, text) {
+        Ok(fields) => {
+            let mut out = told(alloc, b"Section")?;
+            put_fields(&mut out, &fields)?;
+            Ok(out)
+        }
+        Err(WireFault::Malformed) => told(alloc, b"Malformed"),
+        Err(_) => Err(Memory),
+    }
+}
+
+/// The value of the first field of the section that has the name in front of the first space, or that there is none.
+pub fn section_value(alloc: Global, text: &[u8]) -> Result<Option<Vec<u8>>, Memory> {
+    let Some((name, section)) = split_front(text) else {
+        return Ok(None);
+    };
+    match read_section(alloc, section) {
+        Ok(fields) => Ok(Some(value_shown(alloc, &fields, name)?)),
+        Err(WireFault::Malformed) => Ok(None),
+        Err(_) => Err(Memory),
+    }
+}
+
+fn value_shown(alloc: Global, fields: &Items<Field>, name: &[u8]) -> Result<Vec<u8>, Memory> {
+    match first_value(fields.as_slice(), name) {
+        Some(value) => told(alloc, value),
+        None => told(alloc, b"None"),
+    }
+}
+
+/// How many bytes go up to the end of a section, or that it doesn't end.
+pub fn section_end(alloc: Global, text: &[u8]) -> Result<Vec<u8>, Memory> {
+    match find_section_end(text) {
+        Some(end) => {
+            let mut out = Vec::new(alloc);
+            put_number(&mut out, end as u64)?;
+            Ok(out)
+        }
+        None => told(alloc, b"None"),
     }
 }
 

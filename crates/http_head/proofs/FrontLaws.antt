@@ -30,7 +30,7 @@ rest_len-step q b s going = further-going q (rest_len (next_seek q b) s) going
 none_is_not_some : (n : ℕ) → None ≡ Some n → ⊥
 none_is_not_some n e = cc
 
-rest_len-stays : (q : Seek) (s t : List ℕ) (n : ℕ) → rest_len q s ≡ Some n → rest_len q (s ++ t) ≡ Some n
+pub rest_len-stays : (q : Seek) (s t : List ℕ) (n : ℕ) → rest_len q s ≡ Some n → rest_len q (s ++ t) ≡ Some n
 rest_len-stays q [] t n e =
     elim (ended_or_not q) [
       | inl ended ↦ rest_len-at_ended q t ended ∙ ap Some (sym (at_end-some q n e))

@@ -103,7 +103,7 @@ line_feeds-fields (f ∷ fields) =
       line_feeds-fields fields,
     )
 
-line_feeds-section : (front : List ℕ) (fields : List Field) (last : LineEnd) (rest : List ℕ)
+pub line_feeds-section : (front : List ℕ) (fields : List Field) (last : LineEnd) (rest : List ℕ)
     → length fields ≤ line_feeds ((front ++ print_section fields last) ++ rest)
 line_feeds-section front fields last rest =
     omega (

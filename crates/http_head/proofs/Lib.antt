@@ -2,5 +2,7 @@ mod BlankLaws
 mod FeedLaws
 mod FrontLaws
 mod GrammarLaws
+mod LimitLaws
 mod ParseLaws
+mod SectionLaws
 mod SeekLaws

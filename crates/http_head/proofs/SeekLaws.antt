@@ -231,13 +231,13 @@ shift-none k None e = refl
 shift-none k (Some m) e = cc
 
 -- while the machine goes on, no end is found
-rest_len-going : (q : Seek) (s : List ℕ) → seek_after q s ≢ Ended → rest_len q s ≡ None
+pub rest_len-going : (q : Seek) (s : List ℕ) → seek_after q s ≢ Ended → rest_len q s ≡ None
 rest_len-going q [] going = at_end-going q going
 rest_len-going q (b ∷ s) going =
     further-going q _ (going_first q (b ∷ s) going) ∙ ap (shift 1) (rest_len-going (next_seek q b) s going)
 
 -- where it ends, an end is found
-rest_len-some : (q : Seek) (s : List ℕ) → seek_after q s ≡ Ended → rest_len q s ≢ None
+pub rest_len-some : (q : Seek) (s : List ℕ) → seek_after q s ≡ Ended → rest_len q s ≢ None
 rest_len-some q [] ended e = let f : at_end Ended ≡ None = ap at_end (sym ended) ∙ e in cc
 rest_len-some Before (b ∷ s) ended e = rest_len-some (next_seek Before b) s ended (shift-none 1 _ e)
 rest_len-some BeforeCr (b ∷ s) ended e = rest_len-some (next_seek BeforeCr b) s ended (shift-none 1 _ e)
@@ -247,7 +247,7 @@ rest_len-some AfterLfCr (b ∷ s) ended e = rest_len-some (next_seek AfterLfCr b
 rest_len-some Ended (b ∷ s) ended e = cc
 
 -- an end that one byte makes is behind that byte
-rest_len-last : (q : Seek) (s : List ℕ) (b n : ℕ) → seek_after q s ≢ Ended → rest_len q (s ++ b ∷ []) ≡ Some n
+pub rest_len-last : (q : Seek) (s : List ℕ) (b n : ℕ) → seek_after q s ≢ Ended → rest_len q (s ++ b ∷ []) ≡ Some n
     → n ≡ length s + 1
 rest_len-last q [] b n going e =
     let m = shift-some 1 (at_end (next_seek q b)) n (sym (further-going q _ going) ∙ e) in

@@ -21,7 +21,7 @@ abbrev pub named_value : Field → NamedValue
 named_value f = (f.name, f.value)
 
 -- the parts are those of the request head h, whose text this is
-pub record IsRequestOf (text : List ℕ) (h : grammar.RequestHead) (head : RequestHead) : Type 0 where
+pub record HoldsRequestParts (text : List ℕ) (h : grammar.RequestHead) (head : RequestHead) : Type 0 where
   pub reads : IsRequestHeadText text h
   pub method : head.method ≡ h.method
   pub target : head.target ≡ h.target
@@ -30,7 +30,7 @@ pub record IsRequestOf (text : List ℕ) (h : grammar.RequestHead) (head : Reque
   pub text_is : head.text ≡ text
 
 -- the parts are those of the response head h, whose text this is
-pub record IsResponseOf (text : List ℕ) (h : grammar.ResponseHead) (head : ResponseHead) : Type 0 where
+pub record HoldsResponseParts (text : List ℕ) (h : grammar.ResponseHead) (head : ResponseHead) : Type 0 where
   pub reads : IsResponseHeadText text h
   pub status : head.status ≡ grammar.status_code h
   pub reason : head.reason ≡ grammar.reason_phrase h.reason
@@ -40,11 +40,11 @@ pub record IsResponseOf (text : List ℕ) (h : grammar.ResponseHead) (head : Res
 
 -- the parts are those of a request head
 abbrev pub HoldsRequest : List ℕ → RequestHead → Type 0
-HoldsRequest text head = (h : grammar.RequestHead) × IsRequestOf text h head
+HoldsRequest text head = (h : grammar.RequestHead) × HoldsRequestParts text h head
 
 -- the parts are those of a response head
 abbrev pub HoldsResponse : List ℕ → ResponseHead → Type 0
-HoldsResponse text head = (h : grammar.ResponseHead) × IsResponseOf text h head
+HoldsResponse text head = (h : grammar.ResponseHead) × HoldsResponseParts text h head
 
 -- the faults of a text that is read without limits
 abbrev pub IsHeadFault : WireFault → Type 0

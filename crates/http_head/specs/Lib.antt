@@ -3,3 +3,4 @@ pub mod HeadReading
 pub mod HeadSeek
 pub mod HeadSpans
 pub mod Heads
+pub mod Sections

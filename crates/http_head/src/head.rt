@@ -1,5 +1,8 @@
 //! Heads in parts, each part with memory of its own.
-use capture::{Bytes, Framing, Items, Text};
+ghost use Rattle.std.specs.Prelude.{◌≡◌};
+
+use capture::{Bytes, Framing, Items, Memory, Text};
+use thiserror::Error;
 
 /// The minor version of HTTP/1.
 #[derive(Clone, Copy, Debug, PartialEq, Eq)]
@@ -72,18 +75,34 @@ pub struct Received {
 }
 
 /// Why bytes are no message.
-#[derive(Clone, Copy, Debug, PartialEq, Eq)]
+#[derive(Clone, Copy, Debug, PartialEq, Eq, Error)]
 pub enum WireFault {
     /// They aren't in the grammar of HTTP/1.1.
+    #[error("not in the grammar of HTTP/1.1")]
     Malformed,
     /// A head or a trailer section passes its limit.
+    #[error("a head or a trailer section is too long")]
     HeadTooLong,
     /// A body passes its limit.
+    #[error("a body is too long")]
     BodyTooLong,
     /// A transfer coding isn't `chunked` alone.
+    #[error("a transfer coding that isn't `chunked` alone")]
     CodingRefused,
     /// They end inside a message.
+    #[error("the end stands inside a message")]
     EndedEarly,
     /// There was no memory.
+    #[error("no memory")]
     Memory,
+}
+
+impl From<Memory> for WireFault {
+    ghost use Rattle.http_head.specs.declared.head.WireFault.TheVariants.{Memory as OutOfMemory};
+
+    ghost from_gives = { λ _ fault. fault ≡ OutOfMemory };
+
+    fn from(_error: Memory) -> WireFault {
+        WireFault::Memory
+    }
 }

@@ -8,13 +8,12 @@ ghost use Rattle.http_head.specs.Heads.{HoldsRequest, HoldsResponse, IsHeadFault
 ghost use Rattle.http_head.specs.HeadSpans.{SpansRequest, SpansResponse};
 
 use super::head::{RequestHead, ResponseHead, WireFault};
-use super::lines::{count_line_feeds, line_ends_len};
+use super::lines::line_ends_len;
 use super::parts::{copy_bytes, copy_fields, copy_text, version_of};
+use super::section::make_headers;
 use capture::Memory;
 use httparse::Status;
-use httparse::spans::{
-    EMPTY_HEADER_SPAN, HeaderSpan, RequestSpans, ResponseSpans, parse_request, parse_response,
-};
+use httparse::spans::{HeaderSpan, RequestSpans, ResponseSpans, parse_request, parse_response};
 use std::alloc::Global;
 
 /// The least status code (RFC 9110, section 15).
@@ -30,15 +29,9 @@ pub fn read_request_head(alloc: Global, text: &[u8]) -> Result<RequestHead, Wire
     ensures malformed { IsErrOf result WireFault.Malformed → (h : RequestForm) → ¬ (IsRequestHeadText text.now h) }
     ensures faults { IfErr result IsHeadFault }
 {
-    let mut headers = match make_headers(alloc, text) {
-        Ok(headers) => headers,
-        Err(Memory) => return Err(WireFault::Memory),
-    };
+    let mut headers = make_headers(alloc, text)?;
     match find_request(text, headers.as_mut_slice()) {
-        Some(spans) => match copy_request(alloc, text, headers.as_slice(), spans) {
-            Ok(head) => Ok(head),
-            Err(Memory) => Err(WireFault::Memory),
-        },
+        Some(spans) => Ok(copy_request(alloc, text, headers.as_slice(), spans)?),
         None => Err(WireFault::Malformed),
     }
 }
@@ -50,25 +43,11 @@ pub fn read_head(alloc: Global, text: &[u8]) -> Result<ResponseHead, WireFault>
     ensures malformed { IsErrOf result WireFault.Malformed → (h : ResponseForm) → ¬ (IsResponseHeadText text.now h) }
     ensures faults { IfErr result IsHeadFault }
 {
-    let mut headers = match make_headers(alloc, text) {
-        Ok(headers) => headers,
-        Err(Memory) => return Err(WireFault::Memory),
-    };
+    let mut headers = make_headers(alloc, text)?;
     match find_response(text, headers.as_mut_slice()) {
-        Some(spans) => match copy_response(alloc, text, headers.as_slice(), spans) {
-            Ok(head) => Ok(head),
-            Err(Memory) => Err(WireFault::Memory),
-        },
+        Some(spans) => Ok(copy_response(alloc, text, headers.as_slice(), spans)?),
         None => Err(WireFault::Malformed),
     }
-}
-
-/// Room for the header of each line of the text.
-fn make_headers(alloc: Global, text: &[u8]) -> Result<Vec<HeaderSpan>, Memory>
-    ensures { IfOk result (λ headers. length headers.items ≡ count_by (λ b. b == line_feed) text.now) }
-{
-    let headers = vec![in alloc; EMPTY_HEADER_SPAN; count_line_feeds(text)]?;
-    Ok(headers)
 }
 
 /// Where the parts of the request head are that the text is.

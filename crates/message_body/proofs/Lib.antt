@@ -2,6 +2,7 @@ mod ChunkEndLaws
 mod ChunkEndSteps
 mod ChunkTrailerLaws
 mod ChunkTrailerSteps
+mod CutLimits
 mod DecodeLaws
 mod FeedLaws
 mod FieldLaws
@@ -10,7 +11,7 @@ mod LineSteps
 mod MemberLaws
 mod NumberLaws
 mod PlaceLaws
-mod SectionLaws
+mod RunLaws
 mod SplitLaws
 mod SplitSteps
 mod TrailerLaws

@@ -1,7 +1,6 @@
 -- The machine finds the end of a trailer section where the definition says.
-use Rattle.std.proofs.Common.{◌≡◌, ◌≢◌, ℕ, ◌+◌, ◌<◌, ◌≤◌, false, eqb, List, [], ◌∷◌, ◌++◌, length, take, drop, get_or, Option, Some, None, ◌⊎◌, inl, inr, refl, sym, ap, subst, ◌∙◌, length-take, arith}
+use Rattle.std.proofs.Common.{◌≡◌, ◌≢◌, ℕ, ◌+◌, false, eqb, List, [], ◌∷◌, ◌++◌, length, Option, Some, None, ◌⊎◌, inl, inr, refl, sym, ap, subst, ◌∙◌, arith}
 use Rattle.std.specs.Prelude.{option_map}
-use Rattle.std.proofs.lemmas.List.{take_more, take-append-drop, drop_more, take_all}
 use Rattle.std.proofs.lemmas.Bool.Decides.{eqb_tells}
 use Rattle.capture.specs.Head.{head_len, section_len, empty_line_len}
 use Rattle.message_body.specs.TrailerPlaces.{next_place, place_after}
@@ -151,11 +150,6 @@ pub place_after-append : (q : TrailerPlace) (s t : List ℕ) → place_after q (
 place_after-append q [] t = refl
 place_after-append q (b ∷ s) t = place_after-append (next_place q b) s t
 
-pub place_after-take_more : (q : TrailerPlace) (s : List ℕ) (i : ℕ) → i < length s
-    → place_after q (take (i + 1) s) ≡ next_place (place_after q (take i s)) (get_or s i 0)
-place_after-take_more q s i h =
-    ap (place_after q) (take_more s i 0 h) ∙ place_after-append q (take i s) (get_or s i 0 ∷ [])
-
 -- before a place that isn't the end none was
 going_before : (q : TrailerPlace) (s t : List ℕ) → place_after q (s ++ t) ≢ Ended → place_after q s ≢ Ended
 going_before q s t going ended =
@@ -196,26 +190,3 @@ open_section s going = section_is_rest s ∙ rest_len-going LineStart s going
 pub section_ends : (s : List ℕ) (b : ℕ) (t : List ℕ) → place_after LineStart s ≢ Ended
     → next_place (place_after LineStart s) b ≡ Ended → section_len (s ++ b ∷ t) ≡ Some (length s + 1)
 section_ends s b t going ends = section_is_rest (s ++ b ∷ t) ∙ rest_len-ends LineStart s b t going ends
-
-split_at_byte : (s : List ℕ) (i : ℕ) → i < length s → s ≡ take i s ++ get_or s i 0 ∷ drop (i + 1) s
-split_at_byte s i inside = sym (take-append-drop i s) ∙ ap (λ r. take i s ++ r) (drop_more s i 0 inside)
-
--- the machine meets the end at the byte i
-pub ends_at : (s : List ℕ) (place : TrailerPlace) (i : ℕ) → i < length s → place ≡ place_after LineStart (take i s) → place ≢ Ended
-    → next_place place (get_or s i 0) ≡ Ended → section_len s ≡ Some (i + 1)
-ends_at s place i inside is going ends =
-    ap section_len (split_at_byte s i inside)
-    ∙ section_ends (take i s) (get_or s i 0) (drop (i + 1) s) (λ e. going (is ∙ e)) (ap (λ p. next_place p (get_or s i 0)) (sym is) ∙ ends)
-    ∙ ap Some (omega (arith, length-take i s))
-
--- it doesn't meet the end
-pub open_at : (s : List ℕ) (place : TrailerPlace) (i : ℕ) → length s ≤ i → place ≡ place_after LineStart (take i s) → place ≢ Ended
-    → section_len s ≡ None
-open_at s place i past is going =
-    open_section s (λ e. going (is ∙ ap (place_after LineStart) (take_all i s past) ∙ e))
-
--- the machine goes on at the byte i
-pub goes_on : (s : List ℕ) (place next : TrailerPlace) (i : ℕ) → i < length s → place ≡ place_after LineStart (take i s)
-    → next ≡ next_place place (get_or s i 0) → next ≡ place_after LineStart (take (i + 1) s)
-goes_on s place next i inside is step =
-    step ∙ ap (λ p. next_place p (get_or s i 0)) is ∙ sym (place_after-take_more LineStart s i inside)

@@ -4,8 +4,8 @@ pub mod BodyStream
 pub mod ChunkPlaces
 pub mod Decoding
 pub mod Framings
+pub mod Lent
 pub mod Numerals
 pub mod Readings
-pub mod Sections
 pub mod Splits
 pub mod TrailerPlaces

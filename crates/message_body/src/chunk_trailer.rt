@@ -4,9 +4,9 @@ ghost use Rattle.message_body.specs.ChunkPlaces.{StandsAt, InTrailerAt};
 ghost use Rattle.message_body.specs.TrailerPlaces.{next_place};
 
 use crate::chunk_place::ChunkPlace;
-use crate::section::{is_section, line_count};
 use crate::trailer::TrailerPlace;
 use capture::{BODY_LIMIT, FIELD_LIMIT, HEAD_LIMIT, Memory, MessageFault};
+use http_head::{count_line_feeds, is_section};
 use std::alloc::Global;
 
 /// Where the body stands behind the byte at this index, which stands in the trailer section.
@@ -51,7 +51,7 @@ fn judge_trailer(
 {
     let (come, _) = text.split_at(at + 1);
     let (_, section) = come.split_at(start);
-    if line_count(section) > FIELD_LIMIT + 1 {
+    if count_line_feeds(section) > FIELD_LIMIT + 1 {
         return Ok(ChunkPlace::Refused(MessageFault::HeadTooLong));
     }
     if at as u64 == BODY_LIMIT {

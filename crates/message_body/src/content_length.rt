@@ -6,7 +6,6 @@ ghost use Rattle.capture.specs.declared.framing.FramingFault.TheVariants.{Malfor
 ghost use Rattle.http_head.specs.Heads.{named_value};
 ghost use Rattle.message_body.specs.Framings.{members, told_behind, length_answer};
 
-use crate::fields::is_named;
 use crate::members::split_member;
 use crate::number::Number;
 use http_head::{Field, WireFault};
@@ -18,7 +17,7 @@ pub fn length_of(fields: &[Field]) -> Result<u64, WireFault>
 {
     let mut known = None;
     for field in fields {
-        if is_named(field, b"content-length") {
+        if field.has_name(b"content-length") {
             match read_members(field.value.as_slice(), known) {
                 Some(number) => known = Some(number),
                 None => return Err(WireFault::Malformed),

@@ -2,10 +2,9 @@
 ghost use Rattle.std.specs.Prelude.{◌≡◌, IfOk};
 ghost use Rattle.message_body.specs.Decoding.{IsDecoded, IsTrailerSeen};
 
-use crate::section::is_section;
 use crate::split::{Split, split_chunk};
-use crate::trailer::trailer_end;
 use capture::{Bytes, Memory, heads_end_at_the_first_empty_line};
+use http_head::{find_section_end, is_section};
 use std::alloc::Global;
 
 /// What a text is that was decoded as a chunked body.
@@ -67,7 +66,7 @@ fn trailer_of(alloc: Global, text: &[u8]) -> Result<TrailerSeen, Memory>
     ensures { IfOk result (IsTrailerSeen text.now) }
 {
     heads_end_at_the_first_empty_line();
-    match trailer_end(text) {
+    match find_section_end(text) {
         None => Ok(TrailerSeen::Open),
         Some(end) => {
             if end != text.len() {

@@ -6,21 +6,12 @@ ghost use Rattle.http_head.specs.Heads.{named_value};
 
 use http_head::Field;
 
-/// Whether the field has this name, which is given in lower case.
-pub fn is_named(field: &Field, name: &[u8]) -> bool
-    requires { lowered name.now ≡ name.now }
-    ensures { result ≡ spec.is_named name.now (named_value field.now) }
-{
-    field.name.as_slice().eq_ignore_ascii_case(name)
-}
-
-/// Whether some field has this name, which is given in lower case.
+/// Whether some field has this name, with ASCII case ignored.
 pub fn has_field(fields: &[Field], name: &[u8]) -> bool
-    requires { lowered name.now ≡ name.now }
-    ensures { result ≡ spec.has_field name.now (map named_value fields.now) }
+    ensures { result ≡ spec.has_field (lowered name.now) (map named_value fields.now) }
 {
     for field in fields {
-        if is_named(field, name) {
+        if field.has_name(name) {
             return true;
         }
     }

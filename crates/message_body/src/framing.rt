@@ -8,7 +8,7 @@ ghost use Rattle.http_head.specs.Heads.{named_value};
 ghost use Rattle.message_body.specs.Framings.{framing_answer, told_by_request, told_by_response};
 
 use crate::content_length::length_of;
-use crate::fields::{has_field, is_named};
+use crate::fields::has_field;
 use capture::Framing;
 use http_head::{Field, RequestHead, ResponseHead, Version, WireFault};
 
@@ -76,10 +76,7 @@ fn is_bodiless(status: u16) -> bool
 fn framing_of_length(fields: &[Field]) -> Result<Framing, WireFault>
     ensures { result ≡ framing_answer (framed_by_length (map named_value fields.now)) }
 {
-    match length_of(fields) {
-        Ok(length) => Ok(Framing::Length(length)),
-        Err(fault) => Err(fault),
-    }
+    Ok(Framing::Length(length_of(fields)?))
 }
 
 /// The framing by the fields Transfer-Encoding, beside which no field Content-Length may stand.
@@ -109,7 +106,7 @@ fn is_chunked(fields: &[Field]) -> bool
     ensures { result ≡ spec.is_chunked (values_of transfer_encoding (map named_value fields.now)) }
 {
     for (i, field) in fields.iter().enumerate() {
-        if is_named(field, b"transfer-encoding") {
+        if field.has_name(b"transfer-encoding") {
             let (_, behind) = fields.split_at(i + 1);
             if has_field(behind, b"transfer-encoding") {
                 return false;

@@ -11,6 +11,9 @@ use capture::{Bytes, Framing, Memory};
 use std::alloc::Global;
 use std::marker::Model;
 
+/// How many bytes of a length that was told are reserved before any has come, at most.
+const FIRST_RESERVE: u64 = 1_048_576;
+
 /// Collects a body behind its head (RFC 9112, sections 6 and 7.1). A contract sees the framing and the bytes of the
 /// body that came.
 #[derive(Debug, Drop)]
@@ -33,7 +36,7 @@ impl Model for BodyReader {
 
 impl BodyReader {
     /// A reader at the start of a body, which its head tells to be within the limit. The bytes of a length that was
-    /// told are reserved at once.
+    /// told are reserved at once up to 1 MiB; further ones as bytes come, so that a length alone holds no memory.
     pub fn new(alloc: Global, framing: Framing) -> Result<BodyReader, Memory>
         requires { IsShortFraming framing }
         ensures { IfOk result (λ reader. reader ≡ record { framing = framing; stream = [] }) }
@@ -45,7 +48,7 @@ impl BodyReader {
             }),
             Framing::Length(length) => Ok(BodyReader {
                 reading: Reading::Length(length),
-                wire: Vec::with_capacity(alloc, length as usize)?,
+                wire: Vec::with_capacity(alloc, length.min(FIRST_RESERVE) as usize)?,
             }),
             Framing::Chunked => Ok(BodyReader {
                 reading: Reading::Chunked(ChunkPlace::Line(0)),

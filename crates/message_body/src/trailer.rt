@@ -1,6 +1,5 @@
 //! Finds the end of a trailer section byte by byte.
 ghost use Rattle.std.specs.Prelude.{◌≡◌};
-ghost use Rattle.capture.specs.Head.{section_len};
 ghost use Rattle.message_body.specs.TrailerPlaces.{next_place};
 
 /// Where a trailer section so far stands.
@@ -29,18 +28,4 @@ impl TrailerPlace {
             _ => TrailerPlace::InLine,
         }
     }
-}
-
-/// How many bytes of the text go up to and with the empty line that ends a trailer section (RFC 9112, section 7.1.2).
-pub fn trailer_end(text: &[u8]) -> Option<usize>
-    ensures { result ≡ section_len text.now }
-{
-    let mut place = TrailerPlace::LineStart;
-    for (i, byte) in text.iter().enumerate() {
-        place = place.after(*byte);
-        if let TrailerPlace::Ended = place {
-            return Some(i + 1);
-        }
-    }
-    None
 }

@@ -5,4 +5,5 @@ use Rattle.message_body.proofs.payload.payload_of.Goals as goal
 
 pub returns-in-Chunked-clause-malformed : goal.returns-in-Chunked-clause-malformed
 returns-in-Chunked-clause-malformed c = λ fault payload is.
-    c.joined.ensures.malformed fault payload (subst (λ f. IsPayload false f c.args.wire.now payload) c.in-Chunked.is is)
+    let joined = subst (λ f. IsPayload false f c.args.wire.now payload) c.in-Chunked.is is in
+    c.joined.ensures.malformed fault (joined.0, joined.1, joined.2)
