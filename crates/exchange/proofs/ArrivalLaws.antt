@@ -6,13 +6,12 @@ use Rattle.std.proofs.Math.Seq.{take-append_seam, drop-append_seam}
 use Rattle.std.proofs.lemmas.Bool.{lt-ltb}
 use Rattle.std.proofs.lemmas.Grind.{flat_map-append}
 use Rattle.std.proofs.lemmas.List.Elements.{All-cons, All-nil, All-append}
-use Rattle.httparse.proofs.GrammarLemmas.{response_unique}
 use Rattle.httparse.specs.Grammar.{ResponseHead, status_code}
 use Rattle.capture.specs.Body.{IsBody, IsCutWire, IsWire}
 use Rattle.capture.specs.Final.{IsInterim, BeginsWithInterim, BehindInterims, Arrived, IsArrival}
 use Rattle.capture.specs.First.{Responses, First, Message, Refused, NothingBegun, HeadNeeded, BodyNeeded, IsFirst, BehindHead, RefusesBody, BeginsBody, fault_at_head}
 use Rattle.capture.specs.Framing.{response_framing}
-use Rattle.capture.specs.Head.{front_of, Head, TooLong, Nothing, More}
+use Rattle.capture.specs.Head.{front_of, Head}
 use Rattle.capture.specs.Message.{IsResponseHeadText}
 use Rattle.capture.specs.declared.framing.Framing.{Framing}
 use Rattle.capture.specs.declared.framing.Framing.TheVariants.{Empty}
@@ -26,19 +25,11 @@ use Rattle.http_wire.specs.Messages.{IsResponse}
 use Rattle.exchange.specs.Fetches.{Answers, ComesTo, Inflow, Receives, Sends, Yields, GoesOnWith}
 use Rattle.exchange.specs.declared.fetching.FetchFault.{FetchFault}
 use Rattle.exchange.specs.declared.fetching.FetchFault.TheVariants.{DialFault, OriginFault, OriginEnded, OriginMalformed, OriginTooLong, TooManyInterim, Memory}
-use Rattle.exchange.proofs.FrontParts.{parts_of_head}
+use Rattle.http_wire.proofs.FrontParts.{parts_of_head}
+use Rattle.http_wire.proofs.OneHead.{no_head_in_more, no_head_is_none, no_head_too_long, one_head, one_parse}
 
 abbrev pub inflow : List ℕ → List ℕ → Inflow
 inflow given window = record { given = given; window = window }
-
--- ---- one text is one head
-
-pub one_parse : (text : List ℕ) (h k : ResponseHead) → IsResponseHeadText text h → IsResponseHeadText text k → h ≡ k
-one_parse text h k first second = (response_unique text h k [] [] first.reads second.reads).0
-
-pub one_head : (f : List ℕ) (skipped other : ℕ) (text text_too : List ℕ) → front_of f ≡ Head skipped text → front_of f ≡ Head other text_too
-    → text ≡ text_too
-one_head f skipped other text text_too e d = let same : Head skipped text ≡ Head other text_too = sym e ∙ d in cc
 
 -- ---- interim responses
 
@@ -86,15 +77,6 @@ IsFinal (Refused fault) = ⊤
 IsFinal NothingBegun = ⊥
 IsFinal HeadNeeded = ⊤
 IsFinal BodyNeeded = ⊤
-
-pub no_head_is_none : (k : ℕ) (t : List ℕ) → Nothing ≡ Head k t → ⊥
-no_head_is_none k t d = cc
-
-pub no_head_in_more : (k : ℕ) (t : List ℕ) → More ≡ Head k t → ⊥
-no_head_in_more k t d = cc
-
-pub no_head_too_long : (k : ℕ) (t : List ℕ) → TooLong ≡ Head k t → ⊥
-no_head_too_long k t d = cc
 
 abbrev ok_framing : Framing → Result Framing FramingFault
 ok_framing framing = Ok framing

@@ -12,9 +12,9 @@ use Rattle.capture.specs.declared.framing.FramingFault.{FramingFault}
 use Rattle.capture.specs.declared.framing.FramingFault.TheVariants.{Malformed, CodingRefused}
 use Rattle.http_wire.specs.Reading.{Standing, Open, IsUndecided}
 use Rattle.http_wire.specs.RequestReading.{EndsBetween}
-use Rattle.exchange.proofs.ArrivalLaws.{no_head_in_more, no_head_is_none}
-use Rattle.exchange.proofs.OneBody.{whole_or_cut}
-use Rattle.exchange.proofs.OneHead.{same_head, same_ok}
+use Rattle.http_wire.proofs.OneHead.{no_head_in_more, no_head_is_none}
+use Rattle.http_wire.proofs.OneBody.{whole_or_cut}
+use Rattle.http_wire.proofs.OneHead.{same_head, same_ok}
 
 -- ---- no request has a body up to the end
 

@@ -14,7 +14,7 @@ use Rattle.http_wire.specs.declared.progress.Progress.TheVariants.{More, Head}
 use Rattle.http_wire.specs.declared.progress.Progress.TheVariants.{Whole as WholeNow}
 use Rattle.exchange.specs.Receiving.{BringsHead, Feeds, Input, MayGoOn}
 use Rattle.exchange.proofs.AccountLaws.{split_window, front_of_window}
-use Rattle.exchange.proofs.FrontParts.{undecided_is_short}
+use Rattle.http_wire.proofs.FrontParts.{undecided_is_short}
 
 abbrev pub input : List ℕ → List ℕ → Input
 input stream window = record { stream = stream; window = window }

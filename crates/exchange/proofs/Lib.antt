@@ -3,24 +3,14 @@ mod AimLemmas
 mod AimedTargets
 mod ArrivalLaws
 mod BetweenLaws
-mod ChunkFronts
-mod DecisionLaws
 mod FeedLaws
 mod FilterLemmas
-mod FrontParts
 mod HostBytes
-mod LineFronts
 mod MemberLemmas
-mod OneArrival
-mod OneBody
-mod OneFirst
-mod OneHead
-mod RespondLaws
 mod ResponseLaws
-mod SectionFronts
 mod SendLaws
 mod SentFields
 mod SentFraming
-mod SentLaws
+pub mod SentLaws
 mod SentLengths
 mod WithinLaws

@@ -10,7 +10,7 @@ use Rattle.http_head.specs.declared.head.WireFault.TheVariants.{Malformed, HeadT
 use Rattle.http_wire.specs.HeldBodies.{closed_standing}
 use Rattle.http_wire.specs.Messages.{IsResponse}
 use Rattle.http_wire.specs.Reading.{Standing, Whole, Cut, HasFault, IsUndecided, Stands}
-use Rattle.exchange.specs.Decisions.{MessagesStay, RefusalsStay}
+use Rattle.http_wire.specs.Decisions.{MessagesStay, RefusalsStay}
 use Rattle.exchange.specs.Fetches.{Answers, CountsFetch, IsFaultOf, Yields}
 use Rattle.exchange.specs.Receiving.{StaysAccounted, AccountsFault, MeetsEnd, BeginsAccounted}
 use Rattle.exchange.specs.declared.fetching.FetchFault.{FetchFault}

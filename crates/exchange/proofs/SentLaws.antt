@@ -13,7 +13,7 @@ use Rattle.exchange.specs.Texts.{forwarded}
 use Rattle.exchange.specs.declared.aim.Target.{Target}
 use Rattle.http_head.specs.declared.head.RequestMessage.{RequestMessage}
 use Rattle.exchange.proofs.AimedTargets.{IsAimedAt, accepted, aimed_at}
-use Rattle.exchange.proofs.FrontParts.{parts_of_head}
+use Rattle.http_wire.proofs.FrontParts.{parts_of_head}
 use Rattle.exchange.proofs.HostBytes.{port_has_16_bits}
 use Rattle.exchange.proofs.SentFields.{head_sent, parts_of, path_fits, sent_head, sent_method, sent_text}
 use Rattle.exchange.proofs.SentFraming.{framed_as_sent, framing_sent}

@@ -9,9 +9,9 @@ use Rattle.http_head.specs.declared.head.Received.{Received}
 use Rattle.http_wire.specs.HeldBodies.{closed_standing}
 use Rattle.http_wire.specs.Messages.{IsResponse}
 use Rattle.http_wire.specs.Reading.{Standing, Stands}
-use Rattle.exchange.proofs.ArrivalLaws.{one_head}
-use Rattle.exchange.proofs.FrontParts.{body_is_short, parts_of_head}
-use Rattle.exchange.proofs.OneHead.{one_skipped}
+use Rattle.http_wire.proofs.OneHead.{one_head}
+use Rattle.http_wire.proofs.FrontParts.{body_is_short, parts_of_head}
+use Rattle.http_wire.proofs.OneHead.{one_skipped}
 
 pub whole_body_is_short : (framing : Framing) (ended : Bool) (rest : List ℕ) (used : ℕ) → HoldsBody framing ended rest used → used ≤ BODY_LIMIT
 whole_body_is_short Empty ended rest used holds = omega (arith, holds)

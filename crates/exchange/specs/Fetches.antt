@@ -15,10 +15,6 @@ use Rattle.exchange.specs.declared.aim.Target.{Target}
 use Rattle.exchange.specs.declared.fetching.FetchFault.{FetchFault}
 use Rattle.exchange.specs.declared.fetching.FetchFault.TheVariants.{DialFault, OriginFault, OriginEnded, OriginMalformed, OriginTooLong, TooManyInterim, Memory}
 
--- the response is one of a stream, whole or cut
-abbrev pub IsOneResponse : Bool → Received → Type 0
-IsOneResponse answers_head received = (stream : List ℕ) × IsResponse answers_head stream received
-
 -- the stream comes to this, behind the interim responses
 abbrev pub ComesTo : Bool → Bool → List ℕ → First → Type 0
 ComesTo answers_head ended given first = (behind : ℕ) × IsArrival answers_head ended given (Arrived behind first)

@@ -1,5 +1,4 @@
 pub mod Aim
-pub mod Decisions
 pub mod Fetches
 pub mod Receiving
 pub mod Refusals

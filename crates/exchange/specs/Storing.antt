@@ -1,16 +1,13 @@
--- What an exchange sends and receives is what a capture holds.
+-- What an exchange sends is what a capture holds.
 use Rattle.std.specs.Prelude.{◌≡◌, ℕ, ◌^◌, ◌<◌, ◌≤◌, List, length, IsTrue, Ok}
-use Rattle.capture.specs.Methods.{asks_for_head}
 use Rattle.capture.specs.Target.{is_accepted_uri}
-use Rattle.capture.specs.WellFormed.{IsRequestOf, RespondsTo}
+use Rattle.capture.specs.WellFormed.{IsRequestOf}
 use Rattle.capture.specs.declared.limits.TheConstants.{HEAD_LIMIT}
 use Rattle.capture.specs.declared.site.Site.{Site}
 use Rattle.exchange.specs.Aim.{aim_of}
-use Rattle.exchange.specs.Fetches.{IsOneResponse}
 use Rattle.exchange.specs.Texts.{forwarded}
 use Rattle.exchange.specs.declared.aim.Aim.TheVariants.{Origin}
 use Rattle.exchange.specs.declared.aim.Target.{Target}
-use Rattle.http_head.specs.declared.head.Received.{Received}
 use Rattle.http_head.specs.declared.head.RequestMessage.{RequestMessage}
 use Rattle.http_wire.specs.Messages.{IsRequest}
 
@@ -33,14 +30,3 @@ pub record CanBeForwarded (message : RequestMessage) (target : Target) : Type 0 
 -- so it is with each request that is aimed at an origin
 abbrev pub RequestsCanBeStored : Type 0
 RequestsCanBeStored = (message : RequestMessage) (target : Target) → IsForOrigin message target → CanBeForwarded message target
-
--- the response is one to a request of this method, whole or cut, and has a head within the limit
-pub record CanBePassedOn (received : Received) (method : List ℕ) : Type 0 where
-  pub responds : RespondsTo received.cut method received.head.text received.wire
-  pub short : length received.head.text ≤ HEAD_LIMIT
-
--- so it is with each final response that was read
-abbrev pub ResponsesCanBeStored : Type 0
-ResponsesCanBeStored =
-    (received : Received) (method : List ℕ) → IsOneResponse (asks_for_head method) received → 200 ≤ received.head.status
-    → CanBePassedOn received method

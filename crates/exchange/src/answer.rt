@@ -1,7 +1,7 @@
 //! The origin's response as the client gets it.
 ghost use Rattle.std.specs.Prelude.{◌≡◌, ◌++◌, OnOk, IfOk};
 ghost use Rattle.capture.specs.Payload.{IsPayload};
-ghost use Rattle.exchange.specs.Fetches.{IsOneResponse};
+ghost use Rattle.http_wire.specs.Messages.{IsOneResponse};
 ghost use Rattle.exchange.specs.Texts as spec;
 ghost use Rattle.exchange.specs.Texts.{answered, length_line_unless, told_length_line};
 

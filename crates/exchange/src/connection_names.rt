@@ -1,6 +1,5 @@
 //! The names that the Connection fields of a head list (RFC 9110, section 7.6.1).
 ghost use Rattle.std.specs.Prelude.{◌≡◌, map, IfOk};
-ghost use Rattle.capture.specs.Fields.{is_named, lowered};
 ghost use Rattle.http_head.specs.Heads.{named_value};
 ghost use Rattle.exchange.specs.Texts as spec;
 
@@ -16,7 +15,7 @@ pub fn connection_names(alloc: Global, fields: &[Field]) -> Result<Vec<&[u8]>, M
     // Most heads list no more names than they have fields.
     let mut names = Vec::with_capacity(alloc, fields.len())?;
     for field in fields {
-        if is_named(field, b"connection") {
+        if field.has_name(b"connection") {
             put_members(&mut names, field.value.as_slice())?;
         }
     }
@@ -29,14 +28,6 @@ pub fn is_listed(listed: &[&[u8]], name: &[u8]) -> bool
     ensures { result ≡ spec.is_listed (map (λ n. n.now) listed.now) name.now }
 {
     listed.iter().any(|member| is_same_name(member, name))
-}
-
-/// Whether the field has this name, which is given in lower case.
-pub fn is_named(field: &Field, name: &[u8]) -> bool
-    requires { lowered name.now ≡ name.now }
-    ensures { result ≡ is_named name.now (named_value field.now) }
-{
-    field.name.as_slice().eq_ignore_ascii_case(name)
 }
 
 /// Whether two names are the same, ASCII case ignored.

@@ -1,7 +1,8 @@
 //! Asks an origin for its response.
 ghost use Rattle.std.specs.Prelude.{◌≡◌, ◌≤◌, [], length, IsTrue, OnOk, IfOk};
 ghost use Rattle.capture.specs.declared.limits.TheConstants.{BODY_LIMIT};
-ghost use Rattle.exchange.specs.Fetches.{Answers, CountsFetch, IsFaultOf, IsOneResponse, LogsFetch, Receives, Sends};
+ghost use Rattle.http_wire.specs.Messages.{IsOneResponse};
+ghost use Rattle.exchange.specs.Fetches.{Answers, CountsFetch, IsFaultOf, LogsFetch, Receives, Sends};
 ghost use Rattle.http_wire.specs.ResponseReading.{new_response};
 ghost use Rattle.outside.specs.Link.{IsFresh};
 

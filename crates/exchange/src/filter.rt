@@ -7,7 +7,7 @@ ghost use Rattle.http_head.specs.Heads.{named_value};
 ghost use Rattle.exchange.specs.Texts as spec;
 ghost use Rattle.exchange.specs.Texts.{origin_lines, client_lines};
 
-use crate::connection_names::{connection_names, is_listed, is_named};
+use crate::connection_names::{connection_names, is_listed};
 use crate::lines::put_field_line;
 use capture::Memory;
 use http_head::Field;
@@ -54,7 +54,7 @@ pub fn put_client_fields(
 pub fn is_content_length(field: &Field) -> bool
     ensures { result ≡ is_named content_length (named_value field.now) }
 {
-    is_named(field, b"content-length")
+    field.has_name(b"content-length")
 }
 
 /// Whether the field goes to the origin: it is passed on, and isn't one that the proxy writes itself.
@@ -62,7 +62,7 @@ fn goes_to_origin(hop: &Hop, listed: &[&[u8]], field: &Field) -> bool
     requires { hop.now ≡ hop_by_hop }
     ensures { result ≡ spec.goes_to_origin (map (λ n. n.now) listed.now) (named_value field.now) }
 {
-    is_passed_on(hop, listed, field) && !is_named(field, b"host") && !is_content_length(field)
+    is_passed_on(hop, listed, field) && !field.has_name(b"host") && !is_content_length(field)
 }
 
 /// Whether the field goes to the client: it is passed on, a Content-Length only where it is kept.

@@ -1,34 +1,8 @@
 //! What the definitions promise to those who build on them.
-ghost use Rattle.exchange.specs.Decisions.{ArrivalsAreOne, FirstsAreOne, MessagesStay, RefusalsStay};
-ghost use Rattle.exchange.specs.Storing.{RequestsCanBeStored, ResponsesCanBeStored};
+ghost use Rattle.exchange.specs.Storing.{RequestsCanBeStored};
 
-use capture::{chunked_bodies_split_one_way, heads_end_at_the_first_empty_line};
-use http_wire::fronts_stay;
-
-/// What is decided of a stream stays so, however the stream goes on: that a message stands first, and that a fault does.
-pub fn decisions_stay()
-    ensures messages { MessagesStay }
-    ensures refusals { RefusalsStay }
-{
-    fronts_stay();
-}
-
-/// One thing stands first in a stream: a message of one length, one fault, nothing yet, or the beginning of a message; and an
-/// origin's stream comes to one thing behind its interim responses.
-pub fn decisions_are_one()
-    ensures firsts { FirstsAreOne }
-    ensures arrivals { ArrivalsAreOne }
-{
-    fronts_stay();
-    chunked_bodies_split_one_way();
-    heads_end_at_the_first_empty_line();
-}
-
-/// A request that was read and is aimed at an origin is forwarded as one whole request of its method, of every framing; and a
-/// final response that was read is one to its request, whole or cut. Both are short enough to be stored.
-pub fn messages_can_be_stored()
-    ensures requests { RequestsCanBeStored }
-    ensures responses { ResponsesCanBeStored }
-{
-    heads_end_at_the_first_empty_line();
-}
+/// A request that was read and is aimed at an origin is forwarded as one whole request of its method, of every framing, which
+/// is short enough to be stored.
+pub fn requests_can_be_stored()
+    ensures { RequestsCanBeStored }
+{}

@@ -6,7 +6,6 @@ use Rattle.std.proofs.lemmas.List.{append-nil, take_at, drop_at}
 use Rattle.httparse.specs.Grammar as grammar
 use Rattle.httparse.proofs.GrammarLemmas.{request_unique}
 use Rattle.capture.specs.Body.{IsBody}
-use Rattle.capture.specs.BodyLaws.{BodiesHaveAPayload}
 use Rattle.capture.specs.Fields.{named_values}
 use Rattle.capture.specs.Framing.{framing_of_request, request_framing}
 use Rattle.capture.specs.Head.{head_end}
@@ -16,7 +15,7 @@ use Rattle.capture.specs.Payload.{IsPayload}
 use Rattle.capture.specs.declared.framing.Framing.{Framing}
 use Rattle.capture.specs.declared.framing.FramingFault.{FramingFault}
 use Rattle.capture.specs.declared.framing.Framing.TheVariants.{Empty, Length, Chunked, ToEnd}
-use Rattle.http_head.specs.Heads.{IsRequestOf, HoldsRequest, minor_of}
+use Rattle.http_head.specs.Heads.{HoldsRequestParts, HoldsRequest, minor_of}
 use Rattle.http_head.specs.declared.head.RequestHead.{RequestHead}
 use Rattle.http_head.specs.declared.head.RequestMessage.{RequestMessage}
 use Rattle.http_head.specs.declared.head.WireFault.{WireFault}
@@ -34,7 +33,7 @@ begins_with_rest front h rest reads = record {
 }
 
 -- the parts of a head tell what the head tells
-parts_tell : (front : List ℕ) (h : grammar.RequestHead) (head : RequestHead) → IsRequestOf front h head
+parts_tell : (front : List ℕ) (h : grammar.RequestHead) (head : RequestHead) → HoldsRequestParts front h head
     → request_framing h ≡ told_by_request head
 parts_tell front h head of =
     ap (λ m. framing_of_request m (named_values h.fields)) (sym of.version)
@@ -54,7 +53,7 @@ request_text front wire head framing payload holds told body decoded =
         framed = parts_tell front h head of ∙ ok_was_told (told_by_request head) framing told;
         body = body;
       };
-      parts = subst (λ t. IsRequestOf t h head) (sym of.text_is) of;
+      parts = subst (λ t. HoldsRequestParts t h head) (sym of.text_is) of;
       payload = decoded;
     }
 
@@ -136,16 +135,6 @@ split_request ends text end h framing wire found whole =
 pub endless : RequestHeadsEnd → (text : List ℕ) (h : grammar.RequestHead) (framing : Framing) (wire : List ℕ)
     → None ≡ head_end text → IsWholeRequest text h framing wire → ⊥
 endless ends text h framing wire none whole = none_is_not_some (length (grammar.print_request h)) (none ∙ ends text h wire whole.head)
-
--- ---- a wire without a payload
-
-pub no_payload : BodiesHaveAPayload → (framing : Framing) (wire : List ℕ) → ((payload : List ℕ) → IsPayload false framing wire payload → ⊥)
-    → IsBody framing wire → ⊥
-no_payload have framing wire none body = let has = have framing wire body in none has.0 has.1
-
--- a chunked wire with a payload is a body
-pub joined_is_body : (wire payload : List ℕ) → IsPayload false Chunked wire payload → IsBody Chunked wire
-joined_is_body wire payload joined = (joined.0, joined.1, joined.2)
 
 abbrev request_err : WireFault → Result RequestMessage WireFault
 request_err fault = Err fault

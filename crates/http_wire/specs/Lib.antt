@@ -1,4 +1,5 @@
 pub mod Answers
+pub mod Decisions
 pub mod Heads
 pub mod HeldBodies
 pub mod Messages
@@ -6,5 +7,6 @@ pub mod Parts
 pub mod Reading
 pub mod RequestReading
 pub mod ResponseReading
+pub mod Storing
 pub mod Told
 pub mod WholeRequests

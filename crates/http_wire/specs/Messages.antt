@@ -28,3 +28,7 @@ pub record IsResponse (answers_head : Bool) (stream : List ℕ) (received : Rece
   pub holds : HoldsResponse received.head.text received.head
   pub tells : HeadTells (Responses answers_head) received.head.text (Ok received.framing)
   pub wire_is : IsWire received.cut received.framing received.wire
+
+-- the response is one of some stream, whole or cut
+abbrev pub IsOneResponse : Bool → Received → Type 0
+IsOneResponse answers_head received = (stream : List ℕ) × IsResponse answers_head stream received

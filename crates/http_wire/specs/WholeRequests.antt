@@ -3,7 +3,7 @@ use Rattle.std.specs.Prelude.{List, ℕ, false}
 use Rattle.httparse.specs.Grammar as grammar
 use Rattle.capture.specs.Message.{IsWholeRequest}
 use Rattle.capture.specs.Payload.{IsPayload}
-use Rattle.http_head.specs.Heads.{IsRequestOf}
+use Rattle.http_head.specs.Heads.{HoldsRequestParts}
 use Rattle.http_head.specs.declared.head.RequestMessage.{RequestMessage}
 
 -- the text is one request, and these are its parts and its payload
@@ -11,5 +11,5 @@ pub record IsRequestText (text : List ℕ) (message : RequestMessage) : Type 0 w
   pub h : grammar.RequestHead
   pub wire : List ℕ
   pub whole : IsWholeRequest text h message.framing wire
-  pub parts : IsRequestOf message.head.text h message.head
+  pub parts : HoldsRequestParts message.head.text h message.head
   pub payload : IsPayload false message.framing wire message.payload

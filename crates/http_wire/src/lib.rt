@@ -4,6 +4,7 @@
 
 mod framing;
 mod held;
+mod laws;
 mod progress;
 mod request_parts;
 mod request_reader;
@@ -13,11 +14,14 @@ mod whole_request;
 
 pub use http_head::{
     Field, HeadFed, HeadProgress, HeadReader, Received, RequestHead, RequestMessage, ResponseHead,
-    Version, WireFault, find_head_end, fronts_stay, read_head, read_request_head,
+    Version, WireFault, find_head_end, find_section_end, first_value, fronts_stay, read_head,
+    read_request_head, read_section,
 };
+pub use laws::{decisions_are_one, decisions_stay, responses_can_be_stored};
 pub use message_body::{
-    BodyFed, BodyProgress, BodyReader, PayloadFault, framing_of, heads_tell_framings,
-    held_bodies_are_bodies, payload_of, payload_of_cut, request_framing_of, split_member,
+    BodyFed, BodyProgress, BodyReader, Number, Payload, PayloadFault, framing_of,
+    heads_tell_framings, held_bodies_are_bodies, payload_in, payload_of, payload_of_cut,
+    request_framing_of, split_member,
 };
 pub use progress::{Fed, Progress};
 pub use request_reader::RequestReader;

@@ -9,9 +9,9 @@ ghost use Rattle.httparse.specs.Grammar.{RequestHead as RequestForm};
 ghost use Rattle.http_head.specs.Heads.{IsHeadFault};
 ghost use Rattle.http_wire.specs.WholeRequests.{IsRequestText};
 
-use capture::{Bytes, Framing, heads_end_at_the_first_empty_line, wires_have_one_payload};
+use capture::{Bytes, Framing, heads_end_at_the_first_empty_line};
 use http_head::{RequestMessage, WireFault, find_head_end, read_request_head};
-use message_body::{PayloadFault, payload_of, request_framing_of};
+use message_body::{PayloadFault, payload_in, request_framing_of};
 use std::alloc::Global;
 
 /// The request that the text is. Malformed: the text isn't one whole request that begins with its first line. There is no
@@ -38,7 +38,6 @@ fn read_parts(alloc: Global, front: &[u8], wire: &[u8]) -> Result<RequestMessage
         → IsRequestHeadText front.now h → request_framing h ≡ Ok framing → ¬ (IsBody framing wire.now) }
     ensures faults { IfErr result IsHeadFault }
 {
-    let come = wire.len() as u64;
     let head = match read_request_head(alloc, front) {
         Ok(head) => head,
         Err(fault) => return Err(fault),
@@ -47,7 +46,7 @@ fn read_parts(alloc: Global, front: &[u8], wire: &[u8]) -> Result<RequestMessage
         Ok(framing) => framing,
         Err(_) => return Err(WireFault::Malformed),
     };
-    match whole_payload(alloc, framing, wire, come) {
+    match whole_payload(alloc, framing, wire) {
         Ok(payload) => Ok(RequestMessage {
             head,
             framing,
@@ -57,46 +56,15 @@ fn read_parts(alloc: Global, front: &[u8], wire: &[u8]) -> Result<RequestMessage
     }
 }
 
-/// The payload of the wire, which has so many bytes. Malformed: it is no body of the framing.
-fn whole_payload(
-    alloc: Global,
-    framing: Framing,
-    wire: &[u8],
-    come: u64,
-) -> Result<Bytes, WireFault>
-    requires { come ≡ length wire.now }
+/// The payload of the wire. Malformed: it is no body of the framing.
+fn whole_payload(alloc: Global, framing: Framing, wire: &[u8]) -> Result<Bytes, WireFault>
     ensures body { IfOk result (λ _. IsBody framing wire.now) }
     ensures payload { IfOk result (IsPayload false framing wire.now) }
     ensures malformed { IsErrOf result WireFault.Malformed → ¬ (IsBody framing wire.now) }
     ensures faults { IfErr result IsHeadFault }
 {
-    match framing {
-        Framing::Empty => {
-            if come != 0 {
-                return Err(WireFault::Malformed);
-            }
-            decoded(alloc, framing, wire)
-        }
-        Framing::Length(told) => {
-            if come != told {
-                return Err(WireFault::Malformed);
-            }
-            decoded(alloc, framing, wire)
-        }
-        Framing::Chunked => decoded(alloc, framing, wire),
-        Framing::ToEnd => decoded(alloc, framing, wire),
-    }
-}
-
-/// The payload of the wire. Malformed: it has none.
-fn decoded(alloc: Global, framing: Framing, wire: &[u8]) -> Result<Bytes, WireFault>
-    ensures payload { IfOk result (IsPayload false framing wire.now) }
-    ensures malformed { IsErrOf result WireFault.Malformed → ¬ (IsBody framing wire.now) }
-    ensures faults { IfErr result IsHeadFault }
-{
-    wires_have_one_payload();
-    match payload_of(alloc, framing, wire) {
-        Ok(payload) => Ok(payload),
+    match payload_in(alloc, framing, wire, false) {
+        Ok(payload) => Ok(payload.into_bytes(alloc)?),
         Err(PayloadFault::Malformed) => Err(WireFault::Malformed),
         Err(PayloadFault::Memory) => Err(WireFault::Memory),
     }

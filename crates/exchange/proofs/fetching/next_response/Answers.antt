@@ -5,7 +5,7 @@ use Rattle.http_wire.specs.Messages.{IsResponse}
 use Rattle.http_wire.specs.Reading.{HasFault, IsUndecided, Stands}
 use Rattle.http_wire.specs.ResponseReading.{ResponseReading}
 use Rattle.exchange.proofs.AccountLaws.{accounts_then}
-use Rattle.exchange.proofs.DecisionLaws.{messages_stay, refusals_stay}
+use Rattle.http_wire.proofs.DecisionLaws.{messages_stay, refusals_stay}
 use Rattle.exchange.proofs.ResponseLaws.{head_came, whole_answers, ended_answers, broken_answers, refused_answers, accounts_fault_then}
 use Rattle.exchange.proofs.WithinLaws.{whole_within, ended_within}
 use Rattle.exchange.proofs.fetching.next_response.Goals as goal

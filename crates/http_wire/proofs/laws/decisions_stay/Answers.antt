@@ -1,5 +1,5 @@
-use Rattle.exchange.proofs.DecisionLaws.{messages_stay, refusals_stay}
-use Rattle.exchange.proofs.laws.decisions_stay.Goals as goal
+use Rattle.http_wire.proofs.DecisionLaws.{messages_stay, refusals_stay}
+use Rattle.http_wire.proofs.laws.decisions_stay.Goals as goal
 
 pub returns-clause-messages : goal.returns-clause-messages
 returns-clause-messages c = messages_stay c.fronts_stay.ensures.heads

@@ -7,10 +7,10 @@ use Rattle.capture.specs.Final.{IsInterim, BeginsWithInterim, Arrival, Arrived, 
 use Rattle.capture.specs.First.{Responses, First, IsFirst}
 use Rattle.capture.specs.Head.{front_of, Head}
 use Rattle.http_head.specs.FrontLaws.{HeadsStay}
-use Rattle.exchange.specs.Decisions.{FirstsAreOne, ArrivalsAreOne}
-use Rattle.exchange.proofs.ArrivalLaws.{one_head}
-use Rattle.exchange.proofs.LineFronts.{heads_of}
-use Rattle.exchange.proofs.OneHead.{one_skipped}
+use Rattle.http_wire.specs.Decisions.{FirstsAreOne, ArrivalsAreOne}
+use Rattle.http_wire.proofs.OneHead.{one_head}
+use Rattle.http_wire.proofs.LineFronts.{heads_of}
+use Rattle.http_wire.proofs.OneHead.{one_skipped}
 
 -- ---- the interim responses are the same
 

@@ -11,8 +11,8 @@ use Rattle.capture.specs.Chunks.{Chunk, IsChunk, print_chunk, Begun, InLine, InD
 use Rattle.capture.specs.FirstChunks.{EndsTrailer, IsTrailerTooLong, IsWrongByte, EndsLine}
 use Rattle.capture.specs.Head.{section_len, trailer_lines}
 use Rattle.capture.specs.declared.limits.TheConstants.{FIELD_LIMIT, HEAD_LIMIT, SIZE_LINE_LIMIT}
-use Rattle.exchange.proofs.LineFronts.{Split, split, heads_of, HasNoLf, no_lf, lf_of_no_lf, LineFront, line_front, no_line_without_lf, nothing_left}
-use Rattle.exchange.proofs.SectionFronts.{section_fits, section_stays}
+use Rattle.http_wire.proofs.LineFronts.{Split, split, heads_of, HasNoLf, no_lf, lf_of_no_lf, LineFront, line_front, no_line_without_lf, nothing_left}
+use Rattle.http_wire.proofs.SectionFronts.{section_fits, section_stays}
 
 -- what stands in front of the byte is whole chunks and what is begun behind them, and the byte can stand there; a size line
 -- that it ends announces no more than the bound

@@ -9,10 +9,10 @@ use Rattle.capture.specs.declared.framing.FramingFault.{FramingFault}
 use Rattle.capture.specs.declared.framing.MessageFault.{MessageFault}
 use Rattle.capture.specs.declared.framing.MessageFault.TheVariants.{Malformed, HeadTooLong, BodyTooLong}
 use Rattle.capture.specs.declared.limits.TheConstants.{BODY_LIMIT}
-use Rattle.exchange.specs.Decisions.{FirstsAreOne}
-use Rattle.exchange.proofs.ArrivalLaws.{no_head_in_more, no_head_is_none, no_head_too_long, one_head}
-use Rattle.exchange.proofs.OneBody.{Laws, holds_one, holds_or_refuses, holds_or_begins, refuses_one, refuses_or_begins}
-use Rattle.exchange.proofs.OneHead.{head_or_none, same_head, same_ok}
+use Rattle.http_wire.specs.Decisions.{FirstsAreOne}
+use Rattle.http_wire.proofs.OneHead.{no_head_in_more, no_head_is_none, no_head_too_long, one_head}
+use Rattle.http_wire.proofs.OneBody.{Laws, holds_one, holds_or_refuses, holds_or_begins, refuses_one, refuses_or_begins}
+use Rattle.http_wire.proofs.OneHead.{head_or_none, same_head, same_ok}
 
 -- ---- what may stand first, by what the front is
 

@@ -11,9 +11,9 @@ use Rattle.capture.specs.Methods.{asks_for_head}
 use Rattle.capture.specs.WellFormed.{IsFinalHead, RespondsTo}
 use Rattle.capture.specs.declared.limits.TheConstants.{HEAD_LIMIT, FIELD_LIMIT}
 use Rattle.http_wire.specs.Messages.{IsResponse}
-use Rattle.exchange.specs.Storing.{ResponsesCanBeStored}
-use Rattle.exchange.proofs.ArrivalLaws.{one_parse}
-use Rattle.exchange.proofs.FrontParts.{HeadParts, parts_of_head}
+use Rattle.http_wire.specs.Storing.{ResponsesCanBeStored}
+use Rattle.http_wire.proofs.OneHead.{one_parse}
+use Rattle.http_wire.proofs.FrontParts.{HeadParts, parts_of_head}
 
 -- ---- a head text begins at once
 

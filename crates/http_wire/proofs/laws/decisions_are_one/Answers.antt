@@ -1,7 +1,7 @@
-use Rattle.exchange.proofs.OneArrival.{arrivals_are_one}
-use Rattle.exchange.proofs.OneBody.{Laws}
-use Rattle.exchange.proofs.OneFirst.{firsts_are_one}
-use Rattle.exchange.proofs.laws.decisions_are_one.Goals as goal
+use Rattle.http_wire.proofs.OneArrival.{arrivals_are_one}
+use Rattle.http_wire.proofs.OneBody.{Laws}
+use Rattle.http_wire.proofs.OneFirst.{firsts_are_one}
+use Rattle.http_wire.proofs.laws.decisions_are_one.Goals as goal
 
 laws : (c : goal.After-heads_end_at_the_first_empty_line) → Laws
 laws c = record {

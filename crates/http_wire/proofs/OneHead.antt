@@ -1,15 +1,30 @@
 -- A stream has one head, which tells one framing, or one fault.
 use Rattle.std.proofs.Common.{◌≡◌, ℕ, List, [], length, drop, Ok, sym, ap, subst, ◌∙◌, arith}
 use Rattle.std.specs.Prelude.{Result}
-use Rattle.httparse.proofs.GrammarLemmas.{request_unique}
-use Rattle.httparse.specs.Grammar.{RequestHead}
+use Rattle.httparse.proofs.GrammarLemmas.{request_unique, response_unique}
+use Rattle.httparse.specs.Grammar.{RequestHead, ResponseHead}
 use Rattle.capture.specs.First.{Side, Requests, Responses, HeadTells, IsNoHead, BehindHead}
 use Rattle.capture.specs.Framing.{request_framing, response_framing}
-use Rattle.capture.specs.Head.{Head}
-use Rattle.capture.specs.Message.{IsRequestHeadText}
+use Rattle.capture.specs.Head.{front_of, Head, TooLong, Nothing, More}
+use Rattle.capture.specs.Message.{IsRequestHeadText, IsResponseHeadText}
 use Rattle.capture.specs.declared.framing.Framing.{Framing}
 use Rattle.capture.specs.declared.framing.FramingFault.{FramingFault}
-use Rattle.exchange.proofs.ArrivalLaws.{one_parse, one_head}
+
+pub one_parse : (text : List ℕ) (h k : ResponseHead) → IsResponseHeadText text h → IsResponseHeadText text k → h ≡ k
+one_parse text h k first second = (response_unique text h k [] [] first.reads second.reads).0
+
+pub one_head : (f : List ℕ) (skipped other : ℕ) (text text_too : List ℕ) → front_of f ≡ Head skipped text → front_of f ≡ Head other text_too
+    → text ≡ text_too
+one_head f skipped other text text_too e d = let same : Head skipped text ≡ Head other text_too = sym e ∙ d in cc
+
+pub no_head_is_none : (k : ℕ) (t : List ℕ) → Nothing ≡ Head k t → ⊥
+no_head_is_none k t d = cc
+
+pub no_head_in_more : (k : ℕ) (t : List ℕ) → More ≡ Head k t → ⊥
+no_head_in_more k t d = cc
+
+pub no_head_too_long : (k : ℕ) (t : List ℕ) → TooLong ≡ Head k t → ⊥
+no_head_too_long k t d = cc
 
 one_request : (text : List ℕ) (h k : RequestHead) → IsRequestHeadText text h → IsRequestHeadText text k → h ≡ k
 one_request text h k first second = (request_unique text h k [] [] first.reads second.reads).0

@@ -14,9 +14,9 @@ use Rattle.capture.specs.declared.framing.Framing.TheVariants.{Empty, Length, Ch
 use Rattle.capture.specs.declared.framing.MessageFault.{MessageFault}
 use Rattle.capture.specs.declared.framing.MessageFault.TheVariants.{Malformed, HeadTooLong, BodyTooLong, CodingRefused}
 use Rattle.capture.specs.declared.limits.TheConstants.{BODY_LIMIT}
-use Rattle.exchange.proofs.ChunkFronts.{Goes, IsTrailerText, begun_goes, chunks_go, goes_within, in_trailer}
-use Rattle.exchange.proofs.FrontParts.{begun_is_short}
-use Rattle.exchange.proofs.LineFronts.{Split, heads_of, split}
+use Rattle.http_wire.proofs.ChunkFronts.{Goes, IsTrailerText, begun_goes, chunks_go, goes_within, in_trailer}
+use Rattle.http_wire.proofs.FrontParts.{begun_is_short}
+use Rattle.http_wire.proofs.LineFronts.{Split, heads_of, split}
 
 -- chunked bodies split in one way, whole or cut, and sections end where they do
 pub record Laws : Type 0 where

@@ -8,9 +8,9 @@ use Rattle.capture.specs.declared.framing.Framing.{Framing}
 use Rattle.capture.specs.declared.framing.Framing.TheVariants.{Empty, Length, Chunked, ToEnd}
 use Rattle.capture.specs.declared.framing.FramingFault.{FramingFault}
 use Rattle.capture.specs.declared.framing.MessageFault.{MessageFault}
-use Rattle.exchange.specs.Decisions.{MessagesStay, RefusalsStay}
+use Rattle.http_wire.specs.Decisions.{MessagesStay, RefusalsStay}
 use Rattle.http_head.specs.FrontLaws.{HeadsStay, TooLongStays}
-use Rattle.exchange.proofs.FrontParts.{parts_of_head}
+use Rattle.http_wire.proofs.FrontParts.{parts_of_head}
 
 pub behind_stays : HeadsStay → (side : Side) (stream more : List ℕ) (told : Result Framing FramingFault) (end : ℕ) (rest : List ℕ)
     → BehindHead side stream told end rest → BehindHead side (stream ++ more) told end (rest ++ more)
