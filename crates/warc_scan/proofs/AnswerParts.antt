@@ -19,11 +19,15 @@ use Rattle.capture.specs.declared.framing.FramingFault.{FramingFault}
 use Rattle.http_head.specs.declared.head.WireFault.{WireFault}
 use Rattle.message_body.specs.Framings.{framing_answer, told_by_response}
 use Rattle.warc_text.specs.References.{Reference}
-use Rattle.warc_scan.specs.Answers.{AreParts, IsAnswerOf, IsSomeBody, KeepsNone, TellsOfBody}
-use Rattle.warc_scan.specs.Digests.{HasDigest}
-use Rattle.warc_scan.specs.Groups.{IsResponse, unknown_number}
+use Rattle.warc_scan.specs.Answers.{AreParts, IsAnswerOf, IsRead, IsSomeBody, IsToldBy, TellsOfBody, kept_by}
+use Rattle.warc_scan.specs.Digests.{HasDigest, HasLength}
+use Rattle.warc_scan.specs.Groups.{HasPayloadLen, IsResponse, unknown_number}
 use Rattle.warc_scan.specs.Openings.{IsOpening, IsRevisited, opening_of, reference_of}
+use Rattle.warc_scan.specs.declared.answer.Answer.{Answer}
+use Rattle.warc_scan.specs.declared.answer.Form.{Form}
+use Rattle.warc_scan.specs.declared.answer.Form.TheVariants as forms
 use Rattle.warc_scan.specs.declared.answer.Parts.{Parts}
+use Rattle.warc_scan.specs.declared.answer.Told.{Told}
 use Rattle.warc_scan.specs.declared.opening.Opening.{Opening}
 use Rattle.warc_scan.specs.declared.opening_parts.Refers.{Refers}
 use Rattle.warc_scan.proofs.AnswerHeads.{begins_with_rest, final_head, no_such_body, no_such_cut, ok_was_told, one_framing, one_split, told_by_parts}
@@ -182,20 +186,64 @@ pub cut_long : (method : List ℕ) (parts : Parts) (digest : List ℕ) → (IsSh
     → IsResponse true method parts.head.now parts.wire.now digest → ⊥
 cut_long method parts digest long r = long r.responds.cut.short
 
+-- ---- the length of the payload
+
+pub whole_len : (method : List ℕ) (parts : Parts) (framing : Framing) (len : ℕ) → AreParts parts
+    → said framing ≡ framing_answer (told_in method parts) → IsBody framing parts.wire.now → HasLength false framing parts.wire.now len
+    → HasPayloadLen method parts.head.now (Wire parts.wire.now) len
+whole_len method parts framing len are told body has = (
+  has.0,
+  record {
+    parsed = are.holds.0;
+    framing = framing;
+    whole = are.holds.1.reads;
+    framed = framed_by_told method parts framing are told;
+    wire_is = body;
+    decoded = has.1;
+  },
+  has.2,
+)
+
+pub cut_len : (method : List ℕ) (parts : Parts) (framing : Framing) (len : ℕ) → AreParts parts
+    → said framing ≡ framing_answer (told_in method parts) → IsCutWire framing parts.wire.now → HasLength true framing parts.wire.now len
+    → HasPayloadLen method parts.head.now (Cut parts.wire.now) len
+cut_len method parts framing len are told body has = (
+  has.0,
+  record {
+    parsed = are.holds.0;
+    framing = framing;
+    whole = are.holds.1.reads;
+    framed = framed_by_told method parts framing are told;
+    wire_is = body;
+    decoded = has.1;
+  },
+  has.2,
+)
+
 -- ---- what a block is
 
 some_is_no_none : (r : Reference) (same : Option Reference) → same ≡ Some r → same ≡ None → ⊥
 some_is_no_none r same p q = cc
 
+-- what is told, by its form
+told_as : (method : List ℕ) (parts : Parts) (opening : Opening) (told : Told) (form : Form) (kept : Kept) → told.form ≡ form → kept ≡ kept_by form parts.wire.now
+    → kept_wire kept ≡ parts.wire.now → IsAnswerOf method (parts.head.now ++ parts.wire.now) opening parts.head.now kept → HasPayloadLen method parts.head.now kept told.payload_len
+    → IsToldBy method parts opening told
+told_as method parts opening told form kept is kept_is all answer len =
+    let same : kept ≡ kept_by told.form parts.wire.now = kept_is ∙ ap (λ f. kept_by f parts.wire.now) (sym is) in
+    record {
+      is = subst (λ k. IsAnswerOf method (parts.head.now ++ parts.wire.now) opening parts.head.now k) same answer;
+      all = subst (λ k. kept_wire k ≡ parts.wire.now) same all;
+      payload_len = subst (λ k. HasPayloadLen method parts.head.now k told.payload_len) same len;
+    }
+
 -- a revisit by its opening
-pub answer_of_revisit : (method block : List ℕ) (opening : Opening) (refers : Refers) (parts : Parts) (head : List ℕ) (kept : Kept)
-    → IsOpening (opening_of opening) → opening.same ≡ Some refers → block ≡ parts.head.now ++ parts.wire.now
-    → KeepsNone method parts head kept → IsAnswerOf method block opening head kept
-answer_of_revisit method block opening refers parts head kept right is composed keeps =
+pub told_revisit : (method : List ℕ) (parts : Parts) (opening : Opening) (refers : Refers) (told : Told) → IsOpening (opening_of opening) → opening.same ≡ Some refers
+    → told.form ≡ forms.Revisit → told.payload_len ≡ 0 → TellsOfBody method parts → IsToldBy method parts opening told
+told_revisit method parts opening refers told right is form len tells =
     let same : (opening_of opening).same ≡ Some (reference_of refers) = ap (option_map reference_of) is in
-    let tells = keeps.0 in
-    let answer : IsAnswerOf method block opening parts.head.now (Same unknown_number) = record {
-      composed = composed ∙ ap (λ w. parts.head.now ++ w) tells.2;
+    let answer : IsAnswerOf method (parts.head.now ++ parts.wire.now) opening parts.head.now (Same unknown_number) = record {
+      composed = ap (λ w. parts.head.now ++ w) tells.2;
       cut_is = sym (subst (λ (s : Option Reference). IfSome s (λ r. opening.cut ≡ false)) same right.whole);
       answer = (
         refl,
@@ -210,34 +258,41 @@ answer_of_revisit method block opening refers parts head kept right is composed 
         },
       );
     } in
-    subst (λ k. IsAnswerOf method block opening head k) (sym keeps.2)
-    (subst (λ h. IsAnswerOf method block opening h (Same unknown_number)) (sym keeps.1) answer)
+    told_as method parts opening told forms.Revisit (Same unknown_number) form refl (sym tells.2) answer len
 
-pub answer_of_whole : (method block : List ℕ) (opening : Opening) (parts : Parts) (head : List ℕ) (kept : Kept)
-    → opening.same ≡ None → opening.cut ≡ false → block ≡ parts.head.now ++ parts.wire.now
-    → head ≡ parts.head.now → kept ≡ Wire parts.wire.now → IsResponse false method parts.head.now parts.wire.now opening.digest
-    → IsAnswerOf method block opening head kept
-answer_of_whole method block opening parts head kept none uncut composed head_is kept_is response =
-    let answer : IsAnswerOf method block opening parts.head.now (Wire parts.wire.now) = record {
-      composed = composed;
+pub told_whole : (method : List ℕ) (parts : Parts) (opening : Opening) (told : Told) → opening.same ≡ None → opening.cut ≡ false → told.form ≡ forms.Whole
+    → IsResponse false method parts.head.now parts.wire.now opening.digest → HasPayloadLen method parts.head.now (Wire parts.wire.now) told.payload_len
+    → IsToldBy method parts opening told
+told_whole method parts opening told none uncut form response len =
+    let answer : IsAnswerOf method (parts.head.now ++ parts.wire.now) opening parts.head.now (Wire parts.wire.now) = record {
+      composed = refl;
       cut_is = sym uncut;
       answer = (ap (option_map reference_of) none, response);
     } in
-    subst (λ k. IsAnswerOf method block opening head k) (sym kept_is)
-    (subst (λ h. IsAnswerOf method block opening h (Wire parts.wire.now)) (sym head_is) answer)
+    told_as method parts opening told forms.Whole (Wire parts.wire.now) form refl refl answer len
 
-pub answer_of_cut : (method block : List ℕ) (opening : Opening) (parts : Parts) (head : List ℕ) (kept : Kept)
-    → opening.same ≡ None → opening.cut ≡ true → block ≡ parts.head.now ++ parts.wire.now
-    → head ≡ parts.head.now → kept ≡ Cut parts.wire.now → IsResponse true method parts.head.now parts.wire.now opening.digest
-    → IsAnswerOf method block opening head kept
-answer_of_cut method block opening parts head kept none cut composed head_is kept_is response =
-    let answer : IsAnswerOf method block opening parts.head.now (Cut parts.wire.now) = record {
-      composed = composed;
+pub told_cut : (method : List ℕ) (parts : Parts) (opening : Opening) (told : Told) → opening.same ≡ None → opening.cut ≡ true → told.form ≡ forms.Cut
+    → IsResponse true method parts.head.now parts.wire.now opening.digest → HasPayloadLen method parts.head.now (Cut parts.wire.now) told.payload_len
+    → IsToldBy method parts opening told
+told_cut method parts opening told none cut form response len =
+    let answer : IsAnswerOf method (parts.head.now ++ parts.wire.now) opening parts.head.now (Cut parts.wire.now) = record {
+      composed = refl;
       cut_is = sym cut;
       answer = (ap (option_map reference_of) none, response);
     } in
-    subst (λ k. IsAnswerOf method block opening head k) (sym kept_is)
-    (subst (λ h. IsAnswerOf method block opening h (Cut parts.wire.now)) (sym head_is) answer)
+    told_as method parts opening told forms.Cut (Cut parts.wire.now) form refl refl answer len
+
+-- what the parts of a block are is what the block is
+pub read_of : (method block : List ℕ) (opening : Opening) (parts : Parts) (told : Told) (answer : Answer) → block ≡ parts.head.now ++ parts.wire.now
+    → AreParts parts → IsToldBy method parts opening told → answer ≡ record { head = parts.head; wire = parts.wire; parsed = parts.parsed; form = told.form; payload_len = told.payload_len }
+    → IsRead method block opening answer
+read_of method block opening parts told answer composed are is same =
+    subst (IsRead method block opening) (sym same) (record {
+      is = subst (λ b. IsAnswerOf method b opening parts.head.now (kept_by told.form parts.wire.now)) (sym composed) is.is;
+      all = is.all;
+      payload_len = is.payload_len;
+      parsed = are.holds;
+    })
 
 -- ---- a block that is no answer
 

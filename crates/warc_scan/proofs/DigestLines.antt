@@ -1,23 +1,26 @@
 -- The text of a payload's digest, at the front of bytes.
-use Rattle.std.proofs.Common.{◌≡◌, ℕ, ◌<◌, ◌≤◌, inr, List, [], ◌++◌, length, take, drop, refl, sym, ap, ◌∙◌, arith}
+use Rattle.std.proofs.Common.{◌≡◌, ℕ, ◌<◌, ◌≤◌, List, [], ◌++◌, length, take, drop, refl, sym, ap, ◌∙◌, arith}
 use Rattle.std.proofs.lemmas.List.{take_at, take-append-drop, take-append-le}
 use Rattle.sha1.specs.Sha1.{sha1}
 use Rattle.digest32.specs.Base32.{IsDigest, IsDigestText, base32}
 use Rattle.digest32.proofs.Texts.{digest_injective, is_digest_text, length-digest_text}
 use Rattle.warc_text.proofs.Fronts.{fronts}
+use Rattle.warc_scan.specs.Forms.{IsFormStop, digest_form}
 use Rattle.warc_scan.specs.OpenValues.{IsPartOfDigest}
 use Rattle.warc_scan.specs.Stops.{NoValueStands}
+use Rattle.warc_scan.specs.declared.stop.Stop.{Stop}
 use Rattle.warc_scan.specs.declared.stop.Stop.TheVariants.{Open, Wrong}
+use Rattle.warc_scan.proofs.Forms.{digest_fits, form_stop}
 use Rattle.warc_scan.proofs.Refusals.{IsTold, wrong_is_not_open}
 use Rattle.warc_scan.proofs.Samples.{some_digest_is}
 
 -- bytes that are too few
-pub open_digest : (bytes : List ℕ) → length bytes < 32 → NoValueStands IsDigest base32 IsPartOfDigest Open bytes
-open_digest bytes short = record {
-  refuses = λ digest is after other e. omega (arith, length-digest_text digest is);
-  line = tt;
-  ends = λ is. (sha1 [], some_digest_is, inr (short, omega (arith, length-digest_text (sha1 []) some_digest_is)));
-}
+pub digest_stop : (bytes : List ℕ) (stop : Stop) → length bytes < 32 → IsFormStop digest_form bytes stop → NoValueStands IsDigest base32 IsPartOfDigest stop bytes
+digest_stop bytes stop short why =
+    form_stop IsDigest base32 digest_form bytes
+    (λ digest is k lt. digest_fits (base32 digest) (is_digest_text digest (base32 digest) is refl) k (omega (arith, lt, length-digest_text digest is)))
+    stop (sha1 []) some_digest_is (omega (arith, length-digest_text (sha1 []) some_digest_is)) short
+    (λ digest after other is e. omega (arith, short, length-digest_text digest is)) why
 
 -- enough of them, which are no digest's text
 pub no_digest : (bytes text : List ℕ) → 32 ≤ length bytes → text ≡ take 32 bytes → ¬ IsDigestText text → NoValueStands IsDigest base32 IsPartOfDigest Wrong bytes

@@ -14,7 +14,7 @@ use Rattle.warc_scan.specs.Groups.{IsGroup, reference_in}
 use Rattle.warc_scan.specs.Openings.{IsOpening, Opening, opening_of, opening_text}
 use Rattle.warc_scan.specs.Stops.{Differs, Leaves, NoneStands, Refuses}
 use Rattle.warc_scan.specs.declared.group.Group.{Group}
-use Rattle.warc_scan.specs.declared.scan_group.Found.{Found}
+use Rattle.warc_scan.specs.declared.find.Found.{Found}
 use Rattle.warc_scan.specs.declared.stop.Stop.{Stop}
 use Rattle.warc_scan.specs.declared.stop.Stop.TheVariants.{Open, Until, Wrong, Memory}
 use Rattle.warc_scan.proofs.BlockTold.{block_told}
@@ -62,7 +62,7 @@ parts_of namespace number text group is = record {
 }
 
 module _ (namespace : List ℕ) (number : ℕ) where
-  first_shorter : (text : List ℕ) (parts : Parts namespace number text) → length (first_text namespace number parts.opening parts.block) < 2 ^ 63
+  pub first_shorter : (text : List ℕ) (parts : Parts namespace number text) → length (first_text namespace number parts.opening parts.block) < 2 ^ 63
   first_shorter text parts =
       omega (
         arith,
@@ -72,7 +72,7 @@ module _ (namespace : List ℕ) (number : ℕ) where
             (second_opening namespace number parts.opening ++ ended parts.request),
       )
 
-  block_shorter : (o : Opening) (block : List ℕ) → length (first_text namespace number o block) < 2 ^ 63 → length block < 2 ^ 64
+  pub block_shorter : (o : Opening) (block : List ℕ) → length (first_text namespace number o block) < 2 ^ 63 → length block < 2 ^ 64
   unfolding ended
   block_shorter o block short =
       omega (

@@ -18,7 +18,7 @@ use Rattle.warc_scan.specs.declared.stop.Stop.{Stop}
 use Rattle.warc_scan.specs.declared.stop.Stop.TheVariants.{Open, Memory}
 use Rattle.warc_scan.proofs.InfoFronts.{front_told, info_is, info_tail}
 use Rattle.warc_scan.proofs.Refusals.{memory_is_not_open, refuses_behind, refuses_more}
-use Rattle.warc_scan.proofs.UuidFronts.{uuid_told}
+use Rattle.warc_scan.proofs.UuidFronts.{part_of_uuid, uuid_told}
 
 -- each warcinfo of this volume is refused
 abbrev pub RefusesInfos : ℕ → Stop → List ℕ → Type 0
@@ -116,7 +116,7 @@ module _ (volume : ℕ) (bytes : List ℕ) where
       refuses = lines_refuse stop none.line
           (λ namespace is. refuses_behind stop rest (info_middle volume) named (uuid_text namespace) none.line e (none.refuses namespace is));
       line = none.line;
-      ends = λ open_. inl (record { id = id; come = rest; id_is = id_is; composed = composed; ends = inr (named, e, short open_) });
+      ends = λ open_. inl (record { id = id; come = rest; id_is = id_is; composed = composed; ends = inr (named, e, part_of_uuid named stop none open_) });
       inside = λ open_ namespace.
           short_of_lines namespace (omega (arith, short open_, ap length e, length-append (info_middle volume) named));
     }

@@ -10,7 +10,9 @@ pub mod DigestLines
 pub mod Exits
 pub mod FieldsTold
 pub mod FindLaws
+pub mod FirstLaws
 pub mod FivePieces
+pub mod Forms
 pub mod FoundLaws
 pub mod GroupParts
 pub mod InfoFronts

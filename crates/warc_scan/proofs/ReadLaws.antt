@@ -1,6 +1,6 @@
 -- What was found in the bytes is the group that stands there.
-use Rattle.std.proofs.Common.{◌≡◌, ℕ, ◌+◌, ◌<◌, ◌≤◌, ◌^◌, false, List, [], ◌∷◌, ◌++◌, length, Some, None, Ok, Err, length-append, append_assoc, refl, sym, ap, subst, ◌∙◌, arith}
-use Rattle.std.specs.Prelude.{Option, Result, IfErr, IfSome, IsErrOf, IsTrue}
+use Rattle.std.proofs.Common.{◌≡◌, ℕ, ◌+◌, ◌<◌, ◌≤◌, ◌^◌, false, List, [], ◌∷◌, ◌++◌, length, Some, None, length-append, append_assoc, refl, sym, ap, subst, ◌∙◌, arith}
+use Rattle.std.specs.Prelude.{Option, IfSome, IsTrue}
 use Rattle.capture.specs.Captures.{is_cut, kept_wire, taken_back}
 use Rattle.capture.specs.Target.{is_accepted_uri}
 use Rattle.capture.specs.WellFormed.{IsRequestOf}
@@ -15,6 +15,7 @@ use Rattle.warc_text.specs.Records.{answer_text, group_text}
 use Rattle.warc_text.specs.References.{Reference}
 use Rattle.warc_text.specs.declared.id.IdKind.TheVariants as ids
 use Rattle.warc_text.proofs.Fronts.{fronts}
+use Rattle.warc_scan.specs.Answers.{IsAnswerOf}
 use Rattle.warc_scan.specs.Asking.{AsksByStop, second_opening}
 use Rattle.warc_scan.specs.Founds.{IsFound, IsFoundIn, IsGroupIn, first_record, second_record}
 use Rattle.warc_scan.specs.Groups.{IsAnswer, IsGroup, reference_in}
@@ -22,7 +23,7 @@ use Rattle.warc_scan.specs.Openings.{Opening, opening_of, opening_text}
 use Rattle.warc_scan.specs.Steps.{BeginsWithGroup}
 use Rattle.warc_scan.specs.Stops.{IsMessageStop, Refuses}
 use Rattle.warc_scan.specs.declared.group.Group.{Group}
-use Rattle.warc_scan.specs.declared.scan_group.Found.{Found}
+use Rattle.warc_scan.specs.declared.find.Found.{Found}
 use Rattle.warc_scan.specs.declared.stop.Stop.{Stop}
 use Rattle.warc_scan.specs.declared.stop.Stop.TheVariants.{Open, Until, Wrong, Memory}
 use Rattle.warc_scan.proofs.BlockTold.{block_told}
@@ -97,6 +98,7 @@ module _ (namespace : List ℕ) (number : ℕ) (bytes : List ℕ) (found : Found
       date = subst InRange (sym made.date) is.opening.date_is;
       request = subst (IsRequestOf group.stored.method) (sym made.request_is) made.request;
       answer = answer_is;
+      payload_len = made.payload_len;
       places = record {
         len = made.len ∙ is.len;
         first_len = made.first_len ∙ is.first_len ∙ ap length (sym first_is);
@@ -116,7 +118,7 @@ block_of stored digest same answer = block_by stored digest (stored.head ++ kept
 some_is_no_none : (r : Reference) (same : Option Reference) → same ≡ Some r → same ≡ None → ⊥
 some_is_no_none r same p q = cc
 
-cut_of : (stored : Stored) (digest : List ℕ) (same : Option Reference) (kept : Kept) → stored.kept ≡ kept
+pub cut_of : (stored : Stored) (digest : List ℕ) (same : Option Reference) (kept : Kept) → stored.kept ≡ kept
     → IsAnswer stored.method stored.head digest same kept → answer_cut (taken_back stored) same ≡ is_cut stored.kept
 cut_of stored digest None kept e answer = refl
 cut_of stored digest (Some r) (Wire wire) e answer = absurd (some_is_no_none r (Some r) refl answer.0)
@@ -197,6 +199,7 @@ module _ (namespace : List ℕ) (number : ℕ) (bytes : List ℕ) (found : Found
           subst (λ d. IsAnswer group.stored.method group.stored.head d said.same group.stored.kept) (ap (λ (o : Opening). o.digest) opening_told_)
           (subst (λ s. IsAnswer group.stored.method group.stored.head group.digest s group.stored.kept) (ap (λ (o : Opening). o.same) opening_told_) there.answer);
     };
+    payload_len = there.payload_len;
     len = group_len;
     first_len = there.places.first_len ∙ ap length first_told ∙ sym is.first_len;
     head_at = omega (arith, there.places.head, ap length first_told, is.first_len, ap length block_told_);
@@ -205,22 +208,19 @@ module _ (namespace : List ℕ) (number : ℕ) (bytes : List ℕ) (found : Found
 
 -- ---- what the reader answers
 
-abbrev Answer : Type 0
-Answer = Result Group Stop
-
 pub refused_by : (namespace : List ℕ) (number : ℕ) (bytes : List ℕ) (found : Found) → IsFoundIn namespace number bytes found
-    → (r : Answer) → IfErr r IsMessageStop → (IsErrOf r Wrong → (group : Group) → IsGroupIn number found group → ⊥)
-    → IfErr r (λ stop. (text : List ℕ) (group : Group) → IsGroup namespace number text group → Refuses stop bytes text)
-refused_by namespace number bytes found is (Ok group) stops wrong = tt
-refused_by namespace number bytes found is (Err Open) stops wrong = absurd stops
-refused_by namespace number bytes found is (Err (Until n)) stops wrong = absurd stops
-refused_by namespace number bytes found is (Err Wrong) stops wrong = λ text group there after other e.
-    wrong refl group (group_there namespace number bytes found is text group there after other e)
-refused_by namespace number bytes found is (Err Memory) stops wrong = λ text group there after other e. tt
+    → (stop : Stop) → IsMessageStop stop
+    → (stop ≡ Wrong → (method head : List ℕ) (kept : Kept) → IsRequestOf method found.request.now → IsAnswerOf method found.answer.now found.opening head kept → ⊥)
+    → (text : List ℕ) (group : Group) → IsGroup namespace number text group → Refuses stop bytes text
+refused_by namespace number bytes found is Open stops wrong text group there = absurd stops
+refused_by namespace number bytes found is (Until n) stops wrong text group there = absurd stops
+refused_by namespace number bytes found is Wrong stops wrong text group there = λ after other e.
+    let made = group_there namespace number bytes found is text group there after other e in
+    wrong refl group.stored.method group.stored.head group.stored.kept made.request made.answer
+refused_by namespace number bytes found is Memory stops wrong text group there = λ after other e. tt
 
-pub asked_by : (namespace : List ℕ) (number : ℕ) (bytes : List ℕ) (r : Answer) → IfErr r IsMessageStop → IfErr r (AsksByStop namespace number bytes)
-asked_by namespace number bytes (Ok group) stops = tt
-asked_by namespace number bytes (Err Open) stops = absurd stops
-asked_by namespace number bytes (Err (Until n)) stops = absurd stops
-asked_by namespace number bytes (Err Wrong) stops = tt
-asked_by namespace number bytes (Err Memory) stops = tt
+pub asked_by : (namespace : List ℕ) (number : ℕ) (bytes : List ℕ) (stop : Stop) → IsMessageStop stop → AsksByStop namespace number bytes stop
+asked_by namespace number bytes Open stops = absurd stops
+asked_by namespace number bytes (Until n) stops = absurd stops
+asked_by namespace number bytes Wrong stops = tt
+asked_by namespace number bytes Memory stops = tt

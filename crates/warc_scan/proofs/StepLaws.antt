@@ -8,35 +8,37 @@ use Rattle.warc_text.specs.Lines.{field, opening, type_line, version_line}
 use Rattle.warc_text.specs.Records.{group_text, response_opening}
 use Rattle.warc_text.specs.StandsFor.{GroupsAreCommitted, commit_byte}
 use Rattle.warc_text.specs.declared.id.IdKind.TheVariants as ids
-use Rattle.warc_scan.specs.Asking.{IsAskedFor}
+use Rattle.warc_scan.specs.Asking.{AsksByStop, AsksForGroup, AsksForMore, IsAskedFor}
 use Rattle.warc_scan.specs.Fronts.{IsBegun}
 use Rattle.warc_scan.specs.Groups.{IsGroup, reference_in}
 use Rattle.warc_scan.specs.Openings.{IsOpening, Opening, opening_by}
-use Rattle.warc_scan.specs.Steps.{GroupsReach, HasNoGroup, IsCommittedRest, IsUnfinished, TellsGroup}
-use Rattle.warc_scan.specs.Stops.{Begins, Refuses}
+use Rattle.warc_scan.specs.Steps.{GroupsReach, HasNoGroup, IsCommittedRest, IsUnfinished, TellsGroup, TellsNoGroup, no_group_by}
+use Rattle.warc_scan.specs.Stops.{Begins, Refuses, no_record_by}
 use Rattle.warc_scan.specs.declared.group.Group.{Group}
 use Rattle.warc_scan.specs.declared.group_step.GroupStep.TheVariants as group_step
+use Rattle.warc_scan.specs.declared.no_record.NoRecord.{NoRecord}
+use Rattle.warc_scan.specs.declared.no_record.NoRecord.TheVariants as no_record
 use Rattle.warc_scan.specs.declared.stop.Stop.{Stop}
-use Rattle.warc_scan.specs.declared.stop.Stop.TheVariants.{Open, Until, Wrong}
+use Rattle.warc_scan.specs.declared.stop.Stop.TheVariants.{Open, Until, Wrong, Memory}
 use Rattle.warc_scan.proofs.Refusals.{begins_ends}
 use Rattle.warc_scan.proofs.Samples.{opening_with, some_digest_is, some_target, some_target_is}
 
 -- an opening of which there is one
-abbrev some_opening : Opening
+abbrev pub some_opening : Opening
 some_opening = opening_with 0 some_target (sha1 [])
 
-some_opening_is : IsOpening some_opening
+pub some_opening_is : IsOpening some_opening
 some_opening_is = record { date_is = omega arith; target = some_target_is; digest_is = some_digest_is; refers = tt; whole = tt }
 
 -- its text
-abbrev some_text : List ℕ → List ℕ
+abbrev pub some_text : List ℕ → List ℕ
 some_text id = opening_by id some_opening None
 
-some_text_begins : (id : List ℕ) → some_text id ≡ 87 ∷ drop 1 (some_text id)
+pub some_text_begins : (id : List ℕ) → some_text id ≡ 87 ∷ drop 1 (some_text id)
 unfolding response_opening opening version_line type_line field
 some_text_begins id = refl
 
-some_text_goes_on : (id : List ℕ) → 0 < length (drop 1 (some_text id))
+pub some_text_goes_on : (id : List ℕ) → 0 < length (drop 1 (some_text id))
 unfolding response_opening opening version_line type_line field
 some_text_goes_on id = omega arith
 
@@ -121,6 +123,39 @@ module _ (namespace : List ℕ) (number : ℕ) (bytes : List ℕ) where
   pub ends_until : (more : Bool) (n : ℕ) → more ≡ false → IsCommittedRest more bytes → RefusesGroups namespace number (Until n) bytes
       → TellsGroup namespace number more bytes group_step.Damaged
   ends_until more n ends committed refused = (committed, subst (λ m. HasNoGroup namespace number m bytes) (sym ends) (until_is_damaged n refused))
+
+  -- ---- what a stop comes to
+
+  pub tells_none : (stop : Stop) (more : Bool) → IsCommittedRest more bytes → RefusesGroups namespace number stop bytes → AsksByStop namespace number bytes stop
+      → TellsNoGroup namespace number more bytes (no_record_by stop more (length bytes))
+  tells_none Open true committed refused asks = needs_one true refl committed refused
+  tells_none Open false committed refused asks = ends_open false refl committed refused
+  tells_none (Until n) true committed refused asks = needs_record true n refl asks.block.inside committed refused
+  tells_none (Until n) false committed refused asks = ends_until false n refl committed refused
+  tells_none Wrong more committed refused asks = (committed, wrong_is_damaged more refused)
+  tells_none Memory more committed refused asks = tt
+
+  pub asks_none : (stop : Stop) (more : Bool) → AsksByStop namespace number bytes stop → AsksForMore namespace number bytes (no_record_by stop more (length bytes))
+  asks_none Open true asks = inl asks
+  asks_none Open false asks = tt
+  asks_none (Until n) true asks = inr asks
+  asks_none (Until n) false asks = tt
+  asks_none Wrong more asks = tt
+  asks_none Memory more asks = tt
+
+  pub step_tells : (more : Bool) (why : NoRecord) → TellsNoGroup namespace number more bytes why → TellsGroup namespace number more bytes (no_group_by why)
+  step_tells more no_record.End tells = tells
+  step_tells more no_record.Unfinished tells = tells
+  step_tells more no_record.Damaged tells = tells
+  step_tells more (no_record.Need n) tells = tells
+  step_tells more no_record.Memory tells = tt
+
+  pub step_asks : (why : NoRecord) → AsksForMore namespace number bytes why → AsksForGroup namespace number bytes (no_group_by why)
+  step_asks no_record.End asks = tt
+  step_asks no_record.Unfinished asks = tt
+  step_asks no_record.Damaged asks = tt
+  step_asks (no_record.Need n) asks = asks
+  step_asks no_record.Memory asks = tt
 
   -- ---- before the commit byte has a byte behind it
 

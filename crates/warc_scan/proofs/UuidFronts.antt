@@ -1,5 +1,7 @@
 -- The text of a UUID at the front of bytes.
-use Rattle.std.proofs.Common.{◌≡◌, ℕ, ◌<◌, ◌≤◌, inl, inr, List, [], ◌++◌, length, take, Option, Some, unwrap_or, refl, sym, ap, ◌∙◌, arith}
+use Rattle.std.proofs.Common.{◌≡◌, ℕ, ◌<◌, ◌≤◌, inl, inr, List, [], ◌++◌, length, length-append, take, get_or, Option, Some, unwrap_or, refl, sym, ap, subst, ◌∙◌, arith}
+use Rattle.std.specs.Prelude.{IsTrue}
+use Rattle.std.proofs.Math.ListN.{get_or-append}
 use Rattle.std.proofs.lemmas.List.{take_at, take-append-le}
 use Rattle.uuid.specs.Text.{lower, parsed}
 use Rattle.uuid.proofs.RoundTrips.{parses_hyphenated}
@@ -8,9 +10,12 @@ use Rattle.warc_text.specs.declared.id.IdKind.TheVariants.{Info}
 use Rattle.warc_text.proofs.IdLaws.{uuid_text_told}
 use Rattle.warc_text.proofs.Fronts.{fronts}
 use Rattle.warc_text.proofs.LengthLaws.{length-uuid_text}
+use Rattle.warc_scan.specs.Forms.{IsFormStop, fits, uuid_form}
 use Rattle.warc_scan.specs.OpenValues.{IsPartOfUuid}
-use Rattle.warc_scan.specs.Stops.{NoValueStands}
+use Rattle.warc_scan.specs.Stops.{Begins, NoValueStands}
+use Rattle.warc_scan.specs.declared.stop.Stop.{Stop}
 use Rattle.warc_scan.specs.declared.stop.Stop.TheVariants.{Open, Wrong}
+use Rattle.warc_scan.proofs.Forms.{form_stop, uuid_fits}
 use Rattle.warc_scan.proofs.Refusals.{IsTold, wrong_is_not_open}
 use Rattle.warc_scan.proofs.Samples.{some_id_is}
 
@@ -30,12 +35,29 @@ uuid_told id is w x y was e =
     (uuid_text_told id w is.length_is was.length_is is.bytes was.bytes texts.0, texts.1)
 
 -- bytes that are too few
-pub open_uuid : (bytes : List ℕ) → length bytes < 36 → NoValueStands IsUuid uuid_text IsPartOfUuid Open bytes
-open_uuid bytes short = record {
-  refuses = λ id is after other e. omega (arith, length-uuid_text id);
-  line = tt;
-  ends = λ is. (id_of [] Info 0, some_id_is, inr (short, omega (arith, length-uuid_text (id_of [] Info 0))));
-}
+pub uuid_stop : (bytes : List ℕ) (stop : Stop) → length bytes < 36 → IsFormStop uuid_form bytes stop → NoValueStands IsUuid uuid_text IsPartOfUuid stop bytes
+uuid_stop bytes stop short why =
+    form_stop IsUuid uuid_text uuid_form bytes (λ id is k lt. uuid_fits id k (omega (arith, lt, length-uuid_text id))) stop (id_of [] Info 0) some_id_is
+    (omega (arith, length-uuid_text (id_of [] Info 0))) short (λ id after other was e. omega (arith, short, length-uuid_text id)) why
+
+-- what begins one may be a part of one
+begun_uuid : (bytes id : List ℕ) → Begins (uuid_text id) bytes → IsPartOfUuid bytes
+begun_uuid bytes id is =
+    let longer : length bytes < 36 = omega (arith, is.more, ap length is.composed, length-append bytes is.behind, length-uuid_text id) in
+    record {
+      short = longer;
+      each = λ k lt.
+          let byte : get_or (uuid_text id) k 0 ≡ get_or bytes k 0 = ap (λ (l : List ℕ). get_or l k 0) is.composed ∙ get_or-append bytes is.behind 0 k lt in
+          subst (λ b. IsTrue (fits (get_or uuid_form k 0) b)) byte (uuid_fits id k (omega (arith, lt, longer)));
+    }
+
+pub part_of_uuid : (bytes : List ℕ) (stop : Stop) → NoValueStands IsUuid uuid_text IsPartOfUuid stop bytes → stop ≡ Open → IsPartOfUuid bytes
+part_of_uuid bytes stop none open_ =
+    let some = none.ends open_ in
+    elim some.2 [
+      | inl begins ↦ begun_uuid bytes some.0 begins
+      | inr part ↦ part.0
+    ]
 
 -- ---- thirty-six bytes that are no UUID's text
 

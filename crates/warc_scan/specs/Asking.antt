@@ -9,6 +9,8 @@ use Rattle.warc_scan.specs.Openings.{IsOpening, Opening, opening_text}
 use Rattle.warc_scan.specs.Stops.{Begins, EndsInside}
 use Rattle.warc_scan.specs.declared.group_step.GroupStep.{GroupStep}
 use Rattle.warc_scan.specs.declared.group_step.GroupStep.TheVariants as group_step
+use Rattle.warc_scan.specs.declared.no_record.NoRecord.{NoRecord}
+use Rattle.warc_scan.specs.declared.no_record.NoRecord.TheVariants as no_record
 use Rattle.warc_scan.specs.declared.stop.Stop.{Stop}
 use Rattle.warc_scan.specs.declared.stop.Stop.TheVariants.{Open, Until, Wrong, Memory}
 
@@ -80,6 +82,13 @@ AsksForGroup namespace number bytes group_step.Unfinished = ⊤
 AsksForGroup namespace number bytes group_step.Damaged = ⊤
 AsksForGroup namespace number bytes (group_step.Need n) = IsAskedFor namespace number bytes n
 AsksForGroup namespace number bytes group_step.Memory = ⊤
+
+abbrev pub AsksForMore : List ℕ → ℕ → List ℕ → NoRecord → Type 0
+AsksForMore namespace number bytes no_record.End = ⊤
+AsksForMore namespace number bytes no_record.Unfinished = ⊤
+AsksForMore namespace number bytes no_record.Damaged = ⊤
+AsksForMore namespace number bytes (no_record.Need n) = IsAskedFor namespace number bytes n
+AsksForMore namespace number bytes no_record.Memory = ⊤
 
 -- the same of a stop
 abbrev pub AsksByStop : List ℕ → ℕ → List ℕ → Stop → Type 0

@@ -5,11 +5,13 @@ use Rattle.warc_text.specs.Ids.{id_of}
 use Rattle.warc_text.specs.Lines.{ended}
 use Rattle.warc_text.specs.Records.{request_opening}
 use Rattle.warc_text.specs.declared.id.IdKind.TheVariants as ids
-use Rattle.warc_scan.specs.Answers.{IsAnswerOf}
-use Rattle.warc_scan.specs.Groups.{reference_in}
+use Rattle.warc_scan.specs.Answers.{IsAnswerOf, IsRead}
+use Rattle.warc_scan.specs.Groups.{HasPayloadLen, reference_in}
 use Rattle.warc_scan.specs.Openings.{IsOpening, opening_of, opening_text}
 use Rattle.warc_scan.specs.declared.group.Group.{Group}
-use Rattle.warc_scan.specs.declared.scan_group.Found.{Found}
+use Rattle.warc_scan.specs.declared.answer.Answer.{Answer}
+use Rattle.warc_scan.specs.declared.find.Found.{Found}
+use Rattle.warc_scan.specs.declared.find.Read.{Read}
 
 -- its response or revisit record
 abbrev pub first_record : List ℕ → ℕ → Found → List ℕ
@@ -48,7 +50,18 @@ pub record IsGroupIn (number : ℕ) (found : Found) (group : Group) : Type 0 whe
   pub request_is : group.stored.request ≡ found.request.now
   pub request : IsRequestOf group.stored.method found.request.now
   pub answer : IsAnswerOf group.stored.method found.answer.now found.opening group.stored.head group.stored.kept
+  pub payload_len : HasPayloadLen group.stored.method group.stored.head group.stored.kept group.payload_len
   pub len : group.len ≡ found.len
   pub first_len : group.first_len ≡ found.first_len
   pub head_at : group.head_at + length found.answer.now + 4 ≡ found.first_len
   pub body_at : group.body_at ≡ group.head_at + length group.stored.head
+
+-- the messages in its blocks, as they were read
+pub record HasMessages (found : Found) (method : List ℕ) (answer : Answer) : Type 0 where
+  pub request : IsRequestOf method found.request.now
+  pub answer_is : IsRead method found.answer.now found.opening answer
+
+-- the bytes begin with a group that was read
+pub record IsReadIn (namespace : List ℕ) (number : ℕ) (bytes : List ℕ) (read : Read) : Type 0 where
+  pub found : IsFoundIn namespace number bytes read.found
+  pub messages : HasMessages read.found read.method read.answer

@@ -51,6 +51,12 @@ IsAnswer method head digest same (Wire wire) = (same ≡ None) × IsResponse fal
 IsAnswer method head digest same (Same number) = (number ≡ unknown_number) × IsRevisit method head digest same
 IsAnswer method head digest same (Cut wire) = (same ≡ None) × IsResponse true method head wire digest
 
+-- the length of the payload, by what is kept: 0 of a revisit, which keeps none
+abbrev pub HasPayloadLen : List ℕ → List ℕ → Kept → ℕ → Type 0
+HasPayloadLen method head (Wire wire) len = (payload : List ℕ) × HasPayload false method head wire payload × (len ≡ length payload)
+HasPayloadLen method head (Same number) len = len ≡ 0
+HasPayloadLen method head (Cut wire) len = (payload : List ℕ) × HasPayload true method head wire payload × (len ≡ length payload)
+
 -- the length of the text and of its first record, which ends with its block and two line ends, and where the head and the
 -- body stand in it
 pub record HasPlaces (text first block : List ℕ) (group : Group) : Type 0 where
@@ -69,6 +75,7 @@ pub record IsGroup (namespace : List ℕ) (number : ℕ) (text : List ℕ) (grou
   pub date : InRange group.stored.date
   pub request : IsRequestOf group.stored.method group.stored.request
   pub answer : IsAnswer group.stored.method group.stored.head group.digest (reference_in group.same) group.stored.kept
+  pub payload_len : HasPayloadLen group.stored.method group.stored.head group.stored.kept group.payload_len
   pub places : HasPlaces text
       (answer_text (id_of namespace Response number) (taken_back group.stored) group.digest (reference_in group.same))
       (answer_block (taken_back group.stored) (reference_in group.same)) group

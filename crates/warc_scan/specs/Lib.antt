@@ -3,6 +3,8 @@ pub mod Asking
 pub mod Blocks
 pub mod Dates
 pub mod Digests
+pub mod FirstOpenings
+pub mod Forms
 pub mod Founds
 pub mod Fronts
 pub mod Groups
@@ -11,6 +13,7 @@ pub mod Infos
 pub mod Kinds
 pub mod OpenValues
 pub mod Openings
+pub mod Outlines
 pub mod SplitLines
 pub mod Steps
 pub mod Stops

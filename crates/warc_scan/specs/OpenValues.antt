@@ -1,7 +1,7 @@
 -- Which bytes may be the beginning of a value in a record's opening or in a warcinfo, and where such a value begins.
-use Rattle.std.specs.Prelude.{◌≡◌, ◌≢◌, ◌⊎◌, ℕ, ◌<◌, ◌≤◌, List, ◌++◌, codes, length, slice_index, IsTrue}
+use Rattle.std.specs.Prelude.{◌≡◌, ◌⊎◌, ℕ, ◌<◌, ◌^◌, List, [], ◌++◌, codes, decimal, IsTrue}
 use Rattle.capture.specs.Target.{is_target_text}
-use Rattle.warc_text.specs.Groups.{IsOneLine}
+use Rattle.warc_scan.specs.Forms.{IsPartOfForm, date_form, digest_form, uuid_form}
 
 -- ---- what each value stands behind
 
@@ -27,24 +27,23 @@ IsUuidMark mark = (mark ≡ refers_mark) ⊎ (mark ≡ info_mark)
 abbrev pub length_mark : List ℕ
 length_mark = codes "Content-Length: "
 
--- ---- what may have come of it
+-- ---- what may have come of it: the beginning of a value, as far as that is told by the bytes at each place
 
--- a date has twenty bytes where the last of these is `Z`, else twenty-four
 abbrev pub IsPartOfDate : List ℕ → Type 0
-IsPartOfDate part = (length part < 20) ⊎ ((length part < 24) × (slice_index part 19 ≢ 90))
+IsPartOfDate part = IsPartOfForm date_form part
 
 abbrev pub IsPartOfTarget : List ℕ → Type 0
 IsPartOfTarget part = IsTrue (is_target_text part)
 
 abbrev pub IsPartOfDigest : List ℕ → Type 0
-IsPartOfDigest part = length part < 32
+IsPartOfDigest part = IsPartOfForm digest_form part
 
 abbrev pub IsPartOfUuid : List ℕ → Type 0
-IsPartOfUuid part = length part < 36
+IsPartOfUuid part = IsPartOfForm uuid_form part
 
--- a number of 64 bits has at most twenty digits, and ends with its line
+-- of a number of 64 bits, which ends with its line: nothing, or such a number
 abbrev pub IsPartOfNumber : List ℕ → Type 0
-IsPartOfNumber part = (length part ≤ 20) × IsOneLine part
+IsPartOfNumber part = (part ≡ []) ⊎ ((n : ℕ) × (n < 2 ^ 64) × (part ≡ decimal n))
 
 -- behind this mark
 abbrev pub IsPartBehind : List ℕ → List ℕ → Type 0

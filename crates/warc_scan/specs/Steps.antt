@@ -9,6 +9,8 @@ use Rattle.warc_scan.specs.declared.group_step.GroupStep.{GroupStep}
 use Rattle.warc_scan.specs.declared.group_step.GroupStep.TheVariants as group_step
 use Rattle.warc_scan.specs.declared.info_step.InfoStep.{InfoStep}
 use Rattle.warc_scan.specs.declared.info_step.InfoStep.TheVariants as info_step
+use Rattle.warc_scan.specs.declared.no_record.NoRecord.{NoRecord}
+use Rattle.warc_scan.specs.declared.no_record.NoRecord.TheVariants as no_record
 
 -- what may follow the bytes: something, where the file goes on, else nothing
 abbrev pub MayFollow : Bool → List ℕ → Type 0
@@ -55,6 +57,23 @@ TellsGroup namespace number more bytes group_step.Damaged = IsCommittedRest more
 TellsGroup namespace number more bytes (group_step.Need n) =
     (more ≡ true) × (length bytes < n) × GroupsReach namespace number bytes n × ¬ (IsUnfinished more bytes)
 TellsGroup namespace number more bytes group_step.Memory = ⊤
+
+-- the answer where no group is told
+abbrev pub no_group_by : NoRecord → GroupStep
+no_group_by no_record.End = group_step.End
+no_group_by no_record.Unfinished = group_step.Unfinished
+no_group_by no_record.Damaged = group_step.Damaged
+no_group_by (no_record.Need n) = group_step.Need n
+no_group_by no_record.Memory = group_step.Memory
+
+-- and what it says
+abbrev pub TellsNoGroup : List ℕ → ℕ → Bool → List ℕ → NoRecord → Type 0
+TellsNoGroup namespace number more bytes no_record.End = IsEnd more bytes
+TellsNoGroup namespace number more bytes no_record.Unfinished = IsUnfinished more bytes
+TellsNoGroup namespace number more bytes no_record.Damaged = IsCommittedRest more bytes × HasNoGroup namespace number more bytes
+TellsNoGroup namespace number more bytes (no_record.Need n) =
+    (more ≡ true) × (length bytes < n) × GroupsReach namespace number bytes n × ¬ (IsUnfinished more bytes)
+TellsNoGroup namespace number more bytes no_record.Memory = ⊤
 
 -- ---- warcinfos
 

@@ -1,6 +1,8 @@
 -- Why bytes don't begin with a text, whatever follows them.
-use Rattle.std.specs.Prelude.{◌≡◌, ◌⊎◌, ℕ, ◌<◌, ◌≤◌, List, [], ◌++◌, length, ⊤}
+use Rattle.std.specs.Prelude.{◌≡◌, ◌⊎◌, ℕ, ◌+◌, ◌<◌, ◌≤◌, Bool, true, false, List, [], ◌++◌, length, ⊤}
 use Rattle.warc_scan.specs.OpenValues.{IsOpenValue}
+use Rattle.warc_scan.specs.declared.no_record.NoRecord.{NoRecord}
+use Rattle.warc_scan.specs.declared.no_record.NoRecord.TheVariants as no_record
 use Rattle.warc_scan.specs.declared.stop.Stop.{Stop}
 use Rattle.warc_scan.specs.declared.stop.Stop.TheVariants.{Open, Until, Wrong, Memory}
 
@@ -14,6 +16,15 @@ Leaves Memory bytes text = ⊤
 -- where the text stands first, it goes on behind the bytes; or it doesn't stand there at all
 abbrev pub Refuses : Stop → List ℕ → List ℕ → Type 0
 Refuses stop bytes text = (after other : List ℕ) → bytes ++ after ≡ text ++ other → Leaves stop bytes text
+
+-- what it comes to, where so many bytes have come, and where the file goes on behind them or doesn't
+abbrev pub no_record_by : Stop → Bool → ℕ → NoRecord
+no_record_by Open true len = no_record.Need (len + 1)
+no_record_by Open false len = no_record.Damaged
+no_record_by (Until n) true len = no_record.Need n
+no_record_by (Until n) false len = no_record.Damaged
+no_record_by Wrong more len = no_record.Damaged
+no_record_by Memory more len = no_record.Memory
 
 -- the text begins with the bytes, and goes on behind them
 pub record Begins (text bytes : List ℕ) : Type 0 where

@@ -8,8 +8,8 @@ ghost use Rattle.capture.specs.declared.framing.Framing.{Framing as FramingForm}
 ghost use Rattle.capture.specs.declared.framing.FramingFault.{FramingFault};
 ghost use Rattle.httparse.specs.Grammar.{ResponseHead as ResponseForm};
 ghost use Rattle.message_body.specs.Framings.{framing_answer, told_by_response};
-ghost use Rattle.warc_scan.specs.Answers.{AreParts, IsAnswerOf, IsSomeBody, KeepsNone, TellsOfBody};
-ghost use Rattle.warc_scan.specs.Groups.{IsResponse};
+ghost use Rattle.warc_scan.specs.Answers.{AreParts, IsAnswerOf, IsRead, IsSomeBody, IsToldBy, TellsOfBody};
+ghost use Rattle.warc_scan.specs.Groups.{HasPayloadLen, IsResponse};
 ghost use Rattle.warc_scan.specs.Openings.{IsOpening, opening_of};
 ghost use Rattle.warc_scan.specs.Stops.{IsMessageStop};
 
@@ -17,9 +17,7 @@ use crate::limits::is_short_head;
 use crate::opening::Opening;
 use crate::stop::Stop;
 use crate::wire_digest::{digest_of_cut, digest_of_whole};
-use capture::{
-    Bytes, Digest, Framing, Kept, Memory, heads_end_at_the_first_empty_line, wires_have_one_payload,
-};
+use capture::{Digest, Framing, heads_end_at_the_first_empty_line, wires_have_one_payload};
 use http_wire::{ResponseHead, WireFault, find_head_end, framing_of, read_head};
 use std::alloc::Global;
 
@@ -29,11 +27,30 @@ const LEAST_FINAL: u16 = 200;
 /// The method that asks for a head alone (RFC 9110, section 9.3.2).
 const HEAD: &[u8] = b"HEAD";
 
-/// A response's head, and what is kept of its body.
-#[derive(Debug, PartialEq, Eq, Drop)]
-pub struct Answer {
-    pub head: Bytes,
-    pub kept: Kept,
+/// In which form a response stands in a group.
+#[derive(Clone, Copy, Debug, PartialEq, Eq)]
+pub enum Form {
+    /// Whole.
+    Whole,
+    /// Its head alone.
+    Revisit,
+    /// As far as it came.
+    Cut,
+}
+
+/// A response in a block, no byte of which is copied but its head's parts.
+#[derive(Debug, Drop)]
+pub struct Answer<'b> {
+    /// Its head.
+    pub head: &'b [u8],
+    /// What stands behind that.
+    pub wire: &'b [u8],
+    /// The parts of its head.
+    pub parsed: ResponseHead,
+    /// In which form it is kept.
+    pub form: Form,
+    /// The length of its payload in bytes: 0 of a revisit.
+    pub payload_len: u64,
 }
 
 /// A block, split behind the head of a final response.
@@ -44,31 +61,65 @@ struct Parts<'b> {
     parsed: ResponseHead,
 }
 
+/// What the parts of a block are.
+#[derive(Clone, Copy, Debug, PartialEq, Eq)]
+struct Told {
+    form: Form,
+    payload_len: u64,
+}
+
 /// The response, to a request of this method, that the block is. `Wrong`: it is none of which the opening may speak.
-pub fn read_answer(
+pub fn read_answer<'b>(
     alloc: Global,
     method: &[u8],
-    block: &[u8],
+    block: &'b [u8],
     opening: &Opening<'_>,
-) -> Result<Answer, Stop>
+) -> Result<Answer<'b>, Stop>
     requires { IsOpening (opening_of opening.now) }
-    ensures ok { IfOk result (λ answer. IsAnswerOf method.now block.now opening.now answer.head answer.kept) }
+    ensures ok { IfOk result (IsRead method.now block.now opening.now) }
     ensures wrong { IsErrOf result Stop.Wrong → (head : List ℕ) (kept : KeptForm)
         → ¬ (IsAnswerOf method.now block.now opening.now head kept) }
     ensures stops { IfErr result IsMessageStop }
 {
-    heads_end_at_the_first_empty_line();
     let parts = match split_head(alloc, block) {
         Ok(parts) => parts,
         Err(stop) => return Err(stop),
     };
+    let told = match tell(alloc, method, &parts, opening) {
+        Ok(told) => told,
+        Err(stop) => return Err(stop),
+    };
+    Ok(Answer {
+        head: parts.head,
+        wire: parts.wire,
+        parsed: parts.parsed,
+        form: told.form,
+        payload_len: told.payload_len,
+    })
+}
+
+/// What the parts are, by what the opening says. `Wrong`: they are none of which it may speak.
+fn tell(
+    alloc: Global,
+    method: &[u8],
+    parts: &Parts<'_>,
+    opening: &Opening<'_>,
+) -> Result<Told, Stop>
+    requires right { IsOpening (opening_of opening.now) }
+    requires parts { AreParts parts.now }
+    ensures ok { IfOk result (IsToldBy method.now parts.now opening.now) }
+    ensures wrong { IsErrOf result Stop.Wrong → (head : List ℕ) (kept : KeptForm)
+        → ¬ (IsAnswerOf method.now (parts.now.head.now ++ parts.now.wire.now) opening.now head kept) }
+    ensures stops { IfErr result IsMessageStop }
+{
+    heads_end_at_the_first_empty_line();
     match opening.same {
-        Some(_) => revisit(alloc, method, &parts),
+        Some(_) => revisit(method, parts),
         None => {
             if opening.cut {
-                return cut_response(alloc, method, &parts, &opening.digest);
+                return cut_response(alloc, method, parts, &opening.digest);
             }
-            whole_response(alloc, method, &parts, &opening.digest)
+            whole_response(alloc, method, parts, &opening.digest)
         }
     }
 }
@@ -99,9 +150,9 @@ fn split_head(alloc: Global, block: &[u8]) -> Result<Parts<'_>, Stop>
 }
 
 /// A revisit has the head alone, which tells of a body.
-fn revisit(alloc: Global, method: &[u8], parts: &Parts<'_>) -> Result<Answer, Stop>
+fn revisit(method: &[u8], parts: &Parts<'_>) -> Result<Told, Stop>
     requires { AreParts parts.now }
-    ensures ok { IfOk result (λ answer. KeepsNone method.now parts.now answer.head answer.kept) }
+    ensures ok { IfOk result (λ told. (told.form ≡ Form.Revisit) × (told.payload_len ≡ 0) × TellsOfBody method.now parts.now) }
     ensures wrong { IsErrOf result Stop.Wrong → ¬ (TellsOfBody method.now parts.now) }
     ensures stops { IfErr result IsMessageStop }
 {
@@ -111,7 +162,10 @@ fn revisit(alloc: Global, method: &[u8], parts: &Parts<'_>) -> Result<Answer, St
     if !tells_body(told_framing(method, parts)) {
         return Err(Stop::Wrong);
     }
-    kept_head(alloc, parts, Kept::Same(u32::MAX))
+    Ok(Told {
+        form: Form::Revisit,
+        payload_len: 0,
+    })
 }
 
 /// Whether a body follows the head of which this was told.
@@ -135,10 +189,10 @@ fn whole_response(
     method: &[u8],
     parts: &Parts<'_>,
     digest: &Digest,
-) -> Result<Answer, Stop>
+) -> Result<Told, Stop>
     requires { AreParts parts.now }
-    ensures ok { IfOk result (λ answer. (answer.head ≡ parts.now.head.now) × (answer.kept ≡ Wire parts.now.wire.now)
-        × IsResponse false method.now parts.now.head.now parts.now.wire.now digest.now) }
+    ensures ok { IfOk result (λ told. (told.form ≡ Form.Whole) × IsResponse false method.now parts.now.head.now parts.now.wire.now digest.now
+        × HasPayloadLen method.now parts.now.head.now (Wire parts.now.wire.now) told.payload_len) }
     ensures wrong { IsErrOf result Stop.Wrong → ¬ (IsResponse false method.now parts.now.head.now parts.now.wire.now digest.now) }
     ensures stops { IfErr result IsMessageStop }
 {
@@ -151,11 +205,13 @@ fn whole_response(
         Ok(found) => found,
         Err(stop) => return Err(stop),
     };
-    if !is_same(&found, digest) {
+    if !is_same(&found.digest, digest) {
         return Err(Stop::Wrong);
     }
-    let wire = copy_bytes(alloc, parts.wire)?;
-    kept_head(alloc, parts, Kept::Wire(wire))
+    Ok(Told {
+        form: Form::Whole,
+        payload_len: found.len,
+    })
 }
 
 /// A response that was cut, within the limits, of which what came of the payload has the digest.
@@ -164,10 +220,10 @@ fn cut_response(
     method: &[u8],
     parts: &Parts<'_>,
     digest: &Digest,
-) -> Result<Answer, Stop>
+) -> Result<Told, Stop>
     requires { AreParts parts.now }
-    ensures ok { IfOk result (λ answer. (answer.head ≡ parts.now.head.now) × (answer.kept ≡ Cut parts.now.wire.now)
-        × IsResponse true method.now parts.now.head.now parts.now.wire.now digest.now) }
+    ensures ok { IfOk result (λ told. (told.form ≡ Form.Cut) × IsResponse true method.now parts.now.head.now parts.now.wire.now digest.now
+        × HasPayloadLen method.now parts.now.head.now (Cut parts.now.wire.now) told.payload_len) }
     ensures wrong { IsErrOf result Stop.Wrong → ¬ (IsResponse true method.now parts.now.head.now parts.now.wire.now digest.now) }
     ensures stops { IfErr result IsMessageStop }
 {
@@ -183,11 +239,13 @@ fn cut_response(
         Ok(found) => found,
         Err(stop) => return Err(stop),
     };
-    if !is_same(&found, digest) {
+    if !is_same(&found.digest, digest) {
         return Err(Stop::Wrong);
     }
-    let wire = copy_bytes(alloc, parts.wire)?;
-    kept_head(alloc, parts, Kept::Cut(wire))
+    Ok(Told {
+        form: Form::Cut,
+        payload_len: found.len,
+    })
 }
 
 /// Whether the digests are the same.
@@ -202,20 +260,4 @@ fn told_framing(method: &[u8], parts: &Parts<'_>) -> Result<Framing, WireFault>
     ensures { result ≡ framing_answer (told_by_response (asks_for_head method.now) parts.now.parsed) }
 {
     framing_of(method == HEAD, &parts.parsed)
-}
-
-/// A copy of bytes.
-pub fn copy_bytes(alloc: Global, bytes: &[u8]) -> Result<Bytes, Memory>
-    ensures { IfOk result (λ copy. copy ≡ bytes.now) }
-{
-    Ok(Bytes::of(Vec::from_slice(alloc, bytes)?))
-}
-
-/// The head, in memory of its own, beside what is kept.
-fn kept_head(alloc: Global, parts: &Parts<'_>, kept: Kept) -> Result<Answer, Stop>
-    ensures ok { IfOk result (λ answer. (answer.head ≡ parts.now.head.now) × (answer.kept ≡ kept)) }
-    ensures memory { IfErr result (λ stop. stop ≡ Stop.Memory) }
-{
-    let head = copy_bytes(alloc, parts.head)?;
-    Ok(Answer { head, kept })
 }

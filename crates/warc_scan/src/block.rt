@@ -1,6 +1,7 @@
 //! The block of a record, with its length before it and the line ends behind it (ISO 28500, WARC 1.1, section 4).
 ghost use Rattle.std.specs.Prelude.{◌≡◌, ℕ, ◌+◌, ◌<◌, ◌≤◌, ◌^◌, List, ◌++◌, decimal, length, take, IfOk, IfErr, IfSome, IfNone};
 ghost use Rattle.httparse.specs.Ascii.{crlf_bytes};
+ghost use Rattle.warc_text.specs.Groups.{IsOneLine};
 ghost use Rattle.warc_text.specs.Lines.{length_lines};
 ghost use Rattle.warc_scan.specs.Blocks.{AsksForBlock, HasBlock, IsWord, RefusesBlock};
 ghost use Rattle.warc_scan.specs.OpenValues.{IsPartOfNumber};
@@ -10,9 +11,6 @@ use crate::fields::split_line;
 use crate::stop::Stop;
 use crate::strip::strip;
 use itoa::Buffer;
-
-/// The most digits of a number below 2 to the 64th.
-const MOST_DIGITS: usize = 20;
 
 /// The greatest length of a text in memory, and one more.
 const TOO_LONG: u64 = 1 << 63;
@@ -61,7 +59,7 @@ fn end_of(at: u64, told: u64) -> Option<u64>
 }
 
 /// Reads the length of a block, and the empty line behind it.
-fn read_length(bytes: &[u8]) -> Result<(u64, &[u8]), Stop>
+pub fn read_length(bytes: &[u8]) -> Result<(u64, &[u8]), Stop>
     ensures ok { IfOk result (λ read. IsWord read.0 × (bytes.now ≡ length_lines read.0 ++ read.1.now)) }
     ensures err { IfErr result (λ stop. NoneStands IsWord length_lines stop bytes.now) }
 {
@@ -77,16 +75,27 @@ fn read_number(bytes: &[u8]) -> Result<(u64, &[u8]), Stop>
     ensures err { IfErr result (λ stop. NoValueStands IsWord (λ n. decimal n ++ crlf_bytes) IsPartOfNumber stop bytes.now) }
 {
     let Some((digits, behind)) = split_line(bytes) else {
-        if bytes.len() > MOST_DIGITS {
-            return Err(Stop::Wrong);
-        }
-        return Err(Stop::Open);
+        return Err(open_number(bytes));
     };
     let Some(n) = number_of(digits) else {
         return Err(Stop::Wrong);
     };
     let rest = strip(behind, b"\r\n")?;
     Ok((n, rest))
+}
+
+/// Why no number stands whose line hasn't ended: it may go on, or none begins so.
+fn open_number(bytes: &[u8]) -> Stop
+    requires { IsOneLine bytes.now }
+    ensures { NoValueStands IsWord (λ n. decimal n ++ crlf_bytes) IsPartOfNumber result bytes.now }
+{
+    if bytes.is_empty() {
+        return Stop::Open;
+    }
+    match number_of(bytes) {
+        Some(_) => Stop::Open,
+        None => Stop::Wrong,
+    }
 }
 
 /// The number that is written so.

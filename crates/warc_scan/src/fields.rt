@@ -11,6 +11,7 @@ ghost use Rattle.warc_scan.specs.Openings.{IsTarget};
 ghost use Rattle.warc_scan.specs.SplitLines.{IsSplitLine};
 ghost use Rattle.warc_scan.specs.Stops.{Differs, NoneStands, NoValueStands};
 
+use crate::form::{DATE_FORM, UUID_FORM, open_form};
 use crate::stop::Stop;
 use crate::strip::strip;
 use capture::{accepted_uri, is_target_text};
@@ -21,6 +22,11 @@ use uuid::Uuid;
 
 /// Where `Z` stands in a date that is a whole second, and else the dot before its fraction.
 const SECOND_END: usize = 19;
+
+/// The length of a date that is a whole second, and that of one with a fraction.
+const SECOND_LEN: usize = 20;
+
+const FRACTION_LEN: usize = 24;
 
 /// The length of a UUID's text.
 const UUID_LEN: usize = 36;
@@ -74,11 +80,9 @@ pub fn read_date(bytes: &[u8]) -> Result<(u64, &[u8]), Stop>
     ensures err { IfErr result (λ stop. NoValueStands InRange warc_date IsPartOfDate stop bytes.now) }
     ensures ends { IsErrOf result Stop.Open → length bytes.now < 24 }
 {
-    let Some(len) = date_len(bytes) else {
-        return Err(Stop::Open);
-    };
+    let len = date_len(bytes);
     if bytes.len() < len {
-        return Err(Stop::Open);
+        return Err(open_form(bytes, DATE_FORM));
     }
     let (text, rest) = bytes.split_at(len);
     match read_warc(text) {
@@ -87,18 +91,17 @@ pub fn read_date(bytes: &[u8]) -> Result<(u64, &[u8]), Stop>
     }
 }
 
-/// The length that a date at the front has. `None` where the bytes don't tell.
-fn date_len(bytes: &[u8]) -> Option<usize>
-    ensures some { IfSome result (IsDateLen bytes.now) }
-    ensures none { IfNone result (length bytes.now < 20) }
+/// The length that a date at the front has: that of a whole second where its `Z` has come, else that with a fraction.
+fn date_len(bytes: &[u8]) -> usize
+    ensures { IsDateLen bytes.now result }
 {
     if bytes.len() <= SECOND_END {
-        return None;
+        return FRACTION_LEN;
     }
     if bytes[SECOND_END] == b'Z' {
-        Some(20)
+        SECOND_LEN
     } else {
-        Some(24)
+        FRACTION_LEN
     }
 }
 
@@ -178,7 +181,7 @@ pub fn read_uuid(bytes: &[u8]) -> Result<(Uuid, &[u8]), Stop>
     ensures ends { IsErrOf result Stop.Open → length bytes.now < 36 }
 {
     if bytes.len() < UUID_LEN {
-        return Err(Stop::Open);
+        return Err(open_form(bytes, UUID_FORM));
     }
     let (text, rest) = bytes.split_at(UUID_LEN);
     let Ok(id) = Uuid::try_parse_ascii(text) else {

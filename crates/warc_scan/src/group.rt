@@ -23,6 +23,8 @@ pub struct Group {
     pub stored: Stored,
     /// The payload's digest: of a response that of its payload, of a revisit what the record says.
     pub digest: Digest,
+    /// The length of the payload in bytes: of a revisit, whose record doesn't hold it, 0.
+    pub payload_len: u64,
     /// The record that a revisit refers to. Whether it is there, and has this payload, isn't looked at.
     pub same: Option<Revisited>,
     /// Where the response's head begins.

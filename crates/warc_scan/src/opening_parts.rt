@@ -10,6 +10,7 @@ ghost use Rattle.warc_scan.specs.Openings.{IsOpening, IsRevisited, IsTarget, fro
 ghost use Rattle.warc_scan.specs.Stops.{Differs, NoneStands};
 
 use crate::fields::{read_date_field, read_target_field, read_uuid, strip_field, strip_id_field};
+use crate::form::{DIGEST_FORM, open_form};
 use crate::stop::Stop;
 use crate::strip::strip;
 use capture::Digest;
@@ -62,7 +63,7 @@ pub fn read_digest_line(bytes: &[u8]) -> Result<(Digest, &[u8]), Stop>
 {
     let given = strip(bytes, b"WARC-Payload-Digest: sha1:")?;
     if given.len() < DIGEST_LEN {
-        return Err(Stop::Open);
+        return Err(open_form(given, DIGEST_FORM));
     }
     let (text, end) = given.split_at(DIGEST_LEN);
     let Some(digest) = read_base32(text) else {

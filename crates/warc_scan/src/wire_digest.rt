@@ -1,7 +1,8 @@
-//! The digests of bodies, whole or cut.
-ghost use Rattle.std.specs.Prelude.{◌≡◌, ℕ, false, true, IfOk, IfErr, IsErrOf};
+//! The payloads of bodies, whole or cut: their digests and their lengths.
+ghost use Rattle.std.specs.Prelude.{◌≡◌, ℕ, false, true, length, IfOk, IfErr, IsErrOf};
+ghost use Rattle.sha1.specs.Sha1.{sha1};
 ghost use Rattle.capture.specs.Body.{IsBody, IsCutWire};
-ghost use Rattle.warc_scan.specs.Digests.{HasDigest};
+ghost use Rattle.warc_scan.specs.Digests.{HasDigest, HasLength};
 ghost use Rattle.warc_scan.specs.Stops.{IsMessageStop};
 
 use crate::limits::is_within_limits;
@@ -11,10 +12,31 @@ use digest32::payload_digest;
 use http_wire::{PayloadFault, payload_of, payload_of_cut};
 use std::alloc::Global;
 
-/// The digest of the payload of a whole body. `Wrong`: the wire is no body of the framing.
-pub fn digest_of_whole(alloc: Global, framing: Framing, wire: &[u8]) -> Result<Digest, Stop>
-    ensures body { IfOk result (λ digest. IsBody framing wire.now) }
-    ensures digest { IfOk result (HasDigest false framing wire.now) }
+/// What is told of a payload.
+#[derive(Clone, Copy, Debug, PartialEq, Eq)]
+pub struct Summary {
+    /// Its digest.
+    pub digest: Digest,
+    /// Its length in bytes.
+    pub len: u64,
+}
+
+/// The digest and the length of a payload.
+fn summary_of(payload: &[u8]) -> Summary
+    ensures digest { result.digest ≡ sha1 payload.now }
+    ensures length { result.len ≡ length payload.now }
+{
+    Summary {
+        digest: payload_digest(payload),
+        len: payload.len() as u64,
+    }
+}
+
+/// The digest and the length of the payload of a whole body. `Wrong`: the wire is no body of the framing.
+pub fn digest_of_whole(alloc: Global, framing: Framing, wire: &[u8]) -> Result<Summary, Stop>
+    ensures body { IfOk result (λ summary. IsBody framing wire.now) }
+    ensures digest { IfOk result (λ summary. HasDigest false framing wire.now summary.digest) }
+    ensures length { IfOk result (λ summary. HasLength false framing wire.now summary.len) }
     ensures wrong { IsErrOf result Stop.Wrong → ¬ (IsBody framing wire.now) }
     ensures stops { IfErr result IsMessageStop }
 {
@@ -24,27 +46,28 @@ pub fn digest_of_whole(alloc: Global, framing: Framing, wire: &[u8]) -> Result<D
             if !wire.is_empty() {
                 return Err(Stop::Wrong);
             }
-            Ok(payload_digest(wire))
+            Ok(summary_of(wire))
         }
         Framing::Length(n) => {
             if wire.len() as u64 != n {
                 return Err(Stop::Wrong);
             }
-            Ok(payload_digest(wire))
+            Ok(summary_of(wire))
         }
         Framing::Chunked => match payload_of(alloc, framing, wire) {
-            Ok(payload) => Ok(payload_digest(payload.as_slice())),
+            Ok(payload) => Ok(summary_of(payload.as_slice())),
             Err(PayloadFault::Malformed) => Err(Stop::Wrong),
             Err(PayloadFault::Memory) => Err(Stop::Memory),
         },
-        Framing::ToEnd => Ok(payload_digest(wire)),
+        Framing::ToEnd => Ok(summary_of(wire)),
     }
 }
 
-/// The digest of what came of the payload of a body that was cut. `Wrong`: the wire is none of the framing.
-pub fn digest_of_cut(alloc: Global, framing: Framing, wire: &[u8]) -> Result<Digest, Stop>
-    ensures body { IfOk result (λ digest. IsCutWire framing wire.now) }
-    ensures digest { IfOk result (HasDigest true framing wire.now) }
+/// The digest and the length of what came of the payload of a body that was cut. `Wrong`: the wire is none of the framing.
+pub fn digest_of_cut(alloc: Global, framing: Framing, wire: &[u8]) -> Result<Summary, Stop>
+    ensures body { IfOk result (λ summary. IsCutWire framing wire.now) }
+    ensures digest { IfOk result (λ summary. HasDigest true framing wire.now summary.digest) }
+    ensures length { IfOk result (λ summary. HasLength true framing wire.now summary.len) }
     ensures wrong { IsErrOf result Stop.Wrong → ¬ (IsCutWire framing wire.now) }
     ensures stops { IfErr result IsMessageStop }
 {
@@ -58,14 +81,14 @@ pub fn digest_of_cut(alloc: Global, framing: Framing, wire: &[u8]) -> Result<Dig
             if wire.len() as u64 >= n {
                 return Err(Stop::Wrong);
             }
-            Ok(payload_digest(wire))
+            Ok(summary_of(wire))
         }
         Framing::Chunked => {
             if !is_within_limits(wire) {
                 return Err(Stop::Wrong);
             }
             match payload_of_cut(alloc, framing, wire) {
-                Ok(come) => Ok(payload_digest(come.as_slice())),
+                Ok(come) => Ok(summary_of(come.as_slice())),
                 Err(PayloadFault::Malformed) => Err(Stop::Wrong),
                 Err(PayloadFault::Memory) => Err(Stop::Memory),
             }

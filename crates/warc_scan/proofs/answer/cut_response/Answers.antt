@@ -1,11 +1,9 @@
-use Rattle.std.proofs.Common.{true, Err, sym, ap, subst, ◌∙◌}
+use Rattle.std.proofs.Common.{true, Err, refl, sym, ap, subst, ◌∙◌}
 use Rattle.std.proofs.lemmas.Bool.{false≢true}
-use Rattle.std.proofs.lemmas.Result.{IfOk-weaker}
-use Rattle.capture.specs.declared.captured.Kept.TheVariants.{Cut}
 use Rattle.warc_scan.specs.Digests.{HasDigest}
 use Rattle.warc_scan.specs.declared.stop.Stop.TheVariants.{Wrong}
 use Rattle.warc_scan.proofs.AnswerHeads.{begins_at_once}
-use Rattle.warc_scan.proofs.AnswerParts.{cut_is, cut_long, cut_other, cut_untold, digest_found}
+use Rattle.warc_scan.proofs.AnswerParts.{cut_is, cut_len, cut_long, cut_other, cut_untold, digest_found}
 use Rattle.warc_scan.proofs.StopLaws.{same_stop}
 use Rattle.warc_scan.proofs.answer.cut_response.Goals as goal
 
@@ -31,13 +29,14 @@ returns-in-Err-digest_of_cut-clause-wrong c = λ is response.
 
 pub returns-then-not-is_same-clause-wrong : goal.returns-then-not-is_same-clause-wrong
 returns-then-not-is_same-clause-wrong c = λ is response.
-    let same = digest_found c.wires_have_one_payload.ensures.one true c.args.method.now c.args.parts.now c.in-Ok.framing c.in-Ok-digest_of_cut.found
+    let same = digest_found c.wires_have_one_payload.ensures.one true c.args.method.now c.args.parts.now c.in-Ok.framing c.in-Ok-digest_of_cut.found.digest
     c.args.digest.now c.requires c.in-Ok.ensures c.in-Ok-digest_of_cut.ensures.digest response in
     false≢true (sym c.if-not-is_same.true ∙ c.is_same.ensures.1 same)
 
 pub returns-clause-ok : goal.returns-clause-ok
 returns-clause-ok c =
     let same = c.is_same.ensures.0 c.if-not-is_same.false in
-    let response = cut_is c.args.method.now c.args.parts.now c.in-Ok.framing c.args.digest.now c.requires (c.is_short_head.ensures.0 c.if-not-is_short_head.false) c.in-Ok.ensures c.in-Ok-digest_of_cut.ensures.body
-    (subst (HasDigest true c.in-Ok.framing c.args.parts.now.wire.now) same c.in-Ok-digest_of_cut.ensures.digest) in
-    IfOk-weaker c.kept_head.result _ _ (λ answer kept. (kept.0, kept.1 ∙ ap Cut c.in_ok-wire.ensures, response)) c.kept_head.ensures.ok
+    let told = c.in-Ok-digest_of_cut.ensures in
+    let response = cut_is c.args.method.now c.args.parts.now c.in-Ok.framing c.args.digest.now c.requires (c.is_short_head.ensures.0 c.if-not-is_short_head.false) c.in-Ok.ensures told.body
+    (subst (HasDigest true c.in-Ok.framing c.args.parts.now.wire.now) same told.digest) in
+    (refl, response, cut_len c.args.method.now c.args.parts.now c.in-Ok.framing c.in-Ok-digest_of_cut.found.len c.requires c.in-Ok.ensures told.body told.length)

@@ -1,10 +1,8 @@
-use Rattle.std.proofs.Common.{false, Err, sym, ap, subst, ◌∙◌, arith}
+use Rattle.std.proofs.Common.{false, Err, refl, sym, ap, subst, ◌∙◌, arith}
 use Rattle.std.proofs.lemmas.Bool.{false≢true}
-use Rattle.std.proofs.lemmas.Result.{IfOk-weaker}
-use Rattle.capture.specs.declared.captured.Kept.TheVariants.{Wire}
 use Rattle.warc_scan.specs.Digests.{HasDigest}
 use Rattle.warc_scan.specs.declared.stop.Stop.TheVariants.{Wrong}
-use Rattle.warc_scan.proofs.AnswerParts.{digest_found, whole_is, whole_other, whole_untold}
+use Rattle.warc_scan.proofs.AnswerParts.{digest_found, whole_is, whole_len, whole_other, whole_untold}
 use Rattle.warc_scan.proofs.StopLaws.{same_stop}
 use Rattle.warc_scan.proofs.answer.whole_response.Goals as goal
 
@@ -19,13 +17,14 @@ returns-in-Err-digest_of_whole-clause-wrong c = λ is response.
 
 pub returns-then-not-is_same-clause-wrong : goal.returns-then-not-is_same-clause-wrong
 returns-then-not-is_same-clause-wrong c = λ is response.
-    let same = digest_found c.wires_have_one_payload.ensures.one false c.args.method.now c.args.parts.now c.in-Ok.framing c.in-Ok-digest_of_whole.found
+    let same = digest_found c.wires_have_one_payload.ensures.one false c.args.method.now c.args.parts.now c.in-Ok.framing c.in-Ok-digest_of_whole.found.digest
     c.args.digest.now c.requires c.in-Ok.ensures c.in-Ok-digest_of_whole.ensures.digest response in
     false≢true (sym c.if-not-is_same.true ∙ c.is_same.ensures.1 same)
 
 pub returns-clause-ok : goal.returns-clause-ok
 returns-clause-ok c =
     let same = c.is_same.ensures.0 c.if-not-is_same.false in
-    let response = whole_is c.args.method.now c.args.parts.now c.in-Ok.framing c.args.digest.now c.requires c.in-Ok.ensures c.in-Ok-digest_of_whole.ensures.body
-    (subst (HasDigest false c.in-Ok.framing c.args.parts.now.wire.now) same c.in-Ok-digest_of_whole.ensures.digest) in
-    IfOk-weaker c.kept_head.result _ _ (λ answer kept. (kept.0, kept.1 ∙ ap Wire c.in_ok-wire.ensures, response)) c.kept_head.ensures.ok
+    let told = c.in-Ok-digest_of_whole.ensures in
+    let response = whole_is c.args.method.now c.args.parts.now c.in-Ok.framing c.args.digest.now c.requires c.in-Ok.ensures told.body
+    (subst (HasDigest false c.in-Ok.framing c.args.parts.now.wire.now) same told.digest) in
+    (refl, response, whole_len c.args.method.now c.args.parts.now c.in-Ok.framing c.in-Ok-digest_of_whole.found.len c.requires c.in-Ok.ensures told.body told.length)

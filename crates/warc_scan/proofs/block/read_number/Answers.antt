@@ -1,17 +1,10 @@
 -- A number is a line of at most twenty digits.
-use Rattle.std.proofs.Common.{arith}
 use Rattle.warc_scan.specs.Blocks.{IsWord}
 use Rattle.warc_scan.specs.OpenValues.{IsPartOfNumber}
 use Rattle.warc_scan.specs.Stops.{NoValueStands}
 use Rattle.warc_scan.proofs.Exits.{at_exit}
-use Rattle.warc_scan.proofs.Numbers.{long_number, no_number, number_ends, number_line, number_stands, open_number}
+use Rattle.warc_scan.proofs.Numbers.{no_number, number_ends, number_line, number_stands}
 use Rattle.warc_scan.proofs.block.read_number.Goals as goal
-
-pub returns-then-bytes-gt-MOST_DIGITS-clause-err : goal.returns-then-bytes-gt-MOST_DIGITS-clause-err
-returns-then-bytes-gt-MOST_DIGITS-clause-err c = long_number c.args.bytes.now (omega arith) c.in_default.ensures.none
-
-pub returns-in_default-clause-err : goal.returns-in_default-clause-err
-returns-in_default-clause-err c = open_number c.args.bytes.now (omega arith) c.in_default.ensures.none
 
 pub returns-in_default-number_of-clause-err : goal.returns-in_default-number_of-clause-err
 returns-in_default-number_of-clause-err c =

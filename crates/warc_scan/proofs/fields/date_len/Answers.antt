@@ -1,9 +1,12 @@
 use Rattle.std.proofs.Common.{arith}
-use Rattle.warc_scan.proofs.DateFronts.{fraction_date, whole_date}
+use Rattle.warc_scan.proofs.DateFronts.{few_bytes, fraction_date, whole_date}
 use Rattle.warc_scan.proofs.fields.date_len.Goals as goal
 
-pub returns-then-bytes-eq90-clause-some : goal.returns-then-bytes-eq90-clause-some
-returns-then-bytes-eq90-clause-some c = whole_date c.args.bytes.now (omega arith) c.if-bytes-eq90.true
+pub returns-then-bytes-le-SECOND_END : goal.returns-then-bytes-le-SECOND_END
+returns-then-bytes-le-SECOND_END c = few_bytes c.args.bytes.now (omega arith)
 
-pub returns-else-bytes-eq90-clause-some : goal.returns-else-bytes-eq90-clause-some
-returns-else-bytes-eq90-clause-some c = fraction_date c.args.bytes.now (omega arith) c.if-bytes-eq90.false
+pub returns-then-bytes-eq90 : goal.returns-then-bytes-eq90
+returns-then-bytes-eq90 c = whole_date c.args.bytes.now (omega arith) c.if-bytes-eq90.true
+
+pub returns-else-bytes-eq90 : goal.returns-else-bytes-eq90
+returns-else-bytes-eq90 c = fraction_date c.args.bytes.now (omega arith) c.if-bytes-eq90.false

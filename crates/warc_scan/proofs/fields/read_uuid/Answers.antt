@@ -4,12 +4,12 @@ use Rattle.std.proofs.lemmas.Slice.Eq.{bytes_eq-Decides}
 use Rattle.uuid.specs.Text.{hyphenated_text, lower}
 use Rattle.warc_text.specs.Ids.{uuid_text}
 use Rattle.warc_scan.proofs.Pieces.{piece_stands}
-use Rattle.warc_scan.proofs.UuidFronts.{not_parsed, open_uuid, other_form}
+use Rattle.warc_scan.proofs.UuidFronts.{not_parsed, other_form, uuid_stop}
 use Rattle.warc_scan.proofs.UuidParsing.{parsed_is_uuid}
 use Rattle.warc_scan.proofs.fields.read_uuid.Goals as goal
 
 pub returns-then-bytes-lt-UUID_LEN-clause-err : goal.returns-then-bytes-lt-UUID_LEN-clause-err
-returns-then-bytes-lt-UUID_LEN-clause-err c = open_uuid c.args.bytes.now (omega arith)
+returns-then-bytes-lt-UUID_LEN-clause-err c = uuid_stop c.args.bytes.now c.open_form.result (omega arith) c.open_form.ensures
 
 pub returns-in_default-clause-err : goal.returns-in_default-clause-err
 returns-in_default-clause-err c =

@@ -7,7 +7,7 @@ use Rattle.digest32.specs.Base32.{IsDigest, base32}
 use Rattle.warc_text.specs.Lines.{digest_line, field}
 use Rattle.warc_scan.specs.OpenValues.{IsPartOfDigest}
 use Rattle.warc_scan.specs.Stops.{NoneStands}
-use Rattle.warc_scan.proofs.DigestLines.{digest_stands, digest_told, no_digest, open_digest}
+use Rattle.warc_scan.proofs.DigestLines.{digest_stands, digest_stop, digest_told, no_digest}
 use Rattle.warc_scan.proofs.Exits.{at_exit}
 use Rattle.warc_scan.proofs.Pieces.{at_value, before_value, behind_value, three}
 use Rattle.warc_scan.proofs.Samples.{some_digest_is}
@@ -23,7 +23,7 @@ pub returns-then-given-lt-DIGEST_LEN-clause-err : goal.returns-then-given-lt-DIG
 unfolding digest_line field
 returns-then-given-lt-DIGEST_LEN-clause-err c =
     at_value IsDigest base32 _ (codes "WARC-Payload-Digest: sha1:") crlf_bytes c.args.bytes.now IsPartOfDigest c.in_ok-given.given.now (λ part. inr (inr (inl (refl, part)))) c.in_ok-given.ensures.ok
-    (open_digest c.in_ok-given.given.now (omega arith))
+    (digest_stop c.in_ok-given.given.now c.open_form.result (omega arith) c.open_form.ensures)
 
 pub returns-in_default-clause-err : goal.returns-in_default-clause-err
 unfolding digest_line field

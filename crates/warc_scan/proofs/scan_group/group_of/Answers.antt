@@ -1,13 +1,36 @@
-use Rattle.std.proofs.Common.{Err, sym, ap, subst, ◌∙◌}
-use Rattle.warc_scan.specs.Answers.{IsAnswerOf}
-use Rattle.warc_scan.specs.declared.stop.Stop.TheVariants.{Wrong}
-use Rattle.warc_scan.proofs.RequestLaws.{one_method}
-use Rattle.warc_scan.proofs.StopLaws.{same_stop}
+use Rattle.std.proofs.Common.{length, refl, sym, ap, subst, arith}
+use Rattle.warc_scan.specs.Answers.{IsAnswerOf, kept_by}
+use Rattle.warc_scan.specs.Groups.{HasPayloadLen}
+use Rattle.warc_scan.proofs.TargetAscii.{revisited_target}
 use Rattle.warc_scan.proofs.scan_group.group_of.Goals as goal
 
-pub returns-clause-wrong : goal.returns-clause-wrong
-returns-clause-wrong c = λ is group made.
-    let one = one_method c.args.found.now.request.now group.stored.method c.in-Ok.message c.in-Ok.ensures.ok made.request in
-    c.in-Err-read_answer.ensures.wrong (ap (λ e. Err e) (same_stop _ c.in-Err-read_answer.stop Wrong is)) group.stored.head group.stored.kept
-    (subst (λ m. IsAnswerOf m c.args.found.now.answer.now c.args.found.now.opening group.stored.head group.stored.kept)
-    (sym (c.as_slice.ensures.value ∙ one)) made.answer)
+pub copy_revisited-requires : goal.copy_revisited-requires
+copy_revisited-requires c = revisited_target c.args.found.now.opening.same c.requires.found.opening.refers
+
+pub returns : goal.returns
+returns c =
+    let found = c.args.found.now in
+    let method = c.args.method in
+    let answer = c.args.answer.now in
+    let kept = kept_by answer.form answer.wire.now in
+    let is = c.requires.messages.answer_is in
+    let heads = c.in_ok-head.ensures in
+    record {
+      number_is = refl;
+      date = refl;
+      target = c.in_ok-uri.ensures;
+      digest = refl;
+      same = c.in_ok-same.ensures;
+      request_is = c.in_ok-request.ensures;
+      request = c.requires.messages.request;
+      answer =
+          subst (λ k. IsAnswerOf method found.answer.now found.opening c.in_ok-head.head k) (sym c.in_ok-kept.ensures)
+          (subst (λ h. IsAnswerOf method found.answer.now found.opening h kept) (sym heads) is.is);
+      payload_len =
+          subst (λ k. HasPayloadLen method c.in_ok-head.head k answer.payload_len) (sym c.in_ok-kept.ensures)
+          (subst (λ h. HasPayloadLen method h kept answer.payload_len) (sym heads) is.payload_len);
+      len = refl;
+      first_len = refl;
+      head_at = omega (arith, c.requires.found.places);
+      body_at = omega (arith, ap length heads);
+    }

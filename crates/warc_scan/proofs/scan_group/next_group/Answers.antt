@@ -1,35 +1,23 @@
-use Rattle.warc_scan.proofs.StepLaws.{begun_asks, ends_open, ends_until, needs_one, needs_record, needs_second_byte, wrong_is_damaged}
+use Rattle.std.proofs.Common.{sym, subst}
+use Rattle.warc_scan.specs.Asking.{AsksForGroup}
+use Rattle.warc_scan.specs.Steps.{TellsGroup}
+use Rattle.warc_scan.proofs.ReadLaws.{found_group, found_is}
+use Rattle.warc_scan.proofs.StepLaws.{step_asks, step_tells}
 use Rattle.warc_scan.proofs.scan_group.next_group.Goals as goal
 
-pub returns-in-Begun-clause-tells : goal.returns-in-Begun-clause-tells
-returns-in-Begun-clause-tells c =
-    needs_second_byte c.args.namespace.now c.args.number c.args.bytes.now c.args.more c.in-Begun.ensures.0 c.texts_are_committed.ensures.groups c.in-Begun.ensures.1
+pub group_of-requires-clause-found : goal.group_of-requires-clause-found
+group_of-requires-clause-found c = found_is c.args.namespace.now c.args.number c.args.bytes.now c.in-Ok.read.found c.in-Ok.ensures.ok.found
 
-pub returns-in-Begun-clause-asks : goal.returns-in-Begun-clause-asks
-returns-in-Begun-clause-asks c = begun_asks c.args.namespace.now c.args.number c.args.bytes.now c.in-Begun.ensures.1
+pub returns-in-Ok-group_of-clause-tells : goal.returns-in-Ok-group_of-clause-tells
+returns-in-Ok-group_of-clause-tells c =
+    found_group c.args.namespace.now c.args.number c.args.bytes.now c.in-Ok.read.found c.in-Ok.ensures.ok.found c.in-Ok-group_of.group c.in-Ok-group_of.ensures
 
-pub returns-then-more-clause-tells : goal.returns-then-more-clause-tells
-returns-then-more-clause-tells c =
-    let refused = rw c.in-Err-Open.field-0-is at c.in-Err-Open.ensures.err in
-    needs_one c.args.namespace.now c.args.number c.args.bytes.now c.args.more c.if-more.true c.in-Committed.ensures.1 refused
+pub returns-in-Err-clause-tells : goal.returns-in-Err-clause-tells
+returns-in-Err-clause-tells c =
+    subst (TellsGroup c.args.namespace.now c.args.number c.args.more c.args.bytes.now) (sym c.no_group.ensures)
+    (step_tells c.args.namespace.now c.args.number c.args.bytes.now c.args.more c.in-Err.why c.in-Err.ensures.tells)
 
-pub returns-else-more-clause-tells : goal.returns-else-more-clause-tells
-returns-else-more-clause-tells c =
-    let refused = rw c.in-Err-Open.field-0-is at c.in-Err-Open.ensures.err in
-    ends_open c.args.namespace.now c.args.number c.args.bytes.now c.args.more c.if-more.false c.in-Committed.ensures.1 refused
-
-pub returns-then-more-2-clause-tells : goal.returns-then-more-2-clause-tells
-returns-then-more-2-clause-tells c =
-    let refused = rw c.in-Err-Until.field-0-is at c.in-Err-Until.ensures.err in
-    let asks = rw c.in-Err-Until.field-0-is at c.in-Err-Until.ensures.asks in
-    needs_record c.args.namespace.now c.args.number c.args.bytes.now c.args.more c.in-Err-Until.n c.if-more-2.true asks.block.inside c.in-Committed.ensures.1 refused
-
-pub returns-else-more-2-clause-tells : goal.returns-else-more-2-clause-tells
-returns-else-more-2-clause-tells c =
-    let refused = rw c.in-Err-Until.field-0-is at c.in-Err-Until.ensures.err in
-    ends_until c.args.namespace.now c.args.number c.args.bytes.now c.args.more c.in-Err-Until.n c.if-more-2.false c.in-Committed.ensures.1 refused
-
-pub returns-in-Err-Wrong-clause-tells : goal.returns-in-Err-Wrong-clause-tells
-returns-in-Err-Wrong-clause-tells c =
-    let refused = rw c.in-Err-Wrong.field-0-is at c.in-Err-Wrong.ensures.err in
-    (c.in-Committed.ensures.1, wrong_is_damaged c.args.namespace.now c.args.number c.args.bytes.now c.args.more refused)
+pub returns-in-Err-clause-asks : goal.returns-in-Err-clause-asks
+returns-in-Err-clause-asks c =
+    subst (AsksForGroup c.args.namespace.now c.args.number c.args.bytes.now) (sym c.no_group.ensures)
+    (step_asks c.args.namespace.now c.args.number c.args.bytes.now c.in-Err.why c.in-Err.ensures.asks)

@@ -1,7 +1,7 @@
 use Rattle.std.proofs.Common.{sym, subst}
 use Rattle.std.specs.Prelude.{IsAscii}
 use Rattle.warc_scan.proofs.TargetAscii.{none_is_no_some, target_is_ascii}
-use Rattle.warc_scan.proofs.scan_group.copy_target.Goals as goal
+use Rattle.warc_scan.proofs.copy.copy_target.Goals as goal
 
 pub unreachable-requires : goal.unreachable-requires
 unreachable-requires c =

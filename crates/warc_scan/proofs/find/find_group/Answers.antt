@@ -7,7 +7,7 @@ use Rattle.warc_scan.specs.Blocks.{AsksForBlock, HasBlock, RefusesBlock}
 use Rattle.warc_scan.specs.Openings.{opening_of, opening_text}
 use Rattle.warc_scan.specs.Stops.{Differs}
 use Rattle.warc_scan.proofs.FindLaws.{block_asks, first_front, found_in, no_block, no_opening, no_request, no_second_opening, none_told, opening_asks, opening_told_by, parts_of, request_asks, second_front, second_opening_asks, second_told}
-use Rattle.warc_scan.proofs.scan_group.find_group.Goals as goal
+use Rattle.warc_scan.proofs.find.find_group.Goals as goal
 
 pub returns-in-Err-clause-err : goal.returns-in-Err-clause-err
 returns-in-Err-clause-err c = λ text group is.

@@ -1,0 +1,35 @@
+-- What is told of a group without the bodies of its messages.
+use Rattle.std.specs.Prelude.{◌≡◌, ℕ, List, length}
+use Rattle.capture.specs.Captures.{is_cut, kept_wire}
+use Rattle.http_head.specs.Heads.{HoldsResponse}
+use Rattle.warc_scan.specs.Founds.{IsGroupIn}
+use Rattle.warc_scan.specs.Steps.{BeginsWithGroup}
+use Rattle.warc_scan.specs.declared.find.Found.{Found}
+use Rattle.warc_scan.specs.declared.group.Group.{Group}
+use Rattle.warc_scan.specs.declared.outline.Outline.{Outline}
+
+-- it is that of this group
+pub record IsOutlineOf (group : Group) (outline : Outline) : Type 0 where
+  pub number_is : outline.number ≡ group.number
+  pub method_is : outline.method ≡ group.stored.method
+  pub uri_is : outline.uri ≡ group.stored.uri
+  pub date_is : outline.date ≡ group.stored.date
+  pub head_is : HoldsResponse group.stored.head outline.head
+  pub cut_is : outline.cut ≡ is_cut group.stored.kept
+  pub digest_is : outline.digest ≡ group.digest
+  pub payload_len_is : outline.payload_len ≡ group.payload_len
+  pub same_is : outline.same ≡ group.same
+  pub request_len : outline.request_len ≡ length group.stored.request
+  pub wire_len : outline.wire_len ≡ length (kept_wire group.stored.kept)
+  pub head_at_is : outline.head_at ≡ group.head_at
+  pub body_at_is : outline.body_at ≡ group.body_at
+  pub first_len_is : outline.first_len ≡ group.first_len
+  pub len_is : outline.len ≡ group.len
+
+-- the bytes begin with a group of which this is told
+abbrev pub BeginsWithOutline : List ℕ → ℕ → List ℕ → Outline → Type 0
+BeginsWithOutline namespace number bytes outline = (group : Group) × BeginsWithGroup namespace number bytes group × IsOutlineOf group outline
+
+-- the parts make a group of which this is told
+abbrev pub MakesOutline : ℕ → Found → Outline → Type 0
+MakesOutline number found outline = (group : Group) × IsGroupIn number found group × IsOutlineOf group outline

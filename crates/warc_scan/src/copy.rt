@@ -1,0 +1,59 @@
+//! What is kept of a group, in memory of its own.
+ghost use Rattle.std.specs.Prelude.{◌≡◌, option_map, IfOk, IfSome, IsTrue};
+ghost use Rattle.capture.specs.Target.{is_accepted_uri};
+ghost use Rattle.warc_scan.specs.Answers.{kept_by};
+ghost use Rattle.warc_scan.specs.Groups.{reference_in};
+ghost use Rattle.warc_scan.specs.Openings.{reference_of};
+
+use crate::Revisited;
+use crate::answer::{Answer, Form};
+use crate::opening_parts::Refers;
+use capture::{Bytes, Kept, Memory, Text};
+use std::alloc::Global;
+
+/// A copy of bytes.
+pub fn copy_bytes(alloc: Global, bytes: &[u8]) -> Result<Bytes, Memory>
+    ensures { IfOk result (λ copy. copy ≡ bytes.now) }
+{
+    Ok(Bytes::of(Vec::from_slice(alloc, bytes)?))
+}
+
+/// What is kept of a response. Which capture a revisit is of isn't known yet.
+pub fn copy_kept(alloc: Global, answer: &Answer<'_>) -> Result<Kept, Memory>
+    ensures { IfOk result (λ kept. kept ≡ kept_by answer.now.form answer.now.wire.now) }
+{
+    match answer.form {
+        Form::Whole => Ok(Kept::Wire(copy_bytes(alloc, answer.wire)?)),
+        Form::Revisit => Ok(Kept::Same(u32::MAX)),
+        Form::Cut => Ok(Kept::Cut(copy_bytes(alloc, answer.wire)?)),
+    }
+}
+
+/// What is referred to, in memory of its own.
+pub fn copy_revisited(alloc: Global, same: &Option<Refers<'_>>) -> Result<Option<Revisited>, Memory>
+    requires { IfSome same.now (λ refers. IsTrue (is_accepted_uri refers.uri.now)) }
+    ensures { IfOk result (λ revisited. reference_in revisited ≡ option_map reference_of same.now) }
+{
+    match same {
+        None => Ok(None),
+        Some(refers) => {
+            let uri = copy_target(alloc, refers.uri)?;
+            Ok(Some(Revisited {
+                id: refers.id,
+                uri,
+                date: refers.date,
+            }))
+        }
+    }
+}
+
+/// A copy of an accepted target.
+pub fn copy_target(alloc: Global, uri: &[u8]) -> Result<Text, Memory>
+    requires { IsTrue (is_accepted_uri uri.now) }
+    ensures { IfOk result (λ text. text ≡ uri.now) }
+{
+    match Text::of(Vec::from_slice(alloc, uri)?) {
+        Some(text) => Ok(text),
+        None => unreachable!(),
+    }
+}
