@@ -169,4 +169,8 @@ impl Link for EchoLink {
         }
         Ok(piece.len())
     }
+
+    fn await_request(&mut self)
+        ensures { self.new ≡ self.old }
+    {}
 }

@@ -49,4 +49,10 @@ pub trait Link {
 
         ensures takes_nothing { IsTrue tells → OnErr result (traffic self.new ≡ traffic self.old) }
         ensures counts { CountsFaults (faults self.old) (faults self.new) result };
+
+    /// Says that nothing but a next request is awaited from now on, until a byte of it has come: a link may choose its
+    /// limits of time by it. It gives and takes nothing.
+    fn await_request(&mut self)
+        ensures same_traffic { IsTrue tells → traffic self.new ≡ traffic self.old }
+        ensures same_faults { faults self.new ≡ faults self.old };
 }

@@ -193,4 +193,8 @@ impl Link for MemoryLink {
         }
         Ok(n)
     }
+
+    fn await_request(&mut self)
+        ensures { self.new ≡ self.old }
+    {}
 }
