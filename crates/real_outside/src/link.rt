@@ -86,4 +86,6 @@ impl<R: StandardStreams + Print + Network> Link for RealLink<R> {
             RealLink::Echo { link, faults } => counted(faults, link.write(piece)),
         }
     }
+
+    fn await_request(&mut self) {}
 }
