@@ -6,14 +6,15 @@ use Rattle.outside.specs.declared.dialer.DialError.TheVariants.{Failed, Memory}
 use Rattle.outside.specs.declared.dialer.Transcript.{Transcript}
 use Rattle.outside.specs.Link.{Traffic}
 
--- what went over a link, as a dialer keeps it
-abbrev pub transcript_of : Traffic → Transcript
-transcript_of traffic = record {
+-- what went over a link that failed so often, as a dialer keeps it
+abbrev pub transcript_of : Traffic → ℕ → Transcript
+transcript_of traffic faults = record {
   host = traffic.host;
   port = traffic.port;
   sent = traffic.taken;
   given = traffic.given;
   ended = traffic.ended;
+  faults = faults;
 }
 
 -- A dial counts its fault: the count rises where it answers Failed, and else stays.

@@ -18,6 +18,6 @@ new_dialer = record { links = nothing_out; faults = 0 }
 -- a hang-up keeps the link's transcript, and counts a fault where the link had one
 abbrev pub after_hang_up : DialerToEcho → LinkToEcho → DialerToEcho
 after_hang_up dialer link = record {
-  links = one_in dialer.links (transcript_of link.traffic);
+  links = one_in dialer.links (transcript_of link.traffic link.faults);
   faults = if link.faults == 0 then dialer.faults else one_more dialer.faults;
 }

@@ -59,6 +59,7 @@ heard_of traffic faults = record {
   ended = traffic.ended;
   written = traffic.taken;
   faults = faults;
+  failed_writes = traffic.failed_writes;
 }
 
 -- An accept counts its fault: the count rises where it answers Failed, and else stays.

@@ -38,7 +38,7 @@ after_dial dialer (Err Memory) = record dialer { calls = passed dialer.calls }
 -- a hang-up keeps the link's transcript, and counts a fault where the link had one
 abbrev pub after_hang_up : DialerInMemory → LinkInMemory → DialerInMemory
 after_hang_up dialer link = record dialer {
-  links = one_in dialer.links (transcript_of link.traffic);
+  links = one_in dialer.links (transcript_of link.traffic link.calls.faults);
   calls = record dialer.calls {
     faults = if link.calls.faults == 0 then dialer.calls.faults else one_more dialer.calls.faults;
   };

@@ -30,6 +30,8 @@ pub struct Transcript {
     pub given: Bytes,
     /// Whether the end of what it gave was met.
     pub ended: bool,
+    /// How often the link failed.
+    pub faults: u64,
 }
 
 /// Makes links to hosts. Whether it tells what became of them is said by the type of its links.
@@ -61,6 +63,6 @@ pub trait Dialer {
         requires { IsTrue Self.Link.tells → 0 < (links self.old).out }
 
         ensures logs { IsTrue Self.Link.tells →
-            links self.new ≡ one_in (links self.old) (transcript_of (Self.Link.traffic link)) }
+            links self.new ≡ one_in (links self.old) (transcript_of (Self.Link.traffic link) (Self.Link.faults link)) }
         ensures counts { TakesOverFaults (Self.Link.faults link) (faults self.old) (faults self.new) };
 }

@@ -23,6 +23,7 @@ pub struct EchoLink {
     answers: Source,
     host: Text,
     port: u16,
+    // How often a write has failed.
     faults: u64,
 }
 
@@ -36,6 +37,7 @@ impl Model for EchoLink {
         given = link.answers.given;
         ended = link.answers.ended;
         taken = link.taken.items;
+        failed_writes = link.faults;
         host = link.host;
         port = link.port;
       };
@@ -71,7 +73,7 @@ impl EchoLink {
 
     /// What went over it. Takes no memory.
     pub(crate) fn into_transcript(self) -> Transcript
-        ensures { result ≡ transcript_of self.traffic }
+        ensures { result ≡ transcript_of self.traffic self.faults }
     {
         let EchoLink {
             alloc: _,
@@ -80,7 +82,7 @@ impl EchoLink {
             answers,
             host,
             port,
-            faults: _,
+            faults,
         } = self;
         let ended = answers.has_ended();
         Transcript {
@@ -89,6 +91,7 @@ impl EchoLink {
             sent: Bytes::of(taken),
             given: answers.into_given(),
             ended,
+            faults,
         }
     }
 
@@ -154,7 +157,10 @@ impl Link for EchoLink {
           traffic = record self.old.traffic { taken = self.old.traffic.taken ++ take n piece.now };
           left = self.new.left;
         }) }
-        ensures after_failed { OnErr result (self.new ≡ record self.old { faults = one_more self.old.faults }) }
+        ensures after_failed { OnErr result (self.new ≡ record self.old {
+          traffic = record self.old.traffic { failed_writes = one_more self.old.traffic.failed_writes };
+          faults = one_more self.old.faults;
+        }) }
         ensures echoes { Echoes self.new }
         ensures later { self.old.faults ≤ self.new.faults }
     {

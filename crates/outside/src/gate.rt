@@ -31,6 +31,8 @@ pub struct Heard {
     pub written: Bytes,
     /// How often its link failed.
     pub faults: u64,
+    /// How many of these were writes.
+    pub failed_writes: u64,
 }
 
 /// Gives connections. Whether it tells what became of them is said by the type of its links.

@@ -1,6 +1,7 @@
 //! A connection: bytes come from its other end and go to it.
 ghost use Rattle.std.specs.Prelude.{◌≡◌, ◌==◌, ◌<◌, ◌≤◌, ◌++◌, ℕ, Bool, length, take, IsTrue, IfOk, OnErr};
 ghost use Rattle.capture.specs.Faults.{CountsFaults};
+ghost use Rattle.outside.specs.Calls.{one_more};
 ghost use Rattle.outside.specs.Link.{Traffic};
 
 use capture::Failed;
@@ -13,7 +14,7 @@ pub trait Link {
     ghost tells: { Bool };
 
     /// The bytes given so far and whether the end of the input was met (a read answered 0), the bytes taken so
-    /// far, and the host and port at the other end, where this side dialled it.
+    /// far and how many writes failed, and the host and port at the other end, where this side dialled it.
     ghost traffic: { Self → Traffic };
 
     /// How often a call on this link has failed.
@@ -47,7 +48,9 @@ pub trait Link {
           taken = (traffic self.old).taken ++ take n piece.now;
         }) }
 
-        ensures takes_nothing { IsTrue tells → OnErr result (traffic self.new ≡ traffic self.old) }
+        ensures takes_nothing { IsTrue tells → OnErr result (traffic self.new ≡ record (traffic self.old) {
+          failed_writes = one_more (traffic self.old).failed_writes;
+        }) }
         ensures counts { CountsFaults (faults self.old) (faults self.new) result };
 
     /// Says that nothing but a next request is awaited from now on, until a byte of it has come: a link may choose its

@@ -1,6 +1,6 @@
 //! A link in memory: it gives a list of bytes and keeps what it takes.
 ghost use Rattle.std.specs.Prelude.{◌≡◌, ◌==◌, ◌↔◌, ◌<◌, ◌≤◌, ◌++◌, [], true, length, take, drop, min, IsTrue, IsErr, IfOk, OnOk, OnErr};
-ghost use Rattle.outside.specs.Calls.{is_listed, passed, failed};
+ghost use Rattle.outside.specs.Calls.{is_listed, one_more, passed, failed};
 ghost use Rattle.outside.specs.Dialer.{transcript_of};
 ghost use Rattle.outside.specs.Gate.{heard_of};
 ghost use Rattle.outside.specs.MemoryLink.{new_link, towards};
@@ -23,6 +23,8 @@ pub struct MemoryLink {
     // The most bytes that one call gives or takes.
     most: usize,
     calls: Calls,
+    // How many of the calls that failed were writes.
+    failed_writes: u64,
 }
 
 impl Model for MemoryLink {
@@ -36,6 +38,7 @@ impl Model for MemoryLink {
         given = link.input.given;
         ended = link.input.ended;
         taken = link.taken.items;
+        failed_writes = link.failed_writes;
         host = link.host;
         port = link.port;
       };
@@ -68,6 +71,7 @@ impl MemoryLink {
             port: 0,
             most,
             calls: Calls::new(fails),
+            failed_writes: 0,
         }
     }
 
@@ -89,7 +93,7 @@ impl MemoryLink {
 
     /// What went over it. Takes no memory.
     pub(crate) fn into_transcript(self) -> Transcript
-        ensures { result ≡ transcript_of self.traffic }
+        ensures { result ≡ transcript_of self.traffic self.calls.faults }
     {
         let MemoryLink {
             input,
@@ -97,7 +101,8 @@ impl MemoryLink {
             host,
             port,
             most: _,
-            calls: _,
+            calls,
+            failed_writes: _,
         } = self;
         let ended = input.has_ended();
         Transcript {
@@ -106,6 +111,7 @@ impl MemoryLink {
             sent: Bytes::of(taken),
             given: input.into_given(),
             ended,
+            faults: calls.faults(),
         }
     }
 
@@ -120,6 +126,7 @@ impl MemoryLink {
             port: _,
             most: _,
             calls,
+            failed_writes,
         } = self;
         let ended = input.has_ended();
         Heard {
@@ -127,7 +134,30 @@ impl MemoryLink {
             ended,
             written: Bytes::of(taken),
             faults: calls.faults(),
+            failed_writes,
         }
+    }
+
+    /// Takes as many bytes of a piece as one call takes.
+    fn take(&mut self, piece: &[u8]) -> Result<usize, Failed>
+        ensures listed { IsTrue (is_listed self.old.calls) → IsErr result }
+        ensures amount { IfOk result (λ n. n ≡ min (length piece.now) self.old.most) }
+        ensures after { IfOk result (λ n. self.new ≡ record self.old {
+          traffic = record self.old.traffic { taken = self.old.traffic.taken ++ take n piece.now };
+          calls = passed self.old.calls;
+        }) }
+        ensures after_failed { OnErr result (self.new ≡ record self.old { calls = failed self.old.calls }) }
+        ensures later { self.old.calls.faults ≤ self.new.calls.faults }
+    {
+        if self.calls.next_fails() {
+            return Err(Failed);
+        }
+        let n = piece.len().min(self.most);
+        if self.taken.extend_from_slice(&piece[..n]).is_err() {
+            self.calls.count_fault();
+            return Err(Failed);
+        }
+        Ok(n)
     }
 
     /// The bytes that it took.
@@ -180,18 +210,19 @@ impl Link for MemoryLink {
           traffic = record self.old.traffic { taken = self.old.traffic.taken ++ take n piece.now };
           calls = passed self.old.calls;
         }) }
-        ensures after_failed { OnErr result (self.new ≡ record self.old { calls = failed self.old.calls }) }
+        ensures after_failed { OnErr result (self.new ≡ record self.old {
+          traffic = record self.old.traffic { failed_writes = one_more self.old.traffic.failed_writes };
+          calls = failed self.old.calls;
+        }) }
         ensures later { self.old.calls.faults ≤ self.new.calls.faults }
     {
-        if self.calls.next_fails() {
-            return Err(Failed);
+        match self.take(piece) {
+            Ok(n) => Ok(n),
+            Err(Failed) => {
+                self.failed_writes = self.failed_writes.saturating_add(1);
+                Err(Failed)
+            }
         }
-        let n = piece.len().min(self.most);
-        if self.taken.extend_from_slice(&piece[..n]).is_err() {
-            self.calls.count_fault();
-            return Err(Failed);
-        }
-        Ok(n)
     }
 
     fn await_request(&mut self)

@@ -39,7 +39,7 @@ IsEnd Memory = ⊤
 
 -- nothing was heard yet
 abbrev pub unheard : Heard
-unheard = record { given = []; ended = false; written = []; faults = 0 }
+unheard = record { given = []; ended = false; written = []; faults = 0; failed_writes = 0 }
 
 -- what the objects around a connection tell, with what was heard of its client
 abbrev pub world_of : {S : Type 0} → Heard → Around → S → World S
