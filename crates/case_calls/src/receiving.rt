@@ -49,6 +49,7 @@ fn came_text(alloc: Global, came: Came) -> Result<Vec<u8>, Memory> {
         Came::Head => told(alloc, b"Head"),
         Came::Whole => told(alloc, b"Whole"),
         Came::Ended => told(alloc, b"Ended"),
+        Came::EndedInside => told(alloc, b"EndedEarly"),
         Came::Broken => told(alloc, b"Broken"),
         Came::Refused(fault) => fault_shown(alloc, fault),
     }

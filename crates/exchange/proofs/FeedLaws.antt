@@ -1,7 +1,6 @@
 -- A window that is fed to a reader, by what the reader tells.
-use Rattle.std.proofs.Common.{◌≡◌, ℕ, ◌+◌, ◌*◌, ◌-◌, ◌<◌, Bool, false, List, [], ◌∷◌, ◌++◌, length, take, drop, Ok, Err, inl, inr, refl, sym, ap, subst, ◌∙◌, arith, length-append}
-use Rattle.std.specs.Prelude.{IsTrue, IsSome, ◌↔◌, Option, Result}
-use Rattle.std.proofs.lemmas.Bool.{false≢true}
+use Rattle.std.proofs.Common.{◌≡◌, ℕ, ◌+◌, ◌*◌, ◌-◌, ◌<◌, false, List, [], ◌++◌, length, take, drop, Ok, Err, inl, inr, refl, sym, ap, subst, ◌∙◌, arith, length-append}
+use Rattle.std.specs.Prelude.{IsSome, Option, Result}
 use Rattle.std.proofs.lemmas.List.{drop_all, take_all}
 use Rattle.capture.specs.First.{Side, Message, IsFirst}
 use Rattle.capture.specs.declared.limits.TheConstants.{HEAD_LIMIT, BODY_LIMIT}
@@ -105,7 +104,3 @@ pub further_on : (side : Side) (stream window stream_now window_now : List ℕ) 
     < 2 * (HEAD_LIMIT + BODY_LIMIT) + 3 - (2 * length stream + length window)
 further_on side stream window stream_now window_now e undecided more =
     omega (arith, ap length e, length-append stream window, undecided_is_short side stream_now undecided, more)
-
-pub nothing_came : (more : Bool) (window : List ℕ) → more ≡ false → (IsTrue more ↔ (0 < length window)) → window ≡ []
-nothing_came more [] none some = refl
-nothing_came more (b ∷ window) none some = absurd (false≢true (sym none ∙ some.1 (omega arith)))

@@ -13,4 +13,5 @@ mod SentFields
 mod SentFraming
 pub mod SentLaws
 mod SentLengths
+mod TrafficLaws
 mod WithinLaws

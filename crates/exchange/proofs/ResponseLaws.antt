@@ -1,22 +1,21 @@
 -- One response more: what came of reading it, by what its reader tells.
 use Rattle.std.proofs.Common.{◌≡◌, ℕ, ◌<◌, Bool, true, false, List, [], ◌++◌, length, Option, Some, None, Ok, Err, inl, inr, refl, sym, ap, subst, ◌∙◌, arith, append_assoc, append-nil}
-use Rattle.std.specs.Prelude.{IsSome}
+use Rattle.std.specs.Prelude.{IsSome, Result}
 use Rattle.std.proofs.lemmas.Bool.{false≢true}
-use Rattle.capture.specs.First.{Requests, Responses, Message, BodyNeeded, IsFirst}
+use Rattle.capture.specs.First.{Requests, Responses, Message, HeadNeeded, BodyNeeded, IsFirst}
 use Rattle.capture.specs.declared.framing.MessageFault.TheVariants as message_fault
 use Rattle.http_head.specs.declared.head.Received.{Received}
 use Rattle.http_head.specs.declared.head.WireFault.{WireFault}
 use Rattle.http_head.specs.declared.head.WireFault.TheVariants.{Malformed, HeadTooLong, BodyTooLong, CodingRefused, EndedEarly, Memory}
 use Rattle.http_wire.specs.HeldBodies.{closed_standing}
 use Rattle.http_wire.specs.Messages.{IsResponse}
-use Rattle.http_wire.specs.Reading.{Standing, Whole, Cut, HasFault, IsUndecided, Stands}
+use Rattle.http_wire.specs.Reading.{Standing, Whole, Cut, EndsInside, HasFault, IsUndecided, Stands}
 use Rattle.http_wire.specs.Decisions.{MessagesStay, RefusalsStay}
-use Rattle.exchange.specs.Fetches.{Answers, CountsFetch, IsFaultOf, Yields}
-use Rattle.exchange.specs.Receiving.{StaysAccounted, AccountsFault, MeetsEnd, BeginsAccounted}
+use Rattle.exchange.specs.Fetches.{Answers, CountsFetch, IsFaultOf, LinkFaults, Receives, Yields}
+use Rattle.exchange.specs.Receiving.{StaysAccounted, BeginsAccounted}
 use Rattle.exchange.specs.declared.fetching.FetchFault.{FetchFault}
-use Rattle.exchange.specs.declared.fetching.FetchFault.TheVariants.{OriginFault, OriginMalformed, OriginTooLong}
+use Rattle.exchange.specs.declared.fetching.FetchFault.TheVariants.{DialFault, OriginFault, OriginEnded, OriginMalformed, OriginTooLong, TooManyInterim}
 use Rattle.exchange.specs.declared.fetching.FetchFault.TheVariants.{Memory as WantOfMemory}
-use Rattle.exchange.specs.declared.receiving.Came.TheVariants as came
 use Rattle.exchange.proofs.ArrivalLaws.{inflow}
 
 -- ---- the head comes once
@@ -125,30 +124,37 @@ faulty stay answers_head ended fault given start window0 now stream window none 
       yields = yields front.rest;
     }
 
-pub refused_answers : RefusalsStay → (answers_head before ended : Bool) (fault : WireFault) (why : FetchFault) (given start window0 now stream window : List ℕ)
-    → start ≡ [] → AccountsFault fault given (start ++ window0) now stream → MeetsEnd (came.Refused fault) before ended
-    → HasFault (Responses answers_head) fault stream → IsFaultOf fault why
+-- one that is refused
+pub refused_answers : RefusalsStay → (answers_head ended : Bool) (fault : WireFault) (why : FetchFault) (given start window0 now stream window : List ℕ)
+    → start ≡ [] → BeginsAccounted given (start ++ window0) now stream → HasFault (Responses answers_head) fault stream → IsFaultOf fault why
     → Answers answers_head (Err why) (inflow given window0) (inflow now window) ended
-refused_answers stay answers_head before ended Malformed why given start window0 now stream window none accounts meets has is =
+refused_answers stay answers_head ended Malformed why given start window0 now stream window none accounts has is =
     rw is (faulty stay answers_head ended OriginMalformed given start window0 now stream window none accounts
     (λ rest. inl (stay (Responses answers_head) ended stream rest message_fault.Malformed has)))
-refused_answers stay answers_head before ended CodingRefused why given start window0 now stream window none accounts meets has is =
+refused_answers stay answers_head ended CodingRefused why given start window0 now stream window none accounts has is =
     rw is (faulty stay answers_head ended OriginMalformed given start window0 now stream window none accounts
     (λ rest. inr (stay (Responses answers_head) ended stream rest message_fault.CodingRefused has)))
-refused_answers stay answers_head before ended HeadTooLong why given start window0 now stream window none accounts meets has is =
+refused_answers stay answers_head ended HeadTooLong why given start window0 now stream window none accounts has is =
     rw is (faulty stay answers_head ended OriginTooLong given start window0 now stream window none accounts
     (λ rest. inl (stay (Responses answers_head) ended stream rest message_fault.HeadTooLong has)))
-refused_answers stay answers_head before ended BodyTooLong why given start window0 now stream window none accounts meets has is =
+refused_answers stay answers_head ended BodyTooLong why given start window0 now stream window none accounts has is =
     rw is (faulty stay answers_head ended OriginTooLong given start window0 now stream window none accounts
     (λ rest. inr (stay (Responses answers_head) ended stream rest message_fault.BodyTooLong has)))
-refused_answers stay answers_head before ended EndedEarly why given start window0 now stream window none accounts meets has is =
-    rw is (λ done split. record {
-      stream = stream;
-      composed = accounts done (from_window given start window0 done none split);
-      yields = (meets, has);
-    })
-refused_answers stay answers_head before ended Memory why given start window0 now stream window none accounts meets has is =
+refused_answers stay answers_head ended EndedEarly why given start window0 now stream window none accounts has is = absurd is
+refused_answers stay answers_head ended Memory why given start window0 now stream window none accounts has is =
     rw is (faulty stay answers_head ended WantOfMemory given start window0 now stream window none accounts (λ rest. tt))
+
+-- the link's end before the head is whole
+pub ended_inside_answers : (answers_head ended : Bool) (given start window0 now stream window : List ℕ) → start ≡ []
+    → StaysAccounted given (start ++ window0) now (stream ++ window) → window ≡ [] → EndsInside (Responses answers_head) stream → ended ≡ true
+    → Answers answers_head (Err OriginEnded) (inflow given window0) (inflow now window) ended
+ended_inside_answers answers_head ended given start window0 now stream window none accounts empty inside met =
+    λ done split. record {
+      stream = stream;
+      composed = accounts done (from_window given start window0 done none split) ∙ ap (λ w. done ++ (stream ++ w)) empty
+          ∙ ap (λ s. done ++ s) (append-nil stream);
+      yields = (met, subst (λ e. IsFirst (Responses answers_head) e stream HeadNeeded) (sym met) inside);
+    }
 
 -- ---- counts
 
@@ -158,15 +164,17 @@ refused_counts Malformed why before now same is = rw is same
 refused_counts CodingRefused why before now same is = rw is same
 refused_counts HeadTooLong why before now same is = rw is same
 refused_counts BodyTooLong why before now same is = rw is same
-refused_counts EndedEarly why before now same is = rw is same
+refused_counts EndedEarly why before now same is = absurd is
 refused_counts Memory why before now same is = rw is same
 
--- accounts compose, up to a fault
-pub accounts_fault_then : (fault : WireFault) (given pending now pending_now next stream : List ℕ) → StaysAccounted given pending now pending_now
-    → AccountsFault fault now pending_now next stream → AccountsFault fault given pending next stream
-accounts_fault_then Malformed given pending now pending_now next stream first second = λ done split. second done (first done split)
-accounts_fault_then HeadTooLong given pending now pending_now next stream first second = λ done split. second done (first done split)
-accounts_fault_then BodyTooLong given pending now pending_now next stream first second = λ done split. second done (first done split)
-accounts_fault_then CodingRefused given pending now pending_now next stream first second = λ done split. second done (first done split)
-accounts_fault_then EndedEarly given pending now pending_now next stream first second = λ done split. second done (first done split)
-accounts_fault_then Memory given pending now pending_now next stream first second = λ done split. second done (first done split)
+-- of a link that had not failed
+pub link_faults : (answers_head ended : Bool) (result : Result Received FetchFault) (given : List ℕ) (before now : ℕ) → before ≡ 0
+    → CountsFetch before now result → Receives answers_head result given ended → LinkFaults result now
+link_faults answers_head ended (Ok received) given before now none counts receives = counts ∙ none
+link_faults answers_head ended (Err DialFault) given before now none counts receives = absurd receives
+link_faults answers_head ended (Err OriginFault) given before now none counts receives = omega (arith, counts.1)
+link_faults answers_head ended (Err OriginEnded) given before now none counts receives = counts ∙ none
+link_faults answers_head ended (Err OriginMalformed) given before now none counts receives = counts ∙ none
+link_faults answers_head ended (Err OriginTooLong) given before now none counts receives = counts ∙ none
+link_faults answers_head ended (Err TooManyInterim) given before now none counts receives = counts ∙ none
+link_faults answers_head ended (Err WantOfMemory) given before now none counts receives = counts ∙ none

@@ -1,5 +1,5 @@
 -- What asking an origin leaves: one link to it, what went over that link, and what came of it (RFC 9112, sections 6.3 and 9).
-use Rattle.std.specs.Prelude.{◌≡◌, ◌⊎◌, ℕ, ◌≤◌, Bool, true, false, List, [], ◌++◌, length, take, drop, Result, Ok, Err, ⊤}
+use Rattle.std.specs.Prelude.{◌≡◌, ◌⊎◌, ℕ, ◌<◌, ◌≤◌, Bool, true, false, List, [], ◌++◌, length, take, drop, Result, Ok, Err, ⊤}
 use Rattle.capture.specs.Faults.{Rose}
 use Rattle.capture.specs.Final.{Arrived, TooManyInterim as MoreInterim, IsArrival}
 use Rattle.capture.specs.First.{Responses, First, Message, Refused, HeadNeeded, BodyNeeded, IsFirst}
@@ -63,6 +63,11 @@ Sends (Err OriginTooLong) request taken given = taken ≡ request
 Sends (Err TooManyInterim) request taken given = taken ≡ request
 Sends (Err Memory) request taken given = taken ≡ request
 
+-- How often a link failed, by what came of it: it did where that is the answer, and else never.
+abbrev pub LinkFaults : Result Received FetchFault → ℕ → Type 0
+LinkFaults (Err OriginFault) faults = 0 < faults
+LinkFaults other faults = faults ≡ 0
+
 -- what is asked of an origin: where, with which text, and whether by HEAD
 pub record Asking : Type 0 where
   pub target : Target
@@ -75,6 +80,7 @@ pub record IsFetched (asking : Asking) (t : Transcript) (outcome : Result Receiv
   pub port : t.port ≡ asking.target.port
   pub sent : Sends outcome asking.request t.sent t.given
   pub received : Receives asking.answers_head outcome t.given t.ended
+  pub faults : LinkFaults outcome t.faults
 
 -- The log gains the transcript of the fetch, and no link is left out.
 pub record LogsFetched (asking : Asking) (outcome : Result Received FetchFault) (old new : Links Transcript) : Type 0 where
@@ -147,11 +153,11 @@ abbrev pub Answers : Bool → Result Received FetchFault → (old now : Inflow) 
 Answers answers_head result old now ended =
     (done : List ℕ) → old.given ≡ done ++ old.window → GoesOnWith answers_head result done now ended
 
--- why a message that is refused gives no response
+-- why a message that is refused before the link's end gives no response
 abbrev pub IsFaultOf : WireFault → FetchFault → Type 0
 IsFaultOf wire_fault.Malformed fault = fault ≡ OriginMalformed
 IsFaultOf wire_fault.CodingRefused fault = fault ≡ OriginMalformed
 IsFaultOf wire_fault.HeadTooLong fault = fault ≡ OriginTooLong
 IsFaultOf wire_fault.BodyTooLong fault = fault ≡ OriginTooLong
-IsFaultOf wire_fault.EndedEarly fault = fault ≡ OriginEnded
+IsFaultOf wire_fault.EndedEarly fault = ⊥
 IsFaultOf wire_fault.Memory fault = fault ≡ Memory

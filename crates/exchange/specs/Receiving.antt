@@ -3,10 +3,11 @@ use Rattle.std.specs.Prelude.{◌≡◌, ◌⊎◌, ℕ, ◌≤◌, Bool, true, 
 use Rattle.capture.specs.Faults.{Rose}
 use Rattle.capture.specs.First.{Side, Message, IsFirst}
 use Rattle.http_head.specs.declared.head.WireFault.{WireFault}
-use Rattle.http_head.specs.declared.head.WireFault.TheVariants.{Malformed, HeadTooLong, BodyTooLong, CodingRefused, EndedEarly, Memory}
-use Rattle.http_wire.specs.Reading.{Standing, Open, Whole, Failed, IsUndecided, TellsBody, HasFault, ComesBeforeTheEnd}
+use Rattle.http_head.specs.declared.head.WireFault.TheVariants.{EndedEarly}
+use Rattle.http_wire.specs.Reading.{Standing, Open, Whole, Failed, IsUndecided, TellsBody, HasFault, EndsInside, ComesBeforeTheEnd}
 use Rattle.http_wire.specs.declared.progress.Progress.{Progress}
 use Rattle.http_wire.specs.declared.progress.Progress.TheVariants as progress
+use Rattle.outside.specs.Link.{Traffic}
 use Rattle.exchange.specs.declared.receiving.Came.{Came}
 use Rattle.exchange.specs.declared.receiving.Came.TheVariants as came
 
@@ -63,67 +64,47 @@ BringsHead (Err fault) old new = IsSome old → new ≡ old
 
 -- ---- reading up to a head, a message's end or the link's
 
--- The bytes that were given begin with those done and those of the message, behind which some may be left that are
--- nobody's; where the link ended too early, there are none.
-abbrev pub AccountsFault : WireFault → (given unread given_now stream : List ℕ) → Type 0
-AccountsFault Malformed given unread given_now stream = BeginsAccounted given unread given_now stream
-AccountsFault HeadTooLong given unread given_now stream = BeginsAccounted given unread given_now stream
-AccountsFault BodyTooLong given unread given_now stream = BeginsAccounted given unread given_now stream
-AccountsFault CodingRefused given unread given_now stream = BeginsAccounted given unread given_now stream
-AccountsFault EndedEarly given unread given_now stream = StaysAccounted given unread given_now stream
-AccountsFault Memory given unread given_now stream = BeginsAccounted given unread given_now stream
+-- A link has given more, or nothing, and its end was met or not; nothing else of its traffic changed.
+abbrev pub Gives : Traffic → Traffic → Type 0
+Gives old new = new ≡ record old { given = new.given; ended = new.ended }
 
--- the bytes that were given are those done, those of the message and those in the window
+-- The bytes that were given are those done, those of the message and those in the window. Behind a message that is refused some may
+-- be left that are nobody's.
 abbrev pub Accounts : Came → (given : List ℕ) (old : Input) (given_now : List ℕ) (new : Input) → Type 0
-Accounts came.Head given old given_now new = StaysAccounted given (pending old) given_now (pending new)
-Accounts came.Whole given old given_now new = StaysAccounted given (pending old) given_now (pending new)
-Accounts came.Ended given old given_now new = StaysAccounted given (pending old) given_now (pending new)
-Accounts came.Broken given old given_now new = StaysAccounted given (pending old) given_now (pending new)
-Accounts (came.Refused fault) given old given_now new = AccountsFault fault given (pending old) given_now new.stream
+Accounts (came.Refused fault) given old given_now new = BeginsAccounted given (pending old) given_now new.stream
+Accounts other given old given_now new = StaysAccounted given (pending old) given_now (pending new)
 
 -- what is said of the message so far; where the link ended or failed, or what came is no message, the window is empty
 abbrev pub Brings : Side → Came → Input → Standing → Type 0
 Brings side came.Head now standing = TellsBody side now.stream × MayGoOn side now.stream standing
 Brings side came.Whole now standing = (standing ≡ Whole) × IsFirst side false now.stream (Message (length now.stream))
 Brings side came.Ended now standing = now.window ≡ []
+Brings side came.EndedInside now standing = (now.window ≡ []) × (standing ≡ Failed EndedEarly) × EndsInside side now.stream
 Brings side came.Broken now standing = (now.window ≡ []) × (standing ≡ Open) × IsUndecided side false now.stream
-Brings side (came.Refused fault) now standing = (now.window ≡ []) × (standing ≡ Failed fault) × HasFault side fault now.stream
+Brings side (came.Refused fault) now standing =
+    (now.window ≡ []) × (standing ≡ Failed fault) × HasFault side fault now.stream × ComesBeforeTheEnd fault
 
--- P, where the answer is that the link ended
+-- P, where the answer is that the link ended, and not inside a message
 abbrev pub OnEnded : Came → Type 0 → Type 0
-OnEnded came.Head P = ⊤
-OnEnded came.Whole P = ⊤
 OnEnded came.Ended P = P
-OnEnded came.Broken P = ⊤
-OnEnded (came.Refused fault) P = ⊤
+OnEnded other P = ⊤
 
 -- The head comes once, and the message isn't whole without it. A fault keeps the head that had come; one that comes in
 -- place of the answer Head may bring it.
 abbrev pub HeadsOnce : {H : Type 0} → Came → Option H → Option H → Type 0
 HeadsOnce came.Head old new = (old ≡ None) × IsSome new
 HeadsOnce came.Whole old new = IsSome old × (new ≡ old)
-HeadsOnce came.Ended old new = new ≡ old
-HeadsOnce came.Broken old new = new ≡ old
 HeadsOnce (came.Refused fault) old new = IsSome old → new ≡ old
+HeadsOnce other old new = new ≡ old
 
--- Whether the link's end is met: it is where the link ended, in place or too early; any other answer meets none, so that an
--- end that is met had been met before.
+-- Whether the link's end is met: it is where the link ended, inside a message or not; any other answer meets none, so that an end
+-- that is met had been met before.
 abbrev pub MeetsEnd : Came → (before now : Bool) → Type 0
-MeetsEnd came.Head before now = IsTrue now → IsTrue before
-MeetsEnd came.Whole before now = IsTrue now → IsTrue before
 MeetsEnd came.Ended before now = now ≡ true
-MeetsEnd came.Broken before now = IsTrue now → IsTrue before
-MeetsEnd (came.Refused Malformed) before now = IsTrue now → IsTrue before
-MeetsEnd (came.Refused HeadTooLong) before now = IsTrue now → IsTrue before
-MeetsEnd (came.Refused BodyTooLong) before now = IsTrue now → IsTrue before
-MeetsEnd (came.Refused CodingRefused) before now = IsTrue now → IsTrue before
-MeetsEnd (came.Refused EndedEarly) before now = now ≡ true
-MeetsEnd (came.Refused Memory) before now = IsTrue now → IsTrue before
+MeetsEnd came.EndedInside before now = now ≡ true
+MeetsEnd other before now = IsTrue now → IsTrue before
 
 -- The link counts its fault: the count rises where it failed, and else stays.
 abbrev pub CountsCame : ℕ → ℕ → Came → Type 0
-CountsCame before now came.Head = now ≡ before
-CountsCame before now came.Whole = now ≡ before
-CountsCame before now came.Ended = now ≡ before
 CountsCame before now came.Broken = (before ≤ now) × Rose before now
-CountsCame before now (came.Refused fault) = now ≡ before
+CountsCame before now other = now ≡ before

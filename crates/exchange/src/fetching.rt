@@ -2,7 +2,9 @@
 ghost use Rattle.std.specs.Prelude.{◌≡◌, ◌≤◌, [], length, IsTrue, OnOk, IfOk};
 ghost use Rattle.capture.specs.declared.limits.TheConstants.{BODY_LIMIT};
 ghost use Rattle.http_wire.specs.Messages.{IsOneResponse};
-ghost use Rattle.exchange.specs.Fetches.{Answers, CountsFetch, IsFaultOf, LogsFetch, Receives, Sends};
+ghost use Rattle.exchange.specs.Fetches.{Answers, CountsFetch, IsFaultOf, LinkFaults, LogsFetch, Receives, Sends};
+ghost use Rattle.exchange.specs.Receiving.{Gives};
+ghost use Rattle.http_wire.specs.Reading.{ComesBeforeTheEnd};
 ghost use Rattle.http_wire.specs.ResponseReading.{new_response};
 ghost use Rattle.outside.specs.Link.{IsFresh};
 
@@ -76,6 +78,7 @@ fn ask<L: Link>(
     answers_head: bool,
     request: &[u8],
 ) -> Result<Received, FetchFault>
+    requires no_fault { L.faults link.old ≡ 0 }
     requires fresh { IsTrue L.tells → IsFresh (L.traffic link.old) }
     requires empty { window.old ≡ [] }
     ensures sends { IsTrue L.tells → Sends result request.now (L.traffic link.new).taken (L.traffic link.new).given }
@@ -84,8 +87,11 @@ fn ask<L: Link>(
     ensures final_status { IfOk result (λ received. 200 ≤ received.head.status) }
     ensures within { IfOk result (λ received. length received.wire ≤ BODY_LIMIT) }
     ensures counts { CountsFetch (L.faults link.old) (L.faults link.new) result }
-    ensures same_host { IsTrue L.tells → (L.traffic link.new).host ≡ (L.traffic link.old).host }
-    ensures same_port { IsTrue L.tells → (L.traffic link.new).port ≡ (L.traffic link.old).port }
+    ensures faults { IsTrue L.tells → LinkFaults result (L.faults link.new) }
+    ensures leads_there { IsTrue L.tells → L.traffic link.new ≡ record (L.traffic link.new) {
+      host = (L.traffic link.old).host;
+      port = (L.traffic link.old).port;
+    } }
 {
     fronts_stay();
     match write_all(link, request) {
@@ -108,9 +114,7 @@ fn receive<L: Link>(
     ensures final_status { IfOk result (λ received. 200 ≤ received.head.status) }
     ensures within { IfOk result (λ received. length received.wire ≤ BODY_LIMIT) }
     ensures counts { CountsFetch (L.faults link.old) (L.faults link.new) result }
-    ensures same_taken { IsTrue L.tells → (L.traffic link.new).taken ≡ (L.traffic link.old).taken }
-    ensures same_host { IsTrue L.tells → (L.traffic link.new).host ≡ (L.traffic link.old).host }
-    ensures same_port { IsTrue L.tells → (L.traffic link.new).port ≡ (L.traffic link.old).port }
+    ensures gives { IsTrue L.tells → Gives (L.traffic link.old) (L.traffic link.new) }
 {
     fronts_stay();
     let mut reader = ResponseReader::new(alloc, answers_head);
@@ -147,9 +151,7 @@ fn next_response<L: Link>(
         (record { given = (L.traffic link.old).given; window = window.old })
         (record { given = (L.traffic link.new).given; window = window.new }) (L.traffic link.new).ended }
     ensures counts { CountsFetch (L.faults link.old) (L.faults link.new) result }
-    ensures same_taken { IsTrue L.tells → (L.traffic link.new).taken ≡ (L.traffic link.old).taken }
-    ensures same_host { IsTrue L.tells → (L.traffic link.new).host ≡ (L.traffic link.old).host }
-    ensures same_port { IsTrue L.tells → (L.traffic link.new).port ≡ (L.traffic link.old).port }
+    ensures gives { IsTrue L.tells → Gives (L.traffic link.old) (L.traffic link.new) }
 {
     fronts_stay();
     'reading: loop {
@@ -157,6 +159,7 @@ fn next_response<L: Link>(
             Came::Head => {}
             Came::Whole => return Ok(reader.take()),
             Came::Ended => return Ok(reader.take()),
+            Came::EndedInside => return Err(FetchFault::OriginEnded),
             Came::Broken => return Err(FetchFault::OriginFault),
             Came::Refused(fault) => return Err(fault_of(fault)),
         }
@@ -165,6 +168,7 @@ fn next_response<L: Link>(
 
 /// Why a message that is refused gives no response.
 fn fault_of(fault: WireFault) -> FetchFault
+    requires { ComesBeforeTheEnd fault }
     ensures { IsFaultOf fault result }
 {
     match fault {
@@ -172,7 +176,7 @@ fn fault_of(fault: WireFault) -> FetchFault
         WireFault::CodingRefused => FetchFault::OriginMalformed,
         WireFault::HeadTooLong => FetchFault::OriginTooLong,
         WireFault::BodyTooLong => FetchFault::OriginTooLong,
-        WireFault::EndedEarly => FetchFault::OriginEnded,
+        WireFault::EndedEarly => unreachable!(),
         WireFault::Memory => FetchFault::Memory,
     }
 }

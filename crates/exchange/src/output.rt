@@ -2,6 +2,7 @@
 ghost use Rattle.std.specs.Prelude.{◌≡◌, ◌++◌, IsTrue, OnOk, OnErr};
 ghost use Rattle.capture.specs.Faults.{CountsFaults};
 ghost use Rattle.exchange.specs.Writing.{GrowsByProperFront};
+ghost use Rattle.outside.specs.Calls.{one_more};
 
 use capture::Failed;
 use outside::{Link, Sink};
@@ -9,14 +10,15 @@ use outside::{Link, Sink};
 /// Writes the whole text to a link. Where the link fails, its count of faults rose, and a proper front of the text was
 /// taken.
 pub fn write_all<L: Link>(link: &mut L, text: &[u8]) -> Result<(), Failed>
-    ensures takes { IsTrue L.tells → OnOk result ((L.traffic link.new).taken ≡ (L.traffic link.old).taken ++ text.now) }
+    ensures takes { IsTrue L.tells → OnOk result (L.traffic link.new ≡ record (L.traffic link.old) {
+      taken = (L.traffic link.old).taken ++ text.now;
+    }) }
+    ensures breaks_off { IsTrue L.tells → OnErr result (L.traffic link.new ≡ record (L.traffic link.old) {
+      taken = (L.traffic link.new).taken;
+      failed_writes = one_more (L.traffic link.old).failed_writes;
+    }) }
     ensures takes_front { IsTrue L.tells → OnErr result (GrowsByProperFront (L.traffic link.old).taken (L.traffic link.new).taken text.now) }
     ensures counts { CountsFaults (L.faults link.old) (L.faults link.new) result }
-
-    ensures same_given { IsTrue L.tells → (L.traffic link.new).given ≡ (L.traffic link.old).given }
-    ensures same_end { IsTrue L.tells → (L.traffic link.new).ended ≡ (L.traffic link.old).ended }
-    ensures same_host { IsTrue L.tells → (L.traffic link.new).host ≡ (L.traffic link.old).host }
-    ensures same_port { IsTrue L.tells → (L.traffic link.new).port ≡ (L.traffic link.old).port }
 {
     let mut rest = text;
     'writing: while !rest.is_empty() {

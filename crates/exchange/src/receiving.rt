@@ -1,7 +1,7 @@
 //! Reads messages from links.
 ghost use Rattle.std.specs.Prelude.{◌≡◌, ◌++◌, ℕ, List, true, IsTrue, IsSome, IfOk};
 ghost use Rattle.capture.specs.First.{Requests, Responses, NothingBegun, IsFirst};
-ghost use Rattle.exchange.specs.Receiving.{Accounts, Brings, BringsHead, CountsCame, Feeds, HeadsOnce, MayGoOn, MeetsEnd, OnEnded};
+ghost use Rattle.exchange.specs.Receiving.{Accounts, Brings, BringsHead, CountsCame, Feeds, Gives, HeadsOnce, MayGoOn, MeetsEnd, OnEnded};
 ghost use Rattle.http_wire.specs.Reading.{Open, Whole, Stands, IsEnded};
 
 use crate::window::Window;
@@ -19,9 +19,11 @@ pub enum Came {
     Whole,
     /// The link's end: between requests, or with a response, whole or cut.
     Ended,
+    /// The link's end inside a request, or before the head of a response is whole.
+    EndedInside,
     /// The link failed: its count of faults rose.
     Broken,
-    /// What came is no message, for this reason.
+    /// What came is no message, for this reason, which isn't the link's end.
     Refused(WireFault),
 }
 
@@ -42,12 +44,9 @@ pub fn receive_request<L: Link>(
     ensures brings { Brings Requests result (record { stream = reader.new.stream; window = window.new }) reader.new.standing }
     ensures between { OnEnded result ((reader.new.standing ≡ Open) × IsFirst Requests true reader.new.stream NothingBegun) }
     ensures heads { HeadsOnce result reader.old.head reader.new.head }
+    ensures gives { IsTrue L.tells → Gives (L.traffic link.old) (L.traffic link.new) }
     ensures meets_end { IsTrue L.tells → MeetsEnd result (L.traffic link.old).ended (L.traffic link.new).ended }
     ensures counts { CountsCame (L.faults link.old) (L.faults link.new) result }
-
-    ensures same_taken { IsTrue L.tells → (L.traffic link.new).taken ≡ (L.traffic link.old).taken }
-    ensures same_host { IsTrue L.tells → (L.traffic link.new).host ≡ (L.traffic link.old).host }
-    ensures same_port { IsTrue L.tells → (L.traffic link.new).port ≡ (L.traffic link.old).port }
 {
     'reading: loop {
         match feed_request(alloc, window, reader) {
@@ -63,7 +62,7 @@ pub fn receive_request<L: Link>(
                     chunked_bodies_split_one_way();
                     return Came::Ended;
                 }
-                Err(_) => return Came::Refused(WireFault::EndedEarly),
+                Err(_) => return Came::EndedInside,
             },
             Err(Failed) => return Came::Broken,
         }
@@ -113,12 +112,9 @@ pub fn receive_response<L: Link>(
     ensures ended { OnEnded result (IsEnded reader.new.standing) }
     ensures stands { OnEnded result (Stands (Responses reader.old.answers_head) reader.new.stream reader.new.standing) }
     ensures heads { HeadsOnce result reader.old.head reader.new.head }
+    ensures gives { IsTrue L.tells → Gives (L.traffic link.old) (L.traffic link.new) }
     ensures meets_end { IsTrue L.tells → MeetsEnd result (L.traffic link.old).ended (L.traffic link.new).ended }
     ensures counts { CountsCame (L.faults link.old) (L.faults link.new) result }
-
-    ensures same_taken { IsTrue L.tells → (L.traffic link.new).taken ≡ (L.traffic link.old).taken }
-    ensures same_host { IsTrue L.tells → (L.traffic link.new).host ≡ (L.traffic link.old).host }
-    ensures same_port { IsTrue L.tells → (L.traffic link.new).port ≡ (L.traffic link.old).port }
 {
     'reading: loop {
         match feed_response(alloc, window, reader) {
@@ -131,7 +127,7 @@ pub fn receive_response<L: Link>(
             Ok(true) => {}
             Ok(false) => match reader.end() {
                 Ok(()) => return Came::Ended,
-                Err(_) => return Came::Refused(WireFault::EndedEarly),
+                Err(_) => return Came::EndedInside,
             },
             Err(Failed) => return Came::Broken,
         }

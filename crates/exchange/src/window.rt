@@ -8,7 +8,7 @@ use std::alloc::Global;
 use std::marker::Model;
 
 /// How many bytes a window holds at most.
-const WINDOW_LEN: usize = 16_384;
+const WINDOW_LEN: usize = 65_536;
 
 /// A buffer between a link and what reads it, which serves one message after the other. A contract sees the bytes that
 /// nobody has used yet.
@@ -78,23 +78,17 @@ impl Window {
 
         ensures some { IfOk result (λ more. IsTrue more ↔ (0 < length self.new)) }
         ensures none { OnErr result (self.new ≡ []) }
-        ensures gives { IsTrue L.tells → (L.traffic link.new).given ≡ (L.traffic link.old).given ++ self.new }
-        ensures meets_end { IsTrue L.tells → IfOk result (λ more. (L.traffic link.new).ended ≡ not more) }
-        ensures same_end { IsTrue L.tells → OnErr result ((L.traffic link.new).ended ≡ (L.traffic link.old).ended) }
+        ensures gives { IsTrue L.tells → IfOk result (λ more. L.traffic link.new ≡ record (L.traffic link.old) {
+          given = (L.traffic link.old).given ++ self.new;
+          ended = not more;
+        }) }
+        ensures gives_nothing { IsTrue L.tells → OnErr result (L.traffic link.new ≡ L.traffic link.old) }
         ensures counts { CountsFaults (L.faults link.old) (L.faults link.new) result }
-
-        ensures same_taken { IsTrue L.tells → (L.traffic link.new).taken ≡ (L.traffic link.old).taken }
-        ensures same_host { IsTrue L.tells → (L.traffic link.new).host ≡ (L.traffic link.old).host }
-        ensures same_port { IsTrue L.tells → (L.traffic link.new).port ≡ (L.traffic link.old).port }
     {
         self.at = 0;
         self.end = 0;
-        match link.read(self.buffer.as_mut_slice()) {
-            Ok(n) => {
-                self.end = n;
-                Ok(n > 0)
-            }
-            Err(Failed) => Err(Failed),
-        }
+        let n = link.read(self.buffer.as_mut_slice())?;
+        self.end = n;
+        Ok(n > 0)
     }
 }

@@ -91,7 +91,7 @@ stops_behind site served r rounds rest then mid now goes written (CutShort cut) 
       part = part_behind (mid.written ++ (course_text cut.init ++ cut.last.interim)) (then.written ++ ((said_text ++ course_text cut.init) ++ cut.last.interim)) now.written cut.last.text
           (behind_text then.written mid.written said_text (course_text cut.init ++ cut.last.interim) written
           ∙ ap (λ x. then.written ++ x) (sym (append_assoc said_text (course_text cut.init) cut.last.interim))) cut.part;
-      broke = cut.broke;
+      unwritten = cut.unwritten;
     })
 stops_behind site served r rounds rest then mid now goes written (CutInside cut) =
     CutInside (record {
@@ -103,7 +103,7 @@ stops_behind site served r rounds rest then mid now goes written (CutInside cut)
       asked = cut.asked;
       part = part_behind (mid.written ++ course_text rounds) (then.written ++ ((r.interim ++ r.text) ++ course_text rounds)) now.written cut.interim
           (behind_text then.written mid.written (r.interim ++ r.text) (course_text rounds) written) cut.part;
-      broke = cut.broke;
+      unwritten = cut.unwritten;
     })
 stops_behind site served r rounds rest then mid now goes written (Closed all) =
     Closed (record {

@@ -61,7 +61,7 @@ last_part finder setting r rest from is result itself h = record {
     last = r;
     are = refl;
     part = h.part;
-    broke = h.broke;
+    unwritten = h.unwritten;
   });
   ends = h.ends;
   gained = gained_one finder setting r from.world is h.made.gained;
@@ -117,7 +117,7 @@ broke_inside {S} finder setting begun unread interim from mid is itself h =
         interim = interim;
         asked = h.asked;
         part = part_behind mid.heard.written (from.world.heard.written ++ []) is.heard.written interim h.begins.written h.broke.part;
-        broke = h.broke.broke;
+        unwritten = h.broke.unwritten;
       });
       ends = (h.broke.broke, refl);
       gained = gained_none finder setting from.world is others;

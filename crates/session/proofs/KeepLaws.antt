@@ -142,7 +142,7 @@ mine_stored a b m n same h = h ∙ ap (λ (k : ℕ). record a { seen = b.seen; s
 
 -- a response came, and there was no memory to pass it on
 lost : (e : Exchange) (received : Received) (t : Transcript) → IsFetched (asking_of e) t (Ok received) → IsFetched (asking_of e) t (Err fetch_fault.Memory)
-lost e received t h = record { host = h.host; port = h.port; sent = h.sent; received = tt }
+lost e received t h = record { host = h.host; port = h.port; sent = h.sent; received = tt; faults = h.faults }
 
 module _ {S : Type 0} (finder : Ghosts S) (site : Site) (e : Exchange) (closes : Bool) (date : ℕ) (received : Received) (around : Around)
     (in_range : InRange date) (come : HasCome e date received around) where

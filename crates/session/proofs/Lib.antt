@@ -20,3 +20,4 @@ mod RoundLaws
 mod ServeLaws
 mod StoreLaws
 mod VisitLaws
+mod WireLaws

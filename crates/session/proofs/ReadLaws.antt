@@ -17,8 +17,7 @@ use Rattle.capture.specs.declared.framing.MessageFault.{MessageFault}
 use Rattle.capture.specs.declared.refusal.Refusal.{Refusal}
 use Rattle.capture.specs.declared.refusal.Refusal.TheVariants as refusals
 use Rattle.capture.specs.declared.site.Site.{Site}
-use Rattle.exchange.specs.Receiving.{AccountsFault, BeginsAccounted, MeetsEnd, StaysAccounted}
-use Rattle.exchange.specs.declared.receiving.Came.TheVariants as came
+use Rattle.exchange.specs.Receiving.{BeginsAccounted, StaysAccounted}
 use Rattle.exchange.specs.Refusals.{refusal_text, memory_text}
 use Rattle.exchange.specs.Aim.{HasShortHost, IsAim, aim_of}
 use Rattle.exchange.specs.declared.aim.Aim.{Aim}
@@ -27,7 +26,7 @@ use Rattle.exchange.specs.declared.aim.AimFault.TheVariants as aim_fault
 use Rattle.http_head.specs.declared.head.RequestHead.{RequestHead}
 use Rattle.http_head.specs.declared.head.RequestMessage.{RequestMessage}
 use Rattle.http_head.specs.declared.head.WireFault.{WireFault}
-use Rattle.http_head.specs.declared.head.WireFault.TheVariants.{Malformed, HeadTooLong, BodyTooLong, CodingRefused, EndedEarly, Memory}
+use Rattle.http_head.specs.declared.head.WireFault.TheVariants.{EndedEarly, Memory}
 use Rattle.http_wire.specs.Heads.{BeginsWithRequest, HoldsHead}
 use Rattle.http_wire.specs.Messages.{IsRequest}
 use Rattle.http_wire.specs.Reading.{Standing, Open, Failed, EndsInside}
@@ -87,19 +86,6 @@ begins_rest given pending now stream h = (drop (length given - length pending + 
       let rest_is : drop (length given - length pending + length stream) now ≡ f.rest =
       ap (λ k. drop k now) n ∙ ap (λ (x : List ℕ). drop (length (done ++ stream)) x) f.splits ∙ drop-append_seam (done ++ stream) f.rest in
       f.splits ∙ append_assoc done stream f.rest ∙ ap (λ (x : List ℕ). done ++ (stream ++ x)) (sym rest_is)
-
--- first some bytes, and then a fault
-pub faulty_on : (fault : WireFault) (given pending mid unread now stream : List ℕ) → StaysAccounted given pending mid unread
-    → AccountsFault fault mid unread now stream → AccountsFault fault given pending now stream
-faulty_on Malformed given pending mid unread now stream h k = λ done e. k done (h done e)
-faulty_on HeadTooLong given pending mid unread now stream h k = λ done e. k done (h done e)
-faulty_on BodyTooLong given pending mid unread now stream h k = λ done e. k done (h done e)
-faulty_on CodingRefused given pending mid unread now stream h k = λ done e. k done (h done e)
-faulty_on EndedEarly given pending mid unread now stream h k = λ done e. k done (h done e)
-faulty_on Memory given pending mid unread now stream h k = λ done e. k done (h done e)
-
-pub all_taken : (given pending now stream : List ℕ) → StaysAccounted given pending now stream → StaysAccounted given pending now (stream ++ [])
-all_taken given pending now stream h = λ done e. h done e ∙ ap (λ (x : List ℕ). done ++ x) (sym (append-nil stream))
 
 -- ---- the client's end, and a fault of its link
 
@@ -200,11 +186,22 @@ inside site stream standing (Some head) interim n holds owed (inr body) = inr (r
 pub not_memory : (fault : WireFault) (standing : Standing) → standing ≡ Failed fault → fault ≢ Memory → standing ≢ Failed Memory
 not_memory fault standing e n f = n cc
 
+-- the head is the one that was looked at
+pub still_owed : (site : Site) (old new : Option RequestHead) (head : RequestHead) (aim : Aim) → old ≡ Some head → new ≡ old
+    → aim_of_head site head ≡ Ok aim → Owes site new (interim_of site head)
+still_owed site old new head aim e same aimed =
+    subst (λ (o : Option RequestHead). Owes site o (interim_of site head)) (sym (same ∙ e)) ((aim, aimed), refl)
+
+-- nothing is owed without a head
+pub owes_none : (site : Site) (held : Option RequestHead) → held ≡ None → Owes site held []
+owes_none site held e = subst (λ (o : Option RequestHead). Owes site o []) (sym e) refl
+
 -- the client ended inside a message
-pub ended_early : (site : Site) (from : Client) (stream interim : List ℕ) (standing : Standing) (head : Option RequestHead) (to : Heard)
-    → standing ≡ Failed EndedEarly → HoldsHead stream standing head → Owes site head interim → EndsInside Requests stream
-    → ComesFaulty from EndedEarly stream interim to → to.faults ≡ 0 → ReadsNone site from to ClientEndedEarly
-ended_early site from stream interim standing head to failed holds owed ends h whole =
+pub ended_early : (site : Site) (from : Client) (stream window interim : List ℕ) (standing : Standing) (head : Option RequestHead) (to : Heard)
+    → standing ≡ Failed EndedEarly → HoldsHead stream standing head → Owes site head interim → EndsInside Requests stream → window ≡ []
+    → StaysAccounted from.heard.given from.pending to.given (stream ++ window) → to.written ≡ from.heard.written ++ interim
+    → to.ended ≡ true → to.faults ≡ 0 → ReadsNone site from to ClientEndedEarly
+ended_early site from stream window interim standing head to failed holds owed ends none accounts written met whole =
     let n : standing ≢ Failed Memory = not_memory EndedEarly standing failed (λ e. let bad : ⊥ = cc in bad) in
     let within : IsInside site stream = inside site stream standing head interim n holds owed ends in
     NoMore (record {
@@ -212,14 +209,34 @@ ended_early site from stream interim standing head to failed holds owed ends h w
       interim = interim;
       undecided = inr within;
       interim_is = interim_known site stream standing head interim n holds owed;
-      taken = record { accounts = all_taken from.heard.given from.pending to.given stream h.accounts; written = h.written };
-      no_more = inl (h.met refl);
-      ends = λ served. record { whole = whole; enough = refl; not_closed = refl; ended = h.met refl; inside = within };
+      taken = record { accounts = rw none at accounts; written = written };
+      no_more = inl met;
+      ends = λ served. record { whole = whole; enough = refl; not_closed = refl; ended = met; inside = within };
     })
+
+-- before its head had come
+pub ended_before_head : (site : Site) (from : Client) (stream window : List ℕ) (standing : Standing) (head : Option RequestHead) (now : Heard)
+    → standing ≡ Failed EndedEarly → HoldsHead stream standing head → head ≡ None → EndsInside Requests stream → window ≡ []
+    → StaysAccounted from.heard.given from.pending now.given (stream ++ window) → now.written ≡ from.heard.written
+    → now.ended ≡ true → now.faults ≡ 0 → ReadsNone site from now ClientEndedEarly
+ended_before_head site from stream window standing head now failed holds e ends none accounts same met whole =
+    ended_early site from stream window [] standing head now failed holds (owes_none site head e) ends none accounts
+    (same ∙ sym (append-nil from.heard.written)) met whole
+
+-- behind a head that goes somewhere
+pub ended_behind_head : (site : Site) (from mid : Client) (stream grown window : List ℕ) (standing : Standing) (held old : Option RequestHead)
+    (head : RequestHead) (aim : Aim) (now : Heard) → AwaitsRest site from stream head aim mid
+    → standing ≡ Failed EndedEarly → HoldsHead grown standing held → old ≡ Some head → held ≡ old → EndsInside Requests grown → window ≡ []
+    → StaysAccounted mid.heard.given (stream ++ mid.pending) now.given (grown ++ window) → now.written ≡ mid.heard.written
+    → now.ended ≡ true → now.faults ≡ 0 → ReadsNone site from now ClientEndedEarly
+ended_behind_head site from mid stream grown window standing held old head aim now h failed holds e same_head ends none accounts same met whole =
+    ended_early site from grown window (interim_of site head) standing held now failed holds
+    (still_owed site old held head aim e same_head h.aimed) ends none (λ done f. accounts done (h.taken.accounts done f))
+    (same ∙ h.taken.written) met whole
 
 -- there was no memory to read on
 pub out_of_memory : (site : Site) (from : Client) (stream interim : List ℕ) (standing : Standing) (head : Option RequestHead) (to now : Heard)
-    → HoldsHead stream standing head → Owes site head interim → ComesFaulty from Memory stream interim to → Tries memory_text to now
+    → HoldsHead stream standing head → Owes site head interim → ComesFaulty from stream interim to → Tries memory_text to now
     → ReadsNone site from now WantOfMemory
 out_of_memory site from stream interim standing None to now holds owed h tries =
     let parts = begins_rest from.heard.given from.pending to.given stream h.accounts in
@@ -357,40 +374,27 @@ looked_ends site from stream pending head then now end begins taken (inr (inr (a
 })
 
 -- what is faulty was taken, and some may be left
-pub faulty_taken : (from : Client) (fault : WireFault) (stream : List ℕ) (to : Heard) → ComesFaulty from fault stream [] to
+pub faulty_taken : (from : Client) (stream : List ℕ) (to : Heard) → ComesFaulty from stream [] to
     → (pending : List ℕ) × HasTaken from stream [] (record { heard = to; pending = pending })
-faulty_taken from fault stream to h = by_fault fault h.accounts where
-  by_fault : (fault : WireFault) → AccountsFault fault from.heard.given from.pending to.given stream
-      → (pending : List ℕ) × HasTaken from stream [] (record { heard = to; pending = pending })
-  by_fault EndedEarly k = ([], record { accounts = all_taken from.heard.given from.pending to.given stream k; written = h.written })
-  by_fault Malformed k =
-      let parts = begins_rest from.heard.given from.pending to.given stream k in (parts.0, record { accounts = parts.1; written = h.written })
-  by_fault HeadTooLong k =
-      let parts = begins_rest from.heard.given from.pending to.given stream k in (parts.0, record { accounts = parts.1; written = h.written })
-  by_fault BodyTooLong k =
-      let parts = begins_rest from.heard.given from.pending to.given stream k in (parts.0, record { accounts = parts.1; written = h.written })
-  by_fault CodingRefused k =
-      let parts = begins_rest from.heard.given from.pending to.given stream k in (parts.0, record { accounts = parts.1; written = h.written })
-  by_fault Memory k =
-      let parts = begins_rest from.heard.given from.pending to.given stream k in (parts.0, record { accounts = parts.1; written = h.written })
+faulty_taken from stream to h =
+    let parts = begins_rest from.heard.given from.pending to.given stream h.accounts in
+    (parts.0, record { accounts = parts.1; written = h.written })
 
 -- and then what the head asks for was written
-pub faulty_written : (from : Client) (fault : WireFault) (stream text : List ℕ) (then now : Heard) → ComesFaulty from fault stream [] then
-    → Writes text then now → ComesFaulty from fault stream text now
-faulty_written from fault stream text then now h w = record {
+pub faulty_written : (from : Client) (stream text : List ℕ) (then now : Heard) → ComesFaulty from stream [] then
+    → Writes text then now → ComesFaulty from stream text now
+faulty_written from stream text then now h w = record {
   accounts = rw (sym w.same_given) at h.accounts;
   written = w.written ∙ ap (λ (x : List ℕ). x ++ text) h.written ∙ ap (λ (x : List ℕ). x ++ text) (append-nil from.heard.written);
-  met = λ e. w.same_end ∙ h.met e;
 }
 
 -- a fault in the body, behind a head that was looked at
-pub faulty_behind : (site : Site) (from mid : Client) (fault : WireFault) (stream grown : List ℕ) (head : RequestHead) (aim : Aim) (now : Heard)
-    → AwaitsRest site from stream head aim mid → AccountsFault fault mid.heard.given (stream ++ mid.pending) now.given grown
-    → now.written ≡ mid.heard.written → (fault ≡ EndedEarly → now.ended ≡ true) → ComesFaulty from fault grown (interim_of site head) now
-faulty_behind site from mid fault stream grown head aim now h k same met = record {
-  accounts = faulty_on fault from.heard.given from.pending mid.heard.given (stream ++ mid.pending) now.given grown h.taken.accounts k;
+pub faulty_behind : (site : Site) (from mid : Client) (stream grown : List ℕ) (head : RequestHead) (aim : Aim) (now : Heard)
+    → AwaitsRest site from stream head aim mid → BeginsAccounted mid.heard.given (stream ++ mid.pending) now.given grown
+    → now.written ≡ mid.heard.written → ComesFaulty from grown (interim_of site head) now
+faulty_behind site from mid stream grown head aim now h accounts same = record {
+  accounts = λ done e. accounts done (h.taken.accounts done e);
   written = same ∙ h.taken.written;
-  met = met;
 }
 
 -- ---- a body
@@ -494,16 +498,6 @@ begun_with_head stream standing (Some head) holds some between = nothing_isnt_he
 pub rose_above : (before now : ℕ) → Rose before now → now ≢ 0
 rose_above before now rose = λ e. let bad : ⊥ = omega (arith, rose, e) in bad
 
--- the head is the one that was looked at
-pub still_owed : (site : Site) (old new : Option RequestHead) (head : RequestHead) (aim : Aim) → old ≡ Some head → new ≡ old
-    → aim_of_head site head ≡ Ok aim → Owes site new (interim_of site head)
-still_owed site old new head aim e same aimed =
-    subst (λ (o : Option RequestHead). Owes site o (interim_of site head)) (sym (same ∙ e)) ((aim, aimed), refl)
-
--- an end that came too early was met
-pub ended_by : (fault : WireFault) (before now : Bool) → fault ≡ EndedEarly → MeetsEnd (came.Refused fault) before now → now ≡ true
-ended_by fault before now e met = rw e at met
-
 -- a reader that is new holds no head
 pub none_new : (old new : Option RequestHead) → old ≡ None → new ≡ old → new ≡ None
 none_new old new e f = f ∙ e
@@ -513,10 +507,10 @@ pub read_first : (from : Client) (stream : List ℕ) (to : Client) → StaysAcco
     → to.heard.written ≡ from.heard.written → HasTaken from stream [] to
 read_first from stream to accounts same = record { accounts = accounts; written = same ∙ sym (append-nil from.heard.written) }
 
-pub faulty_first : (from : Client) (fault : WireFault) (stream : List ℕ) (now : Heard) → AccountsFault fault from.heard.given from.pending now.given stream
-    → now.written ≡ from.heard.written → (fault ≡ EndedEarly → now.ended ≡ true) → ComesFaulty from fault stream [] now
-faulty_first from fault stream now accounts same met =
-    record { accounts = accounts; written = same ∙ sym (append-nil from.heard.written); met = met }
+pub faulty_first : (from : Client) (stream : List ℕ) (now : Heard) → BeginsAccounted from.heard.given from.pending now.given stream
+    → now.written ≡ from.heard.written → ComesFaulty from stream [] now
+faulty_first from stream now accounts same =
+    record { accounts = accounts; written = same ∙ sym (append-nil from.heard.written) }
 
 pub open_is_whole : (standing : Standing) → standing ≡ Open → standing ≢ Failed Memory
 open_is_whole standing e f = cc
@@ -525,10 +519,6 @@ open_is_whole standing e f = cc
 pub owes_held : (site : Site) (held : Option RequestHead) (head : RequestHead) (aim : Aim) → held ≡ Some head → aim_of_head site head ≡ Ok aim
     → Owes site held (interim_of site head)
 owes_held site held head aim e aimed = subst (λ (o : Option RequestHead). Owes site o (interim_of site head)) (sym e) ((aim, aimed), refl)
-
--- or of which none came
-pub owes_none : (site : Site) (held : Option RequestHead) → held ≡ None → Owes site held []
-owes_none site held e = subst (λ (o : Option RequestHead). Owes site o []) (sym e) refl
 
 -- whatever the link tells, a request that was taken goes where its head goes
 pub behind : (stream : List ℕ) (old new : Option RequestHead) (standing : Standing) (result : Result RequestMessage Served) → HoldsHead stream standing new

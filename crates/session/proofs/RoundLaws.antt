@@ -118,7 +118,7 @@ gave_up {S} finder setting wire rest interim from mid is itself begun known b tr
     made = made;
     accounts = λ done e. broken.same_given ∙ b.accounts done e;
     part = part_behind mid.heard.written (from.world.heard.written ++ interim) is.heard.written memory_text b.written broken.part;
-    broke = broken.broke;
+    unwritten = broken.unwritten;
     ends = refl;
   })
 
@@ -181,7 +181,7 @@ refused_bytes {S} finder setting head refusal wire rest interim from mid is resu
     made = made;
     accounts = λ done given. broken.same_given ∙ b.accounts done given;
     part = part_behind mid.heard.written (from.world.heard.written ++ interim) is.heard.written (refusal_text refusal (answers_head head) true) b.written broken.part;
-    broke = broken.broke;
+    unwritten = broken.unwritten;
     ends = (broken.broke, refl);
   })
   by_result Done h = absurd h

@@ -98,7 +98,7 @@ answer_lacked finder setting from incoming to is itself same taken makes (inr br
       made = rw same at makes.made;
       accounts = λ done e. broken.same_given ∙ taken.accounts done e;
       part = part_behind to.heard.written (from.world.heard.written ++ incoming.interim) is.heard.written memory_text taken.written broken.part;
-      broke = broken.broke;
+      unwritten = broken.unwritten;
       ends = refl;
     })
 
@@ -112,7 +112,7 @@ answer_broke finder setting from incoming answer to is itself same taken answere
       made = rw same at answered.makes.made;
       accounts = λ done e. broken.same_given ∙ taken.accounts done e;
       part = part_behind to.heard.written (from.world.heard.written ++ incoming.interim) is.heard.written answer.text taken.written broken.part;
-      broke = broken.broke;
+      unwritten = broken.unwritten;
       ends = (broken.broke, refl);
     })
 

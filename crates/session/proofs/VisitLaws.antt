@@ -3,7 +3,7 @@ use Rattle.std.proofs.Common.{◌≡◌, inl, ℕ, ◌≤◌, Bool, true, false,
 use Rattle.std.proofs.lemmas.List.{append-nil}
 use Rattle.std.specs.Prelude.{IfOk, Option}
 use Rattle.archive_shelf.specs.Answers.{Brings, CountsIf, IsDamaged}
-use Rattle.archive_shelf.specs.Contents.{Begins, Contents, IsConsistent, Leads, LeadsShown, Shows, Stays}
+use Rattle.archive_shelf.specs.Contents.{Contents, IsConsistent, Leads, LeadsShown, Shows, Stays}
 use Rattle.archive_shelf.specs.Laws.{BooksLeadToThemselves, LeadingGrows}
 use Rattle.archive_shelf.specs.Openings.{Moves, StaysCovered}
 use Rattle.archive_shelf.specs.declared.finder.Finder.{Ghosts}

@@ -31,7 +31,7 @@ module _ {S : Type 0} (finder : Ghosts S) (setting : Setting) where
     pub made : IsMade finder setting from.served r from.world is
     pub accounts : StaysAccounted from.world.heard.given from.pending is.heard.given (r.wire ++ rest)
     pub part : GrowsByProperFront (from.world.heard.written ++ r.interim) is.heard.written r.text
-    pub broke : is.heard.faults ≢ 0
+    pub unwritten : is.heard.failed_writes ≢ 0
     pub ends : EndsAs result setting.site (record { served = from.served; rounds = r ∷ []; rest = rest }) is.heard
 
   -- No request came, and no more comes.
@@ -42,7 +42,7 @@ module _ {S : Type 0} (finder : Ghosts S) (setting : Setting) where
     pub no_more : (is.heard.ended ≡ true) ⊎ (is.heard.faults ≢ 0)
     pub ends : EndsAs result setting.site (record { served = from.served; rounds = []; rest = rest }) is.heard
 
-  -- The client's link failed in the text that asks for a request's body.
+  -- A write failed of the text that asks for a request's body.
   pub record BrokeInside (begun unread interim : List ℕ) (from : Stage S) (mid is : World S) : Type 0 where
     pub asked : HasInterim setting.site begun interim
     pub begins : Begins from begun unread [] mid

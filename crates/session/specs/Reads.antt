@@ -4,7 +4,7 @@ use Rattle.capture.specs.Methods.{asks_for_head}
 use Rattle.capture.specs.declared.refusal.Refusal.{Refusal}
 use Rattle.capture.specs.declared.refusal.Refusal.TheVariants.{ConnectRefused, SecureRefused, TargetRefused}
 use Rattle.capture.specs.declared.site.Site.{Site}
-use Rattle.exchange.specs.Receiving.{AccountsFault, StaysAccounted}
+use Rattle.exchange.specs.Receiving.{BeginsAccounted, StaysAccounted}
 use Rattle.exchange.specs.Refusals.{refusal_text, memory_text}
 use Rattle.exchange.specs.Aim.{HasShortHost}
 use Rattle.exchange.specs.declared.aim.Aim.{Aim}
@@ -12,8 +12,6 @@ use Rattle.exchange.specs.declared.aim.AimFault.{AimFault}
 use Rattle.exchange.specs.declared.aim.AimFault.TheVariants as aim_fault
 use Rattle.http_head.specs.declared.head.RequestHead.{RequestHead}
 use Rattle.http_head.specs.declared.head.RequestMessage.{RequestMessage}
-use Rattle.http_head.specs.declared.head.WireFault.{WireFault}
-use Rattle.http_head.specs.declared.head.WireFault.TheVariants.{EndedEarly}
 use Rattle.http_wire.specs.Heads.{BeginsWithRequest}
 use Rattle.http_wire.specs.Messages.{IsRequest}
 use Rattle.outside.specs.declared.gate.Heard.{Heard}
@@ -108,11 +106,10 @@ abbrev pub Owes : Site → Option RequestHead → List ℕ → Type 0
 Owes site None interim = interim ≡ []
 Owes site (Some head) interim = IsAimed site head × (interim ≡ interim_of site head)
 
--- what came of a client is no message, for this reason, and this was written before
-pub record ComesFaulty (from : Client) (fault : WireFault) (stream interim : List ℕ) (to : Heard) : Type 0 where
-  pub accounts : AccountsFault fault from.heard.given from.pending to.given stream
+-- what came of a client is no message, and this was written before
+pub record ComesFaulty (from : Client) (stream interim : List ℕ) (to : Heard) : Type 0 where
+  pub accounts : BeginsAccounted from.heard.given from.pending to.given stream
   pub written : to.written ≡ from.heard.written ++ interim
-  pub met : fault ≡ EndedEarly → to.ended ≡ true
 
 -- ---- a head that is looked at
 

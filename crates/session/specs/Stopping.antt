@@ -18,15 +18,15 @@ pub record Course : Type 0 where
 abbrev pub closes_course : Course → Bool
 closes_course c = is_closed c.served c.rounds
 
--- The client's link failed in the last answer.
+-- A write of the last answer failed.
 pub record IsCutShort (c : Course) (then now : Heard) : Type 0 where
   pub init : List Round
   pub last : Round
   pub are : c.rounds ≡ init ++ last ∷ []
   pub part : GrowsByProperFront (then.written ++ (course_text init ++ last.interim)) now.written last.text
-  pub broke : now.faults ≢ 0
+  pub unwritten : now.failed_writes ≢ 0
 
--- The client's link failed in the text that a head asks for before its body is read.
+-- A write failed of the text that a head asks for before its body is read.
 pub record IsCutInside (site : Site) (c : Course) (then now : Heard) : Type 0 where
   pub not_closed : closes_course c ≡ false
   pub begun : List ℕ
@@ -35,7 +35,7 @@ pub record IsCutInside (site : Site) (c : Course) (then now : Heard) : Type 0 wh
   pub interim : List ℕ
   pub asked : HasInterim site begun interim
   pub part : GrowsByProperFront (then.written ++ course_text c.rounds) now.written interim
-  pub broke : now.faults ≢ 0
+  pub unwritten : now.failed_writes ≢ 0
 
 -- All was answered, and the last answer closes.
 pub record IsClosed (c : Course) (then now : Heard) : Type 0 where

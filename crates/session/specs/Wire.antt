@@ -10,11 +10,12 @@ pub record Writes (text : List ℕ) (then now : Heard) : Type 0 where
   pub written : now.written ≡ then.written ++ text
   pub whole : now.faults ≡ 0
 
--- A text was written in part, and the link failed.
+-- A text was written in part, since a write of it failed.
 pub record Breaks (text : List ℕ) (then now : Heard) : Type 0 where
   pub same_given : now.given ≡ then.given
   pub part : GrowsByProperFront then.written now.written text
   pub broke : now.faults ≢ 0
+  pub unwritten : now.failed_writes ≢ 0
 
 -- one of the two
 abbrev pub Tries : List ℕ → Heard → Heard → Type 0

@@ -10,7 +10,7 @@ ghost use Rattle.exchange.specs.declared.aim.Aim.{Aim as TheAim};
 ghost use Rattle.http_head.specs.declared.head.RequestHead.{RequestHead as TheHead};
 ghost use Rattle.http_wire.specs.Heads.{HoldsHead};
 ghost use Rattle.http_wire.specs.Messages.{IsRequest};
-ghost use Rattle.http_wire.specs.Reading.{Failed as HasFailed, Whole as IsWhole, HasFault};
+ghost use Rattle.http_wire.specs.Reading.{Failed as HasFailed, Whole as IsWhole, ComesBeforeTheEnd, HasFault};
 ghost use Rattle.outside.specs.Gate.{heard_of};
 ghost use Rattle.session.specs.Reads.{AwaitsRest, Client, ComesFaulty, HasTaken, IsBehind, IsWellAsked, LooksAt, Owes, Reads, ReadsBody, ReadsNone, RefusesAim};
 ghost use Rattle.session.specs.Requests as spec;
@@ -53,11 +53,46 @@ pub fn read_request<L: Link>(
     ensures later { L.faults client.old ≤ L.faults client.new }
     ensures broke { result ≡ Err Served.ClientBroke → Rose (L.faults client.old) (L.faults client.new) }
 {
+    await_request(client, window);
+    read_next(alloc, client, window, site)
+}
+
+/// Says to a client's link that nothing but a next request is awaited. Where bytes of one have come, with what was before it, it
+/// has begun.
+fn await_request<L: Link>(client: &mut L, window: &Window)
+    ensures same_traffic { IsTrue L.tells → L.traffic client.new ≡ L.traffic client.old }
+    ensures same_faults { L.faults client.new ≡ L.faults client.old }
+{
+    if window.is_empty() {
+        client.await_request();
+    }
+}
+
+/// Reads the next request, which may have begun.
+fn read_next<L: Link>(
+    alloc: Global,
+    client: &mut L,
+    window: &mut Window,
+    site: &Site,
+) -> Result<Asked, Served>
+    requires { L.faults client.old ≡ 0 }
+    ensures reads { IsTrue L.tells → Reads site.now
+        (record { heard = heard_of (L.traffic client.old) (L.faults client.old); pending = window.old })
+        (record { heard = heard_of (L.traffic client.new) (L.faults client.new); pending = window.new }) result }
+    ensures well { IfOk result (IsWellAsked site.now) }
+    ensures whole { OnOk result (L.faults client.new ≡ 0) }
+    ensures later { L.faults client.old ≤ L.faults client.new }
+    ensures broke { result ≡ Err Served.ClientBroke → Rose (L.faults client.old) (L.faults client.new) }
+{
     let mut reader = RequestReader::new(alloc);
     match receive_request(alloc, client, window, &mut reader) {
         Came::Head => read_on(alloc, client, window, site, &mut reader),
         Came::Whole => unreachable!(),
         Came::Ended => Err(Served::Done),
+        Came::EndedInside => {
+            holds_its_head(&reader);
+            Err(Served::ClientEndedEarly)
+        }
         Came::Broken => {
             holds_its_head(&reader);
             Err(Served::ClientBroke)
@@ -128,6 +163,10 @@ fn read_body<L: Link>(
             holds_its_head(reader);
             unreachable!()
         }
+        Came::EndedInside => {
+            holds_its_head(reader);
+            Err(Served::ClientEndedEarly)
+        }
         Came::Broken => {
             holds_its_head(reader);
             Err(Served::ClientBroke)
@@ -168,8 +207,9 @@ fn turn_back<L: Link>(
     requires no_fault { L.faults client.old ≡ 0 }
     requires failed { reader.now.standing ≡ HasFailed fault }
     requires faulty { HasFault Requests fault reader.now.stream }
+    requires before { ComesBeforeTheEnd fault }
     ensures ends { IsTrue L.tells → (from : Client)
-        → ComesFaulty from fault reader.now.stream [] (heard_of (L.traffic client.old) (L.faults client.old))
+        → ComesFaulty from reader.now.stream [] (heard_of (L.traffic client.old) (L.faults client.old))
         → ReadsNone site.now from (heard_of (L.traffic client.new) (L.faults client.new)) result }
     ensures later { L.faults client.old ≤ L.faults client.new }
     ensures broke { result ≡ Served.ClientBroke → Rose (L.faults client.old) (L.faults client.new) }
@@ -195,8 +235,9 @@ fn turn_away<L: Link>(
     requires no_fault { L.faults client.old ≡ 0 }
     requires failed { reader.now.standing ≡ HasFailed fault }
     requires faulty { HasFault Requests fault reader.now.stream }
+    requires before { ComesBeforeTheEnd fault }
     ensures ends { IsTrue L.tells → (site : TheSite) (from : Client) (interim : List ℕ) → Owes site reader.now.head interim
-        → ComesFaulty from fault reader.now.stream interim (heard_of (L.traffic client.old) (L.faults client.old))
+        → ComesFaulty from reader.now.stream interim (heard_of (L.traffic client.old) (L.faults client.old))
         → ReadsNone site from (heard_of (L.traffic client.new) (L.faults client.new)) result }
     ensures later { L.faults client.old ≤ L.faults client.new }
     ensures broke { result ≡ Served.ClientBroke → Rose (L.faults client.old) (L.faults client.new) }
@@ -207,7 +248,7 @@ fn turn_away<L: Link>(
         WireFault::HeadTooLong => refuse(alloc, client, Refusal::HeadTooLong, answers_head),
         WireFault::BodyTooLong => refuse(alloc, client, Refusal::BodyTooLong, answers_head),
         WireFault::CodingRefused => refuse(alloc, client, Refusal::CodingRefused, answers_head),
-        WireFault::EndedEarly => Served::ClientEndedEarly,
+        WireFault::EndedEarly => unreachable!(),
         WireFault::Memory => give_up(client),
     }
 }

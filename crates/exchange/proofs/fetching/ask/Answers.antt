@@ -6,5 +6,6 @@ use Rattle.exchange.proofs.fetching.ask.Goals as goal
 
 pub returns-in-Err-clause-receives : goal.returns-in-Err-clause-receives
 returns-in-Err-clause-receives g c t =
-    let nothing = c.write_all.ensures.same_given t ∙ ap (λ (traffic : Traffic). traffic.given) (c.requires.fresh t) in
+    let nothing = ap (λ (traffic : Traffic). traffic.given) (c.in-Err.ensures.breaks_off t)
+    ∙ ap (λ (traffic : Traffic). traffic.given) (c.requires.fresh t) in
     inl (comes_to_nothing c.fronts_stay.ensures.heads c.args.answers_head (g.L.Link.traffic c.write_all.new.link).given nothing)

@@ -1,12 +1,12 @@
 -- What the reader tells of its bytes is what stands first in what the link gave further.
-use Rattle.std.proofs.Common.{◌++◌, length, false, ap, subst, ◌∙◌}
+use Rattle.std.proofs.Common.{length, false, ap, subst, ◌∙◌}
 use Rattle.capture.specs.First.{Responses, Message, IsFirst}
 use Rattle.http_wire.specs.Messages.{IsResponse}
-use Rattle.http_wire.specs.Reading.{HasFault, IsUndecided, Stands}
+use Rattle.http_wire.specs.Reading.{EndsInside, HasFault, IsUndecided, Stands}
 use Rattle.http_wire.specs.ResponseReading.{ResponseReading}
 use Rattle.exchange.proofs.AccountLaws.{accounts_then}
 use Rattle.http_wire.proofs.DecisionLaws.{messages_stay, refusals_stay}
-use Rattle.exchange.proofs.ResponseLaws.{head_came, whole_answers, ended_answers, broken_answers, refused_answers, accounts_fault_then}
+use Rattle.exchange.proofs.ResponseLaws.{head_came, whole_answers, ended_answers, ended_inside_answers, broken_answers, refused_answers}
 use Rattle.exchange.proofs.WithinLaws.{whole_within, ended_within}
 use Rattle.exchange.proofs.fetching.next_response.Goals as goal
 
@@ -53,21 +53,32 @@ returns-in-Broken-clause-answers g c t =
     (g.L.Link.traffic c.receive_response.new.link).given stream c.receive_response.new.window
     start accounts c.in-Broken.ensures.brings.0 undecided
 
+pub returns-in-EndedInside-clause-answers : goal.returns-in-EndedInside-clause-answers
+returns-in-EndedInside-clause-answers g c t =
+    let ah = c.reading.invariant.answers_head in
+    let stream = c.receive_response.new.reader.stream in
+    let start = ap (λ (r : ResponseReading). r.stream) c.requires in
+    let accounts = accounts_then _ _ _ _ _ _ (c.reading.invariant.accounts t) (c.in-EndedInside.ensures.accounts t) in
+    let inside = subst (λ a. EndsInside (Responses a) stream) ah c.in-EndedInside.ensures.brings.2 in
+    ended_inside_answers c.args.reader.now.answers_head
+    (g.L.Link.traffic c.receive_response.new.link).ended (g.L.Link.traffic c.args.link.now).given c.args.reader.now.stream c.args.window.now
+    (g.L.Link.traffic c.receive_response.new.link).given stream c.receive_response.new.window
+    start accounts c.in-EndedInside.ensures.brings.0 inside (c.in-EndedInside.ensures.meets_end t)
+
 pub returns-in-Refused-clause-answers : goal.returns-in-Refused-clause-answers
 returns-in-Refused-clause-answers g c t =
     let ah = c.reading.invariant.answers_head in
     let stream = c.receive_response.new.reader.stream in
     let fault = c.in-Refused.fault in
     let start = ap (λ (r : ResponseReading). r.stream) c.requires in
-    let accounts = accounts_fault_then fault (g.L.Link.traffic c.args.link.now).given (c.args.reader.now.stream ++ c.args.window.now)
-    (g.L.Link.traffic c.reading.link).given (c.reading.reader.stream ++ c.reading.window) (g.L.Link.traffic c.receive_response.new.link).given stream
-    (c.reading.invariant.accounts t) (c.in-Refused.ensures.accounts t) in
+    let first = c.reading.invariant.accounts t in
+    let second = c.in-Refused.ensures.accounts t in
     let has = subst (λ a. HasFault (Responses a) fault stream) ah c.in-Refused.ensures.brings.2 in
     refused_answers (refusals_stay c.fronts_stay.ensures.heads c.fronts_stay.ensures.too_long) c.args.reader.now.answers_head
-    (g.L.Link.traffic c.reading.link).ended (g.L.Link.traffic c.receive_response.new.link).ended fault c.fault_of.result
+    (g.L.Link.traffic c.receive_response.new.link).ended fault c.fault_of.result
     (g.L.Link.traffic c.args.link.now).given c.args.reader.now.stream c.args.window.now
     (g.L.Link.traffic c.receive_response.new.link).given stream c.receive_response.new.window
-    start accounts (c.in-Refused.ensures.meets_end t) has c.fault_of.ensures
+    start (λ done split. second done (first done split)) has c.fault_of.ensures
 
 pub returns-in-Whole-clause-within : goal.returns-in-Whole-clause-within
 returns-in-Whole-clause-within g c =

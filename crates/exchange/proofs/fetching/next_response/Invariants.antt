@@ -3,7 +3,7 @@ use Rattle.std.proofs.Common.{◌≡◌, ◌++◌, IsTrue}
 use Rattle.std.specs.Prelude.{IsSome}
 use Rattle.capture.specs.First.{Responses}
 use Rattle.http_wire.specs.Reading.{Whole}
-use Rattle.exchange.specs.Receiving.{MayGoOn, StaysAccounted}
+use Rattle.exchange.specs.Receiving.{Gives, MayGoOn, StaysAccounted}
 use Rattle.exchange.proofs.ResponseLaws.{heads_left}
 use Rattle.exchange.proofs.fetching.next_response.Given as goal
 
@@ -16,9 +16,7 @@ invariant-reading g l = record {
       StaysAccounted (g.L.Link.traffic l.fn.link).given (l.fn.reader.stream ++ l.fn.window)
       (g.L.Link.traffic l.link).given (l.reader.stream ++ l.window);
   faults : g.L.Link.faults l.link ≡ g.L.Link.faults l.fn.link;
-  taken : IsTrue g.L.Link.tells → (g.L.Link.traffic l.link).taken ≡ (g.L.Link.traffic l.fn.link).taken;
-  host : IsTrue g.L.Link.tells → (g.L.Link.traffic l.link).host ≡ (g.L.Link.traffic l.fn.link).host;
-  port : IsTrue g.L.Link.tells → (g.L.Link.traffic l.link).port ≡ (g.L.Link.traffic l.fn.link).port;
+  gives : IsTrue g.L.Link.tells → Gives (g.L.Link.traffic l.fn.link) (g.L.Link.traffic l.link);
 }
 
 abbrev pub decreases-reading : goal.decreases-reading

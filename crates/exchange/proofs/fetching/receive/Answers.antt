@@ -2,6 +2,7 @@
 use Rattle.std.proofs.Common.{ap, arith, ◌∙◌, Ok, Err}
 use Rattle.http_wire.specs.ResponseReading.{ResponseReading, new_response}
 use Rattle.exchange.proofs.ArrivalLaws.{further_from, fails, arrives, too_many, awaits_next}
+use Rattle.exchange.proofs.TrafficLaws.{gives_on}
 use Rattle.exchange.proofs.fetching.receive.Goals as goal
 
 pub returns-in-Err-clause-receives : goal.returns-in-Err-clause-receives
@@ -56,7 +57,5 @@ receiving-preserved g c =
           c.next_response.new.window c.receiving.interims awaits ah (c.in-Ok.ensures.answers t))
           (omega (arith, c.if-is_final.false));
       faults = c.in-Ok.ensures.counts ∙ c.receiving.invariant.faults;
-      taken = λ t. c.in-Ok.ensures.same_taken t ∙ c.receiving.invariant.taken t;
-      host = λ t. c.in-Ok.ensures.same_host t ∙ c.receiving.invariant.host t;
-      port = λ t. c.in-Ok.ensures.same_port t ∙ c.receiving.invariant.port t;
+      gives = λ t. gives_on (g.L.Link.traffic c.args.link.now) (g.L.Link.traffic c.receiving.link) (g.L.Link.traffic c.next_response.new.link) (c.receiving.invariant.gives t) (c.in-Ok.ensures.gives t);
     }

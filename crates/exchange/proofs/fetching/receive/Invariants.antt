@@ -3,6 +3,7 @@ use Rattle.std.proofs.Common.{◌≡◌, ◌-◌, ◌≤◌, IsTrue}
 use Rattle.capture.specs.declared.limits.TheConstants.{INTERIM_LIMIT}
 use Rattle.http_wire.specs.ResponseReading.{new_response}
 use Rattle.exchange.proofs.ArrivalLaws.{Awaits}
+use Rattle.exchange.specs.Receiving.{Gives}
 use Rattle.exchange.proofs.fetching.receive.Given as goal
 
 abbrev pub invariant-receiving : goal.invariant-receiving
@@ -11,9 +12,7 @@ invariant-receiving g l = record {
   few : l.interims ≤ INTERIM_LIMIT;
   awaits : IsTrue g.L.Link.tells → Awaits (g.L.Link.traffic l.link).given l.window l.interims;
   faults : g.L.Link.faults l.link ≡ g.L.Link.faults l.fn.link;
-  taken : IsTrue g.L.Link.tells → (g.L.Link.traffic l.link).taken ≡ (g.L.Link.traffic l.fn.link).taken;
-  host : IsTrue g.L.Link.tells → (g.L.Link.traffic l.link).host ≡ (g.L.Link.traffic l.fn.link).host;
-  port : IsTrue g.L.Link.tells → (g.L.Link.traffic l.link).port ≡ (g.L.Link.traffic l.fn.link).port;
+  gives : IsTrue g.L.Link.tells → Gives (g.L.Link.traffic l.fn.link) (g.L.Link.traffic l.link);
 }
 
 abbrev pub decreases-receiving : goal.decreases-receiving

@@ -6,10 +6,7 @@ abbrev pub invariant-writing : goal.invariant-writing
 invariant-writing g l = record {
   sent : IsTrue g.L.Link.tells → Sends (g.L.Link.traffic l.fn.link).taken (g.L.Link.traffic l.link).taken l.text l.rest;
   faults : g.L.Link.faults l.link ≡ g.L.Link.faults l.fn.link;
-  given : IsTrue g.L.Link.tells → (g.L.Link.traffic l.link).given ≡ (g.L.Link.traffic l.fn.link).given;
-  ended : IsTrue g.L.Link.tells → (g.L.Link.traffic l.link).ended ≡ (g.L.Link.traffic l.fn.link).ended;
-  host : IsTrue g.L.Link.tells → (g.L.Link.traffic l.link).host ≡ (g.L.Link.traffic l.fn.link).host;
-  port : IsTrue g.L.Link.tells → (g.L.Link.traffic l.link).port ≡ (g.L.Link.traffic l.fn.link).port;
+  only : IsTrue g.L.Link.tells → (g.L.Link.traffic l.link) ≡ record (g.L.Link.traffic l.fn.link) { taken = (g.L.Link.traffic l.link).taken };
 }
 
 abbrev pub decreases-writing : goal.decreases-writing

@@ -4,7 +4,7 @@ use Rattle.std.specs.Prelude.{IsSome}
 use Rattle.capture.specs.First.{Requests}
 use Rattle.capture.specs.declared.limits.TheConstants.{HEAD_LIMIT, BODY_LIMIT}
 use Rattle.http_wire.specs.Reading.{Whole}
-use Rattle.exchange.specs.Receiving.{MayGoOn, StaysAccounted}
+use Rattle.exchange.specs.Receiving.{Gives, MayGoOn, StaysAccounted}
 use Rattle.exchange.proofs.receiving.receive_request.Given as goal
 
 abbrev pub invariant-reading : goal.invariant-reading
@@ -17,9 +17,7 @@ invariant-reading g l = record {
       (g.L.Link.traffic l.link).given (l.reader.stream ++ l.window);
   ended : IsTrue g.L.Link.tells → IsTrue (g.L.Link.traffic l.link).ended → IsTrue (g.L.Link.traffic l.fn.link).ended;
   faults : g.L.Link.faults l.link ≡ g.L.Link.faults l.fn.link;
-  taken : IsTrue g.L.Link.tells → (g.L.Link.traffic l.link).taken ≡ (g.L.Link.traffic l.fn.link).taken;
-  host : IsTrue g.L.Link.tells → (g.L.Link.traffic l.link).host ≡ (g.L.Link.traffic l.fn.link).host;
-  port : IsTrue g.L.Link.tells → (g.L.Link.traffic l.link).port ≡ (g.L.Link.traffic l.fn.link).port;
+  gives : IsTrue g.L.Link.tells → Gives (g.L.Link.traffic l.fn.link) (g.L.Link.traffic l.link);
 }
 
 -- an undecided message and what was read of it grow, and it has a limit

@@ -1,9 +1,10 @@
 -- The message and the window grow, and all that was given is theirs.
-use Rattle.std.proofs.Common.{◌++◌, sym, subst}
+use Rattle.std.proofs.Common.{◌++◌, ap, sym, subst}
 use Rattle.capture.specs.First.{Responses}
 use Rattle.exchange.specs.Receiving.{StaysAccounted}
-use Rattle.exchange.proofs.AccountLaws.{accounts_more, accounts_all}
-use Rattle.exchange.proofs.FeedLaws.{further_on, nothing_came}
+use Rattle.outside.specs.Link.{Traffic}
+use Rattle.exchange.proofs.AccountLaws.{accounts_more}
+use Rattle.exchange.proofs.FeedLaws.{further_on}
 use Rattle.exchange.proofs.receiving.receive_response.Goals as goal
 
 pub reading-smaller : goal.reading-smaller
@@ -20,6 +21,5 @@ returns-in-Err-end-clause-accounts g c t =
     let pending = c.args.reader.now.stream ++ c.args.window.now in
     let now = (link.traffic c.refill.new.link).given in
     let accounts = accounts_more before pending (link.traffic c.reading.link).given c.reading.reader.stream c.reading.window
-    c.feed_response.new.reader.stream now c.refill.new.self (c.reading.invariant.accounts t) feeds.0 (c.refill.ensures.gives t) in
-    let none = nothing_came c.in-Ok-false.field-0 c.refill.new.self c.in-Ok-false.field-0-test c.in-Ok-false.ensures.some in
-    subst (StaysAccounted before pending now) (sym c.end.ensures.stream) (accounts_all before pending now c.feed_response.new.reader.stream c.refill.new.self accounts none)
+    c.feed_response.new.reader.stream now c.refill.new.self (c.reading.invariant.accounts t) feeds.0 (ap (λ (traffic : Traffic). traffic.given) (c.in-Ok-false.ensures.gives t)) in
+    subst (λ s. StaysAccounted before pending now (s ++ c.refill.new.self)) (sym c.end.ensures.stream) accounts

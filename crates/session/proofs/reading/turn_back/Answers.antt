@@ -10,7 +10,7 @@ returns-in-None-clause-ends g c t from h =
 
 pub returns-in-Err-clause-ends : goal.returns-in-Err-clause-ends
 returns-in-Err-clause-ends g c t from h =
-    let taken = faulty_taken from c.args.fault c.args.reader.now.stream (heard_of (g.L.Link.traffic c.args.client.now) (g.L.Link.faults c.args.client.now)) h in
+    let taken = faulty_taken from c.args.reader.now.stream (heard_of (g.L.Link.traffic c.args.client.now) (g.L.Link.faults c.args.client.now)) h in
     looked_ends c.args.site.now from c.args.reader.now.stream taken.0 c.in-Some.head.now
     (heard_of (g.L.Link.traffic c.args.client.now) (g.L.Link.faults c.args.client.now)) (heard_of (g.L.Link.traffic c.look_at.new.client) (g.L.Link.faults c.look_at.new.client)) c.in-Err.end
     c.in-Some.ensures.begins taken.1 (c.in-Err.ensures.looks t)
@@ -20,4 +20,4 @@ returns-clause-ends g c t from h =
     let looks = c.in-Ok.ensures.looks t in
     c.turn_away-2.ensures.ends t c.args.site.now from _
     (owes_held c.args.site.now c.args.reader.now.head c.in-Some.head.now c.in-Ok.aim c.in-Some.ensures.some looks.0)
-    (faulty_written from c.args.fault c.args.reader.now.stream _ (heard_of (g.L.Link.traffic c.args.client.now) (g.L.Link.faults c.args.client.now)) (heard_of (g.L.Link.traffic c.look_at.new.client) (g.L.Link.faults c.look_at.new.client)) h looks.1)
+    (faulty_written from c.args.reader.now.stream _ (heard_of (g.L.Link.traffic c.args.client.now) (g.L.Link.faults c.args.client.now)) (heard_of (g.L.Link.traffic c.look_at.new.client) (g.L.Link.faults c.look_at.new.client)) h looks.1)
