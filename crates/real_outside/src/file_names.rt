@@ -4,6 +4,8 @@ ghost use Rattle.real_outside.specs.FileNames as spec;
 
 use disk_model::Kind;
 use std::alloc::{AllocError, Global};
+use std::fmt;
+use std::fmt::{Display, Formatter};
 
 /// The folder of the archive, in the folder where the program runs.
 pub(crate) const FOLDER: &str = "archive";
@@ -13,6 +15,20 @@ pub(crate) const AROUND: &str = ".";
 
 /// The file by whose lock one process at a time has the archive.
 pub(crate) const LOCK: &str = "archive/lock";
+
+/// A file of the archive, which is printed as its path.
+#[derive(Clone, Copy, Debug)]
+pub(crate) struct ArchiveFile {
+    pub(crate) kind: Kind,
+    pub(crate) number: u32,
+}
+
+impl Display for ArchiveFile {
+    fn fmt<W: fmt::Write>(&self, f: &mut Formatter<W>) -> fmt::Result {
+        let (number, ending) = (self.number, ending_of(self.kind));
+        write!(f, "archive/vol-{number:06}{ending}")
+    }
+}
 
 #[tactic(auto, using(crate::proofs::FileNames::padded_to_six), unfolding(crate::specs::FileNames::path_of))]
 /// The path of a file: `vol-` and its number in six digits or more.

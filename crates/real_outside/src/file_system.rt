@@ -3,6 +3,7 @@ ghost use Rattle.std.specs.Prelude.{◌≡◌, ◌++◌, ℕ, Bool, List, IsTrue
 ghost use Rattle.std.specs.Io.{ReadsAtMost, WritesAtMost};
 ghost use Rattle.real_outside.specs.Placed.{Placed, placed_at};
 
+use crate::causes::Causes;
 use crate::tally::Tally;
 use std::io;
 
@@ -29,7 +30,7 @@ pub enum Lock {
 /// Files and folders. Each call is one of the system's, or two, and says why it failed.
 ///
 /// What a file holds and was given is said only where the type tells it; the system's files don't.
-pub trait FileSystem {
+pub trait FileSystem: Causes {
     /// An open file, which is closed where it is dropped.
     type File: Drop;
 

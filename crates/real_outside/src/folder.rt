@@ -44,9 +44,8 @@ impl<F: FileSystem> Folder<F> {
     }
 
     /// What its calls are made of.
-    #[cfg(test)]
-    pub(crate) fn system(&self) -> &F {
-        &self.system
+    pub(crate) fn system(&mut self) -> &mut F {
+        &mut self.system
     }
 
     /// Counts the files of a kind, none where the folder isn't there. A number that is missing is a failure.

@@ -1,13 +1,17 @@
 //! The disk of the program: the folder `archive`.
-ghost use Rattle.std.specs.Prelude.{◌≡◌, false};
+ghost use Rattle.std.specs.Prelude.{◌≡◌, false, IsErr, MatchResult};
+ghost use Rattle.capture.specs.Faults.{CountsFaults};
 ghost use Rattle.disk_model.specs.Image.{no_files};
 
-use crate::faults::counted;
+use crate::faults::told;
+use crate::file_names::{ArchiveFile, FOLDER};
 use crate::file_system::FileSystem;
 use crate::folder::Folder;
 use disk_model::{Disk, Kind};
 use outside::Failed;
 use std::alloc::Global;
+use std::fmt::Display;
+use std::io;
 
 /// A disk in the folder `archive`, with its count of faults. It doesn't tell what its files hold.
 #[derive(Drop)]
@@ -29,8 +33,21 @@ impl<F: FileSystem> FolderDisk<F> {
 
     /// What the disk's calls are made of.
     #[cfg(test)]
-    pub(crate) fn system(&self) -> &F {
+    pub(crate) fn system(&mut self) -> &mut F {
         self.folder.system()
+    }
+
+    /// Passes the folder's answer to a call about a file or the folder on.
+    fn passed_on<T, W: Display + Drop>(
+        &mut self,
+        what: W,
+        call: &str,
+        answer: io::Result<T>,
+    ) -> Result<T, Failed>
+        ensures passed_on { MatchResult answer (λ value. result ≡ Ok value) (λ _. IsErr result) }
+        ensures counts { CountsFaults self.old.faults self.new.faults result }
+    {
+        told(&mut self.faults, self.folder.system(), what, call, answer)
     }
 }
 
@@ -48,34 +65,42 @@ impl<F: FileSystem> Disk for FolderDisk<F> {
     ghost faults = { λ disk. disk.faults };
 
     fn files(&mut self, kind: Kind) -> Result<u32, Failed> {
-        counted(&mut self.faults, self.folder.files(kind))
+        let answer = self.folder.files(kind);
+        self.passed_on(FOLDER, "count files", answer)
     }
 
     fn create(&mut self, kind: Kind) -> Result<u32, Failed> {
-        counted(&mut self.faults, self.folder.create(kind))
+        let answer = self.folder.create(kind);
+        self.passed_on(FOLDER, "make a file", answer)
     }
 
     fn len(&mut self, kind: Kind, file: u32) -> Result<u64, Failed> {
-        counted(&mut self.faults, self.folder.len(kind, file))
-    }
-
-    fn read(&mut self, kind: Kind, file: u32, at: u64, into: &mut [u8]) -> Result<(), Failed> {
-        counted(&mut self.faults, self.folder.read(kind, file, at, into))
-    }
-
-    fn write_at(&mut self, kind: Kind, file: u32, at: u64, bytes: &[u8]) -> Result<(), Failed> {
-        counted(
-            &mut self.faults,
-            self.folder.write_at(kind, file, at, bytes),
+        let answer = self.folder.len(kind, file);
+        self.passed_on(
+            ArchiveFile { kind, number: file },
+            "ask for its length",
+            answer,
         )
     }
 
+    fn read(&mut self, kind: Kind, file: u32, at: u64, into: &mut [u8]) -> Result<(), Failed> {
+        let answer = self.folder.read(kind, file, at, into);
+        self.passed_on(ArchiveFile { kind, number: file }, "read", answer)
+    }
+
+    fn write_at(&mut self, kind: Kind, file: u32, at: u64, bytes: &[u8]) -> Result<(), Failed> {
+        let answer = self.folder.write_at(kind, file, at, bytes);
+        self.passed_on(ArchiveFile { kind, number: file }, "write", answer)
+    }
+
     fn cut(&mut self, kind: Kind, file: u32, len: u64) -> Result<(), Failed> {
-        counted(&mut self.faults, self.folder.cut(kind, file, len))
+        let answer = self.folder.cut(kind, file, len);
+        self.passed_on(ArchiveFile { kind, number: file }, "cut", answer)
     }
 
     fn sync(&mut self, kind: Kind, file: u32) -> Result<(), Failed> {
-        counted(&mut self.faults, self.folder.sync(kind, file))
+        let answer = self.folder.sync(kind, file);
+        self.passed_on(ArchiveFile { kind, number: file }, "sync", answer)
     }
 
     fn faults(&self) -> u64 {

@@ -3,6 +3,7 @@
 
 mod accept_faults;
 mod brackets;
+mod causes;
 mod clock;
 mod dialer;
 mod ends;
@@ -32,6 +33,7 @@ mod tcp_link;
 #[cfg(test)]
 mod tests;
 
+pub use causes::Causes;
 pub use clock::RealClock;
 pub use dialer::RealDialer;
 pub use ends::Ends;

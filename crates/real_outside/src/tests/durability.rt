@@ -31,6 +31,16 @@ fn calls_of(alloc: Global, files: RecordedFiles, steps: &[Step]) -> Written {
     joined(disk.system().calls, faults.as_str())
 }
 
+/// The causes that these steps tell where the call of that number fails.
+fn causes_of(alloc: Global, mut files: RecordedFiles, call: usize, steps: &[Step]) -> Written {
+    files.fails[0] = (call, ErrorKind::StorageFull);
+    let mut disk = FolderDisk::new(files, alloc);
+    for step in steps {
+        take(&mut disk, *step);
+    }
+    disk.system().causes
+}
+
 /// Takes one step. The count of faults says whether it failed.
 fn take(disk: &mut FolderDisk<RecordedFiles>, step: Step) {
     let mut into = [0u8; 2];
@@ -175,6 +185,52 @@ fn each_call_fails_once(rt: HostRuntime) {
         check(
             &rt,
             calls_of(rt.alloc(), files, &[Files, Create, Write(0), Sync(0)]),
+            want,
+        );
+    }
+}
+
+/// Which call of which steps fails, and the cause that is told.
+static CAUSES: [(usize, &[Step], &str); 7] = [
+    (1, &[Files], "archive: count files: no storage space;"),
+    (
+        2,
+        &[Files, Create],
+        "archive: make a file: no storage space;",
+    ),
+    (
+        3,
+        &[Files, Len(1)],
+        "archive/vol-000001.warc: ask for its length: no storage space;",
+    ),
+    (
+        4,
+        &[Files, Read(1)],
+        "archive/vol-000001.warc: read: no storage space;",
+    ),
+    (
+        4,
+        &[Files, Write(0)],
+        "archive/vol-000000.warc: write: no storage space;",
+    ),
+    (
+        4,
+        &[Files, Cut(0)],
+        "archive/vol-000000.warc: cut: no storage space;",
+    ),
+    (
+        4,
+        &[Files, Sync(0)],
+        "archive/vol-000000.warc: sync: no storage space;",
+    ),
+];
+
+#[test]
+fn the_cause_of_a_fault_is_told(rt: HostRuntime) {
+    for (call, steps, want) in &CAUSES {
+        check(
+            &rt,
+            causes_of(rt.alloc(), two_volumes(), *call, steps),
             want,
         );
     }

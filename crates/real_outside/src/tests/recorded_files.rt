@@ -2,8 +2,10 @@
 ghost use Rattle.std.specs.Prelude.{false, []};
 
 use super::written::{Written, joined, written};
+use crate::causes::Causes;
 use crate::file_system::{Access, FileSystem, Lock};
 use crate::tally::Tally;
+use std::fmt::Display;
 use std::io;
 use std::io::ErrorKind;
 
@@ -11,6 +13,8 @@ use std::io::ErrorKind;
 #[derive(Clone, Copy)]
 pub(crate) struct RecordedFiles {
     pub(crate) calls: Written,
+    /// The causes of faults that it was told.
+    pub(crate) causes: Written,
     made: usize,
     /// Which calls fail, counted from 0, and how.
     pub(crate) fails: [(usize, ErrorKind); 2],
@@ -27,6 +31,7 @@ impl RecordedFiles {
     pub(crate) fn new(names: [&'static str; 3], len: u64) -> RecordedFiles {
         RecordedFiles {
             calls: Written::new(),
+            causes: Written::new(),
             made: 0,
             fails: [(usize::MAX, ErrorKind::Other); 2],
             names,
@@ -54,6 +59,13 @@ fn name_of(path: &str) -> &str {
     match path.rsplit_once('/') {
         Some((_, name)) => name,
         None => path,
+    }
+}
+
+impl Causes for RecordedFiles {
+    fn tell<D: Display + Drop>(&mut self, what: D, call: &str, error: &io::Error) {
+        let line = written(format_args!("{what}: {call}: {error};"));
+        self.causes = joined(self.causes, line.as_str());
     }
 }
 
