@@ -15,6 +15,8 @@ pub struct Change {
     /// The place in the file, in bytes.
     pub place: u64,
     pub byte: u8,
+    /// So many reads of it give what was written.
+    pub kept_reads: u64,
 }
 
 /// A disk that passes each call on to a disk in memory, and changes what a read gives. It asks the inner disk whether the file and
@@ -48,13 +50,17 @@ impl AlteredDisk {
     }
 }
 
-/// Changes the byte at the place, where the bytes that were read from `at` on hold it.
-fn alter(into: &mut [u8], at: u64, change: Change) {
+/// Changes the byte at the place, where the bytes that were read from `at` on hold it and it isn't kept any more.
+fn alter(into: &mut [u8], at: u64, change: &mut Change) {
     let Some(place) = change.place.checked_sub(at) else {
         return;
     };
-    if let Some(byte) = into.get_mut(place as usize) {
-        *byte = change.byte;
+    let Some(byte) = into.get_mut(place as usize) else {
+        return;
+    };
+    match change.kept_reads.checked_sub(1) {
+        Some(left) => change.kept_reads = left,
+        None => *byte = change.byte,
     }
 }
 
@@ -108,7 +114,7 @@ impl Disk for AlteredDisk {
         }
         let answer = self.inner.read(kind, file, at, into);
         if kind == Kind::Warc && file == self.change.file {
-            alter(into, at, self.change);
+            alter(into, at, &mut self.change);
         }
         self.answer(answer)
     }

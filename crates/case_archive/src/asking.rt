@@ -1,4 +1,5 @@
 //! What is asked of an archive that is open.
+use crate::filling::{filled, load_in};
 use crate::finding::{brought, entry_text, found_by_date, mapped, starting_with};
 use crate::opening::counts_text;
 use crate::storing::{compared, rolled, stored};
@@ -20,6 +21,7 @@ pub fn told<D: Disk>(
     let text = step.text.as_slice();
     match step.name {
         "store" => store(alloc, archive, text),
+        "fill" => fill(alloc, archive, text),
         "bring" => bring(alloc, archive, text),
         "by-date" => found_by_date(alloc, archive, text),
         "map" => mapped(alloc, archive, text),
@@ -47,6 +49,17 @@ fn store<D: Disk>(
     };
     match prepared_of(alloc, &exchanged)? {
         Some(prepared) => words::text(stored(alloc, archive, prepared.taken)),
+        None => Ok(None),
+    }
+}
+
+fn fill<D: Disk>(
+    alloc: Global,
+    archive: &mut Archive<D>,
+    text: &[u8],
+) -> Result<Option<Vec<u8>>, Memory> {
+    match load_in(text) {
+        Some(load) => filled(alloc, archive, load),
         None => Ok(None),
     }
 }

@@ -4,6 +4,7 @@
 
 mod altered;
 mod asking;
+mod filling;
 mod finding;
 mod held;
 mod looking;

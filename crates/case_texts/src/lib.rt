@@ -1,9 +1,10 @@
-//! Calls over plain texts, by name: dates, digests, lines, keys, addresses and pages. The answer is a text: the value, or
+//! Calls over plain texts, by name: dates, digests, lines, keys, addresses, pages and loads. The answer is a text: the value, or
 //! the name of the refusal. The crates of further calls stand on the words of this one.
 #![tactic(auto)]
 
 mod addresses;
 mod keys;
+mod loads;
 mod pages;
 mod texts;
 mod times;
@@ -54,6 +55,19 @@ fn address_answer(alloc: Global, call: &Call) -> Result<Option<Vec<u8>>, Memory>
         "write_form" => addresses::form_written(alloc, text),
         "rewrite" => always(pages::rewritten(alloc, text)),
         "rewrite_of" => pages::rewritten_of(alloc, text),
+        _ => load_answer(alloc, call),
+    }
+}
+
+/// What a call answers that is about a load.
+fn load_answer(alloc: Global, call: &Call) -> Result<Option<Vec<u8>>, Memory> {
+    let text = call.text.as_slice();
+    match call.name {
+        "load_client" => loads::client_of(alloc, text),
+        "load_origin" => loads::origin_of(alloc, text),
+        "load_payload" => loads::payload_of(alloc, text),
+        "load_uri" => loads::uri_of(alloc, text),
+        "load_date" => loads::date_of(alloc, text),
         _ => Ok(None),
     }
 }

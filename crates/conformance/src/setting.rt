@@ -372,13 +372,15 @@ fn take_length(length: &mut usize, text: &str, k: u64) -> bool {
     }
 }
 
-/// A file, a place and a byte.
+/// A file, a place and a byte, and how many reads of it give what was written.
 fn change_of(numbers: &[u64]) -> Option<Change> {
-    match numbers {
+    let (place, kept) = numbers.split_at_checked(3)?;
+    match place {
         [file, place, byte] => Some(Change {
             file: u32::try_from(*file).ok()?,
             place: *place,
             byte: u8::try_from(*byte).ok()?,
+            kept_reads: kept.first().copied().unwrap_or(0),
         }),
         _ => None,
     }
