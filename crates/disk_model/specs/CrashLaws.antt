@@ -69,14 +69,6 @@ torn_written at n old bytes some = record {
 pub torn_before : (at n : ℕ) (old new : List ℕ) → at ≤ length old → Torn at n old new → take at new ≡ take at old
 torn_before at n old new le torn = sym (take-take at (length old) new le) ∙ torn.before
 
--- before a written range and behind it stand the old bytes
-pub torn_parts : (at n : ℕ) (old new : List ℕ) → at ≤ length old → Torn at n old new
-    → new ≡ take at old ++ (take n (drop at new) ++ drop (at + n) old)
-torn_parts at n old new le torn =
-    sym (take-append-drop at new)
-    ∙ ap (λ (l : List ℕ). take at new ++ l) (sym (take-append-drop n (drop at new)) ∙ ap (λ (l : List ℕ). take n (drop at new) ++ l) (drop-drop n at new ∙ torn.after))
-    ∙ ap (λ (l : List ℕ). l ++ (take n (drop at new) ++ drop (at + n) old)) (torn_before at n old new le torn)
-
 -- a write at the end leaves what was there, and of its bytes as many as it has at most
 abbrev pub TornAppendStandsBehind : Type 0
 TornAppendStandsBehind =
@@ -164,10 +156,6 @@ cut_behind text rest new cut =
 -- a step that may do nothing to the file may do nothing to the image
 pub on_file_none : (kind : Kind) (file : ℕ) (Step : List ℕ → List ℕ → Type 0) (image : Image) → Step (file_of image kind file) (file_of image kind file) → OnFile kind file Step image image
 on_file_none kind file Step image none = record { bytes = file_of image kind file; step = none; whole = sym (with_file-file_of image kind file) }
-
--- no time has gone by
-pub elapses_none : (now : ℕ) (since : ℕ → Image → Type 0) (images : Image → Type 0) → Elapses now now since since images
-elapses_none now since images = record { later = omega arith; by_one = omega arith; nothing_else = λ t image le left. inl left; keeps = λ t image le left. left }
 
 -- of more images
 pub elapses_weaker : (before now : ℕ) (past since : ℕ → Image → Type 0) (few more : Image → Type 0) → ((image : Image) → few image → more image)

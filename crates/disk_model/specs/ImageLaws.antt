@@ -1,6 +1,6 @@
 -- Laws of images: what a change of one file does to it, and that it leaves the other files.
 use Rattle.std.proofs.Common.{◌≡◌, ◌≢◌, ◌⊎◌, ◌<◌, ◌≤◌, ◌+◌, ◌-◌, ℕ, zero, suc, List, [], ◌∷◌, ◌++◌, length, get_or, refl, sym, ap, ◌∙◌, subst, inl, inr, ⊎_elim, arith, get_or-set_same, get_or-set_other}
-use Rattle.std.proofs.lemmas.List.{length-set, set-set, set-get_or, set_past, get_or_append_left, get_or_push, length_push, same_lists, get_or_default}
+use Rattle.std.proofs.lemmas.List.{length-set, set-set, set-get_or, set_past, get_or_push, length_push, same_lists, get_or_default}
 use Rattle.std.proofs.lemmas.Bool.{cases_eq, cases_lt}
 use lib.ListN.{set}
 use Rattle.disk_model.specs.Image.{Image, files_of, with_files, file_count, file_of, with_file, with_new, IsApart}
@@ -19,16 +19,6 @@ files_of-with_files_other image Warc Warc files apart = absurd (apart refl)
 files_of-with_files_other image Warc Cdxj files apart = refl
 files_of-with_files_other image Cdxj Warc files apart = refl
 files_of-with_files_other image Cdxj Cdxj files apart = absurd (apart refl)
-
-pub with_files-with_files : (image : Image) (kind : Kind) (one two : List (List ℕ)) → with_files (with_files image kind one) kind two ≡ with_files image kind two
-unfolding with_files
-with_files-with_files image Warc one two = refl
-with_files-with_files image Cdxj one two = refl
-
-pub with_files-files_of : (image : Image) (kind : Kind) → with_files image kind (files_of image kind) ≡ image
-unfolding files_of with_files
-with_files-files_of image Warc = refl
-with_files-files_of image Cdxj = refl
 
 -- a file that is written over has the new bytes
 pub file_of-with_file : (image : Image) (kind : Kind) (file : ℕ) (bytes : List ℕ) → file < file_count image kind → file_of (with_file image kind file bytes) kind file ≡ bytes
@@ -98,13 +88,6 @@ file_of-with_new image kind =
     ap (λ (files : List (List ℕ)). get_or files (file_count image kind) []) (files_of-with_new image kind)
     ∙ get_or_push (files_of image kind) [] [] (file_count image kind) refl
 
--- and the files before it stay
-pub file_of-with_new_number : (image : Image) (kind : Kind) (file : ℕ) → file < file_count image kind → file_of (with_new image kind) kind file ≡ file_of image kind file
-unfolding file_of
-file_of-with_new_number image kind file before =
-    ap (λ (files : List (List ℕ)). get_or files file []) (files_of-with_new image kind)
-    ∙ get_or_append_left (files_of image kind) ([] ∷ []) [] file before
-
 -- images with as many files of a kind, and the same bytes in each, have the same files of that kind
 pub same_kind : (one two : Image) (kind : Kind) → file_count one kind ≡ file_count two kind
     → ((file : ℕ) → file < file_count one kind → file_of one kind file ≡ file_of two kind file)
@@ -115,26 +98,6 @@ same_kind one two kind counts files =
     get_or_default (files_of one kind) file d [] there
     ∙ files file there
     ∙ get_or_default (files_of two kind) file [] d (omega (arith, there, counts)))
-
--- images with the same files are the same
-pub same_images : (one two : Image)
-    → ((kind : Kind) → file_count one kind ≡ file_count two kind)
-    → ((kind : Kind) (file : ℕ) → file < file_count one kind → file_of one kind file ≡ file_of two kind file)
-    → one ≡ two
-unfolding files_of
-same_images one two counts files =
-    let warc : one.warc ≡ two.warc = same_kind one two Warc (counts Warc) (files Warc) in
-    let cdxj : one.cdxj ≡ two.cdxj = same_kind one two Cdxj (counts Cdxj) (files Cdxj) in
-    λ i. record { warc = warc i; cdxj = cdxj i }
-
--- after a step on a file that a sync made durable, the image is the old one with those bytes in the file
-pub settled_on_file : (kind : Kind) (file : ℕ) (bytes : List ℕ) (Step : List ℕ → List ℕ → Type 0) (old new : Image)
-    → OnFile kind file Step old new → HasFile kind file bytes new → new ≡ with_file old kind file bytes
-settled_on_file kind file bytes Step old new on has =
-    let there : file < file_count old kind = omega (arith, has.there, ap (λ (image : Image). file_count image kind) on.whole, file_count-with_file old kind file on.bytes kind) in
-    let same : on.bytes ≡ bytes =
-    sym (file_of-with_file old kind file on.bytes there) ∙ sym (ap (λ (image : Image). file_of image kind file) on.whole) ∙ has.same in
-    on.whole ∙ ap (λ (content : List ℕ). with_file old kind file content) same
 
 -- two files are one, or apart
 pub same_or_apart : (kind : Kind) (file : ℕ) (k : Kind) (f : ℕ) → ((k ≡ kind) × (f ≡ file)) ⊎ IsApart kind file k f

@@ -94,14 +94,6 @@ holds_cut commit text file new holds cut =
     let left = cut_behind text holds.rest new (subst (λ (l : List ℕ). Cut (length text) l new) holds.composed cut) in
     record { rest = take left.0 holds.rest; unfinished = front_of_rest commit left.0 holds.rest holds.unfinished; composed = left.1 }
 
--- what isn't committed is nothing or a tail
-pub rest_from_not : (commit : ℕ) (text : List ℕ) → (IsCommitted commit text → ⊥) → IsRest commit text
-rest_from_not commit text apart =
-    ⊎_elim
-    (λ more. inr (record { some = omega (arith, more); unfinished = inl (λ same. apart (record { begins = same; more = more })) }))
-    (λ few. short_rest commit text few)
-    (cases_lt 1 (length text))
-
 -- a text and what may stand behind it
 pub holds_split : (commit end : ℕ) (bytes : List ℕ) → IsRest commit (drop end bytes) → HoldsText commit (take end bytes) bytes
 holds_split commit end bytes rest = record { rest = drop end bytes; unfinished = rest; composed = sym (take-append-drop end bytes) }

@@ -7,12 +7,13 @@ use lib.ListN.{set}
 use Rattle.capture.specs.Tails.{HoldsText, IsRest}
 use Rattle.disk_model.specs.Crash.{Leaves, OnFile}
 use Rattle.disk_model.specs.Image.{Image, file_count, file_of, files_of, with_file}
-use Rattle.disk_model.specs.ImageLaws.{file_count-with_file, files_of-with_files, files_of-with_file_kind}
+use Rattle.disk_model.specs.ImageLaws.{files_of-with_files, files_of-with_file_kind}
 use Rattle.disk_model.specs.Moments.{AddsOnly, joined, now_has, weakened}
 use Rattle.disk_model.specs.declared.disk.Disk.{Ghosts}
 use Rattle.disk_model.specs.declared.kind.Kind.{Kind}
 use Rattle.disk_model.specs.declared.kind.Kind.TheVariants.{Warc, Cdxj}
 use Rattle.gated_file.specs.Files.{HoldsBefore, IsAdded, IsFinished, KeepsText, Rewrites}
+use Rattle.gated_file.specs.RewriteLaws.{on_file_count}
 use Rattle.warc_text.specs.StandsFor.{commit_byte}
 use Rattle.warc_journal.specs.Journals.{IsInStep, IsLeft, Prepares, texts}
 use Rattle.warc_journal.specs.Extents.{MakesNoFile, Reaches, cdxj_files, further_of, texts_in, warc_files}
@@ -42,7 +43,7 @@ cdxj_written image file bytes = files_of-with_file_kind image Warc file bytes Cd
 
 -- a call on a file makes none
 pub no_file : (kind : Kind) (file : ℕ) (Step : List ℕ → List ℕ → Type 0) (old new : Image) → OnFile kind file Step old new → MakesNoFile old new
-no_file kind file Step old new stays = ap (λ (i : Image). file_count i Warc) stays.whole ∙ file_count-with_file old kind file stays.bytes Warc
+no_file kind file Step old new stays = on_file_count kind file Step old new Warc stays
 
 pub file_is : (image : Image) (file : ℕ) → file_of image Warc file ≡ get_or (warc_files image) file []
 unfolding file_of
