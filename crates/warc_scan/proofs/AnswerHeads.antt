@@ -1,25 +1,23 @@
 -- The head of a response at the front of a block.
-use Rattle.std.proofs.Common.{◌≡◌, ℕ, ◌+◌, ◌-◌, ◌<◌, ◌≤◌, ◌^◌, Bool, true, false, ◌&&◌, cond, eqb, leb, ltb, List, [], ◌∷◌, ◌++◌, length, take, drop, Some, Ok, Err, append-nil, refl, sym, ap, ◌∙◌, arith}
+use Rattle.std.proofs.Common.{◌≡◌, ℕ, ◌+◌, ◌-◌, ◌<◌, ◌≤◌, ◌^◌, Bool, false, cond, eqb, ltb, List, [], ◌∷◌, ◌++◌, length, take, drop, Some, Ok, Err, append-nil, refl, sym, ap, ◌∙◌, arith}
 use Rattle.std.specs.Prelude.{Result}
-use Rattle.std.proofs.lemmas.Bool.{cond_both, le-leb, leb-true, ltb-false}
-use Rattle.std.proofs.lemmas.List.{take_all, take_at}
+use Rattle.std.proofs.lemmas.Bool.{cond_both, ltb-false}
+use Rattle.std.proofs.lemmas.List.{take_at}
 use Rattle.httparse.specs.Grammar as grammar
 use Rattle.httparse.specs.Grammar.{print_response, print_blank, print_version, print_reason, print_end, print_section, status_code}
 use Rattle.httparse.proofs.GrammarLemmas.{response_unique}
 use Rattle.capture.specs.Body.{IsBody, IsCutWire}
 use Rattle.capture.specs.Fields.{named_values}
 use Rattle.capture.specs.Framing.{framing_of_response, response_framing}
-use Rattle.capture.specs.Head.{field_lines, front_of, front_by, head_end, line_count, line_ends_len}
-use Rattle.capture.specs.Head as head
+use Rattle.capture.specs.Head.{head_end, line_ends_len}
 use Rattle.capture.specs.HeadLaws.{ResponseHeadsEnd}
-use Rattle.capture.specs.Message.{BeginsWithResponse, IsResponseHeadText, IsShortHead}
+use Rattle.capture.specs.Message.{BeginsWithResponse, IsResponseHeadText}
 use Rattle.capture.specs.WellFormed.{IsFinalHead}
-use Rattle.capture.specs.declared.limits.TheConstants.{HEAD_LIMIT, FIELD_LIMIT}
 use Rattle.capture.specs.declared.framing.Framing.{Framing}
 use Rattle.capture.specs.declared.framing.Framing.TheVariants.{Empty, Length, Chunked, ToEnd}
 use Rattle.capture.specs.declared.framing.FramingFault.{FramingFault}
 use Rattle.capture.specs.declared.framing.FramingFault.TheVariants.{Malformed, CodingRefused}
-use Rattle.http_head.specs.Heads.{IsResponseOf, HoldsResponse, minor_of}
+use Rattle.http_head.specs.Heads.{HoldsResponseParts, HoldsResponse, minor_of}
 use Rattle.http_head.specs.declared.head.ResponseHead.{ResponseHead}
 use Rattle.http_head.specs.declared.head.WireFault.{WireFault}
 use Rattle.http_head.specs.declared.head.WireFault.TheVariants as wire
@@ -81,7 +79,7 @@ final_head front parsed holds final = record { whole = holds.1.reads; final = om
 
 -- ---- what it tells of the body
 
-parts_tell : (answers_head : Bool) (front : List ℕ) (h : grammar.ResponseHead) (parsed : ResponseHead) → IsResponseOf front h parsed
+parts_tell : (answers_head : Bool) (front : List ℕ) (h : grammar.ResponseHead) (parsed : ResponseHead) → HoldsResponseParts front h parsed
     → response_framing answers_head h ≡ told_by_response answers_head parsed
 parts_tell answers_head front h parsed of =
     ap (λ m. framing_of_response answers_head m (status_code h) (named_values h.fields)) (sym of.version)
@@ -177,45 +175,3 @@ line_rest h =
 pub begins_at_once : (front : List ℕ) (h : grammar.ResponseHead) → IsResponseHeadText front h → line_ends_len front ≡ 0
 begins_at_once front h is =
     ap line_ends_len (printed front h is ∙ at_once h is.at_once) ∙ no_line_ends 72 84 (line_rest h) refl refl
-
--- ---- its limits
-
-abbrev front_at : ℕ → ℕ → List ℕ → head.Front
-front_at end skipped text =
-    cond (leb end HEAD_LIMIT && leb (field_lines (drop skipped text)) FIELD_LIMIT) (head.Head skipped (drop skipped text)) head.TooLong
-
-front_is : (text : List ℕ) → head_end text ≡ Some (length text) → line_ends_len text ≡ 0 → front_of text ≡ front_at (length text) 0 text
-front_is text ends none =
-    ap (front_by text) ends ∙ ap (λ skipped. front_at (length text) skipped (take (length text) text)) none
-    ∙ ap (front_at (length text) 0) (take_all (length text) text (omega arith))
-
-too_long_is_no_head : (skipped : ℕ) (text : List ℕ) → head.TooLong ≡ head.Head skipped text → ⊥
-too_long_is_no_head skipped text e = cc
-
-by_tests : (long few : Bool) (text : List ℕ) → long ≡ true → few ≡ true → cond (long && few) (head.Head 0 text) head.TooLong ≡ head.Head 0 text
-by_tests true true text p q = refl
-by_tests true false text p q = cc
-by_tests false few text p q = cc
-
-tests_of : (long few : Bool) (text : List ℕ) → cond (long && few) (head.Head 0 text) head.TooLong ≡ head.Head 0 text → (long ≡ true) × (few ≡ true)
-tests_of true true text e = (refl, refl)
-tests_of true false text e = absurd (too_long_is_no_head 0 text e)
-tests_of false few text e = absurd (too_long_is_no_head 0 text e)
-
-pub is_short : (text : List ℕ) → head_end text ≡ Some (length text) → line_ends_len text ≡ 0 → leb (length text) HEAD_LIMIT ≡ true
-    → leb (line_count text - 2) FIELD_LIMIT ≡ true → IsShortHead text
-is_short text ends none long few = front_is text ends none ∙ by_tests (leb (length text) HEAD_LIMIT) (leb (line_count text - 2) FIELD_LIMIT) text long few
-
-pub short_tests : (text : List ℕ) → head_end text ≡ Some (length text) → line_ends_len text ≡ 0 → IsShortHead text
-    → (leb (length text) HEAD_LIMIT ≡ true) × (leb (line_count text - 2) FIELD_LIMIT ≡ true)
-short_tests text ends none short =
-    tests_of (leb (length text) HEAD_LIMIT) (leb (line_count text - 2) FIELD_LIMIT) text (sym (front_is text ends none) ∙ short)
-
--- by the number of its lines
-pub short_by_count : (text : List ℕ) (n : ℕ) → head_end text ≡ Some (length text) → line_ends_len text ≡ 0 → length text ≤ HEAD_LIMIT
-    → n ≡ line_count text → (leb n 130 ≡ true → IsShortHead text) × (IsShortHead text → leb n 130 ≡ true)
-short_by_count text n ends none long counted = (
-  λ few. is_short text ends none (le-leb (length text) HEAD_LIMIT long)
-      (le-leb (line_count text - 2) FIELD_LIMIT (omega (arith, leb-true n 130 few, counted))),
-  λ short. le-leb n 130 (omega (arith, leb-true (line_count text - 2) FIELD_LIMIT (short_tests text ends none short).1, counted)),
-)

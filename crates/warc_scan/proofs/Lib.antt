@@ -3,7 +3,6 @@ pub mod AnswerParts
 pub mod BlockStops
 pub mod BlockTold
 pub mod CommonFronts
-pub mod CutLimits
 pub mod CutLines
 pub mod DateFronts
 pub mod DigestLines

@@ -13,11 +13,11 @@ ghost use Rattle.warc_scan.specs.Groups.{HasPayloadLen, IsResponse};
 ghost use Rattle.warc_scan.specs.Openings.{IsOpening, opening_of};
 ghost use Rattle.warc_scan.specs.Stops.{IsMessageStop};
 
-use crate::limits::is_short_head;
 use crate::opening::Opening;
 use crate::stop::Stop;
-use crate::wire_digest::{digest_of_cut, digest_of_whole};
+use crate::wire_digest::summary_in;
 use capture::{Digest, Framing, heads_end_at_the_first_empty_line, wires_have_one_payload};
+use http_head::is_short_head;
 use http_wire::{ResponseHead, WireFault, find_head_end, framing_of, read_head};
 use std::alloc::Global;
 
@@ -201,7 +201,7 @@ fn whole_response(
         Ok(framing) => framing,
         Err(_) => return Err(Stop::Wrong),
     };
-    let found = match digest_of_whole(alloc, framing, parts.wire) {
+    let found = match summary_in(alloc, framing, parts.wire, false) {
         Ok(found) => found,
         Err(stop) => return Err(stop),
     };
@@ -235,7 +235,7 @@ fn cut_response(
         Ok(framing) => framing,
         Err(_) => return Err(Stop::Wrong),
     };
-    let found = match digest_of_cut(alloc, framing, parts.wire) {
+    let found = match summary_in(alloc, framing, parts.wire, true) {
         Ok(found) => found,
         Err(stop) => return Err(stop),
     };

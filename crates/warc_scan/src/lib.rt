@@ -12,7 +12,6 @@ mod front;
 mod group;
 mod group_step;
 mod info_step;
-mod limits;
 mod no_record;
 mod opening;
 mod opening_parts;

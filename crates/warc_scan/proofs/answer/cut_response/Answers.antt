@@ -22,21 +22,21 @@ pub returns-in-Err-clause-wrong : goal.returns-in-Err-clause-wrong
 returns-in-Err-clause-wrong c = λ is response.
     cut_untold c.args.method.now c.args.parts.now c.in-Err.field-0 c.args.digest.now c.requires c.in-Err.ensures response
 
-pub returns-in-Err-digest_of_cut-clause-wrong : goal.returns-in-Err-digest_of_cut-clause-wrong
-returns-in-Err-digest_of_cut-clause-wrong c = λ is response.
+pub returns-in-Err-summary_in-clause-wrong : goal.returns-in-Err-summary_in-clause-wrong
+returns-in-Err-summary_in-clause-wrong c = λ is response.
     cut_other c.args.method.now c.args.parts.now c.in-Ok.framing c.args.digest.now c.requires c.in-Ok.ensures
-    (c.in-Err-digest_of_cut.ensures.wrong (ap (λ e. Err e) (same_stop _ c.in-Err-digest_of_cut.stop Wrong is))) response
+    (c.in-Err-summary_in.ensures.wrong (ap (λ e. Err e) (same_stop _ c.in-Err-summary_in.stop Wrong is))) response
 
 pub returns-then-not-is_same-clause-wrong : goal.returns-then-not-is_same-clause-wrong
 returns-then-not-is_same-clause-wrong c = λ is response.
-    let same = digest_found c.wires_have_one_payload.ensures.one true c.args.method.now c.args.parts.now c.in-Ok.framing c.in-Ok-digest_of_cut.found.digest
-    c.args.digest.now c.requires c.in-Ok.ensures c.in-Ok-digest_of_cut.ensures.digest response in
+    let same = digest_found c.wires_have_one_payload.ensures.one true c.args.method.now c.args.parts.now c.in-Ok.framing c.in-Ok-summary_in.found.digest
+    c.args.digest.now c.requires c.in-Ok.ensures c.in-Ok-summary_in.ensures.digest response in
     false≢true (sym c.if-not-is_same.true ∙ c.is_same.ensures.1 same)
 
 pub returns-clause-ok : goal.returns-clause-ok
 returns-clause-ok c =
     let same = c.is_same.ensures.0 c.if-not-is_same.false in
-    let told = c.in-Ok-digest_of_cut.ensures in
-    let response = cut_is c.args.method.now c.args.parts.now c.in-Ok.framing c.args.digest.now c.requires (c.is_short_head.ensures.0 c.if-not-is_short_head.false) c.in-Ok.ensures told.body
+    let told = c.in-Ok-summary_in.ensures in
+    let response = cut_is c.args.method.now c.args.parts.now c.in-Ok.framing c.args.digest.now c.requires (c.is_short_head.ensures.0 c.if-not-is_short_head.false) c.in-Ok.ensures told.wire
     (subst (HasDigest true c.in-Ok.framing c.args.parts.now.wire.now) same told.digest) in
-    (refl, response, cut_len c.args.method.now c.args.parts.now c.in-Ok.framing c.in-Ok-digest_of_cut.found.len c.requires c.in-Ok.ensures told.body told.length)
+    (refl, response, cut_len c.args.method.now c.args.parts.now c.in-Ok.framing c.in-Ok-summary_in.found.len c.requires c.in-Ok.ensures told.wire told.length)
