@@ -21,13 +21,13 @@ link_line base url =
     ++ crlf_bytes
 
 -- a response of this status has no body, and tells no length (RFC 9110, section 8.6)
-abbrev pub is_bodiless : ℕ → Bool
-is_bodiless status = status == 204 || status == 304
+abbrev pub tells_no_length : ℕ → Bool
+tells_no_length status = status == 204 || status == 304
 
 -- the length of the body that a GET gets
 unfoldable pub length_line : ℕ → ℕ → List ℕ
 length_line status n =
-    if is_bodiless status then [] else codes "Content-Length: " ++ decimal n ++ crlf_bytes
+    if tells_no_length status then [] else codes "Content-Length: " ++ decimal n ++ crlf_bytes
 
 -- whether the connection closes (RFC 9112, section 9.6)
 unfoldable pub close_line_where : Bool → List ℕ

@@ -8,7 +8,7 @@ use Rattle.capture.specs.declared.captured.Brought.{Brought}
 use Rattle.http_head.specs.Heads.{named_value}
 use Rattle.http_head.specs.declared.head.ResponseHead.{ResponseHead}
 use Rattle.replay_answer.specs.Bodies.{IsBody}
-use Rattle.replay_answer.specs.Lines.{status_line, datetime_line, link_line, is_bodiless, length_line, close_line_where}
+use Rattle.replay_answer.specs.Lines.{status_line, datetime_line, link_line, tells_no_length, length_line, close_line_where}
 use Rattle.replay_answer.specs.StoredFields.{memento_fields}
 
 -- what a memento has of the head that was received
@@ -38,7 +38,7 @@ capture_lines base capture raw parts =
 
 -- the answer to HEAD has no body (RFC 9110, section 9.3.2)
 abbrev pub sent_body : Bool → ℕ → List ℕ → List ℕ
-sent_body answers_head status body = if answers_head || is_bodiless status then [] else body
+sent_body answers_head status body = if answers_head || tells_no_length status then [] else body
 
 -- what is told of the answer itself: the length of the body that a GET gets, and whether the connection closes; and the
 -- body

@@ -7,8 +7,8 @@ ghost use Rattle.replay_answer.specs.Mementos.{IsHead, IsMemento, answer_rest, c
 use crate::body::page_of;
 use crate::fields::put_fields;
 use crate::lines::{
-    is_bodiless, put_close_line, put_datetime_line, put_length_line, put_line_end, put_link_line,
-    put_status_line,
+    put_close_line, put_datetime_line, put_length_line, put_line_end, put_link_line,
+    put_status_line, tells_no_length,
 };
 use crate::replay::Replay;
 use capture::{Brought, Bytes, Memory, Site, put_all};
@@ -112,7 +112,7 @@ fn put_rest(
 fn put_body(out: &mut Vec<u8>, answers_head: bool, status: u16, body: &[u8]) -> Result<(), Memory>
     ensures { OnOk result (out.new.items ≡ out.old.items ++ sent_body answers_head status body.now) }
 {
-    if answers_head || is_bodiless(status) {
+    if answers_head || tells_no_length(status) {
         return Ok(());
     }
     put_all(out, body)

@@ -7,12 +7,11 @@ ghost use Rattle.http_head.specs.Heads.{named_value};
 ghost use Rattle.replay_answer.specs.Bodies as spec;
 ghost use Rattle.replay_answer.specs.Bodies.{IsBody};
 
-use crate::names::{first_value, is_named};
 use crate::replay::Replay;
 use capture::{Bytes, Memory};
 use cdxj_line::media_type;
 use html_rewrite::rewrite;
-use http_head::Field;
+use http_head::{Field, first_value};
 use std::alloc::Global;
 
 /// The coding that leaves the content as it is.
@@ -66,5 +65,5 @@ fn has_coding(fields: &[Field]) -> bool
 fn tells_coding(field: &Field) -> bool
     ensures { result ≡ spec.tells_coding (named_value field.now) }
 {
-    is_named(field, b"content-encoding") && field.value.as_slice() != IDENTITY
+    field.has_name(b"content-encoding") && field.value.as_slice() != IDENTITY
 }

@@ -6,7 +6,6 @@ ghost use Rattle.http_head.specs.Heads.{named_value};
 ghost use Rattle.replay_answer.specs.StoredFields.{field_line, kept_value, location_at, memento_field, memento_fields, original_name};
 
 use crate::lines::put_line_end;
-use crate::names::is_named;
 use crate::replay::Replay;
 use capture::{Memory, put_all};
 use html_rewrite::web_target;
@@ -86,7 +85,7 @@ fn put_kept_value(out: &mut Vec<u8>, replay: &Replay, field: &Field) -> Result<(
     if replay.raw {
         return put_all(out, value);
     }
-    if is_named(field, b"location") {
+    if field.has_name(b"location") {
         return put_location(out, replay, value);
     }
     put_all(out, value)

@@ -5,7 +5,6 @@ mod answer;
 mod body;
 mod fields;
 mod lines;
-mod names;
 mod replay;
 
 pub use answer::memento;

@@ -56,9 +56,9 @@ pub fn put_link_line(out: &mut Vec<u8>, site: &Site, url: &[u8]) -> Result<(), M
     put_line_end(out)
 }
 
-/// Whether a response of this status has no body (RFC 9110, section 6.4.1).
-pub fn is_bodiless(status: u16) -> bool
-    ensures { result ≡ spec.is_bodiless status }
+/// Whether a response of this status has no body, and tells no length (RFC 9110, sections 6.4.1 and 8.6).
+pub fn tells_no_length(status: u16) -> bool
+    ensures { result ≡ spec.tells_no_length status }
 {
     status == 204 || status == 304
 }
@@ -68,7 +68,7 @@ pub fn is_bodiless(status: u16) -> bool
 pub fn put_length_line(out: &mut Vec<u8>, status: u16, length: usize) -> Result<(), Memory>
     ensures { OnOk result (out.new.items ≡ out.old.items ++ length_line status length) }
 {
-    if is_bodiless(status) {
+    if tells_no_length(status) {
         return Ok(());
     }
     put_all(out, b"Content-Length: ")?;
