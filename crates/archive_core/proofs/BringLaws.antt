@@ -8,6 +8,7 @@ use Rattle.std.proofs.lemmas.Option.{same_Some, slice_get-get_or}
 use Rattle.std.proofs.lemmas.Slice.Eq.{bytes_eq-Decides}
 use Rattle.sha1.specs.Sha1.{sha1}
 use Rattle.capture.specs.BodyLaws.{WiresHaveOnePayload}
+use Rattle.capture.specs.Body.{IsWire}
 use Rattle.capture.specs.Captures.{kept_wire, HasPayload, IsPayloadBy}
 use Rattle.capture.specs.Message.{IsResponseHeadText}
 use Rattle.capture.specs.Methods.{asks_for_head}
@@ -123,12 +124,14 @@ pub found_is : WiresHaveOnePayload → (texts : List (List ℕ)) (book : Book) (
 found_is one texts book number spot kept framing tells found holds =
     let has = kept_payload texts book number spot kept in
     let same : has.framing ≡ framing = one_framing (asks_for_head spot.method) (head_in texts spot) has.framing framing (has.parsed, has.whole, has.framed) tells in
-    by_found (subst (λ (f : Framing). IsPayload (is_cut_form spot.form) f (wire_in texts spot) kept.placed.payload) same has.decoded) found holds
+    by_found (subst (λ (f : Framing). IsWire (is_cut_form spot.form) f (wire_in texts spot)) same has.wire_is)
+    (subst (λ (f : Framing). IsPayload (is_cut_form spot.form) f (wire_in texts spot) kept.placed.payload) same has.decoded) found holds
   where
-    by_found : IsPayload (is_cut_form spot.form) framing (wire_in texts spot) kept.placed.payload → (found : Option (List ℕ))
+    by_found : IsWire (is_cut_form spot.form) framing (wire_in texts spot)
+        → IsPayload (is_cut_form spot.form) framing (wire_in texts spot) kept.placed.payload → (found : Option (List ℕ))
         → HoldsPayload (is_cut_form spot.form) framing (wire_in texts spot) found → found ≡ Some kept.placed.payload
-    by_found is None holds = absurd (holds kept.placed.payload is)
-    by_found is (Some payload) holds =
+    by_found wire_is is None holds = absurd (holds wire_is)
+    by_found wire_is is (Some payload) holds =
         ap Some (one (is_cut_form spot.form) framing (wire_in texts spot) payload kept.placed.payload holds is)
 
 -- so it is read back

@@ -15,7 +15,7 @@ use Rattle.capture.specs.Methods.{asks_for_head}
 use Rattle.capture.specs.declared.framing.Framing.{Framing}
 use Rattle.capture.specs.declared.framing.Framing.TheVariants.{Empty, Length, Chunked, ToEnd}
 use Rattle.capture.specs.declared.framing.FramingFault.{FramingFault}
-use Rattle.http_head.specs.Heads.{HoldsResponse, IsResponseOf, minor_of}
+use Rattle.http_head.specs.Heads.{HoldsResponse, HoldsResponseParts, minor_of}
 use Rattle.http_head.specs.declared.head.ResponseHead.{ResponseHead}
 use Rattle.http_head.specs.declared.head.WireFault.{WireFault}
 use Rattle.http_head.specs.declared.head.WireFault.TheVariants as wire_fault
@@ -43,7 +43,7 @@ one_framing answers_head text a b x y = same_told a b (sym x.2 ∙ ap (response_
 
 -- ---- what its parts tell
 
-parts_tell : (answers_head : Bool) (text : List ℕ) (h : grammar.ResponseHead) (parts : ResponseHead) → IsResponseOf text h parts
+parts_tell : (answers_head : Bool) (text : List ℕ) (h : grammar.ResponseHead) (parts : ResponseHead) → HoldsResponseParts text h parts
     → response_framing answers_head h ≡ told_by_response answers_head parts
 parts_tell answers_head text h parts of =
     ap (λ m. framing_of_response answers_head m (status_code h) (named_values h.fields)) (sym of.version)

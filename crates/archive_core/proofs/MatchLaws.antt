@@ -3,6 +3,7 @@ use Rattle.std.proofs.Common.{◌≡◌, ℕ, ◌<◌, Bool, true, false, IsTrue
 use Rattle.std.specs.Prelude.{IfOk, IfSome, IsErrAnd}
 use Rattle.sha1.specs.Sha1.{sha1}
 use Rattle.capture.specs.BodyLaws.{BodiesHaveAPayload, CutWiresHaveAPayload, WiresHaveOnePayload}
+use Rattle.capture.specs.Body.{IsWire}
 use Rattle.capture.specs.Captures.{captures, HasPayload}
 use Rattle.capture.specs.Growth.{Grows}
 use Rattle.capture.specs.Soundness.{HasSoundCaptures}
@@ -80,7 +81,7 @@ module _ (whole : BodiesHaveAPayload) (cut_short : CutWiresHaveAPayload) (taken 
 
       by : (found : Option (List ℕ)) → HoldsPayload taken.cut framing taken.wire found → IsDataOf taken found
       by (Some bytes) holds = has_decoded bytes holds
-      by None holds = absurd (holds there.payload (subst (λ (f : Framing). IsPayload taken.cut f taken.wire there.payload) same there.has.decoded))
+      by None holds = absurd (holds (subst (λ (f : Framing). IsWire taken.cut f taken.wire) same there.has.wire_is))
 
   pub data_answer : {E : Type 0} → is_plain framing ≡ false → (r : Result (Option (List ℕ)) E) → IfOk r (HoldsPayload taken.cut Chunked taken.wire) → IfOk r (IsDataOf taken)
   data_answer other (Ok found) holds = data_chunked other found holds

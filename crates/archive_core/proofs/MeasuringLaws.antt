@@ -20,7 +20,7 @@ use Rattle.capture.specs.declared.framing.Framing.{Framing}
 use Rattle.capture.specs.declared.framing.Framing.TheVariants.{Empty, Length, Chunked, ToEnd}
 use Rattle.capture.specs.declared.framing.FramingFault.{FramingFault}
 use Rattle.capture.specs.declared.framing.FramingFault.TheVariants.{Malformed, CodingRefused}
-use Rattle.http_head.specs.Heads.{IsResponseOf, minor_of}
+use Rattle.http_head.specs.Heads.{HoldsResponseParts, minor_of}
 use Rattle.http_head.specs.declared.head.ResponseHead.{ResponseHead}
 use Rattle.http_head.specs.declared.head.WireFault.{WireFault}
 use Rattle.http_head.specs.declared.head.WireFault.TheVariants as wire
@@ -44,7 +44,7 @@ pub one_head : (text : List ℕ) (h k : grammar.ResponseHead) → IsResponseHead
 one_head text h k x y = (response_unique text h k [] [] x.reads y.reads).0
 
 -- its parts tell what it tells
-pub parts_tell : (answers_head : Bool) (text : List ℕ) (h : grammar.ResponseHead) (parts : ResponseHead) → IsResponseOf text h parts
+pub parts_tell : (answers_head : Bool) (text : List ℕ) (h : grammar.ResponseHead) (parts : ResponseHead) → HoldsResponseParts text h parts
     → response_framing answers_head h ≡ told_by_response answers_head parts
 parts_tell answers_head text h parts of =
     ap (λ m. framing_of_response answers_head m (status_code h) (named_values h.fields)) (sym of.version)
@@ -73,7 +73,7 @@ too_long (Err CodingRefused) e = cc
 -- ---- the payload of a wire
 
 -- the framing that a head tells
-framing_told : (method text wire payload : List ℕ) (h : grammar.ResponseHead) (parts : ResponseHead) → IsResponseOf text h parts
+framing_told : (method text wire payload : List ℕ) (h : grammar.ResponseHead) (parts : ResponseHead) → HoldsResponseParts text h parts
     → (has : HasPayload false method text wire payload) → told_by_response (asks_for_head method) parts ≡ Ok has.framing
 framing_told method text wire payload h parts of has =
     sym (parts_tell (asks_for_head method) text h parts of)
@@ -86,7 +86,7 @@ plain_by Chunked wire payload other is = absurd (other refl)
 plain_by ToEnd wire payload other is = is
 
 -- what isn't chunked is its payload
-pub plain_length : (method text wire : List ℕ) (h : grammar.ResponseHead) (parts : ResponseHead) (said : Said) → IsResponseOf text h parts
+pub plain_length : (method text wire : List ℕ) (h : grammar.ResponseHead) (parts : ResponseHead) (said : Said) → HoldsResponseParts text h parts
     → said ≡ framing_answer (told_by_response (asks_for_head method) parts) → said ≢ said_ok Chunked → IsLengthOf method text wire (length wire)
 plain_length method text wire h parts said of is other payload has =
     let told = framing_told method text wire payload h parts of has in
@@ -107,7 +107,7 @@ chunked_by Chunked e = refl
 chunked_by ToEnd e = cc
 
 -- what is chunked
-pub chunked : (method text wire : List ℕ) (h : grammar.ResponseHead) (parts : ResponseHead) (said : Said) → IsResponseOf text h parts
+pub chunked : (method text wire : List ℕ) (h : grammar.ResponseHead) (parts : ResponseHead) (said : Said) → HoldsResponseParts text h parts
     → said ≡ framing_answer (told_by_response (asks_for_head method) parts) → said ≡ said_ok Chunked
     → (payload : List ℕ) → HasPayload false method text wire payload → IsPayload false Chunked wire payload
 chunked method text wire h parts said of is e payload has =

@@ -1,6 +1,7 @@
 -- What stands behind a response's head, whatever bytes these are: the framing that it tells, and the payload.
 use Rattle.std.specs.Prelude.{ℕ, ◌^◌, ◌<◌, Bool, true, false, List, length, Option, Some, None, Ok}
 use Rattle.httparse.specs.Grammar.{ResponseHead}
+use Rattle.capture.specs.Body.{IsWire}
 use Rattle.capture.specs.Captures.{HasPayload}
 use Rattle.capture.specs.First.{HeadTells, Responses}
 use Rattle.capture.specs.Message.{IsResponseHeadText}
@@ -28,10 +29,10 @@ is_plain (Length n) = true
 is_plain Chunked = false
 is_plain ToEnd = true
 
--- the payload of a wire, whole or cut; or that it has none
+-- the payload of a wire, whole or cut; or that it isn't a wire of that framing
 abbrev pub HoldsPayload : Bool → Framing → List ℕ → Option (List ℕ) → Type 0
 HoldsPayload cut framing wire (Some payload) = IsPayload cut framing wire payload
-HoldsPayload cut framing wire None = (payload : List ℕ) → ¬ (IsPayload cut framing wire payload)
+HoldsPayload cut framing wire None = ¬ (IsWire cut framing wire)
 
 -- a head and a wire, whole or cut, decode to this payload
 pub record Decodes (cut : Bool) (method head wire payload : List ℕ) : Type 0 where

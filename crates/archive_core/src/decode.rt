@@ -6,7 +6,7 @@ ghost use Rattle.archive_core.specs.Decoding.{HoldsPayload, IsHead, TellsFraming
 
 use capture::{Bytes, Framing, Memory, Text};
 use http_head::{WireFault, read_head};
-use message_body::{PayloadFault, framing_of, payload_of, payload_of_cut};
+use message_body::{PayloadFault, framing_of, payload_in as wire_payload};
 use std::alloc::Global;
 
 /// Whether a request of this method asks for a head alone (RFC 9110, section 9.3.2).
@@ -83,15 +83,8 @@ pub(crate) fn payload_in(
 pub(crate) fn data_of(alloc: Global, wire: &[u8], cut: bool) -> Result<Option<Bytes>, Memory>
     ensures { IfOk result (HoldsPayload cut Framing.Chunked wire.now) }
 {
-    if cut {
-        return match payload_of_cut(alloc, Framing::Chunked, wire) {
-            Ok(payload) => Ok(Some(payload)),
-            Err(PayloadFault::Malformed) => Ok(None),
-            Err(PayloadFault::Memory) => Err(Memory),
-        };
-    }
-    match payload_of(alloc, Framing::Chunked, wire) {
-        Ok(payload) => Ok(Some(payload)),
+    match wire_payload(alloc, Framing::Chunked, wire, cut) {
+        Ok(payload) => Ok(Some(payload.into_bytes(alloc)?)),
         Err(PayloadFault::Malformed) => Ok(None),
         Err(PayloadFault::Memory) => Err(Memory),
     }

@@ -1,8 +1,8 @@
 //! The entry of a capture in the index.
 ghost use Rattle.std.specs.Prelude.{◌≡◌, ℕ, List, codes, map, slice_get, option_copied, IfOk};
-ghost use Rattle.capture.specs.Fields.{is_named, named_values, values_of};
+ghost use Rattle.capture.specs.Fields.{named_values, values_of};
 ghost use Rattle.cdxj_index.specs.OfBook.{mime_by};
-ghost use Rattle.http_head.specs.Heads.{IsResponseOf, named_value};
+ghost use Rattle.http_head.specs.Heads.{HoldsResponseParts, named_value};
 ghost use Rattle.httparse.specs.Grammar as grammar;
 ghost use Rattle.time_text.specs.Texts.{InRange};
 ghost use Rattle.archive_core.specs.Entries.{EntersAs};
@@ -10,7 +10,7 @@ ghost use Rattle.archive_core.specs.Entries.{EntersAs};
 use capture::{Digest, Kept, Memory, Stored, Text};
 use cdxj_index::Entry;
 use cdxj_line::{REVISIT, media_type};
-use http_head::{Field, ResponseHead};
+use http_head::{ResponseHead, first_value};
 use std::alloc::Global;
 use surt_key::{KeyFault, key_of};
 
@@ -41,8 +41,8 @@ pub(crate) fn entry_of(
     at: RecordAt,
 ) -> Result<Option<Entry>, Memory>
     requires date { InRange stored.now.date }
-    requires parsed { (h : grammar.ResponseHead) × IsResponseOf stored.now.head h head.now }
-    ensures { (text : List ℕ) (h : grammar.ResponseHead) → IsResponseOf text h head.now → IfOk result (EntersAs stored.now h at) }
+    requires parsed { (h : grammar.ResponseHead) × HoldsResponseParts stored.now.head h head.now }
+    ensures { (text : List ℕ) (h : grammar.ResponseHead) → HoldsResponseParts text h head.now → IfOk result (EntersAs stored.now h at) }
 {
     if stored.method.as_slice() != b"GET".as_slice() {
         return Ok(None);
@@ -71,7 +71,7 @@ pub(crate) fn entry_of(
 
 /// The media type of an entry: that of a revisit is its own.
 fn mime_of(alloc: Global, kept: &Kept, head: &ResponseHead) -> Result<Text, Memory>
-    ensures { (text : List ℕ) (h : grammar.ResponseHead) → IsResponseOf text h head.now → IfOk result (λ mime. mime ≡ mime_by kept.now (named_values h.fields)) }
+    ensures { (text : List ℕ) (h : grammar.ResponseHead) → HoldsResponseParts text h head.now → IfOk result (λ mime. mime ≡ mime_by kept.now (named_values h.fields)) }
 {
     match kept {
         Kept::Wire(_) => media_type(alloc, content_type(head)),
@@ -84,24 +84,5 @@ fn mime_of(alloc: Global, kept: &Kept, head: &ResponseHead) -> Result<Text, Memo
 fn content_type(head: &ResponseHead) -> Option<&[u8]>
     ensures { option_copied result ≡ slice_get (values_of (codes "content-type") (map named_value head.now.fields)) 0 }
 {
-    first_content_type(head.fields.as_slice())
-}
-
-/// The same of fields.
-fn first_content_type(fields: &[Field]) -> Option<&[u8]>
-    ensures { option_copied result ≡ slice_get (values_of (codes "content-type") (map named_value fields.now)) 0 }
-{
-    for field in fields {
-        if is_content_type(field) {
-            return Some(field.value.as_slice());
-        }
-    }
-    None
-}
-
-/// Whether a field is Content-Type.
-fn is_content_type(field: &Field) -> bool
-    ensures { result ≡ is_named (codes "content-type") (named_value field.now) }
-{
-    field.name.as_slice().eq_ignore_ascii_case(b"content-type")
+    first_value(head.fields.as_slice(), b"content-type")
 }

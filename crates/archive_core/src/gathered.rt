@@ -3,7 +3,7 @@ ghost use Rattle.std.specs.Prelude.{◌≡◌, ◌≢◌, ◌+◌, ◌-◌, ◌^
 ghost use Rattle.httparse.specs.Grammar as grammar;
 ghost use Rattle.capture.specs.Captures.{captures};
 ghost use Rattle.capture.specs.Message.{IsResponseHeadText};
-ghost use Rattle.http_head.specs.Heads.{HoldsResponse, IsResponseOf};
+ghost use Rattle.http_head.specs.Heads.{HoldsResponse, HoldsResponseParts};
 ghost use Rattle.warc_journal.specs.Texts.{with_more};
 ghost use Rattle.warc_scan.specs.Infos.{IsInfo};
 ghost use Rattle.warc_text.specs.Ids.{IsUuid};
@@ -244,9 +244,9 @@ impl Gathered {
     fn original(&self, group: &Group, head: &ResponseHead) -> Result<Option<u32>, Refusal>
         requires steady { IsSteady self.now }
         requires found { IsSomeGroup group.now }
-        ensures found { (texts : List (List ℕ)) (h : grammar.ResponseHead) → IsGathered self.now texts → IsResponseOf group.now.stored.head h head.now
+        ensures found { (texts : List (List ℕ)) (h : grammar.ResponseHead) → IsGathered self.now texts → HoldsResponseParts group.now.stored.head h head.now
             → group.now.number ≡ length (captures (book_of self.now.held)) → IfOk result (RefersRight (book_of self.now.held) group.now) }
-        ensures none { (texts : List (List ℕ)) (h : grammar.ResponseHead) → IsGathered self.now texts → IsResponseOf group.now.stored.head h head.now
+        ensures none { (texts : List (List ℕ)) (h : grammar.ResponseHead) → IsGathered self.now texts → HoldsResponseParts group.now.stored.head h head.now
             → group.now.number ≡ length (captures (book_of self.now.held))
             → IfErr result (λ refusal. refusal ≡ IsDamaged → RefersToNone (book_of self.now.held) group.now) }
         ensures there { IfOk result (λ first. IfSome first (λ number. number < length self.now.spots.items)) }

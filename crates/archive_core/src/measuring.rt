@@ -1,6 +1,6 @@
 //! How long the payload of a response is, by its head and by its wire.
 ghost use Rattle.std.specs.Prelude.{◌≡◌, ◌^◌, ◌<◌, ℕ, List, IfOk};
-ghost use Rattle.http_head.specs.Heads.{IsResponseOf};
+ghost use Rattle.http_head.specs.Heads.{HoldsResponseParts};
 ghost use Rattle.httparse.specs.Grammar as grammar;
 ghost use Rattle.archive_core.specs.Measuring.{IsLengthOf, TellsLength};
 
@@ -23,7 +23,7 @@ pub(crate) enum Told {
 
 /// What the head of a response to a request of this method tells of its payload's length (RFC 9112, section 6.3).
 pub(crate) fn told_length(method: &Text, head: &ResponseHead) -> Told
-    ensures { (text : List ℕ) (h : grammar.ResponseHead) → IsResponseOf text h head.now → TellsLength method.now h result }
+    ensures { (text : List ℕ) (h : grammar.ResponseHead) → HoldsResponseParts text h head.now → TellsLength method.now h result }
 {
     match framing_of(is_head(method), head) {
         Ok(Framing::Length(n)) => Told::Exactly(n),
@@ -42,7 +42,7 @@ pub(crate) fn payload_len(
     head: &ResponseHead,
     wire: &[u8],
 ) -> Result<u64, Memory>
-    ensures length { (text : List ℕ) (h : grammar.ResponseHead) → IsResponseOf text h head.now → IfOk result (IsLengthOf method.now text wire.now) }
+    ensures length { (text : List ℕ) (h : grammar.ResponseHead) → HoldsResponseParts text h head.now → IfOk result (IsLengthOf method.now text wire.now) }
     ensures fits { IfOk result (λ len. len < 2 ^ 64) }
 {
     wires_have_one_payload();

@@ -1,6 +1,6 @@
 //! What is noted of a group that was found.
 ghost use Rattle.std.specs.Prelude.{◌≡◌, ◌+◌, ◌^◌, ◌<◌, ℕ, List, Some, IfOk, IfErr, IsFalse, IsTrue};
-ghost use Rattle.http_head.specs.Heads.{HoldsResponse, IsResponseOf};
+ghost use Rattle.http_head.specs.Heads.{HoldsResponse, HoldsResponseParts};
 ghost use Rattle.httparse.specs.Grammar as grammar;
 ghost use Rattle.capture.specs.declared.captured.Kept.TheVariants.{Wire as IsWire};
 ghost use Rattle.archive_core.specs.Measuring.{IsLengthOf};
@@ -69,7 +69,7 @@ pub(crate) fn note(
     requires found { IsSomeGroup group }
     requires ends { place.now.at + group.len < 2 ^ 62 }
     requires parsed { HoldsResponse group.stored.head head.now }
-    ensures { (h : grammar.ResponseHead) → IsResponseOf group.stored.head h head.now → IfOk result (IsNoted h place.now group first) }
+    ensures { (h : grammar.ResponseHead) → HoldsResponseParts group.stored.head h head.now → IfOk result (IsNoted h place.now group first) }
 {
     let digest = group.digest;
     let at = RecordAt {
@@ -120,7 +120,7 @@ fn refer(stored: Stored, first: Option<u32>) -> Stored
 
 /// The length in bytes of the payload of a capture that keeps its whole wire; 0 of others.
 fn kept_len(alloc: Global, stored: &Stored, head: &ResponseHead) -> Result<u64, Memory>
-    ensures length { (text : List ℕ) (h : grammar.ResponseHead) (wire : List ℕ) → IsResponseOf text h head.now → stored.now.kept ≡ IsWire wire
+    ensures length { (text : List ℕ) (h : grammar.ResponseHead) (wire : List ℕ) → HoldsResponseParts text h head.now → stored.now.kept ≡ IsWire wire
         → IfOk result (IsLengthOf stored.now.method text wire) }
     ensures fits { IfOk result (λ len. len < 2 ^ 64) }
 {

@@ -1,5 +1,5 @@
 use Rattle.std.proofs.Common.{ℕ, List, refl, sym, subst, arith}
-use Rattle.http_head.specs.Heads.{IsResponseOf}
+use Rattle.http_head.specs.Heads.{HoldsResponseParts}
 use Rattle.archive_core.proofs.PlaceLaws.{first_within, referring_head}
 use Rattle.archive_core.proofs.noting.note.Goals as goal
 
@@ -16,7 +16,7 @@ returns c = λ h of.
       digest = refl;
       volume = refl;
       head_at = refl;
-      length = λ wire kept. c.in_ok-length.ensures.length c.refer-stored.result.head h wire (subst (λ (t : List ℕ). IsResponseOf t h c.args.head.now) (sym head) of) kept;
+      length = λ wire kept. c.in_ok-length.ensures.length c.refer-stored.result.head h wire (subst (λ (t : List ℕ). HoldsResponseParts t h c.args.head.now) (sym head) of) kept;
       fits = c.in_ok-length.ensures.fits;
       entry = c.in_ok-entry.ensures c.args.group.stored.head h of;
     }
