@@ -3,7 +3,7 @@ use Rattle.std.proofs.Common.{ℕ, List}
 use Rattle.capture.specs.Methods.{asks_for_head}
 use Rattle.capture.specs.Payload.{IsPayload}
 use Rattle.capture.specs.declared.captured.Taken.{Taken}
-use Rattle.exchange.specs.Fetches.{IsOneResponse}
+use Rattle.http_wire.specs.Messages.{IsOneResponse}
 use Rattle.http_head.specs.declared.head.Received.{Received}
 use Rattle.case_archive.specs.Preparing.{IsOf, IsPayloadOfTaken}
 

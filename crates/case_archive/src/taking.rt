@@ -3,7 +3,7 @@ ghost use Rattle.std.specs.Prelude.{◌≡◌, ℕ, List, IfOk, IfSome};
 ghost use Rattle.capture.specs.Methods.{asks_for_head};
 ghost use Rattle.capture.specs.Payload.{IsPayload};
 ghost use Rattle.case_archive.specs.Preparing.{IsOf, IsPrepared};
-ghost use Rattle.exchange.specs.Fetches.{IsOneResponse};
+ghost use Rattle.http_wire.specs.Messages.{IsOneResponse};
 ghost use Rattle.exchange.specs.Storing.{IsForOrigin};
 ghost use Rattle.http_wire.specs.Messages.{IsRequest};
 ghost use Rattle.warc_text.specs.Fits.{Fits};
@@ -11,9 +11,11 @@ ghost use Rattle.warc_text.specs.Fits.{Fits};
 use capture::{Bytes, Memory, Site, Taken, Text};
 use case_language::{number_in, split_word};
 use case_messages::received;
-use exchange::{Aim, AimFault, Target, aim_of, forward_text, messages_can_be_stored};
-use http_wire::{Progress, Received, RequestMessage, RequestReader, WireFault};
-use message_body::{PayloadFault, payload_of, payload_of_cut};
+use exchange::{Aim, AimFault, Target, aim_of, forward_text, requests_can_be_stored};
+use http_wire::{
+    Progress, Received, RequestMessage, RequestReader, WireFault, responses_can_be_stored,
+};
+use message_body::{PayloadFault, payload_in};
 use std::alloc::Global;
 use time_text::LATEST;
 
@@ -144,7 +146,7 @@ fn prepared_with(
     requires response { IsOneResponse (asks_for_head message.now.head.method) response.now }
     ensures { IfOk result (λ found. IfSome found IsPrepared) }
 {
-    match payload_in(alloc, response) {
+    match payload_by(alloc, response) {
         Ok(Some(payload)) => with_payload(alloc, date, message, target, response, payload),
         Ok(None) => Ok(None),
         Err(Memory) => Err(Memory),
@@ -172,24 +174,15 @@ fn with_payload(
 }
 
 /// The payload of a response, whole or cut.
-fn payload_in(alloc: Global, response: &Received) -> Result<Option<Bytes>, Memory>
+fn payload_by(alloc: Global, response: &Received) -> Result<Option<Bytes>, Memory>
     ensures { IfOk result (λ found. IfSome found (IsPayload response.now.cut response.now.framing response.now.wire)) }
 {
-    match payload_by(alloc, response) {
-        Ok(payload) => Ok(Some(payload)),
+    let wire = response.wire.as_slice();
+    match payload_in(alloc, response.framing, wire, response.cut) {
+        Ok(payload) => Ok(Some(payload.into_bytes(alloc)?)),
         Err(PayloadFault::Malformed) => Ok(None),
         Err(PayloadFault::Memory) => Err(Memory),
     }
-}
-
-fn payload_by(alloc: Global, response: &Received) -> Result<Bytes, PayloadFault>
-    ensures { IfOk result (IsPayload response.now.cut response.now.framing response.now.wire) }
-{
-    let wire = response.wire.as_slice();
-    if response.cut {
-        return payload_of_cut(alloc, response.framing, wire);
-    }
-    payload_of(alloc, response.framing, wire)
 }
 
 /// The capture. `None` where the response isn't final, or a record can't have the date.
@@ -205,7 +198,8 @@ fn taken_with(
     ensures fits { IfOk result (λ found. IfSome found Fits) }
     ensures is { IfOk result (λ found. IfSome found (IsOf message.now.head.method response.now)) }
 {
-    messages_can_be_stored();
+    requests_can_be_stored();
+    responses_can_be_stored();
     if response.head.status < 200
         || date > LATEST
         || response.wire.as_slice().len() as u64 > WIRE_LIMIT

@@ -1,7 +1,7 @@
 //! Calls of `exchange`. The site is `http://localhost:8080`.
 ghost use Rattle.std.specs.Prelude.{IfOk};
 ghost use Rattle.capture.specs.Payload.{IsPayload};
-ghost use Rattle.exchange.specs.Fetches.{IsOneResponse};
+ghost use Rattle.http_wire.specs.Messages.{IsOneResponse};
 
 use capture::{Bytes, Memory, put_all, put_number};
 use case_language::split_word;
@@ -10,7 +10,7 @@ use case_texts::{site_of, told};
 use exchange::{Aim, AimFault, Target, aim_of, client_text, forward_text};
 use http_head::{RequestHead, read_request_head};
 use http_wire::{Received, RequestMessage, read_request};
-use message_body::{PayloadFault, payload_of, payload_of_cut};
+use message_body::{PayloadFault, payload_in};
 use std::alloc::Global;
 
 /// Where a request of this head is aimed; `Malformed` where the text is no head.
@@ -123,8 +123,6 @@ pub fn payload_of_response(alloc: Global, response: &Received) -> Result<Bytes, 
     ensures { IfOk result (λ payload. IsPayload response.now.cut response.now.framing response.now.wire payload) }
 {
     let wire = response.wire.as_slice();
-    if response.cut {
-        return payload_of_cut(alloc, response.framing, wire);
-    }
-    payload_of(alloc, response.framing, wire)
+    let payload = payload_in(alloc, response.framing, wire, response.cut)?;
+    Ok(payload.into_bytes(alloc)?)
 }

@@ -5,7 +5,7 @@ use Rattle.std.proofs.lemmas.List.{drop-drop}
 use Rattle.capture.specs.First.{Requests, Message, Refused, IsFirst, RefusesAtHead, RefusesBehindHead}
 use Rattle.capture.specs.Message.{IsRequestHeadText}
 use Rattle.capture.specs.declared.framing.MessageFault.{MessageFault}
-use Rattle.exchange.specs.Decisions.{FirstsAreOne}
+use Rattle.http_wire.specs.Decisions.{FirstsAreOne}
 use Rattle.exchange.specs.declared.aim.Aim.{Aim}
 use Rattle.exchange.specs.declared.aim.AimFault.{AimFault}
 use Rattle.http_head.specs.declared.head.RequestMessage.{RequestMessage}

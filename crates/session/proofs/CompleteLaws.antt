@@ -13,7 +13,7 @@ use Rattle.exchange.specs.Fetches.{ComesTo, ArrivesCut}
 use Rattle.exchange.specs.Refusals.{memory_text}
 use Rattle.http_head.specs.declared.head.Received.{Received}
 use Rattle.outside.specs.declared.dialer.Transcript.{Transcript}
-use Rattle.exchange.specs.Decisions.{ArrivalsAreOne}
+use Rattle.http_wire.specs.Decisions.{ArrivalsAreOne}
 use Rattle.session.specs.Complete.{IsFaultless, GaveResponse, CanBePassedOn, GetsResponse, WholeResponsesArePassedOn}
 use Rattle.session.specs.Exchanges.{Exchange, Reply, Fails, Passes, LacksReply, IsFailure, IsReply, answers_head, reply_text}
 use Rattle.session.specs.Rounds.{Round, Outcome, Exchanged, IsRound, IsDecided, IsTextOf, closes_exchange, is_origin_fault, is_disk_fault, origin_fault, disk_fault}

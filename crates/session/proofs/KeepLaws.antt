@@ -17,8 +17,10 @@ use Rattle.capture.specs.declared.limits.TheConstants.{BODY_LIMIT}
 use Rattle.capture.specs.declared.memory.Memory.{Memory}
 use Rattle.capture.specs.declared.refusal.Refusal.TheVariants.{Full, DiskFault, Damaged}
 use Rattle.capture.specs.declared.site.Site.{Site}
-use Rattle.exchange.specs.Fetches.{IsFetched, IsOneResponse}
-use Rattle.exchange.specs.Storing.{CanBeForwarded, CanBePassedOn}
+use Rattle.exchange.specs.Fetches.{IsFetched}
+use Rattle.exchange.specs.Storing.{CanBeForwarded}
+use Rattle.http_wire.specs.Messages.{IsOneResponse}
+use Rattle.http_wire.specs.Storing.{CanBeStored}
 use Rattle.exchange.specs.Texts.{answered}
 use Rattle.exchange.specs.declared.fetching.FetchFault.TheVariants as fetch_fault
 use Rattle.http_head.specs.declared.head.Received.{Received}
@@ -41,7 +43,7 @@ use Rattle.session.proofs.VisitLaws.{rose_met, stayed_below, stayed_met, stays_o
 -- ---- the capture
 
 -- the capture of an exchange can be stored
-pub fits : (e : Exchange) (date : ℕ) (received : Received) → CanBeForwarded e.message e.target → CanBePassedOn received e.message.head.method
+pub fits : (e : Exchange) (date : ℕ) (received : Received) → CanBeForwarded e.message e.target → CanBeStored received e.message.head.method
     → InRange date → length received.wire ≤ BODY_LIMIT → Fits (taken_of e date received)
 fits e date received sent came in_range within = record {
   well_formed = record { target = sent.accepted; request = sent.whole; response = came.responds };

@@ -1,6 +1,6 @@
 -- A request to the archive's own site, and how it is answered (RFC 7089, sections 2 to 5). Refusals come in this order: for the
 -- method, for the address, for the date that is asked for, for want of a capture, for the disk.
-use Rattle.std.specs.Prelude.{◌≡◌, ◌≢◌, ℕ, ◌<◌, ◌≤◌, Bool, true, false, ◌&&◌, ◌||◌, ◌==◌, List, [], ◌∷◌, ◌++◌, length, map, codes, bytes_eq, Option, Some, None, IsTrue, ⊤}
+use Rattle.std.specs.Prelude.{◌≡◌, ◌≢◌, ℕ, ◌<◌, ◌≤◌, Bool, true, false, ◌&&◌, ◌||◌, ◌==◌, List, [], ◌∷◌, ◌++◌, length, map, codes, bytes_eq, Option, Some, None, IsTrue, ⊤, slice_get}
 use Rattle.httparse.specs.Ascii.{crlf_bytes}
 use Rattle.archive_shelf.specs.Answers.{IsBrought, IsDamaged, IsNamed, IsReplayable, KeepsPayloadOf}
 use Rattle.archive_shelf.specs.Queries.{ArePicked}
@@ -54,13 +54,9 @@ serves_method method = bytes_eq method (codes "GET") || asks_for_head method
 
 -- ---- what is asked for
 
-abbrev pub first_of : List (List ℕ) → Option (List ℕ)
-first_of [] = None
-first_of (value ∷ values) = Some value
-
 -- the first field Accept-Datetime (RFC 7089, section 2.1.1)
 abbrev pub date_field : SiteRequest → Option (List ℕ)
-date_field q = first_of (values_of (codes "accept-datetime") (map named_value q.message.head.fields))
+date_field q = slice_get (values_of (codes "accept-datetime") (map named_value q.message.head.fields)) 0
 
 -- a gate is asked for this time: the latest, where no field names one
 abbrev pub IsGateTime : Option (List ℕ) → ℕ → Type 0

@@ -5,7 +5,7 @@ ghost use Rattle.capture.specs.Methods.{asks_for_head as method_asks};
 ghost use Rattle.capture.specs.Payload.{IsPayload};
 ghost use Rattle.capture.specs.declared.limits.TheConstants.{BODY_LIMIT};
 ghost use Rattle.capture.specs.declared.site.Site.{Site};
-ghost use Rattle.exchange.specs.Fetches.{IsOneResponse};
+ghost use Rattle.http_wire.specs.Messages.{IsOneResponse};
 ghost use Rattle.exchange.specs.Storing.{IsForOrigin};
 ghost use Rattle.exchange.specs.Texts.{forwarded};
 ghost use Rattle.outside.specs.declared.gate.Heard.{Heard};
@@ -20,11 +20,13 @@ use crate::heads::asks_for_head;
 use crate::laws::stored_captures_have_their_payload;
 use crate::refusing::refused;
 use archive_shelf::{Shelf, StoreFault, leading_books_grow, stored_captures_stand_behind};
-use capture::{Bytes, Memory, Refusal, Taken, growth_keeps_captures, wires_have_one_payload};
+use capture::{Memory, Refusal, Taken, growth_keeps_captures};
 use exchange::{
-    FetchFault, Target, Window, client_text, fetch, forward_text, messages_can_be_stored,
+    FetchFault, Target, Window, client_text, fetch, forward_text, requests_can_be_stored,
 };
-use http_wire::{PayloadFault, Received, RequestHead, RequestMessage, payload_of, payload_of_cut};
+use http_wire::{
+    PayloadFault, Received, RequestHead, RequestMessage, payload_in, responses_can_be_stored,
+};
 use outside::{Clock, Dialer};
 use std::alloc::Global;
 use time_text::LATEST;
@@ -183,7 +185,8 @@ fn pass_on<S: Shelf>(
 {
     leading_books_grow();
     growth_keeps_captures();
-    messages_can_be_stored();
+    requests_can_be_stored();
+    responses_can_be_stored();
     stored_captures_stand_behind();
     stored_captures_have_their_payload();
     let answers_head = asks_for_head(&sending.proxied.message.head);
@@ -212,34 +215,17 @@ fn passed_on(
     requires { IsOneResponse answers_head received.now }
     ensures { IfOk result (λ answer. PassesOn received.now answers_head closes answer) }
 {
-    let payload = match payload_in(alloc, received) {
+    let wire = received.wire.as_slice();
+    let payload = match payload_in(alloc, received.framing, wire, received.cut) {
         Ok(payload) => payload,
-        Err(Memory) => return Err(Memory),
+        // What was received is a wire of its framing.
+        Err(PayloadFault::Malformed) => unreachable!(),
+        Err(PayloadFault::Memory) => return Err(Memory),
     };
     let closes = received.cut || closes;
     match client_text(alloc, received, payload.as_slice(), answers_head, closes) {
         Ok(text) => Ok(Answer { text, closes }),
         Err(Memory) => Err(Memory),
-    }
-}
-
-/// The payload of a response, whole or cut.
-fn payload_in(alloc: Global, received: &Received) -> Result<Bytes, Memory>
-    requires { IsWire received.now.cut received.now.framing received.now.wire }
-    ensures { IfOk result (λ payload. IsPayload received.now.cut received.now.framing received.now.wire payload) }
-{
-    wires_have_one_payload();
-    if received.cut {
-        return match payload_of_cut(alloc, received.framing, received.wire.as_slice()) {
-            Ok(payload) => Ok(payload),
-            Err(PayloadFault::Malformed) => unreachable!(),
-            Err(PayloadFault::Memory) => Err(Memory),
-        };
-    }
-    match payload_of(alloc, received.framing, received.wire.as_slice()) {
-        Ok(payload) => Ok(payload),
-        Err(PayloadFault::Malformed) => unreachable!(),
-        Err(PayloadFault::Memory) => Err(Memory),
     }
 }
 

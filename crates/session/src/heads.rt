@@ -1,7 +1,6 @@
 //! What the head of a request asks of the connection.
 ghost use Rattle.std.specs.Prelude.{◌≡◌, ◌<◌, map};
 ghost use Rattle.std.specs.List.{list_any};
-ghost use Rattle.capture.specs.Fields.{is_named, lowered};
 ghost use Rattle.capture.specs.Methods.{asks_for_head as method_asks};
 ghost use Rattle.http_head.specs.Heads.{named_value};
 ghost use Rattle.message_body.specs.Framings.{members, told_by_request};
@@ -42,7 +41,7 @@ fn asks_to_close(fields: &[Field]) -> bool
 fn lists_close(field: &Field) -> bool
     ensures { result ≡ spec.lists_close (named_value field.now) }
 {
-    has_name(field, b"connection") && has_close(field.value.as_slice())
+    field.has_name(b"connection") && has_close(field.value.as_slice())
 }
 
 /// Whether a member of the list is `close`.
@@ -87,15 +86,7 @@ fn has_expectation(fields: &[Field]) -> bool
 fn is_expectation(field: &Field) -> bool
     ensures { result ≡ spec.is_expectation (named_value field.now) }
 {
-    has_name(field, b"expect") && field.value.as_slice().eq_ignore_ascii_case(b"100-continue")
-}
-
-/// Whether the field has this name, which is given in lower case.
-pub fn has_name(field: &Field, name: &[u8]) -> bool
-    requires { lowered name.now ≡ name.now }
-    ensures { result ≡ is_named name.now (named_value field.now) }
-{
-    field.name.as_slice().eq_ignore_ascii_case(name)
+    field.has_name(b"expect") && field.value.as_slice().eq_ignore_ascii_case(b"100-continue")
 }
 
 /// Whether a request is answered with a head alone (RFC 9110, section 9.3.2).

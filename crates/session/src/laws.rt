@@ -4,7 +4,7 @@ ghost use Rattle.session.specs.Laws.{CoursesGrow, CoursesShowOn, CoursesCountFau
 
 use archive_shelf::{leading_books_grow, stored_captures_stand_behind};
 use capture::{captures_have_one_payload, growth_keeps_captures};
-use exchange::decisions_are_one;
+use http_wire::decisions_are_one;
 
 /// Over a lawful course the book only grows, and so does what is shown. Alone, each round is decided by just the entries of its
 /// book, where that holds of the archive before; and where the ids of the last book differ, those of each book on the way do. The

@@ -1,6 +1,6 @@
 //! Answers requests to the site for a capture by its date (RFC 7089, sections 4 and 4.1.1).
-ghost use Rattle.std.specs.Prelude.{◌≡◌, Bool, true, Some, IfOk, IsSome, MatchResult, codes, map, option_copied};
-ghost use Rattle.capture.specs.Fields.{lowered, values_of};
+ghost use Rattle.std.specs.Prelude.{◌≡◌, Bool, true, Some, IfOk, IsSome, MatchResult, codes, map, slice_get};
+ghost use Rattle.capture.specs.Fields.{values_of};
 ghost use Rattle.http_head.specs.Heads.{named_value};
 ghost use Rattle.replay_url.specs.Forms.{IsForm};
 ghost use Rattle.replay_url.specs.declared.form.Form.TheVariants.{Gate as TheGate, Memento as TheMemento};
@@ -13,14 +13,14 @@ ghost use Rattle.surt_key.specs.Key.{key_of as the_key_of};
 ghost use Rattle.timegate.specs.Redirect.{redirect_text};
 
 use crate::answer::Answer;
-use crate::heads::{asks_for_head, has_name};
+use crate::heads::asks_for_head;
 use crate::refusing::refused;
 use crate::replaying::replay_found;
 use crate::visit::{Sought, Visit};
 use archive_shelf::{Shelf, leading_books_grow};
 use capture::{Memory, Refusal, growth_keeps_captures};
 use cdxj_index::Entry;
-use http_head::Field;
+use http_head::{Field, first_value};
 use std::alloc::Global;
 use surt_key::{Key, KeyFault, key_of};
 use time_text::{LATEST, NotATime, read_http};
@@ -170,24 +170,11 @@ fn lead_to(
 /// The time that a gate is asked for, by the first field Accept-Datetime (RFC 7089, section 2.1.1).
 fn gate_time(fields: &[Field]) -> Result<u64, NotATime>
     ensures { MatchResult result
-        (λ time. IsGateTime (spec.first_of (values_of (codes "accept-datetime") (map named_value fields.now))) time)
-        (λ _. NamesNoTime (spec.first_of (values_of (codes "accept-datetime") (map named_value fields.now)))) }
+        (λ time. IsGateTime (slice_get (values_of (codes "accept-datetime") (map named_value fields.now)) 0) time)
+        (λ _. NamesNoTime (slice_get (values_of (codes "accept-datetime") (map named_value fields.now)) 0)) }
 {
     match first_value(fields, b"accept-datetime") {
         Some(value) => read_http(value),
         None => Ok(LATEST),
     }
-}
-
-/// The value of the first field of this name, which is given in lower case.
-fn first_value<'a>(fields: &'a [Field], name: &[u8]) -> Option<&'a [u8]>
-    requires { lowered name.now ≡ name.now }
-    ensures { option_copied result ≡ spec.first_of (values_of name.now (map named_value fields.now)) }
-{
-    for field in fields {
-        if has_name(field, name) {
-            return Some(field.value.as_slice());
-        }
-    }
-    None
 }

@@ -11,8 +11,8 @@ passed_on-requires g c = rw c.asks_for_head-answers_head.ensures c.requires.resp
 pub keep-requires : goal.keep-requires
 keep-requires g c =
     rw c.taken_of.ensures (fits (exchange_of c.args.sending.proxied) c.args.sending.date c.args.received
-    (c.messages_can_be_stored.ensures.requests c.args.sending.proxied.message c.args.sending.proxied.target c.requires.asked)
-    (c.messages_can_be_stored.ensures.responses c.args.received c.args.sending.proxied.message.head.method c.requires.response c.requires.final_status)
+    (c.requests_can_be_stored.ensures c.args.sending.proxied.message c.args.sending.proxied.target c.requires.asked)
+    (c.responses_can_be_stored.ensures c.args.received c.args.sending.proxied.message.head.method c.requires.response c.requires.final_status)
     c.requires.date c.requires.within)
 
 pub returns-in-Err-clause-passes : goal.returns-in-Err-clause-passes
