@@ -1,68 +1,21 @@
 -- Requests to the site that are answered.
 use Rattle.std.proofs.Common.{◌≡◌, ◌⊎◌, inl, inr, ℕ, ◌<◌, ◌≤◌, Bool, true, false, IsTrue, List, length, Option, Some, None, sym, ◌∙◌, ap, subst, arith}
 use Rattle.std.specs.Prelude.{IsSome}
-use Rattle.std.proofs.lemmas.Fmt.{decimal_injective}
 use Rattle.capture.specs.Captures.{captures}
 use Rattle.capture.specs.declared.refusal.Refusal.{Refusal}
 use Rattle.capture.specs.declared.refusal.Refusal.TheVariants.{Malformed, TargetRefused, BadTime, BadAcceptDatetime, BadQuery, NotAForm, NoCapture, NoSuch, MethodRefused, BodyTooLong, HeadTooLong, ClockRange, ConnectRefused, SecureRefused, CodingRefused, DialFault, OriginFault, OriginEnded, OriginMalformed, OriginTooLong, TooManyInterim, Full, DiskFault, Damaged}
 use Rattle.replay_url.specs.Address.{Parts, Numbered, Mapped, Timed, Modified, Open, Outside, parts_at}
-use Rattle.replay_url.specs.Forms.{FormAt, NoFormAt, BadTimeAt, IsForm, IsNumber, IsUrl, IsNoUrl}
+use Rattle.replay_url.specs.Forms.{FormAt, NoFormAt, BadTimeAt, IsForm, IsUrl, IsNoUrl}
+use Rattle.replay_url.specs.Questions.{Question, ForNearest, ForAll, ForNumber, asked_url, question_of}
 use Rattle.replay_url.specs.declared.form.Form.{Form}
 use Rattle.replay_url.specs.declared.form.Form.TheVariants.{Memento, Gate, Map, Number}
 use Rattle.surt_key.specs.Key.{key_of}
-use Rattle.session.specs.Complete.{IsFaultless, HasWanted, IsAnswer, CapturesThatAreThereAreReplayed}
+use Rattle.replay_url.proofs.OneForm.{one_form}
+use Rattle.session.specs.Complete.{IsFaultless, HasShown, HasWanted, IsAnswer, CapturesThatAreThereAreReplayed}
 use Rattle.session.specs.Rounds.{Outcome, Visited, IsDecided, is_disk_fault, disk_fault}
-use Rattle.session.specs.SiteAnswers.{SiteRequest, SiteReply, Refuses, Redirects, Replays, Lists, LacksSiteReply, Asks, HasKey, FindsNone, IsGateTime, NamesNoTime, IsDated, IsRejected, IsSiteReplyBy, date_field, serves_method}
+use Rattle.session.specs.SiteAnswers.{SiteRequest, SiteReply, Refuses, Redirects, Replays, Lists, LacksSiteReply, Asks, FindsNone, IsGateTime, NamesNoTime, IsDated, IsRejected, IsSiteReplyBy, date_field, serves_method}
 use Rattle.session.specs.Traces.{Terms, View, Traces, CountsMet}
 use Rattle.session.proofs.CompleteLaws.{rose_not, told_not_untold}
-
--- ---- an address has one form
-
--- two forms are of one kind, and name one number or one URL
-abbrev pub IsAlike : Form → Form → Type 0
-IsAlike (Number n) (Number m) = n ≡ m
-IsAlike (Map url) (Map other) = url ≡ other
-IsAlike (Gate url) (Gate other) = url ≡ other
-IsAlike (Memento time digits raw url) (Memento t d r other) = url ≡ other
-IsAlike (Number n) _ = ⊥
-IsAlike (Map url) _ = ⊥
-IsAlike (Gate url) _ = ⊥
-IsAlike (Memento time digits raw url) _ = ⊥
-
-one_number : (text : List ℕ) (n m : ℕ) → IsNumber text n → IsNumber text m → n ≡ m
-one_number text n m h k = decimal_injective n m (omega (arith, h.fits)) (omega (arith, k.fits)) (sym h.digits ∙ k.digits)
-
-alike : (parts : Parts) (a b : Form) → FormAt parts a → FormAt parts b → IsAlike a b
-alike (Numbered text) (Number n) (Number m) h k = one_number text n m h k
-alike (Mapped text) (Map url) (Map other) h k = h.value ∙ sym k.value
-alike (Open text) (Gate url) (Gate other) h k = h.value ∙ sym k.value
-alike (Timed digits is_raw text) (Memento time count raw url) (Memento t c r other) h k = h.of_url.value ∙ sym k.of_url.value
-alike (Numbered text) (Number n) (Map other) h k = absurd k
-alike (Numbered text) (Number n) (Gate other) h k = absurd k
-alike (Numbered text) (Number n) (Memento t c r other) h k = absurd k
-alike (Mapped text) (Map url) (Number m) h k = absurd k
-alike (Mapped text) (Map url) (Gate other) h k = absurd k
-alike (Mapped text) (Map url) (Memento t c r other) h k = absurd k
-alike (Open text) (Gate url) (Number m) h k = absurd k
-alike (Open text) (Gate url) (Map other) h k = absurd k
-alike (Open text) (Gate url) (Memento t c r other) h k = absurd k
-alike (Timed digits is_raw text) (Memento time count raw url) (Number m) h k = absurd k
-alike (Timed digits is_raw text) (Memento time count raw url) (Map other) h k = absurd k
-alike (Timed digits is_raw text) (Memento time count raw url) (Gate other) h k = absurd k
-alike (Numbered text) (Map url) b h k = absurd h
-alike (Numbered text) (Gate url) b h k = absurd h
-alike (Numbered text) (Memento t c r url) b h k = absurd h
-alike (Mapped text) (Number n) b h k = absurd h
-alike (Mapped text) (Gate url) b h k = absurd h
-alike (Mapped text) (Memento t c r url) b h k = absurd h
-alike (Open text) (Number n) b h k = absurd h
-alike (Open text) (Map url) b h k = absurd h
-alike (Open text) (Memento t c r url) b h k = absurd h
-alike (Timed digits is_raw text) (Number n) b h k = absurd h
-alike (Timed digits is_raw text) (Map url) b h k = absurd h
-alike (Timed digits is_raw text) (Gate url) b h k = absurd h
-alike Modified a b h k = absurd h
-alike Outside a b h k = absurd h
 
 -- ---- an address with a form isn't refused
 
@@ -113,45 +66,34 @@ gate_dated (Some value) time h none = absurd (none time h)
 gate_dated None time h none = absurd none
 
 dated : {P : Type 0} (q : SiteRequest) (form : Form) (url : List ℕ) → Asks q form → IsForm q.address (Gate url) → NamesNoTime (date_field q) → P
-dated q form url asks gate none = by_form form asks.dated (alike (parts_at q.address) form (Gate url) asks.is gate) where
-  by_form : {P : Type 0} (form : Form) → IsDated form (date_field q) → IsAlike form (Gate url) → P
-  by_form (Gate other) (time, h) e = gate_dated (date_field q) time h none
-  by_form (Number n) h e = absurd e
-  by_form (Map other) h e = absurd e
-  by_form (Memento t d r other) h e = absurd e
+dated q form url asks gate none =
+    let same : form ≡ Gate url = one_form (parts_at q.address) form (Gate url) asks.is gate in
+    let is : IsDated (question_of (Gate url)) (date_field q) = subst (λ (f : Form). IsDated (question_of f) (date_field q)) same asks.dated in
+    gate_dated (date_field q) is.0 is.1 none
 
-numbered : {P : Type 0} (q : SiteRequest) (view : View) (form : Form) (number count : ℕ) → Asks q form → HasWanted view form → Asks q (Number number)
+numbered : {P : Type 0} (q : SiteRequest) (view : View) (form : Form) (number count : ℕ) → Asks q form → HasWanted view (question_of form) → Asks q (Number number)
     → count ≡ length (captures view.book) → count ≤ number → P
-numbered q view form number count asks wanted other count_is past = by_form form wanted (alike (parts_at q.address) form (Number number) asks.is other.is) where
-  by_form : {P : Type 0} (form : Form) → HasWanted view form → IsAlike form (Number number) → P
-  by_form (Number n) w e = let below : n < length (captures view.book) = w in let bad : ⊥ = omega (arith, below, e, count_is, past) in absurd bad
-  by_form (Gate url) w e = absurd e
-  by_form (Map url) w e = absurd e
-  by_form (Memento t d r url) w e = absurd e
+numbered q view form number count asks wanted other count_is past =
+    let same : form ≡ Number number = one_form (parts_at q.address) form (Number number) asks.is other.is in
+    let below : number < length (captures view.book) = subst (λ (f : Form). HasWanted view (question_of f)) same wanted in
+    let bad : ⊥ = omega (arith, below, count_is, past) in
+    absurd bad
 
-found : {P : Type 0} (q : SiteRequest) (view : View) (form : Form) → Asks q form → HasWanted view form → FindsNone q view → P
-found q view form asks wanted h = by_forms form h.form wanted (alike (parts_at q.address) form h.form asks.is h.asks.is) h.keyed where
-  by_forms : {P : Type 0} (form other : Form) → HasWanted view form → IsAlike form other → HasKey other h.key → P
-  by_forms (Gate url) (Gate other) w e k = absurd (w h.key (subst (λ (u : List ℕ). key_of u ≡ Some h.key) (sym e) k) h.none)
-  by_forms (Map url) (Map other) w e k = absurd (w h.key (subst (λ (u : List ℕ). key_of u ≡ Some h.key) (sym e) k) h.none)
-  by_forms (Memento t d r url) (Memento t2 d2 r2 other) w e k = absurd (w h.key (subst (λ (u : List ℕ). key_of u ≡ Some h.key) (sym e) k) h.none)
-  by_forms (Number n) (Number m) w e k = absurd k
-  by_forms (Gate url) (Number m) w e k = absurd e
-  by_forms (Gate url) (Map other) w e k = absurd e
-  by_forms (Gate url) (Memento t d r other) w e k = absurd e
-  by_forms (Map url) (Number m) w e k = absurd e
-  by_forms (Map url) (Gate other) w e k = absurd e
-  by_forms (Map url) (Memento t d r other) w e k = absurd e
-  by_forms (Memento t d r url) (Number m) w e k = absurd e
-  by_forms (Memento t d r url) (Gate other) w e k = absurd e
-  by_forms (Memento t d r url) (Map other) w e k = absurd e
-  by_forms (Number n) (Gate other) w e k = absurd e
-  by_forms (Number n) (Map other) w e k = absurd e
-  by_forms (Number n) (Memento t d r other) w e k = absurd e
+found : {P : Type 0} (q : SiteRequest) (view : View) (form : Form) → Asks q form → HasWanted view (question_of form) → FindsNone q view → P
+found q view form asks wanted h =
+    let same : form ≡ h.form = one_form (parts_at q.address) form h.form asks.is h.asks.is in
+    by_question (question_of h.form) (subst (λ (f : Form). HasWanted view (question_of f)) same wanted) h.asked where
+      shown : {P : Type 0} (url : List ℕ) → HasShown view url → Some url ≡ Some h.url → P
+      shown url there e = let url_is : url ≡ h.url = cc in absurd (there h.key (subst (λ (u : List ℕ). key_of u ≡ Some h.key) (sym url_is) h.keyed) h.none)
+
+      by_question : {P : Type 0} (asked : Question) → HasWanted view asked → asked_url asked ≡ Some h.url → P
+      by_question (ForNearest sought) there e = shown sought.url there e
+      by_question (ForAll url) there e = shown url there e
+      by_question (ForNumber number) there e = let bad : ⊥ = cc in absurd bad
 
 no_rejection : {P : Type 0} (terms : Terms) (q : SiteRequest) (refusal : Refusal) (traces : Traces) (form : Form) → IsTrue terms.tells → IsFaultless traces
     → CountsMet (is_disk_fault refusal) traces.before.disk_faults traces.after.disk_faults
-    → Asks q form → HasWanted traces.before form → IsRejected terms q refusal traces.before → P
+    → Asks q form → HasWanted traces.before (question_of form) → IsRejected terms q refusal traces.before → P
 no_rejection terms q MethodRefused traces form tells whole disk asks wanted h = unserved (serves_method q.message.head.method) asks.served h
 no_rejection terms q NotAForm traces form tells whole disk asks wanted h = formed (parts_at q.address) form asks.is h.1
 no_rejection terms q BadTime traces form tells whole disk asks wanted h = timed (parts_at q.address) form asks.is h.1
@@ -179,7 +121,7 @@ no_rejection terms q CodingRefused traces form tells whole disk asks wanted h = 
 
 answers : (terms : Terms) (q : SiteRequest) (reply : SiteReply) (lacked : Bool) (traces : Traces) (form : Form) → IsTrue terms.tells → IsFaultless traces
     → CountsMet (disk_fault (Visited q reply)) traces.before.disk_faults traces.after.disk_faults
-    → Asks q form → HasWanted traces.before form → IsSiteReplyBy terms q lacked reply traces.before → IsTrue lacked ⊎ IsAnswer reply
+    → Asks q form → HasWanted traces.before (question_of form) → IsSiteReplyBy terms q lacked reply traces.before → IsTrue lacked ⊎ IsAnswer reply
 answers terms q (Refuses refusal) lacked traces form tells whole disk asks wanted h =
     no_rejection terms q refusal traces form tells whole disk asks wanted h
 answers terms q (Redirects other entry) lacked traces form tells whole disk asks wanted h = inr tt

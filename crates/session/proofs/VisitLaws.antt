@@ -17,6 +17,7 @@ use Rattle.exchange.specs.declared.aim.Aim.TheVariants.{Site as ToSite}
 use Rattle.outside.specs.Records.{Links}
 use Rattle.outside.specs.declared.dialer.Transcript.{Transcript}
 use Rattle.outside.specs.declared.gate.Heard.{Heard}
+use Rattle.replay_url.specs.Questions.{ForNumber}
 use Rattle.replay_url.specs.declared.form.Form.TheVariants.{Number}
 use Rattle.session.specs.Answering.{Incoming, MakesRound, IsAnswered, Answers, AnswersVisit}
 use Rattle.session.specs.Connection.{Setting, terms_at}
@@ -256,7 +257,7 @@ stayed_below before now e = omega (arith, e)
 -- a capture that was brought by its number is replayed
 pub number_replayed : (terms : Terms) (q : SiteRequest) (number : ℕ) (brought : Brought) (is : Contents) (faults disk : ℕ) → Asks q (Number number)
     → Brings is number (Ok brought) → is.tells ≡ terms.tells
-    → IsReplayed terms q (record { book = is.seen; shown = is.shown; dialer_faults = faults; disk_faults = disk }) (Number number) brought
+    → IsReplayed terms q (record { book = is.seen; shown = is.shown; dialer_faults = faults; disk_faults = disk }) (ForNumber number) brought
 number_replayed terms q number brought is faults disk asks (there, replayable, named, known) same = record {
   number = number;
   wants = record { wanted = (asks, refl); there = there };

@@ -1,5 +1,5 @@
 -- Which requests are answered. Where no object failed, a lawful round of such a request has its answer, or memory ran out.
-use Rattle.std.specs.Prelude.{◌≡◌, ◌⊎◌, ℕ, ◌-◌, ◌^◌, ◌<◌, false, IsTrue, List, length, Contains, Option, ⊤}
+use Rattle.std.specs.Prelude.{◌≡◌, ◌⊎◌, ℕ, ◌-◌, ◌^◌, ◌<◌, false, IsTrue, List, length, Contains, Option, Some, ⊤}
 use Rattle.capture.specs.Captures.{captures}
 use Rattle.capture.specs.Final.{Arrived, IsArrival}
 use Rattle.capture.specs.First.{Message}
@@ -12,13 +12,14 @@ use Rattle.http_head.specs.declared.head.Received.{Received}
 use Rattle.http_head.specs.declared.head.RequestHead.{RequestHead}
 use Rattle.http_head.specs.declared.head.RequestMessage.{RequestMessage}
 use Rattle.outside.specs.declared.dialer.Transcript.{Transcript}
+use Rattle.replay_url.specs.Questions.{Question, ForNearest, ForAll, ForNumber, question_of}
 use Rattle.replay_url.specs.declared.form.Form.{Form}
-use Rattle.replay_url.specs.declared.form.Form.TheVariants.{Memento, Gate, Map, Number}
 use Rattle.session.specs.Exchanges.{Exchange, Reply, Passes, IsPassedOn, answers_head}
 use Rattle.session.specs.Requests.{IsAsked, IsRefused}
 use Rattle.session.specs.Rounds.{Round, Exchanged, Visited, IsRound, closes_exchange}
-use Rattle.session.specs.SiteAnswers.{SiteRequest, SiteReply, Refuses, Redirects, Replays, Lists, LacksSiteReply, Asks, HasKey}
+use Rattle.session.specs.SiteAnswers.{SiteRequest, SiteReply, Refuses, Redirects, Replays, Lists, LacksSiteReply, Asks}
 use Rattle.session.specs.Traces.{Terms, View, Traces}
+use Rattle.surt_key.specs.Key.{key_of}
 use Rattle.time_text.specs.Texts.{InRange}
 
 -- Neither count of faults rose. A count in 64 bits stands still at its last value.
@@ -57,18 +58,21 @@ WholeResponsesArePassedOn =
 
 -- ---- the site
 
+-- a capture of the URL's key is shown
+abbrev pub HasShown : View → List ℕ → Type 0
+HasShown view url = (key : List ℕ) → key_of url ≡ Some key → ¬ (HasNone view.shown key)
+
 -- the book has a capture of the number, or one of the URL's key is shown
-abbrev pub HasWanted : View → Form → Type 0
-HasWanted view (Number number) = number < length (captures view.book)
-HasWanted view (Gate url) = (key : List ℕ) → HasKey (Gate url) key → ¬ (HasNone view.shown key)
-HasWanted view (Memento time digits raw url) = (key : List ℕ) → HasKey (Memento time digits raw url) key → ¬ (HasNone view.shown key)
-HasWanted view (Map url) = (key : List ℕ) → HasKey (Map url) key → ¬ (HasNone view.shown key)
+abbrev pub HasWanted : View → Question → Type 0
+HasWanted view (ForNumber number) = number < length (captures view.book)
+HasWanted view (ForNearest sought) = HasShown view sought.url
+HasWanted view (ForAll url) = HasShown view url
 
 -- a redirect, a capture or a list
 abbrev pub IsAnswer : SiteReply → Type 0
 IsAnswer (Refuses refusal) = ⊥
-IsAnswer (Redirects form entry) = ⊤
-IsAnswer (Replays form brought) = ⊤
+IsAnswer (Redirects sought entry) = ⊤
+IsAnswer (Replays question brought) = ⊤
 IsAnswer (Lists url entries) = ⊤
 IsAnswer LacksSiteReply = ⊥
 
@@ -76,7 +80,7 @@ abbrev pub CapturesThatAreThereAreReplayed : Type 0
 CapturesThatAreThereAreReplayed =
     (terms : Terms) (served : ℕ) (r : Round) (q : SiteRequest) (reply : SiteReply) (form : Form)
     → IsRound terms served r → r.outcome ≡ Visited q reply → IsTrue terms.tells → IsFaultless r.traces
-    → Asks q form → HasWanted r.traces.before form → IsTrue r.lacked ⊎ IsAnswer reply
+    → Asks q form → HasWanted r.traces.before (question_of form) → IsTrue r.lacked ⊎ IsAnswer reply
 
 -- ---- requests
 

@@ -5,7 +5,7 @@ use Rattle.archive_shelf.specs.Openings.{Moves, StaysCovered}
 use Rattle.archive_shelf.specs.Queries.{ArePicked, IsFound}
 use Rattle.archive_shelf.specs.declared.finder.Finder.{Ghosts}
 use Rattle.cdxj_index.specs.Facts.{Facts}
-use Rattle.replay_url.specs.declared.form.Form.{Form}
+use Rattle.replay_url.specs.Questions.{Nearest}
 use Rattle.surt_key.specs.Key.{key_of}
 use Rattle.session.specs.SiteAnswers.{SiteRequest, ReachesJust}
 
@@ -38,6 +38,6 @@ pub record FindsAll {S : Type 0} (finder : Ghosts S) (shelf : S) (url : List ℕ
   pub knows : KnowsBook finder shelf
 
 -- the capture of this number is the one that the request names by its date
-pub record FindsJust {S : Type 0} (finder : Ghosts S) (shelf : S) (q : SiteRequest) (form : Form) (number : ℕ) : Type 0 where
-  pub reaches : ReachesJust q (finder.contents shelf).shown form number
+pub record FindsJust {S : Type 0} (finder : Ghosts S) (shelf : S) (q : SiteRequest) (sought : Nearest) (number : ℕ) : Type 0 where
+  pub reaches : ReachesJust q (finder.contents shelf).shown sought number
   pub knows : KnowsBook finder shelf

@@ -1,6 +1,6 @@
 -- A request to the archive's own site, and how it is answered (RFC 7089, sections 2 to 5). Refusals come in this order: for the
 -- method, for the address, for the date that is asked for, for want of a capture, for the disk.
-use Rattle.std.specs.Prelude.{◌≡◌, ◌≢◌, ℕ, ◌<◌, ◌≤◌, Bool, true, false, ◌&&◌, ◌||◌, ◌==◌, List, [], ◌∷◌, ◌++◌, length, map, codes, bytes_eq, Option, Some, None, IsTrue, ⊤, slice_get}
+use Rattle.std.specs.Prelude.{◌≡◌, ◌≢◌, ℕ, ◌<◌, ◌≤◌, Bool, true, false, ◌||◌, List, [], ◌∷◌, ◌++◌, length, map, codes, bytes_eq, Option, Some, None, IsTrue, ⊤, slice_get}
 use Rattle.httparse.specs.Ascii.{crlf_bytes}
 use Rattle.archive_shelf.specs.Answers.{IsBrought, IsDamaged, IsNamed, IsReplayable, KeepsPayloadOf}
 use Rattle.archive_shelf.specs.Queries.{ArePicked}
@@ -19,9 +19,10 @@ use Rattle.http_head.specs.Heads.{named_value}
 use Rattle.http_head.specs.declared.head.RequestMessage.{RequestMessage}
 use Rattle.replay_answer.specs.Mementos.{IsMemento}
 use Rattle.replay_url.specs.Forms.{IsForm, IsFault}
+use Rattle.replay_url.specs.Questions.{NamedTime, Nearest, Question, ForNearest, ForAll, ForNumber, asked_url, is_as_received, is_by_gate, names_date, question_of}
 use Rattle.replay_url.specs.declared.fault.FormFault.TheVariants as form_fault
 use Rattle.replay_url.specs.declared.form.Form.{Form}
-use Rattle.replay_url.specs.declared.form.Form.TheVariants.{Memento, Gate, Map, Number}
+use Rattle.replay_url.specs.declared.form.Form.TheVariants.{Gate, Map, Number}
 use Rattle.surt_key.specs.Key.{key_of}
 use Rattle.time_text.specs.Blanks.{trim_blanks}
 use Rattle.time_text.specs.Reading.{IsHttpDate}
@@ -39,8 +40,8 @@ pub record SiteRequest : Type 0 where
 -- for want of memory.
 pub data SiteReply : Type 0 where
   Refuses : (refusal : Refusal) → SiteReply
-  Redirects : (form : Form) (entry : Facts) → SiteReply
-  Replays : (form : Form) (brought : Brought) → SiteReply
+  Redirects : (sought : Nearest) (entry : Facts) → SiteReply
+  Replays : (question : Question) (brought : Brought) → SiteReply
   Lists : (url : List ℕ) (entries : List Facts) → SiteReply
   LacksSiteReply : SiteReply
 
@@ -68,93 +69,60 @@ abbrev pub NamesNoTime : Option (List ℕ) → Type 0
 NamesNoTime (Some value) = (time : ℕ) → ¬ (IsHttpDate (trim_blanks value) time)
 NamesNoTime None = ⊥
 
--- the field is looked at by a gate alone
-abbrev pub IsDated : Form → Option (List ℕ) → Type 0
-IsDated (Gate url) field = (time : ℕ) × IsGateTime field time
-IsDated (Memento time digits raw url) field = ⊤
-IsDated (Map url) field = ⊤
-IsDated (Number number) field = ⊤
+-- the time that a capture is to be nearest to: the one that the address names, or the one that a gate is asked for
+abbrev pub IsSoughtTime : Option NamedTime → Option (List ℕ) → ℕ → Type 0
+IsSoughtTime (Some named) field time = time ≡ named.time
+IsSoughtTime None field time = IsGateTime field time
 
--- the time that the capture is to be nearest to
-abbrev pub IsSoughtTime : Form → Option (List ℕ) → ℕ → Type 0
-IsSoughtTime (Gate url) field sought = IsGateTime field sought
-IsSoughtTime (Memento time digits raw url) field sought = sought ≡ time
-IsSoughtTime (Map url) field sought = ⊥
-IsSoughtTime (Number number) field sought = ⊥
-
--- the key of the URL that is asked for
-abbrev pub HasKey : Form → List ℕ → Type 0
-HasKey (Gate url) key = key_of url ≡ Some key
-HasKey (Memento time digits raw url) key = key_of url ≡ Some key
-HasKey (Map url) key = key_of url ≡ Some key
-HasKey (Number number) key = ⊥
-
-abbrev pub sought_url : Form → List ℕ
-sought_url (Gate url) = url
-sought_url (Memento time digits raw url) = url
-sought_url (Map url) = url
-sought_url (Number number) = []
-
--- the capture is asked for as it was received
-abbrev pub is_raw : Form → Bool
-is_raw (Gate url) = false
-is_raw (Memento time digits raw url) = raw
-is_raw (Map url) = false
-is_raw (Number number) = true
-
-abbrev pub is_gate : Form → Bool
-is_gate (Gate url) = true
-is_gate (Memento time digits raw url) = false
-is_gate (Map url) = false
-is_gate (Number number) = false
-
--- the address names just this date, by all its digits
-abbrev pub names_date : Form → ℕ → Bool
-names_date (Gate url) date = false
-names_date (Memento time digits raw url) date = (digits == 14 || digits == 17) && time == date
-names_date (Map url) date = false
-names_date (Number number) date = false
+-- there is such a time; the field is looked at by a gate alone
+abbrev pub IsDated : Question → Option (List ℕ) → Type 0
+IsDated (ForNearest sought) field = (time : ℕ) × IsSoughtTime sought.named field time
+IsDated (ForAll url) field = ⊤
+IsDated (ForNumber number) field = ⊤
 
 -- the request asks for this form
 pub record Asks (q : SiteRequest) (form : Form) : Type 0 where
   pub served : serves_method q.message.head.method ≡ true
   pub is : IsForm q.address form
-  pub dated : IsDated form (date_field q)
+  pub dated : IsDated (question_of form) (date_field q)
 
 -- the capture nearest to the time that is asked for, by what is shown
-pub record Reaches (q : SiteRequest) (shown : List Facts) (form : Form) (entry : Facts) : Type 0 where
+pub record Reaches (q : SiteRequest) (shown : List Facts) (sought : Nearest) (entry : Facts) : Type 0 where
+  pub form : Form
   pub asks : Asks q form
+  pub asked : question_of form ≡ ForNearest sought
   pub key : List ℕ
-  pub keyed : HasKey form key
-  pub sought : ℕ
-  pub timed : IsSoughtTime form (date_field q) sought
-  pub nearest : IsNearest shown key sought entry
+  pub keyed : key_of sought.url ≡ Some key
+  pub time : ℕ
+  pub timed : IsSoughtTime sought.named (date_field q) time
+  pub nearest : IsNearest shown key time entry
 
 -- the address names the date of the capture that is nearest
-pub record ReachesJust (q : SiteRequest) (shown : List Facts) (form : Form) (number : ℕ) : Type 0 where
+pub record ReachesJust (q : SiteRequest) (shown : List Facts) (sought : Nearest) (number : ℕ) : Type 0 where
   pub entry : Facts
-  pub reaches : Reaches q shown form entry
-  pub named : names_date form entry.date ≡ true
+  pub reaches : Reaches q shown sought entry
+  pub named : names_date sought.named entry.date ≡ true
   pub number_is : number ≡ entry.number
 
 -- the number of the capture that is to be brought: it is asked for, or it is that of the date that is
-abbrev pub IsWanted : SiteRequest → List Facts → Form → ℕ → Type 0
-IsWanted q shown (Number asked) number = Asks q (Number asked) × (number ≡ asked)
-IsWanted q shown (Memento time digits raw url) number = ReachesJust q shown (Memento time digits raw url) number
-IsWanted q shown (Gate url) number = ⊥
-IsWanted q shown (Map url) number = ⊥
+abbrev pub IsWanted : SiteRequest → List Facts → Question → ℕ → Type 0
+IsWanted q shown (ForNumber asked) number = Asks q (Number asked) × (number ≡ asked)
+IsWanted q shown (ForNearest sought) number = ReachesJust q shown sought number
+IsWanted q shown (ForAll url) number = ⊥
 
 -- a capture that is to be brought, which the book has
-pub record Wants (q : SiteRequest) (view : View) (form : Form) (number : ℕ) : Type 0 where
-  pub wanted : IsWanted q view.shown form number
+pub record Wants (q : SiteRequest) (view : View) (question : Question) (number : ℕ) : Type 0 where
+  pub wanted : IsWanted q view.shown question number
   pub there : number < length (captures view.book)
 
 -- no capture of the URL is shown
 pub record FindsNone (q : SiteRequest) (view : View) : Type 0 where
   pub form : Form
   pub asks : Asks q form
+  pub url : List ℕ
+  pub asked : asked_url (question_of form) ≡ Some url
   pub key : List ℕ
-  pub keyed : HasKey form key
+  pub keyed : key_of url ≡ Some key
   pub none : HasNone view.shown key
 
 -- ---- the replies
@@ -169,27 +137,26 @@ IsRejected terms q BadAcceptDatetime view =
 IsRejected terms q (NoSuch number count) view =
     Asks q (Number number) × (count ≡ length (captures view.book)) × (count ≤ number)
 IsRejected terms q NoCapture view = FindsNone q view
-IsRejected terms q DiskFault view = (form : Form) × (number : ℕ) × Wants q view form number
+IsRejected terms q DiskFault view = (question : Question) × (number : ℕ) × Wants q view question number
 IsRejected terms q (Damaged at kept found) view =
-    (form : Form) × (number : ℕ) × Wants q view form number × KeepsPayloadOf view.book number at × IsDamaged terms.tells kept found
+    (question : Question) × (number : ℕ) × Wants q view question number × KeepsPayloadOf view.book number at × IsDamaged terms.tells kept found
 IsRejected terms q other view = ⊥
 
 -- the capture that was found by date is the one that the book has
-abbrev pub IsAsShown : View → Form → ℕ → Type 0
-IsAsShown view (Memento time digits raw url) number =
-    (entry : Facts) × (entry.number ≡ number) × (entry.date ≡ time) × IsEntryOf view.book number entry
-IsAsShown view (Number asked) number = ⊤
-IsAsShown view (Gate url) number = ⊤
-IsAsShown view (Map url) number = ⊤
+abbrev pub IsAsShown : View → Question → ℕ → Type 0
+IsAsShown view (ForNearest sought) number =
+    (entry : Facts) × (entry.number ≡ number) × (names_date sought.named entry.date ≡ true) × IsEntryOf view.book number entry
+IsAsShown view (ForNumber asked) number = ⊤
+IsAsShown view (ForAll url) number = ⊤
 
 -- the capture that was wanted is replayed
-pub record IsReplayed (terms : Terms) (q : SiteRequest) (view : View) (form : Form) (brought : Brought) : Type 0 where
+pub record IsReplayed (terms : Terms) (q : SiteRequest) (view : View) (question : Question) (brought : Brought) : Type 0 where
   pub number : ℕ
-  pub wants : Wants q view form number
+  pub wants : Wants q view question number
   pub replayable : IsReplayable brought
   pub named : IsNamed view.book number brought
   pub brought_is : IsTrue terms.tells → IsBrought view.book number brought
-  pub as_shown : IsTrue terms.tells → IsAsShown view form number
+  pub as_shown : IsTrue terms.tells → IsAsShown view question number
 
 -- all captures of the URL that are shown are listed, of which there are some
 pub record AreListed (q : SiteRequest) (view : View) (url : List ℕ) (entries : List Facts) : Type 0 where
@@ -200,15 +167,15 @@ pub record AreListed (q : SiteRequest) (view : View) (url : List ℕ) (entries :
   pub some : entries ≢ []
 
 -- a redirect leads to the capture that is nearest, unless the address names its date
-pub record IsRedirected (q : SiteRequest) (view : View) (form : Form) (entry : Facts) : Type 0 where
-  pub reaches : Reaches q view.shown form entry
-  pub other : names_date form entry.date ≡ false
+pub record IsRedirected (q : SiteRequest) (view : View) (sought : Nearest) (entry : Facts) : Type 0 where
+  pub reaches : Reaches q view.shown sought entry
+  pub other : names_date sought.named entry.date ≡ false
 
 -- the reply follows from what is seen of the archive; without one, memory ran out
 abbrev pub IsSiteReplyBy : Terms → SiteRequest → Bool → SiteReply → View → Type 0
 IsSiteReplyBy terms q lacked (Refuses refusal) view = IsRejected terms q refusal view
-IsSiteReplyBy terms q lacked (Redirects form entry) view = IsRedirected q view form entry
-IsSiteReplyBy terms q lacked (Replays form brought) view = IsReplayed terms q view form brought
+IsSiteReplyBy terms q lacked (Redirects sought entry) view = IsRedirected q view sought entry
+IsSiteReplyBy terms q lacked (Replays question brought) view = IsReplayed terms q view question brought
 IsSiteReplyBy terms q lacked (Lists url entries) view = AreListed q view url entries
 IsSiteReplyBy terms q lacked LacksSiteReply view = IsTrue lacked
 
@@ -221,8 +188,8 @@ pub record IsSiteReply (terms : Terms) (q : SiteRequest) (lacked : Bool) (reply 
 abbrev pub is_of_shown : SiteReply → Bool
 is_of_shown (Refuses NoCapture) = true
 is_of_shown (Refuses other) = false
-is_of_shown (Redirects form entry) = true
-is_of_shown (Replays (Memento time digits raw url) brought) = true
+is_of_shown (Redirects sought entry) = true
+is_of_shown (Replays (ForNearest sought) brought) = true
 is_of_shown (Replays other brought) = false
 is_of_shown (Lists url entries) = true
 is_of_shown LacksSiteReply = false
@@ -243,10 +210,10 @@ list_text body answers_head closes =
 -- the text of a reply
 abbrev pub IsSiteText : Terms → SiteRequest → SiteReply → Bool → List ℕ → Type 0
 IsSiteText terms q (Refuses refusal) closes text = text ≡ refusal_text refusal (answers_head q) closes
-IsSiteText terms q (Redirects form entry) closes text =
-    text ≡ redirect_text terms.site.base (sought_url form) entry (is_raw form) (is_gate form) closes
-IsSiteText terms q (Replays form brought) closes text =
-    IsMemento terms.site.base brought (is_raw form) (answers_head q) closes text
+IsSiteText terms q (Redirects sought entry) closes text =
+    text ≡ redirect_text terms.site.base sought.url entry sought.raw (is_by_gate sought) closes
+IsSiteText terms q (Replays question brought) closes text =
+    IsMemento terms.site.base brought (is_as_received question) (answers_head q) closes text
 IsSiteText terms q (Lists url entries) closes text =
     text ≡ list_text (timemap_text terms.site.base url entries) (answers_head q) closes
 IsSiteText terms q LacksSiteReply closes text = text ≡ memory_text

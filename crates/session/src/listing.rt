@@ -1,27 +1,27 @@
 //! The list of a URL's captures, as an answer.
-ghost use Rattle.std.specs.Prelude.{◌≡◌, ◌<◌, ◌++◌, Bool, length, IsSome, OnOk, IfOk};
+ghost use Rattle.std.specs.Prelude.{◌≡◌, ◌<◌, ◌++◌, Bool, length, OnOk, IfOk};
 ghost use Rattle.std.specs.List.Sorted.{IsNonDecreasingBy};
 ghost use Rattle.capture.specs.Methods.{asks_for_head as is_head};
 ghost use Rattle.exchange.specs.Refusals.{body_unless};
+ghost use Rattle.replay_url.specs.Keyed.{HasKey};
 ghost use Rattle.replay_url.specs.declared.form.Form.TheVariants.{Map as TheMap};
 ghost use Rattle.session.specs.Answering.{AnswersVisit};
 ghost use Rattle.session.specs.Looking.{FindsAll, LooksOn};
 ghost use Rattle.session.specs.Shelving.{GoesOn};
 ghost use Rattle.session.specs.SiteAnswers as spec;
 ghost use Rattle.session.specs.SiteAnswers.{Asks};
-ghost use Rattle.surt_key.specs.Key.{key_of as the_key_of};
 ghost use Rattle.timemap.specs.LinkList.{timemap_text};
 
 use crate::answer::Answer;
 use crate::heads::asks_for_head;
 use crate::refusing::refused;
-use crate::seeking::key_at;
 use crate::visit::Visit;
 use archive_shelf::{Shelf, leading_books_grow};
 use capture::{Bytes, Memory, Refusal, put_all};
 use cdxj_index::Entry;
 use exchange::{put_close_line, put_length_line, put_line_end};
 use std::alloc::Global;
+use surt_key::KeyedUrl;
 use timemap::body;
 
 /// More than the head of such an answer.
@@ -32,9 +32,10 @@ pub fn visit_map<S: Shelf>(
     alloc: Global,
     shelf: &mut S,
     visit: Visit,
-    url: &[u8],
+    of: &KeyedUrl,
 ) -> Result<Answer, Memory>
-    requires asks { Asks (record { message = visit.message.now; address = visit.address.now }) (TheMap url.now) }
+    requires asks { Asks (record { message = visit.message.now; address = visit.address.now }) (TheMap of.now.url) }
+    requires keyed { HasKey of.now }
     ensures answers { (clock_tells : Bool) → AnswersVisit S.Finder (record { site = visit.entry.site.now; clock_tells = clock_tells })
         (record { message = visit.entry.message.now; address = visit.entry.address.now }) visit.entry.closes result shelf.old shelf.new }
     ensures closes { IfOk result (λ answer. answer.closes ≡ visit.entry.closes) }
@@ -42,25 +43,24 @@ pub fn visit_map<S: Shelf>(
 {
     leading_books_grow();
     let answers_head = asks_for_head(&visit.message.head);
-    match all_of(alloc, shelf, url) {
+    match all_of(alloc, shelf, of) {
         Ok(entries) => {
             if entries.is_empty() {
                 return refused(alloc, Refusal::NoCapture, answers_head, visit.closes);
             }
-            list(alloc, visit, url, entries.as_slice())
+            list(alloc, visit, of.url.as_slice(), entries.as_slice())
         }
         Err(Memory) => Err(Memory),
     }
 }
 
 /// All entries of a URL's key, in order of their dates.
-fn all_of<S: Shelf>(alloc: Global, shelf: &mut S, url: &[u8]) -> Result<Vec<Entry>, Memory>
-    requires keyed { IsSome (the_key_of url.now) }
-    ensures found { IfOk result (λ entries. FindsAll S.Finder shelf.new url.now entries.items) }
+fn all_of<S: Shelf>(alloc: Global, shelf: &mut S, of: &KeyedUrl) -> Result<Vec<Entry>, Memory>
+    requires keyed { HasKey of.now }
+    ensures found { IfOk result (λ entries. FindsAll S.Finder shelf.new of.now.url entries.items) }
     ensures looks { LooksOn S.Finder shelf.old shelf.new }
 {
-    let key = key_at(alloc, url)?;
-    shelf.map(alloc, &key)
+    shelf.map(alloc, &of.key)
 }
 
 /// The answer that lists entries, where `url` was asked for.

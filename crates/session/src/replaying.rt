@@ -3,7 +3,8 @@ ghost use Rattle.std.specs.Prelude.{◌≡◌, Bool, IfOk};
 ghost use Rattle.archive_shelf.specs.Answers.{IsReplayable};
 ghost use Rattle.capture.specs.Methods.{asks_for_head as is_head};
 ghost use Rattle.replay_answer.specs.Mementos.{IsMemento};
-ghost use Rattle.replay_url.specs.declared.form.Form.TheVariants.{Memento as TheMemento, Number as TheNumber};
+ghost use Rattle.replay_url.specs.Questions.{by_memento};
+ghost use Rattle.replay_url.specs.declared.form.Form.TheVariants.{Number as TheNumber};
 ghost use Rattle.session.specs.Answering.{AnswersVisit};
 ghost use Rattle.session.specs.Looking.{FindsJust, LooksOn};
 ghost use Rattle.session.specs.Shelving.{GoesOn};
@@ -76,7 +77,7 @@ pub fn replay_found<S: Shelf>(
     number: u32,
 ) -> Result<Answer, Memory>
     requires found { FindsJust S.Finder shelf.old (record { message = visit.message.now; address = visit.address.now })
-        (TheMemento sought.time sought.digits sought.raw sought.url.now) number }
+        (by_memento sought.time sought.digits sought.raw sought.of.now.url) number }
     ensures answers { (clock_tells : Bool) (was : S) → LooksOn S.Finder was shelf.old
         → AnswersVisit S.Finder (record { site = visit.entry.site.now; clock_tells = clock_tells })
         (record { message = visit.entry.message.now; address = visit.entry.address.now }) visit.entry.closes result was shelf.new }

@@ -1,15 +1,16 @@
 //! Answers requests to the site for a capture by its date (RFC 7089, sections 4 and 4.1.1).
-ghost use Rattle.std.specs.Prelude.{◌≡◌, Bool, true, Some, IfOk, IsSome, MatchResult, codes, map, slice_get};
+ghost use Rattle.std.specs.Prelude.{◌≡◌, Bool, true, Some, IfOk, MatchResult, codes, map, slice_get};
 ghost use Rattle.capture.specs.Fields.{values_of};
 ghost use Rattle.http_head.specs.Heads.{named_value};
 ghost use Rattle.replay_url.specs.Forms.{IsForm};
+ghost use Rattle.replay_url.specs.Keyed.{HasKey};
+ghost use Rattle.replay_url.specs.Questions.{names_date};
 ghost use Rattle.replay_url.specs.declared.form.Form.TheVariants.{Gate as TheGate, Memento as TheMemento};
 ghost use Rattle.session.specs.Answering.{AnswersVisit};
 ghost use Rattle.session.specs.Looking.{FindsNearest, LooksOn};
 ghost use Rattle.session.specs.Shelving.{GoesOn};
 ghost use Rattle.session.specs.SiteAnswers as spec;
 ghost use Rattle.session.specs.SiteAnswers.{Asks, IsGateTime, NamesNoTime};
-ghost use Rattle.surt_key.specs.Key.{key_of as the_key_of};
 ghost use Rattle.timegate.specs.Redirect.{redirect_text};
 
 use crate::answer::Answer;
@@ -22,7 +23,7 @@ use capture::{Memory, Refusal, growth_keeps_captures};
 use cdxj_index::Entry;
 use http_head::{Field, first_value};
 use std::alloc::Global;
-use surt_key::{Key, KeyFault, key_of};
+use surt_key::KeyedUrl;
 use time_text::{LATEST, NotATime, read_http};
 use timegate::redirect;
 
@@ -32,10 +33,11 @@ pub fn visit_gate<S: Shelf>(
     alloc: Global,
     shelf: &mut S,
     visit: Visit,
-    url: &[u8],
+    of: &KeyedUrl,
 ) -> Result<Answer, Memory>
     requires method { spec.serves_method visit.message.now.head.method ≡ true }
-    requires form { IsForm visit.address.now (TheGate url.now) }
+    requires form { IsForm visit.address.now (TheGate of.now.url) }
+    requires keyed { HasKey of.now }
     ensures answers { (clock_tells : Bool) → AnswersVisit S.Finder (record { site = visit.entry.site.now; clock_tells = clock_tells })
         (record { message = visit.entry.message.now; address = visit.entry.address.now }) visit.entry.closes result shelf.old shelf.new }
     ensures closes { IfOk result (λ answer. answer.closes ≡ visit.entry.closes) }
@@ -44,7 +46,7 @@ pub fn visit_gate<S: Shelf>(
     leading_books_grow();
     growth_keeps_captures();
     match gate_time(visit.message.head.fields.as_slice()) {
-        Ok(time) => open_gate(alloc, shelf, visit, url, time),
+        Ok(time) => redirect_to_nearest(alloc, shelf, visit, of, time),
         Err(NotATime) => refused(
             alloc,
             Refusal::BadAcceptDatetime,
@@ -55,14 +57,15 @@ pub fn visit_gate<S: Shelf>(
 }
 
 /// Answers a gate by a redirect to the capture that is nearest to a time.
-fn open_gate<S: Shelf>(
+fn redirect_to_nearest<S: Shelf>(
     alloc: Global,
     shelf: &mut S,
     visit: Visit,
-    url: &[u8],
+    of: &KeyedUrl,
     time: u64,
 ) -> Result<Answer, Memory>
-    requires asks { Asks (record { message = visit.message.now; address = visit.address.now }) (TheGate url.now) }
+    requires asks { Asks (record { message = visit.message.now; address = visit.address.now }) (TheGate of.now.url) }
+    requires keyed { HasKey of.now }
     requires timed { IsGateTime (spec.date_field (record { message = visit.message.now; address = visit.address.now })) time }
     ensures answers { (clock_tells : Bool) → AnswersVisit S.Finder (record { site = visit.entry.site.now; clock_tells = clock_tells })
         (record { message = visit.entry.message.now; address = visit.entry.address.now }) visit.entry.closes result shelf.old shelf.new }
@@ -71,8 +74,8 @@ fn open_gate<S: Shelf>(
 {
     leading_books_grow();
     let answers_head = asks_for_head(&visit.message.head);
-    match seek(alloc, shelf, url, time) {
-        Ok(Some(entry)) => lead_to(alloc, visit, url, &entry, false, true),
+    match seek(alloc, shelf, of, time) {
+        Ok(Some(entry)) => lead_to(alloc, visit, of.url.as_slice(), &entry, false, true),
         Ok(None) => refused(alloc, Refusal::NoCapture, answers_head, visit.closes),
         Err(Memory) => Err(Memory),
     }
@@ -86,7 +89,8 @@ pub fn visit_memento<S: Shelf>(
     visit: Visit,
     sought: Sought,
 ) -> Result<Answer, Memory>
-    requires asks { Asks (record { message = visit.message.now; address = visit.address.now }) (TheMemento sought.time sought.digits sought.raw sought.url.now) }
+    requires asks { Asks (record { message = visit.message.now; address = visit.address.now }) (TheMemento sought.time sought.digits sought.raw sought.of.now.url) }
+    requires keyed { HasKey sought.of.now }
     ensures answers { (clock_tells : Bool) → AnswersVisit S.Finder (record { site = visit.entry.site.now; clock_tells = clock_tells })
         (record { message = visit.entry.message.now; address = visit.entry.address.now }) visit.entry.closes result shelf.old shelf.new }
     ensures closes { IfOk result (λ answer. answer.closes ≡ visit.entry.closes) }
@@ -95,12 +99,19 @@ pub fn visit_memento<S: Shelf>(
     leading_books_grow();
     growth_keeps_captures();
     let answers_head = asks_for_head(&visit.message.head);
-    match seek(alloc, shelf, sought.url, sought.time) {
+    match seek(alloc, shelf, sought.of, sought.time) {
         Ok(Some(entry)) => {
             if names_date(sought, &entry) {
                 return replay_found(alloc, shelf, visit, sought, number_of(&entry));
             }
-            lead_to(alloc, visit, sought.url, &entry, sought.raw, false)
+            lead_to(
+                alloc,
+                visit,
+                sought.of.url.as_slice(),
+                &entry,
+                sought.raw,
+                false,
+            )
         }
         Ok(None) => refused(alloc, Refusal::NoCapture, answers_head, visit.closes),
         Err(Memory) => Err(Memory),
@@ -111,32 +122,19 @@ pub fn visit_memento<S: Shelf>(
 fn seek<S: Shelf>(
     alloc: Global,
     shelf: &mut S,
-    url: &[u8],
+    of: &KeyedUrl,
     time: u64,
 ) -> Result<Option<Entry>, Memory>
-    requires keyed { IsSome (the_key_of url.now) }
-    ensures found { IfOk result (λ found. FindsNearest S.Finder shelf.new url.now time found) }
+    requires keyed { HasKey of.now }
+    ensures found { IfOk result (λ found. FindsNearest S.Finder shelf.new of.now.url time found) }
     ensures looks { LooksOn S.Finder shelf.old shelf.new }
 {
-    let key = key_at(alloc, url)?;
-    shelf.by_date(alloc, &key, time)
-}
-
-/// The key of a URL that has one.
-pub fn key_at(alloc: Global, url: &[u8]) -> Result<Key, Memory>
-    requires { IsSome (the_key_of url.now) }
-    ensures { IfOk result (λ key. the_key_of url.now ≡ Some key) }
-{
-    match key_of(alloc, url) {
-        Ok(key) => Ok(key),
-        Err(KeyFault::NotHttp) => unreachable!(),
-        Err(KeyFault::Memory) => Err(Memory),
-    }
+    shelf.by_date(alloc, &of.key, time)
 }
 
 /// Whether the address names the date of the entry, by all its digits.
 fn names_date(sought: Sought, entry: &Entry) -> bool
-    ensures { result ≡ spec.names_date (TheMemento sought.entry.time sought.entry.digits sought.entry.raw sought.entry.url.now) entry.now.date }
+    ensures { result ≡ names_date (Some (record { time = sought.entry.time; digits = sought.entry.digits })) entry.now.date }
 {
     (sought.digits == 14 || sought.digits == 17) && sought.time == entry.date
 }

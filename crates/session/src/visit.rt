@@ -1,6 +1,7 @@
 //! What is asked of the archive's own site.
 use capture::Site;
 use http_wire::RequestMessage;
+use surt_key::KeyedUrl;
 
 /// A request to the site.
 #[derive(Clone, Copy, Debug)]
@@ -24,6 +25,6 @@ pub struct Sought<'a> {
     pub digits: usize,
     /// Whether the capture is asked for as it was received.
     pub raw: bool,
-    /// The URL, with its scheme.
-    pub url: &'a [u8],
+    /// The URL, with its scheme and its key.
+    pub of: &'a KeyedUrl,
 }

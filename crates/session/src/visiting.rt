@@ -1,6 +1,7 @@
 //! Answers requests to the archive's own site (RFC 7089).
 ghost use Rattle.std.specs.Prelude.{◌≡◌, Bool, true, IfOk};
 ghost use Rattle.replay_url.specs.Forms.{IsForm};
+ghost use Rattle.replay_url.specs.Keyed.{HasKeys, form_of};
 ghost use Rattle.session.specs.Answering.{AnswersVisit};
 ghost use Rattle.session.specs.Shelving.{GoesOn};
 ghost use Rattle.session.specs.SiteAnswers as spec;
@@ -15,7 +16,7 @@ use crate::visit::{Sought, Visit};
 use archive_shelf::{Shelf, leading_books_grow};
 use capture::{Memory, Refusal, growth_keeps_captures};
 use http_wire::RequestMessage;
-use replay_url::{Form, FormFault, read_form};
+use replay_url::{FormFault, KeyedForm, read_keyed_form};
 use std::alloc::Global;
 
 /// Answers a request to the site by what the archive holds.
@@ -31,7 +32,7 @@ pub fn answer_visit<S: Shelf>(alloc: Global, shelf: &mut S, visit: Visit) -> Res
     if !serves(visit.message) {
         return refused(alloc, Refusal::MethodRefused, answers_head, visit.closes);
     }
-    match read_form(alloc, visit.address) {
+    match read_keyed_form(alloc, visit.address) {
         Ok(form) => visit_form(alloc, shelf, visit, &form),
         Err(FormFault::NotAForm) => refused(alloc, Refusal::NotAForm, answers_head, visit.closes),
         Err(FormFault::BadTime) => refused(alloc, Refusal::BadTime, answers_head, visit.closes),
@@ -51,22 +52,23 @@ fn visit_form<S: Shelf>(
     alloc: Global,
     shelf: &mut S,
     visit: Visit,
-    form: &Form,
+    form: &KeyedForm,
 ) -> Result<Answer, Memory>
     requires method { spec.serves_method visit.message.now.head.method ≡ true }
-    requires form { IsForm visit.address.now form.now }
+    requires form { IsForm visit.address.now (form_of form.now) }
+    requires keys { HasKeys form.now }
     ensures answers { (clock_tells : Bool) → AnswersVisit S.Finder (record { site = visit.entry.site.now; clock_tells = clock_tells })
         (record { message = visit.entry.message.now; address = visit.entry.address.now }) visit.entry.closes result shelf.old shelf.new }
     ensures closes { IfOk result (λ answer. answer.closes ≡ visit.entry.closes) }
     ensures goes_on { GoesOn S.Finder shelf.old shelf.new }
 {
     match form {
-        Form::Number(number) => replay_number(alloc, shelf, visit, *number),
-        Form::Memento {
+        KeyedForm::Number(number) => replay_number(alloc, shelf, visit, *number),
+        KeyedForm::Memento {
             time,
             digits,
             raw,
-            url,
+            of,
         } => visit_memento(
             alloc,
             shelf,
@@ -75,10 +77,10 @@ fn visit_form<S: Shelf>(
                 time: *time,
                 digits: *digits,
                 raw: *raw,
-                url: url.as_slice(),
+                of,
             },
         ),
-        Form::Gate { url } => visit_gate(alloc, shelf, visit, url.as_slice()),
-        Form::Map { url } => visit_map(alloc, shelf, visit, url.as_slice()),
+        KeyedForm::Gate { of } => visit_gate(alloc, shelf, visit, of),
+        KeyedForm::Map { of } => visit_map(alloc, shelf, visit, of),
     }
 }

@@ -1,7 +1,7 @@
 -- What was brought, or wasn't.
 use Rattle.std.proofs.Common.{true, false, refl}
 use Rattle.capture.specs.declared.refusal.Refusal.TheVariants.{NoSuch, DiskFault, Damaged}
-use Rattle.replay_url.specs.declared.form.Form.TheVariants.{Number}
+use Rattle.replay_url.specs.Questions.{ForNumber}
 use Rattle.session.specs.SiteAnswers.{Refuses, Replays}
 use Rattle.session.proofs.VisitLaws.{bring_answers, bring_lacking, number_replayed, refusal_is, same_told, told_damaged}
 use Rattle.session.proofs.replaying.replay_number.Goals as goal
@@ -10,7 +10,7 @@ pub returns-in-Ok-clause-answers : goal.returns-in-Ok-clause-answers
 returns-in-Ok-clause-answers g c clock_tells =
     bring_answers g.S.Finder (record { site = c.args.visit.site.now; clock_tells = clock_tells })
     (record { message = c.args.visit.message.now; address = c.args.visit.address.now })
-    (Replays (Number c.args.number) c.in-Ok.brought) c.args.visit.closes false c.replay.result c.args.shelf.now c.bring.new.self
+    (Replays (ForNumber c.args.number) c.in-Ok.brought) c.args.visit.closes false c.replay.result c.args.shelf.now c.bring.new.self
     g.met.S.Finder.earlier c.leading_books_grow.ensures.grows
     (record { stays = c.in-Ok.ensures.stays; consistent = c.in-Ok.ensures.consistent; reading = c.in-Ok.ensures.reading; faults = c.in-Ok.ensures.faults; later = c.in-Ok.ensures.later; moves = c.in-Ok.ensures.moves; covered = c.in-Ok.ensures.covered }) refl refl
     (λ lacked faults. number_replayed _ (record { message = c.args.visit.message.now; address = c.args.visit.address.now }) c.args.number c.in-Ok.brought (g.S.Finder.contents c.bring.new.self) faults
@@ -38,7 +38,7 @@ returns-in-Err-DiskFault-clause-answers g c clock_tells =
     (Refuses DiskFault) c.args.visit.closes true c.refused-in-Err-DiskFault.result c.args.shelf.now c.bring.new.self
     g.met.S.Finder.earlier c.leading_books_grow.ensures.grows
     (record { stays = c.in-Err-DiskFault.ensures.stays; consistent = c.in-Err-DiskFault.ensures.consistent; reading = c.in-Err-DiskFault.ensures.reading; faults = (rw c.in-Err-DiskFault.field-0-is at c.in-Err-DiskFault.ensures.faults); later = c.in-Err-DiskFault.ensures.later; moves = c.in-Err-DiskFault.ensures.moves; covered = c.in-Err-DiskFault.ensures.covered }) refl refl
-    (λ lacked faults. (Number c.args.number, c.args.number, record { wanted = (c.requires.asks, refl); there = brings }))
+    (λ lacked faults. (ForNumber c.args.number, c.args.number, record { wanted = (c.requires.asks, refl); there = brings }))
     (refusal_is c.refused-in-Err-DiskFault.result DiskFault c.asks_for_head-answers_head.result _ c.args.visit.closes c.asks_for_head-answers_head.ensures c.refused-in-Err-DiskFault.ensures.text)
     c.refused-in-Err-DiskFault.ensures.closes
 
@@ -51,7 +51,7 @@ returns-in-Err-Damaged-clause-answers g c clock_tells =
     g.met.S.Finder.earlier c.leading_books_grow.ensures.grows
     (record { stays = c.in-Err-Damaged.ensures.stays; consistent = c.in-Err-Damaged.ensures.consistent; reading = c.in-Err-Damaged.ensures.reading; faults = (rw c.in-Err-Damaged.field-0-is at c.in-Err-Damaged.ensures.faults); later = c.in-Err-Damaged.ensures.later; moves = c.in-Err-Damaged.ensures.moves; covered = c.in-Err-Damaged.ensures.covered }) refl refl
     (λ lacked faults. (
-      Number c.args.number,
+      ForNumber c.args.number,
       c.args.number,
       record { wanted = (c.requires.asks, refl); there = brings.0 },
       brings.2,

@@ -1,28 +1,25 @@
 -- The capture that a gate leads to, or that there is none.
 use Rattle.std.proofs.Common.{refl}
 use Rattle.capture.specs.declared.refusal.Refusal.TheVariants.{NoCapture}
+use Rattle.replay_url.specs.Questions.{by_gate}
 use Rattle.replay_url.specs.declared.form.Form.TheVariants.{Gate}
 use Rattle.session.specs.SiteAnswers.{Refuses, Redirects}
-use Rattle.session.proofs.FoundLaws.{gate_keyed}
 use Rattle.session.proofs.LookLaws.{look_lacking, looked_answers, looked_on}
 use Rattle.session.proofs.VisitLaws.{refusal_is}
-use Rattle.session.proofs.seeking.open_gate.Goals as goal
-
-pub seek-requires : goal.seek-requires
-seek-requires g c = record { keyed = gate_keyed _ c.args.url.now c.requires.asks.is }
+use Rattle.session.proofs.seeking.redirect_to_nearest.Goals as goal
 
 pub returns-in-Ok-Some-clause-answers : goal.returns-in-Ok-Some-clause-answers
 returns-in-Ok-Some-clause-answers g c clock_tells =
     let found = rw c.in-Ok-Some.field-0-is at c.in-Ok-Some.ensures.found in
     looked_answers g.S.Finder (record { site = c.args.visit.site.now; clock_tells = clock_tells })
     (record { message = c.args.visit.message.now; address = c.args.visit.address.now })
-    (Redirects (Gate c.args.url.now) c.in-Ok-Some.entry) c.args.visit.closes c.lead_to.result c.args.shelf.now c.seek.new.shelf
+    (Redirects (by_gate c.args.of.now.url) c.in-Ok-Some.entry) c.args.visit.closes c.lead_to.result c.args.shelf.now c.seek.new.shelf
     g.met.S.Finder.earlier c.leading_books_grow.ensures.itself c.leading_books_grow.ensures.grows c.seek.ensures.looks found.knows refl
     (λ lacked faults. record {
-      reaches = record { asks = c.requires.asks; key = found.key; keyed = found.keyed; sought = c.args.time; timed = c.requires.timed; nearest = found.nearest };
+      reaches = record { form = Gate c.args.of.now.url; asks = c.requires.asks; asked = refl; key = found.key; keyed = found.keyed; time = c.args.time; timed = c.requires.timed; nearest = found.nearest };
       other = refl;
     })
-    c.lead_to.ensures.text c.lead_to.ensures.closes
+    (rw c.as_slice.ensures.value at c.lead_to.ensures.text) c.lead_to.ensures.closes
 
 pub returns-in-Ok-None-clause-answers : goal.returns-in-Ok-None-clause-answers
 returns-in-Ok-None-clause-answers g c clock_tells =
@@ -31,7 +28,7 @@ returns-in-Ok-None-clause-answers g c clock_tells =
     (record { message = c.args.visit.message.now; address = c.args.visit.address.now })
     (Refuses NoCapture) c.args.visit.closes c.refused.result c.args.shelf.now c.seek.new.shelf
     g.met.S.Finder.earlier c.leading_books_grow.ensures.itself c.leading_books_grow.ensures.grows c.seek.ensures.looks found.knows refl
-    (λ lacked faults. record { form = Gate c.args.url.now; asks = c.requires.asks; key = found.key; keyed = found.keyed; none = found.nearest })
+    (λ lacked faults. record { form = Gate c.args.of.now.url; asks = c.requires.asks; url = c.args.of.now.url; asked = refl; key = found.key; keyed = found.keyed; none = found.nearest })
     (refusal_is c.refused.result NoCapture c.asks_for_head-answers_head.result _ c.args.visit.closes c.asks_for_head-answers_head.ensures c.refused.ensures.text)
     c.refused.ensures.closes
 

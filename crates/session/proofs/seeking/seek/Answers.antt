@@ -1,13 +1,10 @@
--- The key was made, or wasn't.
-use Rattle.session.proofs.LookLaws.{looks_itself, nearest_found}
+-- What a look by date tells.
+use Rattle.session.proofs.LookLaws.{nearest_found}
 use Rattle.session.proofs.seeking.seek.Goals as goal
-
-pub returns-in_err-key-clause-looks : goal.returns-in_err-key-clause-looks
-returns-in_err-key-clause-looks g c = looks_itself g.S.Finder c.args.shelf.now
 
 pub returns-clause-found : goal.returns-clause-found
 returns-clause-found g c =
-    nearest_found g.S.Finder c.by_date.new.self c.args.url.now c.in_ok-key.key c.args.time c.by_date.result c.in_ok-key.ensures c.by_date.ensures.found c.by_date.ensures.shows
+    nearest_found g.S.Finder c.by_date.new.self c.args.of.now.url c.args.of.now.key c.args.time c.by_date.result c.requires.keyed c.by_date.ensures.found c.by_date.ensures.shows
 
 pub returns-clause-looks : goal.returns-clause-looks
 returns-clause-looks g c = record {

@@ -9,5 +9,5 @@ returns-in-Err-clause-answers g c clock_tells =
     refusal_answers g.S.Finder (record { site = c.args.visit.site.now; clock_tells = clock_tells })
     (record { message = c.args.visit.message.now; address = c.args.visit.address.now }) BadAcceptDatetime c.asks_for_head.result c.args.visit.closes
     c.refused.result c.args.shelf.now g.met.S.Finder.earlier c.leading_books_grow.ensures.itself c.growth_keeps_captures.ensures.itself
-    c.asks_for_head.ensures refl refl (λ lacked faults. (c.requires.method, (c.args.url.now, c.requires.form), rw c.as_slice.ensures at c.in-Err.ensures))
+    c.asks_for_head.ensures refl refl (λ lacked faults. (c.requires.method, (c.args.of.now.url, c.requires.form), rw c.as_slice.ensures at c.in-Err.ensures))
     c.refused.ensures.text c.refused.ensures.closes

@@ -1,16 +1,14 @@
 -- The capture that an address leads to or names, or that there is none.
-use Rattle.std.proofs.Common.{refl}
+use Rattle.std.proofs.Common.{Some, refl}
 use Rattle.capture.specs.declared.refusal.Refusal.TheVariants.{NoCapture}
+use Rattle.replay_url.specs.Questions.{by_memento, names_date}
 use Rattle.replay_url.specs.declared.form.Form.TheVariants.{Memento}
-use Rattle.session.specs.SiteAnswers.{Refuses, Redirects, names_date}
-use Rattle.session.proofs.FoundLaws.{by_test, memento_keyed}
+use Rattle.session.specs.SiteAnswers.{Refuses, Redirects}
+use Rattle.session.proofs.FoundLaws.{by_test}
 use Rattle.session.proofs.LookLaws.{look_lacking, looked_answers, looked_on}
 use Rattle.session.proofs.StoreLaws.{goes_on_both}
 use Rattle.session.proofs.VisitLaws.{refusal_is}
 use Rattle.session.proofs.seeking.visit_memento.Goals as goal
-
-pub seek-requires : goal.seek-requires
-seek-requires g c = record { keyed = memento_keyed _ c.args.sought.time c.args.sought.digits c.args.sought.raw c.args.sought.url.now c.requires.asks.is }
 
 pub replay_found-requires : goal.replay_found-requires
 replay_found-requires g c =
@@ -19,8 +17,8 @@ replay_found-requires g c =
       found = record {
         reaches = record {
           entry = c.in-Ok-Some.entry;
-          reaches = record { asks = c.requires.asks; key = found.key; keyed = found.keyed; sought = c.args.sought.time; timed = refl; nearest = found.nearest };
-          named = by_test c.names_date.result (names_date (Memento c.args.sought.time c.args.sought.digits c.args.sought.raw c.args.sought.url.now) c.in-Ok-Some.entry.date) c.names_date.ensures c.if-names_date.true;
+          reaches = record { form = Memento c.args.sought.time c.args.sought.digits c.args.sought.raw c.args.sought.of.now.url; asks = c.requires.asks; asked = refl; key = found.key; keyed = found.keyed; time = c.args.sought.time; timed = refl; nearest = found.nearest };
+          named = by_test c.names_date.result (names_date (Some (record { time = c.args.sought.time; digits = c.args.sought.digits })) c.in-Ok-Some.entry.date) c.names_date.ensures c.if-names_date.true;
           number_is = c.number_of.ensures;
         };
         knows = found.knows;
@@ -41,13 +39,13 @@ returns-else-names_date-clause-answers g c clock_tells =
     let found = rw c.in-Ok-Some.field-0-is at c.in-Ok-Some.ensures.found in
     looked_answers g.S.Finder (record { site = c.args.visit.site.now; clock_tells = clock_tells })
     (record { message = c.args.visit.message.now; address = c.args.visit.address.now })
-    (Redirects (Memento c.args.sought.time c.args.sought.digits c.args.sought.raw c.args.sought.url.now) c.in-Ok-Some.entry) c.args.visit.closes c.lead_to.result c.args.shelf.now c.seek.new.shelf
+    (Redirects (by_memento c.args.sought.time c.args.sought.digits c.args.sought.raw c.args.sought.of.now.url) c.in-Ok-Some.entry) c.args.visit.closes c.lead_to.result c.args.shelf.now c.seek.new.shelf
     g.met.S.Finder.earlier c.leading_books_grow.ensures.itself c.leading_books_grow.ensures.grows c.seek.ensures.looks found.knows refl
     (λ lacked faults. record {
-      reaches = record { asks = c.requires.asks; key = found.key; keyed = found.keyed; sought = c.args.sought.time; timed = refl; nearest = found.nearest };
-      other = by_test c.names_date.result (names_date (Memento c.args.sought.time c.args.sought.digits c.args.sought.raw c.args.sought.url.now) c.in-Ok-Some.entry.date) c.names_date.ensures c.if-names_date.false;
+      reaches = record { form = Memento c.args.sought.time c.args.sought.digits c.args.sought.raw c.args.sought.of.now.url; asks = c.requires.asks; asked = refl; key = found.key; keyed = found.keyed; time = c.args.sought.time; timed = refl; nearest = found.nearest };
+      other = by_test c.names_date.result (names_date (Some (record { time = c.args.sought.time; digits = c.args.sought.digits })) c.in-Ok-Some.entry.date) c.names_date.ensures c.if-names_date.false;
     })
-    c.lead_to.ensures.text c.lead_to.ensures.closes
+    (rw c.as_slice.ensures.value at c.lead_to.ensures.text) c.lead_to.ensures.closes
 
 pub returns-in-Ok-None-clause-answers : goal.returns-in-Ok-None-clause-answers
 returns-in-Ok-None-clause-answers g c clock_tells =
@@ -56,7 +54,7 @@ returns-in-Ok-None-clause-answers g c clock_tells =
     (record { message = c.args.visit.message.now; address = c.args.visit.address.now })
     (Refuses NoCapture) c.args.visit.closes c.refused.result c.args.shelf.now c.seek.new.shelf
     g.met.S.Finder.earlier c.leading_books_grow.ensures.itself c.leading_books_grow.ensures.grows c.seek.ensures.looks found.knows refl
-    (λ lacked faults. record { form = (Memento c.args.sought.time c.args.sought.digits c.args.sought.raw c.args.sought.url.now); asks = c.requires.asks; key = found.key; keyed = found.keyed; none = found.nearest })
+    (λ lacked faults. record { form = Memento c.args.sought.time c.args.sought.digits c.args.sought.raw c.args.sought.of.now.url; asks = c.requires.asks; url = c.args.sought.of.now.url; asked = refl; key = found.key; keyed = found.keyed; none = found.nearest })
     (refusal_is c.refused.result NoCapture c.asks_for_head-answers_head.result _ c.args.visit.closes c.asks_for_head-answers_head.ensures c.refused.ensures.text)
     c.refused.ensures.closes
 
