@@ -13,7 +13,7 @@ const SEED: u64 = 0;
 
 /// What a client asks for over one connection: the exchanges from one number up to another.
 pub fn client(alloc: Global, from: u32, to: u32) -> Result<Vec<u8>, Memory> {
-    Ok(load_maker::client(alloc, from, to)?.into_vec())
+    bytes_of(alloc, &load_maker::client(alloc, from, to)?)
 }
 
 /// The links to the origins of these exchanges.
@@ -22,8 +22,8 @@ pub fn origins(alloc: Global, from: u32, to: u32) -> Result<Vec<MemoryLink>, Mem
 {
     let mut links = Vec::new(alloc);
     for i in from..to {
-        let response = origin(alloc, SEED, i)?;
-        links.push(MemoryLink::new(alloc, response.into_vec(), Vec::new(alloc)))?;
+        let response = bytes_of(alloc, &origin(alloc, SEED, i)?)?;
+        links.push(MemoryLink::new(alloc, response, Vec::new(alloc)))?;
     }
     Ok(links)
 }
@@ -48,7 +48,7 @@ pub fn taken(alloc: Global, i: u32) -> Result<Taken, Memory>
     let payload = payload(alloc, SEED, i)?;
     Ok(Taken {
         method: Text::from_str(alloc, "GET")?,
-        uri: text_of(uri(alloc, i)?)?,
+        uri: text_of(alloc, &uri(alloc, i)?)?,
         date: date(i),
         request: Bytes::of(Vec::from_slice(alloc, request.as_bytes())?),
         head: head_of(alloc, i, payload.as_slice().len())?,
@@ -66,9 +66,14 @@ fn head_of(alloc: Global, i: u32, payload: usize) -> Result<Bytes, Memory> {
 }
 
 /// A URL is a text.
-fn text_of(url: Bytes) -> Result<Text, Memory> {
-    match Text::of(url.into_vec()) {
+fn text_of(alloc: Global, url: &Bytes) -> Result<Text, Memory> {
+    match Text::of(bytes_of(alloc, url)?) {
         Some(text) => Ok(text),
         None => Err(Memory),
     }
+}
+
+/// The same bytes, as a list.
+fn bytes_of(alloc: Global, text: &Bytes) -> Result<Vec<u8>, Memory> {
+    Ok(Vec::from_slice(alloc, text.as_slice())?)
 }

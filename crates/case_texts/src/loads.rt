@@ -1,6 +1,6 @@
 //! Calls of `load_maker`.
-use crate::words::{always, number};
-use capture::Memory;
+use crate::words::{always, number, told};
+use capture::{Bytes, Memory};
 use case_language::{number_in, split_word};
 use load_maker::{client, date, origin, payload, uri};
 use std::alloc::Global;
@@ -12,13 +12,18 @@ fn numbers_in(text: &[u8]) -> Option<(u64, u32)> {
     Some((number_in(first.as_bytes())?, second))
 }
 
+/// A text that was made, as an answer.
+fn copied(alloc: Global, text: Bytes) -> Result<Vec<u8>, Memory> {
+    told(alloc, text.as_slice())
+}
+
 /// The requests of exchanges from one number up to another.
 pub fn client_of(alloc: Global, text: &[u8]) -> Result<Option<Vec<u8>>, Memory> {
     let Some((from, to)) = numbers_in(text) else {
         return Ok(None);
     };
     match u32::try_from(from) {
-        Ok(from) => Ok(Some(client(alloc, from, to)?.into_vec())),
+        Ok(from) => always(copied(alloc, client(alloc, from, to)?)),
         Err(_) => Ok(None),
     }
 }
@@ -26,7 +31,7 @@ pub fn client_of(alloc: Global, text: &[u8]) -> Result<Option<Vec<u8>>, Memory> 
 /// The response of an exchange's origin, behind the number of the load.
 pub fn origin_of(alloc: Global, text: &[u8]) -> Result<Option<Vec<u8>>, Memory> {
     match numbers_in(text) {
-        Some((seed, number)) => Ok(Some(origin(alloc, seed, number)?.into_vec())),
+        Some((seed, number)) => always(copied(alloc, origin(alloc, seed, number)?)),
         None => Ok(None),
     }
 }
@@ -34,7 +39,7 @@ pub fn origin_of(alloc: Global, text: &[u8]) -> Result<Option<Vec<u8>>, Memory> 
 /// The payload of an exchange, behind the number of the load.
 pub fn payload_of(alloc: Global, text: &[u8]) -> Result<Option<Vec<u8>>, Memory> {
     match numbers_in(text) {
-        Some((seed, number)) => Ok(Some(payload(alloc, seed, number)?.into_vec())),
+        Some((seed, number)) => always(copied(alloc, payload(alloc, seed, number)?)),
         None => Ok(None),
     }
 }
@@ -42,7 +47,7 @@ pub fn payload_of(alloc: Global, text: &[u8]) -> Result<Option<Vec<u8>>, Memory>
 /// The URL of an exchange.
 pub fn uri_of(alloc: Global, text: &[u8]) -> Result<Option<Vec<u8>>, Memory> {
     match exchange_in(text) {
-        Some(exchange) => Ok(Some(uri(alloc, exchange)?.into_vec())),
+        Some(exchange) => always(copied(alloc, uri(alloc, exchange)?)),
         None => Ok(None),
     }
 }
