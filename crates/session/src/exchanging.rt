@@ -20,7 +20,7 @@ use crate::heads::asks_for_head;
 use crate::laws::stored_captures_have_their_payload;
 use crate::refusing::refused;
 use archive_shelf::{Shelf, StoreFault, leading_books_grow, stored_captures_stand_behind};
-use capture::{Memory, Refusal, Taken, growth_keeps_captures};
+use capture::{Bytes, Memory, Refusal, Taken, growth_keeps_captures};
 use exchange::{
     FetchFault, Target, Window, client_text, fetch, forward_text, requests_can_be_stored,
 };
