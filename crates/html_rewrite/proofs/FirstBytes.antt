@@ -6,7 +6,7 @@ use Rattle.std.specs.List.{prefix_len}
 use Rattle.html_rewrite.specs.Bytes.{begins_with, less}
 use Rattle.html_rewrite.specs.Split.{ends_raw_text}
 
-not_here : (v : Bool) → (v ≡ true → ⊥) → v ≡ false
+pub not_here : (v : Bool) → (v ≡ true → ⊥) → v ≡ false
 not_here true none = absurd (none refl)
 not_here false none = refl
 

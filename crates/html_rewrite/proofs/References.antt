@@ -3,10 +3,7 @@ use Rattle.std.proofs.Common.{◌≡◌, ℕ, suc, ◌<◌, Bool, true, false, �
 use Rattle.std.proofs.lemmas.Bool.{false≢true}
 use Rattle.html_rewrite.specs.Bytes.{apostrophe}
 use Rattle.html_rewrite.specs.Links.{ampersand, decoded, escaped}
-
-not_here : (v : Bool) → (v ≡ true → ⊥) → v ≡ false
-not_here true none = absurd (none refl)
-not_here false none = refl
+use Rattle.html_rewrite.proofs.FirstBytes.{not_here}
 
 neither : (v w : Bool) → (v || w) ≡ false → (v ≡ false) × (w ≡ false)
 neither true w e = absurd (false≢true (sym e))
