@@ -35,7 +35,7 @@ plain_digits (c ∷ cs) all =
     let digit = digit_from_value c all.0 in
     and_from (is_plain c) (list_all is_plain cs) (plain_digit c (omega (arith, digit.0)) (omega (arith, digit.1))) (plain_digits cs all.1)
 
-plain_name : (volume : ℕ) → volume < 2 ^ 32 → list_all is_plain (file_name volume) ≡ true
+pub plain_name : (volume : ℕ) → volume < 2 ^ 32 → list_all is_plain (file_name volume) ≡ true
 plain_name volume fits =
     let numeral = decimal_is_IsNumeral volume (omega arith) in
     all_plain (codes "vol-" ++ six_digits volume) (codes ".warc")

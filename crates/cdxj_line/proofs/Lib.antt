@@ -2,6 +2,7 @@ pub mod Cuts
 pub mod Digests
 pub mod Escapes
 pub mod FileNames
+pub mod LineLengths
 pub mod Objects
 pub mod ReadNumbers
 pub mod Told

@@ -54,7 +54,7 @@ eight_members line rest =
     ++ (codes ",\"length\":" ++ (quoted (decimal line.length) ++ (codes ",\"method\":" ++ (quoted line.method ++ (codes ",\"mime\":" ++ (quoted line.mime ++ r))))))))))
     (flat_three (codes ",\"number\":") (quoted (decimal line.number)) (codes ",\"offset\":") (quoted (decimal line.offset)) (codes ",\"status\":") (quoted (decimal line.status)) rest)
 
-object_pieces : (further : Bool) (line : Line) → first_members line ++ (number_members line ++ last_members further line) ≡ object_text further line
+pub object_pieces : (further : Bool) (line : Line) → first_members line ++ (number_members line ++ last_members further line) ≡ object_text further line
 unfolding object_text last_members further_member member_text escape_byte
 object_pieces true line =
     ap (λ (r : List ℕ). first_members line ++ (number_members line ++ r))

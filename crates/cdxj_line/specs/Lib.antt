@@ -1,3 +1,4 @@
+pub mod Lengths
 pub mod Lines
 pub mod MediaType
 pub mod Parts

@@ -1,7 +1,8 @@
 //! Strings of JSON (RFC 8259, section 7), as `serde_json` writes them.
-ghost use Rattle.std.specs.Prelude.{◌≡◌, ◌++◌, ◌<◌, OnOk};
+ghost use Rattle.std.specs.Prelude.{◌≡◌, ℕ, ◌+◌, ◌++◌, ◌<◌, length, OnOk};
 ghost use Rattle.std.specs.Char.{digit_char};
 ghost use Rattle.std.specs.List.{list_all};
+ghost use Rattle.cdxj_line.specs.Lengths.{capped};
 ghost use Rattle.cdxj_line.specs.Written as spec;
 ghost use Rattle.json.specs.Print.{escape, escape_byte, escape_letter, quoted};
 
@@ -86,4 +87,38 @@ fn hex_digit(number: u8) -> u8
     } else {
         b'a' + (number - 10)
     }
+}
+
+/// A length with that of a text in quotes.
+pub(crate) fn add_quoted(len: usize, text: &[u8]) -> usize
+    ensures { (n : ℕ) → len ≡ capped n → result ≡ capped (n + length (quoted text.now)) }
+{
+    add_escaped(len.saturating_add(2), text)
+}
+
+/// A length with that of a text whose quotes, backslashes and controls are escaped.
+fn add_escaped(len: usize, text: &[u8]) -> usize
+    ensures { (n : ℕ) → len ≡ capped n → result ≡ capped (n + length (escape text.now)) }
+{
+    if is_plain(text) {
+        return len.saturating_add(text.len());
+    }
+    let mut sum = len;
+    for byte in text {
+        sum = sum.saturating_add(escaped_len(*byte));
+    }
+    sum
+}
+
+/// How many bytes stand for a byte.
+fn escaped_len(byte: u8) -> usize
+    ensures { result ≡ length (escape_byte byte) }
+{
+    if letter_of(byte) > 0 {
+        return 2;
+    }
+    if byte < 32 {
+        return 6;
+    }
+    1
 }

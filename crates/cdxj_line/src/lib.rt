@@ -6,6 +6,7 @@ mod cut;
 mod file_name;
 mod json_string;
 mod laws;
+mod length;
 mod line;
 mod line_parts;
 mod members;
@@ -18,6 +19,7 @@ pub use content_type::{REVISIT, media_type};
 pub use laws::{
     lines_are_told_by_their_texts, lines_end_at_their_line_feed, lines_end_where_they_end,
 };
+pub use length::line_len;
 pub use line::Line;
 pub use line_parts::LineParts;
 pub use object::put_object;

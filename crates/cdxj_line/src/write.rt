@@ -5,6 +5,7 @@ ghost use Rattle.cdxj_line.specs.Lines as spec;
 ghost use Rattle.cdxj_line.specs.Lines.{IsWritable};
 ghost use Rattle.cdxj_line.specs.Parts.{line_of};
 
+use crate::length::line_len;
 use crate::object::put_object;
 use crate::{Line, LineParts};
 use capture::{Bytes, Memory, put_all};
@@ -40,8 +41,9 @@ pub fn line_text(alloc: Global, line: &Line) -> Result<Bytes, Memory>
     requires { IsWritable line.now }
     ensures { IfOk result (λ text. text ≡ spec.line_text line.now) }
 {
-    let mut out = Vec::new(alloc);
-    put_line(&mut out, line)?;
+    let parts = line.parts();
+    let mut out = Vec::with_capacity(alloc, line_len(&parts))?;
+    put_parts(&mut out, &parts)?;
     Ok(Bytes::of(out))
 }
 
