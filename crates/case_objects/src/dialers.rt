@@ -14,7 +14,8 @@ use std::alloc::Global;
 
 /// What each step gave, and the transcripts of the links that were hung up.
 pub fn dialer_played(alloc: Global, given: &Given, text: &[u8]) -> Result<Option<Vec<u8>>, Memory> {
-    let links = links_of(alloc, given.texts.as_slice(), usize::MAX, given.most, &[])?;
+    let (texts, breaks) = (given.texts.as_slice(), given.breaks.as_slice());
+    let links = links_of(alloc, texts, usize::MAX, given.most, breaks)?;
     let dialer = MemoryDialer::new(alloc, links, given.fails.clone()?);
     played(alloc, dialer, text)
 }
@@ -71,7 +72,7 @@ fn put_talk(out: &mut Vec<u8>, came: Reply) -> Result<(), Memory> {
     }
 }
 
-/// Puts the host and the port, what was sent and given, and `ended` where the end was met.
+/// Puts the host and the port, what was sent and given, `ended` where the end was met, and how many calls of the link failed.
 fn put_transcript(out: &mut Vec<u8>, transcript: &Transcript) -> Result<(), Memory> {
     put_answer(out, transcript.host.as_slice())?;
     put_all(out, b" ")?;
@@ -80,7 +81,9 @@ fn put_transcript(out: &mut Vec<u8>, transcript: &Transcript) -> Result<(), Memo
     put_all(out, transcript.sent.as_slice())?;
     put_all(out, b", gave ")?;
     put_all(out, transcript.given.as_slice())?;
-    put_end(out, transcript.ended)
+    put_end(out, transcript.ended)?;
+    put_all(out, b", faults ")?;
+    put_number(out, transcript.faults)
 }
 
 /// Puts whether the end of what a link gave was met.

@@ -25,7 +25,8 @@ enum Came {
 
 /// What each step gave, and what was heard on the connections that were hung up.
 pub fn gate_played(alloc: Global, given: &Given, text: &[u8]) -> Result<Option<Vec<u8>>, Memory> {
-    let links = links_of(alloc, given.texts.as_slice(), usize::MAX, given.most, &[])?;
+    let (texts, breaks) = (given.texts.as_slice(), given.breaks.as_slice());
+    let links = links_of(alloc, texts, usize::MAX, given.most, breaks)?;
     let gate = MemoryGate::new(alloc, links, given.fails.clone()?);
     played(alloc, gate, text)
 }
@@ -88,12 +89,15 @@ fn put_came(out: &mut Vec<u8>, came: Came) -> Result<(), Memory> {
     }
 }
 
-/// Puts what a connection gave, what was written to it, `ended` where its end was met, and how many calls of it failed.
+/// Puts what a connection gave, what was written to it, `ended` where its end was met, how many calls of it failed, and how many of
+/// these were writes.
 fn put_heard(out: &mut Vec<u8>, heard: &Heard) -> Result<(), Memory> {
     put_with(out, b"heard ", heard.given.as_slice())?;
     put_all(out, b", written ")?;
     put_all(out, heard.written.as_slice())?;
     put_end(out, heard.ended)?;
     put_all(out, b", faults ")?;
-    put_number(out, heard.faults)
+    put_number(out, heard.faults)?;
+    put_all(out, b", failed writes ")?;
+    put_number(out, heard.failed_writes)
 }

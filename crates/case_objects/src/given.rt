@@ -14,6 +14,8 @@ pub struct Given {
     pub most: usize,
     /// `fails N N`: the numbers of the calls that fail, from 0.
     pub fails: Vec<u64>,
+    /// `breaks N N`: the numbers of the calls of each link that a dialer or a gate gives which fail.
+    pub breaks: Vec<u64>,
 }
 
 impl Given {
@@ -23,6 +25,7 @@ impl Given {
             texts: Vec::new(alloc),
             most: usize::MAX,
             fails: Vec::new(alloc),
+            breaks: Vec::new(alloc),
         };
         match given.take_all(alloc, text) {
             Ok(true) => Ok(Some(given)),
@@ -53,7 +56,8 @@ impl Given {
                 Ok(true)
             }
             "pieces" => Ok(self.take_most(rest)),
-            "fails" => self.take_fails(rest),
+            "fails" => take_numbers(&mut self.fails, rest),
+            "breaks" => take_numbers(&mut self.breaks, rest),
             _ => Ok(true),
         }
     }
@@ -67,16 +71,17 @@ impl Given {
             None => false,
         }
     }
+}
 
-    fn take_fails(&mut self, text: &[u8]) -> Result<bool, Memory> {
-        for word in text.split(|byte| *byte == b' ') {
-            match number_in(word) {
-                Some(number) => self.fails.push(number)?,
-                None => return Ok(false),
-            }
+/// Adds the numbers of a part, between which stands a space, to a list.
+fn take_numbers(list: &mut Vec<u64>, text: &[u8]) -> Result<bool, Memory> {
+    for word in text.split(|byte| *byte == b' ') {
+        match number_in(word) {
+            Some(number) => list.push(number)?,
+            None => return Ok(false),
         }
-        Ok(true)
     }
+    Ok(true)
 }
 
 /// Whether a part with this word says what the object is made with.
@@ -85,6 +90,7 @@ pub fn is_given(word: &str) -> bool {
         "gives" => true,
         "pieces" => true,
         "fails" => true,
+        "breaks" => true,
         _ => false,
     }
 }
