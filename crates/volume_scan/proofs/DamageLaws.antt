@@ -10,7 +10,7 @@ use Rattle.warc_text.specs.Books.{IsGroupText, joined}
 use Rattle.warc_text.specs.Growth.{SoundVolumesHaveOneText}
 use Rattle.warc_text.specs.Sound.{IsSound}
 use Rattle.warc_text.specs.StandsFor.{StandsFor}
-use Rattle.volume_scan.specs.Books.{BeginsWith, DamagedFilesStandForNoBook}
+use Rattle.volume_scan.specs.Books.{BeginsWith, DamageBehindSkippedIsOfNoBook, DamagedFilesStandForNoBook}
 use Rattle.volume_scan.specs.Damage.{GroupIsDamaged, NextIsNoVolume, TailIsFollowed}
 use Rattle.volume_scan.specs.Unread.{unread}
 use Rattle.volume_scan.specs.declared.position.Position.{Position}
@@ -97,4 +97,18 @@ damaged_stand_for_no_book one position files book file place sound stands kept e
     (⊎_elim
     (λ tail. no_followed_tail one position files book sound stands enough begins file tail.file_is place tail)
     (λ next. no_missing_volume one position files book sound stands enough begins kept file place next))
+    damaged
+
+-- where a volume was skipped nothing stands behind it in its file, and a book that goes on has the next one
+pub damage_behind_skipped : SoundVolumesHaveOneText → DamageBehindSkippedIsOfNoBook
+damage_behind_skipped one position files book file place sound stands skipped lies more damaged =
+    let none = (lies.skipped skipped).1 in
+    ⊎_elim
+    (λ group. rest_is_uncommitted (unread position files) (inl none) group.committed)
+    (⊎_elim
+    (λ tail. omega (arith, ap length none, tail.tail.some))
+    (λ next.
+    let less : file < length book.volumes = omega (arith, next.file_is, more) in
+    let is = stands.are.each file (omega (arith, less, stands.are.count)) in
+    next.none book.namespace is.volume.born _ (begins_with_info book files sound stands one file _ less is)))
     damaged

@@ -13,7 +13,7 @@ use Rattle.capture.specs.declared.captured.Kept.{Kept}
 use Rattle.capture.specs.declared.captured.Kept.TheVariants.{Wire, Same, Cut}
 use Rattle.capture.specs.declared.captured.Stored.{Stored}
 use Rattle.capture.specs.declared.captured.Taken.{Taken}
-use Rattle.warc_scan.specs.Groups.{IsAnswer, IsGroup, reference_in, unknown_number}
+use Rattle.warc_scan.specs.Groups.{HasPayloadLen, IsAnswer, IsGroup, reference_in, unknown_number}
 use Rattle.warc_scan.specs.declared.group.Group.{Group}
 use Rattle.warc_scan.specs.declared.group.Revisited.{Revisited}
 use Rattle.warc_text.specs.Books.{IsGroupText, RefersBy, same_of}
@@ -55,6 +55,18 @@ taken_by stored (Cut wire) = refl
 
 taken_found : (stored : Stored) → taken_back (as_found stored) ≡ taken_back stored
 taken_found stored = taken_by stored stored.kept
+
+-- the length of its payload
+abbrev pub len_found : Kept → List ℕ → ℕ
+len_found (Wire wire) payload = length payload
+len_found (Same number) payload = 0
+len_found (Cut wire) payload = length payload
+
+has_len : (book : Book) (stored : Stored) (kept : Kept) (payload : List ℕ) → IsPayloadBy book stored kept payload
+    → HasPayloadLen stored.method stored.head (kept_found kept) (len_found kept payload)
+has_len book stored (Wire wire) payload has = (payload, has, refl)
+has_len book stored (Same number) payload has = refl
+has_len book stored (Cut wire) payload has = (payload, has, refl)
 
 -- a block and the line ends behind it stand in a record
 block_within : (id : List ℕ) (taken : Taken) (digest : List ℕ) (same : Option Reference) → IsDigest digest
@@ -106,6 +118,7 @@ module _ (book : Book) (sound : IsSound book) where
       number = number;
       stored = as_found g.stored;
       digest = sha1 g.payload;
+      payload_len = len_found g.stored.kept g.payload;
       same = revisited_of book.namespace g.same;
       head_at = length first_text - (length block + 4);
       body_at = length first_text - (length block + 4) + length g.stored.head;
@@ -124,6 +137,7 @@ module _ (book : Book) (sound : IsSound book) where
           date = date_at number g.stored g.placed;
           request = well.request;
           answer = answer_found number g.stored g.stored.kept g.same g.payload well.kept g.refers g.payload_is;
+          payload_len = has_len book g.stored g.stored.kept g.payload g.payload_is;
           places = record {
             len = refl;
             first_len = refl;

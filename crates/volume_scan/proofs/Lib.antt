@@ -1,3 +1,4 @@
+mod Beside
 mod BookLaws
 mod DamageLaws
 mod EndLaws
@@ -5,6 +6,7 @@ pub mod FoundGroups
 pub mod FoundTexts
 mod GoingOn
 mod Judging
+mod NoGroups
 mod Parts
 mod Places
 mod Refused

@@ -82,6 +82,13 @@ DamagedFilesStandForNoBook =
     → BeginsWith book (texts_in position.extent files) position.namespace position.captures
     → ¬ (IsDamagedAt position files file place)
 
+-- and where they stand for no sound book that goes on behind the volume whose rest was skipped
+abbrev pub DamageBehindSkippedIsOfNoBook : Type 0
+DamageBehindSkippedIsOfNoBook =
+    (position : Position) (files : List (List ℕ)) (book : Book) (file place : ℕ) → IsSound book → StandsFor files book
+    → position.stage ≡ Skipped → LiesIn position files → position.extent.volumes < length book.volumes
+    → ¬ (IsDamagedAt position files file place)
+
 -- a book that begins with what was read, for which files stand that hold just that, has no more: neither volumes nor captures
 abbrev pub BooksEndWithWhatWasRead : Type 0
 BooksEndWithWhatWasRead =

@@ -1,9 +1,11 @@
 -- What a scan of the volumes has read, and what its steps answer.
 use Rattle.std.specs.Prelude.{◌≡◌, ◌≢◌, ◌<◌, ◌≤◌, ℕ, ◌+◌, false, IsTrue, List, [], ◌∷◌, ◌++◌, length, Result, IfErr, OnOk, ⊤}
 use Rattle.capture.specs.Faults.{Rose}
+use Rattle.disk_model.specs.Crash.{Leaves}
 use Rattle.disk_model.specs.declared.disk.Disk.{Ghosts}
 use Rattle.uuid.specs.Parts.{zero_bytes}
 use Rattle.warc_journal.specs.Extents.{AreVolumesSynced, IsFound, texts_in, warc_files}
+use Rattle.warc_journal.specs.Laws.{HasWarcOf}
 use Rattle.warc_journal.specs.Texts.{Hold, with_more}
 use Rattle.warc_journal.specs.declared.extent.Further.TheVariants.{Absent}
 use Rattle.warc_journal.specs.declared.place.Place.{Place}
@@ -84,6 +86,13 @@ pub record Stands {D : Type 0} (d : Ghosts D) (scanning : Scanning D) : Type 0 w
 pub record IsInPlace {D : Type 0} (d : Ghosts D) (scanning : Scanning D) : Type 0 where
   pub inside : IsInside (window_of scanning)
   pub stands : IsTrue d.tells → Stands d scanning
+
+-- where work on files of another kind leaves the Warc files, as a read gives them and in each image, a scan stands on its disk
+abbrev pub ScansStayBesideOtherWork : {D : Type 0} → Ghosts D → Type 0
+ScansStayBesideOtherWork {D} d =
+    (old : Scanning D) (disk : D) → (IsTrue d.tells → warc_files (d.reading disk) ≡ warc_files (d.reading (disk_of old)))
+    → (IsTrue d.tells → Leaves (d.images disk) (HasWarcOf (d.images (disk_of old)))) → IsInPlace d old
+    → IsInPlace d (record old { disk = disk })
 
 -- ---- what a step answers
 

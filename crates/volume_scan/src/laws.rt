@@ -1,6 +1,8 @@
 //! What the answers of a scan say of the books for which the files stand.
-ghost use Rattle.volume_scan.specs.Books.{BooksEndWithWhatWasRead, BooksGoOnWithGroups, BooksGoOnWithInfos, BooksGoOnWithSkipped, DamagedFilesStandForNoBook, FilesBeginWithWhatWasRead};
+ghost use Rattle.volume_scan.specs.Books.{BooksEndWithWhatWasRead, BooksGoOnWithGroups, BooksGoOnWithInfos, BooksGoOnWithSkipped, DamageBehindSkippedIsOfNoBook, DamagedFilesStandForNoBook, FilesBeginWithWhatWasRead};
+ghost use Rattle.volume_scan.specs.Scannings.{ScansStayBesideOtherWork};
 
+use disk_model::Disk;
 use warc_text::sound_volumes_have_one_text;
 
 /// The files begin with the texts that were read of them.
@@ -39,3 +41,16 @@ pub fn damaged_files_stand_for_no_book()
 {
     sound_volumes_have_one_text();
 }
+
+/// Files in which no volume is found behind one that was skipped stand for no sound book in which that one isn't the last.
+pub fn damage_behind_a_skipped_volume_is_of_no_book()
+    ensures { DamageBehindSkippedIsOfNoBook }
+{
+    sound_volumes_have_one_text();
+}
+
+/// Work that leaves the Warc files, as a read gives them and in each image, keeps a scan where it stands.
+#[tactic(auto, using(crate::proofs::Beside::in_place_beside))]
+pub fn scans_stay_beside_other_work<D: Disk>()
+    ensures { ScansStayBesideOtherWork D.Disk }
+{}

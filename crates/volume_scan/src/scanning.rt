@@ -1,5 +1,6 @@
 //! The volumes of an archive, read from a disk.
 ghost use Rattle.std.specs.Prelude.{◌≡◌, ◌≢◌, ◌+◌, ◌-◌, ◌<◌, ◌≤◌, ◌^◌, IfErr, IfOk, IsTrue, OnErr, OnOk, Result, length};
+ghost use Rattle.std.specs.Borrow.{Lends, sem};
 ghost use Rattle.capture.specs.Faults.{Rose};
 ghost use Rattle.disk_model.specs.Crash.{Leaves};
 ghost use Rattle.warc_journal.specs.Extents.{warc_files};
@@ -32,6 +33,8 @@ pub struct Scanning<D> {
 }
 
 impl<D: Disk> Scanning<D> {
+    ghost use Rattle.volume_scan.specs.contracts.scanning.Scanning.{the_row};
+
     /// Syncs each Warc file, so that a crash leaves just what is read, and begins before the first one. Refused, the disk
     /// is given back.
     pub fn start(alloc: Global, disk: D) -> Result<Scanning<D>, (DiskFault, D)>
@@ -132,6 +135,15 @@ impl<D: Disk> Scanning<D> {
         self.position.extent.end = self.len;
         self.position.captures += captures;
         self.position.stage = Stage::Skipped;
+    }
+
+    /// Lends the disk, for work on files of another kind between two steps.
+    pub fn disk(&mut self) -> &mut D
+        ensures value { result.now ≡ disk_of self.old }
+        ensures* writes_back { sem 𝓛 (Lends (the_row D.row) D.row self.entry result
+            (λ w. record self.old { disk = w })) }
+    {
+        &mut self.disk
     }
 
     /// A journal over what was read, once the end was answered. Before it adds a text it takes away what stands behind that.

@@ -1,0 +1,24 @@
+-- A group by its place.
+use Rattle.std.specs.Prelude.{◌≡◌, ℕ, List, drop, take, ⊤}
+use Rattle.warc_journal.specs.declared.place.Place.{Place}
+use Rattle.warc_scan.specs.Steps.{BeginsWithGroup}
+use Rattle.warc_scan.specs.declared.group.Group.{Group}
+use Rattle.volume_scan.specs.Unread.{file_at}
+use Rattle.volume_scan.specs.declared.fault.ScanFault.{ScanFault}
+use Rattle.volume_scan.specs.declared.fault.ScanFault.TheVariants.{Damaged, DiskFault, Memory}
+
+-- what the files hold there
+abbrev pub bytes_at : Place → List (List ℕ) → List ℕ
+bytes_at place files = take place.len (drop place.at (file_at files place.volume))
+
+-- where damage is answered the bytes begin with no group of this number
+abbrev pub IsMissingAt : List ℕ → ℕ → List ℕ → ScanFault → Type 0
+IsMissingAt namespace number bytes (Damaged file at) = (group : Group) → ¬ (BeginsWithGroup namespace number bytes group)
+IsMissingAt namespace number bytes DiskFault = ⊤
+IsMissingAt namespace number bytes Memory = ⊤
+
+-- and the place is named
+abbrev pub NamesPlace : Place → ScanFault → Type 0
+NamesPlace place (Damaged file at) = (file ≡ place.volume) × (at ≡ place.at)
+NamesPlace place DiskFault = ⊤
+NamesPlace place Memory = ⊤
