@@ -33,12 +33,7 @@ fn summary_of(payload: &[u8]) -> Summary
 
 /// The digest and the length of the payload of a wire, whole or cut. `Wrong`: the wire isn't a body of the framing, or not
 /// what came of one that was cut, within the limits of a reader.
-pub fn summary_in(
-    alloc: Global,
-    framing: Framing,
-    wire: &[u8],
-    cut: bool,
-) -> Result<Summary, Stop>
+pub fn summary_in(alloc: Global, framing: Framing, wire: &[u8], cut: bool) -> Result<Summary, Stop>
     ensures wire { IfOk result (λ summary. IsWire cut framing wire.now) }
     ensures digest { IfOk result (λ summary. HasDigest cut framing wire.now summary.digest) }
     ensures length { IfOk result (λ summary. HasLength cut framing wire.now summary.len) }
