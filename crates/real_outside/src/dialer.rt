@@ -5,11 +5,10 @@ ghost use Rattle.real_outside.specs.Links.{link_faults};
 ghost use Rattle.outside.specs.Records.{nothing_out};
 
 use crate::accept_faults::is_memory;
-use crate::limits::Limits;
 use crate::link::RealLink;
 use crate::network::Network;
 use crate::standard_streams::StandardStreams;
-use crate::tcp_dial::dial;
+use crate::tcp_dial::TcpDialer;
 use outside::{DialError, Dialer, EchoDialer};
 use std::alloc::Global;
 use std::io;
@@ -27,10 +26,8 @@ pub enum RealDialer<R> {
     },
     /// By TCP, to the host and port that are asked for.
     Tcp {
-        /// The system's network.
-        network: R,
-        /// How long is waited.
-        limits: Limits,
+        /// How they are made.
+        dialer: TcpDialer<R>,
         /// How often a dial has failed or a link with a fault was hung up.
         faults: u64,
     },
@@ -49,11 +46,7 @@ impl<R: StandardStreams + Print + Network + Drop> Dialer for RealDialer<R> {
                 Ok(link) => Ok(link),
                 Err(error) => Err(counted_dial(faults, error)),
             },
-            RealDialer::Tcp {
-                network,
-                limits,
-                faults,
-            } => match dial(network, host, port, limits) {
+            RealDialer::Tcp { dialer, faults } => match dialer.dial(host, port) {
                 Ok(link) => Ok(RealLink::Tcp { link, faults: 0 }),
                 Err(error) => Err(counted_dial(faults, dial_error_of(&error))),
             },

@@ -11,6 +11,7 @@ use crate::streams::EndingInput;
 use crate::tcp_gate::TcpGate;
 use outside::{Accepted, Gate};
 use std::io::Print;
+use std::net::SocketAddr;
 
 /// Gives connections of the system. It keeps nothing of those that have ended.
 #[derive(Drop)]
@@ -27,6 +28,24 @@ pub enum RealGate<R: StandardStreams + Network> {
         /// How often an accept has failed.
         faults: u64,
     },
+}
+
+impl<R: StandardStreams + Network> RealGate<R> {
+    /// The address at which it listens, in a server that does.
+    pub fn own_address(&self) -> Option<SocketAddr> {
+        match self {
+            RealGate::Once { .. } => None,
+            RealGate::Tcp { gate, .. } => gate.own_address(),
+        }
+    }
+
+    /// Whether it was to listen at an address and couldn't, so that no connection will come.
+    pub fn was_refused(&self) -> bool {
+        match self {
+            RealGate::Once { .. } => false,
+            RealGate::Tcp { gate, .. } => gate.was_refused(),
+        }
+    }
 }
 
 impl<R: StandardStreams + Print + Network + Drop> Gate for RealGate<R> {

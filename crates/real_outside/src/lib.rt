@@ -16,9 +16,12 @@ mod gate;
 mod limits;
 mod lingering;
 mod link;
+mod listening;
 mod made;
 mod network;
 mod open_files;
+mod own_address;
+mod places;
 mod ranges;
 mod sink;
 mod standard_descriptors;
@@ -32,6 +35,7 @@ mod tcp_gate;
 mod tcp_link;
 #[cfg(test)]
 mod tests;
+mod worked;
 
 pub use causes::Causes;
 pub use clock::RealClock;

@@ -3,13 +3,12 @@ ghost use Rattle.std.specs.Prelude.{◌↔◌, ◌<◌, false, [], IsTrue};
 ghost use Rattle.real_outside.specs.Links.{link_faults};
 ghost use Rattle.outside.specs.Link.{no_traffic};
 
-use crate::faults::counted;
+use crate::faults::{counted, told};
 use crate::network::Network;
 use crate::standard_streams::StandardStreams;
-use crate::streams::{EndingInput, write_some};
+use crate::streams::{EndingInput, print_when_taken};
 use crate::tcp_link::TcpLink;
 use outside::{EchoLink, Failed, Link};
-use std::io;
 use std::io::Print;
 
 /// One end of a connection, with its count of faults. It doesn't tell what it gives and takes.
@@ -71,7 +70,14 @@ impl<R: StandardStreams + Print + Network> Link for RealLink<R> {
 
     fn read(&mut self, into: &mut [u8]) -> Result<usize, Failed> {
         match self {
-            RealLink::Streams { input, faults, .. } => counted(faults, input.read(into)),
+            RealLink::Streams {
+                input,
+                output,
+                faults,
+            } => {
+                let read = input.read_when_there(output, into);
+                told(faults, output, "standard input", "read", read)
+            }
             RealLink::Tcp { link, faults } => counted(faults, link.read(into)),
             RealLink::Echo { link, faults } => counted(faults, link.read(into)),
         }
@@ -80,12 +86,19 @@ impl<R: StandardStreams + Print + Network> Link for RealLink<R> {
     fn write(&mut self, piece: &[u8]) -> Result<usize, Failed> {
         match self {
             RealLink::Streams { output, faults, .. } => {
-                counted(faults, write_some(&mut io::writer(output), piece))
+                let written = print_when_taken(output, piece);
+                told(faults, output, "standard output", "write", written)
             }
             RealLink::Tcp { link, faults } => counted(faults, link.write(piece)),
             RealLink::Echo { link, faults } => counted(faults, link.write(piece)),
         }
     }
 
-    fn await_request(&mut self) {}
+    fn await_request(&mut self) {
+        match self {
+            RealLink::Streams { .. } => {}
+            RealLink::Tcp { link, .. } => link.await_request(),
+            RealLink::Echo { link, .. } => link.await_request(),
+        }
+    }
 }

@@ -12,13 +12,17 @@ use crate::file_system::FileSystem;
 use crate::folder_disk::FolderDisk;
 use crate::gate::RealGate;
 use crate::limits::LIMITS;
+use crate::listening::where_to_listen;
 use crate::network::Network;
+use crate::places::Places;
 use crate::sink::RealSink;
 use crate::standard_streams::StandardStreams;
+use crate::tcp_dial::TcpDialer;
 use crate::tcp_gate::TcpGate;
-use capture::Memory;
+use capture::{Memory, Site};
 use std::io::Print;
-use std::rt::Clock;
+use std::net::SocketAddr;
+use std::rt::{Clock, Env};
 
 /// The objects of one run.
 #[derive(Drop)]
@@ -35,17 +39,23 @@ pub struct Made<R: FileSystem + Network + StandardStreams> {
 
 /// Makes the objects of a run with these ends: one client at the standard streams, the trial origin and prints to
 /// standard error; or TCP both ways and prints to standard output. The crew has so many members.
+///
+/// Where clients come in by TCP the gate listens from now on, at the site's host and port, or where the environment's
+/// `MEMPROXY_LISTEN=HOST:PORT` says. Whether it couldn't is what its `was_refused` answers.
 pub fn make<R>(rt: &R, ends: Ends, members: usize) -> Result<Made<R>, Memory>
 where
-    R: Clone + Drop + AllocGlobal + FileSystem + Print + Network + Clock + StandardStreams,
+    R: Clone + Drop + AllocGlobal + FileSystem + Print + Network + Clock + Env + StandardStreams,
     ensures crew { IfOk result (λ made. vec_len made.members ≡ members) }
     ensures gate { IfOk result (λ made. is_once made.gate ≡ is_streams ends) }
     ensures dialers { IfOk result (λ made. All (λ member. is_echo member.0 ≡ is_streams ends) made.members.items) }
     ensures out { IfOk result (λ made. is_error made.out ≡ is_streams ends) }
 {
     let streams = ends.is_streams();
-    let gate = make_gate(rt, ends)?;
-    let members = make_members(rt, streams, members)?;
+    let places = Places::new(rt.alloc())?;
+    let gate = make_gate(rt, ends, &places)?;
+    let own = gate.own_address();
+    let around = Surroundings { places, own };
+    let members = make_members(rt, streams, &around, members)?;
     let out = make_sink(rt, streams)?;
     Ok(Made {
         disk: FolderDisk::new(rt.clone()?, rt.alloc()),
@@ -55,9 +65,9 @@ where
     })
 }
 
-fn make_gate<R>(rt: &R, ends: Ends) -> Result<RealGate<R>, Memory>
+fn make_gate<R>(rt: &R, ends: Ends, places: &Places) -> Result<RealGate<R>, Memory>
 where
-    R: Clone + Drop + StandardStreams + Network,
+    R: Clone + Drop + AllocGlobal + Env + StandardStreams + Network,
     ensures kind { IfOk result (λ gate. is_once gate ≡ is_streams ends) }
     ensures no_fault { IfOk result (λ gate. gate_faults gate ≡ 0) }
 {
@@ -66,15 +76,40 @@ where
             system: Some(rt.clone()?),
         }),
         Ends::Network(site) => Ok(RealGate::Tcp {
-            gate: TcpGate::new(rt.clone()?, site, LIMITS),
+            gate: make_tcp_gate(rt, site, places)?,
             faults: 0,
         }),
     }
 }
 
+/// A gate that listens for a site, where there is one.
+fn make_tcp_gate<R>(rt: &R, site: Option<Site>, places: &Places) -> Result<TcpGate<R>, Memory>
+where
+    R: Clone + Drop + AllocGlobal + Env + Network,
+{
+    let places = places.share()?;
+    let Some(site) = site else {
+        return Ok(TcpGate::new(rt.clone()?, None, places, LIMITS));
+    };
+    let address = where_to_listen(rt, &site)?;
+    let mut gate = TcpGate::new(rt.clone()?, address, places, LIMITS);
+    gate.bind();
+    Ok(gate)
+}
+
+/// What a dialer knows of the program.
+#[derive(Drop)]
+struct Surroundings {
+    /// The places of connections.
+    places: Places,
+    /// Where the program listens itself.
+    own: Option<SocketAddr>,
+}
+
 fn make_members<R>(
     rt: &R,
     streams: bool,
+    around: &Surroundings,
     many: usize,
 ) -> Result<Vec<(RealDialer<R>, RealClock<R>)>, Memory>
 where
@@ -84,12 +119,15 @@ where
 {
     let mut members = Vec::new(rt.alloc());
     for _ in 0..many {
-        members.push((make_dialer(rt, streams)?, RealClock::new(rt.clone()?)))?;
+        members.push((
+            make_dialer(rt, streams, around)?,
+            RealClock::new(rt.clone()?),
+        ))?;
     }
     Ok(members)
 }
 
-fn make_dialer<R>(rt: &R, streams: bool) -> Result<RealDialer<R>, Memory>
+fn make_dialer<R>(rt: &R, streams: bool, around: &Surroundings) -> Result<RealDialer<R>, Memory>
 where
     R: Clone + Drop + AllocGlobal,
     ensures kind { IfOk result (λ dialer. is_echo dialer ≡ streams) }
@@ -101,9 +139,9 @@ where
             faults: 0,
         });
     }
+    let places = around.places.share()?;
     Ok(RealDialer::Tcp {
-        network: rt.clone()?,
-        limits: LIMITS,
+        dialer: TcpDialer::new(rt.clone()?, places, LIMITS, around.own),
         faults: 0,
     })
 }
@@ -129,32 +167,44 @@ where
 #[cfg(test)]
 mod tests {
     use super::*;
-    use capture::{Site, Text};
+    use capture::Text;
     use std::alloc::Global;
+    use std::net::{Ipv4Addr, TcpListener};
 
-    /// The site whose clients come in at the port 9090 of this machine.
-    fn site(alloc: Global) -> Result<Site, Memory> {
+    /// The site whose clients come in at a port of the loopback. Its base isn't asked here.
+    fn site(alloc: Global, port: u16) -> Result<Site, Memory> {
         Ok(Site {
-            base: Text::from_str(alloc, "http://[::1]:9090")?,
-            host: Text::from_str(alloc, "[::1]")?,
-            port: 9090,
+            base: Text::empty(alloc),
+            host: Text::from_str(alloc, "127.0.0.1")?,
+            port,
         })
     }
 
-    /// How many members the crew of a server has that was to have so many. None where there was no memory.
-    fn members_at(rt: &HostRuntime, site: Site, many: usize) -> usize {
-        match make(rt, Ends::Network(Some(site)), many) {
-            Ok(made) => made.members.len(),
-            Err(_) => 0,
-        }
+    /// A port of the system's choice at which nobody listens any more.
+    fn free_port(rt: HostRuntime) -> Option<u16> {
+        let listener = TcpListener::bind(&rt, (Ipv4Addr::LOCALHOST, 0)).ok()?;
+        Some(listener.local_addr().ok()?.port())
+    }
+
+    /// How many members the crew of a server has that was to have 16, whether its gate was refused, and where that
+    /// listens. `None` where there was no memory.
+    fn made_at(rt: &HostRuntime, port: u16) -> Option<(usize, bool, Option<SocketAddr>)> {
+        let site = site(rt.alloc(), port).ok()?;
+        let made = make(rt, Ends::Network(Some(site)), 16).ok()?;
+        Some((
+            made.members.len(),
+            made.gate.was_refused(),
+            made.gate.own_address(),
+        ))
     }
 
     // No case can say it: a case is served over objects in memory, and not over these.
     #[test]
     fn makes_a_server(rt: HostRuntime) {
-        let Ok(site) = site(rt.alloc()) else {
-            panic!(rt; "no memory");
+        let Some(port) = free_port(rt) else {
+            panic!(rt; "no port");
         };
-        assert_eq!(rt; members_at(&rt, site, 16), 16);
+        let own = SocketAddr::from((Ipv4Addr::LOCALHOST, port));
+        assert_eq!(rt; made_at(&rt, port), Some((16, false, Some(own))));
     }
 }

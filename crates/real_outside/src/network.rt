@@ -1,17 +1,22 @@
 //! The network as the program uses it, so that a test can stand in for it.
 ghost use Rattle.std.specs.Prelude.{◌≤◌, length, IfOk};
 
+use crate::causes::Causes;
 use std::io;
 use std::io::{Read, Write};
-use std::net::SocketAddr;
+use std::net::{IpAddr, SocketAddr};
 use std::time::Duration;
 
-/// The most addresses of one host that are tried.
-pub const MOST_ADDRESSES: usize = 32;
+/// The most addresses of one host that are tried. With more, a connect's part of the limit would be too short for
+/// the second try of a handshake, which comes after a second (RFC 6298).
+pub const MOST_ADDRESSES: usize = 8;
 
 /// One end of a TCP connection (RFC 9293), which is closed where it is dropped. A read of 0 bytes is the end of what
 /// the peer sends. A limit of 0 milliseconds is refused.
-pub trait Socket: Read + Write {
+pub trait Socket: Read + Write + Causes {
+    /// The address at the other end.
+    fn peer(&self) -> SocketAddr;
+
     /// Limits how long a read waits, which then fails with `WouldBlock`.
     fn limit_reads(&mut self, millis: u64) -> io::Result<()>;
 
@@ -29,7 +34,7 @@ pub trait Socket: Read + Write {
 }
 
 /// Listens and connects by TCP.
-pub trait Network {
+pub trait Network: Causes {
     /// One end of a connection.
     type Socket: Socket + Drop;
 
@@ -38,6 +43,12 @@ pub trait Network {
 
     /// Listens at a host, an IPv6 address without brackets, and a port.
     fn listen(&mut self, host: &str, port: u16) -> io::Result<Self::Listener>;
+
+    /// The address at which it listens.
+    fn address_of(&mut self, listener: &Self::Listener) -> io::Result<SocketAddr>;
+
+    /// Whether an address is one of this machine's.
+    fn is_here(&mut self, address: IpAddr) -> bool;
 
     /// The next connection, for which it waits without a limit.
     fn accept(&mut self, listener: &Self::Listener) -> io::Result<Self::Socket>;

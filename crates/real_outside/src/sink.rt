@@ -2,7 +2,8 @@
 ghost use Rattle.std.specs.Prelude.{false, []};
 ghost use Rattle.real_outside.specs.Sinks.{sink_faults};
 
-use crate::faults::counted;
+use crate::causes::Causes;
+use crate::faults::{counted, told};
 use crate::standard_streams::StandardStreams;
 use crate::streams::write_some;
 use outside::{Failed, Sink};
@@ -28,7 +29,7 @@ pub enum RealSink<R: StandardStreams> {
     },
 }
 
-impl<R: Print + StandardStreams> Sink for RealSink<R> {
+impl<R: Print + StandardStreams + Causes> Sink for RealSink<R> {
     ghost tells = { false };
 
     ghost written = { λ _. [] };
@@ -38,7 +39,8 @@ impl<R: Print + StandardStreams> Sink for RealSink<R> {
     fn write(&mut self, piece: &[u8]) -> Result<usize, Failed> {
         match self {
             RealSink::Output { system, faults } => {
-                counted(faults, write_some(&mut io::writer(system), piece))
+                let written = write_some(&mut io::writer(system), piece);
+                told(faults, system, "standard output", "write", written)
             }
             RealSink::Error { stream, faults } => counted(faults, write_some(stream, piece)),
         }

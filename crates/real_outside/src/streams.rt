@@ -3,8 +3,12 @@ ghost use Rattle.std.specs.Prelude.{◌≡◌, ◌==◌, ◌<◌, ◌≤◌, tru
 ghost use Rattle.std.specs.Io.{ReadsAtMost};
 ghost use Rattle.std.specs.Io.KnownBytes.{ReadConsumes, Appends};
 
+use crate::network::Network;
 use std::io;
-use std::io::{ErrorKind, Read, Write};
+use std::io::{ErrorKind, Print, Read, Write};
+
+/// How many milliseconds go by before a stream that is set not to wait is asked again.
+const PAUSE: u64 = 10;
 
 /// How often one call may be interrupted by signals before it gives up.
 const MOST_TRIES: u32 = 1_000;
@@ -40,6 +44,29 @@ impl<S: Read> EndingInput<S> {
         let n = read_some(&mut self.stream, into)?;
         self.ended = n == 0;
         Ok(n)
+    }
+
+    /// Reads once, and again where nothing has come yet on a stream that is set not to wait, as a terminal is that
+    /// another program shares.
+    pub(crate) fn read_when_there<N: Network>(
+        &mut self,
+        network: &mut N,
+        into: &mut [u8],
+    ) -> io::Result<usize>
+        ensures bound { ReadsAtMost result into.new }
+    {
+        for _ in 0..u64::MAX {
+            match self.read(into) {
+                Ok(n) => return Ok(n),
+                Err(error) => {
+                    if error.kind() != ErrorKind::WouldBlock {
+                        return Err(error);
+                    }
+                }
+            }
+            network.pause(PAUSE);
+        }
+        Err(io::Error::from(ErrorKind::WouldBlock))
     }
 }
 
@@ -82,6 +109,28 @@ pub(crate) fn write_some<S: Write>(to: &mut S, piece: &[u8]) -> io::Result<usize
         }
     }
     Err(io::Error::from(ErrorKind::Interrupted))
+}
+
+/// Writes once to standard output, and again where it is set not to wait and takes nothing yet.
+pub(crate) fn print_when_taken<R: Print + Network>(
+    system: &mut R,
+    piece: &[u8],
+) -> io::Result<usize>
+    ensures some { IfOk result (λ n. 0 < n) }
+    ensures fits { IfOk result (λ n. n ≤ length piece.now) }
+{
+    for _ in 0..u64::MAX {
+        match write_some(&mut io::writer(system), piece) {
+            Ok(n) => return Ok(n),
+            Err(error) => {
+                if error.kind() != ErrorKind::WouldBlock {
+                    return Err(error);
+                }
+            }
+        }
+        system.pause(PAUSE);
+    }
+    Err(io::Error::from(ErrorKind::WouldBlock))
 }
 
 #[cfg(test)]

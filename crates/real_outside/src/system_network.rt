@@ -1,17 +1,28 @@
 //! The system's network.
 ghost use Rattle.std.specs.Prelude.{◌≤◌, length, IfOk};
 
+use crate::causes::Causes;
 use crate::network::{Network, Socket};
+use std::fmt::Display;
 use std::io::{Read, Write};
-use std::net::{Net, OpenStream, Shutdown, SocketAddr, TcpListener, TcpStream, ToSocketAddrs};
+use std::net::{
+    IpAddr, Net, OpenStream, Shutdown, SocketAddr, TcpListener, TcpStream, ToSocketAddrs, UdpSocket,
+};
 use std::time::{Clock, Duration};
 use std::{io, thread};
 
-/// A TCP connection of the system, with its clock.
+/// A TCP connection of the system.
 #[derive(Drop)]
 pub struct SystemSocket {
     stream: TcpStream,
-    clock: HostRuntime,
+    peer: SocketAddr,
+    system: HostRuntime,
+}
+
+impl Causes for SystemSocket {
+    fn tell<D: Display + Drop>(&mut self, what: D, call: &str, error: &io::Error) {
+        self.system.tell(what, call, error);
+    }
 }
 
 impl Read for SystemSocket {
@@ -31,6 +42,10 @@ impl Write for SystemSocket {
 }
 
 impl Socket for SystemSocket {
+    fn peer(&self) -> SocketAddr {
+        self.peer
+    }
+
     fn limit_reads(&mut self, millis: u64) -> io::Result<()> {
         self.stream
             .set_read_timeout(Some(Duration::from_millis(millis)))
@@ -50,7 +65,7 @@ impl Socket for SystemSocket {
     }
 
     fn time(&mut self) -> io::Result<Duration> {
-        self.clock.monotonic()
+        self.system.monotonic()
     }
 }
 
@@ -63,11 +78,20 @@ impl Network for HostRuntime {
         TcpListener::bind(self, (host, port))
     }
 
+    fn address_of(&mut self, listener: &TcpListener) -> io::Result<SocketAddr> {
+        listener.local_addr()
+    }
+
+    fn is_here(&mut self, address: IpAddr) -> bool {
+        UdpSocket::bind(self, SocketAddr::new(address, 0)).is_ok()
+    }
+
     fn accept(&mut self, listener: &TcpListener) -> io::Result<SystemSocket> {
-        let (stream, _) = listener.accept()?;
+        let (stream, peer) = listener.accept()?;
         Ok(SystemSocket {
             stream,
-            clock: *self,
+            peer,
+            system: *self,
         })
     }
 
@@ -88,7 +112,8 @@ impl Network for HostRuntime {
         let stream = TcpStream::connect_timeout(self, &address, limit)?;
         Ok(SystemSocket {
             stream,
-            clock: *self,
+            peer: address,
+            system: *self,
         })
     }
 
@@ -126,6 +151,21 @@ mod tests {
         Ok((at_once, reads, socket.stream.write_timeout()?))
     }
 
+    /// How many milliseconds a socket's time goes on while its network pauses for 20.
+    fn time_of_a_pause(mut rt: HostRuntime) -> io::Result<u128> {
+        let (_listener, mut socket) = connected(rt)?;
+        let start = socket.time()?;
+        rt.pause(20);
+        Ok(socket.time()?.saturating_sub(start).as_millis())
+    }
+
+    /// Time goes by.
+    // No case can say it: no time goes by in a case.
+    #[test]
+    fn time_goes_by(rt: HostRuntime) {
+        assert!(rt; matches!(time_of_a_pause(rt), Ok(20..=9_999)));
+    }
+
     /// What the system says of a socket that was told its settings.
     fn told_settings(rt: HostRuntime) -> io::Result<Settings> {
         let (_listener, mut socket) = connected(rt)?;
@@ -143,5 +183,16 @@ mod tests {
             Some(Duration::from_secs(2)),
         );
         assert_eq!(rt; told_settings(rt).ok(), Some(want));
+    }
+
+    /// Whether the loopback and an address that is for documents alone (RFC 5737) are this machine's.
+    // No case can say it: a case asks for no address of the machine.
+    #[test]
+    fn knows_the_machines_addresses(mut rt: HostRuntime) {
+        let loopback = rt.is_here(IpAddr::from([127, 0, 0, 1]));
+        assert_eq!(rt;
+            (loopback, rt.is_here(IpAddr::from([192, 0, 2, 1]))),
+            (true, false)
+        );
     }
 }

@@ -1,40 +1,62 @@
 //! Where connections come in by TCP.
 use crate::accept_faults::{AcceptFault, fault_of};
-use crate::brackets::without_brackets;
 use crate::limits::Limits;
+use crate::listening::{Address, LISTEN};
 use crate::network::Network;
+use crate::places::Places;
 use crate::tcp_link::TcpLink;
-use capture::Site;
 use std::io;
 use std::io::ErrorKind;
+use std::net::SocketAddr;
 
-/// Listens at the host and port of a site, from the first accept on. Without a site it gives no connection.
+/// Listens at an address, from when it is bound or else from the first accept on. Without one it gives no connection.
 #[derive(Drop)]
 pub struct TcpGate<N: Network> {
     network: N,
-    site: Option<Site>,
+    address: Option<Address>,
     listener: Option<N::Listener>,
+    /// Where the listener is.
+    own: Option<SocketAddr>,
+    /// Whether it was to listen and couldn't.
+    refused: bool,
+    places: Places,
     limits: Limits,
 }
 
 impl<N: Network> TcpGate<N> {
     /// A gate that doesn't listen yet.
-    pub(crate) fn new(network: N, site: Option<Site>, limits: Limits) -> TcpGate<N> {
+    pub(crate) fn new(
+        network: N,
+        address: Option<Address>,
+        places: Places,
+        limits: Limits,
+    ) -> TcpGate<N> {
         TcpGate {
             network,
-            site,
+            address,
             listener: None,
+            own: None,
+            refused: false,
+            places,
             limits,
         }
     }
 
     /// A gate that listens already.
     #[cfg(test)]
-    pub(crate) fn listening(network: N, listener: N::Listener, limits: Limits) -> TcpGate<N> {
+    pub(crate) fn listening(
+        network: N,
+        listener: N::Listener,
+        places: Places,
+        limits: Limits,
+    ) -> TcpGate<N> {
         TcpGate {
             network,
-            site: None,
+            address: None,
             listener: Some(listener),
+            own: None,
+            refused: false,
+            places,
             limits,
         }
     }
@@ -45,24 +67,69 @@ impl<N: Network> TcpGate<N> {
         &self.network
     }
 
-    /// The next connection. It fails where the address can't be bound, and where the listener or memory fails.
+    /// The next connection, when there is a place for it. It fails where the address can't be bound, and where the
+    /// listener or memory fails.
     pub(crate) fn accept(&mut self) -> io::Result<TcpLink<N::Socket>> {
         let listener = match self.listener.take() {
             Some(listener) => listener,
             None => self.listen()?,
         };
-        let came = next_link(&mut self.network, &listener, &self.limits);
+        wait_for_place(&mut self.network, &self.places, &self.limits);
+        let came = next_link(&mut self.network, &listener, &self.places, &self.limits);
+        if let Err(error) = &came {
+            self.tell("accept", error);
+        }
         self.listener = Some(listener);
         came
     }
 
-    fn listen(&mut self) -> io::Result<N::Listener> {
-        match &self.site {
-            Some(site) => self
-                .network
-                .listen(without_brackets(site.host.as_str()), site.port),
-            None => Err(io::Error::from(ErrorKind::AddrNotAvailable)),
+    /// Listens from now on. Where that fails, the next accept tries again.
+    pub(crate) fn bind(&mut self) {
+        match self.listen() {
+            Ok(listener) => {
+                self.own = self.network.address_of(&listener).ok();
+                self.listener = Some(listener);
+            }
+            Err(_) => self.refused = true,
         }
+    }
+
+    /// Where it listens.
+    pub(crate) fn own_address(&self) -> Option<SocketAddr> {
+        self.own
+    }
+
+    /// Whether it was to listen and couldn't.
+    pub(crate) fn was_refused(&self) -> bool {
+        self.refused
+    }
+
+    fn listen(&mut self) -> io::Result<N::Listener> {
+        let listens = match &self.address {
+            Some(address) => self.network.listen(address.host(), address.port()),
+            None => Err(io::Error::new(ErrorKind::AddrNotAvailable, "no HOST:PORT to listen at")),
+        };
+        if let Err(error) = &listens {
+            self.tell("listen", error);
+        }
+        listens
+    }
+
+    fn tell(&mut self, call: &str, error: &io::Error) {
+        match &self.address {
+            Some(address) => self.network.tell(address, call, error),
+            None => self.network.tell(LISTEN, call, error),
+        }
+    }
+}
+
+/// Waits until fewer clients than the most are served or wait. Those that connect meanwhile wait in the system.
+fn wait_for_place<N: Network>(network: &mut N, places: &Places, limits: &Limits) {
+    for _ in 0..u64::MAX {
+        if places.clients() < limits.most_clients {
+            return;
+        }
+        network.pause(limits.pause);
     }
 }
 
@@ -71,12 +138,13 @@ impl<N: Network> TcpGate<N> {
 fn next_link<N: Network>(
     network: &mut N,
     listener: &N::Listener,
+    places: &Places,
     limits: &Limits,
 ) -> io::Result<TcpLink<N::Socket>> {
     let mut memory_pauses = 0;
     for _ in 0..u64::MAX {
         let error = match network.accept(listener) {
-            Ok(socket) => match TcpLink::of_client(socket, limits) {
+            Ok(socket) => match TcpLink::of_client(socket, places.of_client()?, limits) {
                 Ok(link) => return Ok(link),
                 Err(_) => continue,
             },

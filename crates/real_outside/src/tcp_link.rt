@@ -3,14 +3,25 @@ ghost use Rattle.std.specs.Prelude.{◌≡◌, ◌<◌, ◌≤◌, true, false, 
 ghost use Rattle.std.specs.Io.{ReadsAtMost};
 
 use crate::limits::Limits;
-use crate::lingering::linger;
+use crate::lingering::{linger, millis_since};
 use crate::network::Socket;
+use crate::places::Place;
 use crate::streams::{read_some, write_some};
 use std::io;
 use std::io::ErrorKind;
 
-/// What an interim response begins with (RFC 9110 section 15.2). The message that it was written in goes on.
-const INTERIM: &[u8] = b"HTTP/1.1 1";
+/// What a read waits for.
+#[derive(Clone, Copy, PartialEq, Eq)]
+enum Awaited {
+    /// The first byte on a client's new connection.
+    First,
+    /// The first byte of a client's next request.
+    Next,
+    /// More of a client's request.
+    More,
+    /// A piece of an origin's response.
+    Response,
+}
 
 /// A socket with its limits of time. A read that passes its limit fails, as one of a connection that broke; what a
 /// read of such a connection gives is no end, so no read succeeds after one that failed.
@@ -18,13 +29,16 @@ const INTERIM: &[u8] = b"HTTP/1.1 1";
 pub struct TcpLink<S> {
     socket: S,
     limits: Limits,
-    /// What a read waits where no byte has come since the last answer.
-    idle: u64,
-    /// What a read waits within a message.
-    message: u64,
+    place: Place,
+    awaited: Awaited,
+    /// How long reads of this message may still take, in milliseconds.
+    to_read: u64,
+    /// How long writes of this message may still take, in milliseconds.
+    to_write: u64,
     /// What the socket's reads are limited to now, or 0.
-    limited_to: u64,
-    inside: bool,
+    reads_within: u64,
+    /// What the socket's writes are limited to now, or 0.
+    writes_within: u64,
     answered: bool,
     ended: bool,
     failed: bool,
@@ -32,22 +46,28 @@ pub struct TcpLink<S> {
 
 impl<S: Socket> TcpLink<S> {
     /// The connection of a client.
-    pub(crate) fn of_client(socket: S, limits: &Limits) -> io::Result<TcpLink<S>>
+    pub(crate) fn of_client(socket: S, place: Place, limits: &Limits) -> io::Result<TcpLink<S>>
     where
         S: Drop,
     {
-        TcpLink::new(socket, limits, limits.idle, limits.message)
+        TcpLink::new(socket, place, limits, Awaited::First, limits.request)
     }
 
     /// The connection to an origin.
-    pub(crate) fn of_origin(socket: S, limits: &Limits) -> io::Result<TcpLink<S>>
+    pub(crate) fn of_origin(socket: S, place: Place, limits: &Limits) -> io::Result<TcpLink<S>>
     where
         S: Drop,
     {
-        TcpLink::new(socket, limits, limits.origin, limits.origin)
+        TcpLink::new(socket, place, limits, Awaited::Response, limits.whole)
     }
 
-    fn new(mut socket: S, limits: &Limits, idle: u64, message: u64) -> io::Result<TcpLink<S>>
+    fn new(
+        mut socket: S,
+        place: Place,
+        limits: &Limits,
+        awaited: Awaited,
+        to_read: u64,
+    ) -> io::Result<TcpLink<S>>
     where
         S: Drop,
     {
@@ -56,10 +76,12 @@ impl<S: Socket> TcpLink<S> {
         Ok(TcpLink {
             socket,
             limits: *limits,
-            idle,
-            message,
-            limited_to: 0,
-            inside: false,
+            place,
+            awaited,
+            to_read,
+            to_write: limits.whole,
+            reads_within: 0,
+            writes_within: limits.write,
             answered: false,
             ended: false,
             failed: false,
@@ -72,7 +94,19 @@ impl<S: Socket> TcpLink<S> {
         &self.socket
     }
 
-    /// Reads once, within the limit, and answers 0 from the end on.
+    /// Notes that nothing but a next request is awaited, until a byte of it has come. A new connection stays new.
+    pub(crate) fn await_request(&mut self)
+        ensures same_end { self.new.ended ≡ self.old.ended }
+        ensures same_failure { self.new.failed ≡ self.old.failed }
+    {
+        if self.awaited == Awaited::More {
+            self.awaited = Awaited::Next;
+        }
+        self.to_read = self.limits.request;
+        self.to_write = self.limits.whole;
+    }
+
+    /// Reads once, within the limits, and answers 0 from the end on.
     pub(crate) fn read(&mut self, into: &mut [u8]) -> io::Result<usize>
         ensures bound { ReadsAtMost result into.new }
         ensures meets_end { IfOk result (λ n. n ≡ 0 → self.new.ended ≡ true) }
@@ -90,12 +124,10 @@ impl<S: Socket> TcpLink<S> {
                 self.ended = true;
                 Ok(0)
             }
-            Ok(n) => {
-                self.inside = true;
-                Ok(n)
-            }
+            Ok(n) => Ok(n),
             Err(error) => {
                 self.failed = true;
+                self.tell("read", &error);
                 Err(error)
             }
         }
@@ -104,29 +136,149 @@ impl<S: Socket> TcpLink<S> {
     fn read_within(&mut self, into: &mut [u8]) -> io::Result<usize>
         ensures bound { ReadsAtMost result into.new }
     {
-        let limit = if self.inside { self.message } else { self.idle };
-        if self.limited_to != limit {
-            self.socket.limit_reads(limit)?;
-            self.limited_to = limit;
+        let limits = self.limits;
+        match self.awaited {
+            Awaited::First => self.read_first(into, limits.fresh, limits.fresh_crowded),
+            Awaited::Next => self.read_first(into, limits.idle, limits.idle_crowded),
+            Awaited::More => self.read_more(into, limits.piece, self.to_read),
+            Awaited::Response => {
+                let whole = self.left_of_whole(self.to_read);
+                self.read_more(into, limits.origin, whole)
+            }
         }
-        read_some(&mut self.socket, into)
     }
 
-    /// Writes once, within the limit.
+    /// Reads the first bytes of a request within so many milliseconds, or within the lower limit where another
+    /// connection waits then.
+    fn read_first(&mut self, into: &mut [u8], most: u64, crowded: u64) -> io::Result<usize>
+        ensures bound { ReadsAtMost result into.new }
+    {
+        self.place.serve();
+        let start = self.socket.time()?;
+        let mut gone = 0;
+        for _ in 0..most {
+            self.limit_reads(self.limits.idle_crowded.min(most.saturating_sub(gone)))?;
+            match read_some(&mut self.socket, into) {
+                Ok(n) => {
+                    self.awaited = Awaited::More;
+                    self.to_read = left_after(self.to_read, 0, n);
+                    return Ok(n);
+                }
+                Err(error) => {
+                    if error.kind() != ErrorKind::WouldBlock {
+                        return Err(error);
+                    }
+                }
+            }
+            gone = millis_since(&mut self.socket, start)?;
+            if gone >= most || (gone >= crowded && self.place.is_crowded()) {
+                break;
+            }
+        }
+        Err(io::Error::from(ErrorKind::TimedOut))
+    }
+
+    /// Reads a further piece of a message within a limit for a piece and what is left of the limit for the whole.
+    fn read_more(&mut self, into: &mut [u8], piece: u64, whole: u64) -> io::Result<usize>
+        ensures bound { ReadsAtMost result into.new }
+    {
+        self.limit_reads(piece.min(whole))?;
+        let start = self.socket.time()?;
+        let n = match read_some(&mut self.socket, into) {
+            Ok(n) => n,
+            Err(error) => return Err(in_words(error)),
+        };
+        self.to_read = left_after(self.to_read, millis_since(&mut self.socket, start)?, n);
+        Ok(n)
+    }
+
+    /// Writes once, within the limits.
     pub(crate) fn write(&mut self, piece: &[u8]) -> io::Result<usize>
         ensures some { IfOk result (λ n. 0 < n) }
         ensures fits { IfOk result (λ n. n ≤ length piece.now) }
     {
-        let n = write_some(&mut self.socket, piece)?;
-        self.inside = self.inside && piece.starts_with(INTERIM);
+        self.place.serve();
+        match self.write_within(piece) {
+            Ok(n) => Ok(n),
+            Err(error) => {
+                self.tell("write", &error);
+                Err(error)
+            }
+        }
+    }
+
+    fn write_within(&mut self, piece: &[u8]) -> io::Result<usize>
+        ensures some { IfOk result (λ n. 0 < n) }
+        ensures fits { IfOk result (λ n. n ≤ length piece.now) }
+    {
+        let whole = self.left_of_whole(self.to_write);
+        self.limit_writes(self.limits.write.min(whole))?;
+        let start = self.socket.time()?;
+        let n = match write_some(&mut self.socket, piece) {
+            Ok(n) => n,
+            Err(error) => return Err(in_words(error)),
+        };
+        self.to_write = left_after(self.to_write, millis_since(&mut self.socket, start)?, n);
         self.answered = true;
         Ok(n)
+    }
+
+    /// What is left for a message, which is given for where no other connection waits.
+    fn left_of_whole(&self, left: u64) -> u64 {
+        if !self.place.is_crowded() {
+            return left;
+        }
+        let lower = self.limits.whole.saturating_sub(self.limits.whole_crowded);
+        left.saturating_sub(lower)
+    }
+
+    /// Tells why a call failed. A connection on which a request was awaited is let go without a word.
+    fn tell(&mut self, call: &str, error: &io::Error) {
+        if self.awaited == Awaited::More || self.awaited == Awaited::Response {
+            let peer = self.socket.peer();
+            self.socket.tell(peer, call, error);
+        }
+    }
+
+    fn limit_reads(&mut self, millis: u64) -> io::Result<()> {
+        if millis == 0 {
+            return Err(io::Error::from(ErrorKind::TimedOut));
+        }
+        if self.reads_within != millis {
+            self.socket.limit_reads(millis)?;
+            self.reads_within = millis;
+        }
+        Ok(())
+    }
+
+    fn limit_writes(&mut self, millis: u64) -> io::Result<()> {
+        if millis == 0 {
+            return Err(io::Error::from(ErrorKind::TimedOut));
+        }
+        if self.writes_within != millis {
+            self.socket.limit_writes(millis)?;
+            self.writes_within = millis;
+        }
+        Ok(())
     }
 
     /// Ends the connection of a client, so that what was written last arrives.
     pub(crate) fn end(&mut self) {
         if self.answered && !self.ended && !self.failed {
-            linger(&mut self.socket, &self.limits);
+            linger(&mut self.socket, self.limits.linger);
         }
     }
+}
+
+/// The same error. One of a call that waited past its limit says so.
+fn in_words(error: io::Error) -> io::Error {
+    if error.kind() == ErrorKind::WouldBlock {
+        return io::Error::from(ErrorKind::TimedOut);
+    }
+    error
+}
+
+/// What is left for a message after a call that took so many milliseconds and carried so many bytes.
+fn left_after(left: u64, millis: u64, bytes: usize) -> u64 {
+    left.saturating_sub(millis).saturating_add(bytes as u64)
 }

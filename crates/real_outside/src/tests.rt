@@ -6,5 +6,6 @@ mod loopback;
 mod real_folder;
 mod recorded_files;
 mod recorded_network;
+mod streaming;
 mod waiting;
 mod written;

@@ -4,12 +4,15 @@ use crate::dialer::RealDialer;
 use crate::gate::RealGate;
 use crate::limits::{LIMITS, Limits};
 use crate::link::RealLink;
+use crate::places::Places;
+use crate::tcp_dial::TcpDialer;
 use crate::tcp_gate::TcpGate;
 use outside::{Accepted, Dialer, Failed, Gate, Link};
 use std::alloc::Global;
 use std::io::{Read, Write};
-use std::net::{Shutdown, TcpListener, TcpStream};
+use std::net::{Ipv4Addr, Shutdown, SocketAddr, TcpListener, TcpStream};
 use std::thread;
+use std::time::{Duration, Instant};
 
 const HOST: &str = "127.0.0.1";
 
@@ -18,15 +21,21 @@ const ECHO: usize = 1 << 20;
 
 /// Limits that a test can wait for.
 const SHORT: Limits = Limits {
+    fresh: 50,
+    fresh_crowded: 50,
     idle: 50,
-    message: 50,
+    idle_crowded: 50,
+    piece: 50,
+    request: 50,
     origin: 50,
     write: 50,
-    connect: 10_000,
+    whole: 1_000,
+    whole_crowded: 1_000,
+    connect: 200,
     linger: 50,
-    linger_bytes: 1_000,
     pause: 1,
     most_pauses: 1,
+    most_clients: 1,
 };
 
 /// A listener on a port of the system's choice, and that port.
@@ -37,26 +46,31 @@ fn listener(rt: HostRuntime) -> Option<(TcpListener, u16)> {
 }
 
 /// A gate that listens there.
-fn gate_of(rt: HostRuntime, listener: TcpListener, limits: Limits) -> RealGate<HostRuntime> {
-    RealGate::Tcp {
-        gate: TcpGate::listening(rt, listener, limits),
+fn gate_of(
+    rt: HostRuntime,
+    listener: TcpListener,
+    limits: Limits,
+) -> Option<RealGate<HostRuntime>> {
+    let places = Places::new(rt.alloc()).ok()?;
+    Some(RealGate::Tcp {
+        gate: TcpGate::listening(rt, listener, places, limits),
         faults: 0,
-    }
+    })
 }
 
 /// A gate that listens, and its port.
 fn gate_on(rt: HostRuntime, limits: Limits) -> Option<(RealGate<HostRuntime>, u16)> {
     let (listener, port) = listener(rt)?;
-    Some((gate_of(rt, listener, limits), port))
+    Some((gate_of(rt, listener, limits)?, port))
 }
 
 /// A dialer with these limits.
-fn dialer_on(rt: HostRuntime, limits: Limits) -> RealDialer<HostRuntime> {
-    RealDialer::Tcp {
-        network: rt,
-        limits,
+fn dialer_on(rt: HostRuntime, limits: Limits) -> Option<RealDialer<HostRuntime>> {
+    let places = Places::new(rt.alloc()).ok()?;
+    Some(RealDialer::Tcp {
+        dialer: TcpDialer::new(rt, places, limits, None),
         faults: 0,
-    }
+    })
 }
 
 /// The next connection of a gate.
@@ -129,7 +143,9 @@ fn asks_for_echo(rt: HostRuntime, port: u16) -> bool {
     let Some(bytes) = pattern(rt.alloc(), ECHO) else {
         return false;
     };
-    let mut dialer = dialer_on(rt, LIMITS);
+    let Some(mut dialer) = dialer_on(rt, LIMITS) else {
+        return false;
+    };
     let Ok(mut link) = dialer.dial(HOST, port) else {
         return false;
     };
@@ -148,7 +164,9 @@ fn goes_back<L: Link>(alloc: Global, link: &mut L) -> bool {
 
 /// Gives the next connection back what came on it.
 fn gives_echo(rt: HostRuntime, listener: TcpListener) -> bool {
-    let mut gate = gate_of(rt, listener, LIMITS);
+    let Some(mut gate) = gate_of(rt, listener, LIMITS) else {
+        return false;
+    };
     let Some(mut link) = accepted(&mut gate) else {
         return false;
     };
@@ -299,7 +317,7 @@ fn fills<L: Link>(link: &mut L) -> bool {
 /// What a read from each end of a connection answers where nothing comes, and whether writes fail at last where nothing is read.
 fn waited(rt: HostRuntime) -> Option<(Calls<2>, bool)> {
     let (mut gate, port) = gate_on(rt, SHORT)?;
-    let mut dialer = dialer_on(rt, SHORT);
+    let mut dialer = dialer_on(rt, SHORT)?;
     let mut silent_origin = dialer.dial(HOST, port).ok()?;
     let mut silent_client = accepted(&mut gate)?;
     let mut into = [0u8; 16];
@@ -363,21 +381,118 @@ fn closed_port(rt: HostRuntime) -> Option<u16> {
     Some(port)
 }
 
+/// Whether a dial to a port fails within so many seconds, and is counted.
+fn is_counted(rt: HostRuntime, port: u16, limits: Limits, seconds: u64) -> Option<bool> {
+    let start = Instant::now(&rt).ok()?;
+    let mut dialer = dialer_on(rt, limits)?;
+    let refused = dialer.dial(HOST, port).is_err();
+    let in_time = start.elapsed(&rt).ok()? < Duration::from_secs(seconds);
+    let counted = matches!(dialer, RealDialer::Tcp { faults: 1, .. });
+    Some(refused && in_time && counted)
+}
+
 #[test]
 fn counts_faults_of_a_dialer(rt: HostRuntime) {
     let Some(port) = closed_port(rt) else {
         panic!(rt; "no port");
     };
-    let mut dialer = dialer_on(rt, LIMITS);
-    let refused = dialer.dial(HOST, port).is_err();
-    assert!(rt; refused && matches!(dialer, RealDialer::Tcp { faults: 1, .. }));
+    assert_eq!(rt; is_counted(rt, port, LIMITS, 15), Some(true));
+}
+
+/// More connections than a listener's backlog holds.
+const BACKLOG: u8 = 200;
+
+/// Connections to a port until one isn't taken.
+fn fill(rt: HostRuntime, port: u16) -> Option<Vec<TcpStream>> {
+    let mut clients = Vec::new(rt.alloc());
+    let address = SocketAddr::from((Ipv4Addr::LOCALHOST, port));
+    for _ in 0..BACKLOG {
+        match TcpStream::connect_timeout(&rt, &address, Duration::from_millis(200)) {
+            Ok(client) => clients.push(client).ok()?,
+            Err(_) => break,
+        }
+    }
+    Some(clients)
+}
+
+/// Whether a dial to a listener whose backlog is full fails within its limit.
+fn gives_up(rt: HostRuntime) -> Option<bool> {
+    let (_listener, port) = listener(rt)?;
+    let _clients = fill(rt, port)?;
+    is_counted(rt, port, SHORT, 5)
+}
+
+#[test]
+fn a_connect_has_its_limit(rt: HostRuntime) {
+    assert_eq!(rt; gives_up(rt), Some(true));
+}
+
+/// A gate of one place, which is taken, and two clients.
+#[derive(Drop)]
+struct OnePlace {
+    gate: RealGate<HostRuntime>,
+    link: RealLink<HostRuntime>,
+    _clients: [TcpStream; 2],
+}
+
+/// Such a gate.
+fn one_taken(rt: HostRuntime) -> Option<OnePlace> {
+    let (mut gate, port) = gate_on(rt, SHORT)?;
+    let clients = [client_of(rt, port)?, client_of(rt, port)?];
+    let link = accepted(&mut gate)?;
+    Some(OnePlace {
+        gate,
+        link,
+        _clients: clients,
+    })
+}
+
+/// How many milliseconds go by before a gate gives a connection.
+fn millis_to_accept(rt: HostRuntime, mut gate: RealGate<HostRuntime>) -> Option<u128> {
+    let start = Instant::now(&rt).ok()?;
+    let _link = accepted(&mut gate)?;
+    Some(start.elapsed(&rt).ok()?.as_millis())
+}
+
+/// Ends a connection after a tenth of a second.
+fn end_later(rt: HostRuntime, link: RealLink<HostRuntime>) {
+    thread::sleep(&rt, Duration::from_millis(100));
+    RealGate::<HostRuntime>::end(link);
+}
+
+#[test]
+fn a_gate_has_so_many_places(rt: HostRuntime) {
+    let Some(
+        OnePlace {
+            gate,
+            link,
+            _clients,
+        },
+    ) = one_taken(rt)
+    else {
+        panic!(rt; "no connection");
+    };
+    let (waited, ()) = thread::join(
+        &rt,
+        move || millis_to_accept(rt, gate),
+        move || end_later(rt, link),
+    );
+    assert!(rt; matches!(waited, Some(90..=9_999)));
+}
+
+/// A gate that listens nowhere.
+fn gate_without_address(rt: HostRuntime) -> Option<RealGate<HostRuntime>> {
+    let places = Places::new(rt.alloc()).ok()?;
+    Some(RealGate::Tcp {
+        gate: TcpGate::new(rt, None, places, LIMITS),
+        faults: 0,
+    })
 }
 
 #[test]
 fn counts_faults_of_a_gate(rt: HostRuntime) {
-    let mut gate: RealGate<HostRuntime> = RealGate::Tcp {
-        gate: TcpGate::new(rt, None, LIMITS),
-        faults: 0,
+    let Some(mut gate) = gate_without_address(rt) else {
+        panic!(rt; "no memory");
     };
     let failed = matches!(gate.accept(), Accepted::Failed);
     assert!(rt; failed && matches!(gate, RealGate::Tcp { faults: 1, .. }));

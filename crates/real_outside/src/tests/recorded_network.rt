@@ -2,33 +2,42 @@
 ghost use Rattle.std.specs.Prelude.{◌≤◌, length, IfOk};
 
 use super::written::{Written, joined, written};
+use crate::causes::Causes;
 use crate::limits::Limits;
 use crate::network::{Network, Socket};
+use std::fmt::Display;
 use std::io;
 use std::io::{Error, ErrorKind, Read, Write};
-use std::net::SocketAddr;
+use std::net::{IpAddr, SocketAddr};
 use std::time::Duration;
 
 /// Limits of which each has a length of its own.
 pub(crate) const LIMITS: Limits = Limits {
+    fresh: 500,
+    fresh_crowded: 200,
     idle: 300,
-    message: 5_000,
-    origin: 7_000,
+    idle_crowded: 100,
+    piece: 5_000,
+    request: 8_000,
+    origin: 3_000,
     write: 2_000,
+    whole: 4_000,
+    whole_crowded: 2_500,
     connect: 900,
     linger: 400,
-    linger_bytes: 20_000,
     pause: 5,
     most_pauses: 3,
+    most_clients: 2,
 };
 
 /// A peer as a test wants it.
 #[derive(Clone, Copy)]
 pub(crate) enum Peer {
-    /// It sends so many bytes with each read, for ever.
-    Sends(usize),
-    /// The same, but each read takes 150 milliseconds.
+    /// It sends so many bytes with each read, 150 milliseconds after it began.
     Slow(usize),
+    /// It sends so many bytes at once, and after each write too, and as many three seconds after each further read
+    /// began.
+    Trickles(usize),
     /// It sends so many bytes once, and then nothing.
     SendsOnce(usize),
     /// It sends nothing.
@@ -39,16 +48,21 @@ pub(crate) enum Peer {
     Reset,
     /// It takes nothing.
     TakesNothing,
+    /// It takes a byte with each write, 1,900 milliseconds after it began.
+    TakesBytes,
     /// It can't be given limits of time.
     Odd,
 }
 
-/// A socket that waits for nobody: what would wait past its limit moves its clock on by the limit.
+/// A socket that waits for nobody: what would wait moves its clock on, by its limit at most.
 #[derive(Clone, Copy)]
 pub(crate) struct RecordedSocket {
     pub(crate) calls: Written,
+    /// The causes of faults that it was told.
+    pub(crate) causes: Written,
     pub(crate) peer: Peer,
     pub(crate) millis: u64,
+    has_begun: bool,
     read_limit: u64,
     write_limit: u64,
 }
@@ -58,8 +72,10 @@ impl RecordedSocket {
     pub(crate) fn new(peer: Peer) -> RecordedSocket {
         RecordedSocket {
             calls: Written::new(),
+            causes: Written::new(),
             peer,
             millis: 0,
+            has_begun: false,
             read_limit: 0,
             write_limit: 0,
         }
@@ -70,45 +86,46 @@ impl RecordedSocket {
         self.calls = joined(joined(self.calls, word), ";");
     }
 
-    /// The error of a call that waited so long.
-    fn wait(&mut self, limit: u64) -> io::Error {
-        self.millis = self.millis.saturating_add(limit);
-        Error::from(ErrorKind::WouldBlock)
+    /// What a call answers whose peer is ready after so long, where it may wait so long.
+    fn after(&mut self, millis: u64, limit: u64, n: usize) -> io::Result<usize>
+        ensures { IfOk result (λ m. m ≤ n) }
+    {
+        self.millis = self.millis.saturating_add(millis.min(limit));
+        if millis > limit {
+            return Err(Error::from(ErrorKind::WouldBlock));
+        }
+        Ok(n)
     }
 }
 
 impl Read for RecordedSocket {
     fn read(&mut self, buf: &mut [u8]) -> io::Result<usize> {
         self.call("read");
-        match self.peer {
-            Peer::Sends(n) => {
-                self.millis = self.millis.saturating_add(1);
-                Ok(n.min(buf.len()))
-            }
-            Peer::Slow(n) => {
-                self.millis = self.millis.saturating_add(150);
-                Ok(n.min(buf.len()))
-            }
-            Peer::SendsOnce(n) => {
-                self.peer = Peer::Silent;
-                Ok(n.min(buf.len()))
-            }
-            Peer::Ended => Ok(0),
-            Peer::Reset => Err(Error::from(ErrorKind::ConnectionReset)),
-            Peer::Silent => Err(self.wait(self.read_limit)),
-            Peer::TakesNothing => Err(self.wait(self.read_limit)),
-            Peer::Odd => Err(self.wait(self.read_limit)),
-        }
+        let begun = self.has_begun;
+        self.has_begun = true;
+        let (millis, n) = match self.peer {
+            Peer::Slow(n) => (150, n),
+            Peer::Trickles(n) if begun => (3_000, n),
+            Peer::Trickles(n) => (0, n),
+            Peer::SendsOnce(n) if !begun => (0, n),
+            Peer::Ended => (0, 0),
+            Peer::Reset => return Err(Error::from(ErrorKind::ConnectionReset)),
+            _ => (u64::MAX, 0),
+        };
+        self.after(millis, self.read_limit, n.min(buf.len()))
     }
 }
 
 impl Write for RecordedSocket {
     fn write(&mut self, buf: &[u8]) -> io::Result<usize> {
         self.call("write");
-        match self.peer {
-            Peer::TakesNothing => Err(self.wait(self.write_limit)),
-            _ => Ok(buf.len()),
-        }
+        self.has_begun = self.has_begun && !matches!(self.peer, Peer::Trickles(_));
+        let (millis, n) = match self.peer {
+            Peer::TakesNothing => (u64::MAX, 0),
+            Peer::TakesBytes => (1_900, buf.len().min(1)),
+            _ => (0, buf.len()),
+        };
+        self.after(millis, self.write_limit, n)
     }
 
     fn flush(&mut self) -> io::Result<()> {
@@ -116,20 +133,31 @@ impl Write for RecordedSocket {
     }
 }
 
+impl Causes for RecordedSocket {
+    fn tell<D: Display + Drop>(&mut self, what: D, call: &str, error: &io::Error) {
+        let line = written(format_args!("{what}: {call}: {error};"));
+        self.causes = joined(self.causes, line.as_str());
+    }
+}
+
 impl Socket for RecordedSocket {
+    fn peer(&self) -> SocketAddr {
+        address(7)
+    }
+
     fn limit_reads(&mut self, millis: u64) -> io::Result<()> {
+        self.call(written(format_args!("in {millis}")).as_str());
         self.read_limit = millis;
         Ok(())
     }
 
     fn limit_writes(&mut self, millis: u64) -> io::Result<()> {
-        match self.peer {
-            Peer::Odd => Err(Error::from(ErrorKind::InvalidInput)),
-            _ => {
-                self.write_limit = millis;
-                Ok(())
-            }
+        if matches!(self.peer, Peer::Odd) {
+            return Err(Error::from(ErrorKind::InvalidInput));
         }
+        self.call(written(format_args!("out {millis}")).as_str());
+        self.write_limit = millis;
+        Ok(())
     }
 
     fn send_at_once(&mut self) -> io::Result<()> {
@@ -156,10 +184,20 @@ pub(crate) enum Comes {
     Error(i32),
 }
 
+/// The last number of the last address of a host.
+const LAST: u8 = 8;
+
+/// The port 80 of the address 10.0.0.0 whose last number is this.
+pub(crate) fn address(last: u8) -> SocketAddr {
+    SocketAddr::from(([10, 0, 0, last], 80))
+}
+
 /// Gives three things in turn, and then the last again.
 #[derive(Clone, Copy)]
 pub(crate) struct RecordedNetwork {
     pub(crate) calls: Written,
+    /// The causes of faults that it was told.
+    pub(crate) causes: Written,
     comes: [Comes; 3],
     given: usize,
     /// How many addresses each host has.
@@ -173,6 +211,7 @@ impl RecordedNetwork {
     pub(crate) fn new(comes: [Comes; 3]) -> RecordedNetwork {
         RecordedNetwork {
             calls: Written::new(),
+            causes: Written::new(),
             comes,
             given: 0,
             many: 2,
@@ -199,6 +238,13 @@ impl RecordedNetwork {
     }
 }
 
+impl Causes for RecordedNetwork {
+    fn tell<D: Display + Drop>(&mut self, what: D, call: &str, error: &io::Error) {
+        let line = written(format_args!("{what}: {call}: {error};"));
+        self.causes = joined(self.causes, line.as_str());
+    }
+}
+
 impl Network for RecordedNetwork {
     type Socket = RecordedSocket;
 
@@ -212,6 +258,14 @@ impl Network for RecordedNetwork {
         }
     }
 
+    fn address_of(&mut self, _listener: &()) -> io::Result<SocketAddr> {
+        Ok(address(9))
+    }
+
+    fn is_here(&mut self, address: IpAddr) -> bool {
+        address.is_loopback() || address == IpAddr::from([10, 0, 0, 1])
+    }
+
     fn accept(&mut self, _listener: &()) -> io::Result<RecordedSocket> {
         self.call(written("accept"));
         self.next()
@@ -219,14 +273,18 @@ impl Network for RecordedNetwork {
 
     fn find(&mut self, host: &str, port: u16, found: &mut [SocketAddr]) -> io::Result<usize> {
         self.call(written(format_args!("find {host} {port}")));
-        match self.refuses {
-            Some(number) => Err(Error::from_raw_os_error(number)),
-            None => Ok(found.len().min(self.many)),
+        if let Some(number) = self.refuses {
+            return Err(Error::from_raw_os_error(number));
         }
+        let many = found.len().min(self.many);
+        for (place, last) in found.iter_mut().zip(1..=LAST) {
+            *place = address(last);
+        }
+        Ok(many)
     }
 
-    fn connect(&mut self, _address: SocketAddr, millis: u64) -> io::Result<RecordedSocket> {
-        self.call(written(format_args!("connect within {millis}")));
+    fn connect(&mut self, address: SocketAddr, millis: u64) -> io::Result<RecordedSocket> {
+        self.call(written(format_args!("connect {address} in {millis}")));
         self.next()
     }
 
