@@ -9,7 +9,7 @@ use Rattle.std.specs.Map.{keys_of}
 use Rattle.std.specs.Ordering.{nat_cmp, is_eq, ordering_then}
 use Rattle.std.proofs.lemmas.Cmp.{nat_list_cmp_total, tied_itself}
 use Rattle.cdxj_index.specs.Facts.{Facts}
-use Rattle.cdxj_index.specs.declared.captures.Captures.TheVariants.{One}
+use Rattle.cdxj_index.specs.declared.entry_map.captures.Captures.TheVariants.{One}
 use Rattle.cdxj_index.specs.Groups.{AreGroups, Group, IsGroup}
 use Rattle.cdxj_index.specs.Maps.{AreOfKey, Captures, Changes, IsHeld, IsInOrder, Shared, entry_of, held, shown, shown_all}
 use Rattle.cdxj_index.specs.Order.{Moment, moment_of, moment_cmp, order}

@@ -1,9 +1,14 @@
 //! What the index knows of a capture.
 ghost use Rattle.std.specs.Prelude.{◌≡◌, ◌<◌, ◌^◌, IfOk};
+ghost use Rattle.cdxj_index.specs.OfLine.{facts_of, line_at};
 ghost use Rattle.cdxj_index.specs.Order.{moment_of};
+ghost use Rattle.cdxj_line.specs.Lines.{IsWritable};
+ghost use Rattle.cdxj_line.specs.Parts.{line_of};
+ghost use Rattle.time_text.specs.Texts.{InRange};
 
 use crate::entry_map::Moment;
 use capture::{Digest, Memory, Text};
+use cdxj_line::{Line, LineParts};
 use std::marker::Model;
 use surt_key::Key;
 
@@ -63,6 +68,90 @@ impl Entry {
             offset: self.offset,
             length: self.length,
         })
+    }
+
+    /// The entry of a line's capture, without copies. Takes no memory.
+    pub fn of_line(line: Line) -> Entry
+        requires { IsWritable line }
+        ensures { result ≡ facts_of line }
+    {
+        let Line {
+            key,
+            date,
+            digest,
+            volume,
+            length,
+            method: _method,
+            mime,
+            number,
+            offset,
+            status,
+            url,
+        } = line;
+        Entry {
+            key,
+            date,
+            number,
+            uri: url,
+            mime,
+            status,
+            digest,
+            volume,
+            offset,
+            length,
+        }
+    }
+
+    /// The line of the entry's capture, which was asked for by this method, without copies. Takes no memory.
+    pub fn into_line(self, method: Text) -> Line
+        ensures line { result ≡ line_at self method }
+        ensures writable { IsWritable result }
+    {
+        let Entry {
+            key,
+            date,
+            number,
+            uri,
+            mime,
+            status,
+            digest,
+            volume,
+            offset,
+            length,
+        } = self;
+        Line {
+            key,
+            date,
+            digest,
+            volume,
+            length,
+            method,
+            mime,
+            number,
+            offset,
+            status,
+            url: uri,
+        }
+    }
+
+    /// The parts of that line, lent.
+    pub fn parts<'a>(&'a self, method: &'a [u8]) -> LineParts<'a>
+        ensures line { line_of result ≡ line_at self.now method.now }
+        ensures in_range { InRange result.date }
+    {
+        LineParts {
+            key: self.key.as_slice(),
+            date: self.date,
+            digest: &self.digest,
+            volume: self.volume,
+            length: self.length,
+            method,
+            mime: self.mime.as_slice(),
+            number: self.number,
+            offset: self.offset,
+            status: self.status,
+            url: self.uri.as_slice(),
+        }
     }
 
     /// Its place among the entries of its key.

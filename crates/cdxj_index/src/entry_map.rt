@@ -1,16 +1,25 @@
 //! The ordered map behind an index: entries by key, and under each key by date and number.
-ghost use Rattle.std.specs.Prelude.{◌≡◌, ◌+◌, IfNone, IfSome, OnOk, OnErr, option_copied};
-ghost use Rattle.std.specs.BTreeMap.{get};
+ghost use Rattle.std.specs.Prelude.{◌≡◌, ◌+◌, [], IfNone, IfOk, IfSome, OnOk, OnErr, option_copied};
+ghost use Rattle.std.specs.BTreeMap.{IsFromIterResult, get};
 ghost use Rattle.std.specs.Cmp.Lexicographic.{slice_cmp};
 ghost use Rattle.std.specs.Ordering.{nat_cmp};
-ghost use Rattle.cdxj_index.specs.Maps.{AreKeys, HasNoneAfter, HasNoneFrom, HasNoneUntil, IsFirstAfter, IsFirstFrom, IsLastUntil, Puts, SameKeys, Takes, entry_of};
+ghost use Rattle.cdxj_index.specs.Maps.{AreKeys, HasNoneAfter, HasNoneFrom, HasNoneUntil, IsFirstAfter, IsFirstFrom, IsLastUntil, Puts, SameKeys, Takes, entries_of, entry_of};
+ghost use Rattle.cdxj_index.specs.Queries.{of_key, starting_with};
 
-use crate::captures::Captures;
-use crate::many::{first_of, last_of, next_of};
-use crate::only::{only_after, only_from, only_until};
+mod captures;
+mod groups;
+mod iterators;
+mod many;
+mod only;
+
 use crate::shared::Shared;
 use crate::{Entry, Steps};
 use capture::Memory;
+use captures::Captures;
+pub(crate) use groups::{Group, append};
+pub use iterators::{Range, Starting};
+use many::{first_of, last_of, next_of};
+use only::{only_after, only_from, only_until};
 use std::alloc::Global;
 use std::collections::BTreeMap;
 use std::sync::ledger::Ledger;
@@ -19,14 +28,53 @@ use surt_key::Key;
 /// A date, and a number within the date.
 pub(crate) type Moment = (u64, u32);
 
-/// Entries by key, and under each key by date and number, so that no look-up copies a key. A look-up that takes `steps`
-/// counts one.
+/// Entries by key, and under each key by date and number, so that no look-up copies a key.
+///
+/// Nobody else names its maps: who looks an entry up does it by a call that takes `steps`, and counts one. Only `range` and
+/// `starting`, which hand out iterators, count nothing.
 #[derive(Drop)]
 pub(crate) struct EntryMap {
-    pub keys: BTreeMap<Key, Captures>,
+    keys: BTreeMap<Key, Captures>,
 }
 
 impl EntryMap {
+    /// No entries. Takes no memory.
+    pub fn new(alloc: Global) -> EntryMap
+        ensures { result.keys.entries ≡ [] }
+    {
+        EntryMap {
+            keys: BTreeMap::new(alloc),
+        }
+    }
+
+    /// The entries of these groups, which are in the order of their keys.
+    pub fn of_groups(alloc: Global, groups: Vec<Group>) -> Result<EntryMap, Memory>
+        ensures { IfOk result (λ map. IsFromIterResult (slice_cmp nat_cmp) groups.items map.keys) }
+    {
+        Ok(EntryMap {
+            keys: BTreeMap::from_iter(alloc, groups)?,
+        })
+    }
+
+    /// The entries of a key, in order. Counts no look-up.
+    pub fn range(&self, key: &Key) -> Range<'_>
+        requires { AreKeys self.now.keys }
+        ensures { result ≡ of_key key.now (entries_of self.now.keys) }
+    {
+        match self.keys.get(key) {
+            Some(captures) => Range::of(captures),
+            None => Range::none(),
+        }
+    }
+
+    /// The entries whose key begins with these bytes, in order. Counts no look-up.
+    pub fn starting(&self, start: &Key) -> Starting<'_>
+        requires { AreKeys self.now.keys }
+        ensures { result ≡ starting_with start.now (entries_of self.now.keys) }
+    {
+        Starting::of(&self.keys, start)
+    }
+
     /// The captures of a key.
     pub fn of_key<L: Ledger>(&self, key: &Key, steps: &mut Steps<L>) -> Option<&Captures>
         ensures found { option_copied result ≡ get (slice_cmp nat_cmp) self.now.keys key.now }

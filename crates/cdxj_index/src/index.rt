@@ -3,8 +3,7 @@ ghost use Rattle.std.specs.Prelude.{◌≡◌, ◌↔◌, ◌+◌, ◌≤◌, []
 ghost use Rattle.cdxj_index.specs.Order.{with_entry, without};
 ghost use Rattle.cdxj_index.specs.Queries.{HasNone, IsIndex, IsNearest, of_key, starting_with, with_number};
 
-use crate::entry_map::{EntryMap, first_after, first_from, last_until};
-use crate::groups::append;
+use crate::entry_map::{EntryMap, append, first_after, first_from, last_until};
 use crate::settle::settle;
 use crate::shared::Shared;
 use crate::{Entry, Range, Starting, Steps};
@@ -43,9 +42,7 @@ impl Index {
         ensures { result ≡ [] }
     {
         Index {
-            map: EntryMap {
-                keys: BTreeMap::new(alloc),
-            },
+            map: EntryMap::new(alloc),
             numbers: BTreeMap::new(alloc),
         }
     }
@@ -70,9 +67,7 @@ impl Index {
         }
         settle(alloc, &mut numbers);
         Ok(Index {
-            map: EntryMap {
-                keys: BTreeMap::from_iter(alloc, groups)?,
-            },
+            map: EntryMap::of_groups(alloc, groups)?,
             numbers: BTreeMap::from_iter(alloc, numbers)?,
         })
     }
@@ -153,20 +148,17 @@ impl Index {
         }
     }
 
-    /// The entries of a key, in order. Takes no memory.
+    /// The entries of a key, in order. Takes no memory, and counts no look-up.
     pub fn range(&self, key: &Key) -> Range<'_>
         ensures { result ≡ of_key key.now self.now }
     {
-        match self.map.keys.get(key) {
-            Some(captures) => Range::of(captures),
-            None => Range::none(),
-        }
+        self.map.range(key)
     }
 
-    /// The entries whose key begins with these bytes, in order. Takes no memory.
+    /// The entries whose key begins with these bytes, in order. Takes no memory, and counts no look-up.
     pub fn starting(&self, start: &Key) -> Starting<'_>
         ensures { result ≡ starting_with start.now self.now }
     {
-        Starting::of(&self.map.keys, start)
+        self.map.starting(start)
     }
 }

@@ -1,7 +1,6 @@
 use Rattle.std.proofs.Common.{◌≡◌, ◌<◌, ◌+◌, ◌++◌, List, Some, arith, ap, drop, length, subst, sym, ◌∙◌}
 use Rattle.std.specs.Prelude.{slice_get}
 use Rattle.std.specs.BTreeMap.{IsFromIterResult}
-use Rattle.std.specs.Cmp.Lexicographic.{slice_cmp}
 use Rattle.std.specs.Global.{Vec}
 use Rattle.std.specs.Ordering.{nat_cmp}
 use Rattle.std.proofs.lemmas.Iterator.Adapters.{YieldsList-from_vec}
@@ -43,14 +42,12 @@ loop-place-preserved c = (
 
 pub invariant_of-result : goal.invariant_of-result
 invariant_of-result c =
-    let keys = made_from _ _ (IsFromIterResult (slice_cmp nat_cmp)) c.loop-place.groups.items c.in_ok-from_iter.field-0 c.in_ok-from_iter.ensures.ran (λ it b. YieldsList-from_vec {s = it} _ b.0 (b.1 ∙ c.loop-place.groups.ok.0)) in
-    let numbers = made_from _ _ (IsFromIterResult nat_cmp) c.settle.new.numbers.items c.in_ok-from_iter-2.field-0 c.in_ok-from_iter-2.ensures.ran (λ it b. YieldsList-from_vec {s = it} _ b.0 (b.1 ∙ c.settle.new.numbers.ok.0)) in
+    let numbers = made_from _ _ (IsFromIterResult nat_cmp) c.settle.new.numbers.items c.in_ok-from_iter.field-0 c.in_ok-from_iter.ensures.ran (λ it b. YieldsList-from_vec {s = it} _ b.0 (b.1 ∙ c.settle.new.numbers.ok.0)) in
     let none = drop_all c.loop-place.place c.args.entries.items (omega (arith, c.loop-place-test.false, c.in-Ok.ensures, c.len.ensures, c.args.entries.ok.0)) in
-    (all_made c.loop-place.groups.items c.loop-place.numbers.items c.settle.new.numbers.items (drop c.loop-place.place c.args.entries.items) c.args.entries.items c.in_ok-from_iter.field-0 c.in_ok-from_iter-2.field-0 c.requires c.loop-place.invariant.0 c.loop-place.invariant.1 c.loop-place.invariant.2 none c.settle.ensures keys numbers).0
+    (all_made c.loop-place.groups.items c.loop-place.numbers.items c.settle.new.numbers.items (drop c.loop-place.place c.args.entries.items) c.args.entries.items c.in_ok-of_groups.field-0.keys c.in_ok-from_iter.field-0 c.requires c.loop-place.invariant.0 c.loop-place.invariant.1 c.loop-place.invariant.2 none c.settle.ensures c.in_ok-of_groups.ensures numbers).0
 
 pub returns : goal.returns
 returns c =
-    let keys = made_from _ _ (IsFromIterResult (slice_cmp nat_cmp)) c.loop-place.groups.items c.in_ok-from_iter.field-0 c.in_ok-from_iter.ensures.ran (λ it b. YieldsList-from_vec {s = it} _ b.0 (b.1 ∙ c.loop-place.groups.ok.0)) in
-    let numbers = made_from _ _ (IsFromIterResult nat_cmp) c.settle.new.numbers.items c.in_ok-from_iter-2.field-0 c.in_ok-from_iter-2.ensures.ran (λ it b. YieldsList-from_vec {s = it} _ b.0 (b.1 ∙ c.settle.new.numbers.ok.0)) in
+    let numbers = made_from _ _ (IsFromIterResult nat_cmp) c.settle.new.numbers.items c.in_ok-from_iter.field-0 c.in_ok-from_iter.ensures.ran (λ it b. YieldsList-from_vec {s = it} _ b.0 (b.1 ∙ c.settle.new.numbers.ok.0)) in
     let none = drop_all c.loop-place.place c.args.entries.items (omega (arith, c.loop-place-test.false, c.in-Ok.ensures, c.len.ensures, c.args.entries.ok.0)) in
-    (all_made c.loop-place.groups.items c.loop-place.numbers.items c.settle.new.numbers.items (drop c.loop-place.place c.args.entries.items) c.args.entries.items c.in_ok-from_iter.field-0 c.in_ok-from_iter-2.field-0 c.requires c.loop-place.invariant.0 c.loop-place.invariant.1 c.loop-place.invariant.2 none c.settle.ensures keys numbers).1
+    (all_made c.loop-place.groups.items c.loop-place.numbers.items c.settle.new.numbers.items (drop c.loop-place.place c.args.entries.items) c.args.entries.items c.in_ok-of_groups.field-0.keys c.in_ok-from_iter.field-0 c.requires c.loop-place.invariant.0 c.loop-place.invariant.1 c.loop-place.invariant.2 none c.settle.ensures c.in_ok-of_groups.ensures numbers).1
