@@ -1,6 +1,6 @@
 -- How long a payload is, by what a head tells.
-use Rattle.std.proofs.Common.{◌≡◌, ◌≢◌, ℕ, ◌^◌, ◌<◌, ◌≤◌, Bool, true, false, ltb, List, [], ◌∷◌, length, Ok, Err, refl, sym, ap, subst, ◌∙◌, arith}
-use Rattle.std.specs.Prelude.{Result, IsTrue, All, nat_le, if◌then◌else◌}
+use Rattle.std.proofs.Common.{◌≡◌, ℕ, ◌^◌, ◌<◌, ◌≤◌, Bool, true, false, ltb, List, [], ◌∷◌, length, Ok, Err, refl, sym, ap, subst, ◌∙◌, arith}
+use Rattle.std.specs.Prelude.{Option, Some, None, Result, IsTrue, All, nat_le, if◌then◌else◌}
 use Rattle.std.proofs.lemmas.Bool.{and_parts, cond_both, leb-true, ltb-false}
 use Rattle.std.proofs.lemmas.Int.Digits.{digits_value-lt}
 use Rattle.std.proofs.lemmas.List.Elements.{All-head, All-tail}
@@ -10,12 +10,15 @@ use Rattle.std.specs.Str.Parse.{AllDigits, digits_value}
 use Rattle.httparse.proofs.GrammarLemmas.{response_unique}
 use Rattle.httparse.specs.Grammar as grammar
 use Rattle.httparse.specs.Grammar.{status_code}
-use Rattle.capture.specs.Captures.{HasPayload}
+use Rattle.capture.specs.BodyLaws.{WiresHaveOnePayload}
 use Rattle.capture.specs.Fields.{named_values}
 use Rattle.capture.specs.Framing.{framing_of_response, response_framing}
 use Rattle.capture.specs.Message.{IsResponseHeadText}
 use Rattle.capture.specs.Methods.{asks_for_head}
 use Rattle.capture.specs.Payload.{IsPayload}
+use Rattle.capture.specs.declared.captured.Kept.{Kept}
+use Rattle.capture.specs.declared.captured.Kept.TheVariants.{Wire, Same}
+use Rattle.capture.specs.declared.captured.Stored.{Stored}
 use Rattle.capture.specs.declared.framing.Framing.{Framing}
 use Rattle.capture.specs.declared.framing.Framing.TheVariants.{Empty, Length, Chunked, ToEnd}
 use Rattle.capture.specs.declared.framing.FramingFault.{FramingFault}
@@ -25,7 +28,10 @@ use Rattle.http_head.specs.declared.head.ResponseHead.{ResponseHead}
 use Rattle.http_head.specs.declared.head.WireFault.{WireFault}
 use Rattle.http_head.specs.declared.head.WireFault.TheVariants as wire
 use Rattle.message_body.specs.Framings.{framing_answer, told_by_response}
+use Rattle.warc_scan.specs.Groups.{HasPayloadLen}
+use Rattle.warc_scan.specs.declared.group.Group.{Group}
 use Rattle.archive_core.specs.Measuring.{IsLengthOf}
+use Rattle.archive_core.specs.Noting.{referring}
 
 abbrev Said : Type 0
 Said = Result Framing WireFault
@@ -72,47 +78,33 @@ too_long (Err CodingRefused) e = cc
 
 -- ---- the payload of a wire
 
--- the framing that a head tells
-framing_told : (method text wire payload : List ℕ) (h : grammar.ResponseHead) (parts : ResponseHead) → HoldsResponseParts text h parts
-    → (has : HasPayload false method text wire payload) → told_by_response (asks_for_head method) parts ≡ Ok has.framing
-framing_told method text wire payload h parts of has =
-    sym (parts_tell (asks_for_head method) text h parts of)
-    ∙ ap (response_framing (asks_for_head method)) (one_head text h has.parsed of.reads has.whole) ∙ has.framed
+abbrev telling : Framing → Told
+telling framing = Ok framing
 
-plain_by : (framing : Framing) (wire payload : List ℕ) → framing_answer (Ok framing) ≢ said_ok Chunked → IsPayload false framing wire payload → payload ≡ wire
-plain_by Empty wire payload other is = is
-plain_by (Length n) wire payload other is = is
-plain_by Chunked wire payload other is = absurd (other refl)
-plain_by ToEnd wire payload other is = is
+one_framing : (a b : Framing) → telling a ≡ telling b → a ≡ b
+one_framing a b e = cc
 
--- what isn't chunked is its payload
-pub plain_length : (method text wire : List ℕ) (h : grammar.ResponseHead) (parts : ResponseHead) (said : Said) → HoldsResponseParts text h parts
-    → said ≡ framing_answer (told_by_response (asks_for_head method) parts) → said ≢ said_ok Chunked → IsLengthOf method text wire (length wire)
-plain_length method text wire h parts said of is other payload has =
-    let told = framing_told method text wire payload h parts of has in
-    let answer : framing_answer (Ok has.framing) ≡ said = ap framing_answer (sym told) ∙ sym is in
-    ap length (sym (plain_by has.framing wire payload (λ e. other (sym answer ∙ e)) has.decoded))
+-- the length of a payload is that of each that the wire has
+one_length : WiresHaveOnePayload → (method text wire : List ℕ) (len : ℕ) → HasPayloadLen method text (Wire wire) len → IsLengthOf method text wire len
+one_length one method text wire len has payload other =
+    let heads : has.1.parsed ≡ other.parsed = one_head text has.1.parsed other.parsed has.1.whole other.whole in
+    let same : has.1.framing ≡ other.framing =
+    one_framing has.1.framing other.framing (sym has.1.framed ∙ ap (response_framing (asks_for_head method)) heads ∙ other.framed) in
+    has.2 ∙ ap length (one false other.framing wire has.0 payload (subst (λ (f : Framing). IsPayload false f wire has.0) same has.1.decoded) other.decoded)
 
-length_is_not : (n : ℕ) → said_ok (Length n) ≡ said_ok Chunked → ⊥
-length_is_not n e = cc
+same_is_no_wire : (n : ℕ) (wire : List ℕ) → Same n ≡ Wire wire → ⊥
+same_is_no_wire n wire e = cc
 
-err_is_not : said_err wire.BodyTooLong ≡ said_ok Chunked → ⊥
-err_is_not e = cc
-
-chunked_by : (framing : Framing) → framing_answer (Ok framing) ≡ said_ok Chunked → framing ≡ Chunked
-chunked_by Empty e = cc
-chunked_by (Length n) e =
-    absurd (cond_both (ltb n (2 ^ 64)) (said_ok (Length n)) (said_err wire.BodyTooLong) (λ (s : Said). s ≡ said_ok Chunked → ⊥) (λ is. length_is_not n) (λ is. err_is_not) e)
-chunked_by Chunked e = refl
-chunked_by ToEnd e = cc
-
--- what is chunked
-pub chunked : (method text wire : List ℕ) (h : grammar.ResponseHead) (parts : ResponseHead) (said : Said) → HoldsResponseParts text h parts
-    → said ≡ framing_answer (told_by_response (asks_for_head method) parts) → said ≡ said_ok Chunked
-    → (payload : List ℕ) → HasPayload false method text wire payload → IsPayload false Chunked wire payload
-chunked method text wire h parts said of is e payload has =
-    let told = framing_told method text wire payload h parts of has in
-    subst (λ (f : Framing). IsPayload false f wire payload) (chunked_by has.framing (ap framing_answer (sym told) ∙ sym is ∙ e)) has.decoded
+-- so of a capture that keeps its whole wire, and refers to none
+pub kept_length : WiresHaveOnePayload → (group : Group) → HasPayloadLen group.stored.method group.stored.head group.stored.kept group.payload_len
+    → (first : Option ℕ) (stored : Stored) → stored ≡ referring group.stored first → (wire : List ℕ) → stored.kept ≡ Wire wire
+    → IsLengthOf stored.method stored.head wire group.payload_len
+kept_length one group has None stored is wire kept =
+    let whole : group.stored.kept ≡ Wire wire = sym (ap (λ (s : Stored). s.kept) is) ∙ kept in
+    subst (λ (s : Stored). IsLengthOf s.method s.head wire group.payload_len) (sym is)
+    (one_length one group.stored.method group.stored.head wire group.payload_len
+    (subst (λ (k : Kept). HasPayloadLen group.stored.method group.stored.head k group.payload_len) whole has))
+kept_length one group has (Some n) stored is wire kept = absurd (same_is_no_wire n wire (sym (ap (λ (s : Stored). s.kept) is) ∙ kept))
 
 -- ---- a status
 

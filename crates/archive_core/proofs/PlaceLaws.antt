@@ -1,8 +1,7 @@
 -- Where things stand in a group.
 use Rattle.std.proofs.Common.{◌≡◌, ℕ, ◌+◌, ◌≤◌, List, length, ap, arith, length-append}
-use Rattle.std.specs.Prelude.{Option, Some, None}
+use Rattle.std.specs.Prelude.{Option}
 use Rattle.capture.specs.Captures.{taken_back}
-use Rattle.capture.specs.declared.captured.Stored.{Stored}
 use Rattle.capture.specs.declared.captured.Taken.{Taken}
 use Rattle.warc_scan.specs.Groups.{IsGroup, reference_in}
 use Rattle.warc_scan.specs.declared.group.Group.{Group}
@@ -12,7 +11,6 @@ use Rattle.warc_text.specs.Lengths.{request_length}
 use Rattle.warc_text.specs.Records.{answer_text, group_text, request_text}
 use Rattle.warc_text.specs.References.{Reference}
 use Rattle.warc_text.specs.declared.id.IdKind.TheVariants as ids
-use Rattle.archive_core.specs.Noting.{referring}
 
 -- the first record is no longer than the group
 answer_within : (namespace : List ℕ) (number : ℕ) (taken : Taken) (digest : List ℕ) (same : Option Reference)
@@ -46,8 +44,3 @@ answer_and_request namespace number taken digest same =
       length-append (answer_text id taken digest same) (request_text (id_of namespace ids.Request number) id taken),
       length-request_text (id_of namespace ids.Request number) id taken,
     )
-
--- whatever a capture refers to, its head is its own
-pub referring_head : (stored : Stored) (first : Option ℕ) (other : Stored) → other ≡ referring stored first → other.head ≡ stored.head
-referring_head stored None other is = ap (λ (s : Stored). s.head) is
-referring_head stored (Some first) other is = ap (λ (s : Stored). s.head) is

@@ -1,14 +1,11 @@
 //! What is noted of a group that was found.
-ghost use Rattle.std.specs.Prelude.{◌≡◌, ◌+◌, ◌^◌, ◌<◌, ℕ, List, Some, IfOk, IfErr, IsFalse, IsTrue};
+ghost use Rattle.std.specs.Prelude.{◌≡◌, ◌+◌, ◌^◌, ◌<◌, IfOk, IsFalse, IsTrue};
 ghost use Rattle.http_head.specs.Heads.{HoldsResponse, HoldsResponseParts};
 ghost use Rattle.httparse.specs.Grammar as grammar;
-ghost use Rattle.capture.specs.declared.captured.Kept.TheVariants.{Wire as IsWire};
-ghost use Rattle.archive_core.specs.Measuring.{IsLengthOf};
 ghost use Rattle.archive_core.specs.Noting.{IsNoted, IsPast, IsSomeGroup, IsWithin, referring};
 
 use crate::entering::{RecordAt, entry_of};
-use crate::measuring::payload_len;
-use capture::{Digest, Kept, Memory, Stored};
+use capture::{Digest, Kept, Memory, Stored, wires_have_one_payload};
 use cdxj_index::Entry;
 use http_head::ResponseHead;
 use std::alloc::Global;
@@ -71,6 +68,7 @@ pub(crate) fn note(
     requires parsed { HoldsResponse group.stored.head head.now }
     ensures { (h : grammar.ResponseHead) → HoldsResponseParts group.stored.head h head.now → IfOk result (IsNoted h place.now group first) }
 {
+    wires_have_one_payload();
     let digest = group.digest;
     let at = RecordAt {
         number: group.number,
@@ -80,8 +78,8 @@ pub(crate) fn note(
         len: group.first_len,
     };
     let head_at = place.at + group.head_at;
+    let length = group.payload_len;
     let stored = refer(group.stored, first);
-    let length = kept_len(alloc, &stored, head)?;
     let entry = entry_of(alloc, &stored, head, at)?;
     Ok(Noted {
         stored,
@@ -115,18 +113,5 @@ fn refer(stored: Stored, first: Option<u32>) -> Stored
         request,
         head,
         kept: Kept::Same(first),
-    }
-}
-
-/// The length in bytes of the payload of a capture that keeps its whole wire; 0 of others.
-fn kept_len(alloc: Global, stored: &Stored, head: &ResponseHead) -> Result<u64, Memory>
-    ensures length { (text : List ℕ) (h : grammar.ResponseHead) (wire : List ℕ) → HoldsResponseParts text h head.now → stored.now.kept ≡ IsWire wire
-        → IfOk result (IsLengthOf stored.now.method text wire) }
-    ensures fits { IfOk result (λ len. len < 2 ^ 64) }
-{
-    match &stored.kept {
-        Kept::Wire(wire) => payload_len(alloc, &stored.method, head, wire.as_slice()),
-        Kept::Same(_) => Ok(0),
-        Kept::Cut(_) => Ok(0),
     }
 }
