@@ -1,9 +1,9 @@
 //! Calls of `surt_key` and `capture`.
 use crate::words::{always, told};
-use capture::{Memory, accepted_uri};
+use capture::{Memory, accepted_uri, put_all};
 use case_language::{number_in, split_word};
 use std::alloc::Global;
-use surt_key::{Key, KeyFault, key_of};
+use surt_key::{Key, KeyFault, KeyedUrl, key_of, key_of_address};
 
 /// The look-up key.
 pub fn key_text(alloc: Global, text: &[u8]) -> Result<Vec<u8>, Memory> {
@@ -12,6 +12,22 @@ pub fn key_text(alloc: Global, text: &[u8]) -> Result<Vec<u8>, Memory> {
         Err(KeyFault::NotHttp) => told(alloc, b"NotHttp"),
         Err(KeyFault::Memory) => Err(Memory),
     }
+}
+
+/// The URL of an address, and its look-up key.
+pub fn address_key(alloc: Global, text: &[u8]) -> Result<Vec<u8>, Memory> {
+    match key_of_address(alloc, text) {
+        Ok(keyed) => keyed_text(alloc, &keyed),
+        Err(KeyFault::NotHttp) => told(alloc, b"NotHttp"),
+        Err(KeyFault::Memory) => Err(Memory),
+    }
+}
+
+fn keyed_text(alloc: Global, keyed: &KeyedUrl) -> Result<Vec<u8>, Memory> {
+    let mut out = told(alloc, keyed.url.as_slice())?;
+    put_all(&mut out, b" ")?;
+    put_all(&mut out, keyed.key.as_slice())?;
+    Ok(out)
 }
 
 /// The key of a url. `None` where it has none.

@@ -39,6 +39,7 @@ pub fn answer(alloc: Global, call: &Call) -> Result<Option<Vec<u8>>, Memory> {
         "media_type" => always(texts::media_type_of(alloc, Some(text))),
         "default_media_type" => always(texts::media_type_of(alloc, None)),
         "read_line" => always(texts::line_read(alloc, text)),
+        "query_object" => always(texts::object_of(alloc, text)),
         _ => address_answer(alloc, call),
     }
 }
@@ -48,6 +49,7 @@ fn address_answer(alloc: Global, call: &Call) -> Result<Option<Vec<u8>>, Memory>
     let text = call.text.as_slice();
     match call.name {
         "key_of" => always(keys::key_text(alloc, text)),
+        "key_of_address" => always(keys::address_key(alloc, text)),
         "key_order" => keys::key_order(alloc, text),
         "key_prefix" => keys::key_prefix(alloc, text),
         "accepted_uri" => always(keys::is_accepted(alloc, text)),

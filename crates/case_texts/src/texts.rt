@@ -1,7 +1,7 @@
 //! Calls of `capture` over a text, of `digest32` and of `cdxj_line`.
 use crate::words::told;
 use capture::{Memory, Text};
-use cdxj_line::{media_type, put_line, read_line};
+use cdxj_line::{media_type, put_line, put_object, read_line};
 use digest32::{base32_of, payload_digest, read_base32};
 use std::alloc::Global;
 
@@ -38,6 +38,18 @@ pub fn line_read(alloc: Global, text: &[u8]) -> Result<Vec<u8>, Memory> {
         Some(line) => {
             let mut out = Vec::new(alloc);
             put_line(&mut out, &line)?;
+            Ok(out)
+        }
+        None => told(alloc, b"None"),
+    }
+}
+
+/// The JSON object of the line that was read, with the further members of an answer to a query.
+pub fn object_of(alloc: Global, text: &[u8]) -> Result<Vec<u8>, Memory> {
+    match read_line(alloc, text)? {
+        Some(line) => {
+            let mut out = Vec::new(alloc);
+            put_object(&mut out, &line.parts(), true)?;
             Ok(out)
         }
         None => told(alloc, b"None"),
