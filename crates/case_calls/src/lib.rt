@@ -4,6 +4,7 @@
 
 mod exchanges;
 mod fetching;
+mod outlines;
 mod receiving;
 mod records;
 mod refusals;
@@ -27,6 +28,8 @@ pub fn answer(alloc: Global, call: &Call) -> Result<Option<Vec<u8>>, Memory> {
         "group" => records::group_of(alloc, text),
         "next_group" => records::group_step(alloc, text),
         "next_info" => records::info_step(alloc, text),
+        "next_opening" => outlines::opening_step(alloc, text),
+        "next_outline" => outlines::outline_step(alloc, text),
         _ => Ok(None),
     }
 }

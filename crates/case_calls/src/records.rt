@@ -13,7 +13,7 @@ use warc_scan::{Group, GroupStep, InfoStep, next_group, next_info};
 use warc_text::{SameOf, group_text, info_text};
 
 /// The namespace of the records.
-const NAMESPACE: &str = "6ba7b810-9dad-11d1-80b4-00c04fd430c8";
+pub const NAMESPACE: &str = "6ba7b810-9dad-11d1-80b4-00c04fd430c8";
 
 /// The capture that a revisit refers to: its target, and its date, 2024-01-31T12:00:00Z in milliseconds since 1970.
 const SAME_URI: &str = "http://a.test/x";
@@ -50,18 +50,18 @@ pub fn info_of(alloc: Global, text: &[u8]) -> Result<Option<Vec<u8>>, Memory> {
 
 /// A text that is scanned.
 #[derive(Clone, Copy, Debug)]
-struct Scanned<'a> {
-    bytes: &'a [u8],
+pub struct Scanned<'a> {
+    pub bytes: &'a [u8],
     /// Whether it is said that the file goes on behind them.
-    more: bool,
+    pub more: bool,
     /// The number of the group, or of the volume.
-    number: u32,
+    pub number: u32,
     /// How many bytes may be asked for at most.
-    most: u64,
+    pub most: u64,
 }
 
 /// `more` or `last`, a number, how many bytes may be asked for at most, and the text, each behind a space.
-fn scanned_in(text: &[u8]) -> Option<Scanned<'_>> {
+pub fn scanned_in(text: &[u8]) -> Option<Scanned<'_>> {
     let (word, rest) = split_word(text)?;
     let (number, rest) = split_word(rest)?;
     let (most, bytes) = split_word(rest)?;
@@ -121,7 +121,7 @@ fn info_shown(alloc: Global, namespace: &Uuid, born: u64, len: u64) -> Result<Ve
 }
 
 /// `Need`, where more bytes are asked for than there are and no more than may be; else with their number.
-fn need_shown(alloc: Global, scanned: &Scanned, wanted: u64) -> Result<Vec<u8>, Memory> {
+pub fn need_shown(alloc: Global, scanned: &Scanned, wanted: u64) -> Result<Vec<u8>, Memory> {
     let mut out = told(alloc, b"Need")?;
     if wanted <= scanned.bytes.len() as u64 || wanted > scanned.most {
         put_all(&mut out, b" ")?;
@@ -130,8 +130,8 @@ fn need_shown(alloc: Global, scanned: &Scanned, wanted: u64) -> Result<Vec<u8>, 
     Ok(out)
 }
 
-/// The capture's parts, the places of its head and its body, and the lengths of its first record and of the group; and
-/// behind them what a revisit refers to.
+/// The capture's parts, the length of its payload, the places of its head and its body, and the lengths of its first record and
+/// of the group; and behind them what a revisit refers to.
 fn group_shown(alloc: Global, group: &Group) -> Result<Vec<u8>, Memory> {
     let mut out = Vec::new(alloc);
     put_parts(&mut out, group)?;
@@ -158,7 +158,13 @@ fn put_parts(out: &mut Vec<u8>, group: &Group) -> Result<(), Memory> {
     put_all(out, b" ")?;
     put_all(out, &base32_of(&group.digest))?;
     put_all(out, kept_text(&stored.kept))?;
-    for value in [group.head_at, group.body_at, group.first_len, group.len] {
+    for value in [
+        group.payload_len,
+        group.head_at,
+        group.body_at,
+        group.first_len,
+        group.len,
+    ] {
         put_all(out, b" ")?;
         put_number(out, value)?;
     }
