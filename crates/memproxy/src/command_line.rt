@@ -1,11 +1,12 @@
 //! The words of the command line.
 ghost use Rattle.std.specs.Prelude.{◌≡◌, IfOk, map, string_bytes};
+ghost use Rattle.memproxy.specs.Locks as spec;
 ghost use Rattle.proxy_run.specs.Words.{is_pipe};
 ghost use Rattle.real_outside.specs.Ends.{is_streams};
 
 use capture::Memory;
 use proxy_run::{is_pipe, site_of};
-use real_outside::Ends;
+use real_outside::{Ends, Lock};
 use std::alloc::Global;
 use std::env;
 use std::io::ErrorKind;
@@ -45,4 +46,20 @@ pub(crate) fn ends_of(alloc: Global, words: &[&str]) -> Result<Ends, Memory>
         return Ok(Ends::Streams);
     }
     Ok(Ends::Network(site_of(alloc, words)?))
+}
+
+/// How the words have the program hold its archive: `check` only reads it, all else may write.
+pub(crate) fn lock_of(words: &[&str]) -> Lock
+    ensures { result ≡ spec.lock_of (map (λ word. word.now) words.now) }
+{
+    match words.first() {
+        Some(word) => {
+            if *word == "check" {
+                Lock::Shared
+            } else {
+                Lock::Alone
+            }
+        }
+        None => Lock::Alone,
+    }
 }

@@ -6,7 +6,7 @@ mod status;
 #[cfg(test)]
 mod tests;
 
-use command_line::{ends_of, texts_of, words_of};
+use command_line::{ends_of, lock_of, texts_of, words_of};
 use proxy_run::{CREW, Crew, Status, run};
 use real_outside::{Made, hold_standard_descriptors, make};
 use status::{ended, exit_code};
@@ -26,7 +26,8 @@ fn main(rt: HostRuntime) -> ExitCode {
     let Ok(ends) = ends_of(rt.alloc(), texts.as_slice()) else {
         return exit_code(Status::Memory);
     };
-    let Ok(made) = make(&rt, ends, CREW) else {
+    let lock = lock_of(texts.as_slice());
+    let Ok(made) = make(&rt, ends, lock, CREW) else {
         return exit_code(Status::Memory);
     };
     let Made {

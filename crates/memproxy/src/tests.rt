@@ -2,14 +2,14 @@
 use disk_model::{Disk, Kind};
 use outside::MemorySink;
 use proxy_run::{CREW, Crew, Status, run};
-use real_outside::{Ends, Made, make};
+use real_outside::{Ends, Lock, Made, make};
 use std::fs;
 use std::test::Fail;
 
 #[test]
 fn a_damaged_folder_is_refused(rt: HostRuntime) -> Result<(), Fail> {
     let alloc = rt.alloc();
-    let Ok(made) = make(&rt, Ends::Streams, CREW) else {
+    let Ok(made) = make(&rt, Ends::Streams, Lock::Alone, CREW) else {
         panic!(rt; "no memory");
     };
     let Made {

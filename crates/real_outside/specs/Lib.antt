@@ -1,5 +1,6 @@
 pub mod Brackets
 pub mod Dialers
+pub mod Disks
 pub mod Ends
 pub mod FileNames
 pub mod Gates

@@ -13,9 +13,6 @@ pub(crate) const FOLDER: &str = "archive";
 /// The folder around it.
 pub(crate) const AROUND: &str = ".";
 
-/// The file by whose lock one process at a time has the archive.
-pub(crate) const LOCK: &str = "archive/lock";
-
 /// A file of the archive, which is printed as its path.
 #[derive(Clone, Copy, Debug)]
 pub(crate) struct ArchiveFile {

@@ -18,13 +18,31 @@ pub enum Access {
     New,
 }
 
-/// Who else may hold a lock.
+/// Who else may hold a lock of the archive's folder.
 #[derive(Clone, Copy, Debug, PartialEq, Eq)]
 pub enum Lock {
-    /// Nobody. The lock's file is made where it isn't there.
+    /// Nobody. Who has it may write.
     Alone,
-    /// Others that read. The lock's file is there.
+    /// Others that read.
     Shared,
+}
+
+/// Which file or folder it is. No two that are there at once are the same, and one that is moved stays the same.
+#[derive(Clone, Copy, Debug, PartialEq, Eq)]
+pub struct Identity {
+    /// The device that it lies on.
+    pub device: u64,
+    /// Its number there (the inode's).
+    pub number: u64,
+}
+
+/// What the system tells of an open file or folder.
+#[derive(Clone, Copy, Debug, PartialEq, Eq)]
+pub struct Found {
+    /// Which one it is.
+    pub identity: Identity,
+    /// Its length in bytes.
+    pub len: u64,
 }
 
 /// Files and folders. Each call is one of the system's, or two, and says why it failed.
@@ -46,17 +64,23 @@ pub trait FileSystem: Causes {
     /// Makes a folder. One that is there is refused with `AlreadyExists`.
     fn make_folder(&mut self, path: &str) -> io::Result<()>;
 
-    /// Adds each name of a folder to a tally.
+    /// Adds each name of a folder to a tally. Names that aren't UTF-8 are passed over.
     fn list(&mut self, path: &str, tally: &mut Tally) -> io::Result<()>;
 
-    /// Opens a file.
+    /// Opens a file, or a folder to be read.
     fn open(&mut self, path: &str, access: Access) -> io::Result<Self::File>;
 
-    /// Opens a file and locks it, until it is closed. One that another holds is refused with `WouldBlock`.
-    fn lock(&mut self, path: &str, lock: Lock) -> io::Result<Self::File>;
+    /// Locks an open file or folder, until it is closed. One that another holds is refused with `WouldBlock`.
+    fn lock(&mut self, file: &Self::File, lock: Lock) -> io::Result<()>;
 
-    /// The length of an open file in bytes.
-    fn len(&mut self, file: &Self::File) -> io::Result<u64>;
+    /// Fails where this process may not write a file, or may not make files in a folder.
+    fn check_writable(&mut self, path: &str) -> io::Result<()>;
+
+    /// What the system tells of an open file or folder.
+    fn found(&mut self, file: &Self::File) -> io::Result<Found>;
+
+    /// Which file or folder a path leads to.
+    fn identity_at(&mut self, path: &str) -> io::Result<Identity>;
 
     /// Reads at a place, and answers how many bytes stand at the front of `into` now: 0 only at the file's end.
     fn read_at(&mut self, file: &Self::File, into: &mut [u8], at: u64) -> io::Result<usize>

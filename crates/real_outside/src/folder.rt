@@ -1,9 +1,12 @@
 //! The numbered files of the folder `archive`.
-use crate::file_names::{AROUND, FOLDER, LOCK, path_of};
+ghost use Rattle.std.specs.Prelude.{◌≡◌};
+
+use crate::file_names::{AROUND, ArchiveFile, FOLDER, path_of};
 use crate::file_system::{Access, FileSystem, Lock};
+use crate::holding::{Holding, check_at};
 use crate::open_files::{OpenFiles, OpenOne};
 use crate::ranges::{read_range, write_range};
-use crate::tally::Tally;
+use crate::tally::files_of;
 use disk_model::Kind;
 use std::alloc::Global;
 use std::io;
@@ -12,31 +15,31 @@ use std::io::ErrorKind;
 /// Files of two kinds in one folder, each kind numbered from 0 without a gap. Each call that fails says why, and
 /// closes the file that it was about.
 ///
-/// One process at a time has the folder to itself, by the lock of a file in it. Where this process may not write
-/// there it shares the lock with others that read, and writes nothing.
+/// One process at a time has the folder to write in. Who only reads writes and syncs nothing.
 #[derive(Drop)]
 pub(crate) struct Folder<F: FileSystem> {
     system: F,
     alloc: Global,
-    warc_count: Option<u32>,
-    cdxj_count: Option<u32>,
-    lock: Option<F::File>,
-    read_only: bool,
+    holding: Holding<F>,
+    /// How many files of a kind this process knows of: those that it counted first, and those that it made.
+    warc_known: Option<u32>,
+    cdxj_known: Option<u32>,
     folder_synced: bool,
     around_synced: bool,
     files: OpenFiles<F::File>,
 }
 
 impl<F: FileSystem> Folder<F> {
-    /// The folder, which need not be there yet.
-    pub(crate) fn new(system: F, alloc: Global) -> Folder<F> {
+    /// The folder, which need not be there yet, to be held so.
+    pub(crate) fn new(system: F, alloc: Global, lock: Lock) -> Folder<F>
+        ensures { result.holding.lock ≡ lock }
+    {
         Folder {
             system,
             alloc,
-            warc_count: None,
-            cdxj_count: None,
-            lock: None,
-            read_only: false,
+            holding: Holding::new(lock),
+            warc_known: None,
+            cdxj_known: None,
             folder_synced: false,
             around_synced: false,
             files: OpenFiles::new(),
@@ -48,42 +51,32 @@ impl<F: FileSystem> Folder<F> {
         &mut self.system
     }
 
-    /// Counts the files of a kind, none where the folder isn't there. A number that is missing is a failure.
+    /// Counts the files of a kind, none where the folder isn't there. Who writes may write the last of them.
     pub(crate) fn files(&mut self, kind: Kind) -> io::Result<u32> {
-        self.set_count(kind, None);
-        let count = match self.listed(kind) {
-            Ok(count) => count,
-            Err(error) => {
-                if error.kind() != ErrorKind::NotFound {
-                    return Err(error);
-                }
-                self.forget_folder();
-                0
-            }
-        };
-        self.set_count(kind, Some(count));
-        Ok(count)
+        if self.holding.find(&mut self.system)? {
+            return self.counted(kind);
+        }
+        self.warc_known = Some(0);
+        self.cdxj_known = Some(0);
+        Ok(0)
     }
 
     /// Makes the next file of a kind and its folder, both so that they outlast a crash.
     pub(crate) fn create(&mut self, kind: Kind) -> io::Result<u32> {
-        let number = match self.count(kind) {
+        self.check_may_write()?;
+        let number = match self.known(kind) {
             Some(number) => number,
             None => self.files(kind)?,
         };
-        let Some(count) = number.checked_add(1) else {
-            return Err(io::Error::from(ErrorKind::StorageFull));
-        };
-        self.set_count(kind, None);
-        let file = self.made(kind, number)?;
-        self.set_count(kind, Some(count));
-        self.files.keep(OpenOne {
-            kind,
-            number,
-            file,
-            len: 0,
-            for_writing: true,
-        });
+        if self.holding.is_free() {
+            self.begin()?;
+        }
+        self.folder_synced = false;
+        let one = self.made(kind, number)?;
+        self.system.sync_all(&one.file)?;
+        self.sync_entries()?;
+        check_at(&mut self.system, one.path.as_str(), one.identity)?;
+        self.files.keep(one);
         Ok(number)
     }
 
@@ -136,45 +129,93 @@ impl<F: FileSystem> Folder<F> {
         Ok(())
     }
 
-    /// Waits until a file's bytes, its length and its place in the folder are on the disk.
+    /// Waits until a file's bytes, its length and its place in the folder are on the disk. A file that isn't at its
+    /// path any more has no place there. Who only reads waits for nothing.
     pub(crate) fn sync(&mut self, kind: Kind, number: u32) -> io::Result<()> {
         let one = self.to_read(kind, number)?;
-        self.system.sync_data(&one.file)?;
-        self.sync_entries()?;
+        if self.holding.may_write() {
+            self.system.sync_data(&one.file)?;
+            self.sync_entries()?;
+            check_at(&mut self.system, one.path.as_str(), one.identity)?;
+        }
         self.files.keep(one);
         Ok(())
     }
 
-    /// Forgets what was known of a folder that isn't there.
-    fn forget_folder(&mut self) {
-        self.lock = None;
-        self.read_only = false;
-        self.files = OpenFiles::new();
+    /// Counts the files of a kind in the folder that this process has.
+    fn counted(&mut self, kind: Kind) -> io::Result<u32> {
+        let count = files_of(&mut self.system, self.alloc, kind)?;
+        self.check_known(kind, count)?;
+        if count > 0 && self.holding.may_write() {
+            let last = path_of(self.alloc, kind, count - 1)?;
+            self.system.check_writable(last.as_str())?;
+        }
+        self.set_known(kind, count);
+        Ok(count)
     }
 
-    fn listed(&mut self, kind: Kind) -> io::Result<u32> {
-        self.hold_lock()?;
-        let mut tally = Tally::new(self.alloc, kind);
-        self.system.list(FOLDER, &mut tally)?;
-        match tally.total() {
-            Some(count) => Ok(count),
-            None => Err(io::Error::from(ErrorKind::InvalidData)),
+    /// Fails where a kind hasn't as many files as this process knows of. More are of another process, or were put there by
+    /// hand: what this one knows of the archive isn't so, and it may touch none of them.
+    fn check_known(&mut self, kind: Kind, count: u32) -> io::Result<()> {
+        let Some(known) = self.known(kind) else {
+            return Ok(());
+        };
+        if count > known {
+            return Err(self.holding.give_up());
         }
+        if count < known {
+            return Err(io::Error::new(ErrorKind::InvalidData, "files that were there are missing"));
+        }
+        Ok(())
     }
 
-    /// Makes a file, and its folder where nobody has it.
-    fn made(&mut self, kind: Kind, number: u32) -> io::Result<F::File> {
-        if self.lock.is_none() && !self.read_only {
-            self.make_folder()?;
-            self.hold_lock()?;
-        }
-        self.check_writable()?;
+    /// Makes the folder and takes it. It wasn't there when its files were counted, so it may have none.
+    fn begin(&mut self) -> io::Result<()> {
+        self.make_folder()?;
+        self.holding.hold(&mut self.system)?;
+        self.counted(Kind::Warc)?;
+        self.counted(Kind::Cdxj)?;
+        Ok(())
+    }
+
+    /// Makes a file. One that is there already isn't this process's.
+    fn made(&mut self, kind: Kind, number: u32) -> io::Result<OpenOne<F::File>> {
+        let Some(count) = number.checked_add(1) else {
+            return Err(io::Error::from(ErrorKind::StorageFull));
+        };
+        self.holding.hold(&mut self.system)?;
         let path = path_of(self.alloc, kind, number)?;
-        self.folder_synced = false;
-        let file = self.system.open(path.as_str(), Access::New)?;
-        self.system.sync_all(&file)?;
-        self.sync_entries()?;
-        Ok(file)
+        let file = match self.system.open(path.as_str(), Access::New) {
+            Ok(file) => file,
+            Err(error) => {
+                if error.kind() == ErrorKind::AlreadyExists {
+                    return Err(self.holding.give_up());
+                }
+                return Err(error);
+            }
+        };
+        self.set_known(kind, count);
+        self.one_of(ArchiveFile { kind, number }, path, file, true)
+    }
+
+    /// An open file with what the system tells of it.
+    fn one_of(
+        &mut self,
+        of: ArchiveFile,
+        path: String,
+        file: F::File,
+        for_writing: bool,
+    ) -> io::Result<OpenOne<F::File>> {
+        let found = self.system.found(&file)?;
+        Ok(OpenOne {
+            kind: of.kind,
+            number: of.number,
+            path,
+            file,
+            identity: found.identity,
+            len: found.len,
+            for_writing,
+        })
     }
 
     /// Makes the folder, where it isn't there.
@@ -190,39 +231,6 @@ impl<F: FileSystem> Folder<F> {
                 }
             }
         }
-    }
-
-    /// Takes the lock of the folder, once. Where the folder can't be written the lock is shared; where it has no
-    /// lock's file either, nobody has written there.
-    fn hold_lock(&mut self) -> io::Result<()> {
-        if self.lock.is_some() || self.read_only {
-            return Ok(());
-        }
-        match self.system.lock(LOCK, Lock::Alone) {
-            Ok(file) => {
-                self.lock = Some(file);
-                Ok(())
-            }
-            Err(error) => {
-                if !refuses_writing(&error) {
-                    return Err(error);
-                }
-                self.share_lock()
-            }
-        }
-    }
-
-    fn share_lock(&mut self) -> io::Result<()> {
-        match self.system.lock(LOCK, Lock::Shared) {
-            Ok(file) => self.lock = Some(file),
-            Err(error) => {
-                if error.kind() != ErrorKind::NotFound {
-                    return Err(error);
-                }
-            }
-        }
-        self.read_only = true;
-        Ok(())
     }
 
     /// Waits until the folder and its list of files are on the disk. A file that an earlier run made may not be
@@ -247,7 +255,7 @@ impl<F: FileSystem> Folder<F> {
     }
 
     fn to_write(&mut self, kind: Kind, number: u32) -> io::Result<OpenOne<F::File>> {
-        self.check_writable()?;
+        self.check_may_write()?;
         match self.files.take_for_writing(kind, number) {
             Some(one) => Ok(one),
             None => self.opened(kind, number, Access::Update),
@@ -255,38 +263,32 @@ impl<F: FileSystem> Folder<F> {
     }
 
     fn opened(&mut self, kind: Kind, number: u32, access: Access) -> io::Result<OpenOne<F::File>> {
-        self.hold_lock()?;
+        self.holding.hold(&mut self.system)?;
         let path = path_of(self.alloc, kind, number)?;
         let file = self.system.open(path.as_str(), access)?;
-        let len = self.system.len(&file)?;
-        Ok(OpenOne {
-            kind,
-            number,
-            file,
-            len,
-            for_writing: access == Access::Update,
-        })
+        let for_writing = access == Access::Update;
+        self.one_of(ArchiveFile { kind, number }, path, file, for_writing)
     }
 
-    fn check_writable(&self) -> io::Result<()> {
-        if self.read_only {
-            Err(io::Error::from(ErrorKind::ReadOnlyFilesystem))
-        } else {
+    fn check_may_write(&self) -> io::Result<()> {
+        if self.holding.may_write() {
             Ok(())
+        } else {
+            Err(io::Error::new(ErrorKind::PermissionDenied, "it was opened to be read"))
         }
     }
 
-    fn count(&self, kind: Kind) -> Option<u32> {
+    fn known(&self, kind: Kind) -> Option<u32> {
         match kind {
-            Kind::Warc => self.warc_count,
-            Kind::Cdxj => self.cdxj_count,
+            Kind::Warc => self.warc_known,
+            Kind::Cdxj => self.cdxj_known,
         }
     }
 
-    fn set_count(&mut self, kind: Kind, count: Option<u32>) {
+    fn set_known(&mut self, kind: Kind, count: u32) {
         match kind {
-            Kind::Warc => self.warc_count = count,
-            Kind::Cdxj => self.cdxj_count = count,
+            Kind::Warc => self.warc_known = Some(count),
+            Kind::Cdxj => self.cdxj_known = Some(count),
         }
     }
 }
@@ -296,15 +298,6 @@ fn check_inside(at: u64, len: u64) -> io::Result<()> {
     if at <= len {
         Ok(())
     } else {
-        Err(io::Error::from(ErrorKind::InvalidInput))
-    }
-}
-
-/// Whether an error says that this process may not write, and not that something is broken.
-fn refuses_writing(error: &io::Error) -> bool {
-    match error.kind() {
-        ErrorKind::PermissionDenied => true,
-        ErrorKind::ReadOnlyFilesystem => true,
-        _ => false,
+        Err(io::Error::new(ErrorKind::InvalidInput, "a place past the end of the file"))
     }
 }

@@ -2,10 +2,11 @@
 ghost use Rattle.std.specs.Prelude.{◌≡◌, false, IsErr, MatchResult};
 ghost use Rattle.capture.specs.Faults.{CountsFaults};
 ghost use Rattle.disk_model.specs.Image.{no_files};
+ghost use Rattle.real_outside.specs.Disks.{lock_of};
 
 use crate::faults::told;
 use crate::file_names::{ArchiveFile, FOLDER};
-use crate::file_system::FileSystem;
+use crate::file_system::{FileSystem, Lock};
 use crate::folder::Folder;
 use disk_model::{Disk, Kind};
 use outside::Failed;
@@ -21,12 +22,13 @@ pub struct FolderDisk<F: FileSystem> {
 }
 
 impl<F: FileSystem> FolderDisk<F> {
-    /// The disk in that folder of the folder where the program runs.
-    pub fn new(system: F, alloc: Global) -> FolderDisk<F>
-        ensures { result.faults ≡ 0 }
+    /// The disk in that folder of the folder where the program runs. Who is to write has it alone.
+    pub fn new(system: F, alloc: Global, lock: Lock) -> FolderDisk<F>
+        ensures no_fault { result.faults ≡ 0 }
+        ensures lock { lock_of result ≡ lock }
     {
         FolderDisk {
-            folder: Folder::new(system, alloc),
+            folder: Folder::new(system, alloc, lock),
             faults: 0,
         }
     }

@@ -1,6 +1,7 @@
 //! The real objects that the program hands to the call that serves.
 ghost use Rattle.std.specs.Prelude.{◌≡◌, All, IfOk, vec_len};
 ghost use Rattle.real_outside.specs.Dialers.{dialer_faults, is_echo};
+ghost use Rattle.real_outside.specs.Disks.{lock_of};
 ghost use Rattle.real_outside.specs.Ends.{is_streams};
 ghost use Rattle.real_outside.specs.Gates.{gate_faults, is_once};
 ghost use Rattle.real_outside.specs.Sinks.{sink_faults, is_error};
@@ -8,7 +9,7 @@ ghost use Rattle.real_outside.specs.Sinks.{sink_faults, is_error};
 use crate::clock::RealClock;
 use crate::dialer::RealDialer;
 use crate::ends::Ends;
-use crate::file_system::FileSystem;
+use crate::file_system::{FileSystem, Lock};
 use crate::folder_disk::FolderDisk;
 use crate::gate::RealGate;
 use crate::limits::LIMITS;
@@ -38,13 +39,14 @@ pub struct Made<R: FileSystem + Network + StandardStreams> {
 }
 
 /// Makes the objects of a run with these ends: one client at the standard streams, the trial origin and prints to
-/// standard error; or TCP both ways and prints to standard output. The crew has so many members.
+/// standard error; or TCP both ways and prints to standard output. The archive is held so. The crew has so many members.
 ///
 /// Where clients come in by TCP the gate listens from now on, at the site's host and port, or where the environment's
 /// `MEMPROXY_LISTEN=HOST:PORT` says. Whether it couldn't is what its `was_refused` answers.
-pub fn make<R>(rt: &R, ends: Ends, members: usize) -> Result<Made<R>, Memory>
+pub fn make<R>(rt: &R, ends: Ends, lock: Lock, members: usize) -> Result<Made<R>, Memory>
 where
     R: Clone + Drop + AllocGlobal + FileSystem + Print + Network + Clock + Env + StandardStreams,
+    ensures disk { IfOk result (λ made. lock_of made.disk ≡ lock) }
     ensures crew { IfOk result (λ made. vec_len made.members ≡ members) }
     ensures gate { IfOk result (λ made. is_once made.gate ≡ is_streams ends) }
     ensures dialers { IfOk result (λ made. All (λ member. is_echo member.0 ≡ is_streams ends) made.members.items) }
@@ -58,7 +60,7 @@ where
     let members = make_members(rt, streams, &around, members)?;
     let out = make_sink(rt, streams)?;
     Ok(Made {
-        disk: FolderDisk::new(rt.clone()?, rt.alloc()),
+        disk: FolderDisk::new(rt.clone()?, rt.alloc(), lock),
         gate,
         members,
         out,
@@ -190,7 +192,7 @@ mod tests {
     /// listens. `None` where there was no memory.
     fn made_at(rt: &HostRuntime, port: u16) -> Option<(usize, bool, Option<SocketAddr>)> {
         let site = site(rt.alloc(), port).ok()?;
-        let made = make(rt, Ends::Network(Some(site)), 16).ok()?;
+        let made = make(rt, Ends::Network(Some(site)), Lock::Alone, 16).ok()?;
         Some((
             made.members.len(),
             made.gate.was_refused(),

@@ -1,6 +1,7 @@
 //! The files that stay open: the one that was written last, and the one that was read last.
 ghost use Rattle.std.specs.Prelude.{◌≡◌, IfSome};
 
+use crate::file_system::Identity;
 use disk_model::Kind;
 
 /// An open file, with its length, so that the system needn't be asked for it.
@@ -8,7 +9,9 @@ use disk_model::Kind;
 pub(crate) struct OpenOne<T> {
     pub(crate) kind: Kind,
     pub(crate) number: u32,
+    pub(crate) path: String,
     pub(crate) file: T,
+    pub(crate) identity: Identity,
     pub(crate) len: u64,
     /// Whether it may be written.
     pub(crate) for_writing: bool,

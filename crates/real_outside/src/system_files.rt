@@ -1,10 +1,13 @@
 //! The system's files.
-ghost use Rattle.std.specs.Prelude.{false, []};
+ghost use Rattle.std.specs.Prelude.{false, [], IfOk};
+ghost use Rattle.libc.specs.Io.{Ended};
 
-use crate::file_system::{Access, FileSystem, Lock};
+use crate::file_system::{Access, FileSystem, Found, Identity, Lock};
 use crate::tally::Tally;
-use std::fs::{File, OpenOptions};
-use std::os::unix::fs::FileExt;
+use libc::{PATH_MAX, W_OK};
+use std::fs::{File, Metadata, OpenOptions};
+use std::io::ErrorKind;
+use std::os::unix::fs::{FileExt, MetadataExt};
 use std::{fs, io};
 
 impl FileSystem for HostRuntime {
@@ -22,7 +25,10 @@ impl FileSystem for HostRuntime {
 
     fn list(&mut self, path: &str, tally: &mut Tally) -> io::Result<()> {
         for entry in fs::read_dir(self, path)? {
-            tally.add(entry?.file_name())?;
+            match entry {
+                Ok(entry) => tally.add(entry.file_name())?,
+                Err(error) => pass_over(error)?,
+            }
         }
         Ok(())
     }
@@ -35,27 +41,34 @@ impl FileSystem for HostRuntime {
         }
     }
 
-    fn lock(&mut self, path: &str, lock: Lock) -> io::Result<File> {
+    fn lock(&mut self, file: &File, lock: Lock) -> io::Result<()> {
         match lock {
-            Lock::Alone => {
-                let file = OpenOptions::new()
-                    .read(true)
-                    .write(true)
-                    .create(true)
-                    .open(self, path)?;
-                file.try_lock()?;
-                Ok(file)
-            }
-            Lock::Shared => {
-                let file = File::open(self, path)?;
-                file.try_lock_shared()?;
-                Ok(file)
-            }
+            Lock::Alone => file.try_lock()?,
+            Lock::Shared => file.try_lock_shared()?,
+        }
+        Ok(())
+    }
+
+    fn check_writable(&mut self, path: &str) -> io::Result<()> {
+        let path = c_path_of(path)?;
+        let answer = unsafe { libc::access(&path, W_OK) };
+        if answer == 0 {
+            Ok(())
+        } else {
+            Err(io::Error::from_raw_os_error(os::errno()))
         }
     }
 
-    fn len(&mut self, file: &File) -> io::Result<u64> {
-        Ok(file.metadata()?.len())
+    fn found(&mut self, file: &File) -> io::Result<Found> {
+        let metadata = file.metadata()?;
+        Ok(Found {
+            identity: identity_of(&metadata),
+            len: metadata.len(),
+        })
+    }
+
+    fn identity_at(&mut self, path: &str) -> io::Result<Identity> {
+        Ok(identity_of(&fs::metadata(self, path)?))
     }
 
     fn read_at(&mut self, file: &File, into: &mut [u8], at: u64) -> io::Result<usize> {
@@ -83,9 +96,63 @@ impl FileSystem for HostRuntime {
     }
 }
 
+fn identity_of(metadata: &Metadata) -> Identity {
+    Identity {
+        device: metadata.dev(),
+        number: metadata.ino(),
+    }
+}
+
+/// Passes over the error of an entry whose name isn't UTF-8, which no file of the archive has. All others mean that the
+/// list may lack names.
+fn pass_over(error: io::Error) -> io::Result<()> {
+    if error.raw_os_error().is_none() && error.kind() == ErrorKind::InvalidFilename {
+        Ok(())
+    } else {
+        Err(error)
+    }
+}
+
+/// A path as the C library takes it, with a zero behind it.
+fn c_path_of(path: &str) -> io::Result<[u8; PATH_MAX]>
+    ensures { IfOk result Ended }
+{
+    let bytes = path.as_bytes();
+    if bytes.len() >= PATH_MAX {
+        return Err(io::Error::from(ErrorKind::InvalidFilename));
+    }
+    let mut text = [0u8; PATH_MAX];
+    text[..bytes.len()].copy_from_slice(bytes);
+    text[PATH_MAX - 1] = 0;
+    Ok(text)
+}
+
 #[cfg(test)]
 mod tests {
     use super::*;
+
+    /// Errors of entries, and whether they are passed over. ENAMETOOLONG has the same kind as a name that isn't UTF-8.
+    // No case can say it: the disk of a case lists no names.
+    #[test]
+    fn only_names_that_are_no_text_are_passed_over(rt: HostRuntime) {
+        let no_text = pass_over(io::Error::from(ErrorKind::InvalidFilename)).is_ok();
+        let too_long = pass_over(io::Error::from_raw_os_error(36)).is_ok();
+        let broken = pass_over(io::Error::from_raw_os_error(5)).is_ok();
+        assert_eq!(rt; [no_text, too_long, broken], [true, false, false]);
+    }
+
+    /// Where nobody can write, root neither.
+    // No case can say it: a case has a disk in memory.
+    #[test]
+    fn what_cannot_be_written_is_told(mut rt: HostRuntime) {
+        assert_eq!(rt;
+            [
+                rt.check_writable(".").is_ok(),
+                rt.check_writable("/no/such/folder").is_ok()
+            ],
+            [true, false]
+        );
+    }
 
     /// Which syncs of what can't be synced are refused: of data, of a whole file and of a folder.
     fn refused_syncs(rt: &mut HostRuntime, file: &File) -> [bool; 3] {

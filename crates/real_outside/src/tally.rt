@@ -1,7 +1,10 @@
 //! How many files of a kind a folder has.
-use crate::file_names::number_of;
+use crate::file_names::{FOLDER, number_of};
+use crate::file_system::FileSystem;
 use disk_model::Kind;
 use std::alloc::{AllocError, Global};
+use std::io;
+use std::io::ErrorKind;
 
 /// Counts the files of one kind in a folder's list of names, in whatever order they come. A name comes once.
 #[derive(Debug, Drop)]
@@ -39,6 +42,23 @@ impl Tally {
         } else {
             None
         }
+    }
+}
+
+/// How many files of a kind the folder has. A number that is missing is a failure, and never a smaller count.
+pub(crate) fn files_of<F: FileSystem>(
+    system: &mut F,
+    alloc: Global,
+    kind: Kind,
+) -> io::Result<u32> {
+    let mut tally = Tally::new(alloc, kind);
+    system.list(FOLDER, &mut tally)?;
+    match tally.total() {
+        Some(count) => Ok(count),
+        None => Err(io::Error::new(
+            ErrorKind::InvalidData,
+            "a number among its files is missing",
+        )),
     }
 }
 

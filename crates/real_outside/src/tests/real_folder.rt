@@ -1,5 +1,6 @@
 //! The folder `archive` over the system's files.
 //! No case can say it: a case has a disk in memory, and no folder is shared there.
+use crate::file_system::Lock;
 use crate::folder_disk::FolderDisk;
 use disk_model::Kind::{Cdxj, Warc};
 use disk_model::{Disk, Kind};
@@ -71,6 +72,10 @@ fn check<R: Abort>(rt: &R, disk: &mut FolderDisk<HostRuntime>, rows: &[Row]) {
     }
 }
 
+const FIRST_PATH: &str = "archive/vol-000000.warc";
+
+const THIRD_PATH: &str = "archive/vol-000002.warc";
+
 /// What an empty folder takes.
 static FIRST: [Row; 8] = [
     (Files(Warc), Some(0)),
@@ -96,8 +101,17 @@ static CUT: [Row; 9] = [
     (Faults, Some(5)),
 ];
 
-/// What a second process is answered.
+/// What a second process is answered, also one that reads.
 static LOCKED: [Row; 2] = [(Files(Warc), None), (Len(Warc, 1), None)];
+
+/// What processes find that read at once.
+static READERS: [Row; 5] = [
+    (Files(Warc), Some(2)),
+    (Read(Warc, 0, 0), DONE),
+    (Sync(Warc, 0), DONE),
+    (Write(Warc, 0, 0, b"x"), None),
+    (Create(Warc), None),
+];
 
 /// What another run finds.
 static LATER: [Row; 5] = [
@@ -108,16 +122,37 @@ static LATER: [Row; 5] = [
     (Create(Warc), Some(2)),
 ];
 
-/// What is answered where the folder was removed.
-static REMOVED: [Row; 3] = [
+/// What is answered to who has the folder where it was removed. A file that is open can be written.
+static REMOVED: [Row; 4] = [
+    (Sync(Warc, 0), None),
+    (Files(Warc), None),
     (Create(Warc), None),
-    (Files(Warc), Some(0)),
-    (Create(Warc), Some(0)),
+    (Len(Warc, 1), None),
 ];
 
-/// Whether the first volume holds just this text.
-fn first_holds(rt: HostRuntime, want: &str) -> bool {
-    match fs::read_to_string(&rt, "archive/vol-000000.warc") {
+/// What is answered where the last of the files was removed by hand.
+static MISSING: [Row; 2] = [(Files(Warc), None), (Sync(Warc, 2), None)];
+
+/// What is answered where a file was put there by hand.
+static PUT: [Row; 4] = [
+    (Files(Warc), None),
+    (Create(Warc), None),
+    (Cut(Warc, 2, 0), None),
+    (Len(Warc, 2), None),
+];
+
+/// What who found no folder is answered where another made one and stored in it.
+static LATE: [Row; 5] = [
+    (Create(Warc), None),
+    (Create(Warc), None),
+    (Files(Warc), None),
+    (Cut(Warc, 0, 0), None),
+    (Faults, Some(5)),
+];
+
+/// Whether a file holds just this text.
+fn holds(rt: HostRuntime, path: &str, want: &str) -> bool {
+    match fs::read_to_string(&rt, path) {
         Ok(text) => text.as_str() == want,
         Err(_) => false,
     }
@@ -128,18 +163,55 @@ fn removes(rt: HostRuntime) -> bool {
     fs::remove_dir_all(&rt, "archive").is_ok()
 }
 
-#[test]
-fn keeps_numbered_files(rt: HostRuntime) {
-    let mut disk = FolderDisk::new(rt, rt.alloc());
-    check(&rt, &mut disk, &FIRST);
-    assert_eq!(rt; bytes_at(&mut disk, Warc, 0, 4), Some(*b"o fol"));
-    check(&rt, &mut disk, &CUT);
-    let mut later = FolderDisk::new(rt, rt.alloc());
-    check(&rt, &mut later, &LOCKED);
+/// A disk in the folder, of a process that has it so.
+fn disk_as(rt: HostRuntime, lock: Lock) -> FolderDisk<HostRuntime> {
+    FolderDisk::new(rt, rt.alloc(), lock)
+}
+
+/// What one process after the other finds, and what one is answered whose folder is removed.
+fn keeps_numbered_files<R: Abort>(abort: &R, rt: HostRuntime) {
+    let mut disk = disk_as(rt, Lock::Alone);
+    check(abort, &mut disk, &FIRST);
+    assert_eq!(abort; bytes_at(&mut disk, Warc, 0, 4), Some(*b"o fol"));
+    check(abort, &mut disk, &CUT);
+    let mut later = disk_as(rt, Lock::Alone);
+    check(abort, &mut later, &LOCKED);
+    let mut reader = disk_as(rt, Lock::Shared);
+    check(abort, &mut reader, &LOCKED);
     drop(disk);
-    check(&rt, &mut later, &LATER);
-    assert!(rt; first_holds(rt, "hello"));
-    assert!(rt; removes(rt));
-    check(&rt, &mut later, &REMOVED);
-    assert!(rt; removes(rt));
+    check(abort, &mut reader, &READERS);
+    check(abort, &mut disk_as(rt, Lock::Shared), &READERS);
+    check(abort, &mut later, &LOCKED);
+    drop(reader);
+    check(abort, &mut later, &LATER);
+    assert!(abort; holds(rt, FIRST_PATH, "hello"));
+    assert!(abort; fs::remove_file(&rt, THIRD_PATH).is_ok());
+    check(abort, &mut later, &MISSING);
+    assert!(abort; removes(rt));
+    check(abort, &mut later, &REMOVED);
+}
+
+/// What is answered to who found no folder, and to who didn't make what is in its folder.
+fn touches_no_file_of_another<R: Abort>(abort: &R, rt: HostRuntime) {
+    let mut waiting = disk_as(rt, Lock::Alone);
+    assert_eq!(abort; waiting.files(Warc), Ok(0));
+    let mut other = disk_as(rt, Lock::Alone);
+    check(abort, &mut other, &FIRST);
+    assert!(abort; waiting.create(Warc).is_err());
+    drop(other);
+    check(abort, &mut waiting, &LATE);
+    assert!(abort; holds(rt, FIRST_PATH, "hello folder"));
+    let mut later = disk_as(rt, Lock::Alone);
+    assert_eq!(abort; later.files(Warc), Ok(2));
+    assert!(abort; fs::write(&rt, THIRD_PATH, "theirs").is_ok());
+    check(abort, &mut later, &PUT);
+    assert!(abort; holds(rt, THIRD_PATH, "theirs"));
+    assert!(abort; removes(rt));
+}
+
+// One test, since there is one folder.
+#[test]
+fn keeps_numbered_files_and_touches_no_other(rt: HostRuntime) {
+    keeps_numbered_files(&rt, rt);
+    touches_no_file_of_another(&rt, rt);
 }

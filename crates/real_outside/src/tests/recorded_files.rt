@@ -3,7 +3,7 @@ ghost use Rattle.std.specs.Prelude.{false, []};
 
 use super::written::{Written, joined, written};
 use crate::causes::Causes;
-use crate::file_system::{Access, FileSystem, Lock};
+use crate::file_system::{Access, FileSystem, Found, Identity, Lock};
 use crate::tally::Tally;
 use std::fmt::Display;
 use std::io;
@@ -16,6 +16,10 @@ pub(crate) struct RecordedFiles {
     /// The causes of faults that it was told.
     pub(crate) causes: Written,
     made: usize,
+    /// The first call that is written down.
+    pub(crate) from: usize,
+    /// From which call on paths lead to other files.
+    pub(crate) moved_from: usize,
     /// Which calls fail, counted from 0, and how.
     pub(crate) fails: [(usize, ErrorKind); 2],
     /// The names in each folder.
@@ -33,6 +37,8 @@ impl RecordedFiles {
             calls: Written::new(),
             causes: Written::new(),
             made: 0,
+            from: 0,
+            moved_from: usize::MAX,
             fails: [(usize::MAX, ErrorKind::Other); 2],
             names,
             len,
@@ -42,8 +48,10 @@ impl RecordedFiles {
 
     /// Writes a call down, and answers whether it fails.
     fn call(&mut self, call: Written) -> io::Result<()> {
-        self.calls = joined(joined(self.calls, call.as_str()), ";");
         let number = self.made;
+        if number >= self.from {
+            self.calls = joined(joined(self.calls, call.as_str()), ";");
+        }
         self.made = self.made.saturating_add(1);
         for (call, kind) in &self.fails {
             if *call == number {
@@ -59,6 +67,14 @@ fn name_of(path: &str) -> &str {
     match path.rsplit_once('/') {
         Some((_, name)) => name,
         None => path,
+    }
+}
+
+/// Which file has this name, before and after all were moved: its number on a device is its last digit's code.
+fn identity_of(name: &str, device: u64) -> Identity {
+    Identity {
+        device,
+        number: u64::from(name.as_bytes().get(9).copied().unwrap_or(0)),
     }
 }
 
@@ -101,19 +117,32 @@ impl FileSystem for RecordedFiles {
         Ok(written(name))
     }
 
-    fn lock(&mut self, path: &str, lock: Lock) -> io::Result<Written> {
+    fn lock(&mut self, file: &Written, lock: Lock) -> io::Result<()> {
+        let name = file.as_str();
         let word = match lock {
             Lock::Alone => "lock",
             Lock::Shared => "share",
         };
-        self.call(written(format_args!("{word} {path}")))?;
-        Ok(written(path))
+        self.call(written(format_args!("{word} {name}")))
     }
 
-    fn len(&mut self, file: &Written) -> io::Result<u64> {
+    fn check_writable(&mut self, path: &str) -> io::Result<()> {
+        self.call(written(format_args!("may write {path}")))
+    }
+
+    fn found(&mut self, file: &Written) -> io::Result<Found> {
         let name = file.as_str();
-        self.call(written(format_args!("len {name}")))?;
-        Ok(self.len)
+        self.call(written(format_args!("look at {name}")))?;
+        Ok(Found {
+            identity: identity_of(name, 0),
+            len: self.len,
+        })
+    }
+
+    fn identity_at(&mut self, path: &str) -> io::Result<Identity> {
+        let moved = u64::from(self.made >= self.moved_from);
+        self.call(written(format_args!("look for {path}")))?;
+        Ok(identity_of(name_of(path), moved))
     }
 
     fn read_at(&mut self, file: &Written, into: &mut [u8], at: u64) -> io::Result<usize> {

@@ -1,0 +1,169 @@
+//! Who has the folder of the archive.
+ghost use Rattle.std.specs.Prelude.{◌≡◌};
+
+use crate::file_names::{AROUND, FOLDER};
+use crate::file_system::{Access, FileSystem, Identity, Lock};
+use std::io;
+use std::io::ErrorKind;
+
+/// Linux's number of the error that a file system has no locks, on x86-64 and aarch64.
+const ENOLCK: i32 = 37;
+
+/// What this process has of the folder.
+#[derive(Drop)]
+enum State<T> {
+    /// Nothing so far.
+    Free,
+    /// The folder itself, open and locked, and which one it is.
+    Held { folder: T, identity: Identity },
+    /// Nothing, for good. There are files in it of which this process doesn't know.
+    GivenUp,
+}
+
+/// A process's hold of the folder `archive`: a lock of the folder itself (flock(2)), which nobody can remove from it. Who
+/// writes has it alone, and who reads shares it with others that read.
+#[derive(Drop)]
+pub(crate) struct Holding<F: FileSystem> {
+    lock: Lock,
+    state: State<F::File>,
+}
+
+impl<F: FileSystem> Holding<F> {
+    /// Nothing is held yet.
+    pub(crate) fn new(lock: Lock) -> Holding<F>
+        ensures { result.lock ≡ lock }
+    {
+        Holding {
+            lock,
+            state: State::Free,
+        }
+    }
+
+    /// Whether this process may write.
+    pub(crate) fn may_write(&self) -> bool {
+        self.lock == Lock::Alone
+    }
+
+    /// Whether this process may still come to have the folder, and hasn't found it.
+    pub(crate) fn is_free(&self) -> bool {
+        match &self.state {
+            State::Free => true,
+            State::Held { .. } => false,
+            State::GivenUp => false,
+        }
+    }
+
+    /// Whether the folder is there, which this process then has. A folder that it had and that is gone is a failure, and
+    /// so is one that it is to write and can't.
+    pub(crate) fn find(&mut self, system: &mut F) -> io::Result<bool> {
+        match self.hold(system) {
+            Ok(()) => Ok(true),
+            Err(error) => {
+                if error.kind() != ErrorKind::NotFound || !self.is_free() {
+                    return Err(error);
+                }
+                if self.may_write() {
+                    system.check_writable(AROUND)?;
+                }
+                Ok(false)
+            }
+        }
+    }
+
+    /// Sees to it that this process has the folder, and that it is the one at its path.
+    pub(crate) fn hold(&mut self, system: &mut F) -> io::Result<()> {
+        match &self.state {
+            State::Free => self.take(system),
+            State::Held { identity, .. } => check_at(system, FOLDER, *identity),
+            State::GivenUp => Err(files_of_others()),
+        }
+    }
+
+    /// Lets go of a folder in which others made files, and answers why. From now on this process does nothing there.
+    pub(crate) fn give_up(&mut self) -> io::Error {
+        self.state = State::GivenUp;
+        files_of_others()
+    }
+
+    fn take(&mut self, system: &mut F) -> io::Result<()> {
+        let folder = locked(system, self.lock)?;
+        if self.may_write() {
+            system.check_writable(FOLDER)?;
+        }
+        let identity = system.found(&folder)?.identity;
+        check_at(system, FOLDER, identity)?;
+        self.state = State::Held { folder, identity };
+        Ok(())
+    }
+}
+
+/// Fails where a path leads to another file or folder than this one, or to none.
+pub(crate) fn check_at<F: FileSystem>(
+    system: &mut F,
+    path: &str,
+    identity: Identity,
+) -> io::Result<()> {
+    if system.identity_at(path)? == identity {
+        Ok(())
+    } else {
+        Err(io::Error::other("it was moved or replaced while it was in use"))
+    }
+}
+
+/// The folder, open and locked. Who only reads goes on without a lock where the file system has none.
+fn locked<F: FileSystem>(system: &mut F, lock: Lock) -> io::Result<F::File> {
+    let folder = system.open(FOLDER, Access::Read)?;
+    match system.lock(&folder, lock) {
+        Ok(()) => Ok(folder),
+        Err(error) => {
+            if error.kind() == ErrorKind::WouldBlock {
+                return Err(io::Error::new(
+                    ErrorKind::WouldBlock,
+                    "another process has the archive",
+                ));
+            }
+            if lock == Lock::Shared && is_want_of_locks(&error) {
+                return Ok(folder);
+            }
+            Err(error)
+        }
+    }
+}
+
+/// Whether an error says that a file system has no locks.
+fn is_want_of_locks(error: &io::Error) -> bool {
+    if error.kind() == ErrorKind::Unsupported {
+        return true;
+    }
+    error.raw_os_error() == Some(ENOLCK)
+}
+
+/// Why a process does nothing in a folder in which others made files.
+fn files_of_others() -> io::Error {
+    io::Error::other("files of another process are in it, of which this one doesn't know")
+}
+
+#[cfg(test)]
+mod tests {
+    use super::*;
+
+    /// Linux's numbers of errors, and whether they say that a file system has no locks: ENOLCK, ENOSYS, EOPNOTSUPP, and
+    /// EIO, EAGAIN and EINTR.
+    static NUMBERS: [(i32, bool); 6] = [
+        (37, true),
+        (38, true),
+        (95, true),
+        (5, false),
+        (11, false),
+        (4, false),
+    ];
+
+    // No case can say it: a case has a disk in memory, which nobody locks.
+    #[test]
+    fn want_of_locks_is_known(rt: HostRuntime) {
+        for (number, want) in &NUMBERS {
+            let error = io::Error::from_raw_os_error(*number);
+            assert_eq!(rt; is_want_of_locks(&error), *want, "{number}");
+        }
+    }
+}
