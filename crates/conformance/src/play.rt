@@ -6,7 +6,7 @@ use crate::script::Script;
 use crate::setting::{Played, Setting};
 use capture::{Failed, Memory};
 use case_archive::Change;
-use case_calls::{fetched, received_requests};
+use case_exchanges::{fetched, received_requests};
 use case_disk::{Outcome, disk_of, outcome_of_calls};
 use case_language::{Case, CaseFile, Line, NamedText, Names, difference, plays_of};
 use case_texts::Call;
@@ -255,7 +255,7 @@ fn answer_to(alloc: Global, call: &Call) -> Result<Option<Vec<u8>>, Memory> {
     if let Some(text) = case_messages::answer(alloc, call)? {
         return Ok(Some(text));
     }
-    if let Some(text) = case_calls::answer(alloc, call)? {
+    if let Some(text) = case_exchanges::answer(alloc, call)? {
         return Ok(Some(text));
     }
     case_objects::answer(alloc, call)
