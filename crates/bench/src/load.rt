@@ -22,10 +22,14 @@ pub fn origins(alloc: Global, from: u32, to: u32) -> Result<Vec<MemoryLink>, Mem
 {
     let mut links = Vec::new(alloc);
     for i in from..to {
-        let response = bytes_of(alloc, &origin(alloc, SEED, i)?)?;
-        links.push(MemoryLink::new(alloc, response, Vec::new(alloc)))?;
+        links.push(MemoryLink::new(alloc, response_of(alloc, i)?, Vec::new(alloc)))?;
     }
     Ok(links)
+}
+
+/// What the origin of an exchange sends.
+fn response_of(alloc: Global, i: u32) -> Result<Vec<u8>, Memory> {
+    bytes_of(alloc, &origin(alloc, SEED, i)?)
 }
 
 /// What the clock answers.
