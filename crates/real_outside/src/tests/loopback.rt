@@ -432,18 +432,21 @@ fn a_connect_has_its_limit(rt: HostRuntime) {
 struct OnePlace {
     gate: RealGate<HostRuntime>,
     link: RealLink<HostRuntime>,
-    _clients: [TcpStream; 2],
+    _first: TcpStream,
+    _second: TcpStream,
 }
 
 /// Such a gate.
 fn one_taken(rt: HostRuntime) -> Option<OnePlace> {
     let (mut gate, port) = gate_on(rt, SHORT)?;
-    let clients = [client_of(rt, port)?, client_of(rt, port)?];
+    let first = client_of(rt, port)?;
+    let second = client_of(rt, port)?;
     let link = accepted(&mut gate)?;
     Some(OnePlace {
         gate,
         link,
-        _clients: clients,
+        _first: first,
+        _second: second,
     })
 }
 
@@ -466,7 +469,8 @@ fn a_gate_has_so_many_places(rt: HostRuntime) {
         OnePlace {
             gate,
             link,
-            _clients,
+            _first,
+            _second,
         },
     ) = one_taken(rt)
     else {
