@@ -1,9 +1,9 @@
-mod HeadLaws
+pub mod HeadLaws
 mod LineFeeds
 mod TargetLemmas
-mod ChunkLaws
-mod CutLaws
-mod GrowthLaws
-mod PayloadLaws
-mod CutResponseLaws
+pub mod ChunkLaws
+pub mod CutLaws
+pub mod GrowthLaws
+pub mod PayloadLaws
+pub mod CutResponseLaws
 mod Rows
