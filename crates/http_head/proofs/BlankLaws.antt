@@ -6,7 +6,7 @@ use Rattle.capture.specs.Head.{head_end, head_len, line_ends_len, after_line_end
 use Rattle.capture.specs.Head as head
 use Rattle.capture.specs.declared.limits.TheConstants.{HEAD_LIMIT}
 use Rattle.http_head.specs.HeadReading.{IsOpen, IsBlank}
-use Rattle.http_head.specs.HeadSeek.{next_seek, seek_after}
+use Rattle.http_head.specs.steps.HeadSeek.{next_seek, seek_after}
 use Rattle.http_head.specs.declared.seek.Seek.{Seek}
 use Rattle.http_head.specs.declared.seek.Seek.TheVariants.{Before, BeforeCr, Line, AfterLf, AfterLfCr, Ended}
 use Rattle.http_head.proofs.SeekLaws.{cases_byte, line_ends_len-other, line_ends_len-cr_other, after_line_ends-lf, after_line_ends-crlf}

@@ -5,7 +5,7 @@ use Rattle.std.proofs.lemmas.List.{take-take}
 use Rattle.capture.specs.Head.{head_end, front_by}
 use Rattle.capture.specs.declared.limits.TheConstants.{HEAD_LIMIT}
 use Rattle.http_head.specs.HeadReading.{IsOpen, IsTooLong}
-use Rattle.http_head.specs.HeadSeek.{seek_after}
+use Rattle.http_head.specs.steps.HeadSeek.{seek_after}
 use Rattle.http_head.specs.declared.seek.Seek.{Seek}
 use Rattle.http_head.specs.declared.seek.Seek.TheVariants.{Before, Ended}
 use Rattle.http_head.proofs.SeekLaws.{seek_after-append, open_from_going, going_from_open, ended_has_end, ends_last}

@@ -6,7 +6,7 @@ use Rattle.capture.specs.Head.{head_end, head_len, line_ends_len, field_lines, f
 use Rattle.capture.specs.Head as head
 use Rattle.capture.specs.declared.limits.TheConstants.{HEAD_LIMIT, FIELD_LIMIT}
 use Rattle.http_head.specs.FrontLaws.{EndsStay, HeadsStay, TooLongStays}
-use Rattle.http_head.specs.HeadSeek.{next_seek, seek_after}
+use Rattle.http_head.specs.steps.HeadSeek.{next_seek, seek_after}
 use Rattle.http_head.specs.declared.seek.Seek.{Seek}
 use Rattle.http_head.specs.declared.seek.Seek.TheVariants.{Before, BeforeCr, Line, AfterLf, AfterLfCr, Ended}
 use Rattle.http_head.proofs.SeekLaws.{cases_byte, shift, shift-some, shift-none, further-going, at_end-going, at_end-some, rest_len, rest_len-ended, seeks_end, head_end-lf, head_end-crlf, head_len-other, head_end-other, line_ends_len-other, line_ends_len-cr_other, ended_has_end, ends_last, open_from_going}

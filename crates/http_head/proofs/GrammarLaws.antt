@@ -12,7 +12,7 @@ use Rattle.httparse.specs.declared.spans.HeaderSpan.{HeaderSpan}
 use Rattle.httparse.specs.Grammar.{is_token_byte, IsToken, LineEnd, crlf, lf, print_end, print_blank, print_version, Field, IsField, print_field, print_section, RequestHead, IsRequestHead, print_request, ResponseHead, print_response, print_reason}
 use Rattle.httparse.specs.Spans.{span_bytes, header_bytes, name_and_value}
 use Rattle.capture.specs.Head.{line_ends_len}
-use Rattle.http_head.specs.HeadSpans.{HasAsciiNames}
+use Rattle.http_head.specs.steps.HeadSpans.{HasAsciiNames}
 use Rattle.http_head.proofs.SeekLaws.{line_ends_len-lf, line_ends_len-other}
 
 -- ---- tokens

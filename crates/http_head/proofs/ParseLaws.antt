@@ -10,7 +10,7 @@ use Rattle.httparse.specs.Grammar.{RequestHead, ReadsRequest, print_request, Res
 use Rattle.httparse.specs.Spans.{span_bytes, IsRequestOf, IsResponseOf, FindsRequest, FindsResponse, RequestOverflows, ResponseOverflows}
 use Rattle.capture.specs.Head.{line_ends_len}
 use Rattle.capture.specs.Message.{IsRequestHeadText, IsResponseHeadText}
-use Rattle.http_head.specs.HeadSpans.{SpansRequest, SpansResponse, HasAsciiNames}
+use Rattle.http_head.specs.steps.HeadSpans.{SpansRequest, SpansResponse, HasAsciiNames}
 use Rattle.http_head.proofs.GrammarLaws.{line_feeds, token_is_ascii, names_are_ascii, request_at_once, request_no_line_end, request_line_feeds, response_at_once, response_no_line_end, response_line_feeds}
 
 -- ---- requests

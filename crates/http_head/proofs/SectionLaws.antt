@@ -10,8 +10,8 @@ use Rattle.httparse.specs.Grammar.{print_section, ReadsSection}
 use Rattle.httparse.specs.Spans.{header_bytes, IsSectionOf, FindsSection, SectionOverflows}
 use Rattle.capture.specs.Head.{head_len, section_len}
 use Rattle.capture.specs.declared.memory.Memory.{Memory}
-use Rattle.http_head.specs.HeadSeek.{seek_after}
-use Rattle.http_head.specs.HeadSpans.{SpansSection, HasAsciiNames}
+use Rattle.http_head.specs.steps.HeadSeek.{seek_after}
+use Rattle.http_head.specs.steps.HeadSpans.{SpansSection, HasAsciiNames}
 use Rattle.http_head.specs.Sections.{IsSection, HoldsFields}
 use Rattle.http_head.specs.Heads.{named_value}
 use Rattle.http_head.specs.declared.head.Field.{Field}

@@ -6,7 +6,7 @@ use Rattle.std.proofs.lemmas.Bool.{cases_Bool}
 use Rattle.std.proofs.lemmas.Bool.Decides.{eqb_tells}
 use Rattle.std.proofs.Math.Seq.{take-add}
 use Rattle.capture.specs.Head.{head_end, head_len, line_ends_len, empty_line_len, after_line_ends}
-use Rattle.http_head.specs.HeadSeek.{next_seek, seek_after}
+use Rattle.http_head.specs.steps.HeadSeek.{next_seek, seek_after}
 use Rattle.http_head.specs.declared.seek.Seek.{Seek}
 use Rattle.http_head.specs.declared.seek.Seek.TheVariants.{Before, BeforeCr, Line, AfterLf, AfterLfCr, Ended}
 

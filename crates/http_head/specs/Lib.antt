@@ -1,6 +1,5 @@
 pub mod FrontLaws
 pub mod HeadReading
-pub mod HeadSeek
-pub mod HeadSpans
 pub mod Heads
 pub mod Sections
+pub mod steps

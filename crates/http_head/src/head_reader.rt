@@ -42,7 +42,7 @@ pub struct HeadReader {
 impl Model for HeadReader {
     ghost use Rattle.std.specs.Prelude.{◌≡◌, List, ℕ};
     ghost use Rattle.http_head.specs.declared.seek.Seek.TheVariants.{Before};
-    ghost use Rattle.http_head.specs.HeadSeek.{seek_after};
+    ghost use Rattle.http_head.specs.steps.HeadSeek.{seek_after};
 
     ghost Value = { List ℕ };
 

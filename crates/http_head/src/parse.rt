@@ -5,7 +5,7 @@ ghost use Rattle.httparse.specs.Grammar.{RequestHead as RequestForm, ResponseHea
 ghost use Rattle.httparse.specs.Spans.{IsRequestWithin, IsResponseWithin};
 ghost use Rattle.capture.specs.Message.{IsRequestHeadText, IsResponseHeadText};
 ghost use Rattle.http_head.specs.Heads.{HoldsRequest, HoldsResponse, IsHeadFault};
-ghost use Rattle.http_head.specs.HeadSpans.{SpansRequest, SpansResponse};
+ghost use Rattle.http_head.specs.steps.HeadSpans.{SpansRequest, SpansResponse};
 
 use super::head::{RequestHead, ResponseHead, WireFault};
 use super::lines::line_ends_len;

@@ -2,7 +2,7 @@
 ghost use Rattle.std.specs.Prelude.{◌≡◌, ◌≤◌, length, map, All, IsAscii, IfOk};
 ghost use Rattle.httparse.specs.Spans.{IsHeaderWithin, span_bytes, header_bytes};
 ghost use Rattle.http_head.specs.Heads.{named_value, minor_of};
-ghost use Rattle.http_head.specs.HeadSpans.{HasAsciiNames};
+ghost use Rattle.http_head.specs.steps.HeadSpans.{HasAsciiNames};
 
 use super::head::{Field, Version};
 use capture::{Bytes, Items, Memory, Text};

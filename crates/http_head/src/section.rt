@@ -4,7 +4,7 @@ ghost use Rattle.httparse.specs.Ascii.{line_feed};
 ghost use Rattle.httparse.specs.Spans.{IsSectionWithin};
 ghost use Rattle.capture.specs.Head.{section_len};
 ghost use Rattle.http_head.specs.Heads.{IsHeadFault};
-ghost use Rattle.http_head.specs.HeadSpans.{SpansSection};
+ghost use Rattle.http_head.specs.steps.HeadSpans.{SpansSection};
 ghost use Rattle.http_head.specs.Sections.{IsSection, HoldsFields};
 
 use crate::head::{Field, WireFault};

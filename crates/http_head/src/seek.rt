@@ -1,7 +1,7 @@
 //! Finds the end of a head.
 ghost use Rattle.std.specs.Prelude.{◌≡◌, ◌≢◌, ◌-◌, ◌<◌, ◌≤◌, length, take};
 ghost use Rattle.capture.specs.Head.{head_end};
-ghost use Rattle.http_head.specs.HeadSeek.{next_seek, seek_after};
+ghost use Rattle.http_head.specs.steps.HeadSeek.{next_seek, seek_after};
 
 use memchr::memchr;
 

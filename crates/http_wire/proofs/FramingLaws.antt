@@ -12,7 +12,7 @@ use Rattle.capture.specs.declared.limits.TheConstants.{BODY_LIMIT}
 use Rattle.http_head.specs.declared.head.WireFault.{WireFault}
 use Rattle.http_head.specs.declared.head.WireFault.TheVariants as wire
 use Rattle.message_body.specs.Framings.{framing_answer}
-use Rattle.http_wire.specs.Told.{IsTold}
+use Rattle.http_wire.specs.steps.Told.{IsTold}
 
 abbrev Answer : Type 0
 Answer = Result Framing WireFault

@@ -27,7 +27,7 @@ use Rattle.http_wire.specs.Messages.{IsRequest}
 use Rattle.http_wire.specs.Parts.{RequestAgrees, request_bytes}
 use Rattle.http_wire.specs.Reading.{EndsWithHead, HasFault, LacksHead, Takes, TakesSome, Standing, Open, Whole, Failed}
 use Rattle.http_wire.specs.RequestReading.{EndsBetween}
-use Rattle.http_wire.specs.Told.{IsTold}
+use Rattle.http_wire.specs.steps.Told.{IsTold}
 use Rattle.http_wire.specs.declared.held.Held.{Held}
 use Rattle.http_wire.specs.declared.held.ClosedBody.{ClosedBody}
 use Rattle.http_wire.specs.declared.held.Held.TheVariants.{Before, Open as OpenBody, Closed}

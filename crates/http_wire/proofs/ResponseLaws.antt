@@ -27,7 +27,7 @@ use Rattle.http_wire.specs.HeldBodies.{held_bytes, held_standing, closed_standin
 use Rattle.http_wire.specs.Messages.{IsResponse}
 use Rattle.http_wire.specs.Parts.{ResponseAgrees, response_bytes}
 use Rattle.http_wire.specs.Reading.{EndsWithHead, HasFault, LacksHead, Takes, TakesSome, Standing, Open, Failed}
-use Rattle.http_wire.specs.Told.{IsTold}
+use Rattle.http_wire.specs.steps.Told.{IsTold}
 use Rattle.http_wire.specs.declared.held.Held.{Held}
 use Rattle.http_wire.specs.declared.held.ClosedBody.{ClosedBody}
 use Rattle.http_wire.specs.declared.held.Held.TheVariants.{Before, Open as OpenBody, Closed}

@@ -8,5 +8,5 @@ pub mod Reading
 pub mod RequestReading
 pub mod ResponseReading
 pub mod Storing
-pub mod Told
 pub mod WholeRequests
+pub mod steps

@@ -3,7 +3,7 @@ ghost use Rattle.std.specs.Prelude.{◌≡◌, Result};
 ghost use Rattle.capture.specs.declared.framing.Framing.{Framing};
 ghost use Rattle.capture.specs.declared.framing.FramingFault.{FramingFault};
 ghost use Rattle.message_body.specs.Framings.{framing_answer, told_by_request, told_by_response};
-ghost use Rattle.http_wire.specs.Told.{IsTold};
+ghost use Rattle.http_wire.specs.steps.Told.{IsTold};
 
 use capture::{BODY_LIMIT, Framing};
 use http_head::{RequestHead, ResponseHead, WireFault};

@@ -9,7 +9,7 @@ use Rattle.capture.specs.Chunks.{Chunk, IsChunk, print_chunk, InLine, InData, In
 use Rattle.capture.specs.FirstChunks.{RefusesChunked, IsOverLimit}
 use Rattle.capture.specs.declared.framing.MessageFault.TheVariants.{Malformed, BodyTooLong}
 use Rattle.capture.specs.declared.limits.TheConstants.{BODY_LIMIT}
-use Rattle.message_body.specs.ChunkPlaces.{InLineAt, InDataAt, InLineEndAt}
+use Rattle.message_body.specs.steps.ChunkPlaces.{InLineAt, InDataAt, InLineEndAt}
 use Rattle.message_body.proofs.PlaceLaws.{cut_len, cut_grows, refuses, at_limit, below_limit}
 
 -- ---- data

@@ -4,7 +4,7 @@ use Rattle.std.proofs.Math.Seq.{take-add}
 use Rattle.capture.specs.FirstChunks.{RefusesChunked}
 use Rattle.capture.specs.declared.framing.MessageFault.TheVariants.{Malformed, BodyTooLong}
 use Rattle.capture.specs.declared.limits.TheConstants.{BODY_LIMIT}
-use Rattle.message_body.specs.ChunkPlaces.{InLineAt, InDataAt, InLineEndAt}
+use Rattle.message_body.specs.steps.ChunkPlaces.{InLineAt, InDataAt, InLineEndAt}
 use Rattle.message_body.proofs.ChunkEndLaws.{data_goes_on, data_ends, some_left, line_end_fits, line_end_over, no_cr, no_lf, cr_comes, lf_comes}
 use Rattle.message_body.proofs.LineSteps.{at_byte, len_at}
 

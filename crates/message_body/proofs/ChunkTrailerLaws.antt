@@ -8,9 +8,9 @@ use Rattle.capture.specs.FirstChunks.{HoldsChunked, RefusesChunked, EndsTrailer,
 use Rattle.capture.specs.Head.{section_len, trailer_lines}
 use Rattle.capture.specs.declared.framing.MessageFault.TheVariants.{Malformed, HeadTooLong, BodyTooLong}
 use Rattle.capture.specs.declared.limits.TheConstants.{BODY_LIMIT, FIELD_LIMIT, HEAD_LIMIT}
-use Rattle.message_body.specs.ChunkPlaces.{InTrailerAt}
+use Rattle.message_body.specs.steps.ChunkPlaces.{InTrailerAt}
 use Rattle.http_head.specs.Sections.{IsSection}
-use Rattle.message_body.specs.TrailerPlaces.{next_place, place_after}
+use Rattle.message_body.specs.steps.TrailerPlaces.{next_place, place_after}
 use Rattle.message_body.specs.declared.trailer.TrailerPlace.{TrailerPlace}
 use Rattle.message_body.specs.declared.trailer.TrailerPlace.TheVariants.{LineStart, Ended}
 use Rattle.message_body.proofs.PlaceLaws.{cut_len, cut_grows, refuses, at_limit, below_limit}

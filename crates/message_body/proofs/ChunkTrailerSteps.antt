@@ -6,9 +6,9 @@ use Rattle.capture.specs.FirstChunks.{HoldsChunked, RefusesChunked}
 use Rattle.capture.specs.Head.{line_count, trailer_lines}
 use Rattle.capture.specs.declared.framing.MessageFault.TheVariants.{Malformed, HeadTooLong, BodyTooLong}
 use Rattle.capture.specs.declared.limits.TheConstants.{BODY_LIMIT, FIELD_LIMIT, HEAD_LIMIT}
-use Rattle.message_body.specs.ChunkPlaces.{InTrailerAt}
+use Rattle.message_body.specs.steps.ChunkPlaces.{InTrailerAt}
 use Rattle.http_head.specs.Sections.{IsSection}
-use Rattle.message_body.specs.TrailerPlaces.{next_place}
+use Rattle.message_body.specs.steps.TrailerPlaces.{next_place}
 use Rattle.message_body.specs.declared.trailer.TrailerPlace.{TrailerPlace}
 use Rattle.message_body.specs.declared.trailer.TrailerPlace.TheVariants.{Ended}
 use Rattle.message_body.proofs.ChunkTrailerLaws.{IsShortStill, trailer_fits, trailer_too_long, many_lines, trailer_over, end_over, no_section, trailer_goes_on, body_ends}

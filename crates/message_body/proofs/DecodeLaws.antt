@@ -9,7 +9,7 @@ use Rattle.capture.specs.Head.{section_len}
 use Rattle.capture.specs.HeadLaws.{SectionsEnd}
 use Rattle.capture.specs.Payload.{IsJoined, IsCutJoined}
 use Rattle.http_head.specs.Sections.{IsSection}
-use Rattle.message_body.specs.Splits.{HasNoBody, HasNoCut, HoldsChunk, HoldsLast, HoldsCut}
+use Rattle.message_body.specs.steps.Splits.{HasNoBody, HasNoCut, HoldsChunk, HoldsLast, HoldsCut}
 use Rattle.message_body.proofs.SplitLaws.{LineFirst, body_text, print_first, tail_of, no_body_at_last, no_cut_at_last}
 use Rattle.message_body.proofs.SplitSteps.{no_body_behind, no_cut_behind}
 

@@ -10,7 +10,7 @@ use Rattle.capture.specs.Chunks.{print_chunk}
 use Rattle.capture.specs.FirstChunks.{RefusesChunked}
 use Rattle.capture.specs.declared.framing.MessageFault.TheVariants.{Malformed, BodyTooLong}
 use Rattle.capture.specs.declared.limits.TheConstants.{BODY_LIMIT, SIZE_LINE_LIMIT}
-use Rattle.message_body.specs.ChunkPlaces.{InLineAt, InDataAt, InTrailerAt}
+use Rattle.message_body.specs.steps.ChunkPlaces.{InLineAt, InDataAt, InTrailerAt}
 use Rattle.message_body.specs.declared.trailer.TrailerPlace.TheVariants.{LineStart}
 use Rattle.message_body.proofs.SplitSteps.{never_is_none}
 use Rattle.message_body.proofs.PlaceLaws.{LineEnds, line_over, line_too_long, line_goes_on, line_is_none, line_is_big, line_to_data, line_to_trailer}

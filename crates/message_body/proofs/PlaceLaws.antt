@@ -10,7 +10,7 @@ use Rattle.capture.specs.declared.framing.Framing.TheVariants.{Chunked}
 use Rattle.capture.specs.declared.framing.MessageFault.{MessageFault}
 use Rattle.capture.specs.declared.framing.MessageFault.TheVariants.{Malformed, BodyTooLong}
 use Rattle.capture.specs.declared.limits.TheConstants.{BODY_LIMIT, SIZE_LINE_LIMIT}
-use Rattle.message_body.specs.ChunkPlaces.{IsCutAt, InLineAt, InDataAt, InTrailerAt, StandsAt, IsGoing}
+use Rattle.message_body.specs.steps.ChunkPlaces.{IsCutAt, InLineAt, InDataAt, InTrailerAt, StandsAt, IsGoing}
 use Rattle.message_body.specs.declared.chunk_place.ChunkPlace.{ChunkPlace}
 use Rattle.message_body.specs.declared.chunk_place.ChunkPlace.TheVariants.{Line, Data, LineEnd, LineEndCr, Trailer, Whole, Refused}
 use Rattle.message_body.specs.declared.trailer.TrailerPlace.TheVariants.{LineStart}

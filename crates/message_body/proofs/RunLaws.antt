@@ -3,8 +3,8 @@ use Rattle.std.proofs.Common.{◌≡◌, ◌≢◌, ℕ, zero, suc, ◌+◌, ◌
 use Rattle.std.proofs.lemmas.Bool.{ne_eqb}
 use Rattle.std.proofs.lemmas.List.{get_or-drop, get_or-take}
 use Rattle.capture.specs.declared.limits.TheConstants.{BODY_LIMIT, HEAD_LIMIT, SIZE_LINE_LIMIT}
-use Rattle.message_body.specs.ChunkPlaces.{InLineAt, InTrailerAt}
-use Rattle.message_body.specs.TrailerPlaces.{next_place}
+use Rattle.message_body.specs.steps.ChunkPlaces.{InLineAt, InTrailerAt}
+use Rattle.message_body.specs.steps.TrailerPlaces.{next_place}
 use Rattle.message_body.specs.declared.trailer.TrailerPlace.TheVariants.{InLine, Ended}
 use Rattle.message_body.proofs.ChunkTrailerSteps.{goes_on_at}
 use Rattle.message_body.proofs.LineSteps.{line_goes_on_at}

@@ -9,7 +9,7 @@ use Rattle.httparse.proofs.ChunkLemmas.{chunk_line_unique}
 use Rattle.capture.specs.Chunks.{Chunk, ChunkedBody, IsChunk, IsChunkedBody, print_chunk, print_chunked, Begun, InLine, InData, InLineEnd, InTrailer, IsBegun, IsBegunLineEnd, print_begun, CutBody, IsCutBody, print_cut}
 use Rattle.capture.specs.Head.{section_len}
 use Rattle.http_head.specs.Sections.{IsSection}
-use Rattle.message_body.specs.Splits.{HasNoBody, HasNoCut}
+use Rattle.message_body.specs.steps.Splits.{HasNoBody, HasNoCut}
 
 -- ---- lines
 

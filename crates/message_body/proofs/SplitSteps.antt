@@ -13,7 +13,7 @@ use Rattle.httparse.proofs.RunLemmas.{length-slice_range}
 use Rattle.httparse.proofs.TrimLemmas.{slice_empty}
 use Rattle.capture.specs.Chunks.{IsChunk, InLine, InData, InLineEnd, IsBegunLineEnd}
 use Rattle.memchr.specs.Find.{Nowhere, Passes, is_byte}
-use Rattle.message_body.specs.Splits.{HasNoBody, HasNoCut, HoldsChunk, HoldsLast, HoldsCut, HoldsData, IsLineEndSeen}
+use Rattle.message_body.specs.steps.Splits.{HasNoBody, HasNoCut, HoldsChunk, HoldsLast, HoldsCut, HoldsData, IsLineEndSeen}
 use Rattle.message_body.specs.declared.split.LineEndSeen.TheVariants.{Wrong}
 use Rattle.message_body.proofs.SplitLaws.{DataFirst, no_body_without_line, no_cut_without_line, no_body_at_data, no_cut_at_data}
 

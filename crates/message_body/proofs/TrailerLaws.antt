@@ -3,7 +3,7 @@ use Rattle.std.proofs.Common.{◌≡◌, ◌≢◌, ℕ, ◌+◌, false, eqb, Li
 use Rattle.std.specs.Prelude.{option_map}
 use Rattle.std.proofs.lemmas.Bool.Decides.{eqb_tells}
 use Rattle.capture.specs.Head.{head_len, section_len, empty_line_len}
-use Rattle.message_body.specs.TrailerPlaces.{next_place, place_after}
+use Rattle.message_body.specs.steps.TrailerPlaces.{next_place, place_after}
 use Rattle.message_body.specs.declared.trailer.TrailerPlace.{TrailerPlace}
 use Rattle.message_body.specs.declared.trailer.TrailerPlace.TheVariants.{LineStart, LineStartCr, InLine, Ended}
 

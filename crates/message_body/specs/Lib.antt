@@ -1,11 +1,7 @@
 pub mod BodyLaws
 pub mod BodySoFar
 pub mod BodyStream
-pub mod ChunkPlaces
-pub mod Decoding
 pub mod Framings
 pub mod Lent
-pub mod Numerals
 pub mod Readings
-pub mod Splits
-pub mod TrailerPlaces
+pub mod steps

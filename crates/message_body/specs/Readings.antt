@@ -3,7 +3,7 @@ use Rattle.std.specs.Prelude.{◌≡◌, ℕ, ◌+◌, ◌≤◌, List, [], leng
 use Rattle.capture.specs.declared.framing.Framing.{Framing}
 use Rattle.capture.specs.declared.framing.Framing.TheVariants as framing
 use Rattle.capture.specs.declared.limits.TheConstants.{BODY_LIMIT}
-use Rattle.message_body.specs.ChunkPlaces.{StandsAt}
+use Rattle.message_body.specs.steps.ChunkPlaces.{StandsAt}
 use Rattle.message_body.specs.declared.chunk_place.ChunkPlace.{ChunkPlace}
 use Rattle.message_body.specs.declared.chunk_place.ChunkPlace.TheVariants.{Line, Data, LineEnd, LineEndCr, Trailer, Whole, Refused}
 use Rattle.message_body.specs.declared.fed.BodyProgress.{BodyProgress}

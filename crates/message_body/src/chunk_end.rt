@@ -1,7 +1,7 @@
 //! Reads a chunk's data, and the line end behind them.
 ghost use Rattle.std.specs.Prelude.{◌≡◌, ◌+◌, ◌<◌, ◌≤◌, [], ◌∷◌, length, take};
 ghost use Rattle.httparse.specs.Ascii.{carriage_return};
-ghost use Rattle.message_body.specs.ChunkPlaces.{StandsAt, IsGoing, InDataAt, InLineEndAt};
+ghost use Rattle.message_body.specs.steps.ChunkPlaces.{StandsAt, IsGoing, InDataAt, InLineEndAt};
 
 use crate::chunk_place::{ChunkPlace, ChunkStep};
 use capture::{BODY_LIMIT, MessageFault};

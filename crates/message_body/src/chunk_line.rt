@@ -1,7 +1,7 @@
 //! Reads the size line of a chunk.
 ghost use Rattle.std.specs.Prelude.{◌≡◌, ◌+◌, ◌<◌, length, take, slice_index};
 ghost use Rattle.httparse.specs.Ascii.{line_feed};
-ghost use Rattle.message_body.specs.ChunkPlaces.{StandsAt, InLineAt};
+ghost use Rattle.message_body.specs.steps.ChunkPlaces.{StandsAt, InLineAt};
 
 use crate::chunk_place::ChunkPlace;
 use crate::trailer::TrailerPlace;

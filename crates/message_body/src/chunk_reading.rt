@@ -2,7 +2,7 @@
 ghost use Rattle.std.specs.Prelude.{◌≡◌, ◌+◌, ◌-◌, ◌<◌, ◌≤◌, ◌↔◌, length, take, IsTrue, IfOk};
 ghost use Rattle.capture.specs.Body.{IsCutWire};
 ghost use Rattle.capture.specs.declared.framing.Framing.TheVariants.{Chunked};
-ghost use Rattle.message_body.specs.ChunkPlaces.{StandsAt, IsGoing, InLineAt, InTrailerAt};
+ghost use Rattle.message_body.specs.steps.ChunkPlaces.{StandsAt, IsGoing, InLineAt, InTrailerAt};
 
 use crate::chunk_end::{step_data, step_line_end, step_line_end_cr};
 use crate::chunk_line::step_line;

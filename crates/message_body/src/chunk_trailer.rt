@@ -1,7 +1,7 @@
 //! Reads the trailer section of a chunked body.
 ghost use Rattle.std.specs.Prelude.{◌≡◌, ◌+◌, ◌<◌, ◌≤◌, length, take, slice_index, IfOk};
-ghost use Rattle.message_body.specs.ChunkPlaces.{StandsAt, InTrailerAt};
-ghost use Rattle.message_body.specs.TrailerPlaces.{next_place};
+ghost use Rattle.message_body.specs.steps.ChunkPlaces.{StandsAt, InTrailerAt};
+ghost use Rattle.message_body.specs.steps.TrailerPlaces.{next_place};
 
 use crate::chunk_place::ChunkPlace;
 use crate::trailer::TrailerPlace;

@@ -1,6 +1,6 @@
 //! Decodes a chunked body in one pass.
 ghost use Rattle.std.specs.Prelude.{◌≡◌, IfOk};
-ghost use Rattle.message_body.specs.Decoding.{IsDecoded, IsTrailerSeen};
+ghost use Rattle.message_body.specs.steps.Decoding.{IsDecoded, IsTrailerSeen};
 
 use crate::split::{Split, split_chunk};
 use capture::{Bytes, Memory, heads_end_at_the_first_empty_line};

@@ -3,7 +3,7 @@ ghost use Rattle.std.specs.Prelude.{◌≡◌, ◌+◌, ◌-◌, ◌<◌, ◌≤
 ghost use Rattle.capture.specs.Body.{IsCutWire};
 ghost use Rattle.capture.specs.declared.framing.Framing.TheVariants as framing;
 ghost use Rattle.message_body.specs.BodySoFar.{ReachesBody, IsSoonest};
-ghost use Rattle.message_body.specs.ChunkPlaces.{StandsAt, IsGoing};
+ghost use Rattle.message_body.specs.steps.ChunkPlaces.{StandsAt, IsGoing};
 ghost use Rattle.message_body.specs.Readings as spec;
 
 use crate::chunk_place::{ChunkPlace, ChunkStep};

@@ -21,7 +21,7 @@ impl<'t> Model for Number<'t> {
 
     ghost Value = { ℕ };
 
-    ghost use Rattle.message_body.specs.Numerals.{IsNumeral};
+    ghost use Rattle.message_body.specs.steps.Numerals.{IsNumeral};
 
     ghost view = { λ n. digits_value 10 n.digits.now };
 

@@ -1,7 +1,7 @@
 //! Runs of bytes inside a line of a chunked body. None of them is looked at for itself, so they are passed at once.
 ghost use Rattle.std.specs.Prelude.{◌≡◌, ◌≢◌, ◌<◌, ◌≤◌, ℕ, length, take, slice_index};
 ghost use Rattle.httparse.specs.Ascii.{line_feed};
-ghost use Rattle.message_body.specs.ChunkPlaces.{InLineAt, InTrailerAt};
+ghost use Rattle.message_body.specs.steps.ChunkPlaces.{InLineAt, InTrailerAt};
 
 use crate::trailer::TrailerPlace;
 use capture::{BODY_LIMIT, HEAD_LIMIT, SIZE_LINE_LIMIT};

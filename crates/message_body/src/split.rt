@@ -1,7 +1,7 @@
 //! Splits a chunked body chunk by chunk.
 ghost use Rattle.httparse.specs.Grammar.{ChunkLine, HasNoChunkLine};
 ghost use Rattle.httparse.specs.Spans.{IsChunkLineAt};
-ghost use Rattle.message_body.specs.Splits.{IsSplit, HoldsData, IsLineEndSeen};
+ghost use Rattle.message_body.specs.steps.Splits.{IsSplit, HoldsData, IsLineEndSeen};
 
 use httparse::spans::Span;
 use httparse::{Status, parse_chunk_size};

@@ -1,6 +1,6 @@
 //! Finds the end of a trailer section byte by byte.
 ghost use Rattle.std.specs.Prelude.{◌≡◌};
-ghost use Rattle.message_body.specs.TrailerPlaces.{next_place};
+ghost use Rattle.message_body.specs.steps.TrailerPlaces.{next_place};
 
 /// Where a trailer section so far stands.
 #[derive(Clone, Copy, Debug, PartialEq, Eq)]

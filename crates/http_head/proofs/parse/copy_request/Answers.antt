@@ -1,6 +1,6 @@
 use Rattle.std.proofs.Common.{sym, subst}
 use Rattle.std.specs.Prelude.{IsAscii}
-use Rattle.http_head.specs.HeadSpans.{HasAsciiNames}
+use Rattle.http_head.specs.steps.HeadSpans.{HasAsciiNames}
 use Rattle.http_head.proofs.ParseLaws.{request_method_is_ascii, request_names_are_ascii}
 use Rattle.http_head.proofs.parse.copy_request.Goals as goal
 

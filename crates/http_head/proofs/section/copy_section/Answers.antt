@@ -1,5 +1,5 @@
 use Rattle.std.proofs.Common.{sym, subst}
-use Rattle.http_head.specs.HeadSpans.{HasAsciiNames}
+use Rattle.http_head.specs.steps.HeadSpans.{HasAsciiNames}
 use Rattle.http_head.proofs.SectionLaws.{holds_fields, section_names_are_ascii}
 use Rattle.http_head.proofs.section.copy_section.Goals as goal
 

@@ -1,5 +1,5 @@
 use Rattle.std.proofs.Common.{◌≡◌, ◌≢◌, ◌-◌, ◌≤◌, length, take}
-use Rattle.http_head.specs.HeadSeek.{seek_after}
+use Rattle.http_head.specs.steps.HeadSeek.{seek_after}
 use Rattle.http_head.specs.declared.seek.Seek.TheVariants.{Ended}
 use Rattle.http_head.proofs.seek.seek_end.Given as goal
 

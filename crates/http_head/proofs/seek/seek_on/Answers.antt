@@ -1,5 +1,5 @@
 use Rattle.std.proofs.Common.{◌-◌, take, sym, ◌∙◌, ap, arith}
-use Rattle.http_head.specs.HeadSeek.{seek_after}
+use Rattle.http_head.specs.steps.HeadSeek.{seek_after}
 use Rattle.http_head.proofs.SeekLaws.{going_at_less}
 use Rattle.http_head.proofs.seek.seek_on.Goals as goal
 

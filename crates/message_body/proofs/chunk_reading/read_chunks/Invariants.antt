@@ -1,7 +1,7 @@
 use Rattle.std.proofs.Common.{◌-◌, ◌<◌, ◌≤◌, length, take}
 use Rattle.capture.specs.Body.{IsCutWire}
 use Rattle.capture.specs.declared.framing.Framing.TheVariants.{Chunked}
-use Rattle.message_body.specs.ChunkPlaces.{StandsAt, IsGoing}
+use Rattle.message_body.specs.steps.ChunkPlaces.{StandsAt, IsGoing}
 use Rattle.message_body.proofs.chunk_reading.read_chunks.Given as goal
 
 abbrev pub invariant-steps : goal.invariant-steps

@@ -1,5 +1,5 @@
 use Rattle.std.proofs.Common.{take, subst, sym, ◌+◌, ◌∙◌}
-use Rattle.message_body.specs.ChunkPlaces.{InTrailerAt}
+use Rattle.message_body.specs.steps.ChunkPlaces.{InTrailerAt}
 use Rattle.message_body.proofs.ChunkTrailerSteps.{TrailerByte, too_long_at, over_at, goes_on_at}
 use Rattle.message_body.proofs.chunk_trailer.step_trailer.Goals as goal
 

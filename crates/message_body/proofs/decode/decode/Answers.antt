@@ -3,7 +3,7 @@ use Rattle.std.proofs.lemmas.List.{drop-drop}
 use Rattle.capture.specs.Head.{section_len}
 use Rattle.capture.specs.Payload.{IsJoined, IsCutJoined}
 use Rattle.httparse.specs.Spans.{span_bytes}
-use Rattle.message_body.specs.Decoding.{IsTrailerSeen}
+use Rattle.message_body.specs.steps.Decoding.{IsTrailerSeen}
 use Rattle.http_head.specs.Sections.{IsSection}
 use Rattle.message_body.specs.declared.decode.TrailerSeen.TheVariants.{Wrong}
 use Rattle.message_body.proofs.DecodeLaws.{Decodes, decodes_further, whole_at_last, cut_at_last, neither_at_last, cut_at_end}

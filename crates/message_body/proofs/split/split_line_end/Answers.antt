@@ -1,6 +1,6 @@
 use Rattle.std.proofs.Common.{◌∙◌, sym, subst}
 use Rattle.capture.specs.Chunks.{IsBegunLineEnd}
-use Rattle.message_body.specs.Splits.{IsLineEndSeen}
+use Rattle.message_body.specs.steps.Splits.{IsLineEndSeen}
 use Rattle.message_body.specs.declared.split.LineEndSeen.TheVariants.{Wrong}
 use Rattle.message_body.proofs.SplitSteps.{chunk_at, cut_in_line_end, nothing_behind_data}
 use Rattle.message_body.proofs.split.split_line_end.Goals as goal

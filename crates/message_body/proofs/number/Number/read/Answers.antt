@@ -3,7 +3,7 @@ use Rattle.std.specs.Char.{is_ascii_digit}
 use Rattle.std.specs.List.{list_all}
 use Rattle.std.proofs.lemmas.Bool.{and_parts}
 use Rattle.std.specs.Str.Parse.{digits_value}
-use Rattle.message_body.specs.Numerals.{IsNumeral}
+use Rattle.message_body.specs.steps.Numerals.{IsNumeral}
 use Rattle.message_body.proofs.NumberLaws.{AreDigits, stripped}
 use Rattle.message_body.proofs.number.Number.read.Goals as goal
 

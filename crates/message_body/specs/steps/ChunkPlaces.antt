@@ -6,7 +6,7 @@ use Rattle.httparse.specs.Grammar.{ChunkLine, chunk_size}
 use Rattle.capture.specs.Body.{IsWithinLimits}
 use Rattle.capture.specs.Chunks.{Chunk, print_chunk, Begun, InLine, InData, InLineEnd, InTrailer, IsCutBody, print_cut}
 use Rattle.capture.specs.FirstChunks.{HoldsChunked, RefusesChunked}
-use Rattle.message_body.specs.TrailerPlaces.{place_after}
+use Rattle.message_body.specs.steps.TrailerPlaces.{place_after}
 use Rattle.message_body.specs.declared.trailer.TrailerPlace.{TrailerPlace}
 use Rattle.message_body.specs.declared.trailer.TrailerPlace.TheVariants.{LineStart, Ended}
 use Rattle.message_body.specs.declared.chunk_place.ChunkPlace.{ChunkPlace}

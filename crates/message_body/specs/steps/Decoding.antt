@@ -3,7 +3,7 @@ use Rattle.std.specs.Prelude.{◌≡◌, ◌≢◌, ℕ, None, List}
 use Rattle.capture.specs.Head.{section_len}
 use Rattle.capture.specs.Payload.{IsJoined, IsCutJoined}
 use Rattle.http_head.specs.Sections.{IsSection}
-use Rattle.message_body.specs.Splits.{HasNoBody, HasNoCut}
+use Rattle.message_body.specs.steps.Splits.{HasNoBody, HasNoCut}
 use Rattle.message_body.specs.declared.decode.Decoded.{Decoded}
 use Rattle.message_body.specs.declared.decode.Decoded.TheVariants.{Whole, Cut, Neither}
 use Rattle.message_body.specs.declared.decode.TrailerSeen.{TrailerSeen}
