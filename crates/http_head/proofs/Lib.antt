@@ -1,8 +1,8 @@
 mod BlankLaws
 mod FeedLaws
-mod FrontLaws
+pub mod FrontLaws
 mod GrammarLaws
 mod LimitLaws
 mod ParseLaws
-mod SectionLaws
+pub mod SectionLaws
 mod SeekLaws

@@ -1,14 +1,20 @@
 -- What the parser's answers say of a text that is to be one section of field lines, and where such a section ends.
-use Rattle.std.proofs.Common.{◌≡◌, ◌≢◌, ℕ, zero, suc, ◌+◌, ◌-◌, ◌≤◌, List, [], ◌∷◌, ◌++◌, length, take, drop, get_or, Option, Some, None, Ok, inl, inr, refl, sym, ap, subst, ◌∙◌, arith, append-nil, length-take}
-use Rattle.std.specs.Prelude.{IfOk, Result, map}
+use Rattle.std.proofs.Common.{◌≡◌, ◌≢◌, ℕ, zero, suc, ◌+◌, ◌-◌, ◌≤◌, true, List, [], ◌∷◌, ◌++◌, length, take, drop, get_or, Option, Some, None, Ok, inl, inr, refl, sym, ap, subst, ◌∙◌, arith, append-nil, length-take}
+use Rattle.std.specs.Prelude.{All, IfOk, Result, map}
+use Rattle.std.specs.Char.{is_ascii_digit}
 use Rattle.std.proofs.lemmas.Bool.Decides.{eqb_tells}
 use Rattle.std.proofs.lemmas.List.{drop_all, take_all, take_more, take-append-drop}
+use Rattle.std.proofs.lemmas.List.Elements.{All-cons, All-nil}
 use Rattle.std.proofs.lemmas.Result.{IfOk-weaker}
 use Rattle.httparse.specs.declared.Status.TheVariants.{Complete}
 use Rattle.httparse.specs.declared.spans.HeaderSpan.{HeaderSpan}
-use Rattle.httparse.specs.Grammar.{print_section, ReadsSection}
+use Rattle.httparse.specs.Grammar.{LineEnd, IsField, print_section, ReadsSection, ResponseHead, print_response, AllPass, is_value_byte}
+use Rattle.httparse.specs.Grammar as grammar
 use Rattle.httparse.specs.Spans.{header_bytes, IsSectionOf, FindsSection, SectionOverflows}
-use Rattle.capture.specs.Head.{head_len, section_len}
+use Rattle.capture.specs.Head.{head_end, head_len, section_len}
+use Rattle.capture.specs.HeadLaws.{SectionsEnd}
+use Rattle.capture.specs.Message.{BeginsWithResponse}
+use Rattle.capture.proofs.HeadLaws.{response_heads_end}
 use Rattle.capture.specs.declared.memory.Memory.{Memory}
 use Rattle.http_head.specs.steps.HeadSeek.{seek_after}
 use Rattle.http_head.specs.steps.HeadSpans.{SpansSection, HasAsciiNames}
@@ -127,3 +133,60 @@ pub found_no_section : (text : List ℕ) (u : ℕ) → u ≡ length text → see
 found_no_section text u all going =
     let whole : take u text ≡ text = take_all u text (omega (arith, all)) in
     sym (section_is_rest text ∙ rest_len-going AfterLf text (λ e. going (ap (seek_after AfterLf) whole ∙ e)))
+
+-- ---- a section of the grammar ends at its first empty line, as it does behind the first line of a head
+
+-- the head of a first line and these fields
+abbrev head_of : List grammar.Field → LineEnd → ResponseHead
+head_of fields last = record {
+  blank = [];
+  minor = 0;
+  digits = 50 ∷ 48 ∷ 48 ∷ [];
+  reason = None;
+  line_end = grammar.lf;
+  fields = fields;
+  last = last;
+}
+
+three_digits : AllPass is_ascii_digit (50 ∷ 48 ∷ 48 ∷ [])
+three_digits =
+    let digit : ℕ → Type 0 = λ b. is_ascii_digit b ≡ true in
+    All-cons digit 50 (48 ∷ 48 ∷ []) refl (All-cons digit 48 (48 ∷ []) refl (All-cons digit 48 [] refl (All-nil digit)))
+
+head_begins : (fields : List grammar.Field) (last : LineEnd) (rest : List ℕ) → All IsField fields
+    → BeginsWithResponse (print_response (head_of fields last) ++ rest) (head_of fields last) rest
+head_begins fields last rest all = record {
+  reads = (
+    record { minor = omega arith; digits = (refl, three_digits); reason = All-nil (λ b. is_value_byte b ≡ true); fields = all },
+    refl,
+  );
+  at_once = refl;
+  status = omega arith;
+  no_switch = λ e. omega (arith, e);
+}
+
+-- the twelve bytes of the first line
+behind_twelve : (o : Option ℕ)
+    → shift 0 (shift 1 (shift 1 (shift 1 (shift 1 (shift 1 (shift 1 (shift 1 (shift 1 (shift 1 (shift 1 (shift 1 (shift 1 o)))))))))))) ≡ shift 12 o
+behind_twelve None = refl
+behind_twelve (Some n) = ap Some (omega arith)
+
+first_line_passed : (fields : List grammar.Field) (last : LineEnd) (rest : List ℕ)
+    → head_end (print_response (head_of fields last) ++ rest) ≡ shift 12 (head_len (10 ∷ (print_section fields last ++ rest)))
+unfolding print_response
+first_line_passed fields last rest = behind_twelve (head_len (10 ∷ (print_section fields last ++ rest)))
+
+head_length : (fields : List grammar.Field) (last : LineEnd) → length (print_response (head_of fields last)) ≡ 13 + length (print_section fields last)
+unfolding print_response
+head_length fields last = omega arith
+
+thirteen_less : (o : Option ℕ) (n m : ℕ) → shift 12 (shift 1 o) ≡ Some n → n ≡ 13 + m → o ≡ Some m
+thirteen_less None n m e long = cc
+thirteen_less (Some k) n m e long = let f : 12 + (1 + k) ≡ n = cc in ap Some (omega (arith, f, long))
+
+pub sections_end : SectionsEnd
+sections_end fields last rest all =
+    let section = print_section fields last in
+    let whole = response_heads_end (print_response (head_of fields last) ++ rest) (head_of fields last) rest (head_begins fields last rest all) in
+    thirteen_less (section_len (section ++ rest)) (length (print_response (head_of fields last))) (length section)
+    (ap (shift 12) (sym (behind_lf (section ++ rest))) ∙ sym (first_line_passed fields last rest) ∙ whole) (head_length fields last)

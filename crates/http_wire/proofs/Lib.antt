@@ -6,12 +6,12 @@ pub mod FrontParts
 pub mod HeadEnds
 mod HeldLaws
 pub mod LineFronts
-mod OneArrival
+pub mod OneArrival
 pub mod OneBody
-mod OneFirst
+pub mod OneFirst
 pub mod OneHead
 mod RequestLaws
-mod RespondLaws
+pub mod RespondLaws
 mod ResponseLaws
 mod SectionFronts
 mod StandingLaws

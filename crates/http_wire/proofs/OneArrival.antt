@@ -7,10 +7,11 @@ use Rattle.capture.specs.Final.{IsInterim, BeginsWithInterim, Arrival, Arrived, 
 use Rattle.capture.specs.First.{Responses, First, IsFirst}
 use Rattle.capture.specs.Head.{front_of, Head}
 use Rattle.http_head.specs.FrontLaws.{HeadsStay}
-use Rattle.http_wire.specs.Decisions.{FirstsAreOne, ArrivalsAreOne}
-use Rattle.http_wire.proofs.OneHead.{one_head}
+use Rattle.http_head.proofs.FrontLaws.{heads_stay}
+use Rattle.http_wire.specs.Decisions.{ArrivalsAreOne}
 use Rattle.http_wire.proofs.LineFronts.{heads_of}
-use Rattle.http_wire.proofs.OneHead.{one_skipped}
+use Rattle.http_wire.proofs.OneFirst.{firsts_are_one}
+use Rattle.http_wire.proofs.OneHead.{one_head, one_skipped}
 
 -- ---- the interim responses are the same
 
@@ -67,31 +68,31 @@ compare stay (text ∷ interims) (same ∷ others) rest behind each other e =
 abbrev made : ℕ → First → Arrival
 made behind first = Arrived behind first
 
-pub arrivals_are_one : HeadsStay → FirstsAreOne → ArrivalsAreOne
-arrivals_are_one stay one answers_head ended stream (Arrived behind first) (Arrived at other) a b =
-    by_place (compare stay a.0 b.0 a.1 b.1 a.2.each b.2.each (sym a.2.composed ∙ b.2.composed))
+pub arrivals_are_one : ArrivalsAreOne
+arrivals_are_one answers_head ended stream (Arrived behind first) (Arrived at other) a b =
+    by_place (compare heads_stay a.0 b.0 a.1 b.1 a.2.each b.2.each (sym a.2.composed ∙ b.2.composed))
   where
     by_place : Compares a.0 b.0 a.1 b.1 → made behind first ≡ made at other
     by_place (inl same) =
         let there : IsFirst (Responses answers_head) ended a.1 other =
         subst (λ r. IsFirst (Responses answers_head) ended r other) (sym same) b.5 in
-        let firsts = one (Responses answers_head) ended a.1 first other a.5 there in
+        let firsts = firsts_are_one (Responses answers_head) ended a.1 first other a.5 there in
         let places : behind ≡ at = omega (arith, a.4, b.4, ap length same) in
         λ i. Arrived (places i) (firsts i)
     by_place (inr (inl begins)) = absurd (a.3 begins)
     by_place (inr (inr more)) = absurd (b.3 more.0)
-arrivals_are_one stay one answers_head ended stream (Arrived behind first) TooManyInterim a b =
-    absurd (not_many (compare stay a.0 b.0 a.1 b.1 a.2.each b.2.each (sym a.2.composed ∙ b.2.composed)))
+arrivals_are_one answers_head ended stream (Arrived behind first) TooManyInterim a b =
+    absurd (not_many (compare heads_stay a.0 b.0 a.1 b.1 a.2.each b.2.each (sym a.2.composed ∙ b.2.composed)))
   where
     not_many : Compares a.0 b.0 a.1 b.1 → ⊥
     not_many (inl same) = a.3 (subst BeginsWithInterim (sym same) b.4)
     not_many (inr (inl begins)) = a.3 begins
     not_many (inr (inr more)) = absurd (omega (arith, more.1, b.3, a.2.few))
-arrivals_are_one stay one answers_head ended stream TooManyInterim (Arrived at other) a b =
-    absurd (not_many (compare stay b.0 a.0 b.1 a.1 b.2.each a.2.each (sym b.2.composed ∙ a.2.composed)))
+arrivals_are_one answers_head ended stream TooManyInterim (Arrived at other) a b =
+    absurd (not_many (compare heads_stay b.0 a.0 b.1 a.1 b.2.each a.2.each (sym b.2.composed ∙ a.2.composed)))
   where
     not_many : Compares b.0 a.0 b.1 a.1 → ⊥
     not_many (inl same) = b.3 (subst BeginsWithInterim (sym same) a.4)
     not_many (inr (inl begins)) = b.3 begins
     not_many (inr (inr more)) = absurd (omega (arith, more.1, a.3, b.2.few))
-arrivals_are_one stay one answers_head ended stream TooManyInterim TooManyInterim a b = refl
+arrivals_are_one answers_head ended stream TooManyInterim TooManyInterim a b = refl

@@ -9,6 +9,8 @@ use Rattle.capture.specs.declared.framing.FramingFault.{FramingFault}
 use Rattle.capture.specs.declared.framing.MessageFault.{MessageFault}
 use Rattle.capture.specs.declared.framing.MessageFault.TheVariants.{Malformed, HeadTooLong, BodyTooLong}
 use Rattle.capture.specs.declared.limits.TheConstants.{BODY_LIMIT}
+use Rattle.capture.proofs.CutLaws.{cut_unique, whole_unique, whole_is_not_cut}
+use Rattle.http_head.proofs.SectionLaws.{sections_end}
 use Rattle.http_wire.specs.Decisions.{FirstsAreOne}
 use Rattle.http_wire.proofs.OneHead.{no_head_in_more, no_head_is_none, no_head_too_long, one_head}
 use Rattle.http_wire.proofs.OneBody.{Laws, holds_one, holds_or_refuses, holds_or_begins, refuses_one, refuses_or_begins}
@@ -190,6 +192,9 @@ one_kind laws side ended stream first other (inr (inr (inr a))) (inr (inr (inl b
     absurd (at_head_or_behind side ended stream other first b a)
 one_kind laws side ended stream first other (inr (inr (inr a))) (inr (inr (inr b))) = behind_one laws side ended stream first other a b
 
-pub firsts_are_one : Laws → FirstsAreOne
-firsts_are_one laws side ended stream first other a b =
-    one_kind laws side ended stream first other (kind_of side ended stream first a) (kind_of side ended stream other b)
+bodies_are_one : Laws
+bodies_are_one = record { whole = whole_unique; cut = cut_unique; apart = whole_is_not_cut; sections = sections_end }
+
+pub firsts_are_one : FirstsAreOne
+firsts_are_one side ended stream first other a b =
+    one_kind bodies_are_one side ended stream first other (kind_of side ended stream first a) (kind_of side ended stream other b)

@@ -5,11 +5,11 @@ use Rattle.std.proofs.lemmas.List.{take_all}
 use Rattle.httparse.specs.Grammar.{ResponseHead, print_blank, print_version, print_reason, print_end, print_section, print_response, status_code}
 use Rattle.capture.specs.Body.{IsWire}
 use Rattle.capture.specs.Head.{Front, line_ends_len, head_end, field_lines, front_by, Head, TooLong}
-use Rattle.capture.specs.HeadLaws.{ResponseHeadsEnd}
 use Rattle.capture.specs.Message.{IsResponseHeadText, IsShortHead, BeginsWithResponse}
 use Rattle.capture.specs.Methods.{asks_for_head}
 use Rattle.capture.specs.WellFormed.{IsFinalHead, RespondsTo}
 use Rattle.capture.specs.declared.limits.TheConstants.{HEAD_LIMIT, FIELD_LIMIT}
+use Rattle.capture.proofs.HeadLaws.{response_heads_end}
 use Rattle.http_wire.specs.Messages.{IsResponse}
 use Rattle.http_wire.specs.Storing.{ResponsesCanBeStored}
 use Rattle.http_wire.proofs.OneHead.{one_parse}
@@ -52,10 +52,10 @@ by_tests true true text long few = refl
 by_tests true false text long few = absurd cc
 by_tests false few text long is_few = absurd cc
 
-short_alone : ResponseHeadsEnd → (text : List ℕ) (h : ResponseHead) → IsResponseHeadText text h → length text ≤ HEAD_LIMIT
+short_alone : (text : List ℕ) (h : ResponseHead) → IsResponseHeadText text h → length text ≤ HEAD_LIMIT
     → leb (field_lines text) FIELD_LIMIT ≡ true → IsShortHead text
-short_alone ends text h is long few =
-    let ends_at : head_end text ≡ Some (length text) = ends text h [] is ∙ ap (λ t. Some (length t)) (sym (printed text h is)) in
+short_alone text h is long few =
+    let ends_at : head_end text ≡ Some (length text) = response_heads_end text h [] is ∙ ap (λ t. Some (length t)) (sym (printed text h is)) in
     ap (front_by text) ends_at ∙ ap (λ skipped. front_at (length text) skipped (take (length text) text)) (begins_at_once text h is)
     ∙ ap (front_at (length text) 0) (take_all (length text) text (omega arith))
     ∙ by_tests (leb (length text) HEAD_LIMIT) (leb (field_lines text) FIELD_LIMIT) text (le-leb (length text) HEAD_LIMIT long) few
@@ -70,8 +70,8 @@ before_wire text wire h is = record {
   no_switch = is.no_switch;
 }
 
-pub responses_can_be_stored : ResponseHeadsEnd → ResponsesCanBeStored
-responses_can_be_stored ends received method one final = record { responds = by_cut received.cut refl; short = omega (arith, parts.short) }
+pub responses_can_be_stored : ResponsesCanBeStored
+responses_can_be_stored received method one final = record { responds = by_cut received.cut refl; short = omega (arith, parts.short) }
   where
     response : IsResponse (asks_for_head method) one.0 received
     response = one.1
@@ -106,7 +106,7 @@ responses_can_be_stored ends received method one final = record { responds = by_
       head_is = final_head;
       cut = record {
         head = response.tells.1;
-        short = short_alone ends text h response.tells.1 (omega (arith, parts.short)) parts.few;
+        short = short_alone text h response.tells.1 (omega (arith, parts.short)) parts.few;
         framed = response.tells.2;
         body = wire_by true is;
       };

@@ -133,7 +133,8 @@ pub fn close_body(body: BodyReader, cut: bool) -> Held
     })
 }
 
-/// The payload of a whole body, or the body itself where there is no memory.
+/// The payload of a whole body, or the body itself where there is no memory. A wire that isn't chunked is moved, where
+/// `payload_in` would lend it and it had to be copied.
 pub fn payload_of_closed(alloc: Global, closed: ClosedBody) -> Result<Bytes, ClosedBody>
     ensures ok { IfOk result (λ payload. IsPayload false closed.framing closed.wire payload) }
     ensures err { IfErr result (λ same. same ≡ closed) }

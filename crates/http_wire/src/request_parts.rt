@@ -11,8 +11,7 @@ use crate::held::{Held, begin_body, close_body, feed_body, payload_of_closed};
 use crate::progress::{Fed, Progress};
 use capture::Memory;
 use http_head::{
-    HeadProgress, HeadReader, RequestHead, RequestMessage, WireFault, fronts_stay,
-    read_request_head,
+    HeadProgress, HeadReader, RequestHead, RequestMessage, WireFault, read_request_head,
 };
 use std::alloc::Global;
 use std::mem;
@@ -59,7 +58,6 @@ impl RequestParts {
         ensures keeps { IsSome self.old.head → self.new.head ≡ self.old.head }
         ensures again { held_standing self.old.held ≡ Whole → (result ≡ Ok (record { used = 0; progress = Progress.Whole })) × (self.new ≡ self.old) }
     {
-        fronts_stay();
         match mem::replace(&mut self.held, Held::Before) {
             Held::Before => self.feed_head(alloc, piece),
             Held::Open(body) => {
@@ -92,6 +90,7 @@ impl RequestParts {
         ensures goes_on { IfErr result ComesBeforeTheEnd }
         ensures whole { IfOk result (λ _. IsWholeNow Requests (request_bytes self.new) (held_standing self.new.held)) }
     {
+        // Matches in place of `?`, since the clauses say of the fault itself what it tells of the stream.
         match self.front.feed(piece) {
             Ok(fed) => match fed.progress {
                 HeadProgress::More => Ok(Fed {
@@ -125,7 +124,7 @@ impl RequestParts {
         ensures goes_on { IfErr result ComesBeforeTheEnd }
         ensures whole { IfOk result (λ _. IsWholeNow Requests (request_bytes self.new) (held_standing self.new.held)) }
     {
-        fronts_stay();
+        // Matches in place of `?`, since the clauses say of the fault itself what it tells of the stream.
         let head = match read_request_head(alloc, self.front.text()) {
             Ok(head) => head,
             Err(fault) => return Err(fault),
@@ -154,7 +153,6 @@ impl RequestParts {
         ensures again { held_standing self.old.held ≡ Whole → IsTrue result × (self.new ≡ self.old) }
         ensures between { IsTrue result → EndsBetween (request_bytes self.new) (held_standing self.new.held) }
     {
-        fronts_stay();
         match mem::replace(&mut self.held, Held::Before) {
             Held::Before => self.front.is_blank(),
             Held::Open(body) => {
@@ -184,7 +182,6 @@ impl RequestParts {
         ensures taken { IfOk result (λ _. self.new ≡ new_parts) }
         ensures kept { OnErr result (self.new ≡ self.old) }
     {
-        fronts_stay();
         match mem::replace(&mut self.held, Held::Before) {
             Held::Closed(closed) => {
                 let framing = closed.framing;

@@ -11,7 +11,7 @@ ghost use Rattle.http_wire.specs.RequestReading.{new_request, EndsBetween};
 use crate::progress::{Fed, Progress};
 use crate::request_parts::RequestParts;
 use capture::Memory;
-use http_head::{RequestHead, RequestMessage, WireFault, fronts_stay};
+use http_head::{RequestHead, RequestMessage, WireFault};
 use std::alloc::Global;
 use std::marker::Model;
 
@@ -67,7 +67,6 @@ impl RequestReader {
         ensures again { self.old.standing ≡ Whole → (result ≡ Ok (record { used = 0; progress = Progress.Whole })) × (self.new ≡ self.old) }
         ensures latched { (fault : WireFault) → self.old.standing ≡ Failed fault → (result ≡ Err fault) × (self.new ≡ self.old) }
     {
-        fronts_stay();
         match self.fault {
             Some(fault) => Err(fault),
             None => match self.parts.feed(alloc, piece) {

@@ -10,10 +10,7 @@ use crate::framing::response_framing;
 use crate::held::{ClosedBody, Held, begin_body, close_body, feed_body};
 use crate::progress::{Fed, Progress};
 use capture::Memory;
-use http_head::{
-    HeadProgress, HeadReader, Received, ResponseHead, WireFault, fronts_stay, read_head,
-};
-use message_body::held_bodies_are_bodies;
+use http_head::{HeadProgress, HeadReader, Received, ResponseHead, WireFault, read_head};
 use std::alloc::Global;
 use std::mem;
 
@@ -63,7 +60,6 @@ impl ResponseParts {
         ensures keeps { IsSome self.old.head → self.new.head ≡ self.old.head }
         ensures again { IsEnded (held_standing self.old.held) → (result ≡ Ok (record { used = 0; progress = Progress.Whole })) × (self.new ≡ self.old) }
     {
-        fronts_stay();
         match mem::replace(&mut self.held, Held::Before) {
             Held::Before => self.feed_head(alloc, answers_head, piece),
             Held::Open(body) => {
@@ -101,6 +97,7 @@ impl ResponseParts {
         ensures goes_on { IfErr result ComesBeforeTheEnd }
         ensures whole { IfOk result (λ _. IsWholeNow (Responses answers_head) (response_bytes self.new) (held_standing self.new.held)) }
     {
+        // Matches in place of `?`, since the clauses say of the fault itself what it tells of the stream.
         match self.front.feed(piece) {
             Ok(fed) => match fed.progress {
                 HeadProgress::More => Ok(Fed {
@@ -134,7 +131,7 @@ impl ResponseParts {
         ensures goes_on { IfErr result ComesBeforeTheEnd }
         ensures whole { IfOk result (λ _. IsWholeNow (Responses answers_head) (response_bytes self.new) (held_standing self.new.held)) }
     {
-        fronts_stay();
+        // Matches in place of `?`, since the clauses say of the fault itself what it tells of the stream.
         let head = match read_head(alloc, self.front.text()) {
             Ok(head) => head,
             Err(fault) => return Err(fault),
@@ -163,7 +160,6 @@ impl ResponseParts {
         ensures again { IsEnded (held_standing self.old.held) → IsTrue result × (self.new ≡ self.old) }
         ensures ended { IsTrue result → IsEnded (held_standing self.new.held) }
     {
-        fronts_stay();
         match mem::replace(&mut self.held, Held::Before) {
             Held::Before => false,
             Held::Open(body) => {
@@ -191,8 +187,6 @@ impl ResponseParts {
         ensures cut { held_standing self.old.held ≡ closed_standing result.cut }
         ensures taken { self.new ≡ new_response_parts }
     {
-        fronts_stay();
-        held_bodies_are_bodies();
         match mem::replace(&mut self.held, Held::Before) {
             Held::Closed(closed) => match self.head.take() {
                 Some(head) => {

@@ -11,7 +11,7 @@ ghost use Rattle.http_wire.specs.ResponseReading.{new_response};
 
 use crate::progress::{Fed, Progress};
 use crate::response_parts::ResponseParts;
-use http_head::{Received, ResponseHead, WireFault, fronts_stay};
+use http_head::{Received, ResponseHead, WireFault};
 use std::alloc::Global;
 use std::marker::Model;
 
@@ -75,7 +75,6 @@ impl ResponseReader {
         ensures again { IsEnded self.old.standing → (result ≡ Ok (record { used = 0; progress = Progress.Whole })) × (self.new ≡ self.old) }
         ensures latched { (fault : WireFault) → self.old.standing ≡ Failed fault → (result ≡ Err fault) × (self.new ≡ self.old) }
     {
-        fronts_stay();
         match self.fault {
             Some(fault) => Err(fault),
             None => match self.parts.feed(alloc, self.answers_head, piece) {
@@ -102,7 +101,6 @@ impl ResponseReader {
         ensures leaves { IfErr result (λ fault. self.new.standing ≡ Failed fault) }
         ensures latched { (fault : WireFault) → self.old.standing ≡ Failed fault → (result ≡ Err fault) × (self.new ≡ self.old) }
     {
-        fronts_stay();
         match self.fault {
             Some(fault) => Err(fault),
             None => {

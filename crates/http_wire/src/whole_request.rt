@@ -9,7 +9,7 @@ ghost use Rattle.httparse.specs.Grammar.{RequestHead as RequestForm};
 ghost use Rattle.http_head.specs.Heads.{IsHeadFault};
 ghost use Rattle.http_wire.specs.WholeRequests.{IsRequestText};
 
-use capture::{Bytes, Framing, heads_end_at_the_first_empty_line};
+use capture::{Bytes, Framing};
 use http_head::{RequestMessage, WireFault, find_head_end, read_request_head};
 use message_body::{PayloadFault, payload_in, request_framing_of};
 use std::alloc::Global;
@@ -21,7 +21,6 @@ pub fn read_request(alloc: Global, text: &[u8]) -> Result<RequestMessage, WireFa
     ensures malformed { IsErrOf result WireFault.Malformed → (h : RequestForm) (framing : FramingForm) (wire : List ℕ) → ¬ (IsWholeRequest text.now h framing wire) }
     ensures faults { IfErr result IsHeadFault }
 {
-    heads_end_at_the_first_empty_line();
     match find_head_end(text) {
         Some(end) => {
             let (front, wire) = text.split_at(end);
@@ -38,6 +37,7 @@ fn read_parts(alloc: Global, front: &[u8], wire: &[u8]) -> Result<RequestMessage
         → IsRequestHeadText front.now h → request_framing h ≡ Ok framing → ¬ (IsBody framing wire.now) }
     ensures faults { IfErr result IsHeadFault }
 {
+    // Matches in place of `?`, since the clauses say of the fault itself what it tells of the text.
     let head = match read_request_head(alloc, front) {
         Ok(head) => head,
         Err(fault) => return Err(fault),

@@ -4,12 +4,17 @@ use Rattle.std.proofs.lemmas.List.Elements.{All-cons, All-nil}
 use Rattle.httparse.specs.Grammar.{print_chunk_line, print_section}
 use Rattle.httparse.specs.Spans.{span_bytes}
 use Rattle.httparse.specs.declared.spans.Span.{Span}
+use Rattle.capture.specs.Body.{IsBody, IsCutWire}
 use Rattle.capture.specs.Chunks.{IsChunk, print_chunk, ChunkedBody, IsChunkedBody, print_chunked, joined_data, InTrailer, CutBody, IsCutBody, print_begun, begun_data, print_cut, cut_data}
 use Rattle.capture.specs.Head.{section_len}
-use Rattle.capture.specs.HeadLaws.{SectionsEnd}
 use Rattle.capture.specs.Payload.{IsJoined, IsCutJoined}
+use Rattle.capture.specs.declared.framing.Framing.TheVariants.{Chunked}
+use Rattle.capture.proofs.CutLaws.{whole_is_not_cut}
 use Rattle.http_head.specs.Sections.{IsSection}
+use Rattle.http_head.proofs.SectionLaws.{sections_end}
+use Rattle.message_body.specs.steps.Decoding.{IsTrailerSeen}
 use Rattle.message_body.specs.steps.Splits.{HasNoBody, HasNoCut, HoldsChunk, HoldsLast, HoldsCut}
+use Rattle.message_body.specs.declared.decode.TrailerSeen.TheVariants.{Wrong}
 use Rattle.message_body.proofs.SplitLaws.{LineFirst, body_text, print_first, tail_of, no_body_at_last, no_cut_at_last}
 use Rattle.message_body.proofs.SplitSteps.{no_body_behind, no_cut_behind}
 
@@ -107,14 +112,27 @@ cut_at_end wire before rest d so_far holds =
 -- ---- the trailer section
 
 -- a section ends with the text's last byte
-pub section_ends_text : (text : List ℕ) → SectionsEnd → IsSection text → section_len text ≡ Some (length text)
-section_ends_text text law is =
-    ap section_len is.reads.1 ∙ law is.fields is.end [] is.reads.0
+section_ends_text : (text : List ℕ) → IsSection text → section_len text ≡ Some (length text)
+section_ends_text text is =
+    ap section_len is.reads.1 ∙ sections_end is.fields is.end [] is.reads.0
     ∙ ap (λ s. Some (length s)) (sym (is.reads.1 ∙ append-nil (print_section is.fields is.end)))
 
-pub some_is_not_none : (text : List ℕ) (n : ℕ) → section_len text ≡ Some n → section_len text ≢ None
-some_is_not_none text n some none = let e : Some n ≡ None = sym some ∙ none in cc
+-- a text whose first section ends before it does
+pub no_section_of_other_end : (text : List ℕ) (n : ℕ) → Some n ≡ section_len text → n ≢ length text → IsTrailerSeen text Wrong
+no_section_of_other_end text n some other = (no_section, has_end)
+  where
+    no_section : IsSection text → ⊥
+    no_section is = let e : Some n ≡ Some (length text) = some ∙ section_ends_text text is in other (cc)
 
-pub no_section_of_other_end : (text : List ℕ) (n : ℕ) → SectionsEnd → section_len text ≡ Some n → n ≢ length text → IsSection text → ⊥
-no_section_of_other_end text n law some other is =
-    let e : Some n ≡ Some (length text) = sym some ∙ section_ends_text text law is in other (cc)
+    has_end : section_len text ≡ None → ⊥
+    has_end none = let e : Some n ≡ None = some ∙ none in cc
+
+-- ---- no text is whole and cut
+
+pub cut_is_no_body : (wire payload : List ℕ) → IsCutJoined wire payload → IsBody Chunked wire → ⊥
+cut_is_no_body wire payload cut body =
+    whole_is_not_cut body.0 [] cut.0 body.1 cut.1 (append-nil (print_chunked body.0) ∙ sym body.2 ∙ cut.2)
+
+pub body_is_no_cut : (wire payload : List ℕ) → IsJoined wire payload → IsCutWire Chunked wire → ⊥
+body_is_no_cut wire payload body cut =
+    whole_is_not_cut body.0 [] cut.0 body.1 cut.1 (append-nil (print_chunked body.0) ∙ sym body.2 ∙ cut.3)

@@ -6,7 +6,7 @@ mod CutLimits
 mod DecodeLaws
 mod FeedLaws
 mod FieldLaws
-mod HeldLaws
+pub mod HeldLaws
 mod LineSteps
 mod MemberLaws
 mod NumberLaws

@@ -3,7 +3,7 @@ ghost use Rattle.std.specs.Prelude.{◌≡◌, IfOk};
 ghost use Rattle.message_body.specs.steps.Decoding.{IsDecoded, IsTrailerSeen};
 
 use crate::split::{Split, split_chunk};
-use capture::{Bytes, Memory, heads_end_at_the_first_empty_line};
+use capture::{Bytes, Memory};
 use http_head::{find_section_end, is_section};
 use std::alloc::Global;
 
@@ -65,7 +65,6 @@ pub fn decode(alloc: Global, wire: &[u8]) -> Result<Decoded, Memory>
 fn trailer_of(alloc: Global, text: &[u8]) -> Result<TrailerSeen, Memory>
     ensures { IfOk result (IsTrailerSeen text.now) }
 {
-    heads_end_at_the_first_empty_line();
     match find_section_end(text) {
         None => Ok(TrailerSeen::Open),
         Some(end) => {

@@ -6,7 +6,7 @@ ghost use Rattle.capture.specs.Payload.{IsPayload, IsJoined, IsCutJoined};
 use crate::decode::{Decoded, decode};
 use crate::lent::Payload;
 use crate::limits::is_within_limits;
-use capture::{BODY_LIMIT, Bytes, Framing, Memory, chunked_bodies_split_one_way};
+use capture::{BODY_LIMIT, Bytes, Framing, Memory};
 use std::alloc::{AllocError, Global};
 use thiserror::Error;
 
@@ -145,7 +145,6 @@ fn joined(alloc: Global, wire: &[u8]) -> Result<Bytes, PayloadFault>
     ensures payload { IfOk result (λ payload. IsJoined wire.now payload) }
     ensures malformed { IsErrOf result PayloadFault.Malformed → ¬ (IsBody Framing.Chunked wire.now) }
 {
-    chunked_bodies_split_one_way();
     match decode(alloc, wire)? {
         Decoded::Whole(payload) => Ok(payload),
         Decoded::Cut(_) => Err(PayloadFault::Malformed),
@@ -159,7 +158,6 @@ fn cut_joined(alloc: Global, wire: &[u8]) -> Result<Bytes, PayloadFault>
     ensures payload { IfOk result (λ payload. IsCutJoined wire.now payload) }
     ensures malformed { IsErrOf result PayloadFault.Malformed → ¬ (IsCutWire Framing.Chunked wire.now) }
 {
-    chunked_bodies_split_one_way();
     if !is_within_limits(wire) {
         return Err(PayloadFault::Malformed);
     }

@@ -3,6 +3,7 @@ use Rattle.std.specs.Prelude.{IfOk}
 use Rattle.std.proofs.lemmas.List.{take-append-drop}
 use Rattle.capture.specs.Body.{IsBody}
 use Rattle.capture.specs.Message.{IsRequestHeadText}
+use Rattle.capture.proofs.HeadLaws.{request_heads_end}
 use Rattle.http_wire.specs.WholeRequests.{IsRequestText}
 use Rattle.http_wire.proofs.HeadEnds.{end_fits}
 use Rattle.http_wire.proofs.WholeLaws.{split_request, endless}
@@ -20,14 +21,14 @@ returns-in-Some-clause-ok c =
 
 pub returns-in-Some-clause-malformed : goal.returns-in-Some-clause-malformed
 returns-in-Some-clause-malformed c = λ is h framing wire whole.
-    let split = split_request c.heads_end_at_the_first_empty_line.ensures.requests c.args.text.now c.in-Some.end h framing wire
+    let split = split_request request_heads_end c.args.text.now c.in-Some.end h framing wire
     c.in-Some.ensures whole in
     c.read_parts.ensures.malformed is h framing (subst (λ f. IsRequestHeadText f h) (sym c.split_at.ensures.front) split.0)
     whole.framed (subst (IsBody framing) (split.1 ∙ sym c.split_at.ensures.back) whole.body)
 
 pub returns-in-None-clause-malformed : goal.returns-in-None-clause-malformed
 returns-in-None-clause-malformed c = λ is h framing wire whole.
-    endless c.heads_end_at_the_first_empty_line.ensures.requests c.args.text.now h framing wire c.in-None.ensures whole
+    endless request_heads_end c.args.text.now h framing wire c.in-None.ensures whole
 
 pub split_at-requires : goal.split_at-requires
 split_at-requires c = end_fits c.args.text.now c.in-Some.end c.in-Some.ensures

@@ -1,5 +1,6 @@
 use Rattle.std.proofs.Common.{None, refl, sym, subst}
 use Rattle.capture.specs.First.{Requests}
+use Rattle.http_head.proofs.FrontLaws.{heads_stay}
 use Rattle.http_wire.specs.HeldBodies.{standing_of}
 use Rattle.http_wire.specs.Parts.{request_bytes}
 use Rattle.http_wire.specs.Reading.{Stands}
@@ -11,7 +12,7 @@ pub returns-in-Ok-clause-stands : goal.returns-in-Ok-clause-stands
 returns-in-Ok-clause-stands c =
     let now = c.feed.new.self in
     subst (λ f. Stands Requests (request_bytes now) (standing_of f now.held)) (sym c.in-None.is)
-    (agrees_stand c.fronts_stay.ensures.heads Requests now.front now.held None c.in-Ok.ensures.agrees.body)
+    (agrees_stand heads_stay Requests now.front now.held None c.in-Ok.ensures.agrees.body)
 
 pub returns-in-Some-clause-takes_some : goal.returns-in-Some-clause-takes_some
 returns-in-Some-clause-takes_some c =

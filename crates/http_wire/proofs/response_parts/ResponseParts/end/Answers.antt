@@ -1,4 +1,5 @@
 use Rattle.std.proofs.Common.{false, true, inl, inr, ap}
+use Rattle.http_head.proofs.FrontLaws.{heads_stay}
 use Rattle.http_wire.specs.HeldBodies.{held_standing}
 use Rattle.http_wire.proofs.HeldLaws.{closed_ends}
 use Rattle.http_wire.proofs.ResponseLaws.{open_parts, closed_agrees, same_parts, front_parts, ended_front}
@@ -11,7 +12,7 @@ returns-in-Before-clause-agrees c =
 
 pub returns-then-ends_whole-clause-agrees : goal.returns-then-ends_whole-clause-agrees
 returns-then-ends_whole-clause-agrees c =
-    closed_agrees c.args.answers_head c.fronts_stay.ensures.heads c.args.self.now c.in-Open.body c.close_body-whole.result false
+    closed_agrees c.args.answers_head heads_stay c.args.self.now c.in-Open.body c.close_body-whole.result false
     (open_parts c.args.answers_head c.args.self.now c.in-Open.body c.in-Open.ensures.value c.requires) c.close_body-whole.ensures
     (c.ends_whole.ensures.whole c.if-ends_whole.true)
 
@@ -20,7 +21,7 @@ returns-then-ends_whole-clause-ended c = λ _. inl (ap held_standing c.close_bod
 
 pub returns-else-ends_whole-clause-agrees : goal.returns-else-ends_whole-clause-agrees
 returns-else-ends_whole-clause-agrees c =
-    closed_agrees c.args.answers_head c.fronts_stay.ensures.heads c.args.self.now c.in-Open.body c.close_body-cut.result true
+    closed_agrees c.args.answers_head heads_stay c.args.self.now c.in-Open.body c.close_body-cut.result true
     (open_parts c.args.answers_head c.args.self.now c.in-Open.body c.in-Open.ensures.value c.requires) c.close_body-cut.ensures
     (c.ends_whole.ensures.cut c.if-ends_whole.false)
 

@@ -1,5 +1,6 @@
 use Rattle.std.proofs.Common.{None, sym, ap, subst}
 use Rattle.capture.specs.First.{Responses}
+use Rattle.http_head.proofs.FrontLaws.{heads_stay}
 use Rattle.http_wire.specs.HeldBodies.{standing_of}
 use Rattle.http_wire.specs.Parts.{response_bytes}
 use Rattle.http_wire.specs.Reading.{Stands}
@@ -11,4 +12,4 @@ returns-then-end-clause-stands c =
     let now = c.end.new.self in
     subst (λ ah. Stands (Responses ah) (response_bytes now) (standing_of c.self.inside.fault now.held)) (ap (λ r. r.answers_head) c.self.view_is)
     (subst (λ f. Stands (Responses c.self.inside.answers_head) (response_bytes now) (standing_of f now.held)) (sym c.in-None.is)
-    (agrees_stand c.fronts_stay.ensures.heads (Responses c.self.inside.answers_head) now.front now.held None c.if-end.ensures.agrees.body))
+    (agrees_stand heads_stay (Responses c.self.inside.answers_head) now.front now.held None c.if-end.ensures.agrees.body))
