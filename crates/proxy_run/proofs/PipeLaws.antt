@@ -12,7 +12,7 @@ use Rattle.outside.specs.declared.gate.Heard.{Heard}
 use Rattle.proxy_run.specs.Objects.{Around, Kinds, Objects}
 use Rattle.proxy_run.specs.Opening.{IsOpened, usual_limits}
 use Rattle.proxy_run.specs.Pipes.{HasServed, HasServedNone, Pipes, around_in}
-use Rattle.proxy_run.specs.Serving.{IsEnd, IsReason, ServesNone, ServesOne, pipe_setting, unheard}
+use Rattle.proxy_run.specs.Serving.{IsServedStatus, IsReason, ServesNone, ServesOne, pipe_setting, unheard}
 use Rattle.proxy_run.specs.declared.status.Status.{Status}
 use Rattle.proxy_run.specs.declared.status.Status.TheVariants.{Outside}
 use Rattle.proxy_run.proofs.ConnectionLaws.{DiskLaws, held_by, leaves_just, served_over}
@@ -84,7 +84,7 @@ module _ {D G L P N M C O : Type 0} (kinds : Kinds D G L P N M C O) (laws : Disk
       ⊎ (ServesNone (kinds.gates.closed was.gate) (kinds.gates.faults was.gate) (kinds.gates.faults is.gate) (around_in kinds was) (around_in kinds is) status × (left ≡ held)))
       → Grows held.book left.book → (IsTrue kinds.disks.tells → OpensNear kinds.disks is.disk left.book)
       → ((t : ℕ) → t ≤ moment_of kinds.disks (disk_of held.journal) → covers kinds.disks (disk_of held.journal) t → covers kinds.disks (disk_of left.journal) t)
-      → IsEnd status → (status ≡ Outside) ⊎ (kinds.gates.faults is.gate ≡ kinds.gates.faults was.gate)
+      → IsServedStatus status → (status ≡ Outside) ⊎ (kinds.gates.faults is.gate ≡ kinds.gates.faults was.gate)
       → kinds.disks.faults (disk_of held.journal) ≤ kinds.disks.faults (disk_of left.journal) → is.out ≡ was.out
       → Pipes kinds asked was is status
   pipes_by opened serves grows near covered ends gate_failed faults silent = record {

@@ -10,7 +10,7 @@ use Rattle.disk_model.specs.Image.{Image}
 use Rattle.disk_model.specs.declared.disk.Disk.{Ghosts as Disks}
 use Rattle.proxy_run.specs.Objects.{Around, Kinds, Objects, told_around}
 use Rattle.proxy_run.specs.Opening.{IsNotOpened, IsOpened, IsUnchanged}
-use Rattle.proxy_run.specs.Serving.{IsEnd, ServesNone, ServesOne, pipe_setting, pipe_site}
+use Rattle.proxy_run.specs.Serving.{IsServedStatus, ServesNone, ServesOne, pipe_setting, pipe_site}
 use Rattle.proxy_run.specs.declared.status.Status.{Status}
 use Rattle.proxy_run.specs.declared.status.Status.TheVariants.{Outside}
 use Rattle.session.specs.Images.{HasAllIds, OpensAtLast}
@@ -80,7 +80,7 @@ module _ {D G L P N M C O : Type 0} (kinds : Kinds D G L P N M C O) where
     pub grows : Grows before.seen after.seen
     pub near : IsTrue kinds.disks.tells → OpensNear kinds.disks is.disk after.seen
     pub covered : StaysCovered (moment_of kinds.disks) (covers kinds.disks) was.disk is.disk
-    pub ends : IsEnd status
+    pub ends : IsServedStatus status
     pub gate_failed : (status ≡ Outside) ⊎ (kinds.gates.faults is.gate ≡ kinds.gates.faults was.gate)
     pub disk_faults : kinds.disks.faults was.disk ≤ kinds.disks.faults is.disk
     pub prints_nothing : is.out ≡ was.out

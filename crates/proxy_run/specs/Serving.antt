@@ -30,12 +30,12 @@ status_of (served.ClientRefused refusal) = Done
 status_of served.WantOfMemory = Memory
 
 -- the words were right, and the archive was opened
-abbrev pub IsEnd : Status → Type 0
-IsEnd Done = ⊤
-IsEnd Words = ⊥
-IsEnd Archive = ⊥
-IsEnd Outside = ⊤
-IsEnd Memory = ⊤
+abbrev pub IsServedStatus : Status → Type 0
+IsServedStatus Done = ⊤
+IsServedStatus Words = ⊥
+IsServedStatus Archive = ⊥
+IsServedStatus Outside = ⊤
+IsServedStatus Memory = ⊤
 
 -- nothing was heard yet
 abbrev pub unheard : Heard

@@ -6,7 +6,7 @@ ghost use Rattle.outside.specs.Gate.{Connections, heard_of, one_given, one_hung_
 ghost use Rattle.outside.specs.Link.{IsFresh};
 ghost use Rattle.proxy_run.specs.Objects.{told_around};
 ghost use Rattle.proxy_run.specs.Serving as spec;
-ghost use Rattle.proxy_run.specs.Serving.{ServesNone, ServesOne, IsEnd, pipe_setting, pipe_site};
+ghost use Rattle.proxy_run.specs.Serving.{ServesNone, ServesOne, IsServedStatus, pipe_setting, pipe_site};
 
 use crate::status::Status;
 use archive_shelf::{Shelf, leading_books_grow};
@@ -30,7 +30,7 @@ pub fn serve_first<S: Shelf, G: Gate, N: Dialer, C: Clock>(
     ensures grows { Grows (S.contents shelf.old).seen (S.contents shelf.new).seen }
     ensures faults { S.faults shelf.old ≤ S.faults shelf.new }
     ensures covered { StaysCovered S.moment S.covered shelf.old shelf.new }
-    ensures ends { IsEnd result }
+    ensures ends { IsServedStatus result }
     ensures gate_failed { (result ≡ Status.Outside) ⊎ (G.faults gate.new ≡ G.faults gate.old) }
 {
     leading_books_grow();
@@ -66,7 +66,7 @@ fn serve_link<S: Shelf, G: Gate, N: Dialer, C: Clock>(
     ensures grows { Grows (S.contents shelf.old).seen (S.contents shelf.new).seen }
     ensures faults { S.faults shelf.old ≤ S.faults shelf.new }
     ensures covered { StaysCovered S.moment S.covered shelf.old shelf.new }
-    ensures ends { IsEnd result }
+    ensures ends { IsServedStatus result }
     ensures same_faults { G.faults gate.new ≡ G.faults gate.old }
 {
     let mut link = link;
@@ -88,7 +88,7 @@ fn hang_up<G: Gate>(gate: &mut G, link: G::Link)
 /// The status of a program that served one connection.
 fn status_of(served: Served) -> Status
     ensures value { result ≡ spec.status_of served }
-    ensures ends { IsEnd result }
+    ensures ends { IsServedStatus result }
 {
     match served {
         Served::Done | Served::ClientRefused(_) => Status::Done,
