@@ -4,7 +4,7 @@ use Rattle.std.proofs.lemmas.Bool.{leb-false, leb-true}
 use Rattle.std.proofs.lemmas.List.{append_assoc, append-nil, length-append}
 use Rattle.html_rewrite.specs.declared.rewriter.Rewriter.{Rewriter}
 use Rattle.html_rewrite.specs.Rewritten.{within}
-use Rattle.html_rewrite.specs.Reading.{done, grown, text_of}
+use Rattle.html_rewrite.specs.steps.Reading.{done, grown, text_of}
 
 -- a text beyond the limit stays so
 beyond : (limit : ℕ) (u b : List ℕ) → nat_le (length u) limit ≡ false → nat_le (length (u ++ b)) limit ≡ false

@@ -7,7 +7,7 @@ use Rattle.html_rewrite.specs.Bytes.{greater, is_gap, IsRun}
 use Rattle.html_rewrite.specs.Pieces.{replaced}
 use Rattle.html_rewrite.specs.Tags.{Attribute, IsInside, inside_text}
 use Rattle.html_rewrite.specs.Split.{attribute_pieces}
-use Rattle.html_rewrite.specs.Reading.{Closes, Earlier, HasInside, LacksInside, Later, LeadsOn, Passes, ReadsInside, ahead, done, grown}
+use Rattle.html_rewrite.specs.steps.Reading.{Closes, Earlier, HasInside, LacksInside, Later, LeadsOn, Passes, ReadsInside, ahead, done, grown}
 use Rattle.html_rewrite.proofs.Grown.{done_still, grown_twice}
 use Rattle.html_rewrite.proofs.Runs.{run_is}
 

@@ -10,7 +10,7 @@ use Rattle.html_rewrite.specs.declared.rewriter.Rewriter.{Rewriter}
 use Rattle.html_rewrite.specs.Bytes.{less, IsRun}
 use Rattle.html_rewrite.specs.Pieces.{replaced}
 use Rattle.html_rewrite.specs.Split.{IsRead, Part, Takes, Untouched, opening_at, part_pieces, part_text}
-use Rattle.html_rewrite.specs.Reading.{Passes, ReadsParts, ahead, done, grown}
+use Rattle.html_rewrite.specs.steps.Reading.{Passes, ReadsParts, ahead, done, grown}
 use Rattle.html_rewrite.proofs.FirstBytes.{differs_back}
 use Rattle.html_rewrite.proofs.Grown.{grown_twice}
 use Rattle.html_rewrite.proofs.Runs.{run_at}

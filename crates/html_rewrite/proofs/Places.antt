@@ -5,7 +5,7 @@ use Rattle.std.specs.List.{prefix_len, slice_get}
 use Rattle.std.specs.Str.{str_eq_ignore_ascii_case}
 use Rattle.html_rewrite.specs.Bytes.{greater, is_empty, is_gap, is_name_end, begins, begins_with, IsUpTo, IsRun}
 use Rattle.html_rewrite.specs.Split.{IsThrough, ends_raw_text}
-use Rattle.html_rewrite.specs.Reading.{Closes}
+use Rattle.html_rewrite.specs.steps.Reading.{Closes}
 use Rattle.html_rewrite.proofs.Runs.{run_at, up_to_at}
 
 -- the first byte

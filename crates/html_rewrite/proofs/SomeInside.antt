@@ -4,7 +4,7 @@ use Rattle.std.proofs.lemmas.List.{length-append, take-append-drop}
 use Rattle.std.proofs.lemmas.Bool.{cases_lt, eqb-true}
 use Rattle.std.specs.List.{prefix_len}
 use Rattle.html_rewrite.specs.Bytes.{greater, begins, is_gap, IsRun}
-use Rattle.html_rewrite.specs.Reading.{BeginsAttribute, HasInside, IsValueAt, LacksInside, sign_len}
+use Rattle.html_rewrite.specs.steps.Reading.{BeginsAttribute, HasInside, IsValueAt, LacksInside, sign_len}
 use Rattle.html_rewrite.specs.Tags.{Attribute, IsAttribute, IsInside, attribute_text, inside_text, is_attribute_byte, is_value_byte, quote_at, quote_text}
 use Rattle.html_rewrite.proofs.Attributes.{attribute_unique, end_or_attribute}
 use Rattle.html_rewrite.proofs.Runs.{run_at, run_is}

@@ -7,7 +7,7 @@ use Rattle.html_rewrite.specs.declared.opening.Opening.{Opening}
 use Rattle.html_rewrite.specs.declared.opening.Opening.TheVariants.{Comment, Declaration, EndTag, StartTag, Other}
 use Rattle.html_rewrite.specs.Bytes.{less, begins_with, is_name_end, IsRun, IsUpTo}
 use Rattle.html_rewrite.specs.Names.{is_raw_text}
-use Rattle.html_rewrite.specs.Reading.{HasInside, LacksInside}
+use Rattle.html_rewrite.specs.steps.Reading.{HasInside, LacksInside}
 use Rattle.html_rewrite.specs.Split.{Element, HasSplit, IsRawText, IsRead, IsThrough, Part, Takes, Untouched, ends_raw_text, opening_at, part_pieces, part_text}
 use Rattle.html_rewrite.specs.Tags.{IsInside, IsTag, Tag, inside_text, tag_text}
 use Rattle.html_rewrite.proofs.Attributes.{tails}

@@ -11,7 +11,7 @@ use Rattle.html_rewrite.specs.Pieces.{Piece, piece_with, replaced}
 use Rattle.html_rewrite.specs.Tags.{Assignment, Attribute, IsAssignedIfAny, IsAttribute, IsInside, assigns, assigned_text, attribute_text, inside_text, is_attribute_byte, quote_text}
 use Rattle.html_rewrite.specs.Split.{attribute_pieces, value_piece}
 use Rattle.html_rewrite.specs.Names.{is_link}
-use Rattle.html_rewrite.specs.Reading.{BeginsAttribute, IsUnclosed, IsValueAt, LacksInside, Later, LeadsOn, Passes, Reads, ahead, done, grown}
+use Rattle.html_rewrite.specs.steps.Reading.{BeginsAttribute, IsUnclosed, IsValueAt, LacksInside, Later, LeadsOn, Passes, Reads, ahead, done, grown}
 use Rattle.html_rewrite.proofs.Grown.{grown_four_times, grown_twice}
 use Rattle.html_rewrite.proofs.Attributes.{attribute_unique, end_or_attribute, heads, tails}
 use Rattle.html_rewrite.proofs.Runs.{run_at, run_unique}

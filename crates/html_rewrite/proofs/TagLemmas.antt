@@ -13,7 +13,7 @@ use Rattle.html_rewrite.specs.Bytes.{equals, greater, less, begins, begins_with,
 use Rattle.html_rewrite.specs.Pieces.{Plain, replaced}
 use Rattle.html_rewrite.specs.Tags.{Assignment, Attribute, IsInside, IsTag, Tag, assigned_text, attributes_text, inside_text, quote_text, tag_text, value_text}
 use Rattle.html_rewrite.specs.Split.{Element, IsRawText, Part, Takes, Untouched, attribute_pieces, opening_at}
-use Rattle.html_rewrite.specs.Reading.{LacksInside, Passes, ReadsInside, ReadsParts, ahead, done, grown}
+use Rattle.html_rewrite.specs.steps.Reading.{LacksInside, Passes, ReadsInside, ReadsParts, ahead, done, grown}
 use Rattle.html_rewrite.proofs.Grown.{grown_twice}
 use Rattle.html_rewrite.proofs.Parts.{one_part}
 use Rattle.html_rewrite.proofs.Runs.{run_at, run_unique}

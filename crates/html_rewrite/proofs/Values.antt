@@ -10,7 +10,7 @@ use Rattle.html_rewrite.specs.declared.attribute.Quote.{Quote}
 use Rattle.html_rewrite.specs.declared.attribute.Quote.TheVariants.{Double, Single, Bare}
 use Rattle.html_rewrite.specs.Bytes.{equals, quotation, apostrophe, is_blank, is_empty, begins, IsRun}
 use Rattle.html_rewrite.specs.Tags.{Assignment, IsAssigned, assigns, assigned_text, quote_at, quote_text, is_value_byte, value_text}
-use Rattle.html_rewrite.specs.Reading.{IsValueAt, IsUnclosed, sign_len}
+use Rattle.html_rewrite.specs.steps.Reading.{IsValueAt, IsUnclosed, sign_len}
 use Rattle.html_rewrite.proofs.Runs.{run_at, run_is, up_to_stops}
 
 assigns_step : (b : ℕ) (t : List ℕ) (v : Bool) → assigns t ≡ begins (λ c. c == equals) (drop (prefix_len is_blank t) t) → cond v (assigns t) (b == equals) ≡ begins (λ c. c == equals) (drop (cond v (1 + prefix_len is_blank t) 0) (b ∷ t))

@@ -4,7 +4,7 @@ use Rattle.std.specs.List.{flat_map}
 use Rattle.html_rewrite.specs.declared.rewriter.Rewriter.{Rewriter}
 use Rattle.html_rewrite.specs.Pieces.{replaced}
 use Rattle.html_rewrite.specs.Split.{IsRead, Part, part_pieces}
-use Rattle.html_rewrite.specs.Reading.{IsDone, IsUnread, ReadsParts, ahead, done, grown}
+use Rattle.html_rewrite.specs.steps.Reading.{IsDone, IsUnread, ReadsParts, ahead, done, grown}
 use Rattle.html_rewrite.specs.Rewritten.{IsRewritten, within}
 use Rattle.html_rewrite.proofs.Grown.{done_still, grown_none}
 use Rattle.html_rewrite.proofs.PageLemmas.{read_joined}

@@ -1,8 +1,8 @@
 pub mod Bytes
+pub mod Links
 pub mod Names
 pub mod Pieces
-pub mod Tags
-pub mod Split
-pub mod Links
 pub mod Rewritten
-pub mod Reading
+pub mod Split
+pub mod Tags
+pub mod steps

@@ -3,7 +3,7 @@ ghost use Rattle.std.specs.Prelude.{◌≡◌, ◌+◌, ◌<◌, ◌≤◌, leng
 ghost use Rattle.std.specs.List.{prefix_len};
 ghost use Rattle.html_rewrite.specs.Tags as spec;
 ghost use Rattle.html_rewrite.specs.declared.attribute.Quote.TheVariants.{Bare};
-ghost use Rattle.html_rewrite.specs.Reading.{IsFound, IsNext, sign_len};
+ghost use Rattle.html_rewrite.specs.steps.Reading.{IsFound, IsNext, sign_len};
 
 use crate::bytes::{blank_len, gap_len, is_blank, is_name_end, place_of};
 

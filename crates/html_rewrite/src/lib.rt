@@ -12,12 +12,13 @@ mod raw_text;
 mod reading;
 mod reference;
 mod rewriter;
+mod room;
 mod tag;
 #[cfg(test)]
 mod tests;
 mod through;
 mod written;
 
-pub use law::{a_page_has_a_split, a_page_has_one_split};
+pub use law::{a_page_has_a_split, a_page_has_one_split, limits_are_these};
 pub use link::web_target;
 pub use page::{PAGE_LIMIT, rewrite};

@@ -3,7 +3,8 @@ ghost use Rattle.std.specs.Prelude.{◌≡◌, ◌++◌, IfOk, OnOk, option_copi
 ghost use Rattle.time_text.specs.Texts.{InRange};
 ghost use Rattle.html_rewrite.specs.Links as spec;
 
-use crate::reference::{decode, put_escaped};
+use crate::reference::{decode, escaped_len, put_escaped};
+use crate::room::make_room;
 use capture::{Memory, Site};
 use memchr::memchr;
 use std::alloc::Global;
@@ -49,15 +50,26 @@ impl Links {
         ensures { OnOk result (out.new.items ≡ out.old.items ++ spec.link self.now.prefix.items self.now.base value.now) }
     {
         match self.target(*out.allocator(), value)? {
-            Some(url) => {
-                out.extend_from_slice(self.prefix.as_slice())?;
-                put_escaped(out, url.as_str().as_bytes())
-            }
+            Some(url) => self.put_address(out, url.as_str().as_bytes()),
             None => {
+                make_room(out, value.len(), self.limit)?;
                 out.extend_from_slice(value)?;
                 Ok(())
             }
         }
+    }
+
+    /// Puts the address in the archive of this target behind what is written.
+    fn put_address(&self, out: &mut Vec<u8>, target: &[u8]) -> Result<(), Memory>
+        ensures { OnOk result (out.new.items ≡ out.old.items ++ self.now.prefix.items ++ spec.escaped target.now) }
+    {
+        make_room(
+            out,
+            self.prefix.len().saturating_add(escaped_len(target)),
+            self.limit,
+        )?;
+        out.extend_from_slice(self.prefix.as_slice())?;
+        put_escaped(out, target)
     }
 
     /// Where a value leads to, if it is to be replaced.

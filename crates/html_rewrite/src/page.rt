@@ -2,8 +2,8 @@
 ghost use Rattle.std.specs.Prelude.{◌<◌, length, IfOk, OnOk};
 ghost use Rattle.time_text.specs.Texts.{InRange};
 ghost use Rattle.html_rewrite.specs.Links.{archive_prefix, link, page_url};
-ghost use Rattle.html_rewrite.specs.Reading as spec;
-ghost use Rattle.html_rewrite.specs.Reading.{ReadsParts, link_by};
+ghost use Rattle.html_rewrite.specs.steps.Reading as spec;
+ghost use Rattle.html_rewrite.specs.steps.Reading.{ReadsParts, link_by};
 ghost use Rattle.html_rewrite.specs.Rewritten.{IsRewritten};
 
 use crate::bytes::plain_len;

@@ -1,19 +1,22 @@
 //! The steps of reading a page: bytes that stay as they are, and values.
 ghost use Rattle.std.specs.Prelude.{◌≡◌, ◌<◌, ◌≤◌, length, IfOk, OnOk, MatchBool};
-ghost use Rattle.html_rewrite.specs.Reading as spec;
-ghost use Rattle.html_rewrite.specs.Reading.{IsDone, IsUnread, Passes, ReadsLink, link_by};
+ghost use Rattle.html_rewrite.specs.steps.Reading as spec;
+ghost use Rattle.html_rewrite.specs.steps.Reading.{IsDone, IsUnread, Passes, ReadsLink, link_by};
 
 use crate::link::Links;
 use crate::rewriter::{Rewriter, Written};
 use capture::{Bytes, Memory};
 use std::alloc::Global;
 
+/// How many bytes the links of a page may add before what is written has to grow: 64 KiB.
+const LINKS_ROOM: usize = 65_536;
+
 impl<'a> Rewriter<'a> {
     /// A page of which nothing was read yet.
     pub fn new(alloc: Global, page: &'a [u8], limit: usize) -> Result<Rewriter<'a>, Memory>
         ensures { IfOk result (λ rewriter. IsUnread page.now rewriter) }
     {
-        let text = Vec::with_capacity(alloc, page.len().min(limit))?;
+        let text = Vec::with_capacity(alloc, page.len().saturating_add(LINKS_ROOM).min(limit))?;
         Ok(Rewriter {
             written: Written { text, fits: true },
             run: page,

@@ -31,6 +31,16 @@ fn behind_reference(first: u8, others: &[u8]) -> &[u8]
     rest
 }
 
+/// How many bytes an address takes in a value at most.
+pub fn escaped_len(address: &[u8]) -> usize
+    ensures { length address.now ≤ result }
+{
+    match memchr2(b'&', b'\'', address) {
+        Some(_) => address.len().saturating_mul(5),
+        None => address.len(),
+    }
+}
+
 /// Puts the address behind what is written, so that it is read back from a value in any quotes.
 pub fn put_escaped(out: &mut Vec<u8>, address: &[u8]) -> Result<(), Memory>
     ensures { OnOk result (out.new.items ≡ out.old.items ++ spec.escaped address.now) }

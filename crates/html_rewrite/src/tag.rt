@@ -4,8 +4,8 @@ ghost use Rattle.std.specs.List.{prefix_len};
 ghost use Rattle.html_rewrite.specs.declared.opening.Opening.TheVariants.{StartTag};
 ghost use Rattle.html_rewrite.specs.Bytes as bytes_spec;
 ghost use Rattle.html_rewrite.specs.Split.{opening_at};
-ghost use Rattle.html_rewrite.specs.Reading as spec;
-ghost use Rattle.html_rewrite.specs.Reading.{BeginsAttribute, HasInside, LacksInside, LeadsOn, Reads, ReadsInside, ReadsParts, link_by};
+ghost use Rattle.html_rewrite.specs.steps.Reading as spec;
+ghost use Rattle.html_rewrite.specs.steps.Reading.{BeginsAttribute, HasInside, LacksInside, LeadsOn, Reads, ReadsInside, ReadsParts, link_by};
 
 use crate::attribute::{Found, Next, attribute_name, found_at, next_at};
 use crate::bytes::name_len;

@@ -1,10 +1,11 @@
 //! Writing a page within its limit.
 ghost use Rattle.std.specs.Prelude.{◌≡◌, false, OnOk};
-ghost use Rattle.html_rewrite.specs.Reading as spec;
-ghost use Rattle.html_rewrite.specs.Reading.{grown, link_by};
+ghost use Rattle.html_rewrite.specs.steps.Reading as spec;
+ghost use Rattle.html_rewrite.specs.steps.Reading.{grown, link_by};
 
 use crate::link::Links;
 use crate::rewriter::Written;
+use crate::room::make_room;
 use capture::Memory;
 
 impl Written {
@@ -19,6 +20,7 @@ impl Written {
             self.fits = false;
             return Ok(());
         }
+        make_room(&mut self.text, plain.len(), limit)?;
         self.text.extend_from_slice(plain)?;
         Ok(())
     }

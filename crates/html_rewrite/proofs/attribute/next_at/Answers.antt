@@ -4,7 +4,7 @@ use Rattle.std.specs.List.{prefix_len, slice_get}
 use Rattle.std.specs.Option.{option_copied}
 use Rattle.std.proofs.lemmas.List.Folds.{length-prefix_len}
 use Rattle.html_rewrite.specs.Bytes.{is_gap, greater}
-use Rattle.html_rewrite.specs.Reading.{Closes}
+use Rattle.html_rewrite.specs.steps.Reading.{Closes}
 use Rattle.html_rewrite.proofs.Places.{closes_at}
 use Rattle.html_rewrite.proofs.attribute.next_at.Goals as goal
 

@@ -2,7 +2,7 @@
 use Rattle.std.proofs.Common.{◌≡◌, ◌<◌, Bool, List, ℕ, Option, length, sym, subst}
 use Rattle.std.proofs.lemmas.Result.{IfOk-weaker}
 use Rattle.std.specs.Bool.{MatchBool}
-use Rattle.html_rewrite.specs.Reading.{IsDone, ahead, done, link_by}
+use Rattle.html_rewrite.specs.steps.Reading.{IsDone, ahead, done, link_by}
 use Rattle.html_rewrite.specs.Rewritten.{IsRewritten}
 use Rattle.html_rewrite.proofs.Whole.{reads_all, reads_more}
 use Rattle.html_rewrite.proofs.page.rewrite_by.Goals as goal

@@ -1,5 +1,5 @@
 use Rattle.std.proofs.Common.{length}
-use Rattle.html_rewrite.specs.Reading.{ahead, link_by}
+use Rattle.html_rewrite.specs.steps.Reading.{ahead, link_by}
 use Rattle.html_rewrite.proofs.Whole.{ReadsOn}
 use Rattle.html_rewrite.proofs.page.rewrite_by.Given as goal
 

@@ -2,7 +2,7 @@
 use Rattle.std.proofs.Common.{◌≡◌, ◌∙◌, ◌+◌, List, ℕ, false, take, drop, ap, subst}
 use Rattle.std.specs.List.{prefix_len}
 use Rattle.html_rewrite.specs.Tags.{assigns, is_attribute_byte}
-use Rattle.html_rewrite.specs.Reading.{IsUnclosed, IsValueAt, ahead, link_by}
+use Rattle.html_rewrite.specs.steps.Reading.{IsUnclosed, IsValueAt, ahead, link_by}
 use Rattle.html_rewrite.proofs.Steps.{reads_name, leads_missing, lacks_unclosed, leads_value}
 use Rattle.html_rewrite.proofs.rewriter.Rewriter.attribute.Goals as goal
 

@@ -3,7 +3,7 @@ use Rattle.std.proofs.Common.{◌≡◌, Bool, List, ℕ, length, subst}
 use Rattle.std.specs.Bool.{MatchBool}
 use Rattle.std.specs.List.{prefix_len}
 use Rattle.html_rewrite.specs.Bytes.{is_gap}
-use Rattle.html_rewrite.specs.Reading.{Closes, LacksInside, LeadsOn, ahead, link_by}
+use Rattle.html_rewrite.specs.steps.Reading.{Closes, LacksInside, LeadsOn, ahead, link_by}
 use Rattle.html_rewrite.proofs.Inside.{goes_more, goes_none, lacks_here, lacks_more, reads_end}
 use Rattle.html_rewrite.proofs.rewriter.Rewriter.attributes.Goals as goal
 

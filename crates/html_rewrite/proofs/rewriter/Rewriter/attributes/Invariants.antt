@@ -1,5 +1,5 @@
 use Rattle.std.proofs.Common.{length}
-use Rattle.html_rewrite.specs.Reading.{ahead, link_by}
+use Rattle.html_rewrite.specs.steps.Reading.{ahead, link_by}
 use Rattle.html_rewrite.proofs.Inside.{GoesOn}
 use Rattle.html_rewrite.proofs.rewriter.Rewriter.attributes.Given as goal
 

@@ -4,7 +4,7 @@ use Rattle.std.specs.List.{prefix_len}
 use Rattle.html_rewrite.specs.declared.opening.Opening.TheVariants.{Comment, Declaration, EndTag}
 use Rattle.html_rewrite.specs.Bytes.{less}
 use Rattle.html_rewrite.specs.Split.{IsThrough, opening_at}
-use Rattle.html_rewrite.specs.Reading.{ahead, link_by}
+use Rattle.html_rewrite.specs.steps.Reading.{ahead, link_by}
 use Rattle.html_rewrite.proofs.Parts.{reads_plain, reads_text}
 use Rattle.html_rewrite.proofs.rewriter.Rewriter.parts.Goals as goal
 

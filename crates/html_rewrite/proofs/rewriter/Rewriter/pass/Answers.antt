@@ -2,7 +2,7 @@
 use Rattle.std.proofs.Common.{◌∙◌, ap, sym, take, drop}
 use Rattle.std.proofs.Math.Seq.{take-add}
 use Rattle.std.proofs.lemmas.List.{drop-drop}
-use Rattle.html_rewrite.specs.Reading.{grown, text_of}
+use Rattle.html_rewrite.specs.steps.Reading.{grown, text_of}
 use Rattle.html_rewrite.proofs.Grown.{grown_twice}
 use Rattle.html_rewrite.proofs.rewriter.Rewriter.pass.Goals as goal
 

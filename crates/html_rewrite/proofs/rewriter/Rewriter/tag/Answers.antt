@@ -5,7 +5,7 @@ use Rattle.std.specs.Bool.{MatchBool}
 use Rattle.std.specs.List.{prefix_len}
 use Rattle.html_rewrite.specs.Bytes.{is_name_end}
 use Rattle.html_rewrite.specs.Split.{IsRawText}
-use Rattle.html_rewrite.specs.Reading.{HasInside, LacksInside, Passes, ReadsInside, ahead, link_by}
+use Rattle.html_rewrite.specs.steps.Reading.{HasInside, LacksInside, Passes, ReadsInside, ahead, link_by}
 use Rattle.html_rewrite.proofs.TagLemmas.{OpensElement, less_first, opens_element, reads_tag, reads_rest, start_opens}
 use Rattle.html_rewrite.proofs.rewriter.Rewriter.tag.Goals as goal
 
