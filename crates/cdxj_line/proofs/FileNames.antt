@@ -1,17 +1,19 @@
 -- A volume's number in the name of its file: six digits or more, written and read.
-use Rattle.std.proofs.Common.{◌≡◌, ℕ, zero, suc, codes, drop, List, [], ◌∷◌, ◌++◌, ◌-◌, ◌^◌, ◌<◌, ◌≤◌, length, true, Result, Some, refl, ap, ◌∙◌, subst, sym, arith, length-append}
+use Rattle.std.proofs.Common.{◌≡◌, ℕ, zero, suc, codes, List, [], ◌∷◌, ◌++◌, ◌-◌, ◌^◌, ◌<◌, ◌≤◌, length, true, Result, Ok, refl, ap, ◌∙◌, subst, sym, arith, length-append}
 use Rattle.std.proofs.lemmas.Bool.{and_parts, and_from, ne_eqb, le-leb}
-use Rattle.std.proofs.lemmas.List.{append_assoc, append_cancel_right}
-use Rattle.std.proofs.lemmas.Fmt.{decimal_is_IsNumeral}
+use Rattle.std.proofs.lemmas.List.{append_assoc}
+use Rattle.std.proofs.lemmas.Fmt.{decimal_is_IsNumeral, IsAscii-decimal}
+use Rattle.std.proofs.lemmas.Str.{IsUtf8-append, IsUtf8-from_ascii}
 use Rattle.std.proofs.lemmas.Str.Parse.{digit_from_value, IsNumeralModel, numerals_by_value, tells_digits, parse_gives}
 use Rattle.std.specs.Prelude.{replicate}
 use Rattle.std.specs.Fmt.{decimal}
 use Rattle.std.specs.List.{list_all}
-use Rattle.std.specs.Result.{result_ok}
+use Rattle.std.specs.Str.{IsUtf8}
 use Rattle.std.specs.Str.Parse.{AllDigits, digits_value, ParsesUnsigned}
 use Rattle.json.specs.Print.{quoted}
+use Rattle.json.proofs.Printed.Utf8.{IsUtf8-are_ascii}
 use Rattle.cdxj_line.specs.Lines.{six_digits, file_name}
-use Rattle.cdxj_line.specs.Written.{is_plain}
+use Rattle.cdxj_line.specs.steps.Written.{is_plain}
 use Rattle.cdxj_line.proofs.Escapes.{plain_text}
 
 -- ---- the name as a JSON string
@@ -29,7 +31,7 @@ plain_zeros (suc n) = plain_zeros n
 plain_digit : (c : ℕ) → 48 ≤ c → c ≤ 57 → is_plain c ≡ true
 plain_digit c from to = rw (ne_eqb c 34 (λ e. omega arith), ne_eqb c 92 (λ e. omega arith), le-leb 32 c (omega arith)) refl
 
-plain_digits : (ds : List ℕ) → AllDigits 10 ds → list_all is_plain ds ≡ true
+pub plain_digits : (ds : List ℕ) → AllDigits 10 ds → list_all is_plain ds ≡ true
 plain_digits [] all = refl
 plain_digits (c ∷ cs) all =
     let digit = digit_from_value c all.0 in
@@ -80,17 +82,28 @@ own : IsNumeralModel (AllDigits 10) (digits_value 10)
 own = numerals_by_value (AllDigits 10) tells_digits
 
 -- the number that is parsed from six digits or more
-pub six_digits_parsed : {E : Type 0} (number : ℕ) (text : List ℕ) (r : Result ℕ E) → number < 2 ^ 32 → text ≡ six_digits number → ParsesUnsigned 32 10 text r → result_ok r ≡ Some number
+pub six_digits_parsed : {E : Type 0} (number : ℕ) (text : List ℕ) (r : Result ℕ E) → number < 2 ^ 32 → text ≡ six_digits number → ParsesUnsigned 32 10 text r → r ≡ Ok number
 six_digits_parsed number text r fits is parses =
     let zeros : ℕ = 6 - length (decimal number) in
     let numeral = decimal_is_IsNumeral number (omega arith) in
     let digits : AllDigits 10 text = subst (AllDigits 10) (sym is) (AllDigits-zeros zeros (decimal number) numeral.0.1) in
     let value : digits_value 10 text ≡ number = ap (digits_value 10) is ∙ digits_value-zeros zeros (decimal number) ∙ numeral.1 in
     let some : 0 < length text = omega (arith, ap length is, length-append (replicate zeros 48) (decimal number), numeral.0.0) in
-    ap result_ok (parse_gives own 32 text r parses digits some (omega arith)) ∙ ap Some value
+    parse_gives own 32 text r parses digits some (omega arith) ∙ ap Ok value
 
--- what stands between the parts of a file's name
-pub stripped : (name rest number digits : List ℕ) (m : ℕ) → name ≡ codes "vol-" ++ digits ++ codes ".warc" → m ≡ 4 → rest ≡ drop m name → rest ≡ number ++ codes ".warc" → number ≡ digits
-stripped name rest number digits m is four behind front =
-    let e : digits ++ codes ".warc" ≡ number ++ codes ".warc" = sym (sym front ∙ behind ∙ ap (λ k. drop k name) four ∙ ap (drop 4) is) in
-    sym (append_cancel_right digits number (codes ".warc") e)
+-- they are of ASCII
+zeros_text : (n : ℕ) → IsUtf8 (replicate n 48)
+zeros_text zero = IsUtf8-are_ascii [] refl
+zeros_text (suc n) = IsUtf8-append (48 ∷ []) (replicate n 48) (IsUtf8-are_ascii (48 ∷ []) refl) (zeros_text n)
+
+pub six_digits_text : (number : ℕ) → number < 2 ^ 32 → IsUtf8 (six_digits number)
+six_digits_text number fits =
+    IsUtf8-append (replicate (6 - length (decimal number)) 48) (decimal number) (zeros_text (6 - length (decimal number)))
+    (IsUtf8-from_ascii (decimal number) (IsAscii-decimal number (omega arith)))
+
+-- and begin with their zeros
+pub six_digits_front : (number found : ℕ) (digits written zeros : List ℕ) → digits ≡ six_digits number → found ≡ number → written ≡ decimal found → zeros ≡ replicate (6 - length written) 48
+    → (digits ≡ zeros ++ decimal number) × (written ≡ decimal number)
+six_digits_front number found digits written zeros is same written_is zeros_are =
+    let text : written ≡ decimal number = written_is ∙ ap decimal same in
+    (is ∙ ap (λ z. z ++ decimal number) (sym (zeros_are ∙ ap (λ (t : List ℕ). replicate (6 - length t) 48) text)), text)

@@ -1,10 +1,10 @@
 pub mod Cuts
-pub mod Digests
 pub mod Escapes
 pub mod FileNames
 pub mod LineLengths
 pub mod Objects
-pub mod ReadNumbers
+pub mod Raw
+pub mod Strings
 pub mod Told
 pub mod ToldLaws
 pub mod Trimming

@@ -8,7 +8,7 @@ use Rattle.json.specs.Print.{escape, quoted}
 use Rattle.time_text.specs.Texts.{time_digits}
 use Rattle.cdxj_line.specs.Lengths.{capped}
 use Rattle.cdxj_line.specs.Lines.{six_digits, file_name, line_text, object_text}
-use Rattle.cdxj_line.specs.Written.{first_members, further_member, last_members, member_text, number_members}
+use Rattle.cdxj_line.specs.steps.Written.{first_members, further_member, last_members, member_text, number_members}
 use Rattle.cdxj_line.specs.declared.line.Line.{Line}
 use Rattle.cdxj_line.proofs.Escapes.{plain_text}
 use Rattle.cdxj_line.proofs.FileNames.{plain_name}

@@ -1,28 +1,24 @@
 -- The text of a line's JSON object: in which pieces it is written, and that it reads as that object.
-use Rattle.std.proofs.Common.{◌≡◌, ℕ, zero, suc, ◌-◌, ◌^◌, ◌<◌, ◌≤◌, length, List, [], ◌∷◌, ◌++◌, Bool, true, false, Some, refl, ap, sym, ◌∙◌, arith}
-use Rattle.std.specs.Prelude.{max, option_and_then, codes, replicate, ⊤}
+use Rattle.std.proofs.Common.{◌≡◌, ℕ, ◌≤◌, List, [], ◌∷◌, ◌++◌, Bool, true, false, Some, refl, ap, sym, ◌∙◌, arith}
+use Rattle.std.specs.Prelude.{max, option_and_then, codes}
 use Rattle.std.specs.Fmt.{decimal}
-use Rattle.std.specs.Str.{IsUtf8}
 use Rattle.std.proofs.lemmas.List.{append-nil, append_assoc}
-use Rattle.std.proofs.lemmas.Fmt.{IsAscii-decimal}
-use Rattle.std.proofs.lemmas.Str.{IsUtf8-append, IsUtf8-from_ascii}
 use Rattle.digest32.specs.Base32.{base32}
 use Rattle.json.specs.Json.{if_last, value}
 use Rattle.json.specs.Lex.{tokens}
-use Rattle.json.specs.Print.{quoted, escape_byte}
+use Rattle.json.specs.Print.{quoted, escape, escape_byte}
 use Rattle.json.specs.Tree as tree
 use Rattle.json.proofs.Printed.Tokens.{tokens-print}
 use Rattle.json.proofs.Printed.Trees.{value-json_tokens, ArePrintable-json_tokens}
-use Rattle.json.proofs.Printed.Utf8.{IsUtf8-are_ascii, IsUtf8-quoted}
-use Rattle.serde_json.specs.Data.{object}
+use Rattle.serde_json.specs.Data.{object, string}
 use Rattle.serde_json.specs.Read.{read, of_json, max_depth}
-use Rattle.serde_json.specs.Written.{comma_if, compact_text, members_text, outline, members_outline}
+use Rattle.serde_json.specs.Written.{compact_text, outline, members_outline}
 use Rattle.serde_json.proofs.Texts.{print-outline}
-use Rattle.cdxj_line.specs.Lines.{six_digits, file_name, strings, members_of, object_of, object_text, IsLine}
+use Rattle.cdxj_line.specs.Lines.{file_name, strings, members_of, object_of, object_text}
 use Rattle.time_text.specs.Texts.{time_digits}
-use Rattle.cdxj_line.specs.Written.{first_members, further_member, last_members, member_text, number_members}
+use Rattle.cdxj_line.specs.steps.Shown.{joined}
+use Rattle.cdxj_line.specs.steps.Written.{first_members, further_member, last_members, member_text, number_members}
 use Rattle.cdxj_line.specs.declared.line.Line.{Line}
-use Rattle.cdxj_line.proofs.Digests.{digest_ascii}
 
 -- ---- in pieces
 
@@ -100,77 +96,34 @@ pub read-object_text : (line : Line) → read (object_text false line) ≡ Some 
 unfolding object_text
 read-object_text line = read-strings (members_of false line)
 
--- each text is UTF-8
-abbrev AreTexts : List (List ℕ × List ℕ) → Type 0
-AreTexts [] = ⊤
-AreTexts (pair ∷ pairs) = IsUtf8 pair.0 × IsUtf8 pair.1 × AreTexts pairs
+pub read-quoted : (text : List ℕ) → read (quoted text) ≡ Some (string text)
+read-quoted text =
+    let d = string text in
+    let j = outline d in
+    let lexed : tokens (compact_text d) ≡ tree.json_tokens j = ap tokens (sym (print-outline d)) ∙ tokens-print (tree.json_tokens j) (ArePrintable-json_tokens j tt) in
+    let parsed : value max_depth (tokens (compact_text d)) ≡ Some (j, []) =
+    ap (value max_depth) (lexed ∙ sym (append-nil (tree.json_tokens j))) ∙ value-json_tokens j max_depth [] (omega arith) in
+    ap (λ r. option_and_then of_json (option_and_then (λ p. if_last p.0 p.1) r)) parsed
 
-IsUtf8-comma : (later : Bool) → IsUtf8 (comma_if later)
-IsUtf8-comma true = IsUtf8-are_ascii (44 ∷ []) refl
-IsUtf8-comma false = IsUtf8-are_ascii [] refl
+-- ---- by the strings as they stand between their quotes
 
-IsUtf8-members : (later : Bool) (pairs : List (List ℕ × List ℕ)) → AreTexts pairs → IsUtf8 (members_text later (strings pairs))
-IsUtf8-members later [] texts = IsUtf8-are_ascii (125 ∷ []) refl
-IsUtf8-members later (pair ∷ pairs) texts =
-    let rest = quoted pair.1 ++ members_text true (strings pairs) in
-    let value : IsUtf8 rest = IsUtf8-append (quoted pair.1) (members_text true (strings pairs)) (IsUtf8-quoted pair.1 texts.1) (IsUtf8-members true pairs texts.2) in
-    IsUtf8-append (comma_if later) (quoted pair.0 ++ 58 ∷ rest) (IsUtf8-comma later)
-    (IsUtf8-append (quoted pair.0) (58 ∷ rest) (IsUtf8-quoted pair.0 texts.0) (IsUtf8-append (58 ∷ []) rest (IsUtf8-are_ascii (58 ∷ []) refl) value))
+flat_object : (line : Line) → object_text false line
+    ≡ codes "{\"digest\":" ++ (quoted (base32 line.digest) ++ (codes ",\"filename\":" ++ (quoted (file_name line.volume)
+    ++ (codes ",\"length\":" ++ (quoted (decimal line.length) ++ (codes ",\"method\":" ++ (quoted line.method ++ (codes ",\"mime\":" ++ (quoted line.mime
+    ++ (codes ",\"number\":" ++ (quoted (decimal line.number) ++ (codes ",\"offset\":" ++ (quoted (decimal line.offset) ++ (codes ",\"status\":" ++ (quoted (decimal line.status)
+    ++ (codes ",\"url\":" ++ (quoted line.url ++ codes "}")))))))))))))))))
+unfolding object_text escape_byte
+flat_object line = refl
 
-number_text : (n : ℕ) → n < 2 ^ 64 → IsUtf8 (decimal n)
-number_text n fits = IsUtf8-from_ascii (decimal n) (IsAscii-decimal n fits)
+open_string : (front s r q : List ℕ) → r ≡ q → front ++ (quoted s ++ r) ≡ front ++ 34 ∷ (escape s ++ 34 ∷ q)
+open_string front s r q e = ap (λ t. front ++ 34 ∷ t) (append_assoc (escape s) (34 ∷ []) r ∙ ap (λ t. escape s ++ 34 ∷ t) e)
 
-zeros_text : (n : ℕ) → IsUtf8 (replicate n 48)
-zeros_text zero = IsUtf8-are_ascii [] refl
-zeros_text (suc n) = IsUtf8-append (48 ∷ []) (replicate n 48) (IsUtf8-are_ascii (48 ∷ []) refl) (zeros_text n)
-
-file_name_text : (volume : ℕ) → volume < 2 ^ 64 → IsUtf8 (file_name volume)
-file_name_text volume fits =
-    IsUtf8-append (codes "vol-" ++ six_digits volume) (codes ".warc")
-    (IsUtf8-append (codes "vol-") (six_digits volume) (IsUtf8-are_ascii (codes "vol-") refl)
-    (IsUtf8-append (replicate (6 - length (decimal volume)) 48) (decimal volume) (zeros_text (6 - length (decimal volume))) (number_text volume fits)))
-    (IsUtf8-are_ascii (codes ".warc") refl)
-
-pub IsUtf8-object_text : (line : Line) → IsLine line → IsUtf8 (object_text false line)
-unfolding object_text
-IsUtf8-object_text line is =
-    let typed = is.typed in
-    let status : line.status < 2 ^ 64 = omega (arith, is.writable.status_to) in
-    let texts : AreTexts (members_of false line) = (
-      IsUtf8-are_ascii (codes "digest") refl,
-      IsUtf8-from_ascii (base32 line.digest) (digest_ascii line.digest typed.digest),
-      (
-        IsUtf8-are_ascii (codes "filename") refl,
-        file_name_text line.volume (omega (arith, typed.volume)),
-        (
-          IsUtf8-are_ascii (codes "length") refl,
-          number_text line.length typed.length,
-          (
-            IsUtf8-are_ascii (codes "method") refl,
-            IsUtf8-from_ascii line.method typed.method,
-            (
-              IsUtf8-are_ascii (codes "mime") refl,
-              IsUtf8-from_ascii line.mime typed.mime,
-              (
-                IsUtf8-are_ascii (codes "number") refl,
-                number_text line.number (omega (arith, typed.number)),
-                (
-                  IsUtf8-are_ascii (codes "offset") refl,
-                  number_text line.offset typed.offset,
-                  (
-                    IsUtf8-are_ascii (codes "status") refl,
-                    number_text line.status status,
-                    (
-                      IsUtf8-are_ascii (codes "url") refl,
-                      IsUtf8-from_ascii line.url typed.url,
-                      tt,
-                    ),
-                  ),
-                ),
-              ),
-            ),
-          ),
-        ),
-      ),
-    ) in
-    IsUtf8-append (123 ∷ []) (members_text false (strings (members_of false line))) (IsUtf8-are_ascii (123 ∷ []) refl) (IsUtf8-members false (members_of false line) texts)
+pub object_joined : (line : Line) → object_text false line
+    ≡ joined (escape (base32 line.digest)) (escape (file_name line.volume)) (escape (decimal line.length)) (escape line.method) (escape line.mime) (escape (decimal line.number))
+    (escape (decimal line.offset)) (escape (decimal line.status)) (escape line.url)
+unfolding joined
+object_joined line =
+    flat_object line
+    ∙ open_string (codes "{\"digest\":") (base32 line.digest) _ _ (open_string (codes ",\"filename\":") (file_name line.volume) _ _ (open_string (codes ",\"length\":") (decimal line.length) _ _
+    (open_string (codes ",\"method\":") line.method _ _ (open_string (codes ",\"mime\":") line.mime _ _ (open_string (codes ",\"number\":") (decimal line.number) _ _
+    (open_string (codes ",\"offset\":") (decimal line.offset) _ _ (open_string (codes ",\"status\":") (decimal line.status) _ _ (open_string (codes ",\"url\":") line.url (codes "}") (codes "}") refl))))))))

@@ -2,6 +2,5 @@ pub mod Lengths
 pub mod Lines
 pub mod MediaType
 pub mod Parts
-pub mod Shown
 pub mod Told
-pub mod Written
+pub mod steps

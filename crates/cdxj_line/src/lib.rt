@@ -10,6 +10,7 @@ mod length;
 mod line;
 mod line_parts;
 mod members;
+mod number;
 mod object;
 mod read;
 mod shown;

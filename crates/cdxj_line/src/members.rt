@@ -1,47 +1,99 @@
 //! The members of a line's JSON object, all of which are strings.
-ghost use Rattle.std.specs.Prelude.{◌≡◌, false, IsSomeAnd, option_map, option_and_then};
-ghost use Rattle.serde_json.specs.Find.{get, as_str};
-ghost use Rattle.serde_json.specs.View.{view};
-ghost use Rattle.cdxj_line.specs.Lines.{object_of};
-ghost use Rattle.cdxj_line.specs.Shown.{Shows};
+ghost use Rattle.std.specs.Prelude.{◌≡◌, ◌≤◌, ℕ, List, ◌∷◌, ◌++◌, false, length, codes, IfSome, IsSomeAnd};
+ghost use Rattle.json.specs.Print.{escape};
+ghost use Rattle.cdxj_line.specs.Lines.{object_text};
+ghost use Rattle.cdxj_line.specs.steps.Shown.{Shows, between, text_of};
+ghost use Rattle.cdxj_line.specs.steps.Strings as spec;
 ghost use Rattle.cdxj_line.specs.declared.line.Line.{Line};
 
-use serde_json::Value;
+use crate::cut::strip;
 
-/// The texts of a line's JSON object.
-#[derive(Drop)]
+/// The strings of a line's JSON object, each as it stands between its quotes.
+#[derive(Clone, Copy)]
 pub(crate) struct Members<'a> {
-    pub digest: &'a str,
-    pub filename: &'a str,
-    pub length: &'a str,
-    pub method: &'a str,
-    pub mime: &'a str,
-    pub number: &'a str,
-    pub offset: &'a str,
-    pub status: &'a str,
-    pub url: &'a str,
+    pub digest: &'a [u8],
+    pub filename: &'a [u8],
+    pub length: &'a [u8],
+    pub method: &'a [u8],
+    pub mime: &'a [u8],
+    pub number: &'a [u8],
+    pub offset: &'a [u8],
+    pub status: &'a [u8],
+    pub url: &'a [u8],
 }
 
-/// The texts of a JSON object that has those members.
-pub(crate) fn members_of(value: &Value) -> Option<Members<'_>>
-    ensures { (line : Line) → view value.now ≡ object_of false line → IsSomeAnd result (Shows line) }
+/// The strings of a JSON object that has those members, and nothing beside them.
+pub(crate) fn members_of(object: &[u8]) -> Option<Members<'_>>
+    ensures some { IfSome result (λ members. object.now ≡ text_of members) }
+    ensures found { (line : Line) → object.now ≡ object_text false line → IsSomeAnd result (Shows line) }
 {
+    let (digest, rest) = member(object, b"{\"digest\":\"")?;
+    let (filename, rest) = member(rest, b",\"filename\":\"")?;
+    let (length, rest) = member(rest, b",\"length\":\"")?;
+    let (method, rest) = member(rest, b",\"method\":\"")?;
+    let (mime, rest) = member(rest, b",\"mime\":\"")?;
+    let (number, rest) = member(rest, b",\"number\":\"")?;
+    let (offset, rest) = member(rest, b",\"offset\":\"")?;
+    let (status, rest) = member(rest, b",\"status\":\"")?;
+    let url = last_member(rest)?;
     Some(Members {
-        digest: member(value, "digest")?,
-        filename: member(value, "filename")?,
-        length: member(value, "length")?,
-        method: member(value, "method")?,
-        mime: member(value, "mime")?,
-        number: member(value, "number")?,
-        offset: member(value, "offset")?,
-        status: member(value, "status")?,
-        url: member(value, "url")?,
+        digest,
+        filename,
+        length,
+        method,
+        mime,
+        number,
+        offset,
+        status,
+        url,
     })
 }
 
-fn member<'v>(value: &'v Value, name: &str) -> Option<&'v str>
-    ensures { option_map (λ text. text.now) result
-        ≡ option_and_then as_str (get name.now (view value.now)) }
+/// The string of the last member.
+fn last_member(text: &[u8]) -> Option<&[u8]>
+    ensures some { IfSome result (λ value. text.now ≡ between (codes ",\"url\":\"") value.now (codes "}")) }
+    ensures found { (value : List ℕ) → text.now ≡ between (codes ",\"url\":\"") (escape value) (codes "}")
+        → IsSomeAnd result (λ read. read.now ≡ escape value) }
 {
-    value.get(name).and_then(Value::as_str)
+    let (value, rest) = member(text, b",\"url\":\"")?;
+    match rest {
+        [b'}'] => Some(value),
+        _ => None,
+    }
+}
+
+/// The string of a member of which what stands before its value is told, and what stands behind it.
+fn member<'a>(text: &'a [u8], front: &[u8]) -> Option<(&'a [u8], &'a [u8])>
+    ensures some { IfSome result (λ read. text.now ≡ between front.now read.0.now read.1.now) }
+    ensures found { (value rest : List ℕ) → text.now ≡ between front.now (escape value) rest
+        → IsSomeAnd result (λ read. (read.0.now ≡ escape value) × (read.1.now ≡ rest)) }
+{
+    let begun = strip(text, front)?;
+    let (value, rest) = begun.split_at(string_len(begun));
+    let rest = strip(rest, b"\"")?;
+    Some((value, rest))
+}
+
+/// How many bytes stand before the quote that closes a string.
+fn string_len(text: &[u8]) -> usize
+    ensures value { result ≡ spec.string_len false text.now }
+    ensures within { result ≤ length text.now }
+{
+    let mut len = 0;
+    let mut escaped = false;
+    for byte in text {
+        if is_mark(escaped, *byte, b'"') {
+            return len;
+        }
+        escaped = is_mark(escaped, *byte, b'\\');
+        len += 1;
+    }
+    len
+}
+
+/// Whether the byte is such a mark and isn't escaped.
+fn is_mark(escaped: bool, byte: u8, mark: u8) -> bool
+    ensures { result ≡ spec.is_mark escaped byte mark }
+{
+    !escaped && byte == mark
 }

@@ -5,7 +5,7 @@ ghost use Rattle.time_text.specs.Texts.{InRange, time_digits};
 ghost use Rattle.cdxj_line.specs.Lines as spec;
 ghost use Rattle.cdxj_line.specs.Lines.{file_name};
 ghost use Rattle.cdxj_line.specs.Parts.{line_of};
-ghost use Rattle.cdxj_line.specs.Written.{first_members, further_member, last_members, member_text, number_members};
+ghost use Rattle.cdxj_line.specs.steps.Written.{first_members, further_member, last_members, member_text, number_members};
 
 use crate::LineParts;
 use crate::file_name::put_file_name;
@@ -29,7 +29,7 @@ pub fn put_object(out: &mut Vec<u8>, parts: &LineParts<'_>, further: bool) -> Re
 }
 
 /// Puts the first members, from the opening brace on.
-#[tactic(auto, unfolding(crate::specs::Written::first_members))]
+#[tactic(auto, unfolding(crate::specs::steps::Written::first_members))]
 fn put_first(out: &mut Vec<u8>, parts: &LineParts<'_>) -> Result<(), Memory>
     ensures { OnOk result (out.new.items ≡ out.old.items ++ first_members (line_of parts.now)) }
 {
@@ -41,7 +41,7 @@ fn put_first(out: &mut Vec<u8>, parts: &LineParts<'_>) -> Result<(), Memory>
 }
 
 /// Puts the numbers behind them.
-#[tactic(auto, unfolding(crate::specs::Written::number_members))]
+#[tactic(auto, unfolding(crate::specs::steps::Written::number_members))]
 fn put_numbers(out: &mut Vec<u8>, parts: &LineParts<'_>) -> Result<(), Memory>
     ensures { OnOk result (out.new.items ≡ out.old.items ++ number_members (line_of parts.now)) }
 {
@@ -51,7 +51,7 @@ fn put_numbers(out: &mut Vec<u8>, parts: &LineParts<'_>) -> Result<(), Memory>
 }
 
 /// Puts the last members, up to the closing brace.
-#[tactic(auto, unfolding(crate::specs::Written::last_members))]
+#[tactic(auto, unfolding(crate::specs::steps::Written::last_members))]
 fn put_last(out: &mut Vec<u8>, parts: &LineParts<'_>, further: bool) -> Result<(), Memory>
     requires { InRange parts.now.date }
     ensures { OnOk result (out.new.items ≡ out.old.items ++ last_members further (line_of parts.now)) }
@@ -63,7 +63,7 @@ fn put_last(out: &mut Vec<u8>, parts: &LineParts<'_>, further: bool) -> Result<(
 }
 
 /// Puts the date, where it is told beside the members of a line.
-#[tactic(auto, unfolding(crate::specs::Written::further_member))]
+#[tactic(auto, unfolding(crate::specs::steps::Written::further_member))]
 fn put_timestamp(out: &mut Vec<u8>, date: u64, further: bool) -> Result<(), Memory>
     requires { InRange date }
     ensures { OnOk result (out.new.items ≡ out.old.items ++ further_member further (codes ",\"timestamp\":") (time_digits date)) }
@@ -78,7 +78,7 @@ fn put_timestamp(out: &mut Vec<u8>, date: u64, further: bool) -> Result<(), Memo
 }
 
 /// Puts the key, where it is told beside the members of a line.
-#[tactic(auto, unfolding(crate::specs::Written::further_member))]
+#[tactic(auto, unfolding(crate::specs::steps::Written::further_member))]
 fn put_key(out: &mut Vec<u8>, key: &[u8], further: bool) -> Result<(), Memory>
     ensures { OnOk result (out.new.items ≡ out.old.items ++ further_member further (codes ",\"urlkey\":") key.now) }
 {
@@ -96,7 +96,7 @@ fn put_digest(out: &mut Vec<u8>, digest: &Digest) -> Result<(), Memory>
 }
 
 /// Puts the name of the volume's file.
-#[tactic(auto, unfolding(crate::specs::Written::member_text))]
+#[tactic(auto, unfolding(crate::specs::steps::Written::member_text))]
 fn put_file(out: &mut Vec<u8>, volume: u32) -> Result<(), Memory>
     ensures { OnOk result (out.new.items ≡ out.old.items ++ member_text (codes ",\"filename\":") (file_name volume)) }
 {
@@ -113,7 +113,7 @@ fn put_number(out: &mut Vec<u8>, front: &[u8], number: u64) -> Result<(), Memory
 }
 
 /// Puts a member. What stands before its value is told: the mark before its name, the name and the colon.
-#[tactic(auto, unfolding(crate::specs::Written::member_text))]
+#[tactic(auto, unfolding(crate::specs::steps::Written::member_text))]
 fn put_member(out: &mut Vec<u8>, front: &[u8], value: &[u8]) -> Result<(), Memory>
     ensures { OnOk result (out.new.items ≡ out.old.items ++ member_text front.now value.now) }
 {

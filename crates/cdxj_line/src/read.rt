@@ -1,19 +1,18 @@
 //! A line that is read.
-ghost use Rattle.std.specs.Prelude.{◌≡◌, ◌≢◌, ℕ, false, List, [], ◌∷◌, ◌++◌, All, Some, Ok, IfOk, IfSome, IfNone, IsSomeAnd};
+ghost use Rattle.std.specs.Prelude.{◌≡◌, ◌≢◌, ℕ, Some, IfOk, IfSome, IfNone, IsSomeAnd};
 ghost use Rattle.time_text.specs.Texts.{InRange, time_digits};
 ghost use Rattle.cdxj_line.specs.Lines as spec;
-ghost use Rattle.cdxj_line.specs.Lines.{IsLine, IsWritable, object_text};
+ghost use Rattle.cdxj_line.specs.Lines.{IsLine, IsWritable};
+ghost use Rattle.cdxj_line.specs.steps.Shown.{IsTextOf, ShowsLine};
 ghost use Rattle.cdxj_line.specs.declared.line.Line.{Line};
 
 use crate::Line;
-use crate::cut::front_len;
-use crate::members::members_of;
+use crate::cut::{before, cut_at_blank};
+use crate::members::{Members, members_of};
 use crate::shown::line_of_members;
-use crate::write::line_text;
 use capture::Memory;
-use serde_json::Value;
 use std::alloc::Global;
-use time_text::read_time;
+use time_text::{read_time, write_time};
 
 /// The line that has this text, and `None` exactly where no line has it.
 pub fn read_line(alloc: Global, text: &[u8]) -> Result<Option<Line>, Memory>
@@ -22,60 +21,55 @@ pub fn read_line(alloc: Global, text: &[u8]) -> Result<Option<Line>, Memory>
     ensures reads_back { (line : Line) → IsLine line → text.now ≡ spec.line_text line
         → IfOk result (λ read. read ≡ Some line) }
 {
-    let Some((date, object)) = parts_of(text) else {
+    let Some(parts) = parts_of(text) else {
         return Ok(None);
     };
-    let Some(line) = line_of(alloc, date, object)? else {
+    let Some(line) = line_of_members(alloc, parts.date, &parts.members)? else {
         return Ok(None);
     };
-    // What was read leniently is a line's text where the line has that text.
-    let written = line_text(alloc, &line)?;
-    if written.as_slice() != text {
+    if line.key.as_slice() != parts.key {
         return Ok(None);
     }
     Ok(Some(line))
 }
 
-/// The date and the object of a text that has the parts of a line.
-fn parts_of(text: &[u8]) -> Option<(&[u8], &[u8])>
-    ensures { (key date object : List ℕ) → All (λ b. b ≢ 32) key → All (λ b. b ≢ 32) date
-        → text.now ≡ key ++ 32 ∷ (date ++ 32 ∷ (object ++ 10 ∷ []))
-        → IsSomeAnd result (λ parts. (parts.0.now ≡ date) × (parts.1.now ≡ object)) }
-{
-    let (_, rest) = cut_at_blank(text)?;
-    let (date, rest) = cut_at_blank(rest)?;
-    match rest {
-        [object @ .., b'\n'] => Some((date, object)),
-        _ => None,
-    }
+/// The parts of a line as they stand in its text.
+#[derive(Clone, Copy)]
+struct Parts<'a> {
+    key: &'a [u8],
+    date: u64,
+    members: Members<'a>,
 }
 
-/// What stands before and behind the first blank.
-fn cut_at_blank(text: &[u8]) -> Option<(&[u8], &[u8])>
-    ensures { (front rest : List ℕ) → All (λ b. b ≢ 32) front → text.now ≡ front ++ 32 ∷ rest
-        → IsSomeAnd result (λ parts. (parts.0.now ≡ front) × (parts.1.now ≡ rest)) }
+/// The parts of a text that has those of a line.
+fn parts_of(text: &[u8]) -> Option<Parts<'_>>
+    ensures dated { IfSome result (λ parts. InRange parts.date) }
+    ensures some { IfSome result (λ parts. IsTextOf parts text.now) }
+    ensures found { (line : Line) → IsLine line → text.now ≡ spec.line_text line → IsSomeAnd result (ShowsLine line) }
 {
-    let (front, rest) = text.split_at(front_len(text, b' '));
-    let (_, rest) = rest.split_first()?;
-    Some((front, rest))
+    let (key, rest) = cut_at_blank(text)?;
+    let (digits, rest) = cut_at_blank(rest)?;
+    let date = date_of(digits)?;
+    let object = before(rest, b"\n")?;
+    let members = members_of(object)?;
+    Some(Parts { key, date, members })
 }
 
-/// The line of a date and a JSON object. Of texts that are of no line it may be any that can be written.
-fn line_of(alloc: Global, date: &[u8], object: &[u8]) -> Result<Option<Line>, Memory>
-    ensures writable { IfOk result (λ read. IfSome read IsWritable) }
-    ensures reads_back { (line : Line) → IsLine line → date.now ≡ time_digits line.date
-        → object.now ≡ object_text false line → IfOk result (λ read. read ≡ Some line) }
+/// The date that is written so.
+fn date_of(digits: &[u8]) -> Option<u64>
+    ensures some { IfSome result (λ date. InRange date × (digits.now ≡ time_digits date)) }
+    ensures found { (date : ℕ) → InRange date → digits.now ≡ time_digits date → result ≡ Some date }
 {
-    let Ok(date) = read_time(date) else {
-        return Ok(None);
+    let Ok(date) = read_time(digits) else {
+        return None;
     };
-    let value = match Value::from_slice(alloc, object) {
-        Ok(value) => value,
-        Err(error) if error.is_memory() => return Err(Memory),
-        Err(_) => return Ok(None),
+    // The front of a date and milliseconds of zeros are read too.
+    let Ok(written) = write_time(date) else {
+        return None;
     };
-    match members_of(&value) {
-        Some(members) => line_of_members(alloc, date, &members),
-        None => Ok(None),
+    if written.as_slice() == digits {
+        Some(date)
+    } else {
+        None
     }
 }

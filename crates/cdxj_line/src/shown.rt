@@ -1,15 +1,16 @@
-//! The line that the texts of a JSON object show.
-ghost use Rattle.std.specs.Prelude.{◌≡◌, ◌≤◌, ◌<◌, ℕ, IsAscii, Some, IfOk, IfSome, IsSomeAnd};
+//! The line that the strings of a JSON object show.
+ghost use Rattle.std.specs.Prelude.{◌≡◌, ◌≤◌, ◌<◌, ℕ, List, IsAscii, Some, IfOk, IfSome, IsSomeAnd};
 ghost use Rattle.time_text.specs.Texts.{InRange};
-ghost use Rattle.cdxj_line.specs.Lines.{IsLine, IsWritable, HasTypes};
-ghost use Rattle.cdxj_line.specs.Shown.{Shows, IsPartOf};
+ghost use Rattle.cdxj_line.specs.Lines.{IsLine, IsWritable};
+ghost use Rattle.cdxj_line.specs.steps.Shown.{Shows, IsPartOf, TellNumbers};
 ghost use Rattle.cdxj_line.specs.declared.line.Line.{Line};
 
 use crate::Line;
 use crate::file_name::volume_of;
+use crate::json_string::read_escaped;
 use crate::members::Members;
-use capture::{Memory, Text};
-use digest32::read_base32;
+use crate::number::{digest_of, number_of, small_number_of, status_of};
+use capture::Memory;
 use std::alloc::Global;
 use surt_key::{KeyFault, key_of};
 
@@ -23,7 +24,7 @@ struct Numbers {
     status: u16,
 }
 
-/// The line of a date and the texts of its object. Of texts that show no line it may be any that can be written.
+/// The line of a date and the strings of its object, where they are those of a line.
 pub(crate) fn line_of_members(
     alloc: Global,
     date: u64,
@@ -31,22 +32,24 @@ pub(crate) fn line_of_members(
 ) -> Result<Option<Line>, Memory>
     requires { InRange date }
     ensures writable { IfOk result (λ read. IfSome read IsWritable) }
+    ensures dated { IfOk result (λ read. IfSome read (λ line. line.date ≡ date)) }
+    ensures some { IfOk result (λ read. IfSome read (λ line. Shows line members.now)) }
     ensures reads_back { (line : Line) → IsLine line → date ≡ line.date → Shows line members.now
         → IfOk result (λ read. read ≡ Some line) }
 {
     let Some(numbers) = numbers_of(members) else {
         return Ok(None);
     };
-    let Some(digest) = read_base32(members.digest.as_bytes()) else {
+    let Some(digest) = digest_of(members.digest) else {
         return Ok(None);
     };
-    let Some(method) = text_of(alloc, members.method)? else {
+    let Some(method) = read_escaped(alloc, members.method)? else {
         return Ok(None);
     };
-    let Some(mime) = text_of(alloc, members.mime)? else {
+    let Some(mime) = read_escaped(alloc, members.mime)? else {
         return Ok(None);
     };
-    let Some(url) = text_of(alloc, members.url)? else {
+    let Some(url) = read_escaped(alloc, members.url)? else {
         return Ok(None);
     };
     let key = match key_of(alloc, url.as_slice()) {
@@ -73,28 +76,15 @@ pub(crate) fn line_of_members(
 fn numbers_of(members: &Members<'_>) -> Option<Numbers>
     ensures status_from { IfSome result (λ numbers. 100 ≤ numbers.status) }
     ensures status_to { IfSome result (λ numbers. numbers.status ≤ 999) }
-    ensures reads_back { (line : Line) → IsLine line → Shows line members.now
+    ensures some { IfSome result (TellNumbers members.now) }
+    ensures found { (line : Line) → IsLine line → Shows line members.now
         → IsSomeAnd result (IsPartOf line) }
 {
-    let status = members.status.parse().ok()?;
-    if status < 100 {
-        return None;
-    }
-    if status > 999 {
-        return None;
-    }
     Some(Numbers {
         volume: volume_of(members.filename)?,
-        length: members.length.parse().ok()?,
-        number: members.number.parse().ok()?,
-        offset: members.offset.parse().ok()?,
-        status,
+        length: number_of(members.length)?,
+        number: small_number_of(members.number)?,
+        offset: number_of(members.offset)?,
+        status: status_of(members.status)?,
     })
-}
-
-/// A text of ASCII, in memory of its own.
-fn text_of(alloc: Global, text: &str) -> Result<Option<Text>, Memory>
-    ensures { IsAscii text.now → IfOk result (λ copy. copy ≡ Some text.now) }
-{
-    Ok(Text::of(Vec::from_slice(alloc, text.as_bytes())?))
 }

@@ -1,0 +1,4 @@
+-- What only proofs read.
+pub mod Shown
+pub mod Strings
+pub mod Written
