@@ -7,7 +7,8 @@ use Rattle.std.proofs.lemmas.List.{map-append, take_more, take_all}
 use Rattle.capture.specs.Fields.{NamedValue}
 use Rattle.http_head.specs.declared.head.Field.{Field}
 use Rattle.http_head.specs.Heads.{named_value}
-use Rattle.exchange.specs.Texts.{field_line, field_lines}
+use Rattle.head_lines.specs.Lines.{field_line}
+use Rattle.exchange.specs.Texts.{field_lines}
 
 line_of_one : (passes : Bool) (f : NamedValue) → flat_map field_line (if passes then f ∷ [] else []) ≡ (if passes then field_line f else [])
 line_of_one true f = append-nil (field_line f)

@@ -19,7 +19,8 @@ use Rattle.capture.specs.Fields.{NamedValue, named_values}
 use Rattle.capture.specs.Target.{is_target_byte, is_http_target, begins_with_http, is_plain_authority, authority_of, authority_len, is_target_text, after_authority, origin_form}
 use Rattle.capture.specs.declared.framing.Framing.{Framing}
 use Rattle.capture.specs.declared.framing.Framing.TheVariants.{Empty, Length, Chunked, ToEnd}
-use Rattle.exchange.specs.Texts.{field_line, listed_names, goes_to_origin, via_line, close_line, host_line, length_line, length_line_of, request_line, field_lines, forwarded}
+use Rattle.head_lines.specs.Lines.{field_line, close_line, length_line}
+use Rattle.exchange.specs.Texts.{listed_names, goes_to_origin, via_line, host_line, length_line_of, request_line, field_lines, forwarded}
 use Rattle.exchange.specs.declared.aim.Target.{Target}
 use Rattle.http_head.specs.Heads.{minor_of, named_value}
 use Rattle.http_head.specs.declared.head.RequestMessage.{RequestMessage}

@@ -13,7 +13,8 @@ use Rattle.capture.specs.Payload.{IsJoined, IsPayload}
 use Rattle.capture.specs.declared.framing.Framing.{Framing}
 use Rattle.capture.specs.declared.framing.Framing.TheVariants.{Empty, Length, Chunked, ToEnd}
 use Rattle.capture.specs.declared.limits.TheConstants.{BODY_LIMIT, HEAD_LIMIT}
-use Rattle.exchange.specs.Texts.{field_line, listed_names, goes_to_origin, via_line, close_line, host_line, length_line, length_line_of, request_line, field_lines, forwarded}
+use Rattle.head_lines.specs.Lines.{field_line, close_line, length_line}
+use Rattle.exchange.specs.Texts.{listed_names, goes_to_origin, via_line, host_line, length_line_of, request_line, field_lines, forwarded}
 use Rattle.exchange.specs.declared.aim.Target.{Target}
 use Rattle.http_head.specs.Heads.{minor_of, named_value}
 use Rattle.http_head.specs.declared.head.RequestMessage.{RequestMessage}

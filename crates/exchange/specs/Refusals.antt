@@ -1,36 +1,38 @@
 -- What a refusal is answered with.
-use Rattle.std.specs.Prelude.{ℕ, Bool, List, [], ◌∷◌, ◌++◌, codes, decimal, length, if◌then◌else◌}
+use Rattle.std.specs.Prelude.{ℕ, Bool, true, List, [], ◌∷◌, ◌++◌, codes, decimal, length}
 use Rattle.httparse.specs.Ascii.{line_feed, space, crlf_bytes}
 use Rattle.capture.specs.declared.refusal.Refusal.{Refusal}
 use Rattle.capture.specs.declared.refusal.Refusal.TheVariants.{Malformed, TargetRefused, BadTime, BadAcceptDatetime, BadQuery, NotAForm, NoCapture, NoSuch, MethodRefused, BodyTooLong, HeadTooLong, ClockRange, ConnectRefused, SecureRefused, CodingRefused, DialFault, OriginFault, OriginEnded, OriginMalformed, OriginTooLong, TooManyInterim, Full, DiskFault, Damaged}
-use Rattle.exchange.specs.Texts.{length_line, close_line_where}
+use Rattle.head_lines.specs.Lines.{own_status_line, type_line, head_end, body_unless}
+use Rattle.head_lines.specs.declared.status.Status.{Status}
+use Rattle.head_lines.specs.declared.status.Status.TheVariants as status
 
--- the status code and its reason phrase
-unfoldable pub refusal_status : Refusal → List ℕ
-refusal_status Malformed = codes "400 Bad Request"
-refusal_status TargetRefused = codes "400 Bad Request"
-refusal_status BadTime = codes "400 Bad Request"
-refusal_status BadAcceptDatetime = codes "400 Bad Request"
-refusal_status BadQuery = codes "400 Bad Request"
-refusal_status NotAForm = codes "404 Not Found"
-refusal_status NoCapture = codes "404 Not Found"
-refusal_status (NoSuch number count) = codes "404 Not Found"
-refusal_status MethodRefused = codes "405 Method Not Allowed"
-refusal_status BodyTooLong = codes "413 Content Too Large"
-refusal_status HeadTooLong = codes "431 Request Header Fields Too Large"
-refusal_status (ClockRange now) = codes "500 Internal Server Error"
-refusal_status ConnectRefused = codes "501 Not Implemented"
-refusal_status SecureRefused = codes "501 Not Implemented"
-refusal_status CodingRefused = codes "501 Not Implemented"
-refusal_status DialFault = codes "502 Bad Gateway"
-refusal_status OriginFault = codes "502 Bad Gateway"
-refusal_status OriginEnded = codes "502 Bad Gateway"
-refusal_status OriginMalformed = codes "502 Bad Gateway"
-refusal_status OriginTooLong = codes "502 Bad Gateway"
-refusal_status TooManyInterim = codes "502 Bad Gateway"
-refusal_status (Full count limit) = codes "507 Insufficient Storage"
-refusal_status DiskFault = codes "507 Insufficient Storage"
-refusal_status (Damaged number kept found) = codes "507 Insufficient Storage"
+-- the status
+unfoldable pub refusal_status : Refusal → Status
+refusal_status Malformed = status.BadRequest
+refusal_status TargetRefused = status.BadRequest
+refusal_status BadTime = status.BadRequest
+refusal_status BadAcceptDatetime = status.BadRequest
+refusal_status BadQuery = status.BadRequest
+refusal_status NotAForm = status.NotFound
+refusal_status NoCapture = status.NotFound
+refusal_status (NoSuch number count) = status.NotFound
+refusal_status MethodRefused = status.MethodNotAllowed
+refusal_status BodyTooLong = status.ContentTooLarge
+refusal_status HeadTooLong = status.HeadTooLarge
+refusal_status (ClockRange now) = status.InternalServerError
+refusal_status ConnectRefused = status.NotImplemented
+refusal_status SecureRefused = status.NotImplemented
+refusal_status CodingRefused = status.NotImplemented
+refusal_status DialFault = status.BadGateway
+refusal_status OriginFault = status.BadGateway
+refusal_status OriginEnded = status.BadGateway
+refusal_status OriginMalformed = status.BadGateway
+refusal_status OriginTooLong = status.BadGateway
+refusal_status TooManyInterim = status.BadGateway
+refusal_status (Full count limit) = status.InsufficientStorage
+refusal_status DiskFault = status.InsufficientStorage
+refusal_status (Damaged number kept found) = status.InsufficientStorage
 
 -- the refusal in a word
 unfoldable pub refusal_name : Refusal → List ℕ
@@ -83,27 +85,19 @@ refusal_body refusal = refusal_name refusal ++ refusal_numbers refusal ++ (line_
 -- the status line, and the type of what follows
 unfoldable pub refusal_start : Refusal → List ℕ
 refusal_start refusal =
-    codes "HTTP/1.1 " ++ refusal_status refusal ++ crlf_bytes
-    ++ codes "Content-Type: text/plain" ++ crlf_bytes
-
--- the body, which an answer to HEAD doesn't have (RFC 9110, section 9.3.2)
-abbrev pub body_unless : Bool → List ℕ → List ℕ
-body_unless answers_head body = if answers_head then [] else body
+    own_status_line (refusal_status refusal) ++ type_line (codes "text/plain")
 
 -- the whole answer
 unfoldable pub refusal_text : Refusal → Bool → Bool → List ℕ
 refusal_text refusal answers_head closes =
     refusal_start refusal
     ++ allow_line refusal
-    ++ length_line (length (refusal_body refusal))
-    ++ close_line_where closes
-    ++ crlf_bytes ++ body_unless answers_head (refusal_body refusal)
+    ++ head_end (length (refusal_body refusal)) closes
+    ++ body_unless answers_head (refusal_body refusal)
 
 -- the answer where memory ran out, which closes the connection
 unfoldable pub memory_text : List ℕ
 memory_text =
-    codes "HTTP/1.1 503 Service Unavailable" ++ crlf_bytes
-    ++ codes "Content-Type: text/plain" ++ crlf_bytes
-    ++ codes "Content-Length: 7" ++ crlf_bytes
-    ++ codes "Connection: close" ++ crlf_bytes
-    ++ crlf_bytes ++ codes "Memory" ++ (line_feed ∷ [])
+    own_status_line status.ServiceUnavailable ++ type_line (codes "text/plain")
+    ++ head_end 7 true
+    ++ codes "Memory" ++ (line_feed ∷ [])

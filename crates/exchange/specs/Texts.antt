@@ -9,6 +9,7 @@ use Rattle.capture.specs.Fields.{NamedValue, is_named, members_of, lowered}
 use Rattle.capture.specs.Framing.{content_length}
 use Rattle.capture.specs.declared.framing.Framing.{Framing}
 use Rattle.capture.specs.declared.framing.Framing.TheVariants.{Empty, Length, Chunked, ToEnd}
+use Rattle.head_lines.specs.Lines.{status_line, field_line, length_line, tells_no_length, close_line, close_line_where}
 use Rattle.http_head.specs.declared.head.Received.{Received}
 use Rattle.http_head.specs.declared.head.RequestMessage.{RequestMessage}
 use Rattle.http_head.specs.Heads.{minor_of, named_value}
@@ -16,10 +17,6 @@ use Rattle.exchange.specs.declared.aim.Target.{Target}
 
 abbrev pub host_name : List ℕ
 host_name = codes "host"
-
--- a field's line
-abbrev pub field_line : NamedValue → List ℕ
-field_line f = f.0 ++ codes ": " ++ f.1 ++ crlf_bytes
 
 abbrev pub connection : List ℕ
 connection = codes "connection"
@@ -51,12 +48,6 @@ goes_to_client listed with_length f = is_passed_on listed f && (with_length || n
 -- the proxy's own field line (RFC 9110, section 7.6.3), with the minor version that was received
 unfoldable pub via_line : ℕ → List ℕ
 via_line minor = codes "Via: 1." ++ ((digit_zero + minor) ∷ []) ++ codes " memproxy" ++ crlf_bytes
-
-unfoldable pub length_line : ℕ → List ℕ
-length_line n = codes "Content-Length: " ++ decimal n ++ crlf_bytes
-
-unfoldable pub close_line : List ℕ
-close_line = codes "Connection: close" ++ crlf_bytes
 
 -- `Host`, with the port where it isn't the default one
 unfoldable pub host_line : List ℕ → ℕ → List ℕ
@@ -101,11 +92,7 @@ keeps_length answers_head status = answers_head || status == 304
 
 -- the response has no length of its own
 abbrev pub has_no_length : Bool → ℕ → Bool
-has_no_length answers_head status = answers_head || status == 204 || status == 304
-
--- the first line of a response (RFC 9112, section 4)
-unfoldable pub status_line : ℕ → List ℕ → List ℕ
-status_line status reason = codes "HTTP/1.1 " ++ decimal status ++ (space ∷ []) ++ reason ++ crlf_bytes
+has_no_length answers_head status = answers_head || tells_no_length status
 
 -- the mark of a response that was cut
 unfoldable pub cut_line_where : Bool → List ℕ
@@ -122,10 +109,6 @@ told_length_line ToEnd = []
 unfoldable pub length_line_unless : Bool → Bool → Framing → List ℕ → List ℕ
 length_line_unless without cut framing payload =
     if without then [] else (if cut then told_length_line framing else length_line (length payload))
-
--- whether the connection closes
-unfoldable pub close_line_where : Bool → List ℕ
-close_line_where closes = if closes then close_line else []
 
 -- what the client gets of an origin's response with this payload; one that was cut closes the connection
 unfoldable pub answered : Received → List ℕ → Bool → Bool → List ℕ

@@ -6,10 +6,11 @@ ghost use Rattle.exchange.specs.Texts as spec;
 ghost use Rattle.exchange.specs.Texts.{answered, length_line_unless, told_length_line};
 
 use crate::filter::put_client_fields;
-use crate::lines::{
-    put_close_line, put_cut_line, put_length_line, put_line_end, put_status_line, put_via_line,
-};
+use crate::lines::{put_cut_line, put_via_line};
 use capture::{Bytes, Framing, Memory, put_all};
+use head_lines::{
+    put_close_line_where, put_length_line, put_line_end, put_status_line, tells_no_length,
+};
 use http_head::Received;
 use std::alloc::Global;
 
@@ -48,7 +49,7 @@ pub fn client_text(
         received,
         payload,
     )?;
-    put_close_line(&mut out, received.cut || closes)?;
+    put_close_line_where(&mut out, received.cut || closes)?;
     put_line_end(&mut out)?;
     put_all(&mut out, payload)?;
     Ok(Bytes::of(out))
@@ -65,7 +66,7 @@ fn keeps_length(answers_head: bool, status: u16) -> bool
 fn has_no_length(answers_head: bool, status: u16) -> bool
     ensures { result ≡ spec.has_no_length answers_head status }
 {
-    answers_head || status == 204 || status == 304
+    answers_head || tells_no_length(status)
 }
 
 /// Puts the length of the response, unless it has none: of a whole one that of its payload, of one that was cut what

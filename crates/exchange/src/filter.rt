@@ -8,7 +8,7 @@ ghost use Rattle.exchange.specs.Texts as spec;
 ghost use Rattle.exchange.specs.Texts.{origin_lines, client_lines};
 
 use crate::connection_names::{connection_names, is_listed};
-use crate::lines::put_field_line;
+use crate::lines::put_field;
 use capture::Memory;
 use http_head::Field;
 use name_table::{NameTable, hop_by_hop_fields};
@@ -25,7 +25,7 @@ pub fn put_origin_fields(alloc: Global, out: &mut Vec<u8>, fields: &[Field]) -> 
     let listed = connection_names(alloc, fields)?;
     for field in fields {
         if goes_to_origin(&hop, listed.as_slice(), field) {
-            put_field_line(out, field)?;
+            put_field(out, field)?;
         }
     }
     Ok(())
@@ -44,7 +44,7 @@ pub fn put_client_fields(
     let listed = connection_names(alloc, fields)?;
     for field in fields {
         if goes_to_client(&hop, listed.as_slice(), keeps_length, field) {
-            put_field_line(out, field)?;
+            put_field(out, field)?;
         }
     }
     Ok(())

@@ -4,10 +4,9 @@ ghost use Rattle.exchange.specs.Texts.{forwarded, length_line_of};
 
 use crate::aim::Target;
 use crate::filter::put_origin_fields;
-use crate::lines::{
-    put_close_line, put_host_line, put_length_line, put_line_end, put_request_line, put_via_line,
-};
+use crate::lines::{put_host_line, put_request_line, put_via_line};
 use capture::{Bytes, Framing, Memory, put_all};
+use head_lines::{put_close_line, put_length_line, put_line_end};
 use http_head::RequestMessage;
 use std::alloc::Global;
 
@@ -15,7 +14,7 @@ use std::alloc::Global;
 const ADDED: usize = 256;
 
 /// The text that is sent to the origin for this request (RFC 9110, section 7.6; RFC 9112, section 3.2).
-#[tactic(auto, unfolding(crate::specs::Texts::forwarded, crate::specs::Texts::close_line_where))]
+#[tactic(auto, unfolding(crate::specs::Texts::forwarded))]
 pub fn forward_text(
     alloc: Global,
     message: &RequestMessage,
@@ -35,7 +34,7 @@ pub fn forward_text(
     put_origin_fields(alloc, &mut out, head.fields.as_slice())?;
     put_via_line(&mut out, head.version)?;
     put_framed_length(&mut out, message.framing, payload)?;
-    put_close_line(&mut out, true)?;
+    put_close_line(&mut out)?;
     put_line_end(&mut out)?;
     put_all(&mut out, payload)?;
     Ok(Bytes::of(out))

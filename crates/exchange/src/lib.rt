@@ -24,7 +24,6 @@ pub use fetching::{FetchFault, fetch};
 pub use filter::is_content_length;
 pub use forward::forward_text;
 pub use laws::requests_can_be_stored;
-pub use lines::{put_close_line, put_length_line, put_line_end};
 pub use output::{print_all, write_all};
 pub use receiving::{Came, receive_request, receive_response};
 pub use refusal::{memory_text, refusal_text};

@@ -1,19 +1,13 @@
-//! The lines that the proxy writes itself into a head.
+//! Lines of the messages that go on past the proxy.
 ghost use Rattle.std.specs.Prelude.{◌≡◌, ◌++◌, OnOk};
 ghost use Rattle.http_head.specs.Heads.{minor_of, named_value};
-ghost use Rattle.exchange.specs.Texts.{request_line, status_line, host_line, field_line, via_line, length_line, cut_line_where, close_line_where};
-ghost use Rattle.httparse.specs.Ascii.{crlf_bytes};
+ghost use Rattle.head_lines.specs.Lines.{field_line};
+ghost use Rattle.exchange.specs.Texts.{request_line, host_line, via_line, cut_line_where};
 
 use crate::aim::HTTP_PORT;
 use capture::{Memory, put_all, put_number};
+use head_lines::{put_field_line, put_line_end};
 use http_head::{Field, Version};
-
-/// Puts an end of a line.
-pub fn put_line_end(out: &mut Vec<u8>) -> Result<(), Memory>
-    ensures { OnOk result (out.new.items ≡ out.old.items ++ crlf_bytes) }
-{
-    put_all(out, b"\r\n")
-}
 
 /// Puts the first line of a request (RFC 9112, section 3).
 #[tactic(auto, unfolding(crate::specs::Texts::request_line))]
@@ -24,18 +18,6 @@ pub fn put_request_line(out: &mut Vec<u8>, method: &[u8], path: &[u8]) -> Result
     put_all(out, b" ")?;
     put_all(out, path)?;
     put_all(out, b" HTTP/1.1")?;
-    put_line_end(out)
-}
-
-/// Puts the first line of a response (RFC 9112, section 4).
-#[tactic(auto, unfolding(crate::specs::Texts::status_line))]
-pub fn put_status_line(out: &mut Vec<u8>, status: u16, reason: &[u8]) -> Result<(), Memory>
-    ensures { OnOk result (out.new.items ≡ out.old.items ++ status_line status reason.now) }
-{
-    put_all(out, b"HTTP/1.1 ")?;
-    put_number(out, u64::from(status))?;
-    put_all(out, b" ")?;
-    put_all(out, reason)?;
     put_line_end(out)
 }
 
@@ -54,13 +36,10 @@ pub fn put_host_line(out: &mut Vec<u8>, host: &[u8], port: u16) -> Result<(), Me
 }
 
 /// Puts a field as it was received.
-pub fn put_field_line(out: &mut Vec<u8>, field: &Field) -> Result<(), Memory>
+pub fn put_field(out: &mut Vec<u8>, field: &Field) -> Result<(), Memory>
     ensures { OnOk result (out.new.items ≡ out.old.items ++ field_line (named_value field.now)) }
 {
-    put_all(out, field.name.as_slice())?;
-    put_all(out, b": ")?;
-    put_all(out, field.value.as_slice())?;
-    put_line_end(out)
+    put_field_line(out, field.name.as_slice(), field.value.as_slice())
 }
 
 /// Puts the field Via (RFC 9110, section 7.6.3), with the version in which the message was received.
@@ -81,27 +60,6 @@ pub fn put_cut_line(out: &mut Vec<u8>, cut: bool) -> Result<(), Memory>
 {
     if cut {
         return put_all(out, b"X-Archive-Truncated: disconnect\r\n");
-    }
-    Ok(())
-}
-
-/// Puts the field Content-Length (RFC 9110, section 8.6).
-#[tactic(auto, unfolding(crate::specs::Texts::length_line))]
-pub fn put_length_line(out: &mut Vec<u8>, length: u64) -> Result<(), Memory>
-    ensures { OnOk result (out.new.items ≡ out.old.items ++ length_line length) }
-{
-    put_all(out, b"Content-Length: ")?;
-    put_number(out, length)?;
-    put_line_end(out)
-}
-
-/// Puts `Connection: close` where the connection closes (RFC 9112, section 9.6).
-#[tactic(auto, unfolding(crate::specs::Texts::close_line_where, crate::specs::Texts::close_line))]
-pub fn put_close_line(out: &mut Vec<u8>, closes: bool) -> Result<(), Memory>
-    ensures { OnOk result (out.new.items ≡ out.old.items ++ close_line_where closes) }
-{
-    if closes {
-        return put_all(out, b"Connection: close\r\n");
     }
     Ok(())
 }

@@ -2,8 +2,8 @@
 ghost use Rattle.std.specs.Prelude.{◌≡◌, ◌++◌, OnOk, IfOk};
 ghost use Rattle.exchange.specs.Refusals as spec;
 
-use crate::lines::{put_close_line, put_length_line, put_line_end};
 use capture::{Bytes, Memory, Refusal, put_all, put_number};
+use head_lines::{Status, put_body_unless, put_head_end, put_own_status_line, put_type_line};
 use name_table::match_rows;
 use std::alloc::Global;
 
@@ -33,21 +33,9 @@ pub fn refusal_text(
     let mut out = Vec::with_capacity(alloc, LONGEST)?;
     put_start(&mut out, refusal)?;
     put_allow_line(&mut out, refusal)?;
-    put_length_line(&mut out, body.len() as u64)?;
-    put_close_line(&mut out, closes)?;
-    put_line_end(&mut out)?;
+    put_head_end(&mut out, body.len() as u64, closes)?;
     put_body_unless(&mut out, answers_head, body.as_slice())?;
     Ok(Bytes::of(out))
-}
-
-/// Puts the body, unless the answer is one to HEAD.
-fn put_body_unless(out: &mut Vec<u8>, answers_head: bool, body: &[u8]) -> Result<(), Memory>
-    ensures { OnOk result (out.new.items ≡ out.old.items ++ spec.body_unless answers_head body.now) }
-{
-    if answers_head {
-        return Ok(());
-    }
-    put_all(out, body)
 }
 
 /// Puts the status line, and the type of what follows.
@@ -55,11 +43,8 @@ fn put_body_unless(out: &mut Vec<u8>, answers_head: bool, body: &[u8]) -> Result
 fn put_start(out: &mut Vec<u8>, refusal: &Refusal) -> Result<(), Memory>
     ensures { OnOk result (out.new.items ≡ out.old.items ++ spec.refusal_start refusal.now) }
 {
-    put_all(out, b"HTTP/1.1 ")?;
-    put_all(out, status_of(refusal).as_bytes())?;
-    put_line_end(out)?;
-    put_all(out, b"Content-Type: text/plain")?;
-    put_line_end(out)
+    put_own_status_line(out, status_of(refusal))?;
+    put_type_line(out, b"text/plain")
 }
 
 /// The word, the numbers and a line end.
@@ -115,21 +100,21 @@ fn put_allow_line(out: &mut Vec<u8>, refusal: &Refusal) -> Result<(), Memory>
     }
 }
 
-/// The status code and its reason phrase (RFC 9110, section 15).
+/// The status (RFC 9110, section 15).
 #[tactic(auto, unfolding(crate::specs::Refusals::refusal_status))]
-fn status_of(refusal: &Refusal) -> &'static str
-    ensures { result.now ≡ spec.refusal_status refusal.now }
+fn status_of(refusal: &Refusal) -> Status
+    ensures { result ≡ spec.refusal_status refusal.now }
 {
     match_rows!(refusal, Refusal;
-        Malformed | TargetRefused | BadTime | BadAcceptDatetime | BadQuery => "400 Bad Request",
-        NotAForm | NoCapture | NoSuch => "404 Not Found",
-        MethodRefused => "405 Method Not Allowed",
-        BodyTooLong => "413 Content Too Large",
-        HeadTooLong => "431 Request Header Fields Too Large",
-        ClockRange => "500 Internal Server Error",
-        ConnectRefused | SecureRefused | CodingRefused => "501 Not Implemented",
-        DialFault | OriginFault | OriginEnded | OriginMalformed | OriginTooLong | TooManyInterim => "502 Bad Gateway",
-        Full | DiskFault | Damaged => "507 Insufficient Storage",
+        Malformed | TargetRefused | BadTime | BadAcceptDatetime | BadQuery => Status::BadRequest,
+        NotAForm | NoCapture | NoSuch => Status::NotFound,
+        MethodRefused => Status::MethodNotAllowed,
+        BodyTooLong => Status::ContentTooLarge,
+        HeadTooLong => Status::HeadTooLarge,
+        ClockRange => Status::InternalServerError,
+        ConnectRefused | SecureRefused | CodingRefused => Status::NotImplemented,
+        DialFault | OriginFault | OriginEnded | OriginMalformed | OriginTooLong | TooManyInterim => Status::BadGateway,
+        Full | DiskFault | Damaged => Status::InsufficientStorage,
     )
 }
 

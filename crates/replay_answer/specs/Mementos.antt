@@ -1,14 +1,15 @@
 -- A memento: a captured response as the archive gives it (RFC 7089, sections 2.1.1 and 4).
-use Rattle.std.specs.Prelude.{◌≡◌, ℕ, Bool, ◌||◌, List, [], ◌++◌, map, length, if◌then◌else◌}
+use Rattle.std.specs.Prelude.{◌≡◌, ℕ, Bool, ◌||◌, List, ◌++◌, map, length}
 use Rattle.httparse.specs.Ascii.{crlf_bytes}
 use Rattle.httparse.specs.Grammar as grammar
+use Rattle.head_lines.specs.Lines.{status_line, link_line, tells_no_length, close_line_where, body_unless}
 use Rattle.capture.specs.Fields.{NamedValue, named_values}
 use Rattle.capture.specs.Message.{IsResponseHeadText}
 use Rattle.capture.specs.declared.captured.Brought.{Brought}
 use Rattle.http_head.specs.Heads.{named_value}
 use Rattle.http_head.specs.declared.head.ResponseHead.{ResponseHead}
 use Rattle.replay_answer.specs.Bodies.{IsBody}
-use Rattle.replay_answer.specs.Lines.{status_line, datetime_line, link_line, tells_no_length, length_line, close_line_where}
+use Rattle.replay_answer.specs.Lines.{datetime_line, memento_links, length_line_where}
 use Rattle.replay_answer.specs.StoredFields.{memento_fields}
 
 -- what a memento has of the head that was received
@@ -34,17 +35,17 @@ capture_lines base capture raw parts =
     status_line parts.status parts.reason
     ++ memento_fields base capture raw parts.fields
     ++ datetime_line capture.date
-    ++ link_line base capture.uri
+    ++ link_line (memento_links base capture.uri)
 
 -- the answer to HEAD has no body (RFC 9110, section 9.3.2)
 abbrev pub sent_body : Bool → ℕ → List ℕ → List ℕ
-sent_body answers_head status body = if answers_head || tells_no_length status then [] else body
+sent_body answers_head status body = body_unless (answers_head || tells_no_length status) body
 
 -- what is told of the answer itself: the length of the body that a GET gets, and whether the connection closes; and the
 -- body
 unfoldable pub answer_rest : ℕ → Bool → Bool → List ℕ → List ℕ
 answer_rest status answers_head closes body =
-    length_line status (length body)
+    length_line_where status (length body)
     ++ close_line_where closes
     ++ crlf_bytes
     ++ sent_body answers_head status body

@@ -1,7 +1,7 @@
 -- The fields of a captured response, as its memento has them (RFC 7089 leaves this to the archive).
 use Rattle.std.specs.Prelude.{ℕ, Bool, false, not, ◌&&◌, List, ◌++◌, codes, Option, Some, None, if◌then◌else◌}
 use Rattle.std.specs.List.{flat_map}
-use Rattle.httparse.specs.Ascii.{crlf_bytes}
+use Rattle.head_lines.specs.Lines.{field_line}
 use Rattle.name_table.specs.HeaderFields.{is_kept}
 use Rattle.capture.specs.Fields.{NamedValue, is_named}
 use Rattle.capture.specs.declared.captured.Brought.{Brought}
@@ -9,10 +9,6 @@ use Rattle.html_rewrite.specs.Links.{web_target}
 use Rattle.replay_url.specs.Forms.{memento_address}
 use Rattle.time_text.specs.Texts.{time_digits}
 use Rattle.url.specs.Parts.{Parts, serialize}
-
--- a field's line (RFC 9112, section 5)
-abbrev pub field_line : List ℕ → List ℕ → List ℕ
-field_line name value = name ++ codes ": " ++ value ++ crlf_bytes
 
 -- the field tells where else to go (RFC 9110, section 10.2.2)
 abbrev pub is_location : NamedValue → Bool
@@ -39,8 +35,8 @@ original_name name = codes "X-Archive-Orig-" ++ name
 -- a field of the captured response, as the memento has it
 unfoldable pub memento_field : List ℕ → Brought → Bool → NamedValue → List ℕ
 memento_field base capture raw field =
-    if is_kept field.0 then field_line field.0 (kept_value base capture raw field)
-    else field_line (original_name field.0) field.1
+    if is_kept field.0 then field_line (field.0, kept_value base capture raw field)
+    else field_line (original_name field.0, field.1)
 
 abbrev pub memento_fields : List ℕ → Brought → Bool → List NamedValue → List ℕ
 memento_fields base capture raw fields = flat_map (memento_field base capture raw) fields

@@ -6,12 +6,12 @@ ghost use Rattle.replay_answer.specs.Mementos.{IsHead, IsMemento, answer_rest, c
 
 use crate::body::page_of;
 use crate::fields::put_fields;
-use crate::lines::{
-    put_close_line, put_datetime_line, put_length_line, put_line_end, put_link_line,
-    put_status_line, tells_no_length,
-};
+use crate::lines::{put_datetime_line, put_length_where, put_links};
 use crate::replay::Replay;
-use capture::{Brought, Bytes, Memory, Site, put_all};
+use capture::{Brought, Bytes, Memory, Site};
+use head_lines::{
+    put_body_unless, put_close_line_where, put_line_end, put_status_line, tells_no_length,
+};
 use http_head::{ResponseHead, WireFault, read_head};
 use std::alloc::Global;
 
@@ -89,7 +89,7 @@ fn put_capture_lines(out: &mut Vec<u8>, replay: &Replay, head: &ResponseHead) ->
     put_status_line(out, head.status, head.reason.as_slice())?;
     put_fields(out, replay, head.fields.as_slice())?;
     put_datetime_line(out, replay.capture.date)?;
-    put_link_line(out, replay.site, replay.capture.uri.as_slice())
+    put_links(out, replay.site, replay.capture.uri.as_slice())
 }
 
 /// Puts what is told of the answer itself, and the body where it is sent.
@@ -103,19 +103,18 @@ fn put_rest(
 ) -> Result<(), Memory>
     ensures { OnOk result (out.new.items ≡ out.old.items ++ answer_rest status answers_head closes body.now) }
 {
-    put_length_line(out, status, body.len())?;
-    put_close_line(out, closes)?;
+    put_length_where(out, status, body.len())?;
+    put_close_line_where(out, closes)?;
     put_line_end(out)?;
     put_body(out, answers_head, status, body)
 }
 
+/// Puts the body, where the answer has one.
 fn put_body(out: &mut Vec<u8>, answers_head: bool, status: u16, body: &[u8]) -> Result<(), Memory>
     ensures { OnOk result (out.new.items ≡ out.old.items ++ sent_body answers_head status body.now) }
 {
-    if answers_head || tells_no_length(status) {
-        return Ok(());
-    }
-    put_all(out, body)
+    let without = answers_head || tells_no_length(status);
+    put_body_unless(out, without, body)
 }
 
 /// About as much as the answer takes.

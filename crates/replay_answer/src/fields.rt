@@ -3,11 +3,12 @@ ghost use Rattle.std.specs.Prelude.{◌≡◌, ◌++◌, map, OnOk};
 ghost use Rattle.name_table.specs.HeaderFields.{kept_in_memento};
 ghost use Rattle.time_text.specs.Texts.{InRange};
 ghost use Rattle.http_head.specs.Heads.{named_value};
-ghost use Rattle.replay_answer.specs.StoredFields.{field_line, kept_value, location_at, memento_field, memento_fields, original_name};
+ghost use Rattle.head_lines.specs.Lines.{field_line};
+ghost use Rattle.replay_answer.specs.StoredFields.{kept_value, location_at, memento_field, memento_fields, original_name};
 
-use crate::lines::put_line_end;
 use crate::replay::Replay;
 use capture::{Memory, put_all};
+use head_lines::put_line_end;
 use html_rewrite::web_target;
 use http_head::Field;
 use name_table::{NameTable, memento_fields};
@@ -48,7 +49,7 @@ fn put_field(
 
 /// Puts a field that doesn't hold of the memento.
 fn put_original(out: &mut Vec<u8>, field: &Field) -> Result<(), Memory>
-    ensures { OnOk result (out.new.items ≡ out.old.items ++ field_line (original_name field.now.name) field.now.value) }
+    ensures { OnOk result (out.new.items ≡ out.old.items ++ field_line (original_name field.now.name, field.now.value)) }
 {
     put_original_name(out, field.name.as_slice())?;
     put_all(out, b": ")?;
@@ -68,7 +69,7 @@ fn put_original_name(out: &mut Vec<u8>, name: &[u8]) -> Result<(), Memory>
 fn put_kept(out: &mut Vec<u8>, replay: &Replay, field: &Field) -> Result<(), Memory>
     requires { InRange replay.now.capture.now.date }
     ensures { OnOk result (out.new.items ≡ out.old.items
-        ++ field_line field.now.name (kept_value replay.now.site.now.base replay.now.capture.now replay.now.raw (named_value field.now))) }
+        ++ field_line (field.now.name, kept_value replay.now.site.now.base replay.now.capture.now replay.now.raw (named_value field.now))) }
 {
     put_all(out, field.name.as_slice())?;
     put_all(out, b": ")?;

@@ -1,7 +1,6 @@
 -- A request to the archive's own site, and how it is answered (RFC 7089, sections 2 to 5). Refusals come in this order: for the
 -- method, for the address, for the date that is asked for, for want of a capture, for the disk.
 use Rattle.std.specs.Prelude.{◌≡◌, ◌≢◌, ℕ, ◌<◌, ◌≤◌, Bool, true, false, ◌||◌, List, [], ◌∷◌, ◌++◌, length, map, codes, bytes_eq, Option, Some, None, IsTrue, ⊤, slice_get}
-use Rattle.httparse.specs.Ascii.{crlf_bytes}
 use Rattle.archive_shelf.specs.Answers.{IsBrought, IsDamaged, IsNamed, IsReplayable, KeepsPayloadOf}
 use Rattle.archive_shelf.specs.Queries.{ArePicked}
 use Rattle.capture.specs.Captures.{captures}
@@ -13,8 +12,9 @@ use Rattle.capture.specs.declared.refusal.Refusal.TheVariants.{MethodRefused, No
 use Rattle.cdxj_index.specs.Facts.{Facts}
 use Rattle.cdxj_index.specs.OfBook.{IsEntryOf}
 use Rattle.cdxj_index.specs.Queries.{HasNone, IsNearest}
-use Rattle.exchange.specs.Refusals.{refusal_text, memory_text, body_unless}
-use Rattle.exchange.specs.Texts.{length_line, close_line_where}
+use Rattle.exchange.specs.Refusals.{refusal_text, memory_text}
+use Rattle.head_lines.specs.Lines.{own_status_line, type_line, head_end, body_unless}
+use Rattle.head_lines.specs.declared.status.Status.TheVariants as status
 use Rattle.http_head.specs.Heads.{named_value}
 use Rattle.http_head.specs.declared.head.RequestMessage.{RequestMessage}
 use Rattle.replay_answer.specs.Mementos.{IsMemento}
@@ -196,16 +196,16 @@ is_of_shown LacksSiteReply = false
 
 -- ---- the texts
 
--- the list of a URL's captures, as an answer (RFC 7089, section 5; RFC 6690, section 7.3)
+-- the status line of a list, and its type (RFC 6690, section 7.3)
 unfoldable pub list_start : List ℕ
-list_start = codes "HTTP/1.1 200 OK" ++ crlf_bytes ++ codes "Content-Type: application/link-format" ++ crlf_bytes
+list_start = own_status_line status.Ok ++ type_line (codes "application/link-format")
 
+-- the list of a URL's captures, as an answer (RFC 7089, section 5)
 unfoldable pub list_text : List ℕ → Bool → Bool → List ℕ
 list_text body answers_head closes =
     list_start
-    ++ length_line (length body)
-    ++ close_line_where closes
-    ++ crlf_bytes ++ body_unless answers_head body
+    ++ head_end (length body) closes
+    ++ body_unless answers_head body
 
 -- the text of a reply
 abbrev pub IsSiteText : Terms → SiteRequest → SiteReply → Bool → List ℕ → Type 0

@@ -2,7 +2,6 @@
 ghost use Rattle.std.specs.Prelude.{◌≡◌, ◌<◌, ◌++◌, Bool, length, OnOk, IfOk};
 ghost use Rattle.std.specs.List.Sorted.{IsNonDecreasingBy};
 ghost use Rattle.capture.specs.Methods.{asks_for_head as is_head};
-ghost use Rattle.exchange.specs.Refusals.{body_unless};
 ghost use Rattle.replay_url.specs.Keyed.{HasKey};
 ghost use Rattle.replay_url.specs.declared.form.Form.TheVariants.{Map as TheMap};
 ghost use Rattle.session.specs.Answering.{AnswersVisit};
@@ -17,9 +16,9 @@ use crate::heads::asks_for_head;
 use crate::refusing::refused;
 use crate::visit::Visit;
 use archive_shelf::{Shelf, leading_books_grow};
-use capture::{Bytes, Memory, Refusal, put_all};
+use capture::{Bytes, Memory, Refusal};
 use cdxj_index::Entry;
-use exchange::{put_close_line, put_length_line, put_line_end};
+use head_lines::{Status, put_body_unless, put_head_end, put_own_status_line, put_type_line};
 use std::alloc::Global;
 use surt_key::KeyedUrl;
 use timemap::body;
@@ -85,28 +84,22 @@ fn list(alloc: Global, visit: Visit, url: &[u8], entries: &[Entry]) -> Result<An
 }
 
 /// The list of a URL's captures as an answer (RFC 7089, section 5), after which the connection closes or not.
-#[tactic(auto, unfolding(crate::specs::SiteAnswers::list_text, crate::specs::SiteAnswers::list_start))]
+#[tactic(auto, unfolding(crate::specs::SiteAnswers::list_text))]
 fn list_text(alloc: Global, body: &[u8], answers_head: bool, closes: bool) -> Result<Bytes, Memory>
     ensures { IfOk result (λ text. text ≡ spec.list_text body.now answers_head closes) }
 {
     let mut out = Vec::with_capacity(alloc, body.len().saturating_add(ADDED))?;
-    put_all(
-        &mut out,
-        b"HTTP/1.1 200 OK\r\nContent-Type: application/link-format\r\n",
-    )?;
-    put_length_line(&mut out, body.len() as u64)?;
-    put_close_line(&mut out, closes)?;
-    put_line_end(&mut out)?;
+    put_start(&mut out)?;
+    put_head_end(&mut out, body.len() as u64, closes)?;
     put_body_unless(&mut out, answers_head, body)?;
     Ok(Bytes::of(out))
 }
 
-/// Puts the body, unless HEAD is answered.
-fn put_body_unless(out: &mut Vec<u8>, answers_head: bool, body: &[u8]) -> Result<(), Memory>
-    ensures { OnOk result (out.new.items ≡ out.old.items ++ body_unless answers_head body.now) }
+/// Puts the status line of a list, and its type (RFC 6690, section 7.3).
+#[tactic(auto, unfolding(crate::specs::SiteAnswers::list_start))]
+fn put_start(out: &mut Vec<u8>) -> Result<(), Memory>
+    ensures { OnOk result (out.new.items ≡ out.old.items ++ spec.list_start) }
 {
-    if answers_head {
-        return Ok(());
-    }
-    put_all(out, body)
+    put_own_status_line(out, Status::Ok)?;
+    put_type_line(out, b"application/link-format")
 }

@@ -2,12 +2,11 @@
 use Rattle.std.specs.Prelude.{ℕ, Bool, List, [], ◌++◌, codes, if◌then◌else◌}
 use Rattle.httparse.specs.Ascii.{crlf_bytes}
 use Rattle.cdxj_index.specs.Facts.{Facts}
+use Rattle.head_lines.specs.Lines.{own_status_line, link_line, head_end}
+use Rattle.head_lines.specs.declared.status.Status.TheVariants.{Found}
 use Rattle.replay_url.specs.Forms.{memento_address}
 use Rattle.replay_url.specs.Links.{original_link, map_link}
 use Rattle.time_text.specs.Texts.{time_digits}
-
-abbrev pub status_line : List ℕ
-status_line = codes "HTTP/1.1 302 Found" ++ crlf_bytes
 
 -- where a capture of this date and URL is replayed (RFC 9110, section 10.2.2)
 unfoldable pub location_line : List ℕ → ℕ → Bool → List ℕ → List ℕ
@@ -19,25 +18,15 @@ unfoldable pub vary_line_where : Bool → List ℕ
 vary_line_where by_gate = if by_gate then codes "Vary: accept-datetime" ++ crlf_bytes else []
 
 -- the URL that was asked for, and the list of its captures (RFC 8288, section 3)
-unfoldable pub link_line : List ℕ → List ℕ → List ℕ
-link_line base url =
-    codes "Link: " ++ original_link url ++ codes ", " ++ map_link (codes "timemap") base url ++ crlf_bytes
-
-abbrev pub length_line : List ℕ
-length_line = codes "Content-Length: 0" ++ crlf_bytes
-
--- whether the connection closes (RFC 9112, section 9.6)
-unfoldable pub close_line_where : Bool → List ℕ
-close_line_where closes = if closes then codes "Connection: close" ++ crlf_bytes else []
+unfoldable pub redirect_links : List ℕ → List ℕ → List ℕ
+redirect_links base url = original_link url ++ codes ", " ++ map_link (codes "timemap") base url
 
 -- a redirect to the capture of an entry, by the base of the site and the URL that was asked for: whether the capture was
 -- asked for as it was received, whether a gate answers, and whether the connection closes
 unfoldable pub redirect_text : List ℕ → List ℕ → Facts → Bool → Bool → Bool → List ℕ
 redirect_text base url entry raw by_gate closes =
-    status_line
+    own_status_line Found
     ++ location_line base entry.date raw entry.uri
     ++ vary_line_where by_gate
-    ++ link_line base url
-    ++ length_line
-    ++ close_line_where closes
-    ++ crlf_bytes
+    ++ link_line (redirect_links base url)
+    ++ head_end 0 closes

@@ -2,9 +2,10 @@
 ghost use Rattle.std.specs.Prelude.{◌≡◌, IfOk};
 ghost use Rattle.timegate.specs.Redirect.{redirect_text};
 
-use crate::lines::{put_close_line, put_link_line, put_location_line, put_vary_line};
-use capture::{Bytes, Memory, Site, put_all};
+use crate::lines::{put_links, put_location_line, put_vary_line};
+use capture::{Bytes, Memory, Site};
 use cdxj_index::Entry;
+use head_lines::{Status, put_head_end, put_own_status_line};
 use std::alloc::Global;
 
 /// More than what the answer has besides the base and the URLs.
@@ -28,13 +29,11 @@ pub fn redirect(
     ensures { IfOk result (λ text. text ≡ redirect_text site.now.base url.now entry.now raw by_gate closes) }
 {
     let mut out = Vec::with_capacity(alloc, room(site, url, entry))?;
-    put_all(&mut out, b"HTTP/1.1 302 Found\r\n")?;
+    put_own_status_line(&mut out, Status::Found)?;
     put_location_line(&mut out, site, entry.date, raw, entry.uri.as_slice())?;
     put_vary_line(&mut out, by_gate)?;
-    put_link_line(&mut out, site, url)?;
-    put_all(&mut out, b"Content-Length: 0\r\n")?;
-    put_close_line(&mut out, closes)?;
-    put_all(&mut out, b"\r\n")?;
+    put_links(&mut out, site, url)?;
+    put_head_end(&mut out, 0, closes)?;
     Ok(Bytes::of(out))
 }
 

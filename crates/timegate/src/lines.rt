@@ -1,9 +1,11 @@
 //! The lines of a redirect.
 ghost use Rattle.std.specs.Prelude.{◌≡◌, ◌++◌, OnOk};
 ghost use Rattle.time_text.specs.Texts.{InRange};
-ghost use Rattle.timegate.specs.Redirect.{close_line_where, link_line, location_line, vary_line_where};
+ghost use Rattle.head_lines.specs.Lines.{link_line};
+ghost use Rattle.timegate.specs.Redirect.{location_line, redirect_links, vary_line_where};
 
 use capture::{Memory, Site, put_all};
+use head_lines::{put_line_end, put_link_name};
 use replay_url::{put_map_link, put_memento, put_original_link};
 use time_text::write_time;
 
@@ -24,7 +26,7 @@ pub fn put_location_line(
     };
     put_all(out, b"Location: ")?;
     put_memento(out, site, digits.as_slice(), raw, url)?;
-    put_all(out, b"\r\n")
+    put_line_end(out)
 }
 
 /// Puts that the answer depends on the time that was asked for (RFC 7089, section 2.1.2), where a gate answers.
@@ -39,24 +41,13 @@ pub fn put_vary_line(out: &mut Vec<u8>, by_gate: bool) -> Result<(), Memory>
 }
 
 /// Puts the links to the URL that was asked for and to the list of its captures (RFC 8288).
-#[tactic(auto, unfolding(crate::specs::Redirect::link_line))]
-pub fn put_link_line(out: &mut Vec<u8>, site: &Site, url: &[u8]) -> Result<(), Memory>
-    ensures { OnOk result (out.new.items ≡ out.old.items ++ link_line site.now.base url.now) }
+#[tactic(auto, unfolding(crate::specs::Redirect::redirect_links))]
+pub fn put_links(out: &mut Vec<u8>, site: &Site, url: &[u8]) -> Result<(), Memory>
+    ensures { OnOk result (out.new.items ≡ out.old.items ++ link_line (redirect_links site.now.base url.now)) }
 {
-    put_all(out, b"Link: ")?;
+    put_link_name(out)?;
     put_original_link(out, url)?;
     put_all(out, b", ")?;
     put_map_link(out, site, b"timemap", url)?;
-    put_all(out, b"\r\n")
-}
-
-/// Puts `Connection: close` where the connection closes (RFC 9112, section 9.6).
-#[tactic(auto, unfolding(crate::specs::Redirect::close_line_where))]
-pub fn put_close_line(out: &mut Vec<u8>, closes: bool) -> Result<(), Memory>
-    ensures { OnOk result (out.new.items ≡ out.old.items ++ close_line_where closes) }
-{
-    if closes {
-        return put_all(out, b"Connection: close\r\n");
-    }
-    Ok(())
+    put_line_end(out)
 }

@@ -4,7 +4,7 @@ use Rattle.http_head.specs.Heads.{named_value}
 use Rattle.exchange.specs.Texts.{goes_to_client, field_lines}
 use Rattle.exchange.proofs.FilterLemmas.{lines_with, lines_without, no_lines_yet, all_lines}
 use Rattle.exchange.proofs.filter.put_client_fields.Goals as goal
-use Rattle.exchange.proofs.filter.put_client_fields.Goals.{then-goes_to_client+in_ok-put_field_line, else-goes_to_client}
+use Rattle.exchange.proofs.filter.put_client_fields.Goals.{then-goes_to_client+in_ok-put_field, else-goes_to_client}
 
 abbrev bytes_of : List (Bor (List ℕ)) → List (List ℕ)
 bytes_of names = map (λ (n : Bor (List ℕ)). n.now) names
@@ -16,7 +16,7 @@ pub loop-field-preserved : goal.loop-field-preserved
 loop-field-preserved c =
     let told = ap (λ (names : List (Bor (List ℕ))). goes_to_client (bytes_of names) c.args.keeps_length (named_value c.field-item.result)) (sym c.as_slice.ensures.value) ∙ sym c.goes_to_client.ensures in
     elim c.if-goes_to_client.branch [
-      | then-goes_to_client+in_ok-put_field_line w ↦ ap (λ out. out.items) w.out-is ∙ w.in_ok-put_field_line.ensures ∙ lines_with (goes_to_client (bytes_of c.in_ok-listed.listed.items) c.args.keeps_length) c.args.fields.now c.loop-field.field-index c.field-item.result c.args.out.now.items c.loop-field.out.items c.loop-field-test.true c.field-item.is (told ∙ w.if-goes_to_client.true) c.loop-field.invariant
+      | then-goes_to_client+in_ok-put_field w ↦ ap (λ out. out.items) w.out-is ∙ w.in_ok-put_field.ensures ∙ lines_with (goes_to_client (bytes_of c.in_ok-listed.listed.items) c.args.keeps_length) c.args.fields.now c.loop-field.field-index c.field-item.result c.args.out.now.items c.loop-field.out.items c.loop-field-test.true c.field-item.is (told ∙ w.if-goes_to_client.true) c.loop-field.invariant
       | else-goes_to_client w ↦ ap (λ out. out.items) w.out-is ∙ lines_without (goes_to_client (bytes_of c.in_ok-listed.listed.items) c.args.keeps_length) c.args.fields.now c.loop-field.field-index c.field-item.result c.args.out.now.items c.loop-field.out.items c.loop-field-test.true c.field-item.is (told ∙ w.if-goes_to_client.false) c.loop-field.invariant
     ]
 
