@@ -22,7 +22,8 @@ use Rattle.capture.specs.declared.limits.TheConstants.{INTERIM_LIMIT}
 use Rattle.http_head.specs.FrontLaws.{HeadsStay}
 use Rattle.http_head.specs.declared.head.Received.{Received}
 use Rattle.http_wire.specs.Messages.{IsResponse}
-use Rattle.exchange.specs.Fetches.{Answers, ComesTo, Inflow, Receives, Sends, Yields, GoesOnWith}
+use Rattle.exchange.specs.Fetches.{ComesTo, Receives, Sends}
+use Rattle.exchange.specs.Steps.Responses.{Answers, Inflow, Yields, GoesOnWith}
 use Rattle.exchange.specs.declared.fetching.FetchFault.{FetchFault}
 use Rattle.exchange.specs.declared.fetching.FetchFault.TheVariants.{DialFault, OriginFault, OriginEnded, OriginMalformed, OriginTooLong, TooManyInterim, Memory}
 use Rattle.http_wire.proofs.FrontParts.{parts_of_head}

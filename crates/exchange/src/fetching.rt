@@ -2,7 +2,8 @@
 ghost use Rattle.std.specs.Prelude.{◌≡◌, ◌≤◌, [], length, IsTrue, OnOk, IfOk};
 ghost use Rattle.capture.specs.declared.limits.TheConstants.{BODY_LIMIT};
 ghost use Rattle.http_wire.specs.Messages.{IsOneResponse};
-ghost use Rattle.exchange.specs.Fetches.{Answers, CountsFetch, IsFaultOf, LinkFaults, LogsFetch, Receives, Sends};
+ghost use Rattle.exchange.specs.Fetches.{CountsFetch, LinkFaults, LogsFetch, Receives, Sends};
+ghost use Rattle.exchange.specs.Steps.Responses.{Answers, IsFaultOf};
 ghost use Rattle.exchange.specs.Receiving.{Gives};
 ghost use Rattle.http_wire.specs.Reading.{ComesBeforeTheEnd};
 ghost use Rattle.http_wire.specs.ResponseReading.{new_response};
