@@ -14,7 +14,7 @@ use crate::output::write_all;
 use crate::receiving::{Came, receive_response};
 use crate::window::Window;
 use capture::{Failed, INTERIM_LIMIT};
-use http_wire::{Received, ResponseReader, WireFault, fronts_stay};
+use http_wire::{Received, ResponseReader, WireFault};
 use outside::{DialError, Dialer, Link};
 use std::alloc::Global;
 
@@ -94,7 +94,6 @@ fn ask<L: Link>(
       port = (L.traffic link.old).port;
     } }
 {
-    fronts_stay();
     match write_all(link, request) {
         Ok(()) => receive(alloc, link, window, answers_head),
         Err(Failed) => Err(FetchFault::OriginFault),
@@ -117,7 +116,6 @@ fn receive<L: Link>(
     ensures counts { CountsFetch (L.faults link.old) (L.faults link.new) result }
     ensures gives { IsTrue L.tells → Gives (L.traffic link.old) (L.traffic link.new) }
 {
-    fronts_stay();
     let mut reader = ResponseReader::new(alloc, answers_head);
     let mut interims = 0;
     'receiving: loop {
@@ -154,7 +152,6 @@ fn next_response<L: Link>(
     ensures counts { CountsFetch (L.faults link.old) (L.faults link.new) result }
     ensures gives { IsTrue L.tells → Gives (L.traffic link.old) (L.traffic link.new) }
 {
-    fronts_stay();
     'reading: loop {
         match receive_response(alloc, link, window, reader) {
             Came::Head => {}

@@ -6,7 +6,7 @@ ghost use Rattle.exchange.specs.Steps.Feeding.{BringsHead, Feeds};
 ghost use Rattle.http_wire.specs.Reading.{Open, Whole, Stands, IsEnded};
 
 use crate::window::Window;
-use capture::{Failed, chunked_bodies_split_one_way};
+use capture::Failed;
 use http_wire::{Progress, RequestReader, ResponseReader, WireFault};
 use outside::Link;
 use std::alloc::Global;
@@ -59,10 +59,7 @@ pub fn receive_request<L: Link>(
         match window.refill(link) {
             Ok(true) => {}
             Ok(false) => match reader.end() {
-                Ok(()) => {
-                    chunked_bodies_split_one_way();
-                    return Came::Ended;
-                }
+                Ok(()) => return Came::Ended,
                 Err(_) => return Came::EndedInside,
             },
             Err(Failed) => return Came::Broken,

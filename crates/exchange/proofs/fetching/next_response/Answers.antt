@@ -1,6 +1,7 @@
 -- What the reader tells of its bytes is what stands first in what the link gave further.
 use Rattle.std.proofs.Common.{length, false, ap, subst, ◌∙◌}
 use Rattle.capture.specs.First.{Responses, Message, IsFirst}
+use Rattle.http_head.proofs.FrontLaws.{heads_stay, too_long_stays}
 use Rattle.http_wire.specs.Messages.{IsResponse}
 use Rattle.http_wire.specs.Reading.{EndsInside, HasFault, IsUndecided, Stands}
 use Rattle.http_wire.specs.ResponseReading.{ResponseReading}
@@ -22,7 +23,7 @@ returns-in-Whole-clause-answers g c t =
     let accounts = accounts_then _ _ _ _ _ _ (c.reading.invariant.accounts t) (c.in-Whole.ensures.accounts t) in
     let first = subst (λ a. IsFirst (Responses a) false stream (Message (length stream))) ah c.in-Whole.ensures.brings.1 in
     let response = subst (λ a. IsResponse a stream c.take.result) (c.receive_response.ensures.answers_head ∙ ah) c.take.ensures.message in
-    whole_answers (messages_stay c.fronts_stay.ensures.heads) c.args.reader.now.answers_head
+    whole_answers (messages_stay heads_stay) c.args.reader.now.answers_head
     (g.L.Link.traffic c.receive_response.new.link).ended (g.L.Link.traffic c.args.link.now).given c.args.reader.now.stream c.args.window.now
     (g.L.Link.traffic c.receive_response.new.link).given stream c.receive_response.new.window c.receive_response.new.reader.standing c.take.result
     start accounts c.in-Whole.ensures.brings.0 first response c.take.ensures.cut
@@ -74,7 +75,7 @@ returns-in-Refused-clause-answers g c t =
     let first = c.reading.invariant.accounts t in
     let second = c.in-Refused.ensures.accounts t in
     let has = subst (λ a. HasFault (Responses a) fault stream) ah c.in-Refused.ensures.brings.2 in
-    refused_answers (refusals_stay c.fronts_stay.ensures.heads c.fronts_stay.ensures.too_long) c.args.reader.now.answers_head
+    refused_answers (refusals_stay heads_stay too_long_stays) c.args.reader.now.answers_head
     (g.L.Link.traffic c.receive_response.new.link).ended fault c.fault_of.result
     (g.L.Link.traffic c.args.link.now).given c.args.reader.now.stream c.args.window.now
     (g.L.Link.traffic c.receive_response.new.link).given stream c.receive_response.new.window

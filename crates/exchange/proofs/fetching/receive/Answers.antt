@@ -1,5 +1,6 @@
 -- What stands behind the interim responses so far.
 use Rattle.std.proofs.Common.{ap, arith, ◌∙◌, Ok, Err}
+use Rattle.http_head.proofs.FrontLaws.{heads_stay}
 use Rattle.http_wire.specs.ResponseReading.{ResponseReading, new_response}
 use Rattle.exchange.proofs.ArrivalLaws.{further_from, fails, arrives, too_many, awaits_next}
 use Rattle.exchange.proofs.TrafficLaws.{gives_on}
@@ -14,7 +15,7 @@ returns-in-Err-clause-receives g c t =
     let ended = (g.L.Link.traffic c.next_response.new.link).ended in
     let further = further_from c.args.answers_head c.receiving.reader.answers_head ended (Err c.in-Err.fault) given c.receiving.window given_now
     c.next_response.new.window c.receiving.interims awaits ah (c.in-Err.ensures.answers t) in
-    fails c.fronts_stay.ensures.heads c.args.answers_head ended given c.receiving.window given_now c.next_response.new.window
+    fails heads_stay c.args.answers_head ended given c.receiving.window given_now c.next_response.new.window
     c.receiving.interims c.in-Err.fault awaits c.receiving.invariant.few further
 
 pub returns-then-is_final-clause-receives : goal.returns-then-is_final-clause-receives
@@ -26,7 +27,7 @@ returns-then-is_final-clause-receives g c t =
     let ended = (g.L.Link.traffic c.next_response.new.link).ended in
     let further = further_from c.args.answers_head c.receiving.reader.answers_head ended (Ok c.in-Ok.received) given c.receiving.window given_now
     c.next_response.new.window c.receiving.interims awaits ah (c.in-Ok.ensures.answers t) in
-    arrives c.fronts_stay.ensures.heads c.args.answers_head ended given c.receiving.window given_now c.next_response.new.window
+    arrives heads_stay c.args.answers_head ended given c.receiving.window given_now c.next_response.new.window
     c.receiving.interims c.in-Ok.received awaits c.receiving.invariant.few further c.if-is_final.true
 
 pub returns-then-full-clause-receives : goal.returns-then-full-clause-receives

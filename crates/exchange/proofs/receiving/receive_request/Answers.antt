@@ -1,5 +1,6 @@
 -- The message and the window grow, and all that was given is theirs.
 use Rattle.std.proofs.Common.{false, ◌++◌, ap, sym, subst}
+use Rattle.capture.proofs.CutLaws.{whole_is_not_cut}
 use Rattle.capture.specs.First.{Requests}
 use Rattle.exchange.specs.Receiving.{StaysAccounted}
 use Rattle.outside.specs.Link.{Traffic}
@@ -30,4 +31,4 @@ pub returns-in-Ok-clause-between : goal.returns-in-Ok-clause-between
 returns-in-Ok-clause-between g c =
     let feeds = rw c.in-Ok-More.field-0-is at c.in-Ok-More.ensures.feeds in
     let undecided = subst (λ s. IsUndecided Requests false s) (sym c.end.ensures.stream) feeds.3 in
-    nothing_begun c.chunked_bodies_split_one_way.ensures.apart c.end.new.self.stream c.end.new.self.standing undecided c.in-Ok.ensures.between
+    nothing_begun whole_is_not_cut c.end.new.self.stream c.end.new.self.standing undecided c.in-Ok.ensures.between
