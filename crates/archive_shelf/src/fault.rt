@@ -4,27 +4,32 @@ ghost use Rattle.std.specs.Prelude.{◌≡◌};
 use capture::{Digest, Memory};
 use disk_model::Kind;
 use std::alloc::AllocError;
+use thiserror::Error;
 use uuid::Uuid;
 use warc_journal::DiskFault;
 
 /// Why a capture wasn't stored.
-#[derive(Clone, Copy, Debug, PartialEq, Eq)]
+#[derive(Clone, Copy, Debug, PartialEq, Eq, Error)]
 pub enum StoreFault {
     /// The archive holds as many captures as it may: `count` is how many it holds, `limit` its limit.
+    #[error("the archive is full: it holds {count} captures, and its limit is {limit}")]
     Full {
         count: u32,
         limit: u32,
     },
     /// The disk failed: its count of faults rose. A new volume may be there, without a capture.
+    #[error("the disk failed")]
     DiskFault,
     /// The bytes that were read of an earlier capture, to be compared, have another digest than the one kept, or don't
     /// decode (`None`).
+    #[error("capture {number} is damaged")]
     Damaged {
         number: u32,
         kept: Digest,
         found: Option<Digest>,
     },
     /// There was no memory. Nothing was written.
+    #[error("no memory")]
     Memory,
 }
 
@@ -59,22 +64,26 @@ impl From<DiskFault> for StoreFault {
 }
 
 /// Why a capture wasn't brought.
-#[derive(Clone, Copy, Debug, PartialEq, Eq)]
+#[derive(Clone, Copy, Debug, PartialEq, Eq, Error)]
 pub enum BringFault {
     /// There is no capture of that number: `count` is how many there are.
+    #[error("there are {count} captures, and none of this number")]
     NoSuch {
         count: u32,
     },
     /// The disk failed: its count of faults rose.
+    #[error("the disk failed")]
     DiskFault,
     /// The bytes that were read have another digest than the one kept, or don't decode (`None`). `number` is that of the
     /// capture that keeps the payload.
+    #[error("capture {number} is damaged")]
     Damaged {
         number: u32,
         kept: Digest,
         found: Option<Digest>,
     },
     /// There was no memory.
+    #[error("no memory")]
     Memory,
 }
 
@@ -109,11 +118,13 @@ impl From<DiskFault> for BringFault {
 }
 
 /// Why no volume was begun.
-#[derive(Clone, Copy, Debug, PartialEq, Eq)]
+#[derive(Clone, Copy, Debug, PartialEq, Eq, Error)]
 pub enum RollFault {
     /// The disk failed: its count of faults rose.
+    #[error("the disk failed")]
     DiskFault,
     /// There was no memory. Nothing was written.
+    #[error("no memory")]
     Memory,
 }
 
@@ -138,16 +149,20 @@ impl From<DiskFault> for RollFault {
 }
 
 /// Why an archive wasn't opened. Nothing on the disk was changed.
-#[derive(Clone, Copy, Debug, PartialEq, Eq)]
+#[derive(Clone, Copy, Debug, PartialEq, Eq, Error)]
 pub enum ReopenFault {
     /// The files stand for no sound book: `place` is where in `file` the first group, warcinfo or remainder stands with
     /// which none goes on, in bytes.
+    #[error("damage in file {file} at byte {place}")]
     Damaged { kind: Kind, file: u32, place: u64 },
     /// A namespace was given, and the archive has this other one.
+    #[error("the archive has another namespace")]
     OtherNamespace(Uuid),
     /// The disk failed: its count of faults rose.
+    #[error("the disk failed")]
     DiskFault,
     /// There was no memory.
+    #[error("no memory")]
     Memory,
 }
 

@@ -1,5 +1,6 @@
 //! Where a request is aimed.
 use capture::Text;
+use thiserror::Error;
 
 /// The port of an `http` URL that names none (RFC 9110, section 4.2.1).
 pub const HTTP_PORT: u16 = 80;
@@ -27,14 +28,18 @@ pub enum Aim {
 }
 
 /// Why a request is aimed nowhere.
-#[derive(Clone, Copy, Debug, PartialEq, Eq)]
+#[derive(Clone, Copy, Debug, PartialEq, Eq, Error)]
 pub enum AimFault {
     /// The method is CONNECT.
+    #[error("the method is CONNECT")]
     ConnectRefused,
     /// The target is an https URL.
+    #[error("the target is an https URL")]
     SecureRefused,
     /// The target is neither an accepted absolute one nor one of the site.
+    #[error("the target isn't an accepted one")]
     TargetRefused,
     /// There was no memory.
+    #[error("no memory")]
     Memory,
 }

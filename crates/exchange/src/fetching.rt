@@ -17,26 +17,34 @@ use capture::{Failed, INTERIM_LIMIT};
 use http_wire::{Received, ResponseReader, WireFault};
 use outside::{DialError, Dialer, Link};
 use std::alloc::Global;
+use thiserror::Error;
 
 /// The least status of a final response (RFC 9110, section 15).
 const FINAL_STATUS: u16 = 200;
 
 /// Why a fetch gave no response.
-#[derive(Clone, Copy, Debug, PartialEq, Eq)]
+#[derive(Clone, Copy, Debug, PartialEq, Eq, Error)]
 pub enum FetchFault {
     /// The origin wasn't reached: the dialer's count of faults rose.
+    #[error("the origin wasn't reached")]
     DialFault,
     /// The link to the origin failed: the dialer's count of faults rose.
+    #[error("the link to the origin failed")]
     OriginFault,
     /// The origin ended before the head of its final response was whole.
+    #[error("the origin ended before its response had a whole head")]
     OriginEnded,
     /// What the origin gave isn't in the grammar of HTTP/1.1, or has a transfer coding that isn't `chunked` alone.
+    #[error("what the origin gave isn't in the grammar of HTTP/1.1")]
     OriginMalformed,
     /// A head, a trailer section or a body of the origin passes its limit.
+    #[error("the origin's response passes a limit")]
     OriginTooLong,
     /// The origin gave more interim responses than are dropped.
+    #[error("the origin gave too many interim responses")]
     TooManyInterim,
     /// There was no memory.
+    #[error("no memory")]
     Memory,
 }
 
@@ -119,6 +127,7 @@ fn receive<L: Link>(
     let mut reader = ResponseReader::new(alloc, answers_head);
     let mut interims = 0;
     'receiving: loop {
+        // No `?`: the proof of this exit names the fault.
         let received = match next_response(alloc, link, window, &mut reader) {
             Ok(received) => received,
             Err(fault) => return Err(fault),

@@ -7,13 +7,16 @@ ghost use Rattle.outside.specs.Records.{Links, one_out, one_in};
 
 use crate::Link;
 use capture::{Bytes, Text};
+use thiserror::Error;
 
 /// Why a dial gave no link.
-#[derive(Clone, Copy, Debug, PartialEq, Eq)]
+#[derive(Clone, Copy, Debug, PartialEq, Eq, Error)]
 pub enum DialError {
     /// The host wasn't reached: the dialer's count of faults rose.
+    #[error("the host wasn't reached")]
     Failed,
     /// There was no memory.
+    #[error("no memory")]
     Memory,
 }
 
