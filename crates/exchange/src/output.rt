@@ -22,13 +22,9 @@ pub fn write_all<L: Link>(link: &mut L, text: &[u8]) -> Result<(), Failed>
 {
     let mut rest = text;
     'writing: while !rest.is_empty() {
-        match link.write(rest) {
-            Ok(n) => {
-                let (_, others) = rest.split_at(n);
-                rest = others;
-            }
-            Err(Failed) => return Err(Failed),
-        }
+        let n = link.write(rest)?;
+        let (_, others) = rest.split_at(n);
+        rest = others;
     }
     Ok(())
 }
@@ -42,13 +38,9 @@ pub fn print_all<S: Sink>(sink: &mut S, text: &[u8]) -> Result<(), Failed>
 {
     let mut rest = text;
     'printing: while !rest.is_empty() {
-        match sink.write(rest) {
-            Ok(n) => {
-                let (_, others) = rest.split_at(n);
-                rest = others;
-            }
-            Err(Failed) => return Err(Failed),
-        }
+        let n = sink.write(rest)?;
+        let (_, others) = rest.split_at(n);
+        rest = others;
     }
     Ok(())
 }

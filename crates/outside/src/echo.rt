@@ -25,6 +25,7 @@ pub(crate) fn answer_to(alloc: Global, head: &[u8]) -> Result<Vec<u8>, Memory>
     Ok(text)
 }
 
+/// The target of a request (RFC 9112, section 3): what stands between the spaces of its first line.
 #[tactic(auto, unfolding(crate::specs::Echo::target))]
 fn target_of(head: &[u8]) -> &[u8]
     ensures { result.now ≡ target head.now }
@@ -33,12 +34,14 @@ fn target_of(head: &[u8]) -> &[u8]
     before(after(line, b' '), b' ')
 }
 
+/// What stands before the first such byte: all where there is none.
 fn before(text: &[u8], stop: u8) -> &[u8]
     ensures { result.now ≡ before_first (λ byte. byte == stop) text.now }
 {
     text.split_at(first_of(text, stop)).0
 }
 
+/// What stands behind the first such byte: nothing where there is none.
 fn after(text: &[u8], stop: u8) -> &[u8]
     ensures { result.now ≡ after_first (λ byte. byte == stop) text.now }
 {
@@ -50,7 +53,7 @@ fn after(text: &[u8], stop: u8) -> &[u8]
     }
 }
 
-// The first place of a byte, or the length where it isn't there.
+/// The first place of a byte, or the length where it isn't there.
 fn first_of(text: &[u8], stop: u8) -> usize
     ensures place { result ≡ position_or_len (λ byte. byte == stop) text.now }
     ensures within { result ≤ length text.now }
@@ -61,6 +64,7 @@ fn first_of(text: &[u8], stop: u8) -> usize
     }
 }
 
+/// The first place of a byte.
 fn find(text: &[u8], stop: u8) -> Option<usize>
     ensures { result ≡ position (λ byte. byte == stop) text.now }
 {

@@ -95,7 +95,7 @@ impl EchoLink {
         }
     }
 
-    // Takes one byte, and answers the head that is whole with it.
+    /// Takes one byte, and answers the head that is whole with it.
     fn take_byte(&mut self, byte: u8) -> Result<(), Memory>
         ensures ok { OnOk result (self.new ≡ record self.old {
           traffic = record self.old.traffic { taken = self.old.traffic.taken ++ byte ∷ [] };
@@ -118,6 +118,7 @@ impl EchoLink {
     }
 }
 
+/// Whether a head that has begun is whole with this byte.
 fn is_whole(begun: &[u8], byte: u8) -> bool
     ensures { result ≡ ends_head begun.now byte }
 {

@@ -35,6 +35,7 @@ pub fn page_of(alloc: Global, replay: &Replay, fields: &[Field]) -> Result<Optio
     )
 }
 
+/// Whether the body is a page that is to be rewritten.
 fn is_rewritten(alloc: Global, raw: bool, fields: &[Field]) -> Result<bool, Memory>
     ensures { IfOk result (λ b. b ≡ spec.is_rewritten raw (map named_value fields.now)) }
 {
@@ -62,6 +63,7 @@ fn has_coding(fields: &[Field]) -> bool
     fields.iter().any(tells_coding)
 }
 
+/// Whether the field tells a coding of the content other than `identity`.
 fn tells_coding(field: &Field) -> bool
     ensures { result ≡ spec.tells_coding (named_value field.now) }
 {

@@ -28,6 +28,7 @@ pub fn put_fields(out: &mut Vec<u8>, replay: &Replay, fields: &[Field]) -> Resul
     Ok(())
 }
 
+/// Puts a field, under its own name or behind `X-Archive-Orig-`.
 #[tactic(auto, unfolding(crate::specs::StoredFields::memento_field))]
 fn put_field(
     out: &mut Vec<u8>,
@@ -57,6 +58,7 @@ fn put_original(out: &mut Vec<u8>, field: &Field) -> Result<(), Memory>
     put_line_end(out)
 }
 
+/// Puts the name that a field which doesn't hold of the memento has there.
 #[tactic(auto, unfolding(crate::specs::StoredFields::original_name))]
 fn put_original_name(out: &mut Vec<u8>, name: &[u8]) -> Result<(), Memory>
     ensures { OnOk result (out.new.items ≡ out.old.items ++ original_name name.now) }
@@ -77,6 +79,7 @@ fn put_kept(out: &mut Vec<u8>, replay: &Replay, field: &Field) -> Result<(), Mem
     put_line_end(out)
 }
 
+/// Puts the value of a field that keeps its name: a location leads to the archive, unless the capture is given as it was received.
 fn put_kept_value(out: &mut Vec<u8>, replay: &Replay, field: &Field) -> Result<(), Memory>
     requires { InRange replay.now.capture.now.date }
     ensures { OnOk result (out.new.items ≡ out.old.items

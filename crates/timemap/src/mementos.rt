@@ -31,6 +31,7 @@ pub fn put_later_mementos(
     Ok(())
 }
 
+/// Puts the link to a memento, unless the one before it has the same date.
 fn put_later(
     out: &mut Vec<u8>,
     site: &Site,
@@ -67,6 +68,7 @@ pub fn put_memento_item(
     put_link_parameter(out, b"datetime", &date)
 }
 
+/// The relation of a memento to the others (RFC 7089, section 2.2.4): the first, the last, both or neither.
 #[tactic(auto, unfolding(crate::specs::Mementos::relation))]
 fn relation(first: bool, last: bool) -> &'static [u8]
     ensures { result.now ≡ spec.relation first last }
@@ -79,6 +81,7 @@ fn relation(first: bool, last: bool) -> &'static [u8]
     }
 }
 
+/// Puts the address of a memento, by all digits of its date, as the target of a link (RFC 8288, section 3).
 fn put_memento_target(out: &mut Vec<u8>, site: &Site, entry: &Entry) -> Result<(), Memory>
     ensures { OnOk result (out.new.items ≡ out.old.items
         ++ link_target (memento_address site.now.base (time_digits entry.now.date) false entry.now.uri)) }
