@@ -1,9 +1,11 @@
 -- A disk in memory as contracts see it, and what its calls count.
-use Rattle.std.specs.Prelude.{ℕ, ◌+◌, ◌-◌, ◌^◌, min, Bool, false, ◌||◌, ◌==◌, Option, Some, None, List, [], ◌∷◌, ◌++◌, length}
+use Rattle.std.specs.Prelude.{◌≡◌, ◌⊎◌, ℕ, ◌+◌, ◌-◌, ◌^◌, min, Bool, false, IsTrue, ◌||◌, ◌==◌, Option, Some, None, List, [], ◌∷◌, ◌++◌, length}
 use Rattle.std.specs.List.{list_any}
-use Rattle.disk_model.specs.Image.{Image, no_files}
+use Rattle.disk_model.specs.Image.{Image, no_files, file_count}
 use Rattle.disk_model.specs.Changes.{replayed, may_leave, left_since, stopped_changes}
+use Rattle.disk_model.specs.declared.kind.Kind.{Kind}
 use Rattle.disk_model.specs.declared.change.Change.{Change}
+use Rattle.disk_model.specs.declared.change.Change.TheVariants.{HalfMade}
 
 pub record Device : Type 0 where
   -- the files that it had first, all of them durable
@@ -14,6 +16,8 @@ pub record Device : Type 0 where
   pub fails : List ℕ
   -- after how many further calls each call fails
   pub fuse : Option ℕ
+  -- whether a `create` that is to fail leaves its file half made
+  pub half_makes : Bool
   -- how many calls were made, and how many of them reads
   pub calls : ℕ
   pub reads : ℕ
@@ -22,7 +26,7 @@ pub record Device : Type 0 where
 
 -- a disk without files, whose calls of these numbers fail
 abbrev pub new_device : List ℕ → Device
-new_device fails = record { first = no_files; changes = []; fails = fails; fuse = None; calls = 0; reads = 0; faults = 0 }
+new_device fails = record { first = no_files; changes = []; fails = fails; fuse = None; half_makes = false; calls = 0; reads = 0; faults = 0 }
 
 -- what a read gives
 abbrev pub reading_of : Device → Image
@@ -72,6 +76,15 @@ faulted device = record device { faults = counted device.faults }
 abbrev pub changed : Change → Device → Device
 changed change device = record device { changes = device.changes ++ change ∷ [] }
 
+-- the disk after a file was half made, of the number that comes next
+abbrev pub half_made : Kind → Device → Device
+half_made kind device = changed (HalfMade kind (file_count (reading_of device) kind)) device
+
+-- After a `create` that failed: only the counts are others, or, where it is to fail and this disk does so, a file is half made.
+abbrev pub IsFailedCreate : Kind → Device → Device → Type 0
+IsFailedCreate kind old new =
+    (new ≡ faulted (called old)) ⊎ (IsTrue (is_to_fail old) × IsTrue old.half_makes × (new ≡ half_made kind (faulted (called old))))
+
 -- the disk that is left when this one is stopped
 abbrev pub stopped : Device → ℕ → Device
 stopped device choice = record {
@@ -79,6 +92,7 @@ stopped device choice = record {
   changes = [];
   fails = [];
   fuse = None;
+  half_makes = false;
   calls = 0;
   reads = 0;
   faults = device.faults;

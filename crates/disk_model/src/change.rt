@@ -22,6 +22,11 @@ pub enum Change {
     Made {
         kind: Kind,
     },
+    /// A call that failed made an empty file of this number, which a stop leaves there or not.
+    HalfMade {
+        kind: Kind,
+        file: u32,
+    },
     /// A file was synced.
     Synced {
         kind: Kind,

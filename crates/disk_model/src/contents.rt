@@ -1,6 +1,7 @@
 //! The files of a disk in memory.
 ghost use Rattle.std.specs.Prelude.{◌≡◌, ◌+◌, ◌-◌, ◌^◌, ◌<◌, min, [], ◌∷◌, ◌++◌, length, get_or, set, sum_by, take, IfOk, OnOk, OnErr};
 ghost use Rattle.disk_model.specs.Changes.{done};
+ghost use Rattle.disk_model.specs.declared.change.Change.TheVariants.{HalfMade};
 ghost use Rattle.disk_model.specs.Image.{files_of, file_count, file_of, with_file, with_new, no_files, written};
 
 use crate::Kind;
@@ -94,6 +95,7 @@ impl Contents {
                 Ok(())
             }
             Change::Made { kind } => self.create(*kind),
+            Change::HalfMade { kind, file } => self.create_next(*kind, *file),
             Change::Synced { .. } => Ok(()),
         }
     }
@@ -111,6 +113,7 @@ impl Contents {
         }
     }
 
+    /// Cuts a file to a length.
     #[tactic(auto, unfolding(crate::specs::Image::files_of, crate::specs::Image::with_files, crate::specs::Image::file_of, crate::specs::Image::with_file))]
     fn cut(&mut self, kind: Kind, file: u32, len: u64)
         ensures { self.new ≡ with_file self.old kind file (take len (file_of self.old kind file)) }
@@ -121,6 +124,7 @@ impl Contents {
         }
     }
 
+    /// Makes an empty file.
     #[tactic(auto, unfolding(crate::specs::Image::files_of, crate::specs::Image::with_files, crate::specs::Image::with_new))]
     fn create(&mut self, kind: Kind) -> Result<(), Memory>
         ensures ok { OnOk result (self.new ≡ with_new self.old kind) }
@@ -131,8 +135,21 @@ impl Contents {
             Kind::Cdxj => create_in(&mut self.cdxj),
         }
     }
+
+    /// Makes an empty file where it is the next one.
+    fn create_next(&mut self, kind: Kind, file: u32) -> Result<(), Memory>
+        ensures ok { OnOk result (self.new ≡ done (HalfMade kind file) self.old) }
+        ensures err { OnErr result (self.new ≡ self.old) }
+    {
+        let next = self.files(kind).len();
+        if file as usize == next {
+            return self.create(kind);
+        }
+        Ok(())
+    }
 }
 
+/// Copies of the files.
 fn copy_files(alloc: Global, files: &[File]) -> Result<Vec<File>, Memory>
     ensures { IfOk result (λ copies. copies.items ≡ files.now) }
 {
@@ -143,6 +160,7 @@ fn copy_files(alloc: Global, files: &[File]) -> Result<Vec<File>, Memory>
     Ok(copies)
 }
 
+/// Writes bytes into a file at an offset.
 fn write_in(files: &mut Vec<File>, file: u32, at: u64, bytes: &[u8]) -> Result<(), Memory>
     ensures ok { OnOk result (files.new.items ≡ set files.old.items file
         (written (get_or files.old.items file []) at bytes.now)) }
@@ -155,6 +173,7 @@ fn write_in(files: &mut Vec<File>, file: u32, at: u64, bytes: &[u8]) -> Result<(
     files[number].write_at(at, bytes)
 }
 
+/// Cuts a file to a length.
 fn cut_in(files: &mut Vec<File>, file: u32, len: u64)
     ensures { files.new.items ≡ set files.old.items file (take len (get_or files.old.items file [])) }
 {
@@ -164,6 +183,7 @@ fn cut_in(files: &mut Vec<File>, file: u32, len: u64)
     }
 }
 
+/// Puts an empty file behind the others.
 fn create_in(files: &mut Vec<File>) -> Result<(), Memory>
     requires { length files.old.items < 2 ^ 32 }
     ensures ok { OnOk result (files.new.items ≡ files.old.items ++ [] ∷ []) }
@@ -180,6 +200,7 @@ fn create_in(files: &mut Vec<File>) -> Result<(), Memory>
     Ok(())
 }
 
+/// The sum of the lengths, which stands still at its type's end.
 fn length_sum(files: &[File]) -> u64
     ensures { result ≡ min (sum_by length files.now) (2 ^ 64 - 1) }
 {

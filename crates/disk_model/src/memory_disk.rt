@@ -1,10 +1,10 @@
 //! A disk in memory, which tells what its files hold, fails where it is told to, and can be stopped.
-ghost use Rattle.std.specs.Prelude.{◌≡◌, ◌<◌, ◌≤◌, ◌↔◌, ◌+◌, ◌-◌, ◌^◌, [], ◌∷◌, ◌++◌, Some, true, drop, length, min, sum_by, take, IfOk, IfErr, IsErr, IsTrue, OnOk, OnErr};
+ghost use Rattle.std.specs.Prelude.{◌≡◌, ◌<◌, ◌≤◌, ◌↔◌, ◌+◌, ◌-◌, ◌^◌, [], ◌∷◌, ◌++◌, ◌⊎◌, Some, true, drop, length, min, sum_by, take, IfSome, IsSome, IfOk, IfErr, IsErr, IsTrue, OnOk, OnErr};
 ghost use Rattle.capture.specs.Faults.{CountsFaults};
 ghost use Rattle.disk_model.specs.Changes.{done, replayed, stopped_changes};
 ghost use Rattle.disk_model.specs.ChangesLaws.{replayed_is_left, no_more_left, left_now, left_only_now, left_earlier};
 ghost use Rattle.disk_model.specs.Crash.{Torn, Cut, OnFile, MayCreate, HasFile, Within, Follows, Stepped, Leaves, Elapses};
-ghost use Rattle.disk_model.specs.Device.{Device, new_device, reading_of, images_of, moment_of, images_since_of, is_to_fail, called, read_called, faulted, changed, stopped};
+ghost use Rattle.disk_model.specs.Device.{Device, new_device, reading_of, images_of, moment_of, images_since_of, is_to_fail, called, read_called, faulted, changed, half_made, stopped, IsFailedCreate};
 ghost use Rattle.disk_model.specs.Image.{file_count, files_of, file_of, with_file, with_new, written};
 
 use crate::Kind;
@@ -21,7 +21,8 @@ use std::marker::Model;
 ///
 /// A call fails exactly where its number is in the list that `new` was given, or where the fuse has burnt down. A
 /// call that changes the disk, or a sync, also fails where memory for it was refused. A call that fails changes
-/// nothing but the counts.
+/// nothing but the counts; but a `create` that is to fail may be asked to leave its file half made
+/// (`with_half_made_files`).
 #[derive(Debug, Drop)]
 pub struct MemoryDisk {
     alloc: Global,
@@ -30,6 +31,7 @@ pub struct MemoryDisk {
     changes: Vec<Change>,
     fails: Vec<u64>,
     fuse: Option<u64>,
+    half_makes: bool,
     calls: u64,
     reads: u64,
     faults: u64,
@@ -47,6 +49,7 @@ impl Model for MemoryDisk {
       changes = d.changes.items;
       fails = d.fails.items;
       fuse = d.fuse;
+      half_makes = d.half_makes;
       calls = d.calls;
       reads = d.reads;
       faults = d.faults;
@@ -67,6 +70,7 @@ impl MemoryDisk {
             changes: Vec::new(alloc),
             fails,
             fuse: None,
+            half_makes: false,
             calls: 0,
             reads: 0,
             faults: 0,
@@ -80,6 +84,28 @@ impl MemoryDisk {
         let mut disk = self;
         disk.fuse = Some(calls);
         disk
+    }
+
+    /// The same disk, of which each `create` that is to fail from then on makes the file all the same, where memory is
+    /// left for it. Reads find that file, and a stop leaves it there or not, until it or a later one of its kind is
+    /// synced, or a `create` of its kind is done.
+    pub fn with_half_made_files(self) -> MemoryDisk
+        ensures { result ≡ record self { half_makes = true } }
+    {
+        let mut disk = self;
+        disk.half_makes = true;
+        disk
+    }
+
+    /// The length of a file in bytes, which isn't counted as a call. `None` where the file isn't there.
+    pub fn file_len(&self, kind: Kind, file: u32) -> Option<u64>
+        ensures some { IfSome result (λ len. len ≡ length (file_of (reading_of self.now) kind file)) }
+        ensures there { IsSome result ↔ file < file_count (reading_of self.now) kind }
+    {
+        if (file as usize) < self.current.files(kind).len() {
+            return Some(self.current.file(kind, file).len() as u64);
+        }
+        None
     }
 
     /// How many calls were made that can answer `Failed`.
@@ -106,7 +132,8 @@ impl MemoryDisk {
     /// Stops the disk, as a crash now may. It gives a disk with the same count of faults and no call that is to fail,
     /// which holds one of the images. At choice 0 each file is as last synced, and at choice 1 as a read gives it. At
     /// a choice c above 1 the pending changes are made in order for c - 2 bytes, and the next byte of a written range,
-    /// if there is one, is `W`. The disk is handed back, as it was, where memory was refused.
+    /// if there is one, is `W`. A file that was half made, and that nothing keeps since, is such a change, of no bytes:
+    /// it isn't there at choice 0, and is at 1. The disk is handed back, as it was, where memory was refused.
     pub fn stop(self, choice: u32) -> Result<MemoryDisk, MemoryDisk>
         ensures stopped { IfOk result (λ disk. disk ≡ stopped self choice) }
         ensures image { IfOk result (λ disk. images_of self (reading_of disk)) }
@@ -125,6 +152,7 @@ impl MemoryDisk {
             changes: Vec::new(self.alloc),
             fails: Vec::new(self.alloc),
             fuse: None,
+            half_makes: false,
             calls: 0,
             reads: 0,
             faults: self.faults,
@@ -186,10 +214,40 @@ impl MemoryDisk {
         ensures err { OnErr result (self.new ≡ faulted self.old) }
         ensures faults { CountsFaults self.old.faults self.new.faults result }
     {
-        if apply_and_keep(&mut self.current, &mut self.changes, change).is_err() {
+        if self.keep(change).is_err() {
             return Err(self.fault());
         }
         Ok(())
+    }
+
+    /// Makes a change and keeps it in the record, or does neither.
+    fn keep(&mut self, change: Change) -> Result<(), Memory>
+        ensures ok { OnOk result (self.new ≡ changed change self.old) }
+        ensures err { OnErr result (self.new ≡ self.old) }
+    {
+        if apply_and_keep(&mut self.current, &mut self.changes, change).is_err() {
+            return Err(Memory);
+        }
+        Ok(())
+    }
+
+    /// Half makes a file, where this disk does so and memory is left.
+    fn half_make(&mut self, kind: Kind)
+        ensures { (self.new ≡ self.old) ⊎ (IsTrue self.old.half_makes × (self.new ≡ half_made kind self.old)) }
+    {
+        if self.half_makes {
+            self.half_make_next(kind);
+        }
+    }
+
+    /// Half makes a file, or does nothing where memory was refused.
+    fn half_make_next(&mut self, kind: Kind)
+        ensures { (self.new ≡ self.old) ⊎ (self.new ≡ half_made kind self.old) }
+    {
+        let file = self.current.files(kind).len() as u32;
+        if self.keep(Change::HalfMade { kind, file }).is_err() {
+            return;
+        }
     }
 }
 
@@ -241,7 +299,7 @@ impl Disk for MemoryDisk {
         // It fails where it is to, and else for want of memory alone.
         ensures fails { IsTrue (is_to_fail self.old) → IsErr result }
         ensures ok { OnOk result (self.new ≡ changed (Made kind) (called self.old)) }
-        ensures err { OnErr result (self.new ≡ faulted (called self.old)) }
+        ensures err { OnErr result (IsFailedCreate kind self.old self.new) }
 
         ensures number { IfOk result (λ file. file ≡ file_count (reading_of self.old) kind) }
         ensures created { OnOk result (reading_of self.new ≡ with_new (reading_of self.old) kind) }
@@ -256,6 +314,7 @@ impl Disk for MemoryDisk {
         ensures faults { CountsFaults self.old.faults self.new.faults result }
     {
         if self.begin().is_err() {
+            self.half_make(kind);
             return Err(Failed);
         }
         let file = self.current.files(kind).len() as u32;

@@ -1,8 +1,8 @@
 //! Which changes of a record are durable, found in one pass from its end.
-ghost use Rattle.std.specs.Prelude.{◌≡◌, ◌||◌, ◌&&◌, ◌==◌, ℕ, List, [], ◌∷◌, false, get_or, IfOk, OnOk};
-ghost use Rattle.disk_model.specs.Changes.{is_kind, is_pending, pending_of};
+ghost use Rattle.std.specs.Prelude.{◌≡◌, ◌||◌, ◌&&◌, ◌==◌, ℕ, [], ◌∷◌, false, get_or, IfOk, OnOk};
+ghost use Rattle.std.specs.List.{list_any};
+ghost use Rattle.disk_model.specs.Changes.{is_kind, is_pending, keeps_file, pending_of};
 ghost use Rattle.disk_model.specs.Synced.{is_marked, Marks};
-ghost use Rattle.disk_model.specs.declared.change.Change.{Change};
 ghost use Rattle.disk_model.specs.declared.kind.Kind.{Kind};
 
 use crate::Kind;
@@ -18,6 +18,7 @@ pub struct Synced {
 }
 
 impl Synced {
+    /// No file at all.
     fn none(alloc: Global) -> Synced
         ensures { Marks result [] }
     {
@@ -27,6 +28,7 @@ impl Synced {
         }
     }
 
+    /// Whether the file is one of them.
     fn has(&self, kind: Kind, file: u32) -> bool
         ensures { result ≡ is_marked self.now kind file }
     {
@@ -36,6 +38,7 @@ impl Synced {
         }
     }
 
+    /// The file becomes one of them.
     fn add(&mut self, kind: Kind, file: u32) -> Result<(), Memory>
         ensures { OnOk result ((k : Kind) (f : ℕ) → is_marked self.new k f ≡
             ((is_kind k kind && (f == file)) || is_marked self.old k f)) }
@@ -47,16 +50,16 @@ impl Synced {
     }
 
     /// Whether a change is pending, by the changes after it, which were seen before it.
-    fn see(&mut self, change: &Change) -> Result<bool, Memory>
-        ensures pending { IfOk result (λ pending. (later : List Change) → Marks self.old later →
-            pending ≡ is_pending change.now later) }
-        ensures marks { OnOk result ((later : List Change) → Marks self.old later → Marks self.new
-            (change.now ∷ later)) }
+    fn see(&mut self, change: &Change, later: &[Change]) -> Result<bool, Memory>
+        requires { Marks self.old later.now }
+        ensures pending { IfOk result (λ pending. pending ≡ is_pending change.now later.now) }
+        ensures marks { OnOk result (Marks self.new (change.now ∷ later.now)) }
     {
         match change {
             Change::Wrote { kind, file, .. } => Ok(!self.has(*kind, *file)),
             Change::Shortened { kind, file, .. } => Ok(!self.has(*kind, *file)),
             Change::Made { .. } => Ok(false),
+            Change::HalfMade { kind, file } => Ok(!keep(later, *kind, *file)),
             Change::Synced { kind, file } => {
                 self.add(*kind, *file)?;
                 Ok(false)
@@ -65,6 +68,7 @@ impl Synced {
     }
 }
 
+/// Whether the file is marked.
 fn is_in(marks: &[bool], file: u32) -> bool
     ensures { result ≡ get_or marks.now file false }
 {
@@ -72,6 +76,7 @@ fn is_in(marks: &[bool], file: u32) -> bool
     number < marks.len() && marks[number]
 }
 
+/// Marks a file.
 fn add_to(marks: &mut Vec<bool>, file: u32) -> Result<(), Memory>
     ensures { OnOk result ((f : ℕ) → get_or marks.new.items f false ≡
         ((f == file) || get_or marks.old.items f false)) }
@@ -84,6 +89,50 @@ fn add_to(marks: &mut Vec<bool>, file: u32) -> Result<(), Memory>
     Ok(())
 }
 
+/// Whether one of the changes keeps a file that was half made: it makes a later file of the kind, or syncs it or a later one.
+fn keep(changes: &[Change], kind: Kind, file: u32) -> bool
+    ensures { result ≡ list_any (keeps_file kind file) changes.now }
+{
+    for change in changes {
+        if keeps(change, kind, file) {
+            return true;
+        }
+    }
+    false
+}
+
+/// Whether the change keeps a file that was half made.
+fn keeps(change: &Change, kind: Kind, file: u32) -> bool
+    ensures { result ≡ keeps_file kind file change.now }
+{
+    match change {
+        Change::Made { kind: made } => is_same(kind, *made),
+        Change::Synced {
+            kind: synced,
+            file: number,
+        } => is_same(kind, *synced) && file <= *number,
+        Change::Wrote { .. } => false,
+        Change::Shortened { .. } => false,
+        Change::HalfMade { .. } => false,
+    }
+}
+
+/// Whether two kinds are one.
+fn is_same(kind: Kind, other: Kind) -> bool
+    ensures { result ≡ is_kind kind other }
+{
+    match kind {
+        Kind::Warc => match other {
+            Kind::Warc => true,
+            Kind::Cdxj => false,
+        },
+        Kind::Cdxj => match other {
+            Kind::Warc => false,
+            Kind::Cdxj => true,
+        },
+    }
+}
+
 /// Whether each change of a record is pending.
 pub fn pending_marks(alloc: Global, changes: &[Change]) -> Result<Vec<bool>, Memory>
     ensures { IfOk result (λ marks. marks.items ≡ pending_of changes.now) }
@@ -93,7 +142,7 @@ pub fn pending_marks(alloc: Global, changes: &[Change]) -> Result<Vec<bool>, Mem
     let mut i = changes.len();
     while i > 0 {
         i -= 1;
-        marks[i] = synced.see(&changes[i])?;
+        marks[i] = synced.see(&changes[i], &changes[i + 1..])?;
     }
     Ok(marks)
 }

@@ -1,7 +1,7 @@
 -- One change more is seen, the one before those that were.
-use Rattle.std.proofs.Common.{◌≡◌, ◌<◌, ◌+◌, ◌-◌, ℕ, List, ◌∷◌, length, drop, sym, ap, ◌∙◌, subst, arith}
-use Rattle.std.proofs.lemmas.List.{drop_more, drop-set, length-set}
-use Rattle.disk_model.specs.Changes.{pending_of}
+use Rattle.std.proofs.Common.{◌≡◌, ◌<◌, ◌+◌, ◌-◌, ℕ, List, ◌∷◌, length, take, drop, sym, ap, ◌∙◌, subst, arith}
+use Rattle.std.proofs.lemmas.List.{drop_more, drop-set, length-drop, length-set, take_all}
+use Rattle.disk_model.specs.Changes.{is_pending, pending_of}
 use Rattle.disk_model.specs.Synced.{Marks}
 use Rattle.disk_model.specs.declared.change.Change.{Change}
 use Rattle.disk_model.proofs.synced.pending_marks.Goals as goal
@@ -15,12 +15,14 @@ loop-i-preserved c =
     let change = c.index-changes-i.result in
     let split : drop j changes ≡ change ∷ drop c.loop-i.i changes =
     drop_more changes j change inside ∙ (λ k. (sym c.index-changes-i.is) k ∷ drop (next k) changes) in
+    let rest : take (length changes - (c.loop-i.i - 1 + 1)) (drop (c.loop-i.i - 1 + 1) changes) ≡ drop c.loop-i.i changes =
+    take_all (length changes - (c.loop-i.i - 1 + 1)) (drop (c.loop-i.i - 1 + 1) changes) (omega (arith, length-drop (c.loop-i.i - 1 + 1) changes)) ∙ ap (λ (n : ℕ). drop n changes) next in
     record {
       within = omega arith;
       size = length-set c.loop-i.marks.items j c.in_ok-marks-2.field-0 ∙ c.loop-i.invariant.size;
-      seen = subst (λ (l : List Change). Marks c.see.new.self l) (sym split) (c.in_ok-marks-2.ensures.marks (drop c.loop-i.i changes) c.loop-i.invariant.seen);
+      seen = subst (λ (l : List Change). Marks c.see.new.self l) (ap (λ (l : List Change). change ∷ l) rest ∙ sym split) c.in_ok-marks-2.ensures.marks;
       marks =
           drop-set c.loop-i.marks.items j c.in_ok-marks-2.field-0 (omega (arith, inside))
-          ∙ (λ k. c.in_ok-marks-2.ensures.pending (drop c.loop-i.i changes) c.loop-i.invariant.seen k ∷ (ap (λ (n : ℕ). drop n c.loop-i.marks.items) next ∙ c.loop-i.invariant.marks) k)
+          ∙ (λ k. (c.in_ok-marks-2.ensures.pending ∙ ap (λ (l : List Change). is_pending change l) rest) k ∷ (ap (λ (n : ℕ). drop n c.loop-i.marks.items) next ∙ c.loop-i.invariant.marks) k)
           ∙ ap pending_of (sym split);
     }
