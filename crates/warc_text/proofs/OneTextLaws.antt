@@ -12,6 +12,7 @@ use Rattle.capture.specs.declared.captured.Kept.{Kept}
 use Rattle.capture.specs.declared.captured.Kept.TheVariants.{Wire, Same, Cut}
 use Rattle.capture.specs.declared.captured.Stored.{Stored}
 use Rattle.capture.specs.BodyLaws.{BodiesHaveAPayload, CapturesHaveOnePayload, CutWiresHaveAPayload}
+use Rattle.capture.proofs.PayloadLaws.{body_has_payload, captures_have_one, cut_has_payload}
 use Rattle.warc_text.specs.declared.same_of.SameOf.{SameOf}
 use Rattle.warc_text.specs.Records.{info_text, group_text}
 use Rattle.warc_text.specs.References.{reference_of}
@@ -186,3 +187,7 @@ pub sound_volumes_have_one_text : HavePayloads → SoundVolumesHaveOneText
 sound_volumes_have_one_text have book k sound within =
     let one = has_volume_text have book k sound within in
     record { text = one.0; is = one.1; only = λ other is. one_volume_text have.one book k one.0 other one.1 is }
+
+-- by what the payloads of wires and captures are
+pub volumes_have_one_text : SoundVolumesHaveOneText
+volumes_have_one_text = sound_volumes_have_one_text (record { whole = body_has_payload; cut = cut_has_payload; one = captures_have_one })

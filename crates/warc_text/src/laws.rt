@@ -3,8 +3,6 @@ ghost use Rattle.warc_text.specs.Groups.{EqualGroupsAreOfEqualCaptures, GroupsAr
 ghost use Rattle.warc_text.specs.Growth.{GroupsStay, LastVolumeGoesOn, NumbersHaveOneGroup, SealedVolumesStay, SoundVolumesHaveOneText};
 ghost use Rattle.warc_text.specs.StandsFor.{FilesStandForNoVolume, FilesStandForOneBook, GroupsAreCommitted, GroupsOfBooksTellTheirCaptures, InfosAreCommitted};
 
-use capture::{captures_have_one_payload, growth_keeps_captures, wires_have_one_payload};
-
 /// Of two groups of one number, neither is the beginning of the other, so that a reader who knows the
 /// number knows where a group ends.
 #[tactic(auto, using(crate::proofs::PrefixLaws::groups_are_prefix_free))]
@@ -42,18 +40,12 @@ pub fn texts_are_committed()
 /// A number has one group, of one capture, one payload and one reference.
 pub fn numbers_have_one_group()
     ensures { NumbersHaveOneGroup }
-{
-    captures_have_one_payload();
-}
+{}
 
 /// Each volume of a sound book has one text.
 pub fn sound_volumes_have_one_text()
     ensures { SoundVolumesHaveOneText }
-{
-    // What `capture` promises, which the proof cites.
-    wires_have_one_payload();
-    captures_have_one_payload();
-}
+{}
 
 /// The texts of groups, and of all volumes but the last, stay when a book grows. The text of the last
 /// volume stays at the front, and the groups of the captures that it gains follow.
@@ -61,9 +53,7 @@ pub fn texts_stay_when_a_book_grows()
     ensures groups { GroupsStay }
     ensures sealed { SealedVolumesStay }
     ensures last { LastVolumeGoesOn }
-{
-    growth_keeps_captures();
-}
+{}
 
 /// A list of files stands for one sound book at most, if a volume of that is there and the ids of its
 /// responses differ. Files that stand for a book without volumes stand for such books alone.

@@ -1,5 +1,6 @@
+use Rattle.capture.proofs.PayloadLaws.{captures_have_one}
 use Rattle.warc_text.proofs.OneTextLaws as laws
 use Rattle.warc_text.proofs.laws.numbers_have_one_group.Goals as goal
 
 pub returns : goal.returns
-returns c = laws.one_group c.captures_have_one_payload.ensures
+returns c = laws.one_group captures_have_one
