@@ -4,6 +4,7 @@ pub mod DecisionLaws
 mod FramingLaws
 pub mod FrontParts
 pub mod HeadEnds
+mod HeadsInLaws
 mod HeldLaws
 pub mod LineFronts
 pub mod OneArrival

@@ -25,7 +25,7 @@ use Rattle.http_wire.specs.WholeRequests.{IsRequestText}
 use Rattle.http_wire.proofs.FramingLaws.{ok_was_told}
 
 -- a head that is read alone is read the same with a rest behind it
-begins_with_rest : (front : List ℕ) (h : grammar.RequestHead) (rest : List ℕ) → IsRequestHeadText front h
+pub begins_with_rest : (front : List ℕ) (h : grammar.RequestHead) (rest : List ℕ) → IsRequestHeadText front h
     → BeginsWithRequest (front ++ rest) h rest
 begins_with_rest front h rest reads = record {
   reads = (reads.reads.0, ap (λ t. t ++ rest) (reads.reads.1 ∙ append-nil (grammar.print_request h)));
@@ -33,7 +33,7 @@ begins_with_rest front h rest reads = record {
 }
 
 -- the parts of a head tell what the head tells
-parts_tell : (front : List ℕ) (h : grammar.RequestHead) (head : RequestHead) → HoldsRequestParts front h head
+pub parts_tell : (front : List ℕ) (h : grammar.RequestHead) (head : RequestHead) → HoldsRequestParts front h head
     → request_framing h ≡ told_by_request head
 parts_tell front h head of =
     ap (λ m. framing_of_request m (named_values h.fields)) (sym of.version)

@@ -3,6 +3,7 @@
 #![tactic(auto)]
 
 mod framing;
+mod heads_in;
 mod held;
 mod laws;
 mod progress;
@@ -12,6 +13,7 @@ mod response_parts;
 mod response_reader;
 mod whole_request;
 
+pub use heads_in::request_head_in;
 pub use http_head::{
     Field, HeadFed, HeadProgress, HeadReader, Received, RequestHead, RequestMessage, ResponseHead,
     Version, WireFault, find_head_end, find_section_end, first_value, fronts_stay, read_head,
