@@ -2,12 +2,14 @@
 ghost use Rattle.std.specs.Prelude.{◌≡◌};
 
 use std::alloc::AllocError;
+use thiserror::Error;
 use warc_journal::DiskFault;
 
 /// Why a step answers no Ok.
-#[derive(Clone, Copy, Debug, PartialEq, Eq)]
+#[derive(Clone, Copy, Debug, PartialEq, Eq, Error)]
 pub enum ScanFault {
     /// The files hold no archive: in this file, from this place on, stands nothing with which what was read goes on.
+    #[error("damaged in file {file} at byte {place}")]
     Damaged {
         /// The number of the file.
         file: u32,
@@ -15,8 +17,10 @@ pub enum ScanFault {
         place: u64,
     },
     /// The disk failed: its count of faults rose.
+    #[error("the disk failed")]
     DiskFault,
     /// There was no memory.
+    #[error("no memory")]
     Memory,
 }
 

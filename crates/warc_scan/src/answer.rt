@@ -16,7 +16,7 @@ ghost use Rattle.warc_scan.specs.Stops.{IsMessageStop};
 use crate::opening::Opening;
 use crate::stop::Stop;
 use crate::wire_digest::summary_in;
-use capture::{Digest, Framing, heads_end_at_the_first_empty_line, wires_have_one_payload};
+use capture::{Digest, Framing, heads_end_at_the_first_empty_line};
 use http_head::is_short_head;
 use http_wire::{ResponseHead, WireFault, find_head_end, framing_of, read_head};
 use std::alloc::Global;
@@ -112,7 +112,6 @@ fn tell(
         → ¬ (IsAnswerOf method.now (parts.now.head.now ++ parts.now.wire.now) opening.now head kept) }
     ensures stops { IfErr result IsMessageStop }
 {
-    heads_end_at_the_first_empty_line();
     match opening.same {
         Some(_) => revisit(method, parts),
         None => {
@@ -131,6 +130,7 @@ fn split_head(alloc: Global, block: &[u8]) -> Result<Parts<'_>, Stop>
         → ¬ (IsFinalHead head parsed) }
     ensures stops { IfErr result IsMessageStop }
 {
+    // By it three answers are found that would have to be written.
     heads_end_at_the_first_empty_line();
     let Some(end) = find_head_end(block) else {
         return Err(Stop::Wrong);
@@ -196,7 +196,6 @@ fn whole_response(
     ensures wrong { IsErrOf result Stop.Wrong → ¬ (IsResponse false method.now parts.now.head.now parts.now.wire.now digest.now) }
     ensures stops { IfErr result IsMessageStop }
 {
-    wires_have_one_payload();
     let framing = match told_framing(method, parts) {
         Ok(framing) => framing,
         Err(_) => return Err(Stop::Wrong),
@@ -227,7 +226,6 @@ fn cut_response(
     ensures wrong { IsErrOf result Stop.Wrong → ¬ (IsResponse true method.now parts.now.head.now parts.now.wire.now digest.now) }
     ensures stops { IfErr result IsMessageStop }
 {
-    wires_have_one_payload();
     if !is_short_head(parts.head) {
         return Err(Stop::Wrong);
     }

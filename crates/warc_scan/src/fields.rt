@@ -23,9 +23,10 @@ use uuid::Uuid;
 /// Where `Z` stands in a date that is a whole second, and else the dot before its fraction.
 const SECOND_END: usize = 19;
 
-/// The length of a date that is a whole second, and that of one with a fraction.
+/// The length of a date that is a whole second.
 const SECOND_LEN: usize = 20;
 
+/// The length of a date with a fraction of a second.
 const FRACTION_LEN: usize = 24;
 
 /// The length of a UUID's text.

@@ -18,7 +18,7 @@ use crate::opening::{Opening, read_opening};
 use crate::opening_parts::strip_request_opening;
 use crate::stop::Stop;
 use capture::Text;
-use http_wire::{WireFault, read_request};
+use http_wire::{WireFault, request_head_in};
 use std::alloc::Global;
 use uuid::Uuid;
 use warc_text::{IdKind, id_of};
@@ -87,6 +87,7 @@ fn read_group<'b>(
         → Refuses stop bytes.now text) }
     ensures asks { IfErr result (AsksByStop namespace.now number bytes.now) }
 {
+    // A `?` on a result that holds an id isn't covered.
     let found = match find_group(alloc, bytes, namespace, number) {
         Ok(found) => found,
         Err(stop) => return Err(stop),
@@ -114,6 +115,7 @@ fn find_group<'b>(
     ensures asks { IfErr result (AsksByStop namespace.now number bytes.now) }
 {
     let id = id_of(namespace, IdKind::Response, number);
+    // A `?` on a result that holds an id isn't covered.
     let opening = match read_opening(alloc, bytes, &id) {
         Ok(opening) => opening,
         Err(stop) => return Err(stop),
@@ -139,13 +141,12 @@ fn read_messages<'b>(alloc: Global, found: &Found<'b>) -> Result<(Text, Answer<'
         → ¬ (IsAnswerOf method found.now.answer.now found.now.opening head kept) }
     ensures stops { IfErr result IsMessageStop }
 {
-    let message = match read_request(alloc, found.request) {
-        Ok(message) => message,
+    let head = match request_head_in(alloc, found.request) {
+        Ok(head) => head,
         Err(WireFault::Malformed) => return Err(Stop::Wrong),
         // A request without limits has no other fault.
         Err(_) => return Err(Stop::Memory),
     };
-    let head = message.head;
     let method = head.method;
     match read_answer(alloc, method.as_slice(), found.answer, &found.opening) {
         Ok(answer) => Ok((method, answer)),

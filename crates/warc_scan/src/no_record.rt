@@ -3,19 +3,25 @@ ghost use Rattle.std.specs.Prelude.{◌≡◌};
 
 use crate::stop::Stop;
 use capture::Memory;
+use thiserror::Error;
 
 /// Why no record is told, where one may begin.
-#[derive(Clone, Copy, Debug, PartialEq, Eq)]
+#[derive(Clone, Copy, Debug, PartialEq, Eq, Error)]
 pub enum NoRecord {
     /// Nothing is there: the volume ends.
+    #[error("the volume ends")]
     End,
     /// An unfinished tail is there, as a stop leaves it.
+    #[error("an unfinished tail")]
     Unfinished,
     /// The commit byte and more are there, but not what is due.
+    #[error("not the record that is due")]
     Damaged,
     /// The bytes don't decide. What is due has at least so many bytes, more than there are.
+    #[error("at least {0} bytes are due")]
     Need(u64),
     /// There was no memory.
+    #[error("no memory")]
     Memory,
 }
 

@@ -91,6 +91,7 @@ fn read_revisit<'b>(alloc: Global, bytes: &'b [u8], id: &Uuid) -> Result<Opening
     ensures err { IfErr result (λ stop. NoneStands IsOpening (opening_text id.now) stop bytes.now) }
 {
     let common = read_common(alloc, bytes, b"revisit", id)?;
+    // A `?` on a result that holds an id isn't covered.
     let (refers, rest) = match read_revisit_end(alloc, common.rest) {
         Ok(read) => read,
         Err(stop) => return Err(stop),

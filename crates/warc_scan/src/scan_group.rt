@@ -25,6 +25,7 @@ pub fn next_group(
     ensures tells { TellsGroup namespace.now number more bytes.now result }
     ensures asks { AsksForGroup namespace.now number bytes.now result }
 {
+    // A `?` on a result that holds an id isn't covered.
     let read = match read_first(alloc, bytes, more, namespace, number) {
         Ok(read) => read,
         Err(why) => return no_group(why),
@@ -34,7 +35,7 @@ pub fn next_group(
         method,
         answer,
     } = read;
-    match group_of(alloc, number, &found, method, &answer) {
+    match group_of(alloc, number, &found, method, answer) {
         Ok(group) => GroupStep::Group(group),
         Err(Memory) => GroupStep::Memory,
     }
@@ -59,10 +60,10 @@ fn group_of(
     number: u32,
     found: &Found<'_>,
     method: Text,
-    answer: &Answer<'_>,
+    answer: Answer<'_>,
 ) -> Result<Group, Memory>
     requires found { IsFound found.now }
-    requires messages { HasMessages found.now method answer.now }
+    requires messages { HasMessages found.now method answer }
     ensures { IfOk result (IsGroupIn number found.now) }
 {
     let head_at = found.first_len - RECORD_END - found.answer.len() as u64;
@@ -70,8 +71,8 @@ fn group_of(
     let same = copy_revisited(alloc, &found.opening.same)?;
     let uri = copy_target(alloc, found.opening.uri)?;
     let request = copy_bytes(alloc, found.request)?;
-    let head = copy_bytes(alloc, answer.head)?;
-    let kept = copy_kept(alloc, answer)?;
+    let kept = copy_kept(alloc, &answer)?;
+    let parsed = answer.parsed;
     Ok(Group {
         number,
         stored: Stored {
@@ -79,7 +80,7 @@ fn group_of(
             uri,
             date: found.opening.date,
             request,
-            head,
+            head: parsed.text,
             kept,
         },
         digest: found.opening.digest,

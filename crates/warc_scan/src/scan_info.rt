@@ -100,6 +100,7 @@ fn read_front(bytes: &[u8]) -> Result<InfoFront<'_>, Stop>
         bytes,
         b"WARC/1.1\r\nWARC-Type: warcinfo\r\nWARC-Record-ID: <urn:uuid:",
     )?;
+    // A `?` on a result that holds an id isn't covered.
     let read = match read_uuid(named) {
         Ok(read) => read,
         Err(stop) => return Err(stop),
@@ -128,6 +129,7 @@ fn read_namespace(
     ensures err { IfErr result (λ stop. NoNamespaceStands volume front.now.born stop bytes.now) }
 {
     let named = strip_middle(front.rest, volume)?;
+    // A `?` on a result that holds an id isn't covered.
     let read = match read_uuid(named) {
         Ok(read) => read,
         Err(stop) => return Err(stop),

@@ -61,6 +61,7 @@ fn find_opening<'b>(
     ensures err { IfErr result (λ stop. NoneStands IsFirst (first_lines namespace.now number) stop bytes.now) }
 {
     let id = id_of(namespace, IdKind::Response, number);
+    // A `?` on a result that holds an id isn't covered.
     let opening = match read_opening(alloc, bytes, &id) {
         Ok(opening) => opening,
         Err(stop) => return Err(stop),

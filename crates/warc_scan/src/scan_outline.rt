@@ -26,6 +26,7 @@ pub fn next_outline(
     ensures none { IfErr result (TellsNoGroup namespace.now number more bytes.now) }
     ensures asks { IfErr result (AsksForMore namespace.now number bytes.now) }
 {
+    // A `?` on a result that holds an id isn't covered.
     let read = match read_first(alloc, bytes, more, namespace, number) {
         Ok(read) => read,
         Err(why) => return Err(why),

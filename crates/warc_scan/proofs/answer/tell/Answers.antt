@@ -1,5 +1,6 @@
 use Rattle.std.proofs.Common.{refl}
 use Rattle.std.proofs.lemmas.Result.{IfOk-weaker}
+use Rattle.capture.proofs.HeadLaws.{response_heads_end}
 use Rattle.warc_scan.proofs.AnswerParts.{no_cut, no_revisit, no_whole, told_cut, told_revisit, told_whole}
 use Rattle.warc_scan.proofs.answer.tell.Goals as goal
 
@@ -10,17 +11,17 @@ returns-in-Some-clause-ok c =
 
 pub returns-in-Some-clause-wrong : goal.returns-in-Some-clause-wrong
 returns-in-Some-clause-wrong c = λ is.
-    no_revisit c.heads_end_at_the_first_empty_line.ensures.responses c.args.method.now _ c.args.opening.now c.args.parts.now c.requires.parts
+    no_revisit response_heads_end c.args.method.now _ c.args.opening.now c.args.parts.now c.requires.parts
     refl c.in-Some.field-0 c.in-Some.is (c.revisit.ensures.wrong is)
 
 pub returns-then-opening-clause-wrong : goal.returns-then-opening-clause-wrong
 returns-then-opening-clause-wrong c = λ is.
-    no_cut c.heads_end_at_the_first_empty_line.ensures.responses c.args.method.now _ c.args.opening.now c.args.parts.now c.requires.parts
+    no_cut response_heads_end c.args.method.now _ c.args.opening.now c.args.parts.now c.requires.parts
     refl c.in-None.is c.if-opening.true (c.cut_response.ensures.wrong is)
 
 pub returns-else-opening-clause-wrong : goal.returns-else-opening-clause-wrong
 returns-else-opening-clause-wrong c = λ is.
-    no_whole c.heads_end_at_the_first_empty_line.ensures.responses c.args.method.now _ c.args.opening.now c.args.parts.now c.requires.parts
+    no_whole response_heads_end c.args.method.now _ c.args.opening.now c.args.parts.now c.requires.parts
     refl c.in-None.is c.if-opening.false (c.whole_response.ensures.wrong is)
 
 pub returns-then-opening-clause-ok : goal.returns-then-opening-clause-ok

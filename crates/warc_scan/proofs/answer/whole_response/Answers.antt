@@ -1,5 +1,6 @@
 use Rattle.std.proofs.Common.{false, Err, refl, sym, ap, subst, ◌∙◌, arith}
 use Rattle.std.proofs.lemmas.Bool.{false≢true}
+use Rattle.capture.proofs.PayloadLaws.{one_payload}
 use Rattle.warc_scan.specs.Digests.{HasDigest}
 use Rattle.warc_scan.specs.declared.stop.Stop.TheVariants.{Wrong}
 use Rattle.warc_scan.proofs.AnswerParts.{digest_found, whole_is, whole_len, whole_other, whole_untold}
@@ -17,7 +18,7 @@ returns-in-Err-summary_in-clause-wrong c = λ is response.
 
 pub returns-then-not-is_same-clause-wrong : goal.returns-then-not-is_same-clause-wrong
 returns-then-not-is_same-clause-wrong c = λ is response.
-    let same = digest_found c.wires_have_one_payload.ensures.one false c.args.method.now c.args.parts.now c.in-Ok.framing c.in-Ok-summary_in.found.digest
+    let same = digest_found one_payload false c.args.method.now c.args.parts.now c.in-Ok.framing c.in-Ok-summary_in.found.digest
     c.args.digest.now c.requires c.in-Ok.ensures c.in-Ok-summary_in.ensures.digest response in
     false≢true (sym c.if-not-is_same.true ∙ c.is_same.ensures.1 same)
 

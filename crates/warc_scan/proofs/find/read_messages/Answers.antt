@@ -7,7 +7,7 @@ use Rattle.warc_scan.proofs.find.read_messages.Goals as goal
 
 pub returns-clause-wrong : goal.returns-clause-wrong
 returns-clause-wrong c = λ is method head kept request answer.
-    let one = one_method c.args.found.now.request.now method c.in-Ok.message c.in-Ok.ensures.ok request in
+    let one = one_method c.args.found.now.request.now method c.in-Ok.head c.in-Ok.ensures.ok request in
     c.in-Err-read_answer.ensures.wrong (ap (λ e. Err e) (same_stop _ c.in-Err-read_answer.stop Wrong is)) head kept
     (subst (λ m. IsAnswerOf m c.args.found.now.answer.now c.args.found.now.opening head kept)
     (sym (c.as_slice.ensures.value ∙ one)) answer)

@@ -11,10 +11,11 @@ pub returns : goal.returns
 returns c =
     let found = c.args.found.now in
     let method = c.args.method in
-    let answer = c.args.answer.now in
+    let answer = c.args.answer in
     let kept = kept_by answer.form answer.wire.now in
     let is = c.requires.messages.answer_is in
-    let heads = c.in_ok-head.ensures in
+    let text = answer.parsed.text in
+    let heads = is.parsed.1.text_is in
     record {
       number_is = refl;
       date = refl;
@@ -24,10 +25,10 @@ returns c =
       request_is = c.in_ok-request.ensures;
       request = c.requires.messages.request;
       answer =
-          subst (λ k. IsAnswerOf method found.answer.now found.opening c.in_ok-head.head k) (sym c.in_ok-kept.ensures)
+          subst (λ k. IsAnswerOf method found.answer.now found.opening text k) (sym c.in_ok-kept.ensures)
           (subst (λ h. IsAnswerOf method found.answer.now found.opening h kept) (sym heads) is.is);
       payload_len =
-          subst (λ k. HasPayloadLen method c.in_ok-head.head k answer.payload_len) (sym c.in_ok-kept.ensures)
+          subst (λ k. HasPayloadLen method text k answer.payload_len) (sym c.in_ok-kept.ensures)
           (subst (λ h. HasPayloadLen method h kept answer.payload_len) (sym heads) is.payload_len);
       len = refl;
       first_len = refl;
