@@ -68,6 +68,7 @@ impl PartialDisk {
     }
 }
 
+/// Fills `into` from an offset on. `None` where the bytes end before that is full.
 fn read_from(from: &[u8], at: u64, into: &mut [u8]) -> Option<()> {
     let (_, rest) = from.split_at_checked(at as usize)?;
     let (part, _) = rest.split_at_checked(into.len())?;
@@ -75,6 +76,7 @@ fn read_from(from: &[u8], at: u64, into: &mut [u8]) -> Option<()> {
     Some(())
 }
 
+/// Writes bytes at an offset, over what is there and past the end. `None` where there is a gap before it, or no memory.
 fn write_to(to: &mut Vec<u8>, at: u64, bytes: &[u8]) -> Option<()> {
     let place = at as usize;
     if place > to.len() {

@@ -36,6 +36,7 @@ fn disk_of(alloc: Global, bytes: &[u8], fails: u64) -> Result<PartialDisk, Fail>
 /// was there at the last sync that succeeded.
 type Row = (&'static [u8], u64, &'static [u8], &'static [u8]);
 
+/// Appends of which one call fails, or none.
 static ROWS: [Row; 26] = [
     // A clean file: `-`, the rest and the commit byte, each with its sync.
     (b"Wab", 0, b"Wab-", b"Wab"),
@@ -71,6 +72,7 @@ static ROWS: [Row; 26] = [
     (b"WabWxyz", 99, b"WabWcd", b"WabWcd"),
 ];
 
+/// Whichever call of an append fails, the file is mended by the next.
 #[test]
 fn each_failing_call_leaves_a_file_that_is_mended(rt: HostRuntime) -> Result<(), Fail> {
     let alloc = rt.alloc();
@@ -98,6 +100,7 @@ fn each_failing_call_leaves_a_file_that_is_mended(rt: HostRuntime) -> Result<(),
     Ok(())
 }
 
+/// What stands behind the text is taken away.
 #[test]
 fn a_file_is_mended(rt: HostRuntime) -> Result<(), Fail> {
     let alloc = rt.alloc();
@@ -115,6 +118,7 @@ fn a_file_is_mended(rt: HostRuntime) -> Result<(), Fail> {
     Ok(())
 }
 
+/// A long text takes as many calls as a short one.
 #[test]
 fn a_long_text_is_added_in_six_calls(rt: HostRuntime) -> Result<(), Fail> {
     let alloc = rt.alloc();

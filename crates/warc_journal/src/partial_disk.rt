@@ -17,6 +17,7 @@ struct PartialFile {
 }
 
 impl PartialFile {
+    /// A file that holds these bytes, durably.
     fn of(alloc: Global, bytes: &[u8]) -> Result<PartialFile, AllocError> {
         Ok(PartialFile {
             bytes: Vec::from_slice(alloc, bytes)?,
@@ -48,6 +49,7 @@ impl PartialFile {
     }
 }
 
+/// The bytes before a place and from it on; none behind the end.
 fn split(bytes: &[u8], at: usize) -> (&[u8], &[u8]) {
     bytes.split_at(at.min(bytes.len()))
 }
@@ -129,6 +131,7 @@ impl PartialDisk {
     }
 }
 
+/// How many files there are. `None` where their number has no 32 bits.
 fn count_of(files: &[PartialFile]) -> Option<u32> {
     u32::try_from(files.len()).ok()
 }
@@ -142,11 +145,13 @@ fn make(alloc: Global, files: &mut Vec<PartialFile>, fails: bool) -> Option<u32>
     Some(number)
 }
 
+/// The length of a file. `None` where it isn't there.
 fn len_of(files: &[PartialFile], file: u32) -> Option<u64> {
     let file = files.get(file as usize)?;
     Some(file.bytes.len() as u64)
 }
 
+/// Fills `into` from an offset of a file on. `None` where the file doesn't reach so far.
 fn read_from(files: &[PartialFile], file: u32, at: u64, into: &mut [u8]) -> Option<()> {
     let file = files.get(file as usize)?;
     let (_, rest) = file.bytes.as_slice().split_at_checked(at as usize)?;
@@ -155,6 +160,7 @@ fn read_from(files: &[PartialFile], file: u32, at: u64, into: &mut [u8]) -> Opti
     Some(())
 }
 
+/// Writes bytes at an offset, over what is there and past the end. `None` where there is a gap before it, or no memory.
 fn write_to(to: &mut Vec<u8>, at: u64, bytes: &[u8]) -> Option<()> {
     let place = at as usize;
     if place > to.len() {
@@ -168,11 +174,13 @@ fn write_to(to: &mut Vec<u8>, at: u64, bytes: &[u8]) -> Option<()> {
     Some(())
 }
 
+/// Writes into a file. `None` where that can't be done.
 fn write_file(files: &mut Vec<PartialFile>, file: u32, at: u64, bytes: &[u8]) -> Option<()> {
     let file = files.get_mut(file as usize)?;
     write_to(&mut file.bytes, at, bytes)
 }
 
+/// Cuts a file to a length, or in part where it is to fail. `None` where that can't be done.
 fn cut_file(files: &mut Vec<PartialFile>, file: u32, len: u64, fails: bool) -> Option<()> {
     let file = files.get_mut(file as usize)?;
     let past = file.bytes.len().saturating_sub(len as usize);
@@ -182,6 +190,7 @@ fn cut_file(files: &mut Vec<PartialFile>, file: u32, len: u64, fails: bool) -> O
     Some(())
 }
 
+/// Makes a file durable. `None` where it isn't there.
 fn sync_file(files: &mut Vec<PartialFile>, file: u32) -> Option<()> {
     let file = files.get_mut(file as usize)?;
     file.synced.clear();

@@ -27,19 +27,25 @@ fn does(journal: &mut Journal<PartialDisk>, step: Step) -> bool {
 
 type Texts = &'static [&'static [u8]];
 
-/// The texts of two volumes, and with a text, a volume, or both more.
+/// The texts of two volumes.
 static FIRST: [&[u8]; 2] = [b"Wi0Wab", b"Wi1Wcd"];
 
+/// The texts after an append.
 static APPENDED: [&[u8]; 2] = [b"Wi0Wab", b"Wi1WcdWef"];
 
+/// The texts after a roll.
 static ROLLED: [&[u8]; 3] = [b"Wi0Wab", b"Wi1Wcd", b"Wi2"];
 
+/// The texts after two appends.
 static APPENDED_TWICE: [&[u8]; 2] = [b"Wi0Wab", b"Wi1WcdWefWef"];
 
+/// The texts after two rolls.
 static ROLLED_TWICE: [&[u8]; 4] = [b"Wi0Wab", b"Wi1Wcd", b"Wi2", b"Wi2"];
 
+/// The texts after an append and a roll.
 static APPENDED_AND_ROLLED: [&[u8]; 3] = [b"Wi0Wab", b"Wi1WcdWef", b"Wi2"];
 
+/// The texts after a roll and an append.
 static ROLLED_AND_APPENDED: [&[u8]; 3] = [b"Wi0Wab", b"Wi1Wcd", b"Wi2Wef"];
 
 /// The texts after two steps, of which each was done or not.
@@ -190,6 +196,7 @@ static PAIRS: [(Step, Step); 7] = [
     (Step::Repair, Step::Append),
 ];
 
+/// Whichever call fails, the texts before or after stand on the disk, and the next call goes on from them.
 #[test]
 fn each_failing_call_keeps_the_texts(rt: HostRuntime) -> Result<(), Fail> {
     let alloc = rt.alloc();
