@@ -3,7 +3,7 @@ use Rattle.std.proofs.Common.{◌≡◌, ℕ, suc, ◌+◌, Bool, true, false, L
 use Rattle.std.specs.Prelude.{Contains, map, option_map, slice_get}
 use Rattle.std.specs.declared.cmp.Ordering.{Ordering}
 use Rattle.std.specs.declared.cmp.Ordering.TheVariants.{Less}
-use Rattle.std.specs.BTreeMap.{BTreeMap, IsFromIterResult, is_at}
+use Rattle.std.specs.BTreeMap.{BTreeMap, IsFromIterResult, get, is_at}
 use Rattle.std.specs.Cmp.{IsEquivalence, IsTotalOrder}
 use Rattle.std.specs.Cmp.Lexicographic.{slice_cmp}
 use Rattle.std.specs.Iterator.{DrainsIf}
@@ -240,3 +240,11 @@ all_made groups numbers settled left all keys made index are same whole none mov
     let listed : entries_of keys ≡ all = both.1 ∙ list in
     let of_all : AreNumbers all made = numbers_made numbers settled made all index (same ∙ ap by_numbers list) moved is₂ in
     (record { of_keys = both.0; of_numbers = subst (λ es. AreNumbers es made) (sym listed) of_all }, listed)
+
+-- what stands under the number of an entry that is left is that entry
+pub held_next : (all : List Facts) (numbers : BTreeMap ℕ Shared) (done left rest : List Facts) (e : Facts) (s : Shared) → AreNumbers all numbers → done ++ left ≡ all → left ≡ e ∷ rest → get nat_cmp numbers e.number ≡ Some s → entry_of s ≡ e
+held_next all numbers done left rest e s are whole steps got =
+    let here : Among left e = subst (λ l. Among l e) (sym steps) (inl refl) in
+    let there : Contains all e = contains_from_among all e (subst (λ l. Among l e) whole (Among-append_right done left e here)) in
+    let same : Some (entry_of s) ≡ Some e = sym (ap (option_map entry_of) got) ∙ are.found e there in
+    cc same

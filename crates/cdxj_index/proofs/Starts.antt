@@ -1,10 +1,10 @@
 -- The entries whose key begins with some bytes stand together, at the first key that isn't below these bytes.
 use Rattle.std.proofs.Common.{◌≡◌, ℕ, suc, ◌<◌, Option, Some, Bool, true, false, List, [], ◌∷◌, ◌++◌, ◌⊎◌, inl, inr, cond, length, take, drop, refl, sym, ap, ◌∙◌, subst, arith}
-use Rattle.std.specs.Prelude.{filter, nat_eq}
+use Rattle.std.specs.Prelude.{filter, nat_eq, if◌then◌else◌}
 use Rattle.std.specs.declared.cmp.Ordering.{Ordering}
 use Rattle.std.specs.declared.cmp.Ordering.TheVariants.{Less, Equal, Greater}
 use Rattle.std.specs.declared.ops.Bound.TheVariants.{Included, Unbounded}
-use Rattle.std.specs.BTreeMap.Range.{range_contains}
+use Rattle.std.specs.BTreeMap.Range.{entries_between, range_contains}
 use Rattle.std.specs.Cmp.Lexicographic.{slice_cmp}
 use Rattle.std.specs.List.{starts_with}
 use Rattle.std.specs.List.Sorted.{IsStrictlySortedBy}
@@ -15,7 +15,7 @@ use Rattle.std.proofs.lemmas.Bool.Decides.{Decides-eqb}
 use Rattle.std.proofs.lemmas.Cmp.{nat_cmp_total, nat_list_cmp_total, ranked, tied_itself}
 use Rattle.std.proofs.lemmas.Slice.Eq.{bytes_eq-Decides, starts_is}
 use Rattle.cdxj_index.specs.Facts.{Facts}
-use Rattle.cdxj_index.specs.Maps.{AreKeys, AreOfKey, Captures, Keys, entries_of, keys_left, shown, shown_while}
+use Rattle.cdxj_index.specs.Maps.{AreKeys, AreOfKey, Captures, Keys, entries_of, keys_left, shown, shown_all, shown_while}
 use Rattle.cdxj_index.specs.Order.{order}
 use Rattle.cdxj_index.specs.Queries.{starting_with}
 use Rattle.cdxj_index.proofs.Orders.{order_total}
@@ -193,3 +193,16 @@ fewer_left keys old new first is steps =
     let all : keys_left keys ≡ length old = ap keys_left (sym is) in
     let one : length old ≡ suc (length new) = ap length steps in
     omega (arith, all, one)
+
+-- ---- all keys
+
+-- all keys lie between no bounds
+pub all_between : (keys : List (List ℕ × Captures)) → entries_between (slice_cmp nat_cmp) Unbounded Unbounded keys ≡ keys
+all_between [] = refl
+all_between (e ∷ keys) = ap (λ l. e ∷ l) (all_between keys)
+
+-- all keys begin with no bytes
+pub all_begin : (keys : List (List ℕ × Captures)) → shown_while [] keys ≡ shown_all keys
+all_begin [] = refl
+all_begin (e ∷ keys) =
+    ap (λ b. if b then shown e.1 ++ shown_while [] keys else []) (begins_back e.0 [] e.0 refl) ∙ ap (λ l. shown e.1 ++ l) (all_begin keys)

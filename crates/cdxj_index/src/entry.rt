@@ -164,8 +164,9 @@ impl Entry {
 }
 
 /// The number of an entry, as the result of a call, of which the checker knows the range.
-fn number_of(entry: &Entry) -> u32
-    ensures { result ≡ entry.now.number }
+pub(crate) fn number_of(entry: &Entry) -> u32
+    ensures number { result ≡ entry.now.number }
+    ensures fits { result < 2 ^ 32 }
 {
     entry.number
 }

@@ -75,6 +75,13 @@ impl EntryMap {
         Starting::of(&self.keys, start)
     }
 
+    /// All entries, in order. Counts no look-up.
+    pub fn all(&self) -> Starting<'_>
+        ensures { result ≡ entries_of self.now.keys }
+    {
+        Starting::all(&self.keys)
+    }
+
     /// The captures of a key.
     pub fn of_key<L: Ledger>(&self, key: &Key, steps: &mut Steps<L>) -> Option<&Captures>
         ensures found { option_copied result ≡ get (slice_cmp nat_cmp) self.now.keys key.now }

@@ -3,10 +3,11 @@ ghost use Rattle.std.specs.Prelude.{◌≡◌, ◌↔◌, ◌+◌, ◌≤◌, []
 ghost use Rattle.cdxj_index.specs.Order.{with_entry, without};
 ghost use Rattle.cdxj_index.specs.Queries.{HasNone, IsIndex, IsNearest, of_key, starting_with, with_number};
 
+use crate::entry::number_of;
 use crate::entry_map::{EntryMap, append, first_after, first_from, last_until};
 use crate::settle::settle;
 use crate::shared::Shared;
-use crate::{Entry, Range, Starting, Steps};
+use crate::{Entry, Range, SharedEntry, Starting, Steps};
 use capture::Memory;
 use std::alloc::Global;
 use std::collections::BTreeMap;
@@ -72,14 +73,44 @@ impl Index {
         })
     }
 
+    /// The same entries in maps of their own, in the time of `of_sorted`. The entries themselves are shared.
+    pub fn again(&self, alloc: Global) -> Result<Index, Memory>
+        ensures { IfOk result (λ index. index ≡ self.now) }
+    {
+        let mut numbers = Vec::with_capacity(alloc, self.numbers.len())?;
+        let mut groups = Vec::new(alloc);
+        for entry in self.map.all() {
+            let Some(shared) = self.numbers.get(&entry.number) else {
+                unreachable!()
+            };
+            numbers.push((entry.number, shared.share()?))?;
+            append(alloc, &mut groups, shared.share()?)?;
+        }
+        settle(alloc, &mut numbers);
+        Ok(Index {
+            map: EntryMap::of_groups(alloc, groups)?,
+            numbers: BTreeMap::from_iter(alloc, numbers)?,
+        })
+    }
+
     /// Puts an entry in its place. After `Memory` the index is as it was.
     pub fn add(&mut self, alloc: Global, entry: Entry) -> Result<(), Memory>
         requires { with_number entry.number self.old ≡ None }
         ensures ok { OnOk result (self.new ≡ with_entry entry self.old) }
         ensures err { OnErr result (self.new ≡ self.old) }
     {
-        let number = entry.number;
-        let entry = Shared::alone(alloc, entry)?;
+        let entry = SharedEntry::new(alloc, entry)?;
+        self.add_shared(alloc, entry)
+    }
+
+    /// Puts an entry that others may hold too in its place. After `Memory` the index is as it was.
+    pub fn add_shared(&mut self, alloc: Global, entry: SharedEntry) -> Result<(), Memory>
+        requires { with_number entry.number self.old ≡ None }
+        ensures ok { OnOk result (self.new ≡ with_entry entry self.old) }
+        ensures err { OnErr result (self.new ≡ self.old) }
+    {
+        let entry = entry.into_shared();
+        let number = number_of(entry.facts());
         let shared = entry.share()?;
         self.numbers.insert(number, shared)?;
         if self.map.insert(alloc, entry).is_err() {
@@ -107,6 +138,19 @@ impl Index {
     {
         let entry = self.numbers.get(&number)?;
         Some(entry.facts())
+    }
+
+    /// The entry of a number, to be held elsewhere too. Takes no memory.
+    pub fn shared(&self, number: u32) -> Result<Option<SharedEntry>, Memory>
+        ensures { IfOk result (λ shared. shared ≡ with_number number self.now) }
+    {
+        match self.numbers.get(&number) {
+            Some(shared) => {
+                let shared = SharedEntry::of(shared)?;
+                Ok(Some(shared))
+            }
+            None => Ok(None),
+        }
     }
 
     /// How many entries there are.

@@ -8,10 +8,12 @@ mod laws;
 mod ranks;
 mod settle;
 mod shared;
+mod shared_entry;
 mod steps;
 
 pub use entry::Entry;
 pub use entry_map::{Range, Starting};
 pub use index::Index;
 pub use laws::books_have_one_index;
+pub use shared_entry::SharedEntry;
 pub use steps::Steps;

@@ -93,6 +93,17 @@ impl<'a> Model for Starting<'a> {
 }
 
 impl<'a> Starting<'a> {
+    /// The entries of all these keys.
+    pub(crate) fn all(keys: &'a BTreeMap<Key, Captures>) -> Starting<'a>
+        ensures { result ≡ entries_of keys.now }
+    {
+        Starting {
+            start: &[],
+            keys: Some(keys.range(..)),
+            captures: Range::none(),
+        }
+    }
+
     /// The entries of these keys that begin with the bytes of `start`.
     pub(crate) fn of(keys: &'a BTreeMap<Key, Captures>, start: &Key) -> Starting<'a>
         requires { AreKeys keys.now }
