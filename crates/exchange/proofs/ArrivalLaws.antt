@@ -23,7 +23,7 @@ use Rattle.http_head.specs.FrontLaws.{HeadsStay}
 use Rattle.http_head.specs.declared.head.Received.{Received}
 use Rattle.http_wire.specs.Messages.{IsResponse}
 use Rattle.exchange.specs.Fetches.{ComesTo, Receives, Sends}
-use Rattle.exchange.specs.Steps.Responses.{Answers, Inflow, Yields, GoesOnWith}
+use Rattle.exchange.specs.steps.Responses.{Answers, Inflow, Yields, GoesOnWith}
 use Rattle.exchange.specs.declared.fetching.FetchFault.{FetchFault}
 use Rattle.exchange.specs.declared.fetching.FetchFault.TheVariants.{DialFault, OriginFault, OriginEnded, OriginMalformed, OriginTooLong, TooManyInterim, Memory}
 use Rattle.http_wire.proofs.FrontParts.{parts_of_head}

@@ -12,7 +12,7 @@ use Rattle.http_wire.specs.declared.progress.Progress.{Progress}
 use Rattle.http_wire.specs.declared.progress.Progress.TheVariants.{More, Head}
 use Rattle.http_wire.specs.declared.progress.Progress.TheVariants.{Whole as WholeNow}
 use Rattle.exchange.specs.Receiving.{Input, MayGoOn}
-use Rattle.exchange.specs.Steps.Feeding.{BringsHead, Feeds}
+use Rattle.exchange.specs.steps.Feeding.{BringsHead, Feeds}
 use Rattle.exchange.proofs.AccountLaws.{split_window, front_of_window}
 use Rattle.http_wire.proofs.FrontParts.{undecided_is_short}
 

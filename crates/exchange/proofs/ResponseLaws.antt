@@ -12,7 +12,7 @@ use Rattle.http_wire.specs.Messages.{IsResponse}
 use Rattle.http_wire.specs.Reading.{Standing, Whole, Cut, EndsInside, HasFault, IsUndecided, Stands}
 use Rattle.http_wire.specs.Decisions.{MessagesStay, RefusalsStay}
 use Rattle.exchange.specs.Fetches.{CountsFetch, LinkFaults, Receives}
-use Rattle.exchange.specs.Steps.Responses.{Answers, IsFaultOf, Yields}
+use Rattle.exchange.specs.steps.Responses.{Answers, IsFaultOf, Yields}
 use Rattle.exchange.specs.Receiving.{StaysAccounted, BeginsAccounted}
 use Rattle.exchange.specs.declared.fetching.FetchFault.{FetchFault}
 use Rattle.exchange.specs.declared.fetching.FetchFault.TheVariants.{DialFault, OriginFault, OriginEnded, OriginMalformed, OriginTooLong, TooManyInterim}

@@ -3,7 +3,7 @@ ghost use Rattle.std.specs.Prelude.{◌≡◌, ◌≤◌, [], length, IsTrue, On
 ghost use Rattle.capture.specs.declared.limits.TheConstants.{BODY_LIMIT};
 ghost use Rattle.http_wire.specs.Messages.{IsOneResponse};
 ghost use Rattle.exchange.specs.Fetches.{CountsFetch, LinkFaults, LogsFetch, Receives, Sends};
-ghost use Rattle.exchange.specs.Steps.Responses.{Answers, IsFaultOf};
+ghost use Rattle.exchange.specs.steps.Responses.{Answers, IsFaultOf};
 ghost use Rattle.exchange.specs.Receiving.{Gives};
 ghost use Rattle.http_wire.specs.Reading.{ComesBeforeTheEnd};
 ghost use Rattle.http_wire.specs.ResponseReading.{new_response};

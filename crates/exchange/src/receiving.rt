@@ -2,7 +2,7 @@
 ghost use Rattle.std.specs.Prelude.{◌≡◌, ◌++◌, ℕ, List, true, IsTrue, IsSome, IfOk};
 ghost use Rattle.capture.specs.First.{Requests, Responses, NothingBegun, IsFirst};
 ghost use Rattle.exchange.specs.Receiving.{Accounts, Brings, CountsCame, Gives, HeadsOnce, MayGoOn, MeetsEnd, OnEnded};
-ghost use Rattle.exchange.specs.Steps.Feeding.{BringsHead, Feeds};
+ghost use Rattle.exchange.specs.steps.Feeding.{BringsHead, Feeds};
 ghost use Rattle.http_wire.specs.Reading.{Open, Whole, Stands, IsEnded};
 
 use crate::window::Window;
