@@ -1,6 +1,7 @@
 mod BodyLaws
 mod ChunkFronts
 pub mod DecisionLaws
+mod Exits
 mod FramingLaws
 pub mod FrontParts
 pub mod HeadEnds

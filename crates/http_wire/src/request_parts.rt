@@ -124,24 +124,13 @@ impl RequestParts {
         ensures goes_on { IfErr result ComesBeforeTheEnd }
         ensures whole { IfOk result (λ _. IsWholeNow Requests (request_bytes self.new) (held_standing self.new.held)) }
     {
-        // Matches in place of `?`, since the clauses say of the fault itself what it tells of the stream.
-        let head = match read_request_head(alloc, self.front.text()) {
-            Ok(head) => head,
-            Err(fault) => return Err(fault),
-        };
+        let head = read_request_head(alloc, self.front.text())?;
         let told = request_framing(&head);
         self.head = Some(head);
-        let framing = match told {
-            Ok(framing) => framing,
-            Err(fault) => return Err(fault),
-        };
-        match begin_body(alloc, framing) {
-            Ok(held) => {
-                self.held = held;
-                Ok(())
-            }
-            Err(Memory) => Err(WireFault::Memory),
-        }
+        let framing = told?;
+        let held = begin_body(alloc, framing)?;
+        self.held = held;
+        Ok(())
     }
 
     /// Whether an end here is between messages. A body up to the stream's end is whole then.

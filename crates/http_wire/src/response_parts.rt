@@ -131,24 +131,13 @@ impl ResponseParts {
         ensures goes_on { IfErr result ComesBeforeTheEnd }
         ensures whole { IfOk result (λ _. IsWholeNow (Responses answers_head) (response_bytes self.new) (held_standing self.new.held)) }
     {
-        // Matches in place of `?`, since the clauses say of the fault itself what it tells of the stream.
-        let head = match read_head(alloc, self.front.text()) {
-            Ok(head) => head,
-            Err(fault) => return Err(fault),
-        };
+        let head = read_head(alloc, self.front.text())?;
         let told = response_framing(answers_head, &head);
         self.head = Some(head);
-        let framing = match told {
-            Ok(framing) => framing,
-            Err(fault) => return Err(fault),
-        };
-        match begin_body(alloc, framing) {
-            Ok(held) => {
-                self.held = held;
-                Ok(())
-            }
-            Err(Memory) => Err(WireFault::Memory),
-        }
+        let framing = told?;
+        let held = begin_body(alloc, framing)?;
+        self.held = held;
+        Ok(())
     }
 
     /// Ends the stream: a body of which more was to come is whole then, or cut. False: the head isn't whole.

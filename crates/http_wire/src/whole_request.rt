@@ -37,23 +37,17 @@ fn read_parts(alloc: Global, front: &[u8], wire: &[u8]) -> Result<RequestMessage
         → IsRequestHeadText front.now h → request_framing h ≡ Ok framing → ¬ (IsBody framing wire.now) }
     ensures faults { IfErr result IsHeadFault }
 {
-    // Matches in place of `?`, since the clauses say of the fault itself what it tells of the text.
-    let head = match read_request_head(alloc, front) {
-        Ok(head) => head,
-        Err(fault) => return Err(fault),
-    };
+    let head = read_request_head(alloc, front)?;
     let framing = match request_framing_of(&head) {
         Ok(framing) => framing,
         Err(_) => return Err(WireFault::Malformed),
     };
-    match whole_payload(alloc, framing, wire) {
-        Ok(payload) => Ok(RequestMessage {
-            head,
-            framing,
-            payload,
-        }),
-        Err(fault) => Err(fault),
-    }
+    let payload = whole_payload(alloc, framing, wire)?;
+    Ok(RequestMessage {
+        head,
+        framing,
+        payload,
+    })
 }
 
 /// The payload of the wire. Malformed: it is no body of the framing.
