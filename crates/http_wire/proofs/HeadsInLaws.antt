@@ -1,5 +1,5 @@
 -- The head of a text that is one whole request.
-use Rattle.std.proofs.Common.{◌≡◌, ℕ, List, ◌++◌, Ok, Err, sym, ap, subst, ◌∙◌}
+use Rattle.std.proofs.Common.{◌≡◌, ℕ, List, ◌++◌, Ok, Err, sym, subst, ◌∙◌}
 use Rattle.std.specs.Prelude.{Result}
 use Rattle.httparse.specs.Grammar as grammar
 use Rattle.capture.specs.Body.{IsBody}

@@ -2,7 +2,7 @@
 use Rattle.std.proofs.Common.{rules, ◌≡◌, ℕ, [], length, sym, ap, subst}
 use Rattle.disk_model.specs.Crash.{HasFile, Leaves}
 use Rattle.disk_model.specs.Image.{file_count}
-use Rattle.disk_model.specs.Device.{Device, IsFailedCreate, reading_of, images_of, called, faulted, changed}
+use Rattle.disk_model.specs.Device.{Device, IsFailedCreate, reading_of, images_of, called, changed}
 use Rattle.disk_model.specs.declared.change.Change.TheVariants.{Made}
 use Rattle.disk_model.proofs.Steps.{changed_reading, made_is_there, made_follows, made_time, failed_reading, failed_follows, failed_time}
 use Rattle.disk_model.proofs.memory_disk.MemoryDiskDisk.create.Goals as goal
