@@ -21,6 +21,8 @@ pub enum Call<'a> {
     Counts,
     /// So many further calls pass, and each behind them fails.
     Fuse(u64),
+    /// Each `create` that is to fail from then on leaves its file half made.
+    HalfMake,
     /// The disk stops by a choice, or by the case's own.
     Stop(Option<u32>),
 }
@@ -33,6 +35,7 @@ impl<'a> Call<'a> {
             "create" => Some(Call::Create(kind_in(text)?)),
             "counts" => Some(Call::Counts),
             "fuse" => Some(Call::Fuse(number_in(text)?)),
+            "half-make" => Some(Call::HalfMake),
             "stop" => stop_in(text),
             _ => call_of_file(name, text),
         }
@@ -68,6 +71,7 @@ fn call_at<'a>(name: &str, kind: Kind, text: &'a [u8]) -> Option<Call<'a>> {
     }
 }
 
+/// A stop by the choice in the text, or by the case's own.
 fn stop_in<'a>(text: &[u8]) -> Option<Call<'a>> {
     if text.is_empty() {
         return Some(Call::Stop(None));
@@ -75,10 +79,13 @@ fn stop_in<'a>(text: &[u8]) -> Option<Call<'a>> {
     Some(Call::Stop(Some(small_in(text)?)))
 }
 
+/// The name of volumes.
 const WARC: &[u8] = b"warc";
 
+/// The name of checkpoints.
 const CDXJ: &[u8] = b"cdxj";
 
+/// The kind of that name.
 fn kind_in(text: &[u8]) -> Option<Kind> {
     if text == WARC {
         return Some(Kind::Warc);

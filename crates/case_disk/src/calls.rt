@@ -1,13 +1,13 @@
 //! Calls of a disk in memory, one by one, and what its files hold behind them.
 use crate::call::Call;
 use crate::deed::Deed;
-use crate::disk::{DiskSetting, behind_volumes};
+use crate::disk::{DiskSetting, behind_volumes, set};
+use crate::looked;
 use crate::outcome::Outcome;
 use crate::reaching::Absent;
 use crate::told::Told;
-use crate::witnessed::WitnessedDisk;
 use capture::Memory;
-use disk_model::Kind;
+use disk_model::{Kind, MemoryDisk};
 use std::alloc::Global;
 
 /// What each call tells, and the files that a stop by this choice leaves behind them. A step `stop` without a number stops by it
@@ -29,7 +29,7 @@ pub fn outcome_of_calls(
             None => return Ok(None),
         };
     }
-    match disk.into_disk().stop(choice) {
+    match disk.stop(choice) {
         Ok(mut left) => {
             outcome.put_texts(alloc, &mut left)?;
             Ok(Some(outcome))
@@ -39,114 +39,90 @@ pub fn outcome_of_calls(
 }
 
 /// The disk on which the volumes stand, durably. Its calls are numbered from 0 behind that.
-fn standing(alloc: Global, setting: DiskSetting) -> Result<WitnessedDisk, Memory> {
-    let mut disk = WitnessedDisk::new(alloc, behind_volumes(alloc, setting)?);
+fn standing(alloc: Global, setting: DiskSetting) -> Result<MemoryDisk, Memory> {
+    let mut disk = MemoryDisk::new(alloc, behind_volumes(alloc, setting)?);
     for text in setting.volumes {
-        let put = put(disk, Kind::Warc, text.as_slice())?;
-        disk = put.0;
+        put(&mut disk, Kind::Warc, text.as_slice());
     }
-    match setting.fuse {
-        Some(calls) => Ok(disk.fused(calls)),
-        None => Ok(disk),
-    }
+    Ok(set(disk, setting))
 }
 
 /// Does a step, and tells what it answers. `None` where it is none.
 fn done(
     alloc: Global,
     outcome: &mut Outcome,
-    disk: WitnessedDisk,
+    disk: MemoryDisk,
     step: &Deed,
     choice: u32,
-) -> Result<Option<WitnessedDisk>, Memory> {
+) -> Result<Option<MemoryDisk>, Memory> {
     match Call::of(step.name, step.text.as_slice()) {
+        Some(Call::Fuse(calls)) => Ok(Some(disk.fused(calls))),
+        Some(Call::HalfMake) => Ok(Some(disk.with_half_made_files())),
+        Some(Call::Stop(named)) => stopped(disk, named.unwrap_or(choice)),
         Some(call) => {
-            let (disk, told) = made(alloc, disk, call, choice)?;
-            told.put(alloc, outcome)?;
+            let mut disk = disk;
+            told(alloc, &mut disk, call)?.put(alloc, outcome)?;
             Ok(Some(disk))
         }
         None => Ok(None),
     }
 }
 
-/// Makes a call.
-fn made(
-    alloc: Global,
-    disk: WitnessedDisk,
-    call: Call,
-    choice: u32,
-) -> Result<(WitnessedDisk, Told), Memory> {
+/// Makes a call, and says what it tells.
+fn told(alloc: Global, disk: &mut MemoryDisk, call: Call) -> Result<Told, Memory> {
     match call {
-        Call::Files(kind) => Ok(disk.files(kind)),
-        Call::Create(kind) => disk.create(kind),
-        Call::Put(kind, text) => put(disk, kind, text),
-        Call::Len(kind, file) => Ok(disk.len(kind, file)),
-        Call::Sync(kind, file) => disk.sync(kind, file),
-        Call::Cut(kind, file, len) => disk.cut(kind, file, len),
-        Call::Read(kind, file, at, len) => disk.read(alloc, kind, file, at, len),
-        Call::Write(kind, file, at, bytes) => disk.write(kind, file, at, bytes),
-        Call::WriteEach(kind, file, at, bytes) => write_each(disk, kind, file, at, bytes),
-        Call::Counts => counted(alloc, disk),
-        Call::Fuse(calls) => Ok((disk.fused(calls), Told::Nothing)),
-        Call::Stop(named) => stopped(disk, named.unwrap_or(choice)),
+        Call::Files(kind) => Ok(looked::files(disk, kind)),
+        Call::Create(kind) => Ok(looked::create(disk, kind)),
+        Call::Put(kind, text) => Ok(put(disk, kind, text)),
+        Call::Len(kind, file) => Ok(looked::len(disk, kind, file)),
+        Call::Sync(kind, file) => Ok(looked::sync(disk, kind, file)),
+        Call::Cut(kind, file, len) => Ok(looked::cut(disk, kind, file, len)),
+        Call::Read(kind, file, at, len) => looked::read(alloc, disk, kind, file, at, len),
+        Call::Write(kind, file, at, bytes) => Ok(looked::write(disk, kind, file, at, bytes)),
+        Call::WriteEach(kind, file, at, bytes) => Ok(write_each(disk, kind, file, at, bytes)),
+        Call::Counts => looked::counts(alloc, disk),
+        Call::Fuse(_) => Ok(Told::Nothing),
+        Call::HalfMake => Ok(Told::Nothing),
+        Call::Stop(_) => Ok(Told::Nothing),
     }
 }
 
 /// Makes a file that holds the text, durably.
-fn put(disk: WitnessedDisk, kind: Kind, text: &[u8]) -> Result<(WitnessedDisk, Told), Memory> {
-    match disk.create(kind)? {
-        (disk, Told::Number(file)) => filled(disk, kind, file, text),
-        (disk, told) => Ok((disk, told)),
+fn put(disk: &mut MemoryDisk, kind: Kind, text: &[u8]) -> Told {
+    match looked::create(disk, kind) {
+        Told::Number(file) => filled(disk, kind, file, text),
+        told => told,
     }
 }
 
 /// Writes and syncs an empty file.
-fn filled(
-    disk: WitnessedDisk,
-    kind: Kind,
-    file: u64,
-    text: &[u8],
-) -> Result<(WitnessedDisk, Told), Memory> {
+fn filled(disk: &mut MemoryDisk, kind: Kind, file: u64, text: &[u8]) -> Told {
     let Ok(file) = u32::try_from(file) else {
-        return Ok((disk, Told::Absent(Absent::File)));
+        return Told::Absent(Absent::File);
     };
-    match disk.write(kind, file, 0, text)? {
-        (disk, Told::Done) => disk.sync(kind, file),
-        (disk, told) => Ok((disk, told)),
+    match looked::write(disk, kind, file, 0, text) {
+        Told::Done => looked::sync(disk, kind, file),
+        told => told,
     }
 }
 
 /// Writes each byte by a call of its own, up to the first that isn't done.
-fn write_each(
-    disk: WitnessedDisk,
-    kind: Kind,
-    file: u32,
-    at: u64,
-    bytes: &[u8],
-) -> Result<(WitnessedDisk, Told), Memory> {
-    let mut disk = disk;
+fn write_each(disk: &mut MemoryDisk, kind: Kind, file: u32, at: u64, bytes: &[u8]) -> Told {
     let mut place = at;
     for byte in bytes {
-        let (next, told) = disk.write(kind, file, place, &[*byte])?;
-        match told {
-            Told::Done => disk = next,
-            _ => return Ok((next, told)),
+        match looked::write(disk, kind, file, place, &[*byte]) {
+            Told::Done => (),
+            told => return told,
         }
         place = place.saturating_add(1);
     }
-    Ok((disk, Told::Done))
+    Told::Done
 }
 
-fn counted(alloc: Global, disk: WitnessedDisk) -> Result<(WitnessedDisk, Told), Memory> {
-    match disk.counts(alloc) {
-        Ok(text) => Ok((disk, Told::Bytes(text.into_bytes()))),
-        Err(Memory) => Err(Memory),
-    }
-}
-
-fn stopped(disk: WitnessedDisk, choice: u32) -> Result<(WitnessedDisk, Told), Memory> {
+/// What a stop by this choice leaves. `None` where the disk could not be stopped.
+fn stopped(disk: MemoryDisk, choice: u32) -> Result<Option<MemoryDisk>, Memory> {
     match disk.stop(choice) {
-        Ok(left) => Ok((left, Told::Nothing)),
-        Err(Memory) => Err(Memory),
+        Ok(left) => Ok(Some(left)),
+        Err(_) => Ok(None),
     }
 }

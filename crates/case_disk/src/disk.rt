@@ -12,6 +12,8 @@ pub struct DiskSetting<'a> {
     pub fails: &'a [u64],
     /// How many calls pass before each of them fails.
     pub fuse: Option<u64>,
+    /// Whether a `create` that is to fail leaves its file half made.
+    pub half_makes: bool,
 }
 
 /// How many calls of the disk it takes to make a file that holds a text.
@@ -28,10 +30,19 @@ pub fn disk_of(
             return Ok(Err(Failed));
         }
     }
-    match setting.fuse {
-        Some(calls) => Ok(Ok(disk.fused(calls))),
-        None => Ok(Ok(disk)),
+    Ok(Ok(set(disk, setting)))
+}
+
+/// The disk with the fuse of the setting, and its way of failing.
+pub fn set(disk: MemoryDisk, setting: DiskSetting) -> MemoryDisk {
+    let disk = match setting.fuse {
+        Some(calls) => disk.fused(calls),
+        None => disk,
+    };
+    if setting.half_makes {
+        return disk.with_half_made_files();
     }
+    disk
 }
 
 /// The numbers of the calls that are to fail, counted from the first by which the volumes are put.
@@ -44,6 +55,7 @@ pub fn behind_volumes(alloc: Global, setting: DiskSetting) -> Result<Vec<u64>, A
     Ok(fails)
 }
 
+/// Puts a volume, by `CALLS` calls.
 #[tactic(auto, using(crate::proofs::FileLaws::is_there, crate::proofs::FileLaws::still_there))]
 fn put_volume<D: Disk>(disk: &mut D, text: &[u8]) -> Result<(), Failed> {
     let file = disk.create(Kind::Warc)?;

@@ -6,11 +6,12 @@ mod call;
 mod calls;
 mod deed;
 mod disk;
+mod group;
+mod looked;
 mod opening;
 mod outcome;
 mod reaching;
 mod told;
-mod witnessed;
 
 pub use calls::outcome_of_calls;
 pub use deed::Deed;

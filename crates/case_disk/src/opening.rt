@@ -6,6 +6,7 @@ ghost use Rattle.warc_journal.specs.Journals.{IsInStep};
 ghost use Rattle.volume_scan.specs.Scannings.{IsInPlace, position_of};
 ghost use Rattle.volume_scan.specs.declared.position.Stage.TheVariants.{Done};
 
+use crate::group::put_group;
 use crate::outcome::Outcome;
 use capture::Memory;
 use disk_model::{Disk, MemoryDisk};
@@ -33,6 +34,8 @@ pub enum Work {
     Roll(Vec<u8>),
     /// What stands behind the texts is taken away.
     Repair,
+    /// A group is read by its place, which is told.
+    Group(Vec<u8>),
 }
 
 /// What the steps say, and what an opening finds behind them and a stop by this choice; or what an opening finds where there
@@ -49,7 +52,7 @@ pub fn outcome_of(
         tell(alloc, &mut outcome, disk, skip)?;
         return Ok(Some(outcome));
     }
-    let disk = worked_on(alloc, &mut outcome, disk, steps)?;
+    let disk = worked_on(alloc, &mut outcome, disk, steps, skip)?;
     match disk.stop(stop) {
         Ok(left) => {
             tell(alloc, &mut outcome, left, skip)?;
@@ -68,7 +71,7 @@ pub fn files_behind(
     stop: u32,
 ) -> Result<Option<Outcome>, Memory> {
     let mut outcome = Outcome::new(alloc);
-    let disk = worked_on(alloc, &mut outcome, disk, steps)?;
+    let disk = worked_on(alloc, &mut outcome, disk, steps, None)?;
     match disk.stop(stop) {
         Ok(mut left) => {
             outcome.put_files(alloc, &mut left)?;
@@ -129,12 +132,16 @@ fn worked_on<D: Disk + Drop>(
     outcome: &mut Outcome,
     disk: D,
     steps: &[Step],
+    skip: Option<u32>,
 ) -> Result<D, Memory> {
     let mut scanning = match Scanning::start(alloc, disk) {
         Ok(scanning) => scanning,
         Err((_, disk)) => return Ok(disk),
     };
     let mut found = Outcome::new(alloc);
+    if let Some(captures) = skip {
+        skip_first(alloc, &mut found, &mut scanning, captures)?;
+    }
     if !read_on(alloc, &mut found, &mut scanning)? {
         return Ok(scanning.into_disk());
     }
@@ -143,7 +150,7 @@ fn worked_on<D: Disk + Drop>(
     Ok(journal.into_disk())
 }
 
-/// Does the steps, and tells of each that was done whether the journal refused it.
+/// Does the steps, and tells of each that was done whether the journal refused it, or which group it read.
 fn take_steps<D: Disk>(
     alloc: Global,
     outcome: &mut Outcome,
@@ -156,11 +163,29 @@ fn take_steps<D: Disk>(
     let mut refused = false;
     'working: for step in steps {
         if refused || !step.again {
-            refused = !is_taken(journal, &step.work);
-            outcome.put_step(alloc, refused)?;
+            refused = take(alloc, outcome, journal, &step.work)?;
         }
     }
     Ok(())
+}
+
+/// Does a step, and tells of it. Whether the journal refused it.
+fn take<D: Disk>(
+    alloc: Global,
+    outcome: &mut Outcome,
+    journal: &mut Journal<D>,
+    work: &Work,
+) -> Result<bool, Memory>
+    requires { IsTrue D.tells → IsInStep D.Disk journal.old }
+    ensures { IsTrue D.tells → IsInStep D.Disk journal.new }
+{
+    if let Work::Group(text) = work {
+        put_group(alloc, outcome, journal, text.as_slice())?;
+        return Ok(false);
+    }
+    let refused = !is_taken(journal, work);
+    outcome.put_step(alloc, refused)?;
+    Ok(refused)
 }
 
 /// Tells each thing that is found, to the end or to the first fault. Whether the end was met.
@@ -192,7 +217,8 @@ fn read_on<D: Disk>(
     Ok(false)
 }
 
-fn put_found(alloc: Global, outcome: &mut Outcome, found: &Found) -> Result<(), Memory> {
+/// Tells what was found.
+pub fn put_found(alloc: Global, outcome: &mut Outcome, found: &Found) -> Result<(), Memory> {
     let text = match found {
         Found::Info {
             volume,
@@ -211,7 +237,8 @@ fn put_found(alloc: Global, outcome: &mut Outcome, found: &Found) -> Result<(), 
     outcome.put_found(alloc, text.as_str())
 }
 
-fn put_fault(alloc: Global, outcome: &mut Outcome, fault: ScanFault) -> Result<(), Memory> {
+/// Tells why nothing was found.
+pub fn put_fault(alloc: Global, outcome: &mut Outcome, fault: ScanFault) -> Result<(), Memory> {
     match fault {
         ScanFault::Damaged { file, place } => {
             let text = format!(in alloc; "damaged {file} {place}")?;
@@ -231,6 +258,7 @@ fn is_taken<D: Disk>(journal: &mut Journal<D>, work: &Work) -> bool
         Work::Append(text) => append(journal, text.as_slice()),
         Work::Roll(text) => roll(journal, text.as_slice()),
         Work::Repair => journal.repair().is_ok(),
+        Work::Group(_) => true,
     }
 }
 
@@ -247,6 +275,7 @@ fn is_addable(text: &[u8]) -> bool
     }
 }
 
+/// Adds a group, where the journal may take it.
 fn append<D: Disk>(journal: &mut Journal<D>, text: &[u8]) -> bool
     requires { IsTrue D.tells → IsInStep D.Disk journal.old }
     ensures { IsTrue D.tells → IsInStep D.Disk journal.new }
@@ -257,6 +286,7 @@ fn append<D: Disk>(journal: &mut Journal<D>, text: &[u8]) -> bool
     journal.append(text).is_ok()
 }
 
+/// Begins a volume, where the journal may take it.
 fn roll<D: Disk>(journal: &mut Journal<D>, text: &[u8]) -> bool
     requires { IsTrue D.tells → IsInStep D.Disk journal.old }
     ensures { IsTrue D.tells → IsInStep D.Disk journal.new }

@@ -69,6 +69,7 @@ impl Outcome {
         }
     }
 
+    /// A line for each file of a kind; `disk failed` where a call does.
     fn put_kind(
         &mut self,
         alloc: Global,
@@ -89,6 +90,7 @@ impl Outcome {
         Ok(())
     }
 
+    /// The line of a file that holds this text.
     fn put_file(
         &mut self,
         alloc: Global,
@@ -102,6 +104,7 @@ impl Outcome {
         }
     }
 
+    /// The length of a text and its digest, behind the name.
     fn put_digest(&mut self, alloc: Global, name: &[u8], text: &[u8]) -> Result<(), Memory> {
         let mut line = Vec::from_slice(alloc, name)?;
         put_number(&mut line, text.len() as u64)?;
@@ -110,6 +113,7 @@ impl Outcome {
         self.push(line)
     }
 
+    /// `disk failed`
     fn put_failed(&mut self, alloc: Global) -> Result<(), Memory> {
         self.put(alloc, b"disk ", b"failed")
     }
@@ -148,6 +152,7 @@ fn contents<D: Disk>(
     }
 }
 
+/// Whether the disk has the file.
 fn has_file<D: Disk>(disk: &mut D, kind: Kind, file: u32) -> bool
     ensures { IsTrue D.tells → IsTrue result → file < file_count (D.reading disk.new) kind }
 {

@@ -13,7 +13,19 @@ pub enum Absent {
     Range,
 }
 
-/// Asks the disk whether it has the file, and its bytes up to this place, as the calls of a disk want it.
+/// Whether the disk has the file, and its bytes up to this place, as the calls of a disk want it. It counts no call.
+pub fn look(disk: &MemoryDisk, kind: Kind, file: u32, end: u64) -> Result<(), Absent>
+    ensures there { OnOk result (file < file_count (reading_of disk.now) kind) }
+    ensures in_range { OnOk result (end ≤ length (file_of (reading_of disk.now) kind file)) }
+{
+    match disk.file_len(kind, file) {
+        Some(len) if end <= len => Ok(()),
+        Some(_) => Err(Absent::Range),
+        None => Err(Absent::File),
+    }
+}
+
+/// Asks the disk whether it has the file, and its bytes up to this place, by calls that it counts.
 pub fn reach(disk: &mut MemoryDisk, kind: Kind, file: u32, end: u64) -> Result<(), Absent>
     ensures there { OnOk result (file < file_count (reading_of disk.new) kind) }
     ensures in_range { OnOk result (end ≤ length (file_of (reading_of disk.new) kind file)) }
@@ -26,6 +38,7 @@ pub fn reach(disk: &mut MemoryDisk, kind: Kind, file: u32, end: u64) -> Result<(
     }
 }
 
+/// Asks the disk whether a file that is there has its bytes up to this place.
 fn has_end(disk: &mut MemoryDisk, kind: Kind, file: u32, end: u64) -> Result<(), Absent>
     requires { file < file_count (reading_of disk.old) kind }
     ensures there { OnOk result (file < file_count (reading_of disk.new) kind) }

@@ -33,6 +33,7 @@ impl Told {
     }
 }
 
+/// Puts a line `answer` with a number.
 fn put_count(alloc: Global, outcome: &mut Outcome, number: u64) -> Result<(), Memory> {
     let mut digits = Vec::new(alloc);
     put_number(&mut digits, number)?;

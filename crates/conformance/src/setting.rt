@@ -94,6 +94,8 @@ pub struct Setting<'a> {
     pub fails: Fails,
     /// How many calls of the disk pass before each of them fails.
     pub disk_fuse: Option<u64>,
+    /// Whether a file whose making is to fail is half made.
+    pub disk_half_makes: bool,
 }
 
 impl<'a> Setting<'a> {
@@ -127,6 +129,7 @@ impl<'a> Setting<'a> {
                 sink: Vec::new(alloc),
             },
             disk_fuse: None,
+            disk_half_makes: false,
         })
     }
 
@@ -136,6 +139,7 @@ impl<'a> Setting<'a> {
             volumes: self.volumes.as_slice(),
             fails: self.fails.disk.as_slice(),
             fuse: self.disk_fuse,
+            half_makes: self.disk_half_makes,
         }
     }
 
@@ -203,6 +207,10 @@ impl<'a> Setting<'a> {
                 Ok(true)
             }
             "open-skipping" => Ok(self.take_skip(line.rest, names.k)),
+            "disk-half-makes" => {
+                self.disk_half_makes = true;
+                Ok(true)
+            }
             "archive" => {
                 self.played = Played::Archive;
                 Ok(true)
@@ -296,7 +304,7 @@ impl<'a> Setting<'a> {
         if again && step.word == "do" {
             return self.take_deed(alloc, Line::of(step.rest), names, true);
         }
-        let is_step = matches!(step.word, "append" | "roll" | "repair");
+        let is_step = matches!(step.word, "append" | "roll" | "repair" | "group");
         if !is_step {
             return self.take_numbers(alloc, line, names.k);
         }
@@ -306,6 +314,7 @@ impl<'a> Setting<'a> {
         let work = match step.word {
             "append" => Work::Append(text),
             "roll" => Work::Roll(text),
+            "group" => Work::Group(text),
             _ => Work::Repair,
         };
         self.steps.push(Step { work, again })?;
