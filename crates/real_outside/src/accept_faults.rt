@@ -16,22 +16,31 @@ pub(crate) enum AcceptFault {
 }
 
 // Linux's numbers of errors that have no kind of their own, on x86-64 and aarch64.
+/// A firewall refused the connection.
 const EPERM: i32 = 1;
 
+/// The system has no descriptor left.
 const ENFILE: i32 = 23;
 
+/// The process has no descriptor left.
 const EMFILE: i32 = 24;
 
+/// The machine isn't on the network.
 const ENONET: i32 = 64;
 
+/// The connection broke the protocol.
 const EPROTO: i32 = 71;
 
+/// The protocol lacks an option.
 const ENOPROTOOPT: i32 = 92;
 
+/// The connection can't be accepted.
 const EOPNOTSUPP: i32 = 95;
 
+/// The system has no room for a socket.
 const ENOBUFS: i32 = 105;
 
+/// The peer's machine is down.
 const EHOSTDOWN: i32 = 112;
 
 /// What an error of an accept means. A connection's own errors come to the accept that would have given it
@@ -51,6 +60,7 @@ pub(crate) fn fault_of(error: &io::Error) -> AcceptFault {
     }
 }
 
+/// What an error means that has a number alone.
 fn fault_of_number(number: Option<i32>) -> AcceptFault {
     match number {
         Some(EMFILE) => AcceptFault::Room,

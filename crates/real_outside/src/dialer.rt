@@ -8,7 +8,7 @@ use crate::accept_faults::is_memory;
 use crate::link::RealLink;
 use crate::network::Network;
 use crate::standard_streams::StandardStreams;
-use crate::tcp_dial::TcpDialer;
+use crate::tcp::dial::TcpDialer;
 use outside::{DialError, Dialer, EchoDialer};
 use std::alloc::Global;
 use std::io;

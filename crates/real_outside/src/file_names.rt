@@ -67,6 +67,7 @@ fn digits_of(name: &str) -> Option<u32> {
     digits.parse::<u32>().ok()
 }
 
+/// The ending of the files of a kind.
 fn ending_of(kind: Kind) -> &'static str
     ensures { result.now ≡ spec.ending_of kind }
 {

@@ -247,6 +247,7 @@ impl<F: FileSystem> Folder<F> {
         Ok(())
     }
 
+    /// Takes a file to read it, one that is open or else opened now.
     fn to_read(&mut self, kind: Kind, number: u32) -> io::Result<OpenOne<F::File>> {
         match self.files.take_for_reading(kind, number) {
             Some(one) => Ok(one),
@@ -254,6 +255,7 @@ impl<F: FileSystem> Folder<F> {
         }
     }
 
+    /// Takes a file to write it, one that is open for that or else opened now.
     fn to_write(&mut self, kind: Kind, number: u32) -> io::Result<OpenOne<F::File>> {
         self.check_may_write()?;
         match self.files.take_for_writing(kind, number) {
@@ -262,6 +264,7 @@ impl<F: FileSystem> Folder<F> {
         }
     }
 
+    /// Opens a file of the folder that this process has.
     fn opened(&mut self, kind: Kind, number: u32, access: Access) -> io::Result<OpenOne<F::File>> {
         self.holding.hold(&mut self.system)?;
         let path = path_of(self.alloc, kind, number)?;
@@ -270,6 +273,7 @@ impl<F: FileSystem> Folder<F> {
         self.one_of(ArchiveFile { kind, number }, path, file, for_writing)
     }
 
+    /// Fails where the folder was opened to be read.
     fn check_may_write(&self) -> io::Result<()> {
         if self.holding.may_write() {
             Ok(())
@@ -278,6 +282,7 @@ impl<F: FileSystem> Folder<F> {
         }
     }
 
+    /// How many files of a kind this process knows of, or `None` where it hasn't counted them.
     fn known(&self, kind: Kind) -> Option<u32> {
         match kind {
             Kind::Warc => self.warc_known,
@@ -285,6 +290,7 @@ impl<F: FileSystem> Folder<F> {
         }
     }
 
+    /// Notes how many files of a kind there are.
     fn set_known(&mut self, kind: Kind, count: u32) {
         match kind {
             Kind::Warc => self.warc_known = Some(count),

@@ -8,7 +8,7 @@ use crate::link::RealLink;
 use crate::network::Network;
 use crate::standard_streams::StandardStreams;
 use crate::streams::EndingInput;
-use crate::tcp_gate::TcpGate;
+use crate::tcp::gate::TcpGate;
 use outside::{Accepted, Gate};
 use std::io::Print;
 use std::net::SocketAddr;

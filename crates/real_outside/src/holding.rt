@@ -85,6 +85,7 @@ impl<F: FileSystem> Holding<F> {
         files_of_others()
     }
 
+    /// Opens and locks the folder, and takes note of which one it is.
     fn take(&mut self, system: &mut F) -> io::Result<()> {
         let folder = locked(system, self.lock)?;
         if self.may_write() {

@@ -31,9 +31,7 @@ mod streams;
 mod system_files;
 mod system_network;
 mod tally;
-mod tcp_dial;
-mod tcp_gate;
-mod tcp_link;
+mod tcp;
 #[cfg(test)]
 mod tests;
 mod worked;

@@ -14,6 +14,7 @@ pub(crate) fn linger<S: Socket>(socket: &mut S, millis: u64) {
     let _ = drain(socket, millis);
 }
 
+/// Ends the output, and reads until the peer's end or the limit.
 fn drain<S: Socket>(socket: &mut S, millis: u64) -> io::Result<()> {
     socket.end_output()?;
     let start = socket.time()?;

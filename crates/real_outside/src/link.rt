@@ -7,7 +7,7 @@ use crate::faults::{counted, told};
 use crate::network::Network;
 use crate::standard_streams::StandardStreams;
 use crate::streams::{EndingInput, print_when_taken};
-use crate::tcp_link::TcpLink;
+use crate::tcp::link::TcpLink;
 use outside::{EchoLink, Failed, Link};
 use std::io::Print;
 

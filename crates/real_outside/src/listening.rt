@@ -82,6 +82,7 @@ fn address_in(alloc: Global, text: &str) -> Result<Option<Address>, Memory> {
     Ok(Some(address))
 }
 
+/// The port that is written so, or `None`.
 fn port_in(digits: &str) -> Option<u16> {
     match digits.as_bytes() {
         [b'1'..=b'9', ..] => digits.parse().ok(),

@@ -18,8 +18,8 @@ use crate::network::Network;
 use crate::places::Places;
 use crate::sink::RealSink;
 use crate::standard_streams::StandardStreams;
-use crate::tcp_dial::TcpDialer;
-use crate::tcp_gate::TcpGate;
+use crate::tcp::dial::TcpDialer;
+use crate::tcp::gate::TcpGate;
 use capture::{Memory, Site};
 use std::io::Print;
 use std::net::SocketAddr;
@@ -67,6 +67,7 @@ where
     })
 }
 
+/// The gate of a run with these ends. A place of each of its connections is counted.
 fn make_gate<R>(rt: &R, ends: Ends, places: &Places) -> Result<RealGate<R>, Memory>
 where
     R: Clone + Drop + AllocGlobal + Env + StandardStreams + Network,
@@ -108,6 +109,7 @@ struct Surroundings {
     own: Option<SocketAddr>,
 }
 
+/// So many dialers, each with a clock.
 fn make_members<R>(
     rt: &R,
     streams: bool,
@@ -129,6 +131,7 @@ where
     Ok(members)
 }
 
+/// A dialer: to the trial origin beside standard streams, else by TCP.
 fn make_dialer<R>(rt: &R, streams: bool, around: &Surroundings) -> Result<RealDialer<R>, Memory>
 where
     R: Clone + Drop + AllocGlobal,
@@ -148,6 +151,7 @@ where
     })
 }
 
+/// Where a run prints: on standard error beside standard streams, else on standard output.
 fn make_sink<R>(rt: &R, streams: bool) -> Result<RealSink<R>, Memory>
 where
     R: Clone + Drop + StandardStreams,

@@ -58,6 +58,7 @@ impl Places {
         self.place(Stage::Origin)
     }
 
+    /// A place at this stage, before it is counted.
     fn place(&self, stage: Stage) -> io::Result<Place> {
         match Arc::try_clone(&self.counts) {
             Ok(counts) => Ok(Place { counts, stage }),

@@ -96,6 +96,7 @@ impl FileSystem for HostRuntime {
     }
 }
 
+/// Which file the system's answer is about.
 fn identity_of(metadata: &Metadata) -> Identity {
     Identity {
         device: metadata.dev(),

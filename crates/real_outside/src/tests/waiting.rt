@@ -3,7 +3,7 @@
 use super::recorded_network::{LIMITS, Peer, RecordedSocket};
 use super::written::{Written, check, joined, written};
 use crate::places::{Place, Places};
-use crate::tcp_link::TcpLink;
+use crate::tcp::link::TcpLink;
 use std::alloc::Global;
 use std::io;
 

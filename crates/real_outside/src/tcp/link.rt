@@ -61,6 +61,7 @@ impl<S: Socket> TcpLink<S> {
         TcpLink::new(socket, place, limits, Awaited::Response, limits.whole)
     }
 
+    /// A link whose socket sends at once and has its limit of writes.
     fn new(
         mut socket: S,
         place: Place,
@@ -133,6 +134,7 @@ impl<S: Socket> TcpLink<S> {
         }
     }
 
+    /// Reads once, within the limits of what is awaited.
     fn read_within(&mut self, into: &mut [u8]) -> io::Result<usize>
         ensures bound { ReadsAtMost result into.new }
     {
@@ -207,6 +209,7 @@ impl<S: Socket> TcpLink<S> {
         }
     }
 
+    /// Writes once, within the limits of a piece and of the message.
     fn write_within(&mut self, piece: &[u8]) -> io::Result<usize>
         ensures some { IfOk result (λ n. 0 < n) }
         ensures fits { IfOk result (λ n. n ≤ length piece.now) }
@@ -240,6 +243,7 @@ impl<S: Socket> TcpLink<S> {
         }
     }
 
+    /// Limits the socket's reads, where they aren't limited so. No time left is a failure.
     fn limit_reads(&mut self, millis: u64) -> io::Result<()> {
         if millis == 0 {
             return Err(io::Error::from(ErrorKind::TimedOut));
@@ -251,6 +255,7 @@ impl<S: Socket> TcpLink<S> {
         Ok(())
     }
 
+    /// Limits the socket's writes, likewise.
     fn limit_writes(&mut self, millis: u64) -> io::Result<()> {
         if millis == 0 {
             return Err(io::Error::from(ErrorKind::TimedOut));

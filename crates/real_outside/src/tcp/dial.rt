@@ -4,7 +4,7 @@ use crate::limits::Limits;
 use crate::network::{MOST_ADDRESSES, Network};
 use crate::own_address::leads_back;
 use crate::places::Places;
-use crate::tcp_link::TcpLink;
+use crate::tcp::link::TcpLink;
 use crate::worked::Worked;
 use std::fmt::{Display, Formatter};
 use std::io::ErrorKind;

@@ -4,7 +4,7 @@ use crate::limits::Limits;
 use crate::listening::{Address, LISTEN};
 use crate::network::Network;
 use crate::places::Places;
-use crate::tcp_link::TcpLink;
+use crate::tcp::link::TcpLink;
 use std::io;
 use std::io::ErrorKind;
 use std::net::SocketAddr;
@@ -104,6 +104,7 @@ impl<N: Network> TcpGate<N> {
         self.refused
     }
 
+    /// A listener at the gate's address. The cause of a failure is told.
     fn listen(&mut self) -> io::Result<N::Listener> {
         let listens = match &self.address {
             Some(address) => self.network.listen(address.host(), address.port()),
@@ -115,6 +116,7 @@ impl<N: Network> TcpGate<N> {
         listens
     }
 
+    /// Tells why a call at the gate's address failed.
     fn tell(&mut self, call: &str, error: &io::Error) {
         match &self.address {
             Some(address) => self.network.tell(address, call, error),
