@@ -82,6 +82,9 @@ pub trait FileSystem: Causes {
     /// Which file or folder a path leads to.
     fn identity_at(&mut self, path: &str) -> io::Result<Identity>;
 
+    /// Whether a symbolic link is at a path, wherever it leads.
+    fn is_link(&mut self, path: &str) -> io::Result<bool>;
+
     /// Reads at a place, and answers how many bytes stand at the front of `into` now: 0 only at the file's end.
     fn read_at(&mut self, file: &Self::File, into: &mut [u8], at: u64) -> io::Result<usize>
         ensures bound { ReadsAtMost result into.new }

@@ -54,7 +54,7 @@ impl<F: FileSystem> Holding<F> {
     }
 
     /// Whether the folder is there, which this process then has. A folder that it had and that is gone is a failure, and
-    /// so is one that it is to write and can't.
+    /// so is one that it is to write and can't, and a link that leads to none.
     pub(crate) fn find(&mut self, system: &mut F) -> io::Result<bool> {
         match self.hold(system) {
             Ok(()) => Ok(true),
@@ -62,6 +62,7 @@ impl<F: FileSystem> Holding<F> {
                 if error.kind() != ErrorKind::NotFound || !self.is_free() {
                     return Err(error);
                 }
+                check_absent(system)?;
                 if self.may_write() {
                     system.check_writable(AROUND)?;
                 }
@@ -109,6 +110,14 @@ pub(crate) fn check_at<F: FileSystem>(
     } else {
         Err(io::Error::other("it was moved or replaced while it was in use"))
     }
+}
+
+/// Fails where the folder's path is a link that leads to none, as one does whose disk isn't mounted.
+fn check_absent<F: FileSystem>(system: &mut F) -> io::Result<()> {
+    if system.is_link(FOLDER)? {
+        return Err(io::Error::new(ErrorKind::NotFound, "the link leads nowhere"));
+    }
+    Ok(())
 }
 
 /// The folder, open and locked. Who only reads goes on without a lock where the file system has none.

@@ -50,7 +50,7 @@ impl FileSystem for HostRuntime {
     }
 
     fn check_writable(&mut self, path: &str) -> io::Result<()> {
-        let path = c_path_of(path)?;
+        let path = c_path_of(path.as_bytes())?;
         let answer = unsafe { libc::access(&path, W_OK) };
         if answer == 0 {
             Ok(())
@@ -69,6 +69,13 @@ impl FileSystem for HostRuntime {
 
     fn identity_at(&mut self, path: &str) -> io::Result<Identity> {
         Ok(identity_of(&fs::metadata(self, path)?))
+    }
+
+    fn is_link(&mut self, path: &str) -> io::Result<bool> {
+        match fs::symlink_metadata(self, path) {
+            Ok(metadata) => Ok(metadata.is_symlink()),
+            Err(error) => nothing_there(error),
+        }
     }
 
     fn read_at(&mut self, file: &File, into: &mut [u8], at: u64) -> io::Result<usize> {
@@ -104,6 +111,15 @@ fn identity_of(metadata: &Metadata) -> Identity {
     }
 }
 
+/// That no link is at a path, where the error says that nothing is there.
+fn nothing_there(error: io::Error) -> io::Result<bool> {
+    if error.kind() == ErrorKind::NotFound {
+        Ok(false)
+    } else {
+        Err(error)
+    }
+}
+
 /// Passes over the error of an entry whose name isn't UTF-8, which no file of the archive has. All others mean that the
 /// list may lack names.
 fn pass_over(error: io::Error) -> io::Result<()> {
@@ -115,15 +131,14 @@ fn pass_over(error: io::Error) -> io::Result<()> {
 }
 
 /// A path as the C library takes it, with a zero behind it.
-fn c_path_of(path: &str) -> io::Result<[u8; PATH_MAX]>
+pub(crate) fn c_path_of(path: &[u8]) -> io::Result<[u8; PATH_MAX]>
     ensures { IfOk result Ended }
 {
-    let bytes = path.as_bytes();
-    if bytes.len() >= PATH_MAX {
+    if path.len() >= PATH_MAX {
         return Err(io::Error::from(ErrorKind::InvalidFilename));
     }
     let mut text = [0u8; PATH_MAX];
-    text[..bytes.len()].copy_from_slice(bytes);
+    text[..path.len()].copy_from_slice(path);
     text[PATH_MAX - 1] = 0;
     Ok(text)
 }
@@ -152,6 +167,19 @@ mod tests {
                 rt.check_writable("/no/such/folder").is_ok()
             ],
             [true, false]
+        );
+    }
+
+    /// A link of the system's, a folder, and nothing.
+    // No case can say it: the disk of a case has no links.
+    #[test]
+    fn links_are_told(mut rt: HostRuntime) {
+        let link = rt.is_link("/proc/self").ok();
+        let folder = rt.is_link(".").ok();
+        let nothing = rt.is_link("/no/such/link").ok();
+        assert_eq!(rt;
+            [link, folder, nothing],
+            [Some(true), Some(false), Some(false)]
         );
     }
 

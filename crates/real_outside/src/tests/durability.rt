@@ -88,7 +88,7 @@ fn a_file_is_durable_before_it_is_told(rt: HostRuntime) {
             files,
             &[Files, Create, Write(0), Sync(0), Create],
         ),
-        "open to read archive;may write .;make archive;open to read archive;lock archive;may write archive;look at archive;look for archive;list archive;list archive;look for archive;create vol-000000.warc;look at vol-000000.warc;sync all vol-000000.warc;sync folder archive;sync folder .;look for archive/vol-000000.warc;write 3 at 0 of vol-000000.warc;sync data vol-000000.warc;look for archive/vol-000000.warc;look for archive;create vol-000001.warc;look at vol-000001.warc;sync all vol-000001.warc;sync folder archive;look for archive/vol-000001.warc;0",
+        "open to read archive;is a link archive;may write .;make archive;open to read archive;lock archive;may write archive;look at archive;look for archive;list archive;list archive;look for archive;create vol-000000.warc;look at vol-000000.warc;sync all vol-000000.warc;sync folder archive;sync folder .;look for archive/vol-000000.warc;write 3 at 0 of vol-000000.warc;sync data vol-000000.warc;look for archive/vol-000000.warc;look for archive;create vol-000001.warc;look at vol-000001.warc;sync all vol-000001.warc;sync folder archive;look for archive/vol-000001.warc;0",
     );
 }
 
@@ -101,17 +101,17 @@ static LATE: [Late; 3] = [
     (
         ["vol-000000.warc", "", ""],
         usize::MAX,
-        "open to read archive;may write .;make archive;open to read archive;lock archive;may write archive;look at archive;look for archive;list archive;7",
+        "open to read archive;is a link archive;may write .;make archive;open to read archive;lock archive;may write archive;look at archive;look for archive;list archive;7",
     ),
     (
         ["", "vol-000000.cdxj", ""],
         usize::MAX,
-        "open to read archive;may write .;make archive;open to read archive;lock archive;may write archive;look at archive;look for archive;list archive;list archive;7",
+        "open to read archive;is a link archive;may write .;make archive;open to read archive;lock archive;may write archive;look at archive;look for archive;list archive;list archive;7",
     ),
     (
         ["vol-000000.warc", "", ""],
-        8,
-        "open to read archive;may write .;make archive;open to read archive;lock archive;may write archive;look at archive;look for archive;list archive;look for archive;list archive;7",
+        9,
+        "open to read archive;is a link archive;may write .;make archive;open to read archive;lock archive;may write archive;look at archive;look for archive;list archive;look for archive;list archive;7",
     ),
 ];
 
@@ -200,11 +200,11 @@ fn short_reads_and_writes_go_on(rt: HostRuntime) {
     let mut files = two_volumes();
     files.most = 2;
     files.from = 10;
-    files.fails[0] = (10, ErrorKind::Interrupted);
+    files.fails = [(10, ErrorKind::Interrupted), (13, ErrorKind::Interrupted)];
     check(
         &rt,
         calls_of(rt.alloc(), files, &[Files, Write(0), Read(0)]),
-        "write 2 at 0 of vol-000000.warc;write 2 at 0 of vol-000000.warc;write 1 at 2 of vol-000000.warc;read 2 at 1 of vol-000000.warc;0",
+        "write 2 at 0 of vol-000000.warc;write 2 at 0 of vol-000000.warc;write 1 at 2 of vol-000000.warc;read 2 at 1 of vol-000000.warc;read 2 at 1 of vol-000000.warc;0",
     );
 }
 
@@ -263,8 +263,8 @@ static REFUSED: [([(usize, ErrorKind); 2], &str); 6] = [
         "open to read archive;lock archive;may write archive;look at archive;look for archive;list archive;may write archive/vol-000001.warc;look for archive;list archive;may write archive/vol-000001.warc;2",
     ),
     (
-        [(0, ErrorKind::NotFound), (1, ErrorKind::PermissionDenied)],
-        "open to read archive;may write .;open to read archive;lock archive;may write archive;look at archive;look for archive;list archive;may write archive/vol-000001.warc;1",
+        [(0, ErrorKind::NotFound), (2, ErrorKind::PermissionDenied)],
+        "open to read archive;is a link archive;may write .;open to read archive;lock archive;may write archive;look at archive;look for archive;list archive;may write archive/vol-000001.warc;1",
     ),
     (
         [
@@ -282,6 +282,21 @@ fn who_cannot_write_is_refused_at_once(rt: HostRuntime) {
         let fails = *fails;
         files.fails = fails;
         check(&rt, calls_of(rt.alloc(), files, &[Files, Files]), want);
+    }
+}
+
+/// A link that leads nowhere is no archive without files, for who reads neither.
+#[test]
+fn a_link_that_leads_nowhere_is_a_fault(rt: HostRuntime) {
+    for lock in &[Lock::Alone, Lock::Shared] {
+        let mut files = two_volumes();
+        files.linked = true;
+        files.fails[0] = (0, ErrorKind::NotFound);
+        check(
+            &rt,
+            calls_as(rt.alloc(), files, *lock, &[Files]),
+            "open to read archive;is a link archive;1",
+        );
     }
 }
 

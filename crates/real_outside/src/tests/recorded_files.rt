@@ -1,7 +1,7 @@
 //! A file system of records: it writes each call down, fails at one of them, and holds nothing.
 ghost use Rattle.std.specs.Prelude.{false, []};
 
-use super::written::{Written, joined, written};
+use super::written::{Written, called, cause, joined, numbered, written};
 use crate::causes::Causes;
 use crate::file_system::{Access, FileSystem, Found, Identity, Lock};
 use crate::tally::Tally;
@@ -20,6 +20,8 @@ pub(crate) struct RecordedFiles {
     pub(crate) from: usize,
     /// From which call on paths lead to other files.
     pub(crate) moved_from: usize,
+    /// Whether the folder's path is a link.
+    pub(crate) linked: bool,
     /// Which calls fail, counted from 0, and how.
     pub(crate) fails: [(usize, ErrorKind); 2],
     /// The names in each folder.
@@ -39,6 +41,7 @@ impl RecordedFiles {
             made: 0,
             from: 0,
             moved_from: usize::MAX,
+            linked: false,
             fails: [(usize::MAX, ErrorKind::Other); 2],
             names,
             len,
@@ -47,9 +50,10 @@ impl RecordedFiles {
     }
 
     /// Writes a call down, and answers whether it fails.
-    fn call(&mut self, call: Written) -> io::Result<()> {
+    fn call(&mut self, call: &str, of: &str) -> io::Result<()> {
         let number = self.made;
         if number >= self.from {
+            let call = called(call, of);
             self.calls = joined(joined(self.calls, call.as_str()), ";");
         }
         self.made = self.made.saturating_add(1);
@@ -60,6 +64,11 @@ impl RecordedFiles {
         }
         Ok(())
     }
+}
+
+/// A call about so many bytes at a place of a file.
+fn at_place(call: &str, many: usize, at: u64) -> Written {
+    written(format_args!("{call} {many} at {at} of"))
 }
 
 /// The name of a file without its folder.
@@ -80,7 +89,7 @@ fn identity_of(name: &str, device: u64) -> Identity {
 
 impl Causes for RecordedFiles {
     fn tell<D: Display + Drop>(&mut self, what: D, call: &str, error: &io::Error) {
-        let line = written(format_args!("{what}: {call}: {error};"));
+        let line = cause(what, call, error);
         self.causes = joined(self.causes, line.as_str());
     }
 }
@@ -95,11 +104,11 @@ impl FileSystem for RecordedFiles {
     ghost placed = { λ _ _. [] };
 
     fn make_folder(&mut self, path: &str) -> io::Result<()> {
-        self.call(written(format_args!("make {path}")))
+        self.call("make", path)
     }
 
     fn list(&mut self, path: &str, tally: &mut Tally) -> io::Result<()> {
-        self.call(written(format_args!("list {path}")))?;
+        self.call("list", path)?;
         for name in &self.names {
             tally.add(name)?;
         }
@@ -113,26 +122,25 @@ impl FileSystem for RecordedFiles {
             Access::Update => "open to write",
             Access::New => "create",
         };
-        self.call(written(format_args!("{word} {name}")))?;
+        self.call(word, name)?;
         Ok(written(name))
     }
 
     fn lock(&mut self, file: &Written, lock: Lock) -> io::Result<()> {
-        let name = file.as_str();
         let word = match lock {
             Lock::Alone => "lock",
             Lock::Shared => "share",
         };
-        self.call(written(format_args!("{word} {name}")))
+        self.call(word, file.as_str())
     }
 
     fn check_writable(&mut self, path: &str) -> io::Result<()> {
-        self.call(written(format_args!("may write {path}")))
+        self.call("may write", path)
     }
 
     fn found(&mut self, file: &Written) -> io::Result<Found> {
         let name = file.as_str();
-        self.call(written(format_args!("look at {name}")))?;
+        self.call("look at", name)?;
         Ok(Found {
             identity: identity_of(name, 0),
             len: self.len,
@@ -141,40 +149,40 @@ impl FileSystem for RecordedFiles {
 
     fn identity_at(&mut self, path: &str) -> io::Result<Identity> {
         let moved = u64::from(self.made >= self.moved_from);
-        self.call(written(format_args!("look for {path}")))?;
+        self.call("look for", path)?;
         Ok(identity_of(name_of(path), moved))
+    }
+
+    fn is_link(&mut self, path: &str) -> io::Result<bool> {
+        self.call("is a link", path)?;
+        Ok(self.linked)
     }
 
     fn read_at(&mut self, file: &Written, into: &mut [u8], at: u64) -> io::Result<usize> {
         let n = into.len().min(self.most);
-        let name = file.as_str();
-        self.call(written(format_args!("read {n} at {at} of {name}")))?;
+        self.call(at_place("read", n, at).as_str(), file.as_str())?;
         Ok(n)
     }
 
     fn write_at(&mut self, file: &Written, piece: &[u8], at: u64) -> io::Result<usize> {
         let n = piece.len().min(self.most);
-        let name = file.as_str();
-        self.call(written(format_args!("write {n} at {at} of {name}")))?;
+        self.call(at_place("write", n, at).as_str(), file.as_str())?;
         Ok(n)
     }
 
     fn set_len(&mut self, file: &Written, len: u64) -> io::Result<()> {
-        let name = file.as_str();
-        self.call(written(format_args!("cut to {len} {name}")))
+        self.call(numbered("cut to", len).as_str(), file.as_str())
     }
 
     fn sync_data(&mut self, file: &Written) -> io::Result<()> {
-        let name = file.as_str();
-        self.call(written(format_args!("sync data {name}")))
+        self.call("sync data", file.as_str())
     }
 
     fn sync_all(&mut self, file: &Written) -> io::Result<()> {
-        let name = file.as_str();
-        self.call(written(format_args!("sync all {name}")))
+        self.call("sync all", file.as_str())
     }
 
     fn sync_folder(&mut self, path: &str) -> io::Result<()> {
-        self.call(written(format_args!("sync folder {path}")))
+        self.call("sync folder", path)
     }
 }

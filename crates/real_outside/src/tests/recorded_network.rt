@@ -1,13 +1,13 @@
 //! A network of records: it gives what a test lists, and writes each call down.
 ghost use Rattle.std.specs.Prelude.{◌≤◌, length, IfOk};
 
-use super::written::{Written, joined, written};
+use super::written::{Written, called, cause, joined, numbered, written};
 use crate::causes::Causes;
 use crate::limits::Limits;
 use crate::network::{Network, Socket};
 use std::fmt::Display;
 use std::io;
-use std::io::{Error, ErrorKind, Read, Write};
+use std::io::{Error, ErrorKind, Print, Read, Write};
 use std::net::{IpAddr, SocketAddr};
 use std::time::Duration;
 
@@ -135,7 +135,7 @@ impl Write for RecordedSocket {
 
 impl Causes for RecordedSocket {
     fn tell<D: Display + Drop>(&mut self, what: D, call: &str, error: &io::Error) {
-        let line = written(format_args!("{what}: {call}: {error};"));
+        let line = cause(what, call, error);
         self.causes = joined(self.causes, line.as_str());
     }
 }
@@ -146,7 +146,7 @@ impl Socket for RecordedSocket {
     }
 
     fn limit_reads(&mut self, millis: u64) -> io::Result<()> {
-        self.call(written(format_args!("in {millis}")).as_str());
+        self.call(numbered("in", millis).as_str());
         self.read_limit = millis;
         Ok(())
     }
@@ -155,7 +155,7 @@ impl Socket for RecordedSocket {
         if matches!(self.peer, Peer::Odd) {
             return Err(Error::from(ErrorKind::InvalidInput));
         }
-        self.call(written(format_args!("out {millis}")).as_str());
+        self.call(numbered("out", millis).as_str());
         self.write_limit = millis;
         Ok(())
     }
@@ -204,6 +204,10 @@ pub(crate) struct RecordedNetwork {
     pub(crate) many: usize,
     /// The error of a call that listens or looks a host up.
     pub(crate) refuses: Option<i32>,
+    /// How many milliseconds it paused in all.
+    paused: u64,
+    /// Behind how many its output takes three bytes at once. Before, it takes nothing yet.
+    pub(crate) takes_after: u64,
 }
 
 impl RecordedNetwork {
@@ -216,12 +220,14 @@ impl RecordedNetwork {
             given: 0,
             many: 2,
             refuses: None,
+            paused: 0,
+            takes_after: 0,
         }
     }
 
     /// Writes a call down.
-    fn call(&mut self, call: Written) {
-        self.calls = joined(joined(self.calls, call.as_str()), ";");
+    fn call(&mut self, call: &str) {
+        self.calls = joined(joined(self.calls, call), ";");
     }
 
     /// What comes next.
@@ -240,7 +246,7 @@ impl RecordedNetwork {
 
 impl Causes for RecordedNetwork {
     fn tell<D: Display + Drop>(&mut self, what: D, call: &str, error: &io::Error) {
-        let line = written(format_args!("{what}: {call}: {error};"));
+        let line = cause(what, call, error);
         self.causes = joined(self.causes, line.as_str());
     }
 }
@@ -251,7 +257,7 @@ impl Network for RecordedNetwork {
     type Listener = ();
 
     fn listen(&mut self, host: &str, port: u16) -> io::Result<()> {
-        self.call(written(format_args!("listen {host} {port}")));
+        self.call(numbered(called("listen", host).as_str(), u64::from(port)).as_str());
         match self.refuses {
             Some(number) => Err(Error::from_raw_os_error(number)),
             None => Ok(()),
@@ -267,12 +273,12 @@ impl Network for RecordedNetwork {
     }
 
     fn accept(&mut self, _listener: &()) -> io::Result<RecordedSocket> {
-        self.call(written("accept"));
+        self.call("accept");
         self.next()
     }
 
     fn find(&mut self, host: &str, port: u16, found: &mut [SocketAddr]) -> io::Result<usize> {
-        self.call(written(format_args!("find {host} {port}")));
+        self.call(numbered(called("find", host).as_str(), u64::from(port)).as_str());
         if let Some(number) = self.refuses {
             return Err(Error::from_raw_os_error(number));
         }
@@ -284,11 +290,36 @@ impl Network for RecordedNetwork {
     }
 
     fn connect(&mut self, address: SocketAddr, millis: u64) -> io::Result<RecordedSocket> {
-        self.call(written(format_args!("connect {address} in {millis}")));
+        let address = written(address);
+        let call = called("connect", address.as_str());
+        self.call(numbered(joined(call, " in").as_str(), millis).as_str());
         self.next()
     }
 
     fn pause(&mut self, millis: u64) {
-        self.call(written(format_args!("pause {millis}")));
+        self.call(numbered("pause", millis).as_str());
+        self.paused = self.paused.saturating_add(millis);
+    }
+}
+
+/// What is printed is dropped.
+impl Print for RecordedNetwork {
+    fn print<D: Display + Drop>(&self, value: D) -> io::Result<()> {
+        self.write_all(written(value).as_str().as_bytes())
+    }
+
+    fn println<D: Display + Drop>(&self, value: D) -> io::Result<()> {
+        self.print(value)
+    }
+
+    fn write_all(&self, _bytes: &[u8]) -> io::Result<()> {
+        Ok(())
+    }
+
+    fn write_some(&self, bytes: &[u8]) -> io::Result<usize> {
+        if self.paused < self.takes_after {
+            return Err(Error::from(ErrorKind::WouldBlock));
+        }
+        Ok(bytes.len().min(3))
     }
 }

@@ -1,8 +1,8 @@
-//! How standard input is read where it is set not to wait.
-//! No case can say it: the input of a case is all there.
+//! How standard streams are read and written that are set not to wait.
+//! No case can say it: the input of a case is all there, and its output takes all.
 use super::recorded_network::{Comes, Peer, RecordedNetwork};
 use super::written::{Written, check, written};
-use crate::streams::EndingInput;
+use crate::streams::{EndingInput, print_when_taken};
 use std::io;
 use std::io::{ErrorKind, Read};
 
@@ -42,7 +42,18 @@ fn reads(stream: Later) -> Written {
     written(format_args!("{calls} {first} {second}"))
 }
 
+/// What a write to an output asks of a network that takes nothing for 20 milliseconds and then three bytes, and what it
+/// answers.
+fn writes(piece: &[u8]) -> Written {
+    let mut network = RecordedNetwork::new([Comes::Connection(Peer::Silent); 3]);
+    network.takes_after = 20;
+    let taken = print_when_taken(&mut network, piece).unwrap_or(0);
+    let calls = network.calls.as_str();
+    written(format_args!("{calls} {taken}"))
+}
+
 #[test]
 fn what_has_not_come_yet_is_no_fault(rt: HostRuntime) {
     check(&rt, reads(Later(3)), "pause 10;pause 10; read failed");
+    check(&rt, writes(b"four"), "pause 10;pause 10; 3");
 }

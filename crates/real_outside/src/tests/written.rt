@@ -1,5 +1,6 @@
 //! What recorded objects write down. A text of a fixed size takes no memory and is nothing to drop.
 use std::fmt::{Display, InlineText};
+use std::io;
 use std::process::Abort;
 
 /// The most bytes of such a text. One that is longer ends in three dots.
@@ -16,6 +17,21 @@ pub(crate) fn written<D: Display + Drop>(thing: D) -> Written {
 /// What was written before, and behind it a word.
 pub(crate) fn joined(before: Written, word: &str) -> Written {
     before.and_str(word, MOST)
+}
+
+/// A call, in a word or two, of what it is about.
+pub(crate) fn called(call: &str, of: &str) -> Written {
+    joined(joined(written(call), " "), of)
+}
+
+/// A call with a number behind it.
+pub(crate) fn numbered(call: &str, number: u64) -> Written {
+    written(format_args!("{call} {number}"))
+}
+
+/// A cause of a fault, as it is told.
+pub(crate) fn cause<D: Display + Drop>(what: D, call: &str, error: &io::Error) -> Written {
+    written(format_args!("{what}: {call}: {error};"))
 }
 
 /// Asserts that just this was written.
