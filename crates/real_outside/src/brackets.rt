@@ -28,11 +28,16 @@ mod tests {
         ("[]", ""),
     ];
 
+    /// Whether a host without its brackets is this one.
+    fn is_bare(host: &str, want: &str) -> bool {
+        without_brackets(host) == want
+    }
+
     // No case can say it: a case neither binds nor dials a host of its own by TCP.
     #[test]
     fn takes_brackets_off_as_a_pair(rt: HostRuntime) {
         for (host, want) in &HOSTS {
-            assert_eq!(rt; without_brackets(host), *want);
+            assert!(rt; is_bare(host, want), "{host}");
         }
     }
 }

@@ -100,19 +100,31 @@ fn counted_dial(faults: &mut u64, error: DialError) -> DialError
 #[cfg(test)]
 mod tests {
     use super::*;
-    use outside::{Failed, Link};
+    use outside::Link;
 
     const REQUEST: &[u8] = b"GET /x HTTP/1.1\r\nHost: a.test\r\n\r\n";
 
     const RESPONSE: &[u8] =
         b"HTTP/1.1 200 OK\r\nContent-Type: text/plain\r\nContent-Length: 3\r\n\r\n/x\n";
 
-    /// What a write of the request and a read answer, and whether the response was read.
-    fn asked<L: Link>(link: &mut L) -> ([Result<usize, Failed>; 2], bool) {
+    /// Whether a link takes the request whole, and gives the response.
+    fn answers<L: Link>(link: &mut L) -> bool {
         let mut into = [0u8; 128];
         let sent = link.write(REQUEST);
         let read = link.read(&mut into);
-        ([sent, read], into.starts_with(RESPONSE))
+        sent == Ok(REQUEST.len()) && read == Ok(RESPONSE.len()) && into.starts_with(RESPONSE)
+    }
+
+    /// Whether a dialer's link does, which is hung up then.
+    fn is_answered(dialer: &mut RealDialer<HostRuntime>) -> bool {
+        match dialer.dial("a.test", 80) {
+            Ok(mut link) => {
+                let answers = answers(&mut link);
+                dialer.hang_up(link);
+                answers
+            }
+            Err(_) => false,
+        }
     }
 
     // No case can say it: a case dials its own origin, and not through the objects of the system.
@@ -122,12 +134,7 @@ mod tests {
             alloc: rt.alloc(),
             faults: 0,
         };
-        let Ok(mut link) = dialer.dial("a.test", 80) else {
-            panic!(rt; "no link");
-        };
-        let answers = asked(&mut link);
-        dialer.hang_up(link);
-        assert_eq!(rt; answers, ([Ok(REQUEST.len()), Ok(RESPONSE.len())], true));
+        assert!(rt; is_answered(&mut dialer));
         assert!(rt; matches!(dialer, RealDialer::Echo { faults: 0, .. }));
     }
 }

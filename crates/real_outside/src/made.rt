@@ -174,6 +174,7 @@ where
 mod tests {
     use super::*;
     use capture::Text;
+    use outside::Dialer;
     use std::alloc::Global;
     use std::net::{Ipv4Addr, TcpListener};
 
@@ -192,16 +193,41 @@ mod tests {
         Some(listener.local_addr().ok()?.port())
     }
 
-    /// How many members the crew of a server has that was to have 16, whether its gate was refused, and where that
-    /// listens. `None` where there was no memory.
-    fn made_at(rt: &HostRuntime, port: u16) -> Option<(usize, bool, Option<SocketAddr>)> {
+    /// A server of 16 members at that port.
+    fn made_at(rt: &HostRuntime, port: u16) -> Option<Made<HostRuntime>> {
         let site = site(rt.alloc(), port).ok()?;
-        let made = make(rt, Ends::Network(Some(site)), Lock::Alone, 16).ok()?;
-        Some((
-            made.members.len(),
-            made.gate.was_refused(),
-            made.gate.own_address(),
-        ))
+        make(rt, Ends::Network(Some(site)), Lock::Alone, 16).ok()
+    }
+
+    /// How many members its crew has, whether its gate was refused, and where that listens.
+    fn told(made: &Made<HostRuntime>) -> (usize, bool, Option<SocketAddr>) {
+        let gate = &made.gate;
+        (made.members.len(), gate.was_refused(), gate.own_address())
+    }
+
+    /// How many clients each member sees while the gate has one.
+    fn clients_seen(made: &Made<HostRuntime>) -> Option<u64> {
+        let RealGate::Tcp { gate, .. } = &made.gate else {
+            return None;
+        };
+        let _client = gate.places().of_client().ok()?;
+        let mut seen = 0;
+        for (dialer, _) in &made.members {
+            if let RealDialer::Tcp { dialer, .. } = dialer {
+                seen = dialer.places().clients().saturating_add(seen);
+            }
+        }
+        Some(seen)
+    }
+
+    /// Whether a member connects to the port at which the gate listens.
+    fn loops(made: &mut Made<HostRuntime>, port: u16) -> bool {
+        for (dialer, _) in made.members.iter_mut() {
+            if dialer.dial("127.0.0.1", port).is_ok() {
+                return true;
+            }
+        }
+        false
     }
 
     // No case can say it: a case is served over objects in memory, and not over these.
@@ -210,7 +236,12 @@ mod tests {
         let Some(port) = free_port(rt) else {
             panic!(rt; "no port");
         };
+        let Some(mut made) = made_at(&rt, port) else {
+            panic!(rt; "no memory");
+        };
         let own = SocketAddr::from((Ipv4Addr::LOCALHOST, port));
-        assert_eq!(rt; made_at(&rt, port), Some((16, false, Some(own))));
+        assert_eq!(rt; told(&made), (16, false, Some(own)));
+        assert_eq!(rt; clients_seen(&made), Some(16));
+        assert!(rt; !loops(&mut made, port));
     }
 }

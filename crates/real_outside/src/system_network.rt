@@ -1,5 +1,6 @@
 //! The system's network.
 ghost use Rattle.std.specs.Prelude.{◌≤◌, length, IfOk};
+ghost use Rattle.std.specs.Iterator.{IsFinite};
 
 use crate::causes::Causes;
 use crate::network::{Network, Socket};
@@ -96,15 +97,7 @@ impl Network for HostRuntime {
     }
 
     fn find(&mut self, host: &str, port: u16, found: &mut [SocketAddr]) -> io::Result<usize> {
-        let mut n = 0;
-        for address in (host, port).to_socket_addrs(self)? {
-            let Some(place) = found.get_mut(n) else {
-                break;
-            };
-            *place = address;
-            n += 1;
-        }
-        Ok(n)
+        Ok(put_first((host, port).to_socket_addrs(self)?, found))
     }
 
     fn connect(&mut self, address: SocketAddr, millis: u64) -> io::Result<SystemSocket> {
@@ -122,9 +115,42 @@ impl Network for HostRuntime {
     }
 }
 
+/// Puts the first addresses at the front of `found`, as many as there is room for, and answers how many.
+fn put_first<I: Iterator<Item = SocketAddr> + Drop>(addresses: I, found: &mut [SocketAddr]) -> usize
+    requires ends { I.Iterator.can_next addresses × IsFinite (I.Iterator.remaining addresses) }
+    ensures { result ≤ length found.new }
+{
+    let mut n = 0;
+    for address in addresses {
+        let Some(place) = found.get_mut(n) else {
+            break;
+        };
+        *place = address;
+        n += 1;
+    }
+    n
+}
+
 #[cfg(test)]
 mod tests {
     use super::*;
+    use std::net::Ipv4Addr;
+
+    /// The loopback's address at a port.
+    fn at(port: u16) -> SocketAddr {
+        SocketAddr::from((Ipv4Addr::LOCALHOST, port))
+    }
+
+    /// Three addresses of a host, and the ports of those that are put into two places.
+    // No case can say it: a case looks no host up.
+    #[test]
+    fn finds_as_many_addresses_as_there_is_room_for(rt: HostRuntime) {
+        let mut found = [at(9), at(9)];
+        let one = put_first([at(1)].into_iter(), &mut found);
+        assert_eq!(rt; (one, found), (1, [at(1), at(9)]));
+        let two = put_first([at(1), at(2), at(3)].into_iter(), &mut found);
+        assert_eq!(rt; (two, found), (2, [at(1), at(2)]));
+    }
 
     /// A listener, and a connection of this process to it.
     fn connected(mut rt: HostRuntime) -> io::Result<(TcpListener, SystemSocket)> {
@@ -166,6 +192,15 @@ mod tests {
         assert!(rt; matches!(time_of_a_pause(rt), Ok(20..=9_999)));
     }
 
+    /// What a peer reads that waits for a second, while the socket is still there.
+    fn read_by_peer(rt: HostRuntime) -> io::Result<usize> {
+        let (listener, mut socket) = connected(rt)?;
+        socket.end_output()?;
+        let (mut peer, _) = listener.accept()?;
+        peer.set_read_timeout(Some(Duration::from_secs(1)))?;
+        peer.read(&mut [0u8; 1])
+    }
+
     /// What the system says of a socket that was told its settings.
     fn told_settings(rt: HostRuntime) -> io::Result<Settings> {
         let (_listener, mut socket) = connected(rt)?;
@@ -173,7 +208,7 @@ mod tests {
         settings_of(&socket)
     }
 
-    /// What a socket was told is what the system says of it.
+    /// What a socket was told is what the system says of it, and its peer meets the end of an output that was ended.
     // No case can say it: the links of a case are no sockets, and have no settings.
     #[test]
     fn settings_are_the_systems(rt: HostRuntime) {
@@ -183,6 +218,7 @@ mod tests {
             Some(Duration::from_secs(2)),
         );
         assert_eq!(rt; told_settings(rt).ok(), Some(want));
+        assert_eq!(rt; read_by_peer(rt).ok(), Some(0));
     }
 
     /// Whether the loopback and an address that is for documents alone (RFC 5737) are this machine's.

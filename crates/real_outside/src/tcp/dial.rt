@@ -47,6 +47,12 @@ impl<N: Network> TcpDialer<N> {
         &self.network
     }
 
+    /// The places of connections that it knows of.
+    #[cfg(test)]
+    pub(crate) fn places(&self) -> &Places {
+        &self.places
+    }
+
     /// Connects to a host, an IPv6 address in brackets, and a port. The cause of a failure is told.
     pub(crate) fn dial(&mut self, host: &str, port: u16) -> io::Result<TcpLink<N::Socket>> {
         let dialed = self.dial_first(host, port);

@@ -67,6 +67,12 @@ impl<N: Network> TcpGate<N> {
         &self.network
     }
 
+    /// The places of its connections.
+    #[cfg(test)]
+    pub(crate) fn places(&self) -> &Places {
+        &self.places
+    }
+
     /// The next connection, when there is a place for it. It fails where the address can't be bound, and where the
     /// listener or memory fails.
     pub(crate) fn accept(&mut self) -> io::Result<TcpLink<N::Socket>> {

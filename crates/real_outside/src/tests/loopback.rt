@@ -25,8 +25,8 @@ const SHORT: Limits = Limits {
     fresh_crowded: 50,
     idle: 50,
     idle_crowded: 50,
-    piece: 50,
-    request: 50,
+    piece: 5_000,
+    request: 5_000,
     origin: 50,
     write: 50,
     whole: 1_000,
@@ -206,9 +206,9 @@ fn says(client: &mut TcpStream, bytes: &[u8]) -> bool {
     client.write_all(bytes).is_ok() && client.shutdown(Shutdown::Write).is_ok()
 }
 
-/// A connection on which nothing was said yet.
-fn meet(rt: HostRuntime) -> Option<Met> {
-    let (mut gate, port) = gate_on(rt, LIMITS)?;
+/// A connection on which nothing was said yet, with these limits.
+fn meet(rt: HostRuntime, limits: Limits) -> Option<Met> {
+    let (mut gate, port) = gate_on(rt, limits)?;
     let client = client_of(rt, port)?;
     let link = accepted(&mut gate)?;
     Some(Met { gate, client, link })
@@ -241,7 +241,7 @@ fn answers_a_client_that_ended(rt: HostRuntime) {
             mut client,
             mut link,
         },
-    ) = meet(rt)
+    ) = meet(rt, LIMITS)
     else {
         panic!(rt; "no connection");
     };
@@ -277,7 +277,7 @@ fn reset(met: Met) -> (Calls<3>, bool) {
 
 #[test]
 fn a_reset_is_no_end(rt: HostRuntime) {
-    let Some(met) = meet(rt) else {
+    let Some(met) = meet(rt, LIMITS) else {
         panic!(rt; "no connection");
     };
     assert_eq!(rt; reset(met), ([Ok(6), Err(Failed), Err(Failed)], true));
@@ -291,7 +291,7 @@ fn an_answer_arrives_before_what_nobody_read(rt: HostRuntime) {
             mut client,
             mut link,
         },
-    ) = meet(rt)
+    ) = meet(rt, LIMITS)
     else {
         panic!(rt; "no connection");
     };
@@ -314,21 +314,55 @@ fn fills<L: Link>(link: &mut L) -> bool {
     false
 }
 
-/// What a read from each end of a connection answers where nothing comes, and whether writes fail at last where nothing is read.
-fn waited(rt: HostRuntime) -> Option<(Calls<2>, bool)> {
-    let (mut gate, port) = gate_on(rt, SHORT)?;
+/// Whether a read from an origin fails that says nothing.
+fn is_silent_origin_left(rt: HostRuntime) -> Option<bool> {
+    let (_listener, port) = listener(rt)?;
     let mut dialer = dialer_on(rt, SHORT)?;
-    let mut silent_origin = dialer.dial(HOST, port).ok()?;
-    let mut silent_client = accepted(&mut gate)?;
+    match dialer.dial(HOST, port) {
+        Ok(mut link) => Some(link.read(&mut [0u8; 16]).is_err()),
+        Err(_) => None,
+    }
+}
+
+/// Whether a read from a client fails that says nothing, and writes fail at last that it doesn't read.
+fn is_silent_client_left(met: &mut Met) -> bool {
+    met.link.read(&mut [0u8; 16]).is_err() && fills(&mut met.link)
+}
+
+/// Whether the byte is read that a client sends, and no more is waited for than an idle connection is, once the link is
+/// told that a next request is awaited.
+fn gives_way(rt: HostRuntime, met: &mut Met) -> Option<bool> {
     let mut into = [0u8; 16];
-    let of_origin = silent_origin.read(&mut into);
-    let of_client = silent_client.read(&mut into);
-    Some(([of_origin, of_client], fills(&mut silent_client)))
+    met.client.write_all(b"x").ok()?;
+    let came = met.link.read(&mut into) == Ok(1);
+    met.link.await_request();
+    let start = Instant::now(&rt).ok()?;
+    let failed = met.link.read(&mut into).is_err();
+    let in_time = start.elapsed(&rt).ok()? < Duration::from_secs(3);
+    Some(came && failed && in_time)
+}
+
+/// Whether a silent client is left.
+fn leaves_a_silent_client(rt: HostRuntime) -> bool {
+    match meet(rt, SHORT) {
+        Some(mut met) => is_silent_client_left(&mut met),
+        None => false,
+    }
+}
+
+/// Whether an idle client is left in time.
+fn leaves_an_idle_client(rt: HostRuntime) -> bool {
+    match meet(rt, SHORT) {
+        Some(mut met) => gives_way(rt, &mut met) == Some(true),
+        None => false,
+    }
 }
 
 #[test]
 fn nobody_is_waited_for_without_a_limit(rt: HostRuntime) {
-    assert_eq!(rt; waited(rt), Some(([Err(Failed), Err(Failed)], true)));
+    assert_eq!(rt; is_silent_origin_left(rt), Some(true));
+    assert!(rt; leaves_a_silent_client(rt));
+    assert!(rt; leaves_an_idle_client(rt));
 }
 
 /// How many connections come at once.
@@ -450,9 +484,12 @@ fn one_taken(rt: HostRuntime) -> Option<OnePlace> {
     })
 }
 
-/// How many milliseconds go by before a gate gives a connection.
-fn millis_to_accept(rt: HostRuntime, mut gate: RealGate<HostRuntime>) -> Option<u128> {
-    let start = Instant::now(&rt).ok()?;
+/// How many milliseconds after a start a gate gives a connection.
+fn millis_to_accept(
+    rt: HostRuntime,
+    start: Instant,
+    mut gate: RealGate<HostRuntime>,
+) -> Option<u128> {
     let _link = accepted(&mut gate)?;
     Some(start.elapsed(&rt).ok()?.as_millis())
 }
@@ -476,12 +513,15 @@ fn a_gate_has_so_many_places(rt: HostRuntime) {
     else {
         panic!(rt; "no connection");
     };
+    let Ok(start) = Instant::now(&rt) else {
+        panic!(rt; "no time");
+    };
     let (waited, ()) = thread::join(
         &rt,
-        move || millis_to_accept(rt, gate),
+        move || millis_to_accept(rt, start, gate),
         move || end_later(rt, link),
     );
-    assert!(rt; matches!(waited, Some(90..=9_999)));
+    assert!(rt; matches!(waited, Some(100..=59_999)));
 }
 
 /// A gate that listens nowhere.

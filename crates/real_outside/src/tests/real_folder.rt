@@ -2,6 +2,7 @@
 //! No case can say it: a case has a disk in memory, and no folder is shared there.
 use crate::file_system::Lock;
 use crate::folder_disk::FolderDisk;
+use crate::system_files::c_path_of;
 use disk_model::Kind::{Cdxj, Warc};
 use disk_model::{Disk, Kind};
 use std::fs;
@@ -113,7 +114,7 @@ static READERS: [Row; 5] = [
     (Create(Warc), None),
 ];
 
-/// What another run finds.
+/// What another run finds beside a name that isn't UTF-8.
 static LATER: [Row; 5] = [
     (Files(Warc), Some(2)),
     (Files(Cdxj), Some(1)),
@@ -130,13 +131,16 @@ static REMOVED: [Row; 4] = [
     (Len(Warc, 1), None),
 ];
 
+/// What is answered of a file in whose place another was put.
+static REPLACED: [Row; 1] = [(Sync(Warc, 0), None)];
+
 /// What is answered where the last of the files was removed by hand.
 static MISSING: [Row; 2] = [(Files(Warc), None), (Sync(Warc, 2), None)];
 
 /// What is answered where a file was put there by hand.
 static PUT: [Row; 4] = [
-    (Files(Warc), None),
     (Create(Warc), None),
+    (Files(Warc), None),
     (Cut(Warc, 2, 0), None),
     (Len(Warc, 2), None),
 ];
@@ -154,6 +158,14 @@ static LATE: [Row; 5] = [
 fn holds(rt: HostRuntime, path: &str, want: &str) -> bool {
     match fs::read_to_string(&rt, path) {
         Ok(text) => text.as_str() == want,
+        Err(_) => false,
+    }
+}
+
+/// Makes a folder in the archive's whose name isn't UTF-8, and answers whether that succeeded.
+fn makes_a_name_that_is_no_text() -> bool {
+    match c_path_of(b"archive/\xff") {
+        Ok(path) => unsafe { libc::mkdir(&path, 0o700) == 0 },
         Err(_) => false,
     }
 }
@@ -183,8 +195,12 @@ fn keeps_numbered_files<R: Abort>(abort: &R, rt: HostRuntime) {
     check(abort, &mut disk_as(rt, Lock::Shared), &READERS);
     check(abort, &mut later, &LOCKED);
     drop(reader);
+    assert!(abort; makes_a_name_that_is_no_text());
     check(abort, &mut later, &LATER);
     assert!(abort; holds(rt, FIRST_PATH, "hello"));
+    assert!(abort; fs::remove_file(&rt, FIRST_PATH).is_ok());
+    assert!(abort; fs::write(&rt, FIRST_PATH, "other").is_ok());
+    check(abort, &mut later, &REPLACED);
     assert!(abort; fs::remove_file(&rt, THIRD_PATH).is_ok());
     check(abort, &mut later, &MISSING);
     assert!(abort; removes(rt));

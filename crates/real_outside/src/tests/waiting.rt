@@ -2,10 +2,13 @@
 //! No case can say it: the links of a case hold all their bytes, and no time goes by.
 use super::recorded_network::{LIMITS, Peer, RecordedSocket};
 use super::written::{Written, check, joined, written};
+use crate::limits;
+use crate::limits::Limits;
 use crate::places::{Place, Places};
 use crate::tcp::link::TcpLink;
 use std::alloc::Global;
 use std::io;
+use std::io::ErrorKind;
 
 /// One call of a link.
 #[derive(Clone, Copy)]
@@ -21,7 +24,7 @@ use Step::{Answer, Await, End, Read};
 /// Takes one step.
 fn take(link: &mut TcpLink<RecordedSocket>, step: Step) -> io::Result<usize> {
     match step {
-        Read => link.read(&mut [0u8; 64]),
+        Read => link.read(&mut [0u8; 4_096]),
         Answer => link.write(b"HTTP/1.1 200 OK\r\n\r\n"),
         Await => {
             link.await_request();
@@ -60,11 +63,8 @@ fn told(calls: &Written, answers: &Written, millis: u64) -> Written {
 }
 
 /// What was called of the socket, what the steps answered, and how many milliseconds went by.
-fn told_of(made: io::Result<TcpLink<RecordedSocket>>, steps: &[Step]) -> Written {
-    let Ok(mut link) = made else {
-        return Written::new();
-    };
-    let answers = answers_of(&mut link, steps);
+fn told_of(link: &mut TcpLink<RecordedSocket>, steps: &[Step]) -> Written {
+    let answers = answers_of(link, steps);
     let socket = link.socket();
     told(&socket.calls, &answers, socket.millis)
 }
@@ -83,11 +83,16 @@ use Who::{Client, Origin};
 type Row = (Who, bool, Peer, &'static [Step], &'static str);
 
 /// The link of a connection to this peer.
-fn link_to(places: &Places, who: Who, peer: Peer) -> io::Result<TcpLink<RecordedSocket>> {
+fn link_to(
+    places: &Places,
+    who: Who,
+    peer: Peer,
+    limits: &Limits,
+) -> io::Result<TcpLink<RecordedSocket>> {
     let socket = RecordedSocket::new(peer);
     match who {
-        Client => TcpLink::of_client(socket, places.of_client()?, &LIMITS),
-        Origin => TcpLink::of_origin(socket, places.of_origin()?, &LIMITS),
+        Client => TcpLink::of_client(socket, places.of_client()?, limits),
+        Origin => TcpLink::of_origin(socket, places.of_origin()?, limits),
     }
 }
 
@@ -100,26 +105,45 @@ fn other(places: &Places, waits: bool) -> io::Result<Place> {
     }
 }
 
+/// A connection beside another.
+#[derive(Drop)]
+struct Beside {
+    link: TcpLink<RecordedSocket>,
+    _other: Place,
+}
+
+/// The connection to this peer, beside one that waits to be read or doesn't.
+fn connection(
+    alloc: Global,
+    who: Who,
+    crowded: bool,
+    peer: Peer,
+    limits: &Limits,
+) -> io::Result<Beside> {
+    let Ok(places) = Places::new(alloc) else {
+        return Err(io::Error::from(ErrorKind::OutOfMemory));
+    };
+    let _other = other(&places, crowded)?;
+    let link = link_to(&places, who, peer, limits)?;
+    Ok(Beside { link, _other })
+}
+
 /// The causes that are told on the connection of a row.
 fn causes(alloc: Global, row: &Row) -> Option<Written> {
-    let (who, _, peer, steps, _) = row;
-    let places = Places::new(alloc).ok()?;
-    let mut link = link_to(&places, *who, *peer).ok()?;
-    for step in *steps {
-        let _answer = take(&mut link, *step);
-    }
-    Some(link.socket().causes)
+    let (who, crowded, peer, steps, _) = row;
+    let mut beside = connection(alloc, *who, *crowded, *peer, &LIMITS).ok()?;
+    let _answers = answers_of(&mut beside.link, steps);
+    Some(beside.link.socket().causes)
 }
 
 /// What is called and answered on the connection of a row.
 fn waited(alloc: Global, row: &Row) -> Option<Written> {
     let (who, crowded, peer, steps, _) = row;
-    let places = Places::new(alloc).ok()?;
-    let _other = other(&places, *crowded).ok()?;
-    Some(told_of(link_to(&places, *who, *peer), steps))
+    let mut beside = connection(alloc, *who, *crowded, *peer, &LIMITS).ok()?;
+    Some(told_of(&mut beside.link, steps))
 }
 
-static ROWS: [Row; 23] = [
+static ROWS: [Row; 24] = [
     (
         Client,
         false,
@@ -269,6 +293,13 @@ static ROWS: [Row; 23] = [
     ),
     (
         Origin,
+        false,
+        Peer::Trickles(3_000),
+        &[Read, Read, Read, Read],
+        "at once;out 2000;in 3000;read;read;read;read; 3000;3000;3000;3000; 9000",
+    ),
+    (
+        Origin,
         true,
         Peer::Trickles(10),
         &[Read, Read],
@@ -290,6 +321,70 @@ fn each_wait_has_its_limit(rt: HostRuntime) {
             Some(told) => check(&rt, told, row.4),
             None => panic!(rt; "no memory"),
         }
+    }
+}
+
+/// Who is at the other end, whether another connection waits to be read, what the peer does, what is done once and what is
+/// done from then on, and how many milliseconds go by until that fails.
+type Lasting = (Who, bool, Peer, &'static [Step], Step, u64);
+
+/// What a user meets, by the limits of the program: a client that says nothing, one that stops, a head of which a byte a
+/// second comes, an idle one, an origin that says nothing, events of 20 bytes a second, and a client that takes a byte now
+/// and then or none.
+static LASTING: [Lasting; 12] = [
+    (Client, false, Peer::Silent, &[], Read, 10_000),
+    (Client, true, Peer::Silent, &[], Read, 2_000),
+    (Client, true, Peer::SendsOnce(10), &[], Read, 30_000),
+    (Client, false, Peer::Trickles(3), &[], Read, 60_063),
+    (
+        Client,
+        false,
+        Peer::SendsOnce(10),
+        &[Read, Answer, Await],
+        Read,
+        5_500,
+    ),
+    (
+        Client,
+        true,
+        Peer::SendsOnce(10),
+        &[Read, Answer, Await],
+        Read,
+        50,
+    ),
+    (Origin, true, Peer::Silent, &[Answer], Read, 60_000),
+    (Origin, false, Peer::Trickles(60), &[Answer], Read, 612_300),
+    (Origin, true, Peer::Trickles(60), &[Answer], Read, 61_260),
+    (Client, true, Peer::TakesNothing, &[], Answer, 30_000),
+    (Client, false, Peer::TakesBytes, &[], Answer, 600_315),
+    (Client, true, Peer::TakesBytes, &[], Answer, 60_031),
+];
+
+/// More calls than succeed on any of these connections.
+const CALLS: u32 = 1_000;
+
+/// The milliseconds at which a step fails that is taken again and again.
+fn millis_to_failure(link: &mut TcpLink<RecordedSocket>, step: Step) -> u64 {
+    for _ in 0..CALLS {
+        if take(link, step).is_err() {
+            break;
+        }
+    }
+    link.socket().millis
+}
+
+/// How long the program stays on the connection of a row.
+fn lasts(alloc: Global, row: &Lasting) -> Option<u64> {
+    let (who, crowded, peer, steps, last, _) = row;
+    let mut beside = connection(alloc, *who, *crowded, *peer, &limits::LIMITS).ok()?;
+    let _answers = answers_of(&mut beside.link, steps);
+    Some(millis_to_failure(&mut beside.link, *last))
+}
+
+#[test]
+fn nobody_holds_a_worker_for_long(rt: HostRuntime) {
+    for row in &LASTING {
+        assert_eq!(rt; lasts(rt.alloc(), row), Some(row.5));
     }
 }
 
