@@ -145,7 +145,12 @@ fn add(alloc: Global, index: &mut Index, text: &[u8]) -> Result<bool, Memory> {
 }
 
 /// An entry of the url. `None` where it has no key, or a record can't have the date.
-fn entry_of(alloc: Global, uri: &[u8], date: u64, number: u32) -> Result<Option<Entry>, Memory> {
+pub fn entry_of(
+    alloc: Global,
+    uri: &[u8],
+    date: u64,
+    number: u32,
+) -> Result<Option<Entry>, Memory> {
     let key = match key_of(alloc, uri) {
         Ok(key) => key,
         Err(KeyFault::NotHttp) => return Ok(None),

@@ -1,10 +1,11 @@
-//! Calls over tables, by name: tables of names, the index of captures, and the table of their digests. The answer is a text: what the
-//! table tells.
+//! Calls over tables, by name: tables of names, the index of captures, queries over it, and the table of their digests. The answer is a
+//! text: what the table tells.
 #![tactic(auto)]
 
 mod captures;
 mod entries;
 mod names;
+mod queries;
 
 use capture::Memory;
 use case_texts::{Call, always};
@@ -19,6 +20,9 @@ pub fn answer(alloc: Global, call: &Call) -> Result<Option<Vec<u8>>, Memory> {
         "nearest" => entries::nearest_of(alloc, text),
         "of_key" => entries::of_key(alloc, text),
         "starting" => entries::starting(alloc, text),
+        "read_query" => always(queries::query_read(alloc, text)),
+        "answer_query" => queries::query_answered(alloc, text),
+        "answer_many" => queries::many_answered(alloc, text),
         "candidates" => captures::candidates_of(alloc, text),
         _ => Ok(None),
     }

@@ -1,0 +1,172 @@
+//! Calls of `cdx_query`.
+
+use crate::entries::entry_of;
+use capture::{Memory, Text, put_all, put_number};
+use case_language::{number_in, split_word};
+use case_texts::{always, told};
+use cdx_query::{MatchKind, Query, QueryFault, answer, read_query};
+use cdxj_index::{Entry, Index};
+use cdxj_line::read_line;
+use digest32::{base32_of, payload_digest};
+use std::alloc::Global;
+
+/// 2024-01-31T12:00:00Z, in milliseconds since 1970.
+const NOON: u64 = 1_706_702_400_000;
+
+/// The parts of the query, or `BadQuery`.
+pub fn query_read(alloc: Global, text: &[u8]) -> Result<Vec<u8>, Memory> {
+    match read_query(alloc, text) {
+        Ok(query) => query_text(alloc, &query),
+        Err(QueryFault::BadQuery) => told(alloc, b"BadQuery"),
+        Err(QueryFault::Memory) => Err(Memory),
+    }
+}
+
+/// The match type, the key, the start, the times, the limit and the output.
+fn query_text(alloc: Global, query: &Query) -> Result<Vec<u8>, Memory> {
+    let mut out = told(alloc, kind_word(query.kind))?;
+    put_word(&mut out, query.key.as_slice())?;
+    put_word(&mut out, query.start.as_slice())?;
+    put_time(&mut out, &query.from)?;
+    put_time(&mut out, &query.to)?;
+    put_limit(&mut out, query.limit)?;
+    put_word(&mut out, query.media_type())?;
+    Ok(out)
+}
+
+fn kind_word(kind: MatchKind) -> &'static [u8] {
+    match kind {
+        MatchKind::Exact => b"exact",
+        MatchKind::Prefix => b"prefix",
+        MatchKind::Host => b"host",
+        MatchKind::Domain => b"domain",
+    }
+}
+
+fn put_word(out: &mut Vec<u8>, word: &[u8]) -> Result<(), Memory> {
+    put_all(out, b" ")?;
+    put_all(out, word)
+}
+
+fn put_time(out: &mut Vec<u8>, time: &Option<Text>) -> Result<(), Memory> {
+    match time {
+        Some(digits) => put_word(out, digits.as_slice()),
+        None => put_word(out, b"None"),
+    }
+}
+
+fn put_limit(out: &mut Vec<u8>, limit: Option<u32>) -> Result<(), Memory> {
+    match limit {
+        Some(count) => {
+            put_all(out, b" ")?;
+            put_number(out, u64::from(count))
+        }
+        None => put_word(out, b"None"),
+    }
+}
+
+/// What a query is answered. Behind it stand the lines of the captures that are shown, each ended by LF, in any order.
+pub fn query_answered(alloc: Global, text: &[u8]) -> Result<Option<Vec<u8>>, Memory> {
+    let (asked, lines) = split_line(text);
+    let mut index = Index::new(alloc);
+    if !add_lines(alloc, &mut index, lines)? {
+        return Ok(None);
+    }
+    always(answer_text(alloc, asked, &index))
+}
+
+/// What stands before the first LF, and what stands behind it.
+fn split_line(text: &[u8]) -> (&[u8], &[u8]) {
+    match text.iter().position(|byte| *byte == b'\n') {
+        Some(place) => (&text[..place], &text[place + 1..]),
+        None => (text, &[]),
+    }
+}
+
+/// Adds the entries of these lines, up to the first that is none. Whether all are.
+fn add_lines(alloc: Global, index: &mut Index, lines: &[u8]) -> Result<bool, Memory> {
+    let mut rest = lines;
+    for _ in 0..lines.len() {
+        if rest.is_empty() {
+            return Ok(true);
+        }
+        let (line, others) = split_line(rest);
+        if !add_line(alloc, index, line)? {
+            return Ok(false);
+        }
+        rest = others;
+    }
+    Ok(rest.is_empty())
+}
+
+/// Adds the entry of this line, to which its LF is given back. Whether it is a line, of a number that isn't there yet.
+fn add_line(alloc: Global, index: &mut Index, line: &[u8]) -> Result<bool, Memory> {
+    let mut whole = told(alloc, line)?;
+    put_all(&mut whole, b"\n")?;
+    let Some(line) = read_line(alloc, whole.as_slice())? else {
+        return Ok(false);
+    };
+    let entry = Entry::of_line(line);
+    if index.at(entry.number).is_some() {
+        return Ok(false);
+    }
+    index.add(alloc, entry)?;
+    Ok(true)
+}
+
+/// The answer from the entries of the index that begin as the query says.
+fn answer_text(alloc: Global, text: &[u8], index: &Index) -> Result<Vec<u8>, Memory> {
+    let query = match read_query(alloc, text) {
+        Ok(query) => query,
+        Err(QueryFault::BadQuery) => return told(alloc, b"BadQuery"),
+        Err(QueryFault::Memory) => return Err(Memory),
+    };
+    let mut entries = Vec::new(alloc);
+    for entry in index.starting(&query.start) {
+        entries.push(entry.copy()?)?;
+    }
+    let answer = answer(alloc, &query, entries.as_slice())?;
+    told(alloc, answer.as_slice())
+}
+
+/// The length and the digest of what a query is answered from many entries. Before it stands how many there are.
+pub fn many_answered(alloc: Global, text: &[u8]) -> Result<Option<Vec<u8>>, Memory> {
+    let Some((count, asked)) = split_word(text) else {
+        return Ok(None);
+    };
+    let Some(count) = number_in(count.as_bytes()) else {
+        return Ok(None);
+    };
+    match u32::try_from(count) {
+        Ok(count) => always(answer_size(alloc, asked, count)),
+        Err(_) => Ok(None),
+    }
+}
+
+fn answer_size(alloc: Global, text: &[u8], count: u32) -> Result<Vec<u8>, Memory> {
+    let query = match read_query(alloc, text) {
+        Ok(query) => query,
+        Err(QueryFault::BadQuery) => return told(alloc, b"BadQuery"),
+        Err(QueryFault::Memory) => return Err(Memory),
+    };
+    let mut entries = Vec::new(alloc);
+    for number in 0..count {
+        entries.push(page_of(alloc, number)?)?;
+    }
+    let answer = answer(alloc, &query, entries.as_slice())?;
+    let mut out = Vec::new(alloc);
+    put_number(&mut out, answer.as_slice().len() as u64)?;
+    put_word(&mut out, &base32_of(&payload_digest(answer.as_slice())))?;
+    Ok(out)
+}
+
+/// The entry of a page of its own, each a second behind the one before it.
+fn page_of(alloc: Global, number: u32) -> Result<Entry, Memory> {
+    let uri = format!(in alloc; "http://a.test/{number:07}")?;
+    let date = NOON + 1_000 * u64::from(number);
+    match entry_of(alloc, uri.as_bytes(), date, number) {
+        Ok(Some(entry)) => Ok(entry),
+        Ok(None) => Err(Memory),
+        Err(Memory) => Err(Memory),
+    }
+}
