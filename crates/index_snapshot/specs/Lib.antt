@@ -1,0 +1,4 @@
+pub mod Places
+pub mod Edges
+pub mod Listings
+pub mod Publishing
