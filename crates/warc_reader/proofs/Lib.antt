@@ -1,0 +1,3 @@
+mod OneReading
+mod RecordLaws
+mod ValueLaws
