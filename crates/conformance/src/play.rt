@@ -258,5 +258,8 @@ fn answer_to(alloc: Global, call: &Call) -> Result<Option<Vec<u8>>, Memory> {
     if let Some(text) = case_exchanges::answer(alloc, call)? {
         return Ok(Some(text));
     }
+    if let Some(text) = case_imports::answer(alloc, call)? {
+        return Ok(Some(text));
+    }
     case_objects::answer(alloc, call)
 }
