@@ -13,13 +13,13 @@ use Rattle.archive_shelf.specs.Openings.{Keeps}
 use Rattle.archive_shelf.specs.declared.fault.StoreFault.{StoreFault}
 use Rattle.archive_shelf.specs.declared.fault.StoreFault.TheVariants as stores
 use Rattle.archive_shelf.specs.declared.receipt.Receipt.{Receipt}
-use Rattle.archive_core.specs.Choosing.{is_look_fault}
+use Rattle.archive_volumes.specs.Choosing.{is_look_fault}
 use Rattle.archive_core.specs.Holdings.{Holdings, contents_of}
 use Rattle.archive_core.specs.Looking.{LooksFor, OnlyLooks}
 use Rattle.archive_core.specs.Stores.{Admits, LeavesOpen, Stores}
-use Rattle.archive_core.specs.Volumes.{IsQuiet, moment_of, opens}
-use Rattle.archive_core.proofs.ChangeLaws.{DiskLaws}
-use Rattle.archive_core.proofs.StoreLaws.{keeps_from, quiet_itself, quiet_keeps}
+use Rattle.archive_volumes.specs.Volumes.{IsQuiet, moment_of, opens}
+use Rattle.archive_volumes.proofs.ChangeLaws.{DiskLaws}
+use Rattle.archive_volumes.proofs.StoreLaws.{keeps_from, quiet_itself, quiet_keeps}
 
 -- ---- nothing was written
 

@@ -24,9 +24,9 @@ use Rattle.archive_shelf.proofs.GainingSoundness.{no_volumes}
 use Rattle.archive_shelf.proofs.StoringLaws.{capture_grows, captures_more, captures_stay, volume_grows}
 use Rattle.archive_shelf.specs.Entering.{EntriesAreAll, EntriesGainOne, EntriesStayAll, NewEntriesAreOfTheirCaptures, TellsOfNew}
 use Rattle.archive_shelf.specs.Storing.{with_capture}
-use Rattle.archive_core.proofs.TakenGroup.{IsGroupWith}
-use Rattle.archive_core.specs.Storing.{with_prepared}
-use Rattle.archive_core.specs.declared.prepared.Prepared.{Prepared}
+use Rattle.archive_volumes.proofs.TakenGroup.{IsGroupWith}
+use Rattle.archive_volumes.specs.Writing.{with_prepared}
+use Rattle.archive_volumes.specs.declared.room.Prepared.{Prepared}
 
 -- ---- the entry of the capture
 

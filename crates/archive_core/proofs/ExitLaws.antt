@@ -39,31 +39,31 @@ use Rattle.archive_shelf.specs.declared.fault.StoreFault.{StoreFault}
 use Rattle.archive_shelf.specs.declared.fault.StoreFault.TheVariants as stores
 use Rattle.archive_shelf.specs.declared.receipt.Receipt.{Receipt}
 use Rattle.archive_core.specs.Basis.{StoringBasis}
-use Rattle.archive_core.specs.Entries.{EntersAs, IsEntryAt, entered}
-use Rattle.archive_core.specs.Held.{book_of}
+use Rattle.archive_volumes.specs.Entries.{EntersAs, IsEntryAt, entered}
+use Rattle.archive_volumes.specs.Held.{book_of}
 use Rattle.archive_core.specs.Holdings.{AreLimits, Holdings, IsArchive, contents_of}
 use Rattle.archive_core.specs.Looking.{IsDigestOf, RefersTo}
-use Rattle.archive_core.specs.Ready.{CanCommit, IsReady, record_in}
+use Rattle.archive_volumes.specs.Ready.{CanCommit, IsReady, record_in}
 use Rattle.archive_core.specs.Shown.{numbered, numbers_from}
-use Rattle.archive_core.specs.Spots.{ArePlaced, AreSpotsOf, text_at, whole_from}
+use Rattle.archive_volumes.specs.Spots.{ArePlaced, AreSpotsOf, text_at, whole_from}
 use Rattle.archive_core.specs.Stores.{Stores}
-use Rattle.archive_core.specs.Storing.{HasRoomFor, IsWay, TakesSo, Writes, texts_with, with_prepared}
-use Rattle.archive_core.specs.Volumes.{HoldsBook, IsMeasured, covers, moment_of, opens}
-use Rattle.archive_core.specs.declared.entering.RecordAt.{RecordAt}
-use Rattle.archive_core.specs.declared.prepared.Prepared.{Prepared}
-use Rattle.archive_core.specs.declared.ready.Incoming.{Incoming}
-use Rattle.archive_core.specs.declared.ready.Ready.{Ready}
-use Rattle.archive_core.specs.declared.spot.Spot.{Spot}
-use Rattle.archive_core.specs.declared.volumes.Volumes.{Volumes}
-use Rattle.archive_core.proofs.ChangeLaws.{DiskLaws}
+use Rattle.archive_volumes.specs.Writing.{HasRoomFor, IsWay, TakesSo, Writes, texts_with, with_prepared}
+use Rattle.archive_volumes.specs.Volumes.{HoldsBook, IsMeasured, covers, moment_of, opens}
+use Rattle.archive_volumes.specs.declared.entry.RecordAt.{RecordAt}
+use Rattle.archive_volumes.specs.declared.room.Prepared.{Prepared}
+use Rattle.archive_volumes.specs.declared.ready.Incoming.{Incoming}
+use Rattle.archive_volumes.specs.declared.ready.Ready.{Ready}
+use Rattle.archive_volumes.specs.declared.spot.Spot.{Spot}
+use Rattle.archive_volumes.specs.declared.volumes.Volumes.{Volumes}
+use Rattle.archive_volumes.proofs.ChangeLaws.{DiskLaws}
 use Rattle.archive_core.proofs.EnterLaws.{TellsOfCapture, known_left, known_room, known_with, known_without, tells_of_new}
 use Rattle.archive_core.proofs.PayloadLaws.{has_one, one_payload}
 use Rattle.archive_core.proofs.ReadyLaws.{can_commit, ready_now, with_count, with_end}
 use Rattle.archive_core.proofs.ShownLaws.{numbered_with, taken_out}
-use Rattle.archive_core.proofs.StoreLaws.{quiet_itself, store_covered, store_later, store_moves, store_refused}
+use Rattle.archive_volumes.proofs.StoreLaws.{quiet_itself, store_covered, store_later, store_moves, store_refused}
 use Rattle.archive_core.proofs.StoredLaws.{archive_left, archive_stored}
-use Rattle.archive_core.proofs.TakenGroup.{IsGroupWith}
-use Rattle.archive_core.proofs.WayLaws.{by_rule, group_with, needed_by, room_captures, room_gains, room_namespace, room_some, way}
+use Rattle.archive_volumes.proofs.TakenGroup.{IsGroupWith}
+use Rattle.archive_volumes.proofs.WayLaws.{by_rule, group_with, needed_by, room_captures, room_gains, room_namespace, room_some, way}
 
 -- ---- without memory: all is as it was, but for what is reserved
 

@@ -16,8 +16,8 @@ use Rattle.archive_shelf.proofs.GainingTexts.{same_length}
 use Rattle.archive_shelf.proofs.StoringLaws.{captures_more, captures_stay}
 use Rattle.archive_shelf.specs.Openings.{HasIds, ImageStandsFor, IsNext, OpensNext, SameBook}
 use Rattle.archive_shelf.specs.Storing.{with_capture, with_volume}
-use Rattle.archive_core.proofs.ChangeLaws.{DiskLaws, no_volumes_by, now_image, one_with}
-use Rattle.archive_core.specs.Volumes.{OpensNear, moment_of, opens}
+use Rattle.archive_volumes.proofs.ChangeLaws.{DiskLaws, no_volumes_by, now_image, one_with}
+use Rattle.archive_volumes.specs.Volumes.{OpensNear, moment_of, opens}
 
 -- what a book with a volume that is next to another one has of it
 pub record IsLike (book x : Book) : Type 0 where

@@ -16,13 +16,13 @@ use Rattle.archive_shelf.specs.Answers.{AgreesAt, Brings, ShowsNone}
 use Rattle.archive_shelf.specs.Storing.{is_revisit}
 use Rattle.archive_shelf.specs.declared.fault.BringFault.{BringFault}
 use Rattle.archive_shelf.specs.declared.fault.BringFault.TheVariants as brings
-use Rattle.archive_core.specs.Bringing.{BringsFrom, OnlyReads}
-use Rattle.archive_core.specs.Held.{book_of}
+use Rattle.archive_volumes.specs.Bringing.{BringsFrom, OnlyReads}
+use Rattle.archive_volumes.specs.Held.{book_of}
 use Rattle.archive_core.specs.Holdings.{Holdings, IsArchive, contents_of}
 use Rattle.archive_core.specs.Looking.{OnlyLooks}
-use Rattle.archive_core.specs.Spots.{ArePlaced, AreSpotsOf}
-use Rattle.archive_core.specs.Volumes.{HoldsBook, IsMeasured, IsQuiet}
-use Rattle.archive_core.specs.declared.volumes.Volumes.{Volumes}
+use Rattle.archive_volumes.specs.Spots.{ArePlaced, AreSpotsOf}
+use Rattle.archive_volumes.specs.Volumes.{HoldsBook, IsMeasured, IsQuiet}
+use Rattle.archive_volumes.specs.declared.volumes.Volumes.{Volumes}
 use Rattle.archive_core.proofs.ShownLaws.{shown_from}
 
 module _ {D : Type 0} (d : Ghosts D) (held : Holdings D) (old new : Volumes D)

@@ -18,19 +18,19 @@ use Rattle.warc_text.specs.StandsFor.{GroupsAreCommitted, commit_byte}
 use Rattle.archive_shelf.specs.Comparing.{CanRefer, RefersBy}
 use Rattle.archive_shelf.specs.Gaining.{CapturesAddTheirGroup, StoringKeepsSoundness}
 use Rattle.archive_shelf.specs.Storing.{as_stored, new_volume, with_capture}
-use Rattle.archive_core.proofs.KeepLaws.{spot_is, spot_placed}
-use Rattle.archive_core.proofs.RoomLaws.{last_long, texts_count}
-use Rattle.archive_core.proofs.WayLaws.{group_in_room, room_gains, room_some, sound_after}
-use Rattle.archive_core.specs.Grouping.{IsGroupFor, block_of}
-use Rattle.archive_core.specs.Held.{book_of}
-use Rattle.archive_core.specs.Ready.{CanCommit, IsReady}
-use Rattle.archive_core.specs.Spots.{IsPlaced, IsSpotOf, spot_of, text_at}
-use Rattle.archive_core.specs.Storing.{IsDecided, end_with, texts_with, with_prepared}
-use Rattle.archive_core.specs.Volumes.{HoldsBook, IsMeasured}
-use Rattle.archive_core.specs.declared.prepared.Prepared.{Prepared}
-use Rattle.archive_core.specs.declared.ready.Incoming.{Incoming}
-use Rattle.archive_core.specs.declared.ready.Ready.{Ready}
-use Rattle.archive_core.specs.declared.volumes.Volumes.{Volumes}
+use Rattle.archive_volumes.proofs.KeepLaws.{spot_is, spot_placed}
+use Rattle.archive_volumes.proofs.RoomLaws.{last_long, texts_count}
+use Rattle.archive_volumes.proofs.WayLaws.{group_in_room, room_gains, room_some, sound_after}
+use Rattle.archive_volumes.specs.Grouping.{IsGroupFor, block_of}
+use Rattle.archive_volumes.specs.Held.{book_of}
+use Rattle.archive_volumes.specs.Ready.{CanCommit, IsReady}
+use Rattle.archive_volumes.specs.Spots.{IsPlaced, IsSpotOf, spot_of, text_at}
+use Rattle.archive_volumes.specs.Writing.{IsDecided, end_with, texts_with, with_prepared}
+use Rattle.archive_volumes.specs.Volumes.{HoldsBook, IsMeasured}
+use Rattle.archive_volumes.specs.declared.room.Prepared.{Prepared}
+use Rattle.archive_volumes.specs.declared.ready.Incoming.{Incoming}
+use Rattle.archive_volumes.specs.declared.ready.Ready.{Ready}
+use Rattle.archive_volumes.specs.declared.volumes.Volumes.{Volumes}
 
 -- room was made in the same volumes
 pub ready_now : {D : Type 0} (old now : Volumes D) (limit : ℕ) (incoming : Incoming) (payload : List ℕ) (ready : Ready)

@@ -29,17 +29,17 @@ use Rattle.archive_shelf.specs.Storing.{is_revisit}
 use Rattle.archive_shelf.specs.declared.fault.ReopenFault.{ReopenFault}
 use Rattle.archive_shelf.specs.declared.fault.ReopenFault.TheVariants as faults
 use Rattle.archive_core.proofs.ArchiveLaws.{entries_shown}
-use Rattle.archive_core.proofs.ChangeLaws.{DiskLaws, moment_told, now_image, one_of, quiet_by, stands}
-use Rattle.archive_core.specs.Gathering.{IsInStepWith, IsOpened, IsUsable}
-use Rattle.archive_core.specs.Held.{book_of}
+use Rattle.archive_volumes.proofs.ChangeLaws.{DiskLaws, moment_told, now_image, one_of, quiet_by, stands}
+use Rattle.archive_opening.specs.Gathering.{IsInStepWith, IsOpened, IsUsable}
+use Rattle.archive_volumes.specs.Held.{book_of}
 use Rattle.archive_core.specs.Holdings.{AreLimits, Holdings, IsArchive}
-use Rattle.archive_core.specs.Opening.{CountsFault, HoldsOther, IsCause, IsDamageIn, IsIn, IsOtherIn}
+use Rattle.archive_opening.specs.Opening.{CountsFault, HoldsOther, IsCause, IsDamageIn, IsIn, IsOtherIn}
 use Rattle.archive_core.specs.Reopening.{IsAskedFor, IsMadeOf, IsNotOpened, IsOutside, IsReopened}
 use Rattle.archive_core.specs.Shown.{numbered, numbers_from}
-use Rattle.archive_core.specs.Spots.{ArePlaced, AreSpotsOf, form_of, is_same_form}
-use Rattle.archive_core.specs.Volumes.{HoldsBook, IsMeasured}
-use Rattle.archive_core.specs.declared.opening.Opened.{Opened}
-use Rattle.archive_core.specs.declared.spot.Spot.{Spot}
+use Rattle.archive_volumes.specs.Spots.{ArePlaced, AreSpotsOf, form_of, is_same_form}
+use Rattle.archive_volumes.specs.Volumes.{HoldsBook, IsMeasured}
+use Rattle.archive_opening.specs.declared.opening.Opened.{Opened}
+use Rattle.archive_volumes.specs.declared.spot.Spot.{Spot}
 
 -- ---- how many refer to an earlier one
 

@@ -17,11 +17,11 @@ use Rattle.archive_shelf.proofs.StoringLaws.{captures_stay, volume_grows}
 use Rattle.archive_shelf.specs.Storing.{is_revisit, new_volume, rolled_in, with_volume}
 use Rattle.archive_shelf.specs.declared.fault.RollFault.{RollFault}
 use Rattle.archive_shelf.specs.declared.fault.RollFault.TheVariants as rolls
-use Rattle.archive_core.specs.Held.{is_filled}
+use Rattle.archive_volumes.specs.Held.{is_filled}
 use Rattle.archive_core.specs.Holdings.{Holdings, IsArchive}
 use Rattle.archive_core.specs.Rolling.{MayBeRefused, Rolls, WritesNoVolume}
-use Rattle.archive_core.specs.Volumes.{HoldsBook, IsMeasured, Makes}
-use Rattle.archive_core.proofs.SpotLaws.{GoOn, placed_stay, spots_stay}
+use Rattle.archive_volumes.specs.Volumes.{HoldsBook, IsMeasured, Makes}
+use Rattle.archive_volumes.proofs.SpotLaws.{GoOn, placed_stay, spots_stay}
 
 -- ---- the volumes
 

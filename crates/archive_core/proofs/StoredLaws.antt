@@ -16,9 +16,9 @@ use Rattle.warc_journal.specs.declared.journal.Journal.{Journal}
 use Rattle.archive_shelf.proofs.EntryLaws.{contains_entry}
 use Rattle.archive_shelf.specs.Storing.{is_revisit}
 use Rattle.archive_core.specs.Holdings.{Holdings, IsArchive}
-use Rattle.archive_core.specs.Spots.{ArePlaced, AreSpotsOf, whole_from}
-use Rattle.archive_core.specs.Volumes.{HoldsBook, IsMeasured}
-use Rattle.archive_core.specs.declared.spot.Spot.{Spot}
+use Rattle.archive_volumes.specs.Spots.{ArePlaced, AreSpotsOf, whole_from}
+use Rattle.archive_volumes.specs.Volumes.{HoldsBook, IsMeasured}
+use Rattle.archive_volumes.specs.declared.spot.Spot.{Spot}
 
 one_more : (b : Bool) (n : ℕ) → n + (cond b 1 0 + 0) ≡ n + (if b then 1 else 0)
 one_more true n = omega arith

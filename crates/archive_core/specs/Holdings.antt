@@ -14,9 +14,9 @@ use Rattle.warc_journal.specs.declared.journal.Journal.{Journal}
 use Rattle.archive_shelf.specs.Contents.{Contents}
 use Rattle.archive_shelf.specs.Storing.{is_revisit}
 use Rattle.archive_core.specs.Shown.{numbered, numbers_from}
-use Rattle.archive_core.specs.Spots.{ArePlaced, AreSpotsOf, whole_from}
-use Rattle.archive_core.specs.Volumes.{HoldsBook, IsMeasured}
-use Rattle.archive_core.specs.declared.spot.Spot.{Spot}
+use Rattle.archive_volumes.specs.Spots.{ArePlaced, AreSpotsOf, whole_from}
+use Rattle.archive_volumes.specs.Volumes.{HoldsBook, IsMeasured}
+use Rattle.archive_volumes.specs.declared.spot.Spot.{Spot}
 
 -- What an archive holds: the journal of its volumes and their book, the index, the table of digests, what is kept of each
 -- capture, its limits, how many captures it found when it was opened, and how many refer to another one.

@@ -14,7 +14,7 @@ use Rattle.archive_shelf.specs.declared.fault.StoreFault.{StoreFault}
 use Rattle.archive_shelf.specs.declared.fault.StoreFault.TheVariants as stores
 use Rattle.archive_shelf.specs.declared.looked.Looked.{Looked}
 use Rattle.archive_core.specs.Holdings.{Holdings}
-use Rattle.archive_core.specs.Volumes.{IsQuiet}
+use Rattle.archive_volumes.specs.Volumes.{IsQuiet}
 
 -- All stays but the disk: that gives what it gave, and nothing more may be opened.
 pub record OnlyLooks {D : Type 0} (d : Ghosts D) (was is : Holdings D) : Type 0 where

@@ -13,12 +13,12 @@ use Rattle.warc_text.specs.StandsFor.{IdsDifferIn, StandsFor}
 use Rattle.archive_shelf.specs.Openings.{ImageStandsFor, IsState, SameBook}
 use Rattle.archive_shelf.specs.declared.fault.ReopenFault.{ReopenFault}
 use Rattle.archive_shelf.specs.declared.fault.ReopenFault.TheVariants as faults
-use Rattle.archive_core.specs.Held.{book_of}
+use Rattle.archive_volumes.specs.Held.{book_of}
 use Rattle.archive_core.specs.Holdings.{Holdings, contents_of}
-use Rattle.archive_core.specs.Opening.{CountsFault, IsCause, IsDamageIn, IsIn, IsOtherIn}
+use Rattle.archive_opening.specs.Opening.{CountsFault, IsCause, IsDamageIn, IsIn, IsOtherIn}
 use Rattle.archive_core.specs.Shown.{numbered}
-use Rattle.archive_core.specs.declared.opening.Opened.{Opened}
-use Rattle.archive_core.specs.Volumes.{IsQuiet, covers, moment_of, opens}
+use Rattle.archive_opening.specs.declared.opening.Opened.{Opened}
+use Rattle.archive_volumes.specs.Volumes.{IsQuiet, covers, moment_of, opens}
 
 -- An archive as it is opened on a disk.
 pub record IsReopened {D : Type 0} (d : Ghosts D) (disk : D) (asked : Option (List ℕ)) (limits : Limits) (held : Holdings D) : Type 0 where

@@ -7,9 +7,9 @@ use Rattle.archive_shelf.specs.Answers.{CountsIf}
 use Rattle.archive_shelf.specs.Storing.{rolled, with_volume}
 use Rattle.archive_shelf.specs.declared.fault.RollFault.{RollFault}
 use Rattle.archive_shelf.specs.declared.fault.RollFault.TheVariants as rolls
-use Rattle.archive_core.specs.Held.{is_filled}
+use Rattle.archive_volumes.specs.Held.{is_filled}
 use Rattle.archive_core.specs.Holdings.{Holdings}
-use Rattle.archive_core.specs.Volumes.{Makes}
+use Rattle.archive_volumes.specs.Volumes.{Makes}
 
 abbrev pub is_roll_fault : {T : Type 0} → Result T RollFault → Bool
 is_roll_fault (Ok done) = false

@@ -11,7 +11,7 @@ use Rattle.archive_shelf.specs.declared.fault.StoreFault.{StoreFault}
 use Rattle.archive_shelf.specs.declared.fault.StoreFault.TheVariants as stores
 use Rattle.archive_shelf.specs.declared.receipt.Receipt.{Receipt}
 use Rattle.archive_core.specs.Holdings.{Holdings, contents_of}
-use Rattle.archive_core.specs.Volumes.{covers, moment_of, opens}
+use Rattle.archive_volumes.specs.Volumes.{covers, moment_of, opens}
 
 -- Whether a capture more may be stored: it is full exactly where there are as many as there may be.
 abbrev pub Admits : {T : Type 0} → Contents → Result T StoreFault → Type 0

@@ -1,5 +1,5 @@
 -- What a clause sees of an archive.
-use Rattle.archive_core.specs.Held.{book_of}
+use Rattle.archive_volumes.specs.Held.{book_of}
 use Rattle.archive_core.specs.Holdings.{Holdings}
 use Rattle.archive_core.specs.declared.archive.Archive.TheInside.{Inside}
 

@@ -5,12 +5,11 @@ ghost use Rattle.warc_journal.specs.Journals.{disk_of};
 ghost use Rattle.archive_shelf.specs.Storing.{counts_of};
 ghost use Rattle.archive_core.specs.Holdings.{contents_of};
 ghost use Rattle.archive_core.specs.Stores.{Admits};
-ghost use Rattle.archive_core.specs.Volumes.{OpensNear};
+ghost use Rattle.archive_volumes.specs.Volumes.{OpensNear};
 
 use crate::finding;
-use crate::spot::Spot;
-use crate::volumes::Volumes;
 use archive_shelf::{Counts, Finder, StoreFault};
+use archive_volumes::{Spot, Volumes};
 use capture::{Limits, Memory};
 use cdxj_index::{Entry, Index};
 use disk_model::{Disk, MemoryDisk};
@@ -122,7 +121,7 @@ impl Archive<MemoryDisk> {
 impl<D: Disk> Finder for Archive<D> {
     ghost use Rattle.std.specs.Prelude.{true};
     ghost use Rattle.archive_core.specs.Holdings.{contents_of};
-    ghost use Rattle.archive_core.specs.Volumes.{covers, moment_of, opens};
+    ghost use Rattle.archive_volumes.specs.Volumes.{covers, moment_of, opens};
     ghost use Rattle.warc_journal.specs.Journals.{disk_of};
 
     ghost alone = { true };

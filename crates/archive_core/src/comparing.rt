@@ -1,17 +1,21 @@
-//! How a payload is compared with those of the captures, before it is stored.
-ghost use Rattle.std.specs.Prelude.{◌≡◌, IsTrue, OnOk};
+//! How a payload is compared with those of the captures, and which earlier capture a new one refers to.
+ghost use Rattle.std.specs.Prelude.{◌≡◌, IsTrue, OnOk, IfOk, length};
 ghost use Rattle.sha1.specs.Sha1.{sha1};
 ghost use Rattle.warc_journal.specs.Journals.{disk_of};
 ghost use Rattle.warc_text.specs.Sound.{IsSound};
 ghost use Rattle.archive_shelf.specs.Answers.{CountsIf};
 ghost use Rattle.archive_shelf.specs.Comparing.{IsRight};
-ghost use Rattle.archive_core.specs.Choosing.{LooksOn, NoneDamagedBelow, is_look_fault};
+ghost use Rattle.archive_volumes.specs.Choosing.{LooksOn, NoneDamagedBelow, is_look_fault};
 ghost use Rattle.archive_core.specs.Holdings.{contents_of};
-ghost use Rattle.archive_core.specs.Looking.{Looks, OnlyLooks};
+ghost use Rattle.archive_core.specs.Looking.{Looks, OnlyLooks, IsDigestOf, IsRightOf, LooksFor};
+ghost use Rattle.capture.specs.Captures.{captures, HasPayload};
+ghost use Rattle.warc_text.specs.Fits.{Fits};
+ghost use Rattle.archive_core.specs.Matching.{FindsAmongAll, IsDataOf};
 
 use crate::Archive;
 use archive_shelf::{Looked, StoreFault};
-use capture::Digest;
+use archive_volumes::{data_of, framing_behind, is_plain};
+use capture::{Bytes, Digest, Memory, Taken, wires_have_one_payload};
 use disk_model::Disk;
 use std::alloc::Global;
 
@@ -56,5 +60,110 @@ impl<D: Disk> Archive<D> {
     {
         self.check_room()?;
         self.look_on(alloc, payload, digest, looked)
+    }
+}
+
+/// The payload of a capture whose wire is chunked; none where the wire is its payload as it stands.
+pub(crate) fn data_behind(alloc: Global, taken: &Taken) -> Result<Option<Bytes>, Memory>
+    requires fits { Fits taken.now }
+    ensures { IfOk result (IsDataOf taken.now) }
+{
+    wires_have_one_payload();
+    match framing_behind(alloc, &taken.method, taken.head.as_slice())? {
+        Some(framing) => {
+            if is_plain(framing) {
+                return Ok(None);
+            }
+            // What fits decodes, so there is always data.
+            data_of(alloc, taken.wire.as_slice(), taken.cut)
+        }
+        None => unreachable!(),
+    }
+}
+
+/// The payload of a capture, by what its wire decodes to. Takes no memory.
+pub(crate) fn payload_by<'a>(taken: &'a Taken, decoded: &'a Option<Bytes>) -> &'a [u8]
+    requires { IsDataOf taken.now decoded.now }
+    ensures { HasPayload taken.now.cut taken.now.method taken.now.head taken.now.wire result.now }
+{
+    match decoded {
+        Some(bytes) => bytes.as_slice(),
+        None => taken.wire.as_slice(),
+    }
+}
+
+impl<D: Disk> Archive<D> {
+    /// The first of all captures that has this payload; those that weren't looked at before are read.
+    fn same_with(
+        &mut self,
+        alloc: Global,
+        payload: &[u8],
+        digest: &Digest,
+        looked: Looked,
+    ) -> Result<Option<u32>, StoreFault>
+        requires digest { digest.now ≡ sha1 payload.now }
+        requires right { IsRight D.tells self.old.book payload.now looked }
+        ensures finds { FindsAmongAll D.tells self.new.book payload.now result }
+        ensures since { NoneDamagedBelow looked.upto result }
+        ensures looks { OnlyLooks D.Disk self.old self.new }
+        ensures faults { CountsIf (is_look_fault result) (D.faults (disk_of self.old.journal)) (D.faults (disk_of self.new.journal)) }
+    {
+        let all = self.look_on(alloc, payload, digest, looked)?;
+        Ok(all.same)
+    }
+
+    /// The capture that a new one with this payload refers to: the first that has it, if there is one. One that was cut refers
+    /// to nothing.
+    pub(crate) fn same_by(
+        &mut self,
+        alloc: Global,
+        taken: &Taken,
+        payload: &[u8],
+        digest: &Digest,
+        looked: Looked,
+    ) -> Result<Option<u32>, StoreFault>
+        requires fits { Fits taken.now }
+        requires payload { HasPayload taken.now.cut taken.now.method taken.now.head taken.now.wire payload.now }
+        requires digest { digest.now ≡ sha1 payload.now }
+        requires right { IsRight D.tells self.old.book payload.now looked }
+        ensures refers { LooksFor (contents_of D.tells self.new) taken.now result }
+        ensures looks { OnlyLooks D.Disk self.old self.new }
+        ensures faults { CountsIf (is_look_fault result) (D.faults (disk_of self.old.journal)) (D.faults (disk_of self.new.journal)) }
+    {
+        wires_have_one_payload();
+        if taken.cut {
+            return Ok(None);
+        }
+        self.same_with(alloc, payload, digest, looked)
+    }
+
+    /// The capture that a new one refers to: the first with its payload, if there is one. One that was cut refers to
+    /// nothing. Nothing is read where all captures were looked at before.
+    pub(crate) fn same_of(
+        &mut self,
+        alloc: Global,
+        taken: &Taken,
+        digest: &Digest,
+        looked: Looked,
+    ) -> Result<Option<u32>, StoreFault>
+        requires fits { Fits taken.now }
+        requires digest { IsDigestOf taken.now digest.now }
+        requires right { IsRightOf (contents_of D.tells self.old) taken.now looked }
+        ensures refers { LooksFor (contents_of D.tells self.new) taken.now result }
+        ensures looks { OnlyLooks D.Disk self.old self.new }
+        ensures since { NoneDamagedBelow looked.upto result }
+        ensures unread { looked.upto ≡ length (captures self.old.book) → self.new ≡ self.old }
+        ensures faults { CountsIf (is_look_fault result) (D.faults (disk_of self.old.journal)) (D.faults (disk_of self.new.journal)) }
+    {
+        wires_have_one_payload();
+        if taken.cut {
+            return Ok(None);
+        }
+        let count = self.spots.len() as u32;
+        if looked.upto == count {
+            return Ok(looked.same);
+        }
+        let data = data_behind(alloc, taken)?;
+        self.same_with(alloc, payload_by(taken, &data), digest, looked)
     }
 }

@@ -3,20 +3,21 @@ ghost use Rattle.std.specs.Prelude.{◌≡◌, ℕ, is_some, if◌then◌else◌
 ghost use Rattle.warc_text.specs.Fits.{Fits};
 ghost use Rattle.archive_shelf.specs.Answers.{IsNotFull};
 ghost use Rattle.archive_core.specs.Basis.{StoringBasis};
-ghost use Rattle.archive_core.specs.Choosing.{NoneDamagedBelow};
+ghost use Rattle.archive_volumes.specs.Choosing.{NoneDamagedBelow};
 ghost use Rattle.archive_core.specs.Holdings.{contents_of};
-ghost use Rattle.archive_core.specs.Looking.{IsDigestOf, RefersTo};
+ghost use Rattle.archive_core.specs.Looking.{IsDigestOf, IsRightOf, RefersTo};
 ghost use Rattle.archive_core.specs.Stores.{Stores};
 
 use crate::Archive;
-use crate::enter::enter;
-use crate::entry::entry_for;
-use crate::keeping::reserve_kept;
-use crate::ready::Incoming;
+use crate::comparing::{data_behind, payload_by};
+use crate::index::enter;
 use archive_shelf::{
-    Receipt, StoreFault, entries_gain_what_is_stored, storing_keeps_soundness, texts_go_on_behind,
+    Looked, Receipt, StoreFault, entries_gain_what_is_stored, storing_keeps_soundness,
+    texts_go_on_behind,
 };
-use capture::{growth_keeps_captures, wires_have_one_payload};
+use archive_volumes::{Incoming, entry_for, reserve_kept};
+use capture::{Digest, Taken, growth_keeps_captures, wires_have_one_payload};
+use digest32::payload_digest;
 use disk_model::Disk;
 use std::alloc::Global;
 use surt_key::accepted_targets_have_keys;
@@ -80,5 +81,71 @@ impl<D: Disk> Archive<D> {
                 Err(StoreFault::DiskFault)
             }
         }
+    }
+
+    /// Stores a capture in an archive that isn't full.
+    fn store_looked(
+        &mut self,
+        alloc: Global,
+        taken: Taken,
+        digest: &Digest,
+        looked: Looked,
+    ) -> Result<Receipt, StoreFault>
+        requires not_full { IsNotFull (contents_of D.tells self.old) self.old.book }
+        requires fits { Fits taken }
+        requires digest { IsDigestOf taken digest.now }
+        requires right { IsRightOf (contents_of D.tells self.old) taken looked }
+        ensures stores { Stores D.Disk self.old self.new taken result }
+        ensures since { NoneDamagedBelow looked.upto result }
+    {
+        let same = self.same_of(alloc, &taken, digest, looked)?;
+        self.store_compared(
+            alloc,
+            Incoming {
+                taken,
+                digest: *digest,
+                same,
+            },
+        )
+    }
+
+    /// Stores a capture whose payload was looked for before, by `compare`: of that, `looked` may be an earlier answer. The answer
+    /// is that of `store`, but only captures are read that weren't looked at, and none where all were.
+    pub fn store_after(
+        &mut self,
+        alloc: Global,
+        taken: Taken,
+        digest: &Digest,
+        looked: Looked,
+    ) -> Result<Receipt, StoreFault>
+        requires fits { Fits taken }
+        requires digest { IsDigestOf taken digest.now }
+        requires right { IsRightOf (contents_of D.tells self.old) taken looked }
+        ensures stores { Stores D.Disk self.old self.new taken result }
+        ensures since { NoneDamagedBelow looked.upto result }
+    {
+        self.check_room()?;
+        self.store_looked(alloc, taken, digest, looked)
+    }
+
+    /// Stores a capture whose payload wasn't looked for.
+    pub(crate) fn store_new(&mut self, alloc: Global, taken: Taken) -> Result<Receipt, StoreFault>
+        requires fits { Fits taken }
+        ensures { Stores D.Disk self.old self.new taken result }
+    {
+        self.check_room()?;
+        wires_have_one_payload();
+        let data = data_behind(alloc, &taken)?;
+        let payload = payload_by(&taken, &data);
+        let digest = payload_digest(payload);
+        let same = self.same_by(alloc, &taken, payload, &digest, Looked::none())?;
+        self.store_compared(
+            alloc,
+            Incoming {
+                taken,
+                digest,
+                same,
+            },
+        )
     }
 }

@@ -1,7 +1,7 @@
 -- A run over a disk that is ready isn't refused.
 use Rattle.std.proofs.Common.{◌≡◌, ◌⊎◌, ℕ, ◌<◌, ◌≤◌, Bool, IsTrue, List, [], length, Option, Some, None, refl, sym, ap, ◌∙◌, inl, inr, ⊎_elim, arith}
 use Rattle.std.proofs.lemmas.Bool.{cases_lt}
-use Rattle.archive_core.specs.Opening.{CountsFault, HoldsOther, IsDamageIn, IsOtherIn}
+use Rattle.archive_opening.specs.Opening.{CountsFault, HoldsOther, IsDamageIn, IsOtherIn}
 use Rattle.archive_shelf.specs.Contents.{Contents}
 use Rattle.archive_shelf.specs.Openings.{ImageStandsFor}
 use Rattle.archive_shelf.specs.declared.fault.ReopenFault.{ReopenFault}

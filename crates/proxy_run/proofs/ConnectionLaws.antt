@@ -3,7 +3,7 @@ use Rattle.std.proofs.Common.{◌≡◌, ◌⊎◌, ℕ, ◌≤◌, Bool, true, 
 use Rattle.std.proofs.lemmas.Bool.{false≢true}
 use Rattle.archive_core.specs.Holdings.{Holdings, contents_of}
 use Rattle.archive_core.specs.Reopening.{IsReopened}
-use Rattle.archive_core.specs.Volumes.{covers, moment_of, opens}
+use Rattle.archive_volumes.specs.Volumes.{covers, moment_of, opens}
 use Rattle.archive_shelf.specs.Openings.{HasIds, ImageStandsFor, SameBook}
 use Rattle.archive_shelf.specs.declared.finder.Finder.{Ghosts as Finders}
 use Rattle.capture.specs.declared.book.Book.{Book}

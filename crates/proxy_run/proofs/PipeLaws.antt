@@ -3,7 +3,7 @@ use Rattle.std.proofs.Common.{◌≡◌, ◌⊎◌, ℕ, ◌<◌, ◌≤◌, Boo
 use Rattle.std.specs.Prelude.{get_or}
 use Rattle.archive_core.specs.Holdings.{Holdings, contents_of}
 use Rattle.archive_core.specs.Reopening.{IsReopened}
-use Rattle.archive_core.specs.Volumes.{OpensNear, covers, moment_of}
+use Rattle.archive_volumes.specs.Volumes.{OpensNear, covers, moment_of}
 use Rattle.capture.specs.Growth.{Grows}
 use Rattle.outside.proofs.HangUps.{connections_hung_up_are_logged}
 use Rattle.outside.specs.Gate.{Connections, heard_of, one_given, one_hung_up, one_served}

@@ -1,6 +1,6 @@
 -- When a run isn't refused, and what the next one finds.
 use Rattle.std.specs.Prelude.{◌≡◌, ◌⊎◌, ℕ, ◌-◌, ◌^◌, ◌<◌, ◌≤◌, List, [], ◌++◌, length, IsTrue, Option, Some, None, ⊤}
-use Rattle.archive_core.specs.Opening.{IsIn}
+use Rattle.archive_opening.specs.Opening.{IsIn}
 use Rattle.archive_shelf.specs.Contents.{Contents}
 use Rattle.archive_shelf.specs.Openings.{HasIds, ImageStandsFor}
 use Rattle.capture.specs.Captures.{captures}

@@ -1,7 +1,7 @@
 -- What opening the archive on a disk gives, and how a refusal of it is told.
 use Rattle.std.specs.Prelude.{◌≡◌, ◌⊎◌, ℕ, true, List, [], IsTrue, Option}
-use Rattle.archive_core.specs.Opening.{CountsFault, IsCause, IsDamageIn, IsIn, IsOtherIn}
-use Rattle.archive_core.specs.Volumes.{IsQuiet}
+use Rattle.archive_opening.specs.Opening.{CountsFault, IsCause, IsDamageIn, IsIn, IsOtherIn}
+use Rattle.archive_volumes.specs.Volumes.{IsQuiet}
 use Rattle.archive_shelf.specs.Contents.{Contents, IsConsistent}
 use Rattle.archive_shelf.specs.Openings.{ImageStandsFor, SameBook}
 use Rattle.archive_shelf.specs.declared.fault.ReopenFault.{ReopenFault}

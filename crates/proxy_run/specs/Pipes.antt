@@ -1,6 +1,6 @@
 -- What the command `pipe` leaves.
 use Rattle.std.specs.Prelude.{◌≡◌, ◌⊎◌, ◌≤◌, ℕ, List, true, IsTrue, Option}
-use Rattle.archive_core.specs.Volumes.{OpensNear, covers, moment_of, opens}
+use Rattle.archive_volumes.specs.Volumes.{OpensNear, covers, moment_of, opens}
 use Rattle.archive_shelf.specs.Contents.{Contents}
 use Rattle.archive_shelf.specs.Openings.{HasIds, ImageStandsFor, SameBook, StaysCovered}
 use Rattle.archive_shelf.specs.declared.finder.Finder.{Ghosts as Finders}

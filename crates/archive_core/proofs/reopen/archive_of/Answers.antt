@@ -1,7 +1,7 @@
 use Rattle.std.proofs.Common.{rules, ◌≡◌, length, refl, ap, ◌∙◌}
 use Rattle.std.specs.Prelude.{count_by}
-use Rattle.archive_core.specs.Held.{book_of}
-use Rattle.archive_core.specs.declared.volumes.Volumes.{Volumes}
+use Rattle.archive_volumes.specs.Held.{book_of}
+use Rattle.archive_volumes.specs.declared.volumes.Volumes.{Volumes}
 use Rattle.archive_core.proofs.ReopenLaws.{AreParts, made_archive, parts_of, same_spot, shown_sorted}
 use Rattle.archive_core.proofs.reopen.archive_of.Given.{Over}
 use Rattle.archive_core.proofs.reopen.archive_of.Goals as goal

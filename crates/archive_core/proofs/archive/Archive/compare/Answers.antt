@@ -4,7 +4,7 @@ use Rattle.warc_text.specs.Sound.{IsSound}
 use Rattle.archive_core.specs.Holdings.{contents_of}
 use Rattle.archive_core.proofs.ArchiveLaws.{on_each_ok}
 use Rattle.archive_core.proofs.CompareLaws.{full_compares, full_steady, looks_after, on_no_ok}
-use Rattle.archive_core.proofs.SinceLaws.{full_since}
+use Rattle.archive_core.proofs.FaultLaws.{full_since}
 use Rattle.archive_core.proofs.archive.Archive.compare.Goals as goal
 
 pub returns-in_err-check_room-clause-looks : goal.returns-in_err-check_room-clause-looks

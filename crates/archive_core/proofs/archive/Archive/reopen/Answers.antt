@@ -1,4 +1,4 @@
-use Rattle.archive_core.proofs.ChangeLaws.{DiskLaws}
+use Rattle.archive_volumes.proofs.ChangeLaws.{DiskLaws}
 use Rattle.archive_core.proofs.ReopenLaws.{no_memory, not_opened, reopened}
 use Rattle.archive_core.proofs.archive.Archive.reopen.Given.{Over}
 use Rattle.archive_core.proofs.archive.Archive.reopen.Goals as goal

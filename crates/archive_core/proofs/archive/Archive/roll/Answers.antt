@@ -9,11 +9,11 @@ use Rattle.warc_journal.specs.declared.journal.Journal.{Journal}
 use Rattle.archive_shelf.specs.Gaining.{AreFilled}
 use Rattle.archive_shelf.specs.Storing.{with_volume}
 use Rattle.archive_shelf.specs.declared.fault.RollFault.TheVariants as rolls
-use Rattle.archive_core.specs.Held.{book_of}
+use Rattle.archive_volumes.specs.Held.{book_of}
 use Rattle.archive_core.specs.Holdings.{Holdings}
 use Rattle.archive_core.specs.Rolling.{Rolls}
 use Rattle.archive_core.specs.View.{holdings_of}
-use Rattle.archive_core.specs.Volumes.{Makes}
+use Rattle.archive_volumes.specs.Volumes.{Makes}
 use Rattle.archive_shelf.proofs.GainingSoundness.{filled_count}
 use Rattle.archive_core.proofs.RollLaws as laws
 use Rattle.archive_core.proofs.archive.Archive.roll.Goals as goal

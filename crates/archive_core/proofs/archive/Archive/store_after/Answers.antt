@@ -1,8 +1,8 @@
 -- It is full, or a store follows.
 use Rattle.archive_core.proofs.AfterLaws.{full_exit}
 use Rattle.archive_core.specs.Holdings.{contents_of}
-use Rattle.archive_core.proofs.ChangeLaws.{DiskLaws}
-use Rattle.archive_core.proofs.SinceLaws.{full_since}
+use Rattle.archive_volumes.proofs.ChangeLaws.{DiskLaws}
+use Rattle.archive_core.proofs.FaultLaws.{full_since}
 use Rattle.archive_core.proofs.archive.Archive.store_after.Given.{Over}
 use Rattle.archive_core.proofs.archive.Archive.store_after.Goals as goal
 

@@ -10,18 +10,18 @@ use Rattle.warc_journal.specs.Journals.{texts}
 use Rattle.archive_shelf.specs.Answers.{IsNotFull}
 use Rattle.archive_shelf.specs.declared.fault.StoreFault.TheVariants as stores
 use Rattle.archive_shelf.specs.declared.receipt.Receipt.{Receipt}
-use Rattle.archive_core.specs.Entries.{entered}
-use Rattle.archive_core.specs.Held.{book_of}
+use Rattle.archive_volumes.specs.Entries.{entered}
+use Rattle.archive_volumes.specs.Held.{book_of}
 use Rattle.archive_core.specs.Holdings.{Holdings, contents_of}
 use Rattle.archive_core.specs.Looking.{RefersTo}
-use Rattle.archive_core.specs.Spots.{ArePlaced, AreSpotsOf, whole_from}
+use Rattle.archive_volumes.specs.Spots.{ArePlaced, AreSpotsOf, whole_from}
 use Rattle.archive_core.specs.Stores.{Stores}
 use Rattle.archive_core.specs.View.{holdings_of}
-use Rattle.archive_core.specs.declared.spot.Spot.{Spot}
-use Rattle.archive_core.proofs.ChangeLaws.{DiskLaws}
+use Rattle.archive_volumes.specs.declared.spot.Spot.{Spot}
+use Rattle.archive_volumes.proofs.ChangeLaws.{DiskLaws}
 use Rattle.archive_core.proofs.ExitLaws as laws
 use Rattle.archive_core.proofs.PayloadLaws.{has_one}
-use Rattle.archive_core.proofs.SinceLaws.{memory_since}
+use Rattle.archive_core.proofs.FaultLaws.{memory_since}
 use Rattle.archive_core.proofs.archive.Archive.store_compared.Given.{Over}
 use Rattle.archive_core.proofs.archive.Archive.store_compared.Goals as goal
 

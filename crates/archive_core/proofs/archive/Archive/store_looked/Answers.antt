@@ -3,8 +3,8 @@ use Rattle.std.proofs.Common.{ℕ, Option, sym, subst}
 use Rattle.archive_shelf.specs.Answers.{IsNotFull}
 use Rattle.archive_core.specs.Holdings.{Holdings, contents_of}
 use Rattle.archive_core.proofs.AfterLaws.{fault_exit, stores_after}
-use Rattle.archive_core.proofs.ChangeLaws.{DiskLaws}
-use Rattle.archive_core.proofs.SinceLaws.{since_exit}
+use Rattle.archive_volumes.proofs.ChangeLaws.{DiskLaws}
+use Rattle.archive_volumes.proofs.SinceLaws.{since_exit}
 use Rattle.archive_core.proofs.archive.Archive.store_looked.Given.{Over}
 use Rattle.archive_core.proofs.archive.Archive.store_looked.Goals as goal
 

@@ -3,7 +3,7 @@ use Rattle.std.proofs.Common.{refl, sym, subst}
 use Rattle.archive_shelf.specs.Answers.{IsNotFull}
 use Rattle.archive_core.specs.Holdings.{Holdings, contents_of}
 use Rattle.archive_core.proofs.AfterLaws.{fault_exit, full_exit, stores_after}
-use Rattle.archive_core.proofs.ChangeLaws.{DiskLaws}
+use Rattle.archive_volumes.proofs.ChangeLaws.{DiskLaws}
 use Rattle.archive_core.proofs.ExitLaws.{memory_exit}
 use Rattle.archive_core.proofs.MatchLaws.{digest_by}
 use Rattle.archive_core.proofs.archive.Archive.store_new.Given.{Over}

@@ -1,7 +1,0 @@
-use Rattle.archive_core.specs.Held.{book_of}
-use Rattle.archive_core.proofs.VolumeLaws.{holds_found}
-use Rattle.archive_core.proofs.volumes.Volumes.over.Goals as goal
-
-pub returns-clause-holds : goal.returns-clause-holds
-returns-clause-holds g c =
-    holds_found g.D.Disk c.args.journal (book_of c.args.held) c.requires.in_step c.requires.texts_are c.requires.sound c.requires.left

@@ -1,0 +1,52 @@
+//! How an archive is a shelf.
+ghost use Rattle.std.specs.Prelude.{IsTrue};
+ghost use Rattle.warc_journal.specs.Journals.{disk_of};
+ghost use Rattle.archive_shelf.specs.Answers.{Brings, CountsIf, is_bring_fault};
+ghost use Rattle.archive_core.specs.Holdings.{IsArchive, contents_of};
+ghost use Rattle.archive_core.specs.Looking.{OnlyLooks};
+
+use crate::Archive;
+use archive_shelf::{BringFault, Receipt, Shelf, StoreFault};
+use capture::{Brought, Taken};
+use disk_model::Disk;
+use std::alloc::Global;
+
+impl<D: Disk> Archive<D> {
+    /// The capture with this number, with its payload as it was received.
+    pub(crate) fn bring_numbered(
+        &mut self,
+        alloc: Global,
+        number: u32,
+    ) -> Result<Brought, BringFault>
+        ensures brings { Brings (contents_of D.tells self.new) number result }
+        ensures looks { OnlyLooks D.Disk self.old self.new }
+        ensures faults { CountsIf (is_bring_fault result) (D.faults (disk_of self.old.journal)) (D.faults (disk_of self.new.journal)) }
+    {
+        let count = self.spots.len() as u32;
+        if number >= count {
+            return Err(BringFault::NoSuch { count });
+        }
+        self.volumes.bring(alloc, self.spots.as_slice(), number)
+    }
+
+    /// What holds of an archive at each call. A trait's method has no clause of its own that says it.
+    fn is_an_archive(&self)
+        ensures { IsArchive D.Disk self.now }
+    {
+        let _ = &self.limits;
+    }
+}
+
+impl<D: Disk> Shelf for Archive<D> {
+    fn store(&mut self, alloc: Global, taken: Taken) -> Result<Receipt, StoreFault> {
+        let answer = self.store_new(alloc, taken);
+        self.is_an_archive();
+        answer
+    }
+
+    fn bring(&mut self, alloc: Global, number: u32) -> Result<Brought, BringFault> {
+        let answer = self.bring_numbered(alloc, number);
+        self.is_an_archive();
+        answer
+    }
+}

@@ -1,0 +1,16 @@
+pub mod BeginLaws
+pub mod CandidateLaws
+pub mod CaptureLaws
+pub mod FollowingLaws
+pub mod FrontLaws
+pub mod MeasuringLaws
+pub mod OpenedLaws
+pub mod OriginalLaws
+pub mod PlaceLaws
+pub mod ReadingLaws
+pub mod RefusalLaws
+pub mod RevisitLaws
+pub mod SpottedLaws
+pub mod StepLaws
+pub mod TakeLaws
+pub mod TakenLaws

@@ -1,0 +1,155 @@
+-- What was read to its end is what is opened.
+use Rattle.std.proofs.Common.{◌≡◌, ◌≢◌, ℕ, zero, suc, ◌+◌, ◌^◌, ◌<◌, ◌≤◌, IsTrue, List, [], length, refl, sym, ap, subst, ◌∙◌, ⊎_elim, arith, length-append}
+use Rattle.std.specs.Prelude.{IfOk, Option, Some, None, Result, Ok, Err, slice_index_or}
+use Rattle.std.proofs.lemmas.Bool.{cases_lt}
+use Rattle.std.proofs.lemmas.Option.{get_or_from_slice_get}
+use Rattle.capture.specs.declared.book.Book.{Book}
+use Rattle.capture.specs.declared.book.Volume.{Volume}
+use Rattle.disk_model.specs.Crash.{Leaves}
+use Rattle.disk_model.specs.Image.{Image}
+use Rattle.disk_model.specs.Moments.{none_added}
+use Rattle.disk_model.specs.declared.disk.Disk.{Ghosts}
+use Rattle.volume_scan.specs.Scannings.{disk_of, position_of}
+use Rattle.volume_scan.specs.declared.scanning.Scanning.{Scanning}
+use Rattle.warc_journal.specs.Extents.{texts_in, warc_files}
+use Rattle.warc_journal.specs.Journals.{IsInStep, Rests, disk_of as disk_of_journal, extent_of, last_len, texts as texts_of, volumes}
+use Rattle.warc_journal.specs.Texts.{Hold}
+use Rattle.warc_journal.specs.declared.extent.Extent.{Extent}
+use Rattle.warc_journal.specs.declared.journal.Journal.{Journal}
+use Rattle.warc_text.specs.Books.{AreVolumeTexts, joined}
+use Rattle.warc_text.specs.Records.{info_text}
+use Rattle.archive_shelf.proofs.ShortTexts.{short_info}
+use Rattle.archive_shelf.proofs.StoringSoundness.{few_volumes}
+use Rattle.archive_shelf.specs.declared.fault.ReopenFault.{ReopenFault}
+use Rattle.archive_shelf.specs.declared.fault.ReopenFault.TheVariants as faults
+use Rattle.warc_text.specs.StandsFor.{StandsFor}
+use Rattle.archive_opening.proofs.FollowingLaws.{rests_on}
+use Rattle.archive_opening.proofs.RefusalLaws.{none_joined}
+use Rattle.archive_opening.specs.Gathering.{HasAll, IsGathered, IsOpened, IsSteady}
+use Rattle.archive_volumes.specs.Held.{book_of}
+use Rattle.archive_opening.specs.Opening.{IsCause, IsDamageIn, IsIn, IsOther, IsOtherIn, IsReadRefusal}
+use Rattle.archive_opening.specs.Reading.{IsRead}
+use Rattle.archive_volumes.specs.Spots.{ArePlaced}
+use Rattle.archive_volumes.specs.Volumes.{IsMeasured}
+use Rattle.archive_opening.specs.declared.gathered.Gathered.{Gathered}
+use Rattle.archive_opening.specs.declared.opening.Opened.{Opened}
+
+-- nothing was done on a disk
+pub rests_itself : {D : Type 0} (d : Ghosts D) (disk other : D) → other ≡ disk → Rests d disk other
+rests_itself d disk other same = subst (Rests d disk) (sym same) (record {
+  read = refl;
+  crash = λ image left. left;
+  leaves = none_added d.moment d.images_since disk (λ image. ⊥);
+})
+
+module _ {D : Type 0} (d : Ghosts D) (s : Scanning D) (g : Gathered) (all : HasAll d s g) (journal : Journal D)
+    (disk_is : disk_of_journal journal ≡ disk_of s) (extent_is : extent_of journal ≡ (position_of s).extent) where
+  texts_same : IsTrue d.tells → texts_of d journal ≡ all.follows.texts
+  texts_same told = (λ i. texts_in (extent_is i) (warc_files (d.reading (disk_is i)))) ∙ all.follows.read told
+
+  module _ (book : Book) (read : IsRead book all.follows.texts) where
+    count_is : volumes journal ≡ length book.volumes
+    count_is = ap (λ (e : Extent). e.volumes) extent_is ∙ all.follows.volumes ∙ read.are.count
+
+    end_is : (k : ℕ) → k + 1 ≡ length all.follows.texts → last_len journal ≡ length (slice_index_or all.follows.texts k [])
+    end_is k last = ap (λ (e : Extent). e.end) extent_is ∙ all.follows.ends k last
+
+    ends_by : (n : ℕ) → n ≡ length all.follows.texts → last_len journal < 2 ^ 62
+    ends_by zero e = omega (arith, ap (λ (x : Extent). x.end) extent_is, all.follows.none (sym e))
+    ends_by (suc k) e =
+        let last : k + 1 ≡ length all.follows.texts = omega (arith, e) in
+        omega (arith, end_is k last, read.sound.short_texts k (slice_index_or all.follows.texts k []) (read.are.each k (omega (arith, last))))
+
+    pub measured : IsMeasured journal book
+    measured = record {
+      count = count_is;
+      filled = read.sound.sound.filled;
+      ends = ends_by (length all.follows.texts) refl;
+      begins = λ k volume last at empty.
+          let here : k + 1 ≡ length all.follows.texts = omega (arith, last, read.are.count) in
+          let text = read.are.each k (omega (arith, here)) in
+          let same : text.volume ≡ volume = sym (get_or_from_slice_get book.volumes k text.volume volume text.placed) ∙ get_or_from_slice_get book.volumes k volume volume at in
+          let none : length text.groups ≡ 0 = text.count ∙ ap (λ (v : Volume). length v.captures) same ∙ ap length empty in
+          let long = ap length text.composed ∙ length-append (info_text book.namespace k text.volume.born) (joined text.groups) in
+          omega (
+            arith,
+            end_is k here,
+            long,
+            ap length (none_joined text.groups none),
+            short_info book.namespace k text.volume.born (omega (arith, last, few_volumes book read.sound, read.sound.sound.few)),
+          );
+    }
+
+  -- where there are volumes their book has some
+  pub some_volumes : volumes journal ≢ 0 → 0 < length (book_of g.held).volumes
+  some_volumes some = ⊎_elim
+      (λ (less : 0 < length (book_of g.held).volumes). less)
+      (λ (none : length (book_of g.held).volumes ≤ 0). absurd (some (omega (arith, none, count_is (book_of g.held) all.follows.gathered.read))))
+      (cases_lt 0 (length (book_of g.held).volumes))
+
+  pub opened_by : (asked : Option (List ℕ)) (other : Gathered) → IsGathered other all.follows.texts → IsSteady other → IsIn asked (book_of other.held)
+      → (IsTrue d.tells → IsInStep d journal)
+      → (IsTrue d.tells → Leaves (d.images (disk_of s)) (λ image. Hold (texts_of d journal) (warc_files image)))
+      → IsOpened d (disk_of s) asked (record { journal = journal; gathered = other })
+  opened_by asked other gathered steady in_it in_step left = record {
+    usable = record {
+      sound = gathered.read.sound;
+      in_step = in_step;
+      texts_are = λ told. subst (AreVolumeTexts (book_of other.held)) (sym (texts_same told)) gathered.read.are;
+      left = λ told. subst (λ (x : D). Leaves (d.images x) (λ image. Hold (texts_of d journal) (warc_files image))) (sym disk_is) (left told);
+      measured = measured (book_of other.held) gathered.read;
+      steady = steady;
+      spots = gathered.spots_are;
+      placed = λ told. subst (λ (t : List (List ℕ)). ArePlaced t (book_of other.held) other.spots.items) (sym (texts_same told)) gathered.placed;
+      entries = gathered.entries_are;
+    };
+    stands = λ told. record { texts = all.follows.texts; are = gathered.read.are; held = all.held told };
+    in_namespace = in_it;
+    rests = λ told. rests_itself d (disk_of s) (disk_of_journal journal) disk_is;
+    faults = ap d.faults disk_is;
+  }
+
+-- ---- from the disk that was given
+
+pub opened_on : {D : Type 0} (d : Ghosts D) (disk mid : D) (asked : Option (List ℕ)) (opened : Opened D) → (IsTrue d.tells → Rests d disk mid)
+    → d.faults mid ≡ d.faults disk → IsOpened d mid asked opened → IsOpened d disk asked opened
+opened_on d disk mid asked opened rests steady_count is = record {
+  usable = is.usable;
+  stands = λ told. subst (λ (i : Image). StandsFor (warc_files i) (book_of opened.gathered.held)) (rests told).read (is.stands told);
+  in_namespace = is.in_namespace;
+  rests = λ told. rests_on d disk mid (disk_of_journal opened.journal) (rests told) (is.rests told);
+  faults = is.faults ∙ steady_count;
+}
+
+pub opened_from : {D E : Type 0} (d : Ghosts D) (disk mid : D) (asked : Option (List ℕ)) (result : Result (Opened D) E) → (IsTrue d.tells → Rests d disk mid)
+    → d.faults mid ≡ d.faults disk → IfOk result (IsOpened d mid asked) → IfOk result (IsOpened d disk asked)
+opened_from d disk mid asked (Ok opened) rests steady_count is = opened_on d disk mid asked opened rests steady_count is
+opened_from d disk mid asked (Err refused) rests steady_count is = tt
+
+-- a refusal of reading
+pub other_by : (files : List (List ℕ)) (asked : Option (List ℕ)) (fault : ReopenFault) → IsReadRefusal files fault → IsOtherIn files asked fault
+other_by files asked (faults.Damaged kind file place) refused = tt
+other_by files asked (faults.OtherNamespace other) refused = absurd refused
+other_by files asked faults.DiskFault refused = tt
+other_by files asked faults.Memory refused = tt
+
+pub damage_from : (files : List (List ℕ)) (fault : ReopenFault) → IsReadRefusal files fault → IsDamageIn files fault
+damage_from files (faults.Damaged kind file place) refused = refused
+damage_from files (faults.OtherNamespace other) refused = absurd refused
+damage_from files faults.DiskFault refused = tt
+damage_from files faults.Memory refused = tt
+
+-- a cause of reading is one whatever is asked for
+pub cause_from : (asked : Option (List ℕ)) (fault : ReopenFault) → IsCause None fault → IsCause asked fault
+cause_from asked (faults.Damaged kind file place) cause = cause
+cause_from asked (faults.OtherNamespace other) cause = absurd cause
+cause_from asked faults.DiskFault cause = tt
+cause_from asked faults.Memory cause = tt
+
+-- another namespace than that of the book
+pub cause_other : (book : Book) (asked : Option (List ℕ)) (fault : ReopenFault) → IsOther book asked fault → IsCause asked fault
+cause_other book asked (faults.Damaged kind file place) other = absurd other
+cause_other book None (faults.OtherNamespace other) is = absurd is
+cause_other book (Some namespace) (faults.OtherNamespace other) is = is.1
+cause_other book asked faults.DiskFault other = absurd other
+cause_other book asked faults.Memory other = absurd other

@@ -1,0 +1,197 @@
+-- A capture that meets what a revisit tells is the one that it refers to, and the one that it refers to meets it.
+use Rattle.std.proofs.Common.{◌≡◌, ◌≢◌, ℕ, zero, suc, ◌+◌, ◌^◌, ◌<◌, true, List, [], ◌∷◌, length, Ok, refl, sym, ap, subst, ◌∙◌, arith}
+use Rattle.std.specs.Prelude.{Contains, Option, Some, None, Result, slice_get, slice_index_or, unwrap_or}
+use Rattle.std.proofs.lemmas.Bool.{false≢true}
+use Rattle.std.proofs.lemmas.List.Elements.{Contains-get_or}
+use Rattle.std.proofs.lemmas.Option.{same_Some, slice_get_within}
+use Rattle.httparse.specs.Grammar.{ResponseHead}
+use Rattle.sha1.specs.Sha1.{sha1}
+use Rattle.capture.specs.BodyLaws.{CapturesHaveOnePayload}
+use Rattle.capture.specs.Captures.{IsPayloadBy, KeepsPayload, captures}
+use Rattle.capture.specs.Framing.{response_framing}
+use Rattle.capture.specs.Message.{IsResponseHeadText}
+use Rattle.capture.specs.Methods.{asks_for_head}
+use Rattle.capture.specs.declared.book.Book.{Book}
+use Rattle.capture.specs.declared.captured.Kept.{Kept}
+use Rattle.capture.specs.declared.captured.Kept.TheVariants.{Wire, Same, Cut}
+use Rattle.capture.specs.declared.captured.Stored.{Stored}
+use Rattle.capture.specs.declared.framing.Framing.{Framing}
+use Rattle.capture.specs.declared.framing.Framing.TheVariants.{Length}
+use Rattle.capture.specs.declared.framing.FramingFault.{FramingFault}
+use Rattle.cdxj_index.specs.Facts.{Facts}
+use Rattle.revisit_table.specs.Table.{numbers_of}
+use Rattle.warc_scan.specs.Groups.{IsAnswer, IsRevisit, reference_in}
+use Rattle.warc_scan.specs.declared.group.Group.{Group}
+use Rattle.warc_scan.specs.declared.group.Revisited.{Revisited}
+use Rattle.warc_text.specs.Books.{same_of}
+use Rattle.warc_text.specs.References.{Reference, reference_to}
+use Rattle.archive_opening.proofs.CandidateLaws.{from_numbers, to_numbers}
+use Rattle.archive_opening.proofs.MeasuringLaws.{one_head}
+use Rattle.archive_opening.specs.Gathering.{TellsOf}
+use Rattle.archive_opening.specs.Measuring.{Agrees, TellsLength}
+use Rattle.archive_opening.specs.Originals.{IsMet}
+use Rattle.archive_opening.specs.Revisits.{IsOriginalOf}
+use Rattle.archive_volumes.specs.Spots.{IsPlaced, IsSpotOf, form_of, is_whole, whole_from}
+use Rattle.archive_opening.specs.declared.measuring.Told.{Told}
+use Rattle.archive_opening.specs.declared.measuring.Told.TheVariants.{Any, Exactly, TooMany}
+use Rattle.archive_volumes.specs.declared.spot.Spot.{Spot}
+
+one_at : {X : Type 0} (o : Option X) (x y : X) → o ≡ Some x → o ≡ Some y → x ≡ y
+one_at o x y e f = ap (λ p. unwrap_or p x) (sym e ∙ f)
+
+-- what keeps its whole wire
+record KeepsWhole (kept : Kept) : Type 0 where
+  wire : List ℕ
+  is : kept ≡ Wire wire
+
+whole_by : (kept : Kept) → is_whole (form_of kept) ≡ true → KeepsWhole kept
+whole_by (Wire wire) e = record { wire = wire; is = refl }
+whole_by (Same first) e = absurd (false≢true e)
+whole_by (Cut wire) e = absurd (false≢true e)
+
+-- a group that refers to a record is a revisit
+pub revisit_by : (method head digest : List ℕ) (same : Option Reference) (r : Reference) (kept : Kept) → same ≡ Some r → IsAnswer method head digest same kept
+    → IsRevisit method head digest same
+revisit_by method head digest same r (Wire wire) e is = absurd (apart r (sym is.0 ∙ e))
+  where
+    apart : (x : Reference) → None ≡ Some x → ⊥
+    apart x f = cc
+revisit_by method head digest same r (Same number) e is = is.1
+revisit_by method head digest same r (Cut wire) e is = absurd (apart r (sym is.0 ∙ e))
+  where
+    apart : (x : Reference) → None ≡ Some x → ⊥
+    apart x f = cc
+
+-- the candidates are captures that are kept
+pub candidates_within : (spots : List Spot) (digest : List ℕ) (candidates : List ℕ) → candidates ≡ numbers_of digest (whole_from 0 spots)
+    → (k : ℕ) → k < length candidates → slice_index_or candidates k 0 < length spots
+candidates_within spots digest candidates is k less =
+    let one = from_numbers 0 spots digest (slice_index_or candidates k 0)
+    (subst (λ (l : List ℕ). Contains l (slice_index_or candidates k 0)) is (Contains-get_or candidates k 0 less)) in
+    omega (arith, one.number_is, slice_get_within spots one.place one.spot one.at)
+
+-- ---- lengths
+
+abbrev told_ok : Framing → Result Framing FramingFault
+told_ok f = Ok f
+
+same_length : (m n : ℕ) → told_ok (Length m) ≡ told_ok (Length n) → m ≡ n
+same_length m n e = cc
+
+agrees_told : (method : List ℕ) (h : ResponseHead) (told : Told) (len n : ℕ) → TellsLength method h told → Agrees told len
+    → response_framing (asks_for_head method) h ≡ Ok (Length n) → len ≡ n
+agrees_told method h Any len n tells agrees framed = absurd (tells n framed)
+agrees_told method h (Exactly t) len n tells agrees framed = sym agrees ∙ same_length t n (sym tells ∙ framed)
+agrees_told method h TooMany len n tells agrees framed = absurd agrees
+
+told_agrees : (method : List ℕ) (h : ResponseHead) (told : Told) (len : ℕ) → TellsLength method h told → len < 2 ^ 64
+    → ((n : ℕ) → response_framing (asks_for_head method) h ≡ Ok (Length n) → len ≡ n) → Agrees told len
+told_agrees method h Any len tells fits same = tt
+told_agrees method h (Exactly t) len tells fits same = sym (same t tells)
+told_agrees method h TooMany len tells fits same = absurd (omega (arith, same tells.0 tells.1, tells.2, fits))
+
+same_framing : (f g : Framing) → told_ok f ≡ told_ok g → f ≡ g
+same_framing f g e = cc
+
+zero_and : (n : ℕ) → 0 + n ≡ n
+zero_and n = omega arith
+
+record HasSpot (spots : List Spot) (k : ℕ) : Type 0 where
+  spot : Spot
+  at : slice_get spots k ≡ Some spot
+
+has_spot : (spots : List Spot) (k : ℕ) → k < length spots → HasSpot spots k
+has_spot [] k less = absurd (omega (arith, less))
+has_spot (s ∷ ss) zero less = record { spot = s; at = refl }
+has_spot (s ∷ ss) (suc k) less = let later = has_spot ss k (omega (arith, less)) in record { spot = later.spot; at = later.at }
+
+module _ (one : CapturesHaveOnePayload) (book : Book) (texts : List (List ℕ)) (spots : List Spot) (lengths : List ℕ) (entries : List Facts)
+    (is : TellsOf book texts spots lengths entries) (group : Group) (same : Revisited) (refers : group.same ≡ Some same) (told : Told) (h : ResponseHead)
+    (parsed : IsResponseHeadText group.stored.head h) (tells : TellsLength group.stored.method h told)
+    (revisit : IsRevisit group.stored.method group.stored.head group.digest (reference_in group.same)) (candidates : List ℕ)
+    (lengths_count : length lengths ≡ length (captures book)) (are : candidates ≡ numbers_of group.digest (whole_from 0 spots)) (first : ℕ) where
+  abbrev as_reference : Reference
+  as_reference = record { id = same.id; uri = same.uri; date = same.date }
+
+  -- one that meets it
+  pub met_is_original : IsMet book.namespace same told candidates spots lengths first → IsOriginalOf book (length (captures book)) group first
+  met_is_original met =
+      let candidate = from_numbers 0 spots group.digest first (subst (λ (l : List ℕ). Contains l first) are met.one) in
+      let here : slice_get spots candidate.place ≡ slice_get spots first = ap (slice_get spots) (sym (candidate.number_is ∙ zero_and candidate.place)) in
+      let spot_same : candidate.spot ≡ met.spot = one_at (slice_get spots first) candidate.spot met.spot (sym here ∙ candidate.at) met.kept in
+      let spot_of_book : IsSpotOf book first met.spot = is.spots_are.each first met.spot met.kept in
+      let there : IsPlaced texts book first met.spot = is.placed.each first met.spot met.kept in
+      let stored : Stored = spot_of_book.stored in
+      let form : is_whole (form_of stored.kept) ≡ true = ap is_whole (sym spot_of_book.form) ∙ ap (λ (s : Spot). is_whole s.form) (sym spot_same) ∙ candidate.whole in
+      let whole = whole_by stored.kept form in
+      let stored_same : there.has.stored ≡ stored = one_at (slice_get (captures book) first) there.has.stored stored there.has.placed spot_of_book.placed in
+      let by_kept : IsPayloadBy book stored stored.kept there.payload = subst (λ (s : Stored). IsPayloadBy book s s.kept there.payload) stored_same there.has.by_kept in
+      let keeps : KeepsPayload book first stored whole.wire there.payload = record {
+        placed = spot_of_book.placed;
+        kept = whole.is;
+        has = subst (λ (k : Kept). IsPayloadBy book stored k there.payload) whole.is by_kept;
+      } in
+      let uri : stored.uri ≡ same.uri = sym spot_of_book.uri ∙ met.matches.uri in
+      let date : stored.date ≡ same.date = sym spot_of_book.date ∙ met.matches.date in
+      record {
+        earlier = slice_get_within (captures book) first stored spot_of_book.placed;
+        original = stored;
+        wire = whole.wire;
+        payload = there.payload;
+        keeps = keeps;
+        refers = ap reference_in refers ∙ (λ i. Some (record { id = sym met.matches.id i; uri = sym uri i; date = sym date i }));
+        digest = sym candidate.digest_is ∙ ap (λ (s : Spot). s.digest) spot_same ∙ there.digest;
+        head = record {
+          parsed = revisit.parsed;
+          framing = revisit.framing;
+          tells = revisit.tells;
+          told = λ n framing.
+              let framed : response_framing (asks_for_head group.stored.method) h ≡ Ok (Length n) =
+              ap (response_framing (asks_for_head group.stored.method)) (one_head group.stored.head h revisit.parsed parsed revisit.tells.head_is.whole)
+              ∙ revisit.tells.framed ∙ ap told_ok framing in
+              sym (is.lengths_are.each first stored whole.wire there.payload keeps)
+              ∙ agrees_told group.stored.method h told (slice_index_or lengths first 0) n tells met.matches.long framed;
+        };
+      }
+
+  -- the one that it refers to
+  pub original_is_met : IsOriginalOf book (length (captures book)) group first → IsMet book.namespace same told candidates spots lengths first
+  original_is_met of =
+      let count = is.spots_are.count in
+      let kept = has_spot spots first (omega (arith, of.earlier, count)) in
+      let spot : Spot = kept.spot in
+      let spot_of_book : IsSpotOf book first spot = is.spots_are.each first spot kept.at in
+      let there : IsPlaced texts book first spot = is.placed.each first spot kept.at in
+      let stored_is : spot_of_book.stored ≡ of.original = one_at (slice_get (captures book) first) spot_of_book.stored of.original spot_of_book.placed of.keeps.placed in
+      let whole : is_whole spot.form ≡ true =
+      ap is_whole (spot_of_book.form ∙ ap (λ (s : Stored). form_of s.kept) stored_is) ∙ ap (λ (k : Kept). is_whole (form_of k)) of.keeps.kept in
+      let payload : there.payload ≡ of.payload = one book first there.payload of.payload there.has (record {
+        stored = of.original;
+        placed = of.keeps.placed;
+        by_kept = subst (λ (k : Kept). IsPayloadBy book of.original k of.payload) (sym of.keeps.kept) of.keeps.has;
+      }) in
+      let digest : spot.digest ≡ group.digest = there.digest ∙ ap sha1 payload ∙ sym of.digest in
+      let reference : reference_to book.namespace (same_of first of.original) ≡ as_reference =
+      same_Some (reference_to book.namespace (same_of first of.original)) as_reference (sym of.refers ∙ ap reference_in refers) in
+      record {
+        one = subst (λ (l : List ℕ). Contains l first) (sym are)
+            (subst (Contains (numbers_of group.digest (whole_from 0 spots))) (zero_and first) (to_numbers 0 spots group.digest first spot kept.at whole digest));
+        spot = spot;
+        kept = kept.at;
+        matches = record {
+          date = spot_of_book.date ∙ ap (λ (s : Stored). s.date) stored_is ∙ ap (λ (r : Reference). r.date) reference;
+          uri = spot_of_book.uri ∙ ap (λ (s : Stored). s.uri) stored_is ∙ ap (λ (r : Reference). r.uri) reference;
+          id = ap (λ (r : Reference). r.id) reference;
+          long = told_agrees group.stored.method h told (slice_index_or lengths first 0) tells (is.lengths_are.small first (omega (arith, lengths_count, of.earlier)))
+              (λ n framed.
+              let told_by : told_ok of.head.framing ≡ told_ok (Length n) =
+              sym of.head.tells.framed ∙ ap (response_framing (asks_for_head group.stored.method)) (one_head group.stored.head of.head.parsed h of.head.tells.head_is.whole parsed) ∙ framed in
+              is.lengths_are.each first of.original of.wire of.payload of.keeps ∙ of.head.told n (same_framing of.head.framing (Length n) told_by));
+        };
+      }
+
+pub some_record : (same : Option Revisited) (r : Revisited) → same ≡ Some r → same ≢ None
+some_record same r is none = apart r (sym none ∙ is)
+  where
+    apart : (x : Revisited) → None ≡ Some x → ⊥
+    apart x e = cc

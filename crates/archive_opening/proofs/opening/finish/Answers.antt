@@ -1,0 +1,16 @@
+use Rattle.std.proofs.Common.{rules}
+use Rattle.archive_opening.proofs.OpenedLaws.{cause_other, opened_by, some_volumes}
+use Rattle.archive_volumes.specs.Held.{book_of}
+use Rattle.archive_opening.proofs.opening.finish.Goals as goal
+
+pub returns-in-None-clause-opened : goal.returns-in-None-clause-opened
+returns-in-None-clause-opened g c =
+    opened_by g.D.Disk c.args.scanning c.args.gathered c.requires.all c.finish-journal.result c.finish-journal.ensures.disk c.finish-journal.ensures.extent
+    c.args.asked.now c.args.gathered c.requires.all.follows.gathered c.requires.steady c.in-None.ensures.none c.finish-journal.ensures.in_step c.finish-journal.ensures.held
+
+pub returns-in-Some-clause-cause : goal.returns-in-Some-clause-cause
+returns-in-Some-clause-cause g c = cause_other (book_of c.args.gathered.held) c.args.asked.now c.in-Some.fault c.in-Some.ensures.other
+
+pub other_than-requires : goal.other_than-requires
+other_than-requires g c = some_volumes g.D.Disk c.args.scanning c.args.gathered c.requires.all c.finish-journal.result c.finish-journal.ensures.disk c.finish-journal.ensures.extent
+    (search rules)

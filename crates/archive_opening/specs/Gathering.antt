@@ -1,0 +1,172 @@
+-- What is gathered of the volumes that were read: their book, what is kept of its captures, and their entries.
+use Rattle.std.specs.Prelude.{◌≡◌, ◌≢◌, ℕ, ◌+◌, ◌-◌, ◌^◌, ◌<◌, Bool, true, false, IsTrue, List, [], ◌∷◌, ◌++◌, length, slice_index_or, option_to_list, Option, ⊤}
+use Rattle.capture.specs.Captures.{KeepsPayload, captures}
+use Rattle.capture.specs.declared.book.Book.{Book}
+use Rattle.capture.specs.declared.captured.Stored.{Stored}
+use Rattle.cdxj_index.specs.Facts.{Facts}
+use Rattle.cdxj_index.specs.OfBook.{AreEntries}
+use Rattle.disk_model.specs.Crash.{Leaves}
+use Rattle.disk_model.specs.declared.disk.Disk.{Ghosts}
+use Rattle.disk_model.specs.declared.kind.Kind.TheVariants.{Warc}
+use Rattle.revisit_table.specs.Table.{Table}
+use Rattle.volume_scan.specs.Scannings.{captures_of, file_count, files_in, position_of, texts as texts_read}
+use Rattle.volume_scan.specs.declared.found.Found.{Found}
+use Rattle.volume_scan.specs.declared.found.Found.TheVariants.{Info, Group, End}
+use Rattle.volume_scan.specs.declared.position.Stage.TheVariants.{Done, Skipped}
+use Rattle.volume_scan.specs.declared.scanning.Scanning.{Scanning}
+use Rattle.warc_journal.specs.Extents.{warc_files}
+use Rattle.warc_journal.specs.Journals.{IsInStep, Rests, disk_of as disk_of_journal, texts as texts_of}
+use Rattle.warc_journal.specs.Texts.{Hold, with_more}
+use Rattle.warc_journal.specs.declared.place.Place.{Place}
+use Rattle.warc_scan.specs.Infos.{IsInfo}
+use Rattle.warc_scan.specs.declared.group.Group.{Group as GroupFound}
+use Rattle.warc_text.specs.Books.{AreVolumeTexts}
+use Rattle.warc_text.specs.Ids.{IsUuid}
+use Rattle.warc_text.specs.Sound.{IsSound}
+use Rattle.warc_text.specs.StandsFor.{StandsFor}
+use Rattle.archive_shelf.specs.Storing.{with_capture, with_volume}
+use Rattle.archive_shelf.specs.declared.fault.ReopenFault.{ReopenFault}
+use Rattle.archive_shelf.specs.declared.fault.ReopenFault.TheVariants as faults
+use Rattle.archive_volumes.specs.Held.{book_of}
+use Rattle.archive_opening.specs.Noting.{IsGroupAt, IsSomeGroup}
+use Rattle.archive_opening.specs.Opening.{IsDeadEnd, IsIn}
+use Rattle.archive_opening.specs.Reading.{IsRead}
+use Rattle.archive_volumes.specs.Spots.{ArePlaced, AreSpotsOf, spot_of, whole_from}
+use Rattle.archive_opening.specs.declared.gathered.Gathered.{Gathered}
+use Rattle.archive_volumes.specs.Volumes.{IsMeasured}
+use Rattle.archive_opening.specs.declared.noting.Noted.{Noted}
+use Rattle.archive_opening.specs.declared.opening.Opened.{Opened}
+use Rattle.archive_volumes.specs.declared.spot.Spot.{Spot}
+
+-- the lengths of the payloads, of the captures that keep their whole wire
+pub record AreLengths (book : Book) (lengths : List ℕ) : Type 0 where
+  pub each : (number : ℕ) (stored : Stored) (wire payload : List ℕ) → KeepsPayload book number stored wire payload
+      → slice_index_or lengths number 0 ≡ length payload
+  pub small : (number : ℕ) → number < length lengths → slice_index_or lengths number 0 < 2 ^ 64
+
+-- whatever was read, the parts are in step
+pub record IsInStepWith (book : Book) (spots : List Spot) (table : Table) (lengths : List ℕ) : Type 0 where
+  pub count : length spots ≡ length (captures book)
+  pub lengths_too : length lengths ≡ length spots
+  pub few : length spots < 2 ^ 32 - 1
+  pub table_is : table.kept ≡ whole_from 0 spots
+
+-- they tell of the book whose texts these are
+pub record TellsOf (book : Book) (texts : List (List ℕ)) (spots : List Spot) (lengths : List ℕ) (entries : List Facts) : Type 0 where
+  pub read : IsRead book texts
+  pub spots_are : AreSpotsOf book spots
+  pub placed : ArePlaced texts book spots
+  pub lengths_are : AreLengths book lengths
+  pub entries_are : AreEntries book entries
+
+abbrev pub IsSteady : Gathered → Type 0
+IsSteady g = IsInStepWith (book_of g.held) g.spots.items g.table g.lengths.items
+
+abbrev pub IsGathered : Gathered → List (List ℕ) → Type 0
+IsGathered g texts = TellsOf (book_of g.held) texts g.spots.items g.lengths.items g.entries.items
+
+-- the book has a volume more, and all else stayed
+pub record HasVolumeMore (was is : Gathered) (born : ℕ) : Type 0 where
+  pub book : book_of is.held ≡ with_volume (book_of was.held) born
+  pub spots : is.spots.items ≡ was.spots.items
+  pub lengths : is.lengths.items ≡ was.lengths.items
+  pub entries : is.entries.items ≡ was.entries.items
+
+-- what was noted of a capture was added
+pub record HasAdded (was is : Gathered) (noted : Noted) : Type 0 where
+  pub book : book_of is.held ≡ with_capture (book_of was.held) noted.stored
+  pub spots : is.spots.items ≡ was.spots.items ++ spot_of noted.stored noted.digest noted.volume noted.head_at ∷ []
+  pub lengths : is.lengths.items ≡ was.lengths.items ++ noted.length ∷ []
+  pub entries : is.entries.items ≡ was.entries.items ++ option_to_list noted.entry
+
+-- a volume with this text was begun
+pub record HasBegun (was is : Gathered) (texts : List (List ℕ)) (text namespace : List ℕ) : Type 0 where
+  pub gathered : IsGathered is (texts ++ text ∷ [])
+  pub namespace_is : (book_of is.held).namespace ≡ namespace
+  pub count : length (captures (book_of is.held)) ≡ length (captures (book_of was.held))
+
+-- a group with this text was taken
+pub record HasTaken (was is : Gathered) (texts : List (List ℕ)) (text : List ℕ) : Type 0 where
+  pub gathered : IsGathered is (with_more texts text)
+  pub namespace_is : (book_of is.held).namespace ≡ (book_of was.held).namespace
+  pub count : length (captures (book_of is.held)) ≡ length (captures (book_of was.held)) + 1
+
+-- what was found fits what was gathered, as far as no text tells
+pub record FitsGroup (g : Gathered) (place : Place) (group : GroupFound) : Type 0 where
+  pub some : IsSomeGroup group
+  pub len : place.len ≡ group.len
+  pub number : group.number ≡ length (captures (book_of g.held))
+  pub volume : 0 < length (book_of g.held).volumes
+
+abbrev pub FitsFound : Gathered → Found → Type 0
+FitsFound g (Info volume namespace born) = IsUuid namespace
+FitsFound g (Group place group) = FitsGroup g place group
+FitsFound g End = ⊤
+
+-- what was found is gathered, if anything was
+abbrev pub Gathers : Gathered → Gathered → List (List ℕ) → Found → Bool → Type 0
+Gathers was is texts (Info volume namespace born) more = (more ≡ true)
+    × ((text : List ℕ) → volume ≡ length texts → IsInfo volume text namespace born (length text) → HasBegun was is texts text namespace)
+Gathers was is texts (Group place group) more = (more ≡ true)
+    × ((text : List ℕ) → IsGroupAt (book_of was.held) texts text place group → HasTaken was is texts text)
+Gathers was is texts End more = (more ≡ false) × (is ≡ was)
+
+-- no sound book goes on with what was found
+abbrev pub IsRefusedAt : Gathered → List (List ℕ) → Found → ℕ → ℕ → Type 0
+IsRefusedAt was texts (Info volume namespace born) file place = (file ≡ volume) × (place ≡ 0)
+    × ((text : List ℕ) → volume ≡ length texts → IsInfo volume text namespace born (length text) → IsDeadEnd (texts ++ text ∷ []))
+IsRefusedAt was texts (Group at group) file place = (file ≡ at.volume) × (place ≡ at.at)
+    × ((text : List ℕ) → IsGroupAt (book_of was.held) texts text at group → IsDeadEnd (with_more texts text))
+IsRefusedAt was texts End file place = ⊥
+
+abbrev pub IsRefused : Gathered → List (List ℕ) → Found → ReopenFault → Type 0
+IsRefused was texts found (faults.Damaged kind file place) = (kind ≡ Warc) × IsRefusedAt was texts found file place
+IsRefused was texts found (faults.OtherNamespace other) = ⊥
+IsRefused was texts found faults.DiskFault = ⊥
+IsRefused was texts found faults.Memory = ⊤
+
+-- What a scan has read was gathered.
+pub record Follows {D : Type 0} (d : Ghosts D) (scanning : Scanning D) (g : Gathered) : Type 0 where
+  pub texts : List (List ℕ)
+  pub gathered : IsGathered g texts
+  pub volumes : (position_of scanning).extent.volumes ≡ length texts
+  pub none : length texts ≡ 0 → (position_of scanning).extent.end ≡ 0
+  pub ends : (k : ℕ) → k + 1 ≡ length texts → (position_of scanning).extent.end ≡ length (slice_index_or texts k [])
+  pub count : captures_of scanning ≡ length (captures (book_of g.held))
+  pub namespace : 0 < length texts → (position_of scanning).namespace ≡ (book_of g.held).namespace
+  pub whole : (position_of scanning).stage ≢ Skipped
+  pub read : IsTrue d.tells → texts_read d scanning ≡ texts
+
+-- All was gathered: the files hold just these texts, where the disk tells.
+pub record HasAll {D : Type 0} (d : Ghosts D) (scanning : Scanning D) (g : Gathered) : Type 0 where
+  pub follows : Follows d scanning g
+  pub held : IsTrue d.tells → Hold follows.texts (files_in d scanning)
+
+-- how many volumes and captures may still be found
+abbrev pub left : {D : Type 0} → Scanning D → ℕ
+left scanning = (file_count scanning - (position_of scanning).extent.volumes) + (2 ^ 32 - captures_of scanning)
+
+-- what one step more says: there may be more, or all was gathered
+abbrev pub ReadsOn : {D : Type 0} → Ghosts D → Scanning D → Scanning D → Gathered → Bool → Type 0
+ReadsOn d old new g true = Follows d new g × IsSteady g × (left new < left old)
+ReadsOn d old new g false = HasAll d new g × ((position_of new).stage ≡ Done) × IsSteady g
+
+-- An archive can be made of what was opened: the journal goes on with the volumes of a sound book, and what was gathered tells of it.
+pub record IsUsable {D : Type 0} (d : Ghosts D) (opened : Opened D) : Type 0 where
+  pub sound : IsSound (book_of opened.gathered.held)
+  pub in_step : IsTrue d.tells → IsInStep d opened.journal
+  pub texts_are : IsTrue d.tells → AreVolumeTexts (book_of opened.gathered.held) (texts_of d opened.journal)
+  pub left : IsTrue d.tells → Leaves (d.images (disk_of_journal opened.journal)) (λ image. Hold (texts_of d opened.journal) (warc_files image))
+  pub measured : IsMeasured opened.journal (book_of opened.gathered.held)
+  pub steady : IsSteady opened.gathered
+  pub spots : AreSpotsOf (book_of opened.gathered.held) opened.gathered.spots.items
+  pub placed : IsTrue d.tells → ArePlaced (texts_of d opened.journal) (book_of opened.gathered.held) opened.gathered.spots.items
+  pub entries : AreEntries (book_of opened.gathered.held) opened.gathered.entries.items
+
+-- Volumes were opened: the disk holds their book, where it tells, and nothing else may be left of it than before.
+pub record IsOpened {D : Type 0} (d : Ghosts D) (disk : D) (asked : Option (List ℕ)) (opened : Opened D) : Type 0 where
+  pub usable : IsUsable d opened
+  pub stands : IsTrue d.tells → StandsFor (warc_files (d.reading disk)) (book_of opened.gathered.held)
+  pub in_namespace : IsIn asked (book_of opened.gathered.held)
+  pub rests : IsTrue d.tells → Rests d disk (disk_of_journal opened.journal)
+  pub faults : d.faults (disk_of_journal opened.journal) ≡ d.faults disk

@@ -1,0 +1,363 @@
+//! What is gathered of the volumes as they are read.
+ghost use Rattle.std.specs.Prelude.{◌≡◌, ◌≢◌, ◌+◌, ◌-◌, ◌^◌, ◌<◌, ◌∷◌, ◌++◌, [], List, ℕ, All, IfErr, IfNone, IfOk, IfSome, None, OnOk, if◌then◌else◌, length, option_to_list};
+ghost use Rattle.httparse.specs.Grammar as grammar;
+ghost use Rattle.capture.specs.Captures.{captures};
+ghost use Rattle.capture.specs.Message.{IsResponseHeadText};
+ghost use Rattle.http_head.specs.Heads.{HoldsResponse, HoldsResponseParts};
+ghost use Rattle.warc_journal.specs.Texts.{with_more};
+ghost use Rattle.warc_scan.specs.Infos.{IsInfo};
+ghost use Rattle.warc_text.specs.Ids.{IsUuid};
+ghost use Rattle.archive_shelf.specs.Storing.{empty_book};
+ghost use Rattle.archive_opening.specs.Gathering.{FitsFound, FitsGroup, Gathers, HasAdded, HasBegun, HasTaken, HasVolumeMore, IsGathered, IsRefused, IsSteady};
+ghost use Rattle.archive_volumes.specs.Held.{book_of};
+ghost use Rattle.archive_opening.specs.Noting.{IsGroupAt, IsSomeGroup};
+ghost use Rattle.archive_opening.specs.Opening.{IsCause, IsDeadEnd, IsIn, IsOther};
+ghost use Rattle.archive_opening.specs.Revisits.{RefersRight, RefersToNone};
+ghost use Rattle.archive_volumes.specs.Spots.{form_of, is_whole as is_whole_form};
+ghost use Rattle.archive_opening.specs.declared.gathered.Refusal.TheVariants.{Damaged as IsDamaged, Memory as IsMemory};
+
+use crate::laws::reading_laws;
+use crate::measuring::told_length;
+use crate::noting::{Noted, note, passes_bounds};
+use crate::originals::{Sought, first_met};
+use archive_shelf::ReopenFault;
+use archive_volumes::{Held, Spot};
+use capture::{Digest, Kept, Memory, captures_have_one_payload};
+use cdxj_index::Entry;
+use disk_model::Kind;
+use http_head::{ResponseHead, WireFault, read_head};
+use revisit_table::Digests;
+use std::alloc::Global;
+use surt_key::accepted_targets_have_keys;
+use uuid::Uuid;
+use volume_scan::Found;
+use warc_journal::Place;
+use warc_scan::Group;
+
+/// Why what was found isn't gathered.
+#[derive(Clone, Copy, Debug, PartialEq, Eq)]
+pub(crate) enum Refusal {
+    /// No sound book goes on with it.
+    Damaged,
+    /// There was no memory.
+    Memory,
+}
+
+impl From<Memory> for Refusal {
+    ghost use Rattle.archive_opening.specs.declared.gathered.Refusal.TheVariants.{Memory as OutOfMemory};
+
+    ghost from_gives = { λ _ fault. fault ≡ OutOfMemory };
+
+    fn from(_error: Memory) -> Refusal {
+        Refusal::Memory
+    }
+}
+
+/// What was gathered of the volumes that were read so far.
+#[derive(Drop)]
+pub struct Gathered {
+    /// Their book, without its bytes.
+    held: Held,
+    /// What is kept of each capture.
+    spots: Vec<Spot>,
+    /// The length of each capture's payload in bytes, of those that keep their whole wire.
+    lengths: Vec<u64>,
+    /// The captures that keep their whole wire, by the digests of their payloads.
+    table: Digests,
+    /// The entries of the captures that are found by date, by number.
+    entries: Vec<Entry>,
+}
+
+impl Gathered {
+    /// Nothing, in this namespace. Takes no memory.
+    pub(crate) fn new(alloc: Global, namespace: Uuid) -> Gathered
+        requires { IsUuid namespace }
+        ensures book { book_of result.held ≡ empty_book namespace }
+        ensures steady { IsSteady result }
+        ensures gathered { IsGathered result [] }
+    {
+        Gathered {
+            held: Held::new(alloc, namespace),
+            spots: Vec::new(alloc),
+            lengths: Vec::new(alloc),
+            table: Digests::new(alloc),
+            entries: Vec::new(alloc),
+        }
+    }
+
+    /// Nothing, in the namespace that is asked for, if one is.
+    pub(crate) fn in_namespace(alloc: Global, asked: &Option<Uuid>) -> Gathered
+        requires uuid { IfSome asked.now IsUuid }
+        ensures steady { IsSteady result }
+        ensures gathered { IsGathered result [] }
+        ensures namespace { IsIn asked.now (book_of result.held) }
+    {
+        match asked {
+            Some(namespace) => Gathered::new(alloc, *namespace),
+            None => Gathered::new(alloc, Uuid::nil()),
+        }
+    }
+
+    /// The refusal of another namespace than the one that is asked for, where there are volumes.
+    pub(crate) fn other_than(&self, asked: &Option<Uuid>) -> Option<ReopenFault>
+        requires { 0 < length (book_of self.now.held).volumes }
+        ensures other { IfSome result (IsOther (book_of self.now.held) asked.now) }
+        ensures none { IfNone result (IsIn asked.now (book_of self.now.held)) }
+    {
+        match asked {
+            Some(namespace) => {
+                if *namespace == self.held.namespace {
+                    return None;
+                }
+                Some(ReopenFault::OtherNamespace(self.held.namespace))
+            }
+            None => None,
+        }
+    }
+
+    /// Its parts: the book without its bytes, what is kept of the captures, the table of their digests, and the entries by
+    /// number.
+    pub fn into_parts(self) -> (Held, Vec<Spot>, Digests, Vec<Entry>)
+        ensures held { result.0 ≡ self.held }
+        ensures spots { result.1.items ≡ self.spots.items }
+        ensures table { result.2 ≡ self.table }
+        ensures entries { result.3.items ≡ self.entries.items }
+    {
+        let Gathered {
+            held,
+            spots,
+            lengths: _,
+            table,
+            entries,
+        } = self;
+        (held, spots, table, entries)
+    }
+
+    /// Gathers what a scan has found; false at the end.
+    pub(crate) fn gather(&mut self, alloc: Global, found: Found) -> Result<bool, ReopenFault>
+        requires steady { IsSteady self.old }
+        requires fits { FitsFound self.old found }
+        ensures steady { OnOk result (IsSteady self.new) }
+        ensures gathers { (texts : List (List ℕ)) → IsGathered self.old texts → IfOk result (Gathers self.old self.new texts found) }
+        ensures refused { (texts : List (List ℕ)) → IsGathered self.old texts → IfErr result (IsRefused self.old texts found) }
+        ensures cause { IfErr result (IsCause None) }
+    {
+        match found {
+            Found::Info {
+                volume,
+                namespace,
+                born,
+            } => match self.begin(alloc, volume, namespace, born) {
+                Ok(()) => Ok(true),
+                Err(Refusal::Damaged) => Err(damaged(volume, 0)),
+                Err(Refusal::Memory) => Err(ReopenFault::Memory),
+            },
+            Found::Group { place, group } => match self.take(alloc, place, group) {
+                Ok(()) => Ok(true),
+                Err(Refusal::Damaged) => Err(damaged(place.volume, place.at)),
+                Err(Refusal::Memory) => Err(ReopenFault::Memory),
+            },
+            Found::End => Ok(false),
+        }
+    }
+
+    /// Gathers a volume, whose warcinfo was found. A namespace that isn't that of the volumes before, and a volume without a
+    /// capture before this one, are damage.
+    fn begin(
+        &mut self,
+        alloc: Global,
+        volume: u32,
+        namespace: Uuid,
+        born: u64,
+    ) -> Result<(), Refusal>
+        requires steady { IsSteady self.old }
+        requires uuid { IsUuid namespace }
+        ensures steady { OnOk result (IsSteady self.new) }
+        ensures gathered { (texts : List (List ℕ)) (text : List ℕ) → IsGathered self.old texts → volume ≡ length texts
+            → IsInfo volume text namespace born (length text) → OnOk result (HasBegun self.old self.new texts text namespace) }
+        ensures damaged { (texts : List (List ℕ)) (text : List ℕ) → IsGathered self.old texts → volume ≡ length texts
+            → IsInfo volume text namespace born (length text) → IfErr result (λ refusal. refusal ≡ IsDamaged → IsDeadEnd (texts ++ text ∷ [])) }
+    {
+        reading_laws();
+        if volume == 0 {
+            *self = Gathered::new(alloc, namespace);
+            return self.add_volume(alloc, born);
+        }
+        if namespace != self.held.namespace {
+            return Err(Refusal::Damaged);
+        }
+        if !self.held.is_filled() {
+            return Err(Refusal::Damaged);
+        }
+        self.add_volume(alloc, born)
+    }
+
+    /// Adds a volume.
+    fn add_volume(&mut self, alloc: Global, born: u64) -> Result<(), Refusal>
+        requires steady { IsSteady self.old }
+        ensures steady { OnOk result (IsSteady self.new) }
+        ensures added { OnOk result (HasVolumeMore self.old self.new born) }
+        ensures memory { IfErr result (λ refusal. refusal ≡ IsMemory) }
+    {
+        let shadow = self.held.prepare_volume(alloc, born)?;
+        self.held.add_volume(shadow);
+        Ok(())
+    }
+
+    /// Gathers a capture, whose group was found behind the last volume's text. A revisit that refers to no capture with its
+    /// payload, and a group with which a bound is passed, are damage.
+    fn take(&mut self, alloc: Global, place: Place, group: Group) -> Result<(), Refusal>
+        requires steady { IsSteady self.old }
+        requires fits { FitsGroup self.old place group }
+        ensures steady { OnOk result (IsSteady self.new) }
+        ensures gathered { (texts : List (List ℕ)) (text : List ℕ) → IsGathered self.old texts → IsGroupAt (book_of self.old.held) texts text place group
+            → OnOk result (HasTaken self.old self.new texts text) }
+        ensures damaged { (texts : List (List ℕ)) (text : List ℕ) → IsGathered self.old texts → IsGroupAt (book_of self.old.held) texts text place group
+            → IfErr result (λ refusal. refusal ≡ IsDamaged → IsDeadEnd (with_more texts text)) }
+    {
+        reading_laws();
+        accepted_targets_have_keys();
+        let number = self.spots.len() as u32;
+        if passes_bounds(number, &place, &group) {
+            return Err(Refusal::Damaged);
+        }
+        let head = match read_parts(alloc, group.stored.head.as_slice()) {
+            Ok(head) => head,
+            Err(refusal) => return Err(refusal),
+        };
+        let first = match self.original(&group, &head) {
+            Ok(first) => first,
+            Err(refusal) => return Err(refusal),
+        };
+        let noted = match note(alloc, &place, group, first, &head) {
+            Ok(noted) => noted,
+            Err(Memory) => return Err(Refusal::Memory),
+        };
+        match self.add(alloc, noted) {
+            Ok(()) => Ok(()),
+            Err(Memory) => Err(Refusal::Memory),
+        }
+    }
+
+    /// The number of the capture that a group refers to, if it refers to any; damage, where it refers to none of those before.
+    fn original(&self, group: &Group, head: &ResponseHead) -> Result<Option<u32>, Refusal>
+        requires steady { IsSteady self.now }
+        requires found { IsSomeGroup group.now }
+        ensures found { (texts : List (List ℕ)) (h : grammar.ResponseHead) → IsGathered self.now texts → HoldsResponseParts group.now.stored.head h head.now
+            → group.now.number ≡ length (captures (book_of self.now.held)) → IfOk result (RefersRight (book_of self.now.held) group.now) }
+        ensures none { (texts : List (List ℕ)) (h : grammar.ResponseHead) → IsGathered self.now texts → HoldsResponseParts group.now.stored.head h head.now
+            → group.now.number ≡ length (captures (book_of self.now.held))
+            → IfErr result (λ refusal. refusal ≡ IsDamaged → RefersToNone (book_of self.now.held) group.now) }
+        ensures there { IfOk result (λ first. IfSome first (λ number. number < length self.now.spots.items)) }
+    {
+        captures_have_one_payload();
+        let Some(same) = &group.same else {
+            return Ok(None);
+        };
+        let sought = Sought {
+            namespace: &self.held.namespace,
+            same,
+            length: told_length(&group.stored.method, head),
+        };
+        let candidates = self.table.candidates(&group.digest);
+        match first_met(
+            sought,
+            candidates,
+            self.spots.as_slice(),
+            self.lengths.as_slice(),
+        ) {
+            Some(first) => Ok(Some(first)),
+            None => Err(Refusal::Damaged),
+        }
+    }
+
+    /// Adds what was noted of the next capture.
+    fn add(&mut self, alloc: Global, noted: Noted) -> Result<(), Memory>
+        requires steady { IsSteady self.old }
+        requires volume { 0 < length (book_of self.old.held).volumes }
+        requires few { length self.old.spots.items + 1 < 2 ^ 32 - 1 }
+        ensures steady { OnOk result (IsSteady self.new) }
+        ensures added { OnOk result (HasAdded self.old self.new noted) }
+    {
+        let Noted {
+            stored,
+            digest,
+            volume,
+            head_at,
+            length,
+            entry,
+        } = noted;
+        let number = self.spots.len() as u32;
+        let whole = is_whole(&stored.kept);
+        add_digest(alloc, &mut self.table, whole, &digest, number)?;
+        add_entry(&mut self.entries, entry)?;
+        self.lengths.push(length)?;
+        self.held.reserve()?;
+        self.held.add(&stored);
+        self.spots.push(Spot::of(stored, digest, volume, head_at))?;
+        Ok(())
+    }
+}
+
+/// That a volume's file is damaged at this place.
+pub(crate) fn damaged(file: u32, place: u64) -> ReopenFault
+    ensures { result ≡ ReopenFault.Damaged Kind.Warc file place }
+{
+    ReopenFault::Damaged {
+        kind: Kind::Warc,
+        file,
+        place,
+    }
+}
+
+/// Adds a capture to the table, if it keeps its whole wire.
+fn add_digest(
+    alloc: Global,
+    table: &mut Digests,
+    whole: bool,
+    digest: &Digest,
+    number: u32,
+) -> Result<(), Memory>
+    requires above { All (λ entry. entry.1 < number) table.old.kept }
+    ensures { OnOk result (table.new.kept ≡ table.old.kept ++ (if whole then (digest.now, number) ∷ [] else [])) }
+{
+    if !whole {
+        return Ok(());
+    }
+    table.reserve(alloc, digest)?;
+    table.add(digest, number);
+    Ok(())
+}
+
+/// Adds an entry, if there is one.
+fn add_entry(entries: &mut Vec<Entry>, entry: Option<Entry>) -> Result<(), Memory>
+    ensures { OnOk result (entries.new.items ≡ entries.old.items ++ option_to_list entry) }
+{
+    if let Some(entry) = entry {
+        entries.push(entry)?;
+    }
+    Ok(())
+}
+
+/// Whether a whole wire is kept.
+fn is_whole(kept: &Kept) -> bool
+    ensures { result ≡ is_whole_form (form_of kept.now) }
+{
+    match kept {
+        Kept::Wire(_) => true,
+        Kept::Same(_) => false,
+        Kept::Cut(_) => false,
+    }
+}
+
+/// The parts of a head.
+fn read_parts(alloc: Global, text: &[u8]) -> Result<ResponseHead, Refusal>
+    ensures parts { IfOk result (HoldsResponse text.now) }
+    ensures none { IfErr result (λ refusal. refusal ≡ IsDamaged → (h : grammar.ResponseHead) → IsResponseHeadText text.now h → ⊥) }
+{
+    match read_head(alloc, text) {
+        Ok(head) => Ok(head),
+        Err(WireFault::Malformed) => Err(Refusal::Damaged),
+        Err(_) => Err(Refusal::Memory),
+    }
+}

@@ -1,0 +1,217 @@
+-- What is kept of the captures stays when a book grows, and its texts go on.
+use Rattle.std.proofs.Common.{◌≡◌, ℕ, zero, suc, ◌+◌, ◌-◌, ◌<◌, ◌≤◌, Bool, true, false, if◌then◌else◌, List, [], ◌∷◌, ◌++◌, length, take, Some, refl, sym, ap, subst, ◌∙◌, arith, append_assoc, length-append}
+use Rattle.std.specs.Prelude.{All, drop, slice_get}
+use Rattle.std.proofs.lemmas.List.Elements.{All-cons, All-nil}
+use Rattle.std.proofs.Math.Seq.{drop-append-add, take-append_seam}
+use Rattle.std.proofs.lemmas.List.{drop-append-le, length-drop, take-append-le}
+use Rattle.sha1.specs.Sha1.{sha1}
+use Rattle.capture.specs.Captures.{captures, kept_wire, IsPayloadOf}
+use Rattle.capture.specs.declared.book.Book.{Book}
+use Rattle.capture.specs.declared.captured.Stored.{Stored}
+use Rattle.archive_shelf.proofs.ComparingLaws.{payload_later, placed_later}
+use Rattle.archive_volumes.specs.Spots.{AreSpotsOf, ArePlaced, IsPlaced, IsSpotOf, RefersBack, is_whole, part, spot_of, text_at, whole_from}
+use Rattle.archive_volumes.specs.declared.spot.Form.{Form}
+use Rattle.archive_volumes.specs.declared.spot.Form.TheVariants as forms
+use Rattle.archive_volumes.specs.declared.spot.Spot.{Spot}
+
+-- ---- places in lists
+
+get_within : (spots : List Spot) (k : ℕ) (spot : Spot) → slice_get spots k ≡ Some spot → k < length spots
+get_within [] k spot e = cc
+get_within (s ∷ ss) zero spot e = omega arith
+get_within (s ∷ ss) (suc k) spot e = omega (arith, get_within ss k spot e)
+
+-- what stands in a list with one more at its end stood there, or is that one
+data Stands (spots : List Spot) (last : Spot) (k : ℕ) (spot : Spot) : Type 0 where
+  before : slice_get spots k ≡ Some spot → Stands spots last k spot
+  behind : k ≡ length spots → spot ≡ last → Stands spots last k spot
+
+later : (s : Spot) (ss : List Spot) (last : Spot) (k : ℕ) (spot : Spot) → Stands ss last k spot → Stands (s ∷ ss) last (suc k) spot
+later s ss last k spot (before at) = before at
+later s ss last k spot (behind is same) = behind (ap suc is) same
+
+stands_in : (spots : List Spot) (last : Spot) (k : ℕ) (spot : Spot) → slice_get (spots ++ last ∷ []) k ≡ Some spot → Stands spots last k spot
+stands_in [] last zero spot e = behind refl (same last spot e)
+  where
+    same : (a b : Spot) → Some a ≡ Some b → b ≡ a
+    same a b e = cc
+stands_in [] last (suc k) spot e = cc
+stands_in (s ∷ ss) last zero spot e = before e
+stands_in (s ∷ ss) last (suc k) spot e = later s ss last k spot (stands_in ss last k spot e)
+
+-- ---- a book that gained captures
+
+module _ (old new : Book) (added : List Stored) (gains : captures new ≡ captures old ++ added) where
+  refers_stay : (number : ℕ) (form : Form) → RefersBack old number form → RefersBack new number form
+  refers_stay number forms.Whole is = is
+  refers_stay number (forms.Same first) is = (
+    is.0,
+    record {
+      stored = is.1.stored;
+      wire = is.1.wire;
+      placed = placed_later old new added gains first is.1.stored is.1.placed;
+      kept = is.1.kept;
+    },
+  )
+  refers_stay number forms.Cut is = is
+
+  pub spot_stays : (number : ℕ) (spot : Spot) → IsSpotOf old number spot → IsSpotOf new number spot
+  spot_stays number spot is = record {
+    stored = is.stored;
+    placed = placed_later old new added gains number is.stored is.placed;
+    method = is.method;
+    uri = is.uri;
+    date = is.date;
+    form = is.form;
+    refers = refers_stay number spot.form is.refers;
+    in_range = is.in_range;
+    short = is.short;
+    ends = is.ends;
+  }
+
+  payload_stays : (number : ℕ) (payload : List ℕ) → IsPayloadOf old number payload → IsPayloadOf new number payload
+  payload_stays number payload has = record {
+    stored = has.stored;
+    placed = placed_later old new added gains number has.stored has.placed;
+    by_kept = payload_later old new added gains has.stored has.stored.kept payload has.by_kept;
+  }
+
+-- as many captures, and the same ones
+pub spots_stay : (old new : Book) → captures new ≡ captures old → (spots : List Spot) → AreSpotsOf old spots → AreSpotsOf new spots
+spots_stay old new same spots are = record {
+  count = are.count ∙ ap length (sym same);
+  each = λ number spot at. spot_stays old new [] (same ∙ sym (no_more (captures old))) number spot (are.each number spot at);
+}
+  where
+    no_more : (xs : List Stored) → xs ++ [] ≡ xs
+    no_more [] = refl
+    no_more (x ∷ xs) = ap (λ (l : List Stored). x ∷ l) (no_more xs)
+
+-- one capture more
+pub spots_with : (old new : Book) (stored : Stored) → captures new ≡ captures old ++ stored ∷ [] → (spots : List Spot) (spot : Spot)
+    → AreSpotsOf old spots → IsSpotOf new (length (captures old)) spot → AreSpotsOf new (spots ++ spot ∷ [])
+spots_with old new stored gains spots spot are is = record {
+  count = omega (arith, are.count, ap length gains, length-append spots (spot ∷ []), length-append (captures old) (stored ∷ []));
+  each = λ number other at. by number other (stands_in spots spot number other at);
+}
+  where
+    by : (number : ℕ) (other : Spot) → Stands spots spot number other → IsSpotOf new number other
+    by number other (before at) = spot_stays old new (stored ∷ []) gains number other (are.each number other at)
+    by number other (behind last same) =
+        subst (λ (s : Spot). IsSpotOf new number s) (sym same) (subst (λ (n : ℕ). IsSpotOf new n spot) (sym (last ∙ are.count)) is)
+
+-- ---- texts that go on
+
+-- each text that was there is the beginning of the one with its number
+pub record GoOn (was now : List (List ℕ)) : Type 0 where
+  pub count : length was ≤ length now
+  pub rest : ℕ → List ℕ
+  pub each : (k : ℕ) → k < length was → text_at now k ≡ text_at was k ++ rest k
+
+-- a part stays when the text goes on
+part_stays : (text more : List ℕ) (at long : ℕ) → at + long ≤ length text → part (text ++ more) at long ≡ part text at long
+part_stays text more at long within =
+    let rest : length (drop at text) ≡ length text - at = length-drop at text in
+    ap (take long) (drop-append-le at text more (omega (arith, within)))
+    ∙ take-append-le long (drop at text) more (omega (arith, within, rest))
+
+module _ (was now : List (List ℕ)) (on : GoOn was now) (old new : Book) (added : List Stored) (gains : captures new ≡ captures old ++ added) where
+  pub place_stays : (number : ℕ) (spot : Spot) → IsPlaced was old number spot → IsPlaced now new number spot
+  unfolding payload_stays
+  place_stays number spot is =
+      let text : List ℕ = text_at was spot.volume in
+      let more : text_at now spot.volume ≡ text ++ on.rest spot.volume = on.each spot.volume is.there in
+      record {
+        payload = is.payload;
+        has = payload_stays old new added gains number is.payload is.has;
+        digest = is.digest;
+        there = omega (arith, is.there, on.count);
+        within = omega (arith, is.within, ap length more, length-append text (on.rest spot.volume));
+        head = ap (λ (t : List ℕ). part t spot.head_at spot.head_len) more
+            ∙ part_stays text (on.rest spot.volume) spot.head_at spot.head_len (omega (arith, is.within)) ∙ is.head;
+        wire = ap (λ (t : List ℕ). part t (spot.head_at + spot.head_len) spot.wire_len) more
+            ∙ part_stays text (on.rest spot.volume) (spot.head_at + spot.head_len) spot.wire_len (omega (arith, is.within)) ∙ is.wire;
+      }
+
+  pub placed_stay : (spots : List Spot) → ArePlaced was old spots → ArePlaced now new spots
+  placed_stay spots are = record { each = λ number spot at. place_stays number spot (are.each number spot at) }
+
+  pub placed_with : (spots : List Spot) (spot : Spot) → ArePlaced was old spots → IsPlaced now new (length spots) spot → ArePlaced now new (spots ++ spot ∷ [])
+  placed_with spots spot are is = record { each = λ number other at. by number other (stands_in spots spot number other at) }
+    where
+      by : (number : ℕ) (other : Spot) → Stands spots spot number other → IsPlaced now new number other
+      by number other (before at) = place_stays number other (are.each number other at)
+      by number other (behind last same) =
+          subst (λ (s : Spot). IsPlaced now new number s) (sym same) (subst (λ (n : ℕ). IsPlaced now new n spot) (sym last) is)
+
+-- ---- a new place
+
+part_behind : (front text : List ℕ) (at long : ℕ) → part (front ++ text) (length front + at) long ≡ part text at long
+part_behind front text at long = ap (take long) (drop-append-add front text at)
+
+no_more_at : (n : ℕ) → n + 0 ≡ n
+no_more_at n = omega arith
+
+-- what stands first behind a front
+first_part : (front block rest : List ℕ) → part (front ++ (block ++ rest)) (length front) (length block) ≡ block
+first_part front block rest =
+    ap (λ (n : ℕ). part (front ++ (block ++ rest)) n (length block)) (sym (no_more_at (length front)))
+    ∙ part_behind front (block ++ rest) 0 (length block) ∙ take-append_seam block rest
+
+-- a head and a wire that stand between a front and a rest
+pub placed_at : (texts : List (List ℕ)) (book : Book) (number : ℕ) (payload : List ℕ) (has : IsPayloadOf book number payload) (volume : ℕ)
+    (front rest : List ℕ) → volume < length texts
+    → text_at texts volume ≡ front ++ ((has.stored.head ++ kept_wire has.stored.kept) ++ rest)
+    → IsPlaced texts book number (spot_of has.stored (sha1 payload) volume (length front))
+placed_at texts book number payload has volume front rest there composed =
+    let head : List ℕ = has.stored.head in
+    let wire : List ℕ = kept_wire has.stored.kept in
+    let text : List ℕ = text_at texts volume in
+    let as_head : text ≡ front ++ (head ++ (wire ++ rest)) = composed ∙ ap (λ (t : List ℕ). front ++ t) (append_assoc head wire rest) in
+    let as_wire : text ≡ (front ++ head) ++ (wire ++ rest) = as_head ∙ sym (append_assoc front head (wire ++ rest)) in
+    record {
+      payload = payload;
+      has = has;
+      digest = refl;
+      there = there;
+      within = omega (arith, ap length composed, length-append front ((head ++ wire) ++ rest), length-append (head ++ wire) rest, length-append head wire);
+      head = ap (λ (t : List ℕ). part t (length front) (length head)) as_head ∙ first_part front head (wire ++ rest);
+      wire = ap (λ (n : ℕ). part text n (length wire)) (sym (length-append front head))
+          ∙ ap (λ (t : List ℕ). part t (length (front ++ head)) (length wire)) as_wire ∙ first_part (front ++ head) wire rest;
+    }
+
+-- ---- the captures that keep their whole wire
+
+if_more : (b : Bool) (x : List ℕ × ℕ) (xs ys : List (List ℕ × ℕ)) → (if b then x ∷ (xs ++ ys) else xs ++ ys) ≡ (if b then x ∷ xs else xs) ++ ys
+if_more true x xs ys = refl
+if_more false x xs ys = refl
+
+whole_behind : (from : ℕ) (spots : List Spot) (spot : Spot)
+    → whole_from from (spots ++ spot ∷ []) ≡ whole_from from spots ++ (if is_whole spot.form then (spot.digest, from + length spots) ∷ [] else [])
+whole_behind from [] spot = ap (λ (n : ℕ). if is_whole spot.form then (spot.digest, n) ∷ [] else []) (sym (no_more_at from))
+whole_behind from (s ∷ ss) spot =
+    let last : List (List ℕ × ℕ) = if is_whole spot.form then (spot.digest, suc from + length ss) ∷ [] else [] in
+    let step : suc from + length ss ≡ from + suc (length ss) = omega arith in
+    ap (λ (l : List (List ℕ × ℕ)). if is_whole s.form then (s.digest, from) ∷ l else l) (whole_behind (suc from) ss spot)
+    ∙ if_more (is_whole s.form) (s.digest, from) (whole_from (suc from) ss) last
+    ∙ ap (λ (n : ℕ). whole_from from (s ∷ ss) ++ (if is_whole spot.form then (spot.digest, n) ∷ [] else [])) step
+
+pub table_with : (spots : List Spot) (spot : Spot)
+    → whole_from 0 (spots ++ spot ∷ []) ≡ whole_from 0 spots ++ (if is_whole spot.form then (spot.digest, length spots) ∷ [] else [])
+table_with spots spot = whole_behind 0 spots spot ∙ ap (λ (n : ℕ). whole_from 0 spots ++ (if is_whole spot.form then (spot.digest, n) ∷ [] else [])) (none (length spots))
+  where
+    none : (n : ℕ) → 0 + n ≡ n
+    none n = omega arith
+
+below_by : (b : Bool) (from : ℕ) (digest : List ℕ) (bound : ℕ) (others : List (List ℕ × ℕ)) → from < bound → All (λ (entry : List ℕ × ℕ). entry.1 < bound) others
+    → All (λ (entry : List ℕ × ℕ). entry.1 < bound) (if b then (digest, from) ∷ others else others)
+below_by true from digest bound others less all = All-cons (λ (entry : List ℕ × ℕ). entry.1 < bound) (digest, from) others less all
+below_by false from digest bound others less all = all
+
+whole_below_from : (from : ℕ) (spots : List Spot) (bound : ℕ) → from + length spots ≤ bound → All (λ (entry : List ℕ × ℕ). entry.1 < bound) (whole_from from spots)
+whole_below_from from [] bound le = All-nil (λ (entry : List ℕ × ℕ). entry.1 < bound)
+whole_below_from from (s ∷ ss) bound le =
+    below_by (is_whole s.form) from s.digest bound (whole_from (suc from) ss) (omega (arith, le)) (whole_below_from (suc from) ss bound (omega (arith, le)))
+
+pub whole_below : (spots : List Spot) → All (λ (entry : List ℕ × ℕ). entry.1 < length spots) (whole_from 0 spots)
+whole_below spots = whole_below_from 0 spots (length spots) (omega arith)

@@ -1,0 +1,191 @@
+-- What a store leaves to be opened, by where it ends.
+use Rattle.std.proofs.Common.{◌≡◌, ℕ, ◌≤◌, IsTrue, [], ◌∷◌, length, length-append, Some, None, Result, Ok, Err, OnErr, IsErr, is_ok, if◌then◌else◌, refl, sym, ap, subst, ◌∙◌, inl, inr, ⊎_elim, arith}
+use Rattle.std.proofs.lemmas.Bool.{false≢true}
+use Rattle.capture.specs.Captures.{captures}
+use Rattle.capture.specs.declared.book.Book.{Book}
+use Rattle.capture.specs.declared.captured.Taken.{Taken}
+use Rattle.disk_model.specs.declared.disk.Disk.{Ghosts}
+use Rattle.archive_shelf.proofs.StoringLaws.{captures_stay}
+use Rattle.archive_shelf.specs.Contents.{Contents}
+use Rattle.archive_shelf.specs.Openings.{HasIds, IsRefused, IsState, Keeps, MayLeave, Moves, SameBook, StaysCovered}
+use Rattle.archive_shelf.specs.Storing.{new_volume, with_volume}
+use Rattle.archive_volumes.proofs.ChangeLaws.{DiskLaws}
+use Rattle.archive_volumes.specs.Writing.{TakesSo, Writes}
+use Rattle.archive_volumes.specs.Volumes.{IsQuiet, Makes, covers, moment_of, opens}
+
+-- a book that is kept where a call is refused
+pub stays_refused : {T E : Type 0} (result : Result T E) (now before after : Book) → now ≡ (if is_ok result then after else before) → OnErr result (now ≡ before)
+stays_refused (Ok v) now before after is = tt
+stays_refused (Err e) now before after is = is
+
+module _ {D : Type 0} (d : Ghosts D) (laws : DiskLaws d) where
+  -- ---- quiet calls
+
+  pub quiet_itself : (disk : D) → IsQuiet d disk disk
+  quiet_itself disk = record { later = omega arith; moves = λ t x le o. inl o; covered = λ t le all. all }
+
+  pub quiet_on : (old mid new : D) → IsQuiet d old mid → IsQuiet d mid new → IsQuiet d old new
+  quiet_on old mid new first second = record {
+    later = omega (arith, first.later, second.later);
+    moves = λ t x le o. ⊎_elim
+        (λ was. first.moves t x le was)
+        (λ none. absurd none)
+        (second.moves t x (omega (arith, le, first.later)) o);
+    covered = λ t le all. second.covered t (omega (arith, le, first.later)) (first.covered t le all);
+  }
+
+  -- what may be opened after a quiet call might have been before it
+  pub quiet_keeps : (old new : D) (book : Book) → IsQuiet d old new → Keeps (moment_of d) (opens d) old new book
+  quiet_keeps old new book quiet x o = ⊎_elim
+      (λ was. inl was)
+      (λ none. absurd none)
+      (quiet.moves (moment_of d old) x (omega arith)
+      (record { told = o.told; image = o.image; left = laws.earlier new (moment_of d old) (moment_of d new) o.image quiet.later o.left; stands = o.stands }))
+
+  -- after quiet calls what is kept is kept from before them
+  pub keeps_from : (old mid new : D) (book : Book) → IsQuiet d old mid → Keeps (moment_of d) (opens d) mid new book → Keeps (moment_of d) (opens d) old new book
+  keeps_from old mid new book quiet keeps x o = ⊎_elim
+      (λ was. quiet_keeps old mid book quiet x was)
+      (λ same. inr same)
+      (keeps x o)
+
+  -- ---- writing
+
+  -- the ids of a book with a new volume differ as well
+  ids_room : (book : Book) (born : ℕ) → HasIds book → HasIds (with_volume book born)
+  ids_room book born ids m n less less₂ e =
+      let same : length (captures (with_volume book born)) ≡ length (captures book) = ap length (captures_stay book.volumes born) in
+      ids m n (omega (arith, less, same)) (omega (arith, less₂, same)) e
+
+  -- a book with a volume is the same as another one where they are equal
+  same_room : (book x : Book) (born : ℕ) → SameBook x (with_volume book born) → x ≡ with_volume book born
+  same_room book x born (inl is) = is
+  same_room book x born (inr none) = absurd (omega (arith, ap length none.1, length-append book.volumes (new_volume born ∷ [])))
+
+  on_err_both : {T E P Q R : Type 0} (result : Result T E) → OnErr result P → OnErr result Q → (P → Q → R) → OnErr result R
+  on_err_both (Ok v) p q f = tt
+  on_err_both (Err e) p q f = f p q
+
+  -- there is room for the capture
+  pub writes_at : {T E : Type 0} (old new : D) (book after now : Book) (result : Result T E)
+      → Makes d old new book after result → OnErr result (now ≡ book) → Writes d old new book book after now result
+  writes_at old new book after now result made stays = record {
+    later = made.later;
+    moves = λ ids t x le o. ⊎_elim
+        (λ was. inl was)
+        (λ which. inr (⊎_elim (λ (same : SameBook x book). inl same) (λ (is : x ≡ after). inr (inr is)) which))
+        (made.moves ids t x le o);
+    only = made.only;
+    refused = λ ids. on_err_both result (made.refused ids) stays
+        (λ which same. ⊎_elim
+        (λ (keeps : Keeps (moment_of d) (opens d) old new book). inl (same, keeps))
+        (λ (state : IsState (moment_of d) (opens d) new book (Some after)). inr (inr (subst (λ (b : Book). IsState (moment_of d) (opens d) new b (Some after)) (sym same) state)))
+        which);
+    covered = made.covered;
+  }
+
+  -- the volume is refused
+  pub writes_none : {T E S F : Type 0} (old new : D) (book room after : Book) (fault : E) (answer : Result S F) → IsErr answer
+      → Makes {T = T} d old new book room (Err fault) → Writes d old new book room after book answer
+  writes_none old new book room after fault (Ok v) failed made = absurd (false≢true failed)
+  writes_none old new book room after fault (Err f) failed made = record {
+    later = made.later;
+    moves = λ ids t x le o. ⊎_elim
+        (λ was. inl was)
+        (λ which. inr (⊎_elim (λ (same : SameBook x book). inl same) (λ (is : x ≡ room). inr (inl is)) which))
+        (made.moves ids t x le o);
+    only = λ ids. tt;
+    refused = λ ids. ⊎_elim
+        (λ (keeps : Keeps (moment_of d) (opens d) old new book). inl (refl, keeps))
+        (λ (state : IsState (moment_of d) (opens d) new book (Some room)). inr (inl state))
+        (made.refused ids);
+    covered = made.covered;
+  }
+
+  -- a volume is begun, and then the capture is added or refused
+  pub writes_behind : {T E S F : Type 0} (old mid new : D) (book after now : Book) (born : ℕ) (value : T) (result : Result S F)
+      → Makes {E = E} d old mid book (with_volume book born) (Ok value) → Makes d mid new (with_volume book born) after result
+      → OnErr result (now ≡ with_volume book born) → Writes d old new book (with_volume book born) after now result
+  writes_behind old mid new book after now born value result first second stays =
+      let room : Book = with_volume book born in
+      record {
+        later = omega (arith, first.later, second.later);
+        moves = λ ids t x le o. ⊎_elim
+            (λ was. ⊎_elim
+            (λ before. inl before)
+            (λ which. inr (⊎_elim (λ (same : SameBook x book). inl same) (λ (is : x ≡ room). inr (inl is)) which))
+            (first.moves ids t x le was))
+            (λ which. inr (inr (⊎_elim (λ (same : SameBook x room). inl (same_room book x born same)) (λ (is : x ≡ after). inr is) which)))
+            (second.moves (ids_room book born ids) t x (omega (arith, le, first.later)) o);
+        only = λ ids. second.only (ids_room book born ids);
+        refused = λ ids. on_err_both result (second.refused (ids_room book born ids)) stays
+            (λ which same. inr (⊎_elim
+            (λ (keeps : Keeps (moment_of d) (opens d) mid new room). inl (λ x o. ⊎_elim
+            (λ (before : opens d mid (moment_of d mid) x). ⊎_elim
+            (λ (e : SameBook x room). inl (subst (SameBook x) (sym same) e))
+            (λ (none : None ≡ Some x). cc)
+            (first.only ids x before))
+            (λ (e : SameBook x room). inl (subst (SameBook x) (sym same) e))
+            (keeps x o)))
+            (λ (state : IsState (moment_of d) (opens d) new room (Some after)).
+            inr (subst (λ (b : Book). IsState (moment_of d) (opens d) new b (Some after)) (sym same) state))
+            which));
+        covered = λ t le all. second.covered t (omega (arith, le, first.later)) (first.covered t le all);
+      }
+
+  -- a refusal is handed out as another one
+  pub writes_refused : {T E S F : Type 0} (old new : D) (book room after now : Book) (fault : E) (answer : Result S F) → IsErr answer
+      → Writes {T = T} d old new book room after now (Err fault) → Writes d old new book room after now answer
+  writes_refused old new book room after now fault (Ok v) failed writes = absurd (false≢true failed)
+  writes_refused old new book room after now fault (Err f) failed writes = record {
+    later = writes.later;
+    moves = writes.moves;
+    only = λ ids. tt;
+    refused = writes.refused;
+    covered = writes.covered;
+  }
+
+  -- ---- a store: what only reads, and then writes
+
+  module _ {T E : Type 0} (old mid new : D) (was is : Contents) (taken : Taken) (room after : Book) (result : Result T E)
+      (takes : TakesSo d was.limits.volume_bytes was.seen taken room after) (quiet : IsQuiet d old mid)
+      (writes : Writes d mid new was.seen room after is.seen result) where
+    pub store_later : moment_of d old ≤ moment_of d new
+    store_later = omega (arith, quiet.later, writes.later)
+
+    pub store_covered : StaysCovered (moment_of d) (covers d) old new
+    store_covered t le all = writes.covered t (omega (arith, le, quiet.later)) (quiet.covered t le all)
+
+    pub store_moves : HasIds was.seen → Moves (moment_of d) (opens d) old new (MayLeave was taken)
+    store_moves ids t x le o = ⊎_elim
+        (λ before. ⊎_elim (λ first. inl first) (λ none. absurd none) (quiet.moves t x le before))
+        (λ which. inr (⊎_elim
+        (λ (same : SameBook x was.seen). inl same)
+        (λ other. inr (
+          (takes o.told).storing,
+          ⊎_elim
+              (λ (e : x ≡ room). inl (e ∙ (takes o.told).unfilled))
+              (λ (e : x ≡ after). inr (e ∙ (takes o.told).stored))
+              other,
+        ))
+        which))
+        (writes.moves ids t x (omega (arith, le, quiet.later)) o)
+
+    pub store_refused : IsTrue d.tells → HasIds was.seen → OnErr result (IsRefused (moment_of d) (opens d) old new was is taken)
+    store_refused told ids = on_err_both result (writes.refused ids) (on_err result)
+        (λ which done. ⊎_elim
+        (λ stays. inl (stays.0, keeps_from old mid new was.seen quiet stays.1))
+        (λ state. inr (
+          (takes told).storing,
+          ⊎_elim
+              (λ (s : IsState (moment_of d) (opens d) new is.seen (Some room)).
+              inl (subst (λ (b : Book). IsState (moment_of d) (opens d) new is.seen (Some b)) (takes told).unfilled s))
+              (λ (s : IsState (moment_of d) (opens d) new is.seen (Some after)).
+              inr (subst (λ (b : Book). IsState (moment_of d) (opens d) new is.seen (Some b)) (takes told).stored s))
+              state,
+        ))
+        which)
+      where
+        on_err : (r : Result T E) → OnErr r (0 ≤ 0)
+        on_err (Ok v) = tt
+        on_err (Err e) = omega arith

@@ -1,0 +1,192 @@
+-- The book that the volumes hold after a change of them, and after a refusal.
+use Rattle.std.proofs.Common.{◌≡◌, ℕ, ◌+◌, ◌^◌, ◌<◌, ◌≤◌, IsTrue, List, [], ◌∷◌, ◌++◌, length, map, get_or, Option, Some, None, option_to_list, Result, Ok, Err, IsErr, refl, sym, ap, subst, ◌∙◌, inl, inr, arith, length-append}
+use Rattle.std.specs.Prelude.{slice_get, IsSome}
+use Rattle.std.proofs.lemmas.Bool.{false≢true}
+use Rattle.std.proofs.lemmas.Option.{same_Some, slice_get-get_or}
+use Rattle.capture.specs.Captures.{captures}
+use Rattle.capture.specs.declared.book.Book.{Book}
+use Rattle.capture.specs.declared.book.Volume.{Volume}
+use Rattle.capture.specs.declared.captured.Stored.{Stored}
+use Rattle.disk_model.specs.Image.{Image}
+use Rattle.disk_model.specs.declared.disk.Disk.{Ghosts}
+use Rattle.time_text.specs.Texts.{InRange}
+use Rattle.warc_journal.specs.Extents.{texts_in, warc_files}
+use Rattle.warc_journal.specs.Journals.{Changes, IsInStep, Rests, last_len, texts, volumes}
+use Rattle.warc_journal.specs.Texts.{Hold, with_more}
+use Rattle.warc_journal.specs.declared.extent.Extent.{Extent}
+use Rattle.warc_journal.specs.declared.journal.Journal.{Journal}
+use Rattle.warc_text.specs.Books.{AreVolumeTexts, IsGroupText}
+use Rattle.warc_text.specs.Records.{info_text}
+use Rattle.warc_text.specs.Sound.{IsSound}
+use Rattle.archive_shelf.proofs.GainingSoundness.{no_volumes}
+use Rattle.archive_shelf.proofs.GainingTexts.{last_placed, same_length}
+use Rattle.archive_shelf.proofs.StoringLaws.{captures_more, captures_stay, capture_grows, kept_before}
+use Rattle.archive_shelf.specs.Gaining.{AreFilled, CapturesAddTheirGroup, VolumesAddTheirText, VolumesKeepSoundness}
+use Rattle.archive_shelf.specs.Storing.{add_to_last, new_volume, with_capture, with_volume}
+use Rattle.archive_volumes.proofs.ChangeLaws.{DiskLaws, makes, near_made, near_refused, near_stays, refused_on, stands}
+use Rattle.archive_volumes.specs.Held.{book_of, volume_of}
+use Rattle.archive_volumes.specs.Volumes.{HoldsBook, IsMeasured, IsStep, Makes}
+use Rattle.archive_volumes.specs.declared.held.Held.{Held}
+use Rattle.archive_volumes.specs.declared.held.Shadow.{Shadow}
+
+-- ---- steps of a book
+
+pub step_volume : (book : Book) (born : ℕ) → IsStep book (with_volume book born)
+step_volume book born = record {
+  namespace = refl;
+  count = omega (arith, ap length (captures_stay book.volumes born));
+  some = omega (arith, length-append book.volumes (new_volume born ∷ []));
+  next = record { room = with_volume book born; roomy = inr (born, refl); is = inl (inl refl) };
+}
+
+pub step_capture : (book : Book) (stored : Stored) → 0 < length book.volumes → IsStep book (with_capture book stored)
+step_capture book stored some = record {
+  namespace = refl;
+  count = omega (arith, ap length (captures_more book.volumes stored (no_volumes book.volumes some)), length-append (captures book) (stored ∷ []));
+  some = omega (arith, some, same_length book.volumes stored);
+  next = record { room = book; roomy = inl (inl refl); is = inr (stored, refl) };
+}
+
+-- ---- the book that is held
+
+-- where each image holds the texts of a sound book
+pub holds_found : {D : Type 0} (d : Ghosts D) (journal : Journal D) (book : Book) → (IsTrue d.tells → IsInStep d journal)
+    → (IsTrue d.tells → AreVolumeTexts book (texts d journal)) → (IsTrue d.tells → IsSound book)
+    → (IsTrue d.tells → (image : Image) → d.images journal.disk image → Hold (texts d journal) (warc_files image)) → HoldsBook d journal book
+holds_found d journal book in_step are sound held = record {
+  in_step = in_step;
+  texts_are = are;
+  sound = sound;
+  near = λ told image now.
+      (book, stands book (texts d journal) image (are told) (sound told) (held told image now), record { room = book; roomy = inl (inl refl); is = inl (inl refl) });
+}
+
+-- a change from one book to another, by the texts after it
+pub record IsChange {D : Type 0} (d : Ghosts D) (old : Journal D) (before after : Book) (texts_after : List (List ℕ)) : Type 0 where
+  pub holds : HoldsBook d old before
+  pub will_be : IsTrue d.tells → AreVolumeTexts after texts_after
+  pub sound : IsTrue d.tells → IsSound after
+  pub step : IsStep before after
+
+module _ {D : Type 0} (d : Ghosts D) (laws : DiskLaws d) (old new : Journal D) (before after : Book) (texts_after : List (List ℕ))
+    (is : IsChange d old before after texts_after) where
+  pub holds_made : {T E : Type 0} (value : T) → (IsTrue d.tells → Changes {E = E} d old new texts_after (Ok value)) → (IsTrue d.tells → IsInStep d new)
+      → HoldsBook d new after
+  holds_made value change in_step = record {
+    in_step = in_step;
+    texts_are = λ told. subst (AreVolumeTexts after) (sym (change told).added) (is.will_be told);
+    sound = is.sound;
+    near = λ told. near_made d laws old.disk new.disk after texts_after (is.will_be told) (is.sound told) (change told).only;
+  }
+
+  pub holds_refused : {T E : Type 0} (fault : E) → (IsTrue d.tells → Changes {T = T} d old new texts_after (Err fault)) → (IsTrue d.tells → IsInStep d new)
+      → HoldsBook d new before
+  holds_refused {T} fault change in_step =
+      let failure : Result T _ = Err fault in
+      record {
+        in_step = in_step;
+        texts_are = λ told. subst (AreVolumeTexts before) (sym (change told).stays) (is.holds.texts_are told);
+        sound = is.holds.sound;
+        near = λ told. near_refused d laws old new before after texts_after failure change is.holds.texts_are is.will_be is.holds.sound is.sound is.step told (is.holds.near told);
+      }
+
+  pub makes_by : {T E : Type 0} (result : Result T E) → (IsTrue d.tells → Changes d old new texts_after result)
+      → Makes d old.disk new.disk before after result
+  makes_by result change =
+      makes d laws old new before after texts_after result change is.holds.texts_are is.will_be is.holds.sound is.sound is.step
+
+  pub makes_refused : {T E S F : Type 0} (fault : E) (answer : Result S F) → (IsTrue d.tells → Changes {T = T} d old new texts_after (Err fault))
+      → IsErr answer → Makes d old.disk new.disk before after answer
+  makes_refused {T} fault answer change failed =
+      let failure : Result T _ = Err fault in
+      refused_on d old.disk new.disk before after failure answer refl failed (makes_by failure change)
+
+-- a volume with this text is begun
+pub volume_change : {D : Type 0} (d : Ghosts D) (old : Journal D) (book : Book) (born : ℕ) (text : List ℕ)
+    → VolumesAddTheirText → VolumesKeepSoundness → HoldsBook d old book → AreFilled book → InRange born
+    → text ≡ info_text book.namespace (length book.volumes) born
+    → IsChange d old book (with_volume book born) (texts d old ++ text ∷ [])
+volume_change d old book born text add keep holds filled in_range info = record {
+  holds = holds;
+  will_be = λ told. subst (λ (t : List ℕ). AreVolumeTexts (with_volume book born) (texts d old ++ t ∷ [])) (sym info) (add book born (texts d old) (holds.texts_are told));
+  sound = λ told. keep book born (holds.sound told) filled in_range;
+  step = step_volume book born;
+}
+
+-- a capture with this group is added
+pub capture_change : {D : Type 0} (d : Ghosts D) (old : Journal D) (book : Book) (stored : Stored) (group : List ℕ)
+    → CapturesAddTheirGroup → HoldsBook d old book → 0 < length book.volumes
+    → (IsTrue d.tells → IsGroupText (with_capture book stored) (length (captures book)) group) → (IsTrue d.tells → IsSound (with_capture book stored))
+    → IsChange d old book (with_capture book stored) (with_more (texts d old) group)
+capture_change d old book stored group add holds some is_group sound = record {
+  holds = holds;
+  will_be = λ told. add book stored (texts d old) group some (holds.texts_are told) (is_group told);
+  sound = sound;
+  step = step_capture book stored some;
+}
+
+-- a call that only reads
+pub texts_rest : {D : Type 0} (d : Ghosts D) (old new : Journal D) → Rests d old.disk new.disk → new.extent ≡ old.extent → texts d new ≡ texts d old
+texts_rest d old new rests same =
+    ap (λ (e : Extent). texts_in e (warc_files (d.reading new.disk))) same
+    ∙ ap (λ (i : Image). texts_in old.extent (warc_files i)) rests.read
+
+pub holds_rest : {D : Type 0} (d : Ghosts D) (laws : DiskLaws d) (old new : Journal D) (book : Book) → (IsTrue d.tells → Rests d old.disk new.disk)
+    → new.extent ≡ old.extent → (IsTrue d.tells → IsInStep d new) → HoldsBook d old book → HoldsBook d new book
+holds_rest d laws old new book rests same in_step holds = record {
+  in_step = in_step;
+  texts_are = λ told. subst (AreVolumeTexts book) (sym (texts_rest d old new (rests told) same)) (holds.texts_are told);
+  sound = holds.sound;
+  near = λ told. near_stays d laws old.disk new.disk book (rests told) (holds.near told);
+}
+
+-- ---- its measures
+
+pub measured_same : {D : Type 0} (old new : Journal D) (book : Book) → volumes new ≡ volumes old → last_len new ≡ last_len old → IsMeasured old book → IsMeasured new book
+measured_same old new book same len is = record {
+  count = same ∙ is.count;
+  filled = is.filled;
+  ends = omega (arith, len, is.ends);
+  begins = λ k volume last at empty. omega (arith, len, is.begins k volume last at empty);
+}
+
+pub measured_volume : {D : Type 0} (old new : Journal D) (book : Book) (born : ℕ) → volumes new ≡ volumes old + 1 → last_len new ≤ 512 → AreFilled book
+    → IsMeasured old book → IsMeasured new (with_volume book born)
+measured_volume old new book born more len filled is =
+    let long : length (book.volumes ++ new_volume born ∷ []) ≡ length book.volumes + 1 = length-append book.volumes (new_volume born ∷ []) in
+    record {
+      count = omega (arith, more, is.count, long);
+      filled = λ k volume at less. filled k volume (sym (kept_before book.volumes (new_volume born) k (omega (arith, less, long))) ∙ at);
+      ends = omega (arith, len);
+      begins = λ k volume last at empty. len;
+    }
+
+some_behind : (captures : List Stored) (stored : Stored) → captures ++ stored ∷ [] ≡ [] → ⊥
+some_behind [] stored e = cc
+some_behind (c ∷ cs) stored e = cc
+
+pub measured_capture : {D : Type 0} (old new : Journal D) (book : Book) (stored : Stored) → volumes new ≡ volumes old → last_len new < 2 ^ 62
+    → IsMeasured old book → IsMeasured new (with_capture book stored)
+measured_capture old new book stored same len is =
+    let long : length (add_to_last book.volumes stored) ≡ length book.volumes = same_length book.volumes stored in
+    record {
+      count = omega (arith, same, is.count, long);
+      filled = λ k volume at less.
+          let short : k + 1 < length book.volumes = omega (arith, less, long) in
+          is.filled k volume (sym ((capture_grows book stored).sealed k short) ∙ at) short;
+      ends = len;
+      begins = λ k volume last at empty.
+          let was : Volume = get_or book.volumes k (new_volume 0) in
+          let placed : slice_get book.volumes k ≡ Some was = slice_get-get_or book.volumes k (new_volume 0) (omega (arith, last, long)) in
+          let after : Volume = record { born = was.born; captures = was.captures ++ stored ∷ [] } in
+          let is_after : after ≡ volume = same_Some after volume (sym (last_placed book.volumes stored k was (omega (arith, last, long)) placed) ∙ at) in
+          absurd (some_behind was.captures stored (ap (λ (v : Volume). v.captures) is_after ∙ empty));
+    }
+
+-- a last volume is a volume
+pub held_some : (held : Held) → IsSome held.last → 0 < length (book_of held).volumes
+held_some held some = by_last held.last some
+  where
+    by_last : (last : Option Shadow) → IsSome last → 0 < length (map volume_of held.sealed.items ++ map volume_of (option_to_list last))
+    by_last None none = absurd (false≢true none)
+    by_last (Some shadow) is = omega (arith, length-append (map volume_of held.sealed.items) (volume_of shadow ∷ []))

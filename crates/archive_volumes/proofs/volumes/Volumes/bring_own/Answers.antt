@@ -1,0 +1,22 @@
+use Rattle.std.proofs.Common.{IsTrue, Ok, sym, subst}
+use Rattle.capture.specs.declared.captured.Brought.{Brought}
+use Rattle.archive_volumes.proofs.BringLaws.{named, own_brought, replayable}
+use Rattle.archive_volumes.specs.Bringing.{AreOf, BringsFrom, IsChecked, IsReadRight}
+use Rattle.archive_volumes.specs.Held.{book_of}
+use Rattle.archive_volumes.specs.declared.payload.ReadBack.{ReadBack}
+use Rattle.archive_volumes.proofs.volumes.Volumes.bring_own.Goals as goal
+
+pub returns-in_ok-brought-in-Right-clause-brings : goal.returns-in_ok-brought-in-Right-clause-brings
+returns-in_ok-brought-in-Right-clause-brings g c =
+    let spot = c.args.spot.now in
+    let book = book_of c.args.self.now.held in
+    let checked : IsChecked spot.digest c.in_ok-read.read = c.in_ok-read.ensures.checked in
+    let right : IsTrue g.D.Disk.tells → AreOf book c.args.number c.in-Right.head c.in-Right.payload = λ told. subst (λ (r : ReadBack). IsReadRight book c.args.number r) c.in-Right.is
+    (c.in_ok-read.ensures.right c.args.number told
+    (record { is = c.requires.spot; placed = c.requires.placed told; own = c.requires.own })) in
+    subst (λ (b : Brought). BringsFrom g.D.Disk.tells book c.args.number (Ok b)) (sym c.in_ok-brought-in-Right.ensures) (
+      replayable book c.args.number spot c.requires.spot c.in-Right.head c.in-Right.payload
+          (subst (λ (r : ReadBack). IsChecked spot.digest r) c.in-Right.is checked).0,
+      named book c.args.number spot c.requires.spot c.in-Right.head c.in-Right.payload,
+      λ told. own_brought book c.args.number spot c.requires.spot c.in-Right.head c.in-Right.payload (right told),
+    )

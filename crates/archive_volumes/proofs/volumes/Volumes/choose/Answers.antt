@@ -1,0 +1,39 @@
+use Rattle.std.proofs.Common.{false, Ok, get_or, refl, ap, subst, ◌∙◌}
+use Rattle.capture.specs.Captures.{IsPayloadOf}
+use Rattle.capture.specs.declared.book.Book.{Book}
+use Rattle.archive_volumes.proofs.BringLaws.{placed_on, reads_then, spots_on}
+use Rattle.archive_volumes.proofs.ChooseLaws.{none_more}
+use Rattle.archive_volumes.specs.Choosing.{Asks}
+use Rattle.archive_volumes.specs.Held.{book_of}
+use Rattle.archive_volumes.proofs.volumes.Volumes.choose.Goals as goal
+
+pub has_payload-requires-clause-spots : goal.has_payload-requires-clause-spots
+has_payload-requires-clause-spots g c =
+    spots_on g.D.Disk c.args.self.now c.loop-candidate.self c.loop-candidate.invariant.reads c.args.spots.now c.requires.spots
+
+pub has_payload-requires-clause-placed : goal.has_payload-requires-clause-placed
+has_payload-requires-clause-placed g c told =
+    placed_on g.D.Disk c.args.self.now c.loop-candidate.self c.loop-candidate.invariant.reads told c.args.spots.now (c.requires.placed told)
+
+pub returns-in_err-has-clause-reads : goal.returns-in_err-has-clause-reads
+returns-in_err-has-clause-reads g c =
+    reads_then g.D.Disk c.args.self.now c.loop-candidate.self c.has_payload.new.self c.loop-candidate.invariant.reads c.has_payload.ensures.reads
+
+pub returns-then-has-clause-reads : goal.returns-then-has-clause-reads
+returns-then-has-clause-reads g c =
+    reads_then g.D.Disk c.args.self.now c.loop-candidate.self c.has_payload.new.self c.loop-candidate.invariant.reads c.has_payload.ensures.reads
+
+pub loop-candidate-preserved : goal.loop-candidate-preserved
+loop-candidate-preserved g c =
+    let reads = c.loop-candidate.invariant.reads in
+    let candidates = c.args.candidates.now in
+    let index = c.loop-candidate.candidate-index in
+    let payload = c.args.payload.now in
+    let asks : Asks g.D.Disk.tells (book_of c.loop-candidate.self.held) (get_or candidates index 0) payload (Ok false) =
+    subst (λ b. Asks g.D.Disk.tells (book_of c.loop-candidate.self.held) (get_or candidates index 0) payload (Ok b)) c.if-has.false c.in_ok-has.ensures.asks in
+    record {
+      reads = reads_then g.D.Disk c.args.self.now c.loop-candidate.self c.has_payload.new.self reads c.has_payload.ensures.reads;
+      faults = c.in_ok-has.ensures.faults ∙ c.loop-candidate.invariant.faults;
+      none = λ told. none_more (book_of c.args.self.now.held) candidates index (get_or candidates index 0) payload refl (c.loop-candidate.invariant.none told)
+          (subst (λ (b : Book). ¬ (IsPayloadOf b (get_or candidates index 0) payload)) (ap book_of reads.held) (asks told));
+    }

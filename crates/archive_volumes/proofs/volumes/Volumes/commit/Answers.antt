@@ -1,0 +1,51 @@
+use Rattle.std.proofs.Common.{rules, ◌≡◌, ◌+◌, List, ℕ, ap, ◌∙◌}
+use Rattle.warc_journal.specs.Journals.{disk_of, texts}
+use Rattle.warc_journal.specs.Texts.{with_more}
+use Rattle.warc_journal.specs.declared.place.Place.{Place}
+use Rattle.archive_volumes.specs.Held.{book_of}
+use Rattle.archive_volumes.specs.Ready.{book_with, room_of, spot_in}
+use Rattle.archive_volumes.specs.Spots.{spot_of}
+use Rattle.archive_volumes.specs.Writing.{texts_with}
+use Rattle.archive_volumes.proofs.ChangeLaws.{DiskLaws}
+use Rattle.archive_volumes.proofs.KeepLaws.{kept_placed, kept_spots, placed_left, spots_left}
+use Rattle.archive_volumes.proofs.StoreLaws.{writes_refused}
+use Rattle.archive_volumes.proofs.volumes.Volumes.commit.Given.{Over}
+use Rattle.archive_volumes.proofs.volumes.Volumes.commit.Goals as goal
+
+-- what is asked of the disk
+disk_laws : (g : Over) → DiskLaws g.D.Disk
+disk_laws g = record { earlier = g.met.D.Disk.earlier; now_counts = g.met.D.Disk.now_counts; now_only = g.met.D.Disk.now_only }
+
+pub returns-in_err-place-clause-spots : goal.returns-in_err-place-clause-spots
+returns-in_err-place-clause-spots g c =
+    spots_left (book_of c.args.self.now.held) (book_of c.write.new.self.held) c.args.ready.prepared c.args.spots.now.items
+    c.in_err-place.ensures.left c.requires.spots
+
+pub returns-in_err-place-clause-placed : goal.returns-in_err-place-clause-placed
+returns-in_err-place-clause-placed g c told =
+    placed_left (book_of c.args.self.now.held) (book_of c.write.new.self.held) c.args.ready.prepared (texts g.D.Disk c.args.self.now.journal)
+    (texts g.D.Disk c.write.new.self.journal) c.args.spots.now.items c.in_err-place.ensures.left (c.in_err-place.ensures.texts_left told) (c.requires.placed told)
+
+pub returns-in_err-place-clause-writes : goal.returns-in_err-place-clause-writes
+returns-in_err-place-clause-writes g c =
+    writes_refused g.D.Disk (disk_laws g) (disk_of c.args.self.now.journal) (disk_of c.write.new.self.journal) (book_of c.args.self.now.held)
+    (room_of c.args.self.now c.args.ready) (book_with c.args.self.now c.args.ready) (book_of c.write.new.self.held) c.in_err-place.field-0.0
+    c.from_residual.result c.from_residual.ensures.0 c.in_err-place.ensures.writes
+
+pub returns-clause-spots : goal.returns-clause-spots
+returns-clause-spots g c =
+    let is_spot : c.of-spot.result ≡ spot_in c.args.self.now c.args.ready =
+    c.of-spot.ensures ∙ ap (λ (p : Place). spot_of c.args.ready.stored c.args.ready.digest p.volume (p.at + c.args.ready.layout.head_at)) c.in_ok-place.ensures.place in
+    kept_spots g.D.Disk c.args.self.now c.args.ready c.requires.ready (book_of c.write.new.self.held) c.args.spots.now.items c.keep.new.spots.items c.of-spot.result
+    c.requires.spots c.in_ok-place.ensures.stored c.keep.ensures.spots is_spot
+
+pub returns-clause-placed : goal.returns-clause-placed
+returns-clause-placed g c told =
+    let is_spot : c.of-spot.result ≡ spot_in c.args.self.now c.args.ready =
+    c.of-spot.ensures ∙ ap (λ (p : Place). spot_of c.args.ready.stored c.args.ready.digest p.volume (p.at + c.args.ready.layout.head_at)) c.in_ok-place.ensures.place in
+    let given : c.as_slice.result.now ≡ c.args.ready.group = search rules in
+    let all : List (List ℕ) = texts_with (texts g.D.Disk c.args.self.now.journal) c.args.ready.prepared in
+    kept_placed g.D.Disk c.args.self.now c.args.ready c.requires.ready told (texts g.D.Disk c.write.new.self.journal) (book_of c.write.new.self.held)
+    c.args.spots.now.items c.keep.new.spots.items c.of-spot.result c.requires.spots (c.requires.placed told)
+    (c.in_ok-place.ensures.text told ∙ ap (λ (t : List ℕ). with_more all t) given)
+    c.in_ok-place.ensures.stored c.keep.ensures.spots is_spot

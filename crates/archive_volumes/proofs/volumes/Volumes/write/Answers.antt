@@ -1,0 +1,57 @@
+use Rattle.std.proofs.Common.{◌≡◌, Option, OnErr, sym, subst}
+use Rattle.capture.specs.declared.book.Book.{Book}
+use Rattle.warc_journal.specs.Journals.{disk_of}
+use Rattle.archive_shelf.specs.Storing.{with_capture, with_volume}
+use Rattle.archive_volumes.specs.Held.{book_of}
+use Rattle.archive_volumes.specs.Writing.{Writes, with_prepared}
+use Rattle.archive_volumes.specs.Volumes.{Makes}
+use Rattle.archive_volumes.specs.declared.room.Prepared.{Prepared}
+use Rattle.archive_volumes.proofs.ChangeLaws.{DiskLaws}
+use Rattle.archive_volumes.proofs.StoreLaws.{stays_refused, writes_at, writes_behind, writes_none}
+use Rattle.archive_volumes.proofs.volumes.Volumes.write.Given.{Over}
+use Rattle.archive_volumes.proofs.volumes.Volumes.write.Goals as goal
+
+-- what is asked of the disk
+disk_laws : (g : Over) → DiskLaws g.D.Disk
+disk_laws g = record { earlier = g.met.D.Disk.earlier; now_counts = g.met.D.Disk.now_counts; now_only = g.met.D.Disk.now_only }
+
+pub returns-in_err-begin-in-Some-clause-writes : goal.returns-in_err-begin-in-Some-clause-writes
+returns-in_err-begin-in-Some-clause-writes g c =
+    let book : Book = book_of c.args.self.now.held in
+    let old = disk_of c.args.self.now.journal in
+    let new = disk_of c.begin.new.self.journal in
+    let room : Book = with_volume book c.in-Some.prepared.shadow.born in
+    subst (λ (o : Option Prepared). Writes g.D.Disk old new book (with_prepared book o) (with_capture (with_prepared book o) c.args.stored.now)
+    (book_of c.begin.new.self.held) c.from_residual.result) (sym c.in-Some.is)
+    (subst (λ (b : Book). Writes g.D.Disk old new book room (with_capture room c.args.stored.now) b c.from_residual.result) (sym c.in_err-begin-in-Some.ensures.book)
+    (writes_none g.D.Disk (disk_laws g) old new book room (with_capture room c.args.stored.now) c.in_err-begin-in-Some.field-0.0
+    c.from_residual.result c.from_residual.ensures.0 c.in_err-begin-in-Some.ensures.makes))
+
+pub returns-in_ok-begin-in-Some-clause-writes : goal.returns-in_ok-begin-in-Some-clause-writes
+returns-in_ok-begin-in-Some-clause-writes g c =
+    let book : Book = book_of c.args.self.now.held in
+    let old = disk_of c.args.self.now.journal in
+    let mid = disk_of c.begin.new.self.journal in
+    let new = disk_of c.add.new.self.journal in
+    let room : Book = with_volume book c.in-Some.prepared.shadow.born in
+    let after : Book = with_capture room c.args.stored.now in
+    let now : Book = book_of c.add.new.self.held in
+    let is_room : book_of c.begin.new.self.held ≡ room = c.in_ok-begin-in-Some.ensures.book in
+    subst (λ (o : Option Prepared). Writes g.D.Disk old new book (with_prepared book o) (with_capture (with_prepared book o) c.args.stored.now)
+    now c.add.result) (sym c.in-Some.is)
+    (writes_behind g.D.Disk (disk_laws g) old mid new book after now c.in-Some.prepared.shadow.born c.in_ok-begin-in-Some.field-0 c.add.result
+    c.in_ok-begin-in-Some.ensures.makes
+    (subst (λ (b : Book). Makes g.D.Disk mid new b (with_capture b c.args.stored.now) c.add.result) is_room c.add.ensures.makes)
+    (subst (λ (b : Book). OnErr c.add.result (now ≡ b)) is_room
+    (stays_refused c.add.result now (book_of c.begin.new.self.held) (with_capture (book_of c.begin.new.self.held) c.args.stored.now) c.add.ensures.book)))
+
+pub returns-in-None-clause-writes : goal.returns-in-None-clause-writes
+returns-in-None-clause-writes g c =
+    let book : Book = book_of c.args.self.now.held in
+    let old = disk_of c.args.self.now.journal in
+    let new = disk_of c.add-in-None.new.self.journal in
+    let now : Book = book_of c.add-in-None.new.self.held in
+    subst (λ (o : Option Prepared). Writes g.D.Disk old new book (with_prepared book o) (with_capture (with_prepared book o) c.args.stored.now)
+    now c.add-in-None.result) (sym c.in-None.is)
+    (writes_at g.D.Disk (disk_laws g) old new book (with_capture book c.args.stored.now) now c.add-in-None.result c.add-in-None.ensures.makes
+    (stays_refused c.add-in-None.result now book (with_capture book c.args.stored.now) c.add-in-None.ensures.book))

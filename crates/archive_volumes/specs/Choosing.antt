@@ -1,0 +1,109 @@
+-- What comparing a payload with those of captures answers. Payloads are equal byte for byte; digests decide nothing.
+use Rattle.std.specs.Prelude.{◌≡◌, ◌≢◌, ℕ, ◌<◌, ◌≤◌, Bool, true, false, IsTrue, List, length, get_or, slice_get, Option, Some, None, Result, Ok, Err, ⊤}
+use Rattle.sha1.specs.Sha1.{sha1}
+use Rattle.capture.specs.Captures.{captures, IsPayloadOf}
+use Rattle.capture.specs.declared.book.Book.{Book}
+use Rattle.archive_shelf.specs.Answers.{IsDamaged}
+use Rattle.archive_shelf.specs.Comparing.{IsRight}
+use Rattle.archive_shelf.specs.declared.fault.StoreFault.{StoreFault}
+use Rattle.archive_shelf.specs.declared.fault.StoreFault.TheVariants as stores
+use Rattle.archive_shelf.specs.declared.looked.Looked.{Looked}
+use Rattle.archive_volumes.specs.Spots.{is_whole}
+use Rattle.archive_volumes.specs.declared.compare.Compared.{Compared}
+use Rattle.archive_volumes.specs.declared.compare.Compared.TheVariants as compares
+use Rattle.archive_volumes.specs.declared.spot.Spot.{Spot}
+
+-- a fault of the disk is the answer
+abbrev pub is_look_fault : {T : Type 0} → Result T StoreFault → Bool
+is_look_fault (Ok value) = false
+is_look_fault (Err (stores.Full count limit)) = false
+is_look_fault (Err stores.DiskFault) = true
+is_look_fault (Err (stores.Damaged number kept found)) = false
+is_look_fault (Err stores.Memory) = false
+
+-- no capture below a number is answered to be damaged: none of them was read
+abbrev pub NoneDamagedBelow : {T : Type 0} → ℕ → Result T StoreFault → Type 0
+NoneDamagedBelow from (Ok value) = ⊤
+NoneDamagedBelow from (Err (stores.Full count limit)) = ⊤
+NoneDamagedBelow from (Err stores.DiskFault) = ⊤
+NoneDamagedBelow from (Err (stores.Damaged at kept found)) = from ≤ at
+NoneDamagedBelow from (Err stores.Memory) = ⊤
+
+-- ---- one capture
+
+-- whatever the disk tells: what is damaged has another digest than the one that is kept
+abbrev pub IsComparison : List ℕ → Compared → Type 0
+IsComparison kept compares.Same = ⊤
+IsComparison kept compares.Other = ⊤
+IsComparison kept (compares.Damaged found) = found ≢ Some kept
+
+-- how bytes that were read compare with a payload; where they are damaged their digest isn't the one that is kept
+abbrev pub Compares : List ℕ → List ℕ → List ℕ → Compared → Type 0
+Compares kept bytes payload compares.Same = bytes ≡ payload
+Compares kept bytes payload compares.Other = bytes ≢ payload
+Compares kept bytes payload (compares.Damaged found) = sha1 bytes ≢ kept
+
+-- how the payload of the capture with this number compares, where the disk tells
+abbrev pub ComparesWith : Book → ℕ → List ℕ → Compared → Type 0
+ComparesWith book number payload compares.Same = IsPayloadOf book number payload
+ComparesWith book number payload compares.Other = ¬ (IsPayloadOf book number payload)
+ComparesWith book number payload (compares.Damaged found) = ⊥
+
+-- ---- candidates
+
+-- the capture with this number keeps its whole wire
+pub record IsWholeAt (spots : List Spot) (number : ℕ) : Type 0 where
+  pub spot : Spot
+  pub placed : slice_get spots number ≡ Some spot
+  pub whole : is_whole spot.form ≡ true
+
+-- each candidate does
+abbrev pub AreWhole : List Spot → List ℕ → Type 0
+AreWhole spots candidates = (k : ℕ) → k < length candidates → IsWholeAt spots (get_or candidates k 0)
+
+-- what asking one of them for the payload answers
+abbrev pub Asks : Bool → Book → ℕ → List ℕ → Result Bool StoreFault → Type 0
+Asks tells book number payload (Ok true) = IsTrue tells → IsPayloadOf book number payload
+Asks tells book number payload (Ok false) = IsTrue tells → ¬ (IsPayloadOf book number payload)
+Asks tells book number payload (Err (stores.Full count limit)) = ⊥
+Asks tells book number payload (Err stores.DiskFault) = ⊤
+Asks tells book number payload (Err (stores.Damaged at kept found)) = (at ≡ number) × IsDamaged tells kept found
+Asks tells book number payload (Err stores.Memory) = ⊤
+
+-- none of so many candidates has the payload
+abbrev pub NoneHas : Book → List ℕ → ℕ → List ℕ → Type 0
+NoneHas book candidates many payload = (k : ℕ) → k < many → ¬ (IsPayloadOf book (get_or candidates k 0) payload)
+
+-- it is a candidate; where the disk tells it has the payload, and none before it has
+pub record IsFirstOf (tells : Bool) (book : Book) (candidates payload : List ℕ) (number : ℕ) : Type 0 where
+  pub place : ℕ
+  pub within : place < length candidates
+  pub is : number ≡ get_or candidates place 0
+  pub has : IsTrue tells → IsPayloadOf book number payload
+  pub before : IsTrue tells → NoneHas book candidates place payload
+
+-- a candidate is damaged
+pub record IsDamagedOf (tells : Bool) (candidates : List ℕ) (number : ℕ) (kept : List ℕ) (found : Option (List ℕ)) : Type 0 where
+  pub place : ℕ
+  pub within : place < length candidates
+  pub is : number ≡ get_or candidates place 0
+  pub damaged : IsDamaged tells kept found
+
+-- what choosing among candidates answers: the first that has the payload, or that none has
+abbrev pub Chooses : Bool → Book → List ℕ → List ℕ → Result (Option ℕ) StoreFault → Type 0
+Chooses tells book candidates payload (Ok (Some number)) = IsFirstOf tells book candidates payload number
+Chooses tells book candidates payload (Ok None) = IsTrue tells → NoneHas book candidates (length candidates) payload
+Chooses tells book candidates payload (Err (stores.Full count limit)) = ⊥
+Chooses tells book candidates payload (Err stores.DiskFault) = ⊤
+Chooses tells book candidates payload (Err (stores.Damaged at kept found)) = IsDamagedOf tells candidates at kept found
+Chooses tells book candidates payload (Err stores.Memory) = ⊤
+
+-- ---- all captures
+
+-- what looking for a payload among all captures answers, where some were looked at before
+abbrev pub LooksOn : Bool → Book → List ℕ → Result Looked StoreFault → Type 0
+LooksOn tells book payload (Ok looked) = IsRight tells book payload looked × (looked.upto ≡ length (captures book))
+LooksOn tells book payload (Err (stores.Full count limit)) = ⊥
+LooksOn tells book payload (Err stores.DiskFault) = ⊤
+LooksOn tells book payload (Err (stores.Damaged at kept found)) = (at < length (captures book)) × IsDamaged tells kept found
+LooksOn tells book payload (Err stores.Memory) = ⊤

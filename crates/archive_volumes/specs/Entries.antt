@@ -1,0 +1,39 @@
+-- The entry of a capture, by what is told of it and where its record stands.
+use Rattle.std.specs.Prelude.{◌≡◌, ◌≢◌, List, codes, Option, Some, None}
+use Rattle.httparse.specs.Grammar.{ResponseHead, status_code}
+use Rattle.capture.specs.Fields.{named_values}
+use Rattle.capture.specs.declared.captured.Stored.{Stored}
+use Rattle.cdxj_index.specs.Facts.{Facts}
+use Rattle.cdxj_index.specs.OfBook.{mime_by}
+use Rattle.cdxj_index.specs.Order.{with_entry}
+use Rattle.surt_key.specs.Key.{key_of}
+use Rattle.archive_volumes.specs.declared.entry.RecordAt.{RecordAt}
+
+-- the entry tells of the capture, whose record stands there
+pub record IsEntryAt (stored : Stored) (head : ResponseHead) (at : RecordAt) (entry : Facts) : Type 0 where
+  pub asked : stored.method ≡ codes "GET"
+  pub told : status_code head ≢ 304
+  pub keyed : key_of stored.uri ≡ Some entry.key
+  pub date : entry.date ≡ stored.date
+  pub number : entry.number ≡ at.number
+  pub uri : entry.uri ≡ stored.uri
+  pub mime : entry.mime ≡ mime_by stored.kept (named_values head.fields)
+  pub status : entry.status ≡ status_code head
+  pub digest : entry.digest ≡ at.digest
+  pub volume : entry.volume ≡ at.volume
+  pub offset : entry.offset ≡ at.offset
+  pub len : entry.length ≡ at.len
+
+-- the capture isn't found by date, or has no key
+pub record HasNoEntry (stored : Stored) (head : ResponseHead) : Type 0 where
+  pub none : stored.method ≡ codes "GET" → status_code head ≢ 304 → key_of stored.uri ≡ None
+
+-- its entry, or none
+abbrev pub EntersAs : Stored → ResponseHead → RecordAt → Option Facts → Type 0
+EntersAs stored head at (Some entry) = IsEntryAt stored head at entry
+EntersAs stored head at None = HasNoEntry stored head
+
+-- the index with the entry, if there is one
+abbrev pub entered : Option Facts → List Facts → List Facts
+entered None index = index
+entered (Some entry) index = with_entry entry index

@@ -1,0 +1,10 @@
+pub mod Bringing
+pub mod Choosing
+pub mod Decoding
+pub mod Entries
+pub mod Grouping
+pub mod Held
+pub mod Ready
+pub mod Spots
+pub mod Volumes
+pub mod Writing

@@ -1,0 +1,125 @@
+-- What is kept of the captures in memory, and where they stand in the volumes.
+use Rattle.std.specs.Prelude.{◌≡◌, ℕ, suc, ◌+◌, ◌^◌, ◌<◌, ◌≤◌, Bool, true, false, List, [], ◌∷◌, length, take, drop, slice_get, slice_index_or, Some, if◌then◌else◌, ⊤}
+use Rattle.sha1.specs.Sha1.{sha1}
+use Rattle.capture.specs.Captures.{captures, kept_wire, IsPayloadOf}
+use Rattle.capture.specs.declared.book.Book.{Book}
+use Rattle.capture.specs.declared.captured.Kept.{Kept}
+use Rattle.capture.specs.declared.captured.Kept.TheVariants as keeps
+use Rattle.capture.specs.declared.captured.Stored.{Stored}
+use Rattle.revisit_table.specs.Table.{Table}
+use Rattle.time_text.specs.Texts.{InRange}
+use Rattle.archive_shelf.specs.Comparing.{KeepsWire}
+use Rattle.archive_volumes.specs.declared.spot.Form.{Form}
+use Rattle.archive_volumes.specs.declared.spot.Form.TheVariants as forms
+use Rattle.archive_volumes.specs.declared.spot.Spot.{Spot}
+
+-- ---- a capture
+
+-- in which form a capture is kept
+abbrev pub form_of : Kept → Form
+form_of (keeps.Wire wire) = forms.Whole
+form_of (keeps.Same first) = forms.Same first
+form_of (keeps.Cut wire) = forms.Cut
+
+-- only as much of the wire is kept as came
+abbrev pub is_cut_form : Form → Bool
+is_cut_form forms.Whole = false
+is_cut_form (forms.Same first) = false
+is_cut_form forms.Cut = true
+
+-- another capture keeps the wire
+abbrev pub is_same_form : Form → Bool
+is_same_form forms.Whole = false
+is_same_form (forms.Same first) = true
+is_same_form forms.Cut = false
+
+-- what is kept of a capture, by the digest of its payload and the place of its head
+abbrev pub spot_of : Stored → List ℕ → ℕ → ℕ → Spot
+spot_of stored digest volume head_at = record {
+  method = stored.method;
+  uri = stored.uri;
+  date = stored.date;
+  digest = digest;
+  form = form_of stored.kept;
+  volume = volume;
+  head_at = head_at;
+  head_len = length stored.head;
+  wire_len = length (kept_wire stored.kept);
+}
+
+-- what a capture refers to is earlier, and keeps its whole wire
+abbrev pub RefersBack : Book → ℕ → Form → Type 0
+RefersBack book number forms.Whole = ⊤
+RefersBack book number (forms.Same first) = (first < number) × KeepsWire book first
+RefersBack book number forms.Cut = ⊤
+
+-- whatever the disk tells: this is kept of the book's capture with this number
+pub record IsSpotOf (book : Book) (number : ℕ) (spot : Spot) : Type 0 where
+  pub stored : Stored
+  pub placed : slice_get (captures book) number ≡ Some stored
+  pub method : spot.method ≡ stored.method
+  pub uri : spot.uri ≡ stored.uri
+  pub date : spot.date ≡ stored.date
+  pub form : spot.form ≡ form_of stored.kept
+  pub refers : RefersBack book number spot.form
+  pub in_range : InRange spot.date
+  pub short : length spot.uri < 2 ^ 61
+  pub ends : spot.head_at + spot.head_len + spot.wire_len < 2 ^ 62
+
+-- the part of a text from a place on
+abbrev pub part : List ℕ → ℕ → ℕ → List ℕ
+part text at long = take long (drop at text)
+
+-- the text of a volume, by its number
+abbrev pub text_at : List (List ℕ) → ℕ → List ℕ
+text_at texts volume = slice_index_or texts volume []
+
+-- Where the disk tells: the head and the wire of the capture stand there, and this is the digest of its payload.
+pub record IsPlaced (texts : List (List ℕ)) (book : Book) (number : ℕ) (spot : Spot) : Type 0 where
+  pub payload : List ℕ
+  pub has : IsPayloadOf book number payload
+  pub digest : spot.digest ≡ sha1 payload
+  pub there : spot.volume < length texts
+  pub within : spot.head_at + spot.head_len + spot.wire_len ≤ length (text_at texts spot.volume)
+  pub head : part (text_at texts spot.volume) spot.head_at spot.head_len ≡ has.stored.head
+  pub wire : part (text_at texts spot.volume) (spot.head_at + spot.head_len) spot.wire_len ≡ kept_wire has.stored.kept
+
+-- where the disk tells: head and wire are within the text of their volume
+pub record HasPlace (texts : List (List ℕ)) (spot : Spot) : Type 0 where
+  pub there : spot.volume < length texts
+  pub within : spot.head_at + spot.head_len + spot.wire_len ≤ length (text_at texts spot.volume)
+
+-- the bytes of the head and of the wire
+abbrev pub head_in : List (List ℕ) → Spot → List ℕ
+head_in texts spot = part (text_at texts spot.volume) spot.head_at spot.head_len
+
+abbrev pub wire_in : List (List ℕ) → Spot → List ℕ
+wire_in texts spot = part (text_at texts spot.volume) (spot.head_at + spot.head_len) spot.wire_len
+
+-- ---- all captures
+
+-- whatever the disk tells: one for each capture, in order of their numbers
+pub record AreSpotsOf (book : Book) (spots : List Spot) : Type 0 where
+  pub count : length spots ≡ length (captures book)
+  pub each : (number : ℕ) (spot : Spot) → slice_get spots number ≡ Some spot → IsSpotOf book number spot
+
+-- where the disk tells: each stands where it says
+pub record ArePlaced (texts : List (List ℕ)) (book : Book) (spots : List Spot) : Type 0 where
+  pub each : (number : ℕ) (spot : Spot) → slice_get spots number ≡ Some spot → IsPlaced texts book number spot
+
+-- ---- the table of digests
+
+abbrev pub is_whole : Form → Bool
+is_whole forms.Whole = true
+is_whole (forms.Same first) = false
+is_whole forms.Cut = false
+
+-- the captures from a number on that keep their whole wire, each with the digest of its payload
+abbrev pub whole_from : ℕ → List Spot → List (List ℕ × ℕ)
+whole_from from [] = []
+whole_from from (spot ∷ spots) =
+    if is_whole spot.form then (spot.digest, from) ∷ whole_from (suc from) spots else whole_from (suc from) spots
+
+-- the table's captures are those that keep their whole wire
+abbrev pub IsTableOf : List Spot → Table → Type 0
+IsTableOf spots table = table.kept ≡ whole_from 0 spots

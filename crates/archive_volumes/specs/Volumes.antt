@@ -1,0 +1,81 @@
+-- The volumes on a disk, the book that they hold, and what a change of them may leave.
+use Rattle.std.specs.Prelude.{◌≡◌, ◌⊎◌, ℕ, ◌+◌, ◌^◌, ◌<◌, ◌≤◌, IsTrue, if◌then◌else◌, [], length, slice_get, OnErr, OnOk, Result, Some, None}
+use Rattle.capture.specs.Captures.{captures}
+use Rattle.capture.specs.declared.book.Book.{Book}
+use Rattle.capture.specs.declared.book.Volume.{Volume}
+use Rattle.disk_model.specs.Image.{Image}
+use Rattle.disk_model.specs.declared.disk.Disk.{Ghosts}
+use Rattle.warc_journal.specs.Journals.{IsInStep, last_len, texts, volumes}
+use Rattle.warc_journal.specs.declared.journal.Journal.{Journal}
+use Rattle.warc_text.specs.Books.{AreVolumeTexts}
+use Rattle.warc_text.specs.Records.{info_text}
+use Rattle.warc_text.specs.Sound.{IsSound}
+use Rattle.archive_shelf.specs.Openings.{Covers, HasIds, ImageStandsFor, IsNext, IsState, Keeps, Moves, Opens, SameBook, StaysCovered}
+use Rattle.archive_shelf.specs.Storing.{new_volume}
+use Rattle.archive_volumes.specs.Held.{HasSpace, volume_of}
+use Rattle.archive_volumes.specs.declared.room.Prepared.{Prepared}
+
+-- ---- the book that is held
+
+-- each image stands for a sound book that is next to this one
+abbrev pub OpensNear : {D : Type 0} → Ghosts D → D → Book → Type 0
+OpensNear d disk book = (image : Image) → d.images disk image → (x : Book) × ImageStandsFor image x × IsNext book x
+
+-- where the disk tells what it holds, the volumes are those of a sound book, and each image is next to it
+pub record HoldsBook {D : Type 0} (d : Ghosts D) (journal : Journal D) (book : Book) : Type 0 where
+  pub in_step : IsTrue d.tells → IsInStep d journal
+  pub texts_are : IsTrue d.tells → AreVolumeTexts book (texts d journal)
+  pub sound : IsTrue d.tells → IsSound book
+  pub near : IsTrue d.tells → OpensNear d journal.disk book
+
+-- whatever the disk tells: how many volumes there are, that each but the last holds a capture, and where the last one ends
+pub record IsMeasured {D : Type 0} (journal : Journal D) (book : Book) : Type 0 where
+  pub count : volumes journal ≡ length book.volumes
+  pub filled : (k : ℕ) (volume : Volume) → slice_get book.volumes k ≡ Some volume → k + 1 < length book.volumes
+      → 0 < length volume.captures
+  pub ends : last_len journal < 2 ^ 62
+  pub begins : (k : ℕ) (volume : Volume) → k + 1 ≡ length book.volumes → slice_get book.volumes k ≡ Some volume
+      → volume.captures ≡ [] → last_len journal ≤ 512
+
+-- a volume is prepared to be begun behind those of the book: with its text, and with room for one capture
+pub record IsPrepared (book : Book) (prepared : Prepared) : Type 0 where
+  pub empty : volume_of prepared.shadow ≡ new_volume prepared.shadow.born
+  pub space : HasSpace prepared.shadow
+  pub info : prepared.info ≡ info_text book.namespace (length book.volumes) prepared.shadow.born
+  pub short : length prepared.info ≤ 512
+
+-- ---- what may be opened
+
+-- the moment of a disk that tells; of another disk nothing may be opened, and time stands still
+abbrev pub moment_of : {D : Type 0} → Ghosts D → D → ℕ
+moment_of d disk = if d.tells then d.moment disk else 0
+
+-- the books that may be opened since a moment
+abbrev pub opens : {D : Type 0} → Ghosts D → D → ℕ → Book → Type 0
+opens d disk t book = Opens d.tells d disk t book
+
+-- each image since a moment stands for a book
+abbrev pub covers : {D : Type 0} → Ghosts D → D → ℕ → Type 0
+covers d disk t = Covers d.tells d disk t
+
+-- A call that only reads: nothing more may be opened.
+pub record IsQuiet {D : Type 0} (d : Ghosts D) (old new : D) : Type 0 where
+  pub later : moment_of d old ≤ moment_of d new
+  pub moves : Moves (moment_of d) (opens d) old new (λ x. ⊥)
+  pub covered : StaysCovered (moment_of d) (covers d) old new
+
+-- A call that makes one change, from one book to another, or is refused.
+pub record Makes {D T E : Type 0} (d : Ghosts D) (old new : D) (before after : Book) (result : Result T E) : Type 0 where
+  pub later : moment_of d old ≤ moment_of d new
+  pub moves : HasIds before → Moves (moment_of d) (opens d) old new (λ x. SameBook x before ⊎ (x ≡ after))
+  pub only : HasIds before → OnOk result (IsState (moment_of d) (opens d) new after None)
+  pub refused : HasIds before → OnErr result
+      (Keeps (moment_of d) (opens d) old new before ⊎ IsState (moment_of d) (opens d) new before (Some after))
+  pub covered : StaysCovered (moment_of d) (covers d) old new
+
+-- a book with a volume or a capture more
+pub record IsStep (before after : Book) : Type 0 where
+  pub namespace : after.namespace ≡ before.namespace
+  pub count : length (captures after) ≤ length (captures before) + 1
+  pub some : 0 < length after.volumes
+  pub next : IsNext before after

@@ -1,0 +1,137 @@
+//! The entry of a capture in the index.
+ghost use Rattle.std.specs.Prelude.{◌≡◌, ℕ, List, codes, map, slice_get, option_copied, IfOk, ◌-◌, length};
+ghost use Rattle.capture.specs.Fields.{named_values, values_of};
+ghost use Rattle.cdxj_index.specs.OfBook.{mime_by};
+ghost use Rattle.http_head.specs.Heads.{HoldsResponseParts, named_value};
+ghost use Rattle.httparse.specs.Grammar as grammar;
+ghost use Rattle.time_text.specs.Texts.{InRange};
+ghost use Rattle.archive_volumes.specs.Entries.{EntersAs};
+ghost use Rattle.capture.specs.Message.{IsResponseHeadText};
+ghost use Rattle.archive_volumes.specs.Held.{book_of};
+ghost use Rattle.archive_volumes.specs.Ready.{record_in, room_of};
+ghost use Rattle.archive_volumes.specs.Writing.{HasRoomFor};
+ghost use Rattle.archive_volumes.specs.Volumes.{IsMeasured};
+
+use crate::ready::Ready;
+use crate::volumes::Volumes;
+use capture::{Digest, Kept, Memory, Stored, Text};
+use cdxj_index::Entry;
+use cdxj_line::{REVISIT, media_type};
+use disk_model::Disk;
+use http_head::{ResponseHead, WireFault, first_value, read_head};
+use std::alloc::Global;
+use surt_key::{KeyFault, key_of};
+
+/// The status of a response that has no body since the client has it: no capture with it is found by date.
+const NOT_MODIFIED: u16 = 304;
+
+/// Which capture a record is of, and where it stands.
+#[derive(Clone, Copy, Debug, PartialEq, Eq)]
+pub struct RecordAt {
+    /// The capture's number.
+    pub number: u32,
+    /// The digest of its payload.
+    pub digest: Digest,
+    /// The volume in which the record stands.
+    pub volume: u32,
+    /// Its place in the volume's text, in bytes.
+    pub offset: u64,
+    /// Its length, in bytes.
+    pub len: u64,
+}
+
+/// The entry of a capture; none where it isn't found by date, since it wasn't asked for by GET or its response is 304 (RFC
+/// 9110, section 15.4.5), or where its target has no key.
+pub fn entry_of(
+    alloc: Global,
+    stored: &Stored,
+    head: &ResponseHead,
+    at: RecordAt,
+) -> Result<Option<Entry>, Memory>
+    requires date { InRange stored.now.date }
+    requires parsed { (h : grammar.ResponseHead) × HoldsResponseParts stored.now.head h head.now }
+    ensures { (text : List ℕ) (h : grammar.ResponseHead) → HoldsResponseParts text h head.now → IfOk result (EntersAs stored.now h at) }
+{
+    if stored.method.as_slice() != b"GET".as_slice() {
+        return Ok(None);
+    }
+    if head.status == NOT_MODIFIED {
+        return Ok(None);
+    }
+    let key = match key_of(alloc, stored.uri.as_slice()) {
+        Ok(key) => key,
+        Err(KeyFault::NotHttp) => return Ok(None),
+        Err(KeyFault::Memory) => return Err(Memory),
+    };
+    Ok(Some(Entry {
+        key,
+        date: stored.date,
+        number: at.number,
+        uri: stored.uri.copy()?,
+        mime: mime_of(alloc, &stored.kept, head)?,
+        status: head.status,
+        digest: at.digest,
+        volume: at.volume,
+        offset: at.offset,
+        length: at.len,
+    }))
+}
+
+/// The media type of an entry: that of a revisit is its own.
+fn mime_of(alloc: Global, kept: &Kept, head: &ResponseHead) -> Result<Text, Memory>
+    ensures { (text : List ℕ) (h : grammar.ResponseHead) → HoldsResponseParts text h head.now → IfOk result (λ mime. mime ≡ mime_by kept.now (named_values h.fields)) }
+{
+    match kept {
+        Kept::Wire(_) => media_type(alloc, content_type(head)),
+        Kept::Same(_) => Text::from_str(alloc, REVISIT),
+        Kept::Cut(_) => media_type(alloc, content_type(head)),
+    }
+}
+
+/// The value of the first field Content-Type.
+fn content_type(head: &ResponseHead) -> Option<&[u8]>
+    ensures { option_copied result ≡ slice_get (values_of (codes "content-type") (map named_value head.now.fields)) 0 }
+{
+    first_value(head.fields.as_slice(), b"content-type")
+}
+
+impl<D: Disk> Volumes<D> {
+    /// Where the first record of a capture that is ready is to stand.
+    pub fn record_at(&self, ready: &Ready, number: u32) -> RecordAt
+        requires measured { IsMeasured self.now.journal (book_of self.now.held) }
+        requires room { HasRoomFor self.now ready.now.prepared }
+        ensures { result ≡ record_in self.now ready.now number }
+    {
+        let digest = ready.digest;
+        let len = ready.layout.record_len;
+        match &ready.prepared {
+            Some(prepared) => RecordAt {
+                number,
+                digest,
+                volume: self.journal.volumes(),
+                offset: prepared.info.as_slice().len() as u64,
+                len,
+            },
+            None => RecordAt {
+                number,
+                digest,
+                volume: self.journal.volumes() - 1,
+                offset: self.journal.last_len(),
+                len,
+            },
+        }
+    }
+}
+
+/// The entry of a capture that is ready, whose first record is to stand there; none where it isn't found by date.
+pub fn entry_for(alloc: Global, ready: &Ready, at: RecordAt) -> Result<Option<Entry>, Memory>
+    requires date { InRange ready.now.stored.date }
+    requires head { (h : grammar.ResponseHead) × IsResponseHeadText ready.now.stored.head h }
+    ensures { (h : grammar.ResponseHead) → IsResponseHeadText ready.now.stored.head h → IfOk result (EntersAs ready.now.stored h at) }
+{
+    match read_head(alloc, ready.stored.head.as_slice()) {
+        Ok(head) => entry_of(alloc, &ready.stored, &head, at),
+        Err(WireFault::Memory) => Err(Memory),
+        Err(_) => unreachable!(),
+    }
+}

@@ -1,0 +1,97 @@
+//! The book that an archive holds, without its bytes.
+ghost use Rattle.std.specs.Prelude.{◌≡◌, ◌<◌, [], length, vec_len, IfOk, IfSome, OnOk, None};
+ghost use Rattle.std.specs.Vec.{vec_capacity};
+ghost use Rattle.archive_shelf.specs.Storing.{empty_book, new_volume, with_capture, with_volume};
+
+use capture::{Memory, Stored};
+use std::alloc::Global;
+use std::snapshot::Snapshot;
+use uuid::Uuid;
+
+/// A volume, of whose captures only clauses know.
+#[derive(Drop)]
+pub struct Shadow {
+    born: u64,
+    captures: Vec<Snapshot<Stored>>,
+}
+
+/// A book, of whose captures only clauses know.
+#[derive(Drop)]
+pub struct Held {
+    pub namespace: Uuid,
+    sealed: Vec<Shadow>,
+    last: Option<Shadow>,
+    ghost none: { last ≡ None → sealed.items ≡ [] },
+}
+
+impl Held {
+    ghost use Rattle.archive_volumes.specs.Held.{HasSpace, TakesCapture, TakesVolume, book_of, is_filled, volume_of};
+
+    /// A book without volumes. Takes no memory.
+    pub fn new(alloc: Global, namespace: Uuid) -> Held
+        ensures { book_of result ≡ empty_book namespace }
+    {
+        Held {
+            namespace,
+            sealed: Vec::new(alloc),
+            last: None,
+        }
+    }
+
+    /// Whether there is a last volume, and it holds a capture.
+    pub fn is_filled(&self) -> bool
+        ensures { result ≡ is_filled (book_of self.now).volumes }
+    {
+        match &self.last {
+            Some(last) => !last.captures.as_slice().is_empty(),
+            None => false,
+        }
+    }
+
+    /// Makes room for one capture more in the last volume.
+    pub fn reserve(&mut self) -> Result<(), Memory>
+        requires { 0 < length (book_of self.old).volumes }
+        ensures book { book_of self.new ≡ book_of self.old }
+        ensures space { OnOk result (TakesCapture self.new) }
+    {
+        if let Some(last) = &mut self.last {
+            last.captures.reserve(1)?;
+        }
+        Ok(())
+    }
+
+    /// A new volume with room for one capture, and room for it behind the others.
+    pub fn prepare_volume(&mut self, alloc: Global, born: u64) -> Result<Shadow, Memory>
+        ensures volume { IfOk result (λ shadow. volume_of shadow ≡ new_volume born) }
+        ensures space { IfOk result HasSpace }
+        ensures book { book_of self.new ≡ book_of self.old }
+        ensures room { OnOk result (TakesVolume self.new) }
+    {
+        let captures = Vec::with_capacity(alloc, 1)?;
+        self.sealed.reserve(1)?;
+        Ok(Shadow { born, captures })
+    }
+
+    /// Puts a volume behind the others, in the room that is there. Takes no memory.
+    pub fn add_volume(&mut self, volume: Shadow)
+        requires empty { volume_of volume ≡ new_volume volume.born }
+        requires space { HasSpace volume }
+        requires room { TakesVolume self.old }
+        ensures book { book_of self.new ≡ with_volume (book_of self.old) volume.born }
+        ensures space { TakesCapture self.new }
+    {
+        if let Some(full) = self.last.replace(volume) {
+            self.sealed.push_reserved(full);
+        }
+    }
+
+    /// Adds a capture to the last volume, in the room that is there. Takes no memory.
+    pub fn add(&mut self, stored: &Stored)
+        requires space { TakesCapture self.old }
+        ensures book { book_of self.new ≡ with_capture (book_of self.old) stored.now }
+    {
+        if let Some(last) = &mut self.last {
+            last.captures.push_reserved(Snapshot::of(stored));
+        }
+    }
+}

@@ -1,0 +1,25 @@
+//! The volumes on a disk: what is known of their captures, which are read back, compared, brought and written.
+#![tactic(auto)]
+
+mod bring;
+mod compare;
+mod decode;
+mod entry;
+mod group;
+mod held;
+mod part;
+mod payload;
+mod ready;
+mod room;
+mod spot;
+mod volumes;
+mod write;
+
+pub use decode::{data_of, framing_behind, is_head, is_plain};
+pub use entry::{RecordAt, entry_for, entry_of};
+pub use group::Layout;
+pub use held::{Held, Shadow};
+pub use ready::{Incoming, Ready};
+pub use room::Prepared;
+pub use spot::{Form, Spot, reserve_kept};
+pub use volumes::Volumes;

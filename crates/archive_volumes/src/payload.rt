@@ -1,0 +1,87 @@
+//! The payload of a capture that keeps its wire, as the disk has it.
+ghost use Rattle.std.specs.Prelude.{◌≡◌, ℕ, ◌+◌, ◌^◌, ◌<◌, IsTrue, IfOk};
+ghost use Rattle.warc_journal.specs.Journals.{disk_of, texts};
+ghost use Rattle.archive_shelf.specs.Answers.{CountsIf};
+ghost use Rattle.archive_volumes.specs.Bringing.{IsChecked, IsKept, IsReadRight, OnlyReads, checked_by, is_read_fault};
+ghost use Rattle.archive_volumes.specs.Decoding.{HoldsPayload};
+ghost use Rattle.archive_volumes.specs.Held.{book_of};
+ghost use Rattle.archive_volumes.specs.Spots.{HasPlace, is_cut_form, wire_in};
+ghost use Rattle.archive_volumes.specs.Volumes.{HoldsBook};
+
+use crate::decode::{framing_behind, payload_in};
+use crate::part::ReadFault;
+use crate::spot::Spot;
+use crate::volumes::Volumes;
+use capture::{Bytes, Digest, Framing, wires_have_one_payload};
+use digest32::payload_digest;
+use disk_model::Disk;
+use std::alloc::Global;
+
+/// A capture that keeps its wire, as it was read.
+#[derive(Debug, Drop)]
+pub(crate) enum ReadBack {
+    /// Its head, and its payload, which has the digest that is kept.
+    Right { head: Bytes, payload: Bytes },
+    /// The payload has this other digest, or there is none (`None`), since head and wire don't decode.
+    Damaged(Option<Digest>),
+}
+
+/// The payload where its digest is the one that is kept.
+fn checked(kept: &Digest, head: Bytes, found: Option<Bytes>) -> ReadBack
+    ensures { result ≡ checked_by kept.now head found }
+{
+    match found {
+        None => ReadBack::Damaged(None),
+        Some(payload) => {
+            let digest = payload_digest(payload.as_slice());
+            if digest == *kept {
+                ReadBack::Right { head, payload }
+            } else {
+                ReadBack::Damaged(Some(digest))
+            }
+        }
+    }
+}
+
+impl<D: Disk> Volumes<D> {
+    /// The payload of the wire that is kept of a capture, by its framing; none where it isn't a body of that framing.
+    pub(crate) fn read_payload(
+        &mut self,
+        alloc: Global,
+        spot: &Spot,
+        framing: Framing,
+    ) -> Result<Option<Bytes>, ReadFault>
+        requires holds { HoldsBook D.Disk self.old.journal (book_of self.old.held) }
+        requires place { IsTrue D.tells → HasPlace (texts D.Disk self.old.journal) spot.now }
+        requires ends { spot.now.head_at + spot.now.head_len + spot.now.wire_len < 2 ^ 62 }
+        ensures payload { IsTrue D.tells → IfOk result
+            (HoldsPayload (is_cut_form spot.now.form) framing (wire_in (texts D.Disk self.old.journal) spot.now)) }
+        ensures reads { OnlyReads D.Disk self.old self.new }
+        ensures faults { CountsIf (is_read_fault result) (D.faults (disk_of self.old.journal)) (D.faults (disk_of self.new.journal)) }
+    {
+        let wire = self.read_part(alloc, spot.wire_place())?;
+        Ok(payload_in(alloc, framing, wire, spot.form.is_cut())?)
+    }
+
+    /// A capture that keeps its wire: its head, and its payload, whose digest is compared with the one that is kept.
+    pub(crate) fn read_back(&mut self, alloc: Global, spot: &Spot) -> Result<ReadBack, ReadFault>
+        requires holds { HoldsBook D.Disk self.old.journal (book_of self.old.held) }
+        requires place { IsTrue D.tells → HasPlace (texts D.Disk self.old.journal) spot.now }
+        requires ends { spot.now.head_at + spot.now.head_len + spot.now.wire_len < 2 ^ 62 }
+        ensures checked { IfOk result (IsChecked spot.now.digest) }
+        ensures right { (number : ℕ) → IsTrue D.tells
+            → IsKept (texts D.Disk self.old.journal) (book_of self.old.held) number spot.now
+            → IfOk result (IsReadRight (book_of self.old.held) number) }
+        ensures reads { OnlyReads D.Disk self.old self.new }
+        ensures faults { CountsIf (is_read_fault result) (D.faults (disk_of self.old.journal)) (D.faults (disk_of self.new.journal)) }
+    {
+        wires_have_one_payload();
+        let head = self.read_part(alloc, spot.head_place())?;
+        let framing = match framing_behind(alloc, &spot.method, head.as_slice())? {
+            Some(framing) => framing,
+            None => return Ok(ReadBack::Damaged(None)),
+        };
+        let found = self.read_payload(alloc, spot, framing)?;
+        Ok(checked(&spot.digest, Bytes::of(head), found))
+    }
+}

@@ -1,0 +1,188 @@
+//! What is kept of a capture in memory, and how it is put behind the others.
+ghost use Rattle.std.specs.Prelude.{◌≡◌, ◌+◌, ◌^◌, ◌<◌, length, ◌++◌, ◌∷◌, [], All, vec_len, Some, OnOk, if◌then◌else◌};
+ghost use Rattle.capture.specs.Captures.{kept_wire};
+ghost use Rattle.archive_volumes.specs.Spots.{form_of, is_cut_form, is_same_form, spot_of, is_whole, whole_from};
+ghost use Rattle.std.specs.Vec.{vec_capacity};
+
+use capture::{Digest, Kept, Memory, Stored, Text};
+use revisit_table::Digests;
+use std::alloc::Global;
+use warc_journal::Place;
+
+/// In which form a capture is kept.
+#[derive(Clone, Copy, Debug, PartialEq, Eq)]
+pub enum Form {
+    /// With its whole wire.
+    Whole,
+    /// Without its wire: its payload is that of the capture with this number, which keeps its whole wire.
+    Same(u32),
+    /// With as much of its wire as came.
+    Cut,
+}
+
+impl Form {
+    /// Whether only as much of the wire is kept as came.
+    pub(crate) fn is_cut(self) -> bool
+        ensures { result ≡ is_cut_form self }
+    {
+        match self {
+            Form::Whole => false,
+            Form::Same(_) => false,
+            Form::Cut => true,
+        }
+    }
+
+    /// Whether another capture keeps the wire.
+    pub fn is_same(self) -> bool
+        ensures { result ≡ is_same_form self }
+    {
+        match self {
+            Form::Whole => false,
+            Form::Same(_) => true,
+            Form::Cut => false,
+        }
+    }
+}
+
+/// What is kept of a capture in memory: what it is, and where its head and its wire stand. They are read where they are
+/// needed, so that its size doesn't grow with them.
+#[derive(Debug, Drop)]
+pub struct Spot {
+    /// The request's method.
+    pub method: Text,
+    /// The target that the client sent, in absolute form.
+    pub uri: Text,
+    /// When it was fetched, in milliseconds since 1970.
+    pub date: u64,
+    /// The digest of its payload.
+    pub digest: Digest,
+    /// In which form it is kept.
+    pub form: Form,
+    /// The volume in which it stands.
+    pub volume: u32,
+    /// Where in that volume's text the response's head begins, in bytes. The wire that is kept stands behind the head.
+    pub head_at: u64,
+    /// The head's length in bytes.
+    pub head_len: u64,
+    /// The length of the wire that is kept, in bytes: 0 where another capture keeps it.
+    pub wire_len: u64,
+}
+
+impl Spot {
+    /// What is kept of a capture whose payload has this digest, and whose head begins at this place of a volume's text.
+    /// The rest of it is let go. Takes no memory.
+    pub fn of(stored: Stored, digest: Digest, volume: u32, head_at: u64) -> Spot
+        ensures { result ≡ spot_of stored digest volume head_at }
+    {
+        let Stored {
+            method,
+            uri,
+            date,
+            request: _,
+            head,
+            kept,
+        } = stored;
+        let head_len = head.as_slice().len() as u64;
+        let wire_len = wire_len_of(&kept);
+        let form = form_kept(&kept);
+        Spot {
+            method,
+            uri,
+            date,
+            digest,
+            form,
+            volume,
+            head_at,
+            head_len,
+            wire_len,
+        }
+    }
+
+    /// Where the head stands.
+    pub(crate) fn head_place(&self) -> Place
+        ensures { result ≡ record { volume = self.now.volume; at = self.now.head_at; len = self.now.head_len } }
+    {
+        Place {
+            volume: self.volume,
+            at: self.head_at,
+            len: self.head_len,
+        }
+    }
+
+    /// Where the wire that is kept stands.
+    pub(crate) fn wire_place(&self) -> Place
+        requires { self.now.head_at + self.now.head_len < 2 ^ 62 }
+        ensures { result ≡ record { volume = self.now.volume; at = self.now.head_at + self.now.head_len; len = self.now.wire_len } }
+    {
+        Place {
+            volume: self.volume,
+            at: self.head_at + self.head_len,
+            len: self.wire_len,
+        }
+    }
+}
+
+/// In which form this is kept.
+fn form_kept(kept: &Kept) -> Form
+    ensures { result ≡ form_of kept.now }
+{
+    match kept {
+        Kept::Wire(_) => Form::Whole,
+        Kept::Same(first) => Form::Same(*first),
+        Kept::Cut(_) => Form::Cut,
+    }
+}
+
+/// The length of the wire that is kept, in bytes.
+fn wire_len_of(kept: &Kept) -> u64
+    ensures { result ≡ length (kept_wire kept.now) }
+{
+    match kept {
+        Kept::Wire(wire) => wire.as_slice().len() as u64,
+        Kept::Same(_) => 0,
+        Kept::Cut(wire) => wire.as_slice().len() as u64,
+    }
+}
+
+/// Makes room for one capture more, whose payload has this digest.
+pub fn reserve_kept(
+    alloc: Global,
+    spots: &mut Vec<Spot>,
+    table: &mut Digests,
+    digest: &Digest,
+) -> Result<(), Memory>
+    ensures room { OnOk result (vec_len spots.new < vec_capacity spots.new) }
+    ensures reserved { OnOk result (table.new.reserved ≡ Some digest.now) }
+    ensures spots { spots.new.items ≡ spots.old.items }
+    ensures table { table.new.kept ≡ table.old.kept }
+{
+    spots.reserve(1)?;
+    table.reserve(alloc, digest)
+}
+
+/// Puts a capture behind the others, in the room that is there, and its digest into the table where it keeps its whole wire.
+/// Takes no memory.
+pub(crate) fn keep(spots: &mut Vec<Spot>, table: &mut Digests, spot: Spot)
+    requires room { vec_len spots.old < vec_capacity spots.old }
+    requires reserved { table.old.reserved ≡ Some spot.digest }
+    requires table { table.old.kept ≡ whole_from 0 spots.old.items }
+    requires few { length spots.old.items < 2 ^ 32 }
+    ensures spots { spots.new.items ≡ spots.old.items ++ spot ∷ [] }
+    ensures table { table.new.kept ≡ whole_from 0 spots.new.items }
+{
+    note_whole(table, spot.form, &spot.digest, spots.len() as u32);
+    spots.push_reserved(spot);
+}
+
+/// Adds a capture's digest where it keeps its whole wire.
+fn note_whole(table: &mut Digests, form: Form, digest: &Digest, number: u32)
+    requires reserved { table.old.reserved ≡ Some digest.now }
+    requires above { All (λ entry. entry.1 < number) table.old.kept }
+    ensures { table.new.kept ≡ table.old.kept ++ (if is_whole form then (digest.now, number) ∷ [] else []) }
+{
+    match form {
+        Form::Whole => table.add(digest, number),
+        Form::Same(_) => (),
+        Form::Cut => (),
+    }
+}
