@@ -33,6 +33,8 @@ quiet_opens d laws was is taken fault same quiet = record {
   refused = λ told ids faulty. inl (same, quiet_keeps d laws (disk_of was.journal) (disk_of is.journal) was.book quiet);
   quiet = λ none. quiet.moves;
   covered = quiet.covered;
+  kept = quiet.kept;
+  just = tt;
 }
 
 -- the archive is full, before anything was read
@@ -112,6 +114,8 @@ module _ {D : Type 0} (d : Ghosts D) (laws : DiskLaws d) (was : Holdings D) (jou
         (λ nothing. absurd nothing)
         (opening.quiet none t x (omega (arith, le, quiet.later)) o);
     covered = λ t le all. opening.covered t (omega (arith, le, quiet.later)) (quiet.covered t le all);
+    kept = λ files has. quiet.kept files (opening.kept files has);
+    just = opening.just;
   }
 
   pub then_by : d.faults (disk_of journal) ≡ d.faults (disk_of was.journal) → (is : Holdings D) (result : Result Receipt StoreFault)

@@ -1,12 +1,15 @@
 -- What is shown of an archive, and an archive whose disk has a fuse.
-use Rattle.std.proofs.Common.{IsTrue, List, Result, Ok, Err}
-use Rattle.std.specs.Prelude.{OnOk}
+use Rattle.std.proofs.Common.{◌≡◌, ℕ, Bool, IsTrue, List, Option, Some, None, Result, Ok, Err, sym}
+use Rattle.std.specs.Prelude.{Contains, IfNone, IfSome, OnOk}
 use Rattle.capture.specs.declared.book.Book.{Book}
+use Rattle.cdxj_index.proofs.Entries.{with_number-none, with_number-some}
+use Rattle.cdxj_index.proofs.Members.{among_from_contains, contains_from_among}
 use Rattle.cdxj_index.specs.Facts.{Facts}
 use Rattle.cdxj_index.specs.OfBook.{AreEntries, AreOf}
-use Rattle.cdxj_index.specs.Queries.{IsIndex}
+use Rattle.cdxj_index.specs.Queries.{IsIndex, with_number}
 use Rattle.disk_model.specs.declared.disk.Disk.{Ghosts}
-use Rattle.archive_core.specs.Holdings.{Holdings, IsArchive}
+use Rattle.archive_shelf.specs.Answers.{ShowsNone}
+use Rattle.archive_core.specs.Holdings.{Holdings, IsArchive, contents_of}
 use Rattle.archive_core.specs.Shown.{numbered}
 use Rattle.archive_core.proofs.ShownLaws.{numbered_sorted, shown_all, shown_from}
 
@@ -30,3 +33,21 @@ shows_entries d held is told = entries_shown held.book held.index is.indexed (is
 pub on_each_ok : {T E : Type 0} (result : Result T E) (P : Type 0) → P → OnOk result P
 on_each_ok (Ok value) P p = p
 on_each_ok (Err error) P p = tt
+
+-- ---- the entry of a number
+
+module _ {D : Type 0} (tells : Bool) (held : Holdings D) (number : ℕ) where
+  pub entry_shown : (found : Option Facts) → found ≡ with_number number held.index
+      → IfSome found (λ entry. Contains (contents_of tells held).shown entry)
+  entry_shown None is = tt
+  entry_shown (Some entry) is =
+      shown_all held.index entry (contains_from_among held.index entry (with_number-some number held.index entry (sym is)).0)
+
+  pub entry_number : (found : Option Facts) → found ≡ with_number number held.index → IfSome found (λ entry. entry.number ≡ number)
+  entry_number None is = tt
+  entry_number (Some entry) is = (with_number-some number held.index entry (sym is)).1
+
+  pub no_entry_shown : (found : Option Facts) → found ≡ with_number number held.index → IfNone found (ShowsNone (contents_of tells held) number)
+  no_entry_shown (Some entry) is = tt
+  no_entry_shown None is = λ other shown same.
+      with_number-none number held.index (sym is) other (among_from_contains held.index other (shown_from held.index other shown)) same

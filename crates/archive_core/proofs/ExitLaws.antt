@@ -33,7 +33,7 @@ use Rattle.archive_shelf.specs.Comparing.{CanRefer, RefersBy}
 use Rattle.archive_shelf.specs.Contents.{Contents}
 use Rattle.archive_shelf.specs.Entering.{TellsOfNew}
 use Rattle.archive_shelf.specs.Gaining.{VolumesAddTheirText}
-use Rattle.archive_shelf.specs.Openings.{IsState}
+use Rattle.archive_shelf.specs.Openings.{HasJust, IsState}
 use Rattle.archive_shelf.specs.Storing.{Gains, as_stored, is_revisit, kept_of, with_capture, with_volume}
 use Rattle.archive_shelf.specs.declared.fault.StoreFault.{StoreFault}
 use Rattle.archive_shelf.specs.declared.fault.StoreFault.TheVariants as stores
@@ -48,7 +48,7 @@ use Rattle.archive_core.specs.Shown.{numbered, numbers_from}
 use Rattle.archive_volumes.specs.Spots.{ArePlaced, AreSpotsOf, text_at, whole_from}
 use Rattle.archive_core.specs.Stores.{Stores}
 use Rattle.archive_volumes.specs.Writing.{HasRoomFor, IsWay, TakesSo, Writes, texts_with, with_prepared}
-use Rattle.archive_volumes.specs.Volumes.{HoldsBook, IsMeasured, covers, moment_of, opens}
+use Rattle.archive_volumes.specs.Volumes.{HoldsBook, IsMeasured, checkpoints_of, covers, moment_of, opens}
 use Rattle.archive_volumes.specs.declared.entry.RecordAt.{RecordAt}
 use Rattle.archive_volumes.specs.declared.room.Prepared.{Prepared}
 use Rattle.archive_volumes.specs.declared.ready.Incoming.{Incoming}
@@ -60,7 +60,7 @@ use Rattle.archive_core.proofs.EnterLaws.{TellsOfCapture, known_left, known_room
 use Rattle.archive_core.proofs.PayloadLaws.{has_one, one_payload}
 use Rattle.archive_core.proofs.ReadyLaws.{can_commit, ready_now, with_count, with_end}
 use Rattle.archive_core.proofs.ShownLaws.{numbered_with, taken_out}
-use Rattle.archive_volumes.proofs.StoreLaws.{quiet_itself, store_covered, store_later, store_moves, store_refused}
+use Rattle.archive_volumes.proofs.StoreLaws.{quiet_itself, store_covered, store_kept, store_later, store_moves, store_refused}
 use Rattle.archive_core.proofs.StoredLaws.{archive_left, archive_stored}
 use Rattle.archive_volumes.proofs.TakenGroup.{IsGroupWith}
 use Rattle.archive_volumes.proofs.WayLaws.{by_rule, group_with, needed_by, room_captures, room_gains, room_namespace, room_some, way}
@@ -114,6 +114,8 @@ module _ {D : Type 0} (d : Ghosts D) (was is : Holdings D) (journal_is : is.jour
       refused = λ told ids fault. absurd (false≢true fault);
       quiet = λ none t x le o. inl (subst (λ (j : Journal D). opens d (disk_of j) t x) journal_is o);
       covered = λ t le all. subst (λ (j : Journal D). covers d (disk_of j) t) (sym journal_is) all;
+      kept = λ files has. subst (λ (j : Journal D). checkpoints_of d (disk_of j) files) journal_is has;
+      just = tt;
     };
   }
 
@@ -433,6 +435,8 @@ module _ {D : Type 0} (d : Ghosts D) (basis : StoringBasis) (was : Holdings D) (
                     store_refused d laws old old (disk_of journal) before (contents_of d.tells is) incoming.taken room (with_capture room ready.stored) answer takes quiet writes told ids;
                 quiet = λ none. absurd none;
                 covered = store_covered d laws old old (disk_of journal) before (contents_of d.tells is) incoming.taken room (with_capture room ready.stored) answer takes quiet writes;
+                kept = store_kept d laws old old (disk_of journal) before (contents_of d.tells is) incoming.taken room (with_capture room ready.stored) answer takes quiet writes;
+                just = tt;
               };
             }
 
@@ -514,5 +518,7 @@ module _ {D : Type 0} (d : Ghosts D) (basis : StoringBasis) (was : Holdings D) (
                 refused = λ told ids fault. absurd (false≢true fault);
                 quiet = λ none. absurd none;
                 covered = store_covered d laws old old (disk_of journal) before (contents_of d.tells is) incoming.taken room (with_capture room ready.stored) answer takes quiet writes;
+                kept = store_kept d laws old old (disk_of journal) before (contents_of d.tells is) incoming.taken room (with_capture room ready.stored) answer takes quiet writes;
+                just = λ told image now. subst (HasJust image) (sym with_it) (writes.just told image now);
               };
             }

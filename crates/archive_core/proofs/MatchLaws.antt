@@ -12,7 +12,6 @@ use Rattle.capture.specs.Payload.{IsPayload}
 use Rattle.capture.specs.declared.book.Book.{Book}
 use Rattle.capture.specs.declared.captured.Taken.{Taken}
 use Rattle.capture.specs.declared.framing.Framing.{Framing}
-use Rattle.capture.specs.declared.framing.Framing.TheVariants.{Empty, Length, Chunked, ToEnd}
 use Rattle.warc_text.specs.Fits.{Fits}
 use Rattle.archive_shelf.specs.Comparing.{CanRefer, Finds, IsRight, KeepsWire, RefersBy}
 use Rattle.archive_shelf.specs.Contents.{Contents}
@@ -21,8 +20,8 @@ use Rattle.archive_shelf.specs.declared.fault.StoreFault.{StoreFault}
 use Rattle.archive_shelf.specs.declared.fault.StoreFault.TheVariants as stores
 use Rattle.archive_shelf.specs.declared.looked.Looked.{Looked}
 use Rattle.archive_volumes.specs.Choosing.{LooksOn}
-use Rattle.archive_volumes.specs.Decoding.{HoldsPayload, TellsFraming, is_plain}
-use Rattle.archive_core.specs.Matching.{FindsAmongAll, IsDataOf}
+use Rattle.archive_volumes.specs.Decoding.{TellsFraming}
+use Rattle.archive_core.specs.Matching.{FindsAmongAll}
 use Rattle.archive_core.specs.Looking.{IsDigestOf, IsRightOf, LooksFor, RefersTo}
 use Rattle.archive_volumes.proofs.DecodeLaws.{one_framing}
 use Rattle.archive_core.proofs.PayloadLaws.{HasOne, has_one, one_payload}
@@ -30,7 +29,7 @@ use Rattle.archive_core.proofs.PayloadLaws.{HasOne, has_one, one_payload}
 -- ---- the payload of a capture that fits
 
 -- its payload
-abbrev Has : Taken → List ℕ → Type 0
+abbrev pub Has : Taken → List ℕ → Type 0
 Has taken payload = HasPayload taken.cut taken.method taken.head taken.wire payload
 
 -- its head tells a framing
@@ -48,6 +47,10 @@ module _ (whole : BodiesHaveAPayload) (cut_short : CutWiresHaveAPayload) (taken 
   same =
       one_framing (asks_for_head taken.method) taken.head there.has.framing framing (there.has.parsed, there.has.whole, there.has.framed) tells
 
+  -- its wire is one of that framing
+  pub has_wire : IsWire taken.cut framing taken.wire
+  has_wire = subst (λ (f : Framing). IsWire taken.cut f taken.wire) same there.has.wire_is
+
   -- what is decoded by that framing is its payload
   has_decoded : (payload : List ℕ) → IsPayload taken.cut framing taken.wire payload → Has taken payload
   has_decoded payload is = record {
@@ -59,33 +62,9 @@ module _ (whole : BodiesHaveAPayload) (cut_short : CutWiresHaveAPayload) (taken 
     decoded = subst (λ (f : Framing). IsPayload taken.cut f taken.wire payload) (sym same) is;
   }
 
-  -- a wire that isn't chunked is its payload
-  pub data_plain : is_plain framing ≡ true → IsDataOf taken None
-  data_plain plain = has_decoded taken.wire (as_is framing plain)
-    where
-      as_is : (f : Framing) → is_plain f ≡ true → IsPayload taken.cut f taken.wire taken.wire
-      as_is Empty e = refl
-      as_is (Length n) e = refl
-      as_is Chunked e = cc
-      as_is ToEnd e = refl
-
-  -- a chunked one has data
-  pub data_chunked : is_plain framing ≡ false → (found : Option (List ℕ)) → HoldsPayload taken.cut Chunked taken.wire found → IsDataOf taken found
-  data_chunked other found holds = by found (subst (λ (f : Framing). HoldsPayload taken.cut f taken.wire found) (sym (is_chunked framing other)) holds)
-    where
-      is_chunked : (f : Framing) → is_plain f ≡ false → f ≡ Chunked
-      is_chunked Empty e = cc
-      is_chunked (Length n) e = cc
-      is_chunked Chunked e = refl
-      is_chunked ToEnd e = cc
-
-      by : (found : Option (List ℕ)) → HoldsPayload taken.cut framing taken.wire found → IsDataOf taken found
-      by (Some bytes) holds = has_decoded bytes holds
-      by None holds = absurd (holds (subst (λ (f : Framing). IsWire taken.cut f taken.wire) same there.has.wire_is))
-
-  pub data_answer : {E : Type 0} → is_plain framing ≡ false → (r : Result (Option (List ℕ)) E) → IfOk r (HoldsPayload taken.cut Chunked taken.wire) → IfOk r (IsDataOf taken)
-  data_answer other (Ok found) holds = data_chunked other found holds
-  data_answer other (Err fault) holds = tt
+  pub payload_answer : {E : Type 0} (r : Result (List ℕ) E) → IfOk r (λ payload. IsPayload taken.cut framing taken.wire payload) → IfOk r (λ payload. Has taken payload)
+  payload_answer (Ok payload) is = has_decoded payload is
+  payload_answer (Err fault) is = tt
 
 -- the digest of its payload
 pub digest_by : WiresHaveOnePayload → (taken : Taken) (digest payload : List ℕ) → Has taken payload → digest ≡ sha1 payload → IsDigestOf taken digest

@@ -143,7 +143,7 @@ module _ {D : Type 0} (d : Ghosts D) (was : Holdings D) (now : ℕ) where
       book = with_it ∙ sym (ap (λ (volumes : List Volume). record was.book { volumes = volumes }) (rolled_one was.book.volumes now filled));
       others = refl;
       faults = counts.steady;
-      makes = λ full. record { later = made.later; moves = made.moves; only = made.only; refused = made.refused; covered = made.covered };
+      makes = λ full. record { later = made.later; moves = made.moves; only = made.only; refused = made.refused; covered = made.covered; kept = made.kept; just = made.just };
       checkpoints = others;
       unwritten = unwritten_full (is_filled was.book.volumes) filled;
       refused = not_refused (is_filled was.book.volumes);
@@ -158,7 +158,7 @@ module _ {D : Type 0} (d : Ghosts D) (was : Holdings D) (now : ℕ) where
       book = same;
       others = refl;
       faults = (counts.later, counts.rose);
-      makes = λ full. record { later = made.later; moves = made.moves; only = made.only; refused = made.refused; covered = made.covered };
+      makes = λ full. record { later = made.later; moves = made.moves; only = made.only; refused = made.refused; covered = made.covered; kept = made.kept; just = tt };
       checkpoints = others;
       unwritten = unwritten_fault (is_filled was.book.volumes) filled;
       refused = may_be_refused (Err rolls.DiskFault) (is_filled was.book.volumes) filled;

@@ -1,17 +1,11 @@
--- The payload of a new capture, and which capture has one, of all that there are.
+-- Which capture has a payload, of all that there are.
 use Rattle.std.specs.Prelude.{ℕ, ◌<◌, Bool, List, length, Option, Some, None, Result, Ok, Err, ⊤}
-use Rattle.capture.specs.Captures.{captures, HasPayload}
+use Rattle.capture.specs.Captures.{captures}
 use Rattle.capture.specs.declared.book.Book.{Book}
-use Rattle.capture.specs.declared.captured.Taken.{Taken}
 use Rattle.archive_shelf.specs.Answers.{IsDamaged}
 use Rattle.archive_shelf.specs.Comparing.{IsRight}
 use Rattle.archive_shelf.specs.declared.fault.StoreFault.{StoreFault}
 use Rattle.archive_shelf.specs.declared.fault.StoreFault.TheVariants as stores
-
--- the capture's payload is these bytes, or else its wire
-abbrev pub IsDataOf : Taken → Option (List ℕ) → Type 0
-IsDataOf taken (Some bytes) = HasPayload taken.cut taken.method taken.head taken.wire bytes
-IsDataOf taken None = HasPayload taken.cut taken.method taken.head taken.wire taken.wire
 
 -- what looking for a payload among all captures answers: the first that has it
 abbrev pub FindsAmongAll : Bool → Book → List ℕ → Result (Option ℕ) StoreFault → Type 0

@@ -6,12 +6,12 @@ use Rattle.disk_model.specs.declared.disk.Disk.{Ghosts}
 use Rattle.warc_journal.specs.Journals.{disk_of}
 use Rattle.archive_shelf.specs.Answers.{CountsIf, IsFull, IsNotFull, LeavesReading, StoreLeaves, WritesNone, is_store_fault}
 use Rattle.archive_shelf.specs.Contents.{Contents}
-use Rattle.archive_shelf.specs.Openings.{HasIds, IsRefused, IsState, MayLeave, Moves, StaysCovered}
+use Rattle.archive_shelf.specs.Openings.{HasIds, IsRefused, IsState, KeepsCheckpoints, MayLeave, Moves, StaysCovered}
 use Rattle.archive_shelf.specs.declared.fault.StoreFault.{StoreFault}
 use Rattle.archive_shelf.specs.declared.fault.StoreFault.TheVariants as stores
 use Rattle.archive_shelf.specs.declared.receipt.Receipt.{Receipt}
 use Rattle.archive_core.specs.Holdings.{Holdings, contents_of}
-use Rattle.archive_volumes.specs.Volumes.{covers, moment_of, opens}
+use Rattle.archive_volumes.specs.Volumes.{LeavesJust, checkpoints_of, covers, moment_of, opens}
 
 -- Whether a capture more may be stored: it is full exactly where there are as many as there may be.
 abbrev pub Admits : {T : Type 0} → Contents → Result T StoreFault → Type 0
@@ -31,6 +31,9 @@ pub record LeavesOpen {D : Type 0} (d : Ghosts D) (was is : Holdings D) (taken :
       → IsRefused (moment_of d) (opens d) (disk_of was.journal) (disk_of is.journal) (contents_of d.tells was) (contents_of d.tells is) taken
   pub quiet : WritesNone result → Moves (moment_of d) (opens d) (disk_of was.journal) (disk_of is.journal) (λ x. ⊥)
   pub covered : StaysCovered (moment_of d) (covers d) (disk_of was.journal) (disk_of is.journal)
+  pub kept : KeepsCheckpoints (checkpoints_of d) (disk_of was.journal) (disk_of is.journal)
+  -- once it is stored, the files of the volumes are just the texts of the book
+  pub just : OnOk result (LeavesJust d (disk_of is.journal) is.book)
 
 -- a capture was stored, or refused
 pub record Stores {D : Type 0} (d : Ghosts D) (was is : Holdings D) (taken : Taken) (result : Result Receipt StoreFault) : Type 0 where

@@ -1,15 +1,17 @@
 //! The archive over a disk.
-ghost use Rattle.std.specs.Prelude.{◌≡◌, IsTrue, Some, option_copied};
+ghost use Rattle.std.specs.Prelude.{◌≡◌, Contains, IfNone, IfSome, IsTrue, Some, option_copied};
 ghost use Rattle.cdxj_index.specs.Queries.{with_number};
 ghost use Rattle.warc_journal.specs.Journals.{disk_of};
+ghost use Rattle.archive_shelf.specs.Answers.{ShowsNone};
 ghost use Rattle.archive_shelf.specs.Storing.{counts_of};
 ghost use Rattle.archive_core.specs.Holdings.{contents_of};
 ghost use Rattle.archive_core.specs.Stores.{Admits};
+ghost use Rattle.archive_volumes.specs.Held.{book_of};
 ghost use Rattle.archive_volumes.specs.Volumes.{OpensNear};
 
 use crate::finding;
 use archive_shelf::{Counts, Finder, StoreFault};
-use archive_volumes::{Spot, Volumes};
+use archive_volumes::{Held, Spot, Volumes};
 use capture::{Limits, Memory};
 use cdxj_index::{Entry, Index};
 use disk_model::{Disk, MemoryDisk};
@@ -17,6 +19,7 @@ use revisit_table::Digests;
 use std::alloc::Global;
 use std::marker::Model;
 use surt_key::Key;
+use uuid::Uuid;
 
 /// An archive over a disk, in which nobody else stores. A clause sees its journal, its book and what is kept of that.
 #[derive(Drop)]
@@ -68,11 +71,35 @@ impl<D: Disk> Archive<D> {
         self.volumes.journal.faults()
     }
 
-    /// The entry of a number; none exactly where no entry has it. Takes no memory.
+    /// The entry that is shown under a number; none exactly where none is. Takes no memory.
     pub fn entry(&self, number: u32) -> Option<&Entry>
-        ensures { option_copied result ≡ with_number number self.now.index }
+        ensures indexed { option_copied result ≡ with_number number self.now.index }
+        ensures shown { IfSome (option_copied result) (λ e. Contains (contents_of D.tells self.now).shown e) }
+        ensures number { IfSome (option_copied result) (λ e. e.number ≡ number) }
+        ensures none { IfNone (option_copied result) (ShowsNone (contents_of D.tells self.now) number) }
     {
         self.index.at(number)
+    }
+
+    /// The namespace of its ids.
+    pub fn namespace(&self) -> &Uuid
+        ensures { result.now ≡ self.now.book.namespace }
+    {
+        &self.volumes.held.namespace
+    }
+
+    /// How much it takes.
+    pub fn limits(&self) -> Limits
+        ensures { result ≡ self.now.limits }
+    {
+        self.limits
+    }
+
+    /// Its book, without its bytes.
+    pub fn held(&self) -> &Held
+        ensures { book_of result.now ≡ self.now.book }
+    {
+        &self.volumes.held
     }
 
     /// Refuses a capture more where there are as many as there may be.
@@ -121,7 +148,7 @@ impl Archive<MemoryDisk> {
 impl<D: Disk> Finder for Archive<D> {
     ghost use Rattle.std.specs.Prelude.{true};
     ghost use Rattle.archive_core.specs.Holdings.{contents_of};
-    ghost use Rattle.archive_volumes.specs.Volumes.{covers, moment_of, opens};
+    ghost use Rattle.archive_volumes.specs.Volumes.{checkpoints_of, covers, moment_of, opens};
     ghost use Rattle.warc_journal.specs.Journals.{disk_of};
 
     ghost alone = { true };
@@ -137,6 +164,8 @@ impl<D: Disk> Finder for Archive<D> {
     ghost openings = { λ a t book. opens D.Disk (disk_of a.journal) t book };
 
     ghost covered = { λ a t. covers D.Disk (disk_of a.journal) t };
+
+    ghost checkpoints = { λ a files. checkpoints_of D.Disk (disk_of a.journal) files };
 
     ghost earlier = { λ a t s book le opened. record {
       told = opened.told;

@@ -8,15 +8,18 @@ ghost use Rattle.archive_shelf.specs.Comparing.{IsRight};
 ghost use Rattle.archive_volumes.specs.Choosing.{LooksOn, NoneDamagedBelow, is_look_fault};
 ghost use Rattle.archive_core.specs.Holdings.{contents_of};
 ghost use Rattle.archive_core.specs.Looking.{Looks, OnlyLooks, IsDigestOf, IsRightOf, LooksFor};
+ghost use Rattle.capture.specs.Body.{IsWire};
 ghost use Rattle.capture.specs.Captures.{captures, HasPayload};
+ghost use Rattle.capture.specs.Payload.{IsPayload};
 ghost use Rattle.warc_text.specs.Fits.{Fits};
-ghost use Rattle.archive_core.specs.Matching.{FindsAmongAll, IsDataOf};
+ghost use Rattle.archive_core.specs.Matching.{FindsAmongAll};
 
 use crate::Archive;
 use archive_shelf::{Looked, StoreFault};
-use archive_volumes::{data_of, framing_behind, is_plain};
-use capture::{Bytes, Digest, Memory, Taken, wires_have_one_payload};
+use archive_volumes::framing_behind;
+use capture::{Digest, Framing, Memory, Taken, wires_have_one_payload};
 use disk_model::Disk;
+use message_body::{Payload, PayloadFault, payload_in};
 use std::alloc::Global;
 
 impl<D: Disk> Archive<D> {
@@ -63,32 +66,27 @@ impl<D: Disk> Archive<D> {
     }
 }
 
-/// The payload of a capture whose wire is chunked; none where the wire is its payload as it stands.
-pub(crate) fn data_behind(alloc: Global, taken: &Taken) -> Result<Option<Bytes>, Memory>
+/// The payload of a capture that was taken: its wire, which takes no memory, or the data of a chunked one.
+pub fn payload_of_taken<'t>(alloc: Global, taken: &'t Taken) -> Result<Payload<'t>, Memory>
     requires fits { Fits taken.now }
-    ensures { IfOk result (IsDataOf taken.now) }
+    ensures { IfOk result (λ payload. HasPayload taken.now.cut taken.now.method taken.now.head taken.now.wire payload) }
 {
     wires_have_one_payload();
     match framing_behind(alloc, &taken.method, taken.head.as_slice())? {
-        Some(framing) => {
-            if is_plain(framing) {
-                return Ok(None);
-            }
-            // What fits decodes, so there is always data.
-            data_of(alloc, taken.wire.as_slice(), taken.cut)
-        }
+        Some(framing) => payload_by(alloc, framing, taken),
         None => unreachable!(),
     }
 }
 
-/// The payload of a capture, by what its wire decodes to. Takes no memory.
-pub(crate) fn payload_by<'a>(taken: &'a Taken, decoded: &'a Option<Bytes>) -> &'a [u8]
-    requires { IsDataOf taken.now decoded.now }
-    ensures { HasPayload taken.now.cut taken.now.method taken.now.head taken.now.wire result.now }
+/// The payload of a capture's wire, which is a body of this framing, whole or cut.
+fn payload_by<'t>(alloc: Global, framing: Framing, taken: &'t Taken) -> Result<Payload<'t>, Memory>
+    requires wire { IsWire taken.now.cut framing taken.now.wire }
+    ensures { IfOk result (λ payload. IsPayload taken.now.cut framing taken.now.wire payload) }
 {
-    match decoded {
-        Some(bytes) => bytes.as_slice(),
-        None => taken.wire.as_slice(),
+    match payload_in(alloc, framing, taken.wire.as_slice(), taken.cut) {
+        Ok(payload) => Ok(payload),
+        Err(PayloadFault::Malformed) => unreachable!(),
+        Err(PayloadFault::Memory) => Err(Memory),
     }
 }
 
@@ -163,7 +161,7 @@ impl<D: Disk> Archive<D> {
         if looked.upto == count {
             return Ok(looked.same);
         }
-        let data = data_behind(alloc, taken)?;
-        self.same_with(alloc, payload_by(taken, &data), digest, looked)
+        let payload = payload_of_taken(alloc, taken)?;
+        self.same_with(alloc, payload.as_slice(), digest, looked)
     }
 }

@@ -12,4 +12,5 @@ mod shelf;
 mod storing;
 
 pub use archive::Archive;
+pub use comparing::payload_of_taken;
 pub use laws::compared_payloads_serve_later;

@@ -1,7 +1,10 @@
 //! How an archive is a shelf.
-ghost use Rattle.std.specs.Prelude.{IsTrue};
+ghost use Rattle.std.specs.Prelude.{IsTrue, true};
 ghost use Rattle.warc_journal.specs.Journals.{disk_of};
 ghost use Rattle.archive_shelf.specs.Answers.{Brings, CountsIf, is_bring_fault};
+ghost use Rattle.archive_shelf.specs.Contents.{IsConsistent};
+ghost use Rattle.archive_shelf.specs.Openings.{HasIds, OpensNext};
+ghost use Rattle.archive_volumes.specs.Volumes.{OpensNear, moment_of, opens};
 ghost use Rattle.archive_core.specs.Holdings.{IsArchive, contents_of};
 ghost use Rattle.archive_core.specs.Looking.{OnlyLooks};
 
@@ -35,18 +38,28 @@ impl<D: Disk> Archive<D> {
     {
         let _ = &self.limits;
     }
+
+    /// An archive shows its book, whatever was called before: where the disk tells, the book is sound and its entries are what is
+    /// shown; what may be opened is next to it.
+    pub fn shows_its_book(&self)
+        ensures consistent { IsConsistent true (contents_of D.tells self.now) }
+        ensures near { IsTrue D.tells → OpensNear D.Disk (disk_of self.now.journal) self.now.book }
+        ensures next { HasIds self.now.book → OpensNext (moment_of D.Disk) (opens D.Disk) (disk_of self.now.journal) self.now.book }
+    {
+        self.is_an_archive();
+    }
 }
 
 impl<D: Disk> Shelf for Archive<D> {
     fn store(&mut self, alloc: Global, taken: Taken) -> Result<Receipt, StoreFault> {
         let answer = self.store_new(alloc, taken);
-        self.is_an_archive();
+        self.shows_its_book();
         answer
     }
 
     fn bring(&mut self, alloc: Global, number: u32) -> Result<Brought, BringFault> {
         let answer = self.bring_numbered(alloc, number);
-        self.is_an_archive();
+        self.shows_its_book();
         answer
     }
 }

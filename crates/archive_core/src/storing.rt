@@ -9,7 +9,7 @@ ghost use Rattle.archive_core.specs.Looking.{IsDigestOf, IsRightOf, RefersTo};
 ghost use Rattle.archive_core.specs.Stores.{Stores};
 
 use crate::Archive;
-use crate::comparing::{data_behind, payload_by};
+use crate::comparing::payload_of_taken;
 use crate::index::enter;
 use archive_shelf::{
     Looked, Receipt, StoreFault, entries_gain_what_is_stored, storing_keeps_soundness,
@@ -135,10 +135,11 @@ impl<D: Disk> Archive<D> {
     {
         self.check_room()?;
         wires_have_one_payload();
-        let data = data_behind(alloc, &taken)?;
-        let payload = payload_by(&taken, &data);
-        let digest = payload_digest(payload);
-        let same = self.same_by(alloc, &taken, payload, &digest, Looked::none())?;
+        let payload = payload_of_taken(alloc, &taken)?;
+        let bytes = payload.as_slice();
+        let digest = payload_digest(bytes);
+        let same = self.same_by(alloc, &taken, bytes, &digest, Looked::none())?;
+        drop(payload);
         self.store_compared(
             alloc,
             Incoming {

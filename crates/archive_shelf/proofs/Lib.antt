@@ -1,4 +1,5 @@
 pub mod ComparingLaws
+pub mod EarlierSoundness
 pub mod EntryLaws
 pub mod GainingSoundness
 pub mod GainingTexts

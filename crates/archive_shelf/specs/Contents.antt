@@ -57,6 +57,10 @@ pub record BeginsWithEntries (book : Book) (shown : List Facts) : Type 0 where
   pub first : Begins entries shown
   pub in_order : IsStrictlySortedBy by_number shown
   pub behind : (entry : Facts) → Contains first.rest entry → length (captures book) ≤ entry.number
+  -- none is of no capture: what is shown are the entries of a book that has grown from this one
+  pub later : Book
+  pub grown : Grows book later
+  pub all : AreEntries later shown
 
 -- what is shown of the book: alone its entries, in company these and perhaps more
 abbrev pub Shows : Bool → Book → List Facts → Type 0

@@ -1,6 +1,7 @@
 -- What a book keeps when it gains a volume or a capture: its texts, and that it is sound.
 use Rattle.std.specs.Prelude.{◌≡◌, ℕ, ◌+◌, ◌-◌, ◌^◌, ◌<◌, List, [], ◌∷◌, ◌++◌, length, slice_get, Some}
 use Rattle.capture.specs.Captures.{captures}
+use Rattle.capture.specs.Growth.{Grows}
 use Rattle.capture.specs.declared.book.Book.{Book}
 use Rattle.capture.specs.declared.book.Volume.{Volume}
 use Rattle.capture.specs.declared.captured.Stored.{Stored}
@@ -41,3 +42,7 @@ StoringKeepsSoundness =
     (limit : ℕ) (book : Book) (taken : Taken) (storing : Storing limit book taken) → Fits taken → IsSound book
     → limit < 2 ^ 62 → length (captures book) + 1 < 2 ^ 32 - 1
     → IsSound storing.unfilled × IsSound (stored_by storing)
+
+-- a book from which a sound one has grown is sound
+abbrev pub GrowthLeavesSoundness : Type 0
+GrowthLeavesSoundness = (old new : Book) → Grows old new → IsSound new → IsSound old

@@ -6,7 +6,9 @@ use Rattle.capture.specs.declared.captured.Stored.{Stored}
 use Rattle.capture.specs.declared.captured.Taken.{Taken}
 use Rattle.disk_model.specs.Image.{Image}
 use Rattle.disk_model.specs.declared.disk.Disk.{Ghosts}
-use Rattle.warc_journal.specs.Extents.{warc_files}
+use Rattle.warc_journal.specs.Extents.{cdxj_files, warc_files}
+use Rattle.warc_journal.specs.Texts.{AreJust}
+use Rattle.warc_text.specs.Books.{AreVolumeTexts}
 use Rattle.warc_text.specs.Groups.{IdsDiffer}
 use Rattle.warc_text.specs.Sound.{IsSound}
 use Rattle.warc_text.specs.StandsFor.{StandsFor}
@@ -36,6 +38,23 @@ pub record Opens {D : Type 0} (tells : Bool) (d : Ghosts D) (disk : D) (t : ℕ)
 -- where the disk is told, each image that a crash since a moment might have left stands for a sound book
 abbrev pub Covers : {D : Type 0} → Bool → Ghosts D → D → ℕ → Type 0
 Covers tells d disk t = IsTrue tells → (image : Image) → d.images_since disk t image → (book : Book) × ImageStandsFor image book
+
+-- what is told of the disk: a crash now may leave these files of checkpoints
+pub record MayHaveCheckpoints {D : Type 0} (tells : Bool) (d : Ghosts D) (disk : D) (files : List (List ℕ)) : Type 0 where
+  pub told : IsTrue tells
+  pub image : Image
+  pub left : d.images disk image
+  pub are : cdxj_files image ≡ files
+
+-- a crash leaves no files of checkpoints but those that it might have left before the call
+abbrev pub KeepsCheckpoints : {S : Type 0} → (S → List (List ℕ) → Type 0) → S → S → Type 0
+KeepsCheckpoints checkpoints old new = (files : List (List ℕ)) → checkpoints new files → checkpoints old files
+
+-- the files of the volumes are just the texts of the book, but for one empty file more
+pub record HasJust (image : Image) (book : Book) : Type 0 where
+  pub texts : List (List ℕ)
+  pub are : AreVolumeTexts book texts
+  pub just : AreJust texts (warc_files image)
 
 -- a book, or that with a new volume, with one more capture, or with both
 pub record IsNext (book x : Book) : Type 0 where

@@ -4,7 +4,7 @@ ghost use Rattle.std.specs.List.{starts_with};
 ghost use Rattle.capture.specs.declared.book.Book.{Book};
 ghost use Rattle.disk_model.specs.Image.{Image};
 ghost use Rattle.archive_shelf.specs.Contents.{Contents, Looks, Shows};
-ghost use Rattle.archive_shelf.specs.Openings.{Moves, StaysCovered};
+ghost use Rattle.archive_shelf.specs.Openings.{KeepsCheckpoints, Moves, StaysCovered};
 ghost use Rattle.archive_shelf.specs.Queries.{ArePicked, IsFound};
 
 use capture::Memory;
@@ -38,6 +38,9 @@ pub trait Finder {
     /// That each image since a moment stands for a sound book.
     ghost covered: { Self → ℕ → Type 0 };
 
+    /// That a crash now may leave these files of checkpoints. It is told alone, over a disk that tells what it holds.
+    ghost checkpoints: { Self → List (List ℕ) → Type 0 };
+
     /// The entry of this key that is nearest to a time in milliseconds since 1970, the first in order of those that are as
     /// near (RFC 7089, section 4.1.1). None exactly where the key has none.
     fn by_date(&mut self, alloc: Global, key: &Key, time: u64) -> Result<Option<Entry>, Memory>
@@ -48,7 +51,8 @@ pub trait Finder {
         ensures faults { faults self.new ≡ faults self.old }
         ensures later { moment self.old ≤ moment self.new }
         ensures moves { Moves moment openings self.old self.new (λ x. ⊥) }
-        ensures covered { StaysCovered moment covered self.old self.new };
+        ensures covered { StaysCovered moment covered self.old self.new }
+        ensures kept { KeepsCheckpoints checkpoints self.old self.new };
 
     /// The entries of this key, in order of date and number.
     fn map(&mut self, alloc: Global, key: &Key) -> Result<Vec<Entry>, Memory>
@@ -59,7 +63,8 @@ pub trait Finder {
         ensures faults { faults self.new ≡ faults self.old }
         ensures later { moment self.old ≤ moment self.new }
         ensures moves { Moves moment openings self.old self.new (λ x. ⊥) }
-        ensures covered { StaysCovered moment covered self.old self.new };
+        ensures covered { StaysCovered moment covered self.old self.new }
+        ensures kept { KeepsCheckpoints checkpoints self.old self.new };
 
     /// The entries whose key begins with these bytes, in order of key, date and number.
     fn starting(&mut self, alloc: Global, start: &Key) -> Result<Vec<Entry>, Memory>
@@ -70,7 +75,8 @@ pub trait Finder {
         ensures faults { faults self.new ≡ faults self.old }
         ensures later { moment self.old ≤ moment self.new }
         ensures moves { Moves moment openings self.old self.new (λ x. ⊥) }
-        ensures covered { StaysCovered moment covered self.old self.new };
+        ensures covered { StaysCovered moment covered self.old self.new }
+        ensures kept { KeepsCheckpoints checkpoints self.old self.new };
 
     /// A book that may be opened since a moment may be since an earlier one.
     ghost earlier: { (finder : Self) (t s : ℕ) (book : Book) → t ≤ s → openings finder s book → openings finder t book };

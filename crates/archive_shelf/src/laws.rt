@@ -1,6 +1,6 @@
 //! What storing promises to those who build on it.
 ghost use Rattle.archive_shelf.specs.Entering.{EntriesAreAll, EntriesGainOne, EntriesStay, EntriesStayAll, NewEntriesAreOfTheirCaptures};
-ghost use Rattle.archive_shelf.specs.Gaining.{CapturesAddTheirGroup, StoringKeepsSoundness, VolumesAddTheirText, VolumesKeepSoundness};
+ghost use Rattle.archive_shelf.specs.Gaining.{CapturesAddTheirGroup, GrowthLeavesSoundness, StoringKeepsSoundness, VolumesAddTheirText, VolumesKeepSoundness};
 ghost use Rattle.archive_shelf.specs.Laws.{BooksLeadToThemselves, CapturesAreStoredOneWay, FirstKeepsItsWire, GainsGrow, GainsStandBehind, LeadingGrows, LookedStaysRight, StoresGrow, StoringGains, StoringLeavesNext};
 
 use capture::{captures_have_one_payload, growth_keeps_captures};
@@ -64,6 +64,15 @@ pub fn storing_keeps_soundness()
 {
     texts_stay_when_a_book_grows();
     numbers_have_one_group();
+    sound_volumes_have_one_text();
+}
+
+/// A book from which a sound one has grown is sound.
+pub fn growth_leaves_soundness()
+    ensures { GrowthLeavesSoundness }
+{
+    growth_keeps_captures();
+    texts_stay_when_a_book_grows();
     sound_volumes_have_one_text();
 }
 

@@ -3,7 +3,7 @@ ghost use Rattle.std.specs.Prelude.{◌≡◌, ◌≤◌, IsTrue, None, OnOk};
 ghost use Rattle.warc_text.specs.Fits.{Fits};
 ghost use Rattle.archive_shelf.specs.Answers.{Brings, CountsIf, LeavesReading, StoreLeaves, WritesNone, is_bring_fault, is_store_fault};
 ghost use Rattle.archive_shelf.specs.Contents.{IsConsistent, Stays};
-ghost use Rattle.archive_shelf.specs.Openings.{HasIds, IsRefused, IsState, MayLeave, Moves, OpensNext, StaysCovered};
+ghost use Rattle.archive_shelf.specs.Openings.{HasIds, HasJust, IsRefused, IsState, KeepsCheckpoints, MayLeave, Moves, OpensNext, StaysCovered};
 
 use crate::{BringFault, Finder, Receipt, StoreFault};
 use capture::{Brought, Taken};
@@ -19,6 +19,8 @@ pub trait Shelf: Finder {
         ensures consistent { IsConsistent Self.alone (Self.contents self.new) }
         ensures reading { IsTrue Self.alone → IsTrue (Self.contents self.old).tells
             → LeavesReading (Self.reading self.old) (Self.reading self.new) result }
+        ensures just { IsTrue Self.alone → IsTrue (Self.contents self.new).tells
+            → OnOk result (HasJust (Self.reading self.new) (Self.contents self.new).seen) }
         ensures faults { CountsIf (is_store_fault result) (Self.faults self.old) (Self.faults self.new) }
         ensures later { Self.moment self.old ≤ Self.moment self.new }
         ensures moves { HasIds (Self.contents self.old).seen
@@ -30,6 +32,7 @@ pub trait Shelf: Finder {
             → IsRefused Self.moment Self.openings self.old self.new (Self.contents self.old) (Self.contents self.new) taken }
         ensures quiet { WritesNone result → Moves Self.moment Self.openings self.old self.new (λ x. ⊥) }
         ensures covered { StaysCovered Self.moment Self.covered self.old self.new }
+        ensures kept { KeepsCheckpoints Self.checkpoints self.old self.new }
         ensures between { HasIds (Self.contents self.new).seen
             → OpensNext Self.moment Self.openings self.new (Self.contents self.new).seen };
 
@@ -43,6 +46,7 @@ pub trait Shelf: Finder {
         ensures later { Self.moment self.old ≤ Self.moment self.new }
         ensures moves { Moves Self.moment Self.openings self.old self.new (λ x. ⊥) }
         ensures covered { StaysCovered Self.moment Self.covered self.old self.new }
+        ensures kept { KeepsCheckpoints Self.checkpoints self.old self.new }
         ensures between { HasIds (Self.contents self.new).seen
             → OpensNext Self.moment Self.openings self.new (Self.contents self.new).seen };
 }

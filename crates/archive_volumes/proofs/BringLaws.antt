@@ -49,6 +49,7 @@ quiet_then d old mid new first second = record {
       (λ none. absurd none)
       (second.moves t x (omega (arith, le, first.later)) o);
   covered = λ t le all. second.covered t (omega (arith, le, first.later)) (first.covered t le all);
+  kept = λ files has. first.kept files (second.kept files has);
 }
 
 pub reads_then : {D : Type 0} (d : Ghosts D) (old mid new : Volumes D) → OnlyReads d old mid → OnlyReads d mid new → OnlyReads d old new

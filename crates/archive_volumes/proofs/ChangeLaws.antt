@@ -16,8 +16,8 @@ use Rattle.warc_text.specs.Ids.{id_of}
 use Rattle.warc_text.specs.Sound.{IsSound}
 use Rattle.warc_text.specs.StandsFor.{IdsDifferIn}
 use Rattle.warc_text.specs.declared.id.IdKind.TheVariants.{Response}
-use Rattle.archive_shelf.specs.Openings.{HasIds, ImageStandsFor, IsState, Keeps, Moves, SameBook, StaysCovered}
-use Rattle.archive_volumes.specs.Volumes.{IsQuiet, IsStep, Makes, OpensNear, covers, moment_of, opens}
+use Rattle.archive_shelf.specs.Openings.{HasIds, ImageStandsFor, IsState, Keeps, KeepsCheckpoints, Moves, SameBook, StaysCovered}
+use Rattle.archive_volumes.specs.Volumes.{IsQuiet, IsStep, LeavesJust, Makes, OpensNear, checkpoints_of, covers, moment_of, opens}
 
 -- ---- a book by what stands for it
 
@@ -95,6 +95,7 @@ module _ {D : Type 0} (d : Ghosts D) (laws : DiskLaws d) where
     });
     covered = λ t le all told image left. all told image
         (⊎_elim (λ was. was) (λ none. absurd none) ((rests told).leaves.adds t image (omega (arith, le, moment_told d old told)) left));
+    kept = λ files has. record { told = has.told; image = has.image; left = (rests has.told).crash has.image has.left; are = has.are };
   }
 
   pub near_stays : (old new : D) (book : Book) → Rests d old new → OpensNear d old book → OpensNear d new book
@@ -191,6 +192,22 @@ module _ {D : Type 0} (d : Ghosts D) (laws : DiskLaws d) where
     refused_by ids false at (Err e) refused = inl (λ x o. absurd (false≢true (at ∙ o.told)))
     refused_by ids true at (Err e) refused = refused_told ids (sym at) (refused (sym at))
 
+    -- an image now has the checkpoints of one from before
+    kept_on : KeepsCheckpoints (checkpoints_of d) old.disk new.disk
+    kept_on files has =
+        let made = change has.told in ⊎_elim
+        (λ (was : d.images_since old.disk (d.moment old.disk) has.image).
+        record { told = has.told; image = has.image; left = laws.now_only old.disk has.image was; are = has.are })
+        (λ (left : IsLeft (d.images old.disk) (HoldEither (texts d old) texts_after) has.image).
+        record { told = has.told; image = left.before; left = left.was; are = sym left.others ∙ has.are })
+        (made.leaves.adds (d.moment old.disk) has.image (omega arith)
+        (laws.now_counts new.disk (d.moment old.disk) has.image made.leaves.later has.left))
+
+    just_by : (r : Result T E) → (IsTrue d.tells → OnOk r ((image : Image) → d.images new.disk image → IsLeft (d.images old.disk) (AreJust texts_after) image))
+        → OnOk r (LeavesJust d new.disk after)
+    just_by (Ok v) only = λ told image now. record { texts = texts_after; are = will_be told; just = (only told image now).described }
+    just_by (Err e) only = tt
+
     pub makes : Makes d old.disk new.disk before after result
     makes = record {
       later = later_by d old.disk new.disk d.tells (λ told. (change told).leaves.later);
@@ -198,6 +215,8 @@ module _ {D : Type 0} (d : Ghosts D) (laws : DiskLaws d) where
       only = λ ids. only_by ids result (λ told. (change told).only);
       refused = λ ids. refused_by ids d.tells refl result (λ told. (change told).refused);
       covered = covered_on;
+      kept = kept_on;
+      just = just_by result (λ told. (change told).only);
     }
 
   -- once it is made, each image is next to the book after
@@ -220,4 +239,6 @@ refused_on d old new before after (Err e) (Err f) failed failed₂ made = record
   only = λ ids. tt;
   refused = made.refused;
   covered = made.covered;
+  kept = made.kept;
+  just = tt;
 }

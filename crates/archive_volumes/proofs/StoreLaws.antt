@@ -7,11 +7,11 @@ use Rattle.capture.specs.declared.captured.Taken.{Taken}
 use Rattle.disk_model.specs.declared.disk.Disk.{Ghosts}
 use Rattle.archive_shelf.proofs.StoringLaws.{captures_stay}
 use Rattle.archive_shelf.specs.Contents.{Contents}
-use Rattle.archive_shelf.specs.Openings.{HasIds, IsRefused, IsState, Keeps, MayLeave, Moves, SameBook, StaysCovered}
+use Rattle.archive_shelf.specs.Openings.{HasIds, IsRefused, IsState, Keeps, KeepsCheckpoints, MayLeave, Moves, SameBook, StaysCovered}
 use Rattle.archive_shelf.specs.Storing.{new_volume, with_volume}
 use Rattle.archive_volumes.proofs.ChangeLaws.{DiskLaws}
 use Rattle.archive_volumes.specs.Writing.{TakesSo, Writes}
-use Rattle.archive_volumes.specs.Volumes.{IsQuiet, Makes, covers, moment_of, opens}
+use Rattle.archive_volumes.specs.Volumes.{IsQuiet, Makes, checkpoints_of, covers, moment_of, opens}
 
 -- a book that is kept where a call is refused
 pub stays_refused : {T E : Type 0} (result : Result T E) (now before after : Book) → now ≡ (if is_ok result then after else before) → OnErr result (now ≡ before)
@@ -22,7 +22,7 @@ module _ {D : Type 0} (d : Ghosts D) (laws : DiskLaws d) where
   -- ---- quiet calls
 
   pub quiet_itself : (disk : D) → IsQuiet d disk disk
-  quiet_itself disk = record { later = omega arith; moves = λ t x le o. inl o; covered = λ t le all. all }
+  quiet_itself disk = record { later = omega arith; moves = λ t x le o. inl o; covered = λ t le all. all; kept = λ files has. has }
 
   pub quiet_on : (old mid new : D) → IsQuiet d old mid → IsQuiet d mid new → IsQuiet d old new
   quiet_on old mid new first second = record {
@@ -32,6 +32,7 @@ module _ {D : Type 0} (d : Ghosts D) (laws : DiskLaws d) where
         (λ none. absurd none)
         (second.moves t x (omega (arith, le, first.later)) o);
     covered = λ t le all. second.covered t (omega (arith, le, first.later)) (first.covered t le all);
+    kept = λ files has. first.kept files (second.kept files has);
   }
 
   -- what may be opened after a quiet call might have been before it
@@ -82,6 +83,8 @@ module _ {D : Type 0} (d : Ghosts D) (laws : DiskLaws d) where
         (λ (state : IsState (moment_of d) (opens d) new book (Some after)). inr (inr (subst (λ (b : Book). IsState (moment_of d) (opens d) new b (Some after)) (sym same) state)))
         which);
     covered = made.covered;
+    kept = made.kept;
+    just = made.just;
   }
 
   -- the volume is refused
@@ -100,6 +103,8 @@ module _ {D : Type 0} (d : Ghosts D) (laws : DiskLaws d) where
         (λ (state : IsState (moment_of d) (opens d) new book (Some room)). inr (inl state))
         (made.refused ids);
     covered = made.covered;
+    kept = made.kept;
+    just = tt;
   }
 
   -- a volume is begun, and then the capture is added or refused
@@ -131,6 +136,8 @@ module _ {D : Type 0} (d : Ghosts D) (laws : DiskLaws d) where
             inr (subst (λ (b : Book). IsState (moment_of d) (opens d) new b (Some after)) (sym same) state))
             which));
         covered = λ t le all. second.covered t (omega (arith, le, first.later)) (first.covered t le all);
+        kept = λ files has. first.kept files (second.kept files has);
+        just = second.just;
       }
 
   -- a refusal is handed out as another one
@@ -143,6 +150,8 @@ module _ {D : Type 0} (d : Ghosts D) (laws : DiskLaws d) where
     only = λ ids. tt;
     refused = writes.refused;
     covered = writes.covered;
+    kept = writes.kept;
+    just = tt;
   }
 
   -- ---- a store: what only reads, and then writes
@@ -155,6 +164,9 @@ module _ {D : Type 0} (d : Ghosts D) (laws : DiskLaws d) where
 
     pub store_covered : StaysCovered (moment_of d) (covers d) old new
     store_covered t le all = writes.covered t (omega (arith, le, quiet.later)) (quiet.covered t le all)
+
+    pub store_kept : KeepsCheckpoints (checkpoints_of d) old new
+    store_kept files has = quiet.kept files (writes.kept files has)
 
     pub store_moves : HasIds was.seen → Moves (moment_of d) (opens d) old new (MayLeave was taken)
     store_moves ids t x le o = ⊎_elim

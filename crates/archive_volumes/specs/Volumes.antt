@@ -1,5 +1,5 @@
 -- The volumes on a disk, the book that they hold, and what a change of them may leave.
-use Rattle.std.specs.Prelude.{◌≡◌, ◌⊎◌, ℕ, ◌+◌, ◌^◌, ◌<◌, ◌≤◌, IsTrue, if◌then◌else◌, [], length, slice_get, OnErr, OnOk, Result, Some, None}
+use Rattle.std.specs.Prelude.{◌≡◌, ◌⊎◌, ℕ, ◌+◌, ◌^◌, ◌<◌, ◌≤◌, IsTrue, if◌then◌else◌, List, [], length, slice_get, OnErr, OnOk, Result, Some, None}
 use Rattle.capture.specs.Captures.{captures}
 use Rattle.capture.specs.declared.book.Book.{Book}
 use Rattle.capture.specs.declared.book.Volume.{Volume}
@@ -10,7 +10,7 @@ use Rattle.warc_journal.specs.declared.journal.Journal.{Journal}
 use Rattle.warc_text.specs.Books.{AreVolumeTexts}
 use Rattle.warc_text.specs.Records.{info_text}
 use Rattle.warc_text.specs.Sound.{IsSound}
-use Rattle.archive_shelf.specs.Openings.{Covers, HasIds, ImageStandsFor, IsNext, IsState, Keeps, Moves, Opens, SameBook, StaysCovered}
+use Rattle.archive_shelf.specs.Openings.{Covers, HasIds, HasJust, ImageStandsFor, IsNext, IsState, Keeps, KeepsCheckpoints, MayHaveCheckpoints, Moves, Opens, SameBook, StaysCovered}
 use Rattle.archive_shelf.specs.Storing.{new_volume}
 use Rattle.archive_volumes.specs.Held.{HasSpace, volume_of}
 use Rattle.archive_volumes.specs.declared.room.Prepared.{Prepared}
@@ -58,11 +58,20 @@ opens d disk t book = Opens d.tells d disk t book
 abbrev pub covers : {D : Type 0} → Ghosts D → D → ℕ → Type 0
 covers d disk t = Covers d.tells d disk t
 
+-- the files of checkpoints that a crash may leave
+abbrev pub checkpoints_of : {D : Type 0} → Ghosts D → D → List (List ℕ) → Type 0
+checkpoints_of d disk files = MayHaveCheckpoints d.tells d disk files
+
+-- where the disk tells, each image has just the texts of the book
+abbrev pub LeavesJust : {D : Type 0} → Ghosts D → D → Book → Type 0
+LeavesJust d disk book = IsTrue d.tells → (image : Image) → d.images disk image → HasJust image book
+
 -- A call that only reads: nothing more may be opened.
 pub record IsQuiet {D : Type 0} (d : Ghosts D) (old new : D) : Type 0 where
   pub later : moment_of d old ≤ moment_of d new
   pub moves : Moves (moment_of d) (opens d) old new (λ x. ⊥)
   pub covered : StaysCovered (moment_of d) (covers d) old new
+  pub kept : KeepsCheckpoints (checkpoints_of d) old new
 
 -- A call that makes one change, from one book to another, or is refused.
 pub record Makes {D T E : Type 0} (d : Ghosts D) (old new : D) (before after : Book) (result : Result T E) : Type 0 where
@@ -72,6 +81,8 @@ pub record Makes {D T E : Type 0} (d : Ghosts D) (old new : D) (before after : B
   pub refused : HasIds before → OnErr result
       (Keeps (moment_of d) (opens d) old new before ⊎ IsState (moment_of d) (opens d) new before (Some after))
   pub covered : StaysCovered (moment_of d) (covers d) old new
+  pub kept : KeepsCheckpoints (checkpoints_of d) old new
+  pub just : OnOk result (LeavesJust d new after)
 
 -- a book with a volume or a capture more
 pub record IsStep (before after : Book) : Type 0 where

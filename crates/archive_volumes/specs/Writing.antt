@@ -6,10 +6,10 @@ use Rattle.disk_model.specs.declared.disk.Disk.{Ghosts}
 use Rattle.time_text.specs.Texts.{InRange}
 use Rattle.warc_journal.specs.Journals.{last_len, volumes}
 use Rattle.archive_shelf.specs.Gaining.{AreFilled}
-use Rattle.archive_shelf.specs.Openings.{HasIds, IsState, Keeps, Moves, SameBook, StaysCovered}
+use Rattle.archive_shelf.specs.Openings.{HasIds, IsState, Keeps, KeepsCheckpoints, Moves, SameBook, StaysCovered}
 use Rattle.archive_shelf.specs.Storing.{Storing, stored_by, with_volume}
 use Rattle.archive_volumes.specs.Held.{TakesCapture, TakesVolume, book_of, is_filled}
-use Rattle.archive_volumes.specs.Volumes.{IsPrepared, covers, moment_of, opens}
+use Rattle.archive_volumes.specs.Volumes.{IsPrepared, LeavesJust, checkpoints_of, covers, moment_of, opens}
 use Rattle.archive_volumes.specs.declared.room.Prepared.{Prepared}
 use Rattle.archive_volumes.specs.declared.volumes.Volumes.{Volumes}
 
@@ -65,6 +65,8 @@ pub record Writes {D T E : Type 0} (d : Ghosts D) (old new : D) (book room after
       (((now ≡ book) × Keeps (moment_of d) (opens d) old new book)
       ⊎ (IsState (moment_of d) (opens d) new now (Some room) ⊎ IsState (moment_of d) (opens d) new now (Some after)))
   pub covered : StaysCovered (moment_of d) (covers d) old new
+  pub kept : KeepsCheckpoints (checkpoints_of d) old new
+  pub just : OnOk result (LeavesJust d new after)
 
 -- where the disk tells, the book takes the capture in this way: with this book with room, and this one after it
 pub record IsWay {D : Type 0} (d : Ghosts D) (limit : ℕ) (book : Book) (taken : Taken) (room after : Book) : Type 0 where

@@ -46,7 +46,7 @@ pub fn framing_behind(alloc: Global, method: &Text, head: &[u8]) -> Result<Optio
 }
 
 /// Whether a wire of this framing is its payload as it stands.
-pub fn is_plain(framing: Framing) -> bool
+pub(crate) fn is_plain(framing: Framing) -> bool
     ensures { result ≡ spec.is_plain framing }
 {
     match framing {
@@ -76,7 +76,7 @@ pub(crate) fn payload_in(
 }
 
 /// The data of a chunked body, whole or cut.
-pub fn data_of(alloc: Global, wire: &[u8], cut: bool) -> Result<Option<Bytes>, Memory>
+pub(crate) fn data_of(alloc: Global, wire: &[u8], cut: bool) -> Result<Option<Bytes>, Memory>
     ensures { IfOk result (HoldsPayload cut Framing.Chunked wire.now) }
 {
     match wire_payload(alloc, Framing::Chunked, wire, cut) {

@@ -15,7 +15,7 @@ mod spot;
 mod volumes;
 mod write;
 
-pub use decode::{data_of, framing_behind, is_head, is_plain};
+pub use decode::{framing_behind, is_head};
 pub use entry::{RecordAt, entry_for, entry_of};
 pub use group::Layout;
 pub use held::{Held, Shadow};

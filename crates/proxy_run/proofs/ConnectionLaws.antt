@@ -3,7 +3,7 @@ use Rattle.std.proofs.Common.{◌≡◌, ◌⊎◌, ℕ, ◌≤◌, Bool, true, 
 use Rattle.std.proofs.lemmas.Bool.{false≢true}
 use Rattle.archive_core.specs.Holdings.{Holdings, contents_of}
 use Rattle.archive_core.specs.Reopening.{IsReopened}
-use Rattle.archive_volumes.specs.Volumes.{covers, moment_of, opens}
+use Rattle.archive_volumes.specs.Volumes.{checkpoints_of, covers, moment_of, opens}
 use Rattle.archive_shelf.specs.Openings.{HasIds, ImageStandsFor, SameBook}
 use Rattle.archive_shelf.specs.declared.finder.Finder.{Ghosts as Finders}
 use Rattle.capture.specs.declared.book.Book.{Book}
@@ -31,6 +31,7 @@ held_by disks = record {
   moment = λ a. moment_of disks (disk_of a.journal);
   openings = λ a t book. opens disks (disk_of a.journal) t book;
   covered = λ a t. covers disks (disk_of a.journal) t;
+  checkpoints = λ a files. checkpoints_of disks (disk_of a.journal) files;
 }
 
 -- ---- books that may be opened behind rounds

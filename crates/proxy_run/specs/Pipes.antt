@@ -1,6 +1,6 @@
 -- What the command `pipe` leaves.
 use Rattle.std.specs.Prelude.{◌≡◌, ◌⊎◌, ◌≤◌, ℕ, List, true, IsTrue, Option}
-use Rattle.archive_volumes.specs.Volumes.{OpensNear, covers, moment_of, opens}
+use Rattle.archive_volumes.specs.Volumes.{OpensNear, checkpoints_of, covers, moment_of, opens}
 use Rattle.archive_shelf.specs.Contents.{Contents}
 use Rattle.archive_shelf.specs.Openings.{HasIds, ImageStandsFor, SameBook, StaysCovered}
 use Rattle.archive_shelf.specs.declared.finder.Finder.{Ghosts as Finders}
@@ -36,6 +36,7 @@ over disks = record {
   moment = λ kept. moment_of disks kept.disk;
   openings = λ kept t book. opens disks kept.disk t book;
   covered = λ kept t. covers disks kept.disk t;
+  checkpoints = λ kept files. checkpoints_of disks kept.disk files;
 }
 
 -- where and over what `pipe` serves its connection

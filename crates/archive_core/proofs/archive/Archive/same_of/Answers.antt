@@ -1,8 +1,8 @@
-use Rattle.std.proofs.Common.{rules, ◌≡◌, subst, ◌∙◌}
+use Rattle.std.proofs.Common.{rules, ◌≡◌, sym, subst, ◌∙◌}
 use Rattle.std.specs.Prelude.{length}
 use Rattle.capture.specs.Captures.{captures}
 use Rattle.archive_core.specs.Holdings.{Holdings, contents_of}
-use Rattle.archive_core.proofs.MatchLaws.{looks_for, refers_before, refers_cut}
+use Rattle.archive_core.proofs.MatchLaws.{Has, looks_for, refers_before, refers_cut}
 use Rattle.archive_core.proofs.archive.Archive.same_of.Goals as goal
 
 pub returns-then-taken-clause-refers : goal.returns-then-taken-clause-refers
@@ -20,11 +20,13 @@ returns-then-looked-count-clause-refers g c =
 
 pub returns-clause-refers : goal.returns-clause-refers
 returns-clause-refers g c =
-    looks_for (contents_of g.D.Disk.tells c.same_with.new.self) c.args.taken.now c.payload_by.result.now c.payload_by.ensures c.if-taken.false
-    c.same_with.result c.same_with.ensures.finds
+    looks_for (contents_of g.D.Disk.tells c.same_with.new.self) c.args.taken.now c.as_slice.result.now
+    (subst (Has c.args.taken.now) (sym c.as_slice.ensures) c.in_ok-payload.ensures) c.if-taken.false c.same_with.result c.same_with.ensures.finds
 
 pub same_with-requires-clause-digest : goal.same_with-requires-clause-digest
-same_with-requires-clause-digest g c = c.requires.digest c.payload_by.result.now c.payload_by.ensures
+same_with-requires-clause-digest g c =
+    c.requires.digest c.as_slice.result.now (subst (Has c.args.taken.now) (sym c.as_slice.ensures) c.in_ok-payload.ensures)
 
 pub same_with-requires-clause-right : goal.same_with-requires-clause-right
-same_with-requires-clause-right g c = c.requires.right c.payload_by.result.now c.payload_by.ensures
+same_with-requires-clause-right g c =
+    c.requires.right c.as_slice.result.now (subst (Has c.args.taken.now) (sym c.as_slice.ensures) c.in_ok-payload.ensures)

@@ -5,7 +5,7 @@ use Rattle.archive_core.specs.Holdings.{Holdings, contents_of}
 use Rattle.archive_core.proofs.AfterLaws.{fault_exit, full_exit, stores_after}
 use Rattle.archive_volumes.proofs.ChangeLaws.{DiskLaws}
 use Rattle.archive_core.proofs.ExitLaws.{memory_exit}
-use Rattle.archive_core.proofs.MatchLaws.{digest_by}
+use Rattle.archive_core.proofs.MatchLaws.{Has, digest_by}
 use Rattle.archive_core.proofs.archive.Archive.store_new.Given.{Over}
 use Rattle.archive_core.proofs.archive.Archive.store_new.Goals as goal
 
@@ -18,13 +18,16 @@ returns-in_err-check_room g c =
     full_exit g.D.Disk (disk_laws g) c.args.self.now c.args.taken c.in_err-check_room.field-0.0 c.from_residual.result c.from_residual.ensures.1
     c.in_err-check_room.ensures
 
-pub returns-in_err-data : goal.returns-in_err-data
-returns-in_err-data g c =
-    memory_exit g.D.Disk c.args.self.now c.args.self.now refl refl refl refl refl c.args.taken c.from_residual-in_err-data.result
-    c.from_residual-in_err-data.ensures.1
+pub returns-in_err-payload : goal.returns-in_err-payload
+returns-in_err-payload g c =
+    memory_exit g.D.Disk c.args.self.now c.args.self.now refl refl refl refl refl c.args.taken c.from_residual-in_err-payload.result
+    c.from_residual-in_err-payload.ensures.1
+
+pub same_by-requires-clause-payload : goal.same_by-requires-clause-payload
+same_by-requires-clause-payload g c = subst (Has c.args.taken) (sym c.as_slice-bytes.ensures) c.in_ok-payload.ensures
 
 pub same_by-requires-clause-right : goal.same_by-requires-clause-right
-same_by-requires-clause-right g c = c.none.ensures.right g.D.Disk.tells c.args.self.now.book c.payload_by-payload.result.now
+same_by-requires-clause-right g c = c.none.ensures.right g.D.Disk.tells c.args.self.now.book c.as_slice-bytes.result.now
 
 pub returns-in_err-same : goal.returns-in_err-same
 returns-in_err-same g c =
@@ -38,7 +41,7 @@ store_compared-requires-clause-not_full g c =
 
 pub store_compared-requires-clause-digest : goal.store_compared-requires-clause-digest
 store_compared-requires-clause-digest g c =
-    digest_by c.wires_have_one_payload.ensures.one c.args.taken c.payload_digest-digest.result c.payload_by-payload.result.now c.payload_by-payload.ensures
+    digest_by c.wires_have_one_payload.ensures.one c.args.taken c.payload_digest-digest.result c.as_slice-bytes.result.now (subst (Has c.args.taken) (sym c.as_slice-bytes.ensures) c.in_ok-payload.ensures)
     c.payload_digest-digest.ensures
 
 pub returns : goal.returns

@@ -1,14 +1,6 @@
 -- Each clause is one of bringing by number, or holds of an archive at each call.
-use Rattle.archive_volumes.proofs.ChangeLaws.{DiskLaws}
-use Rattle.archive_core.proofs.NextLaws.{opens_next}
-use Rattle.archive_core.proofs.ShelfLaws.{consistent, stays}
-use Rattle.warc_journal.specs.Journals.{disk_of}
-use Rattle.archive_core.proofs.shelf.ArchiveShelf.bring.Given.{Over}
+use Rattle.archive_core.proofs.ShelfLaws.{stays}
 use Rattle.archive_core.proofs.shelf.ArchiveShelf.bring.Goals as goal
-
--- what is asked of the disk
-disk_laws : (g : Over) → DiskLaws g.D.Disk
-disk_laws g = record { earlier = g.met.D.Disk.earlier; now_counts = g.met.D.Disk.now_counts; now_only = g.met.D.Disk.now_only }
 
 pub returns-clause-brings : goal.returns-clause-brings
 returns-clause-brings g c = c.bring_numbered-answer.ensures.brings
@@ -17,7 +9,7 @@ pub returns-clause-stays : goal.returns-clause-stays
 returns-clause-stays g c = stays g.D.Disk c.args.self.now c.bring_numbered-answer.new.self c.bring_numbered-answer.ensures.looks
 
 pub returns-clause-consistent : goal.returns-clause-consistent
-returns-clause-consistent g c = consistent g.D.Disk c.bring_numbered-answer.new.self c.is_an_archive.ensures
+returns-clause-consistent g c = c.shows_its_book.ensures.consistent
 
 pub returns-clause-reading : goal.returns-clause-reading
 returns-clause-reading g c = λ alone. c.bring_numbered-answer.ensures.looks.reading
@@ -34,5 +26,8 @@ returns-clause-moves g c = c.bring_numbered-answer.ensures.looks.quiet.moves
 pub returns-clause-covered : goal.returns-clause-covered
 returns-clause-covered g c = c.bring_numbered-answer.ensures.looks.quiet.covered
 
+pub returns-clause-kept : goal.returns-clause-kept
+returns-clause-kept g c = c.bring_numbered-answer.ensures.looks.quiet.kept
+
 pub returns-clause-between : goal.returns-clause-between
-returns-clause-between g c = opens_next g.D.Disk (disk_laws g) (disk_of c.bring_numbered-answer.new.self.journal) c.bring_numbered-answer.new.self.book c.is_an_archive.ensures.holds.near
+returns-clause-between g c = c.shows_its_book.ensures.next

@@ -1,20 +1,13 @@
 -- Each clause is one of an archive's store, or holds of an archive at each call.
-use Rattle.archive_volumes.proofs.ChangeLaws.{DiskLaws}
-use Rattle.archive_core.proofs.NextLaws.{opens_next}
-use Rattle.archive_core.proofs.ShelfLaws.{consistent}
 use Rattle.warc_journal.specs.Journals.{disk_of}
-use Rattle.archive_core.proofs.shelf.ArchiveShelf.store.Given.{Over}
+use Rattle.archive_core.proofs.ShelfLaws.{just_read}
 use Rattle.archive_core.proofs.shelf.ArchiveShelf.store.Goals as goal
-
--- what is asked of the disk
-disk_laws : (g : Over) → DiskLaws g.D.Disk
-disk_laws g = record { earlier = g.met.D.Disk.earlier; now_counts = g.met.D.Disk.now_counts; now_only = g.met.D.Disk.now_only }
 
 pub returns-clause-leaves : goal.returns-clause-leaves
 returns-clause-leaves g c = c.store_new-answer.ensures.leaves
 
 pub returns-clause-consistent : goal.returns-clause-consistent
-returns-clause-consistent g c = consistent g.D.Disk c.store_new-answer.new.self c.is_an_archive.ensures
+returns-clause-consistent g c = c.shows_its_book.ensures.consistent
 
 pub returns-clause-reading : goal.returns-clause-reading
 returns-clause-reading g c = λ alone. c.store_new-answer.ensures.reading
@@ -40,5 +33,13 @@ returns-clause-quiet g c = c.store_new-answer.ensures.opens.quiet
 pub returns-clause-covered : goal.returns-clause-covered
 returns-clause-covered g c = c.store_new-answer.ensures.opens.covered
 
+pub returns-clause-kept : goal.returns-clause-kept
+returns-clause-kept g c = c.store_new-answer.ensures.opens.kept
+
+pub returns-clause-just : goal.returns-clause-just
+returns-clause-just g c = λ alone told.
+    just_read g.D.Disk (disk_of c.store_new-answer.new.self.journal) c.store_new-answer.new.self.book c.store_new-answer.result told
+    (g.met.D.Disk.reading_is_image (disk_of c.store_new-answer.new.self.journal) told) c.store_new-answer.ensures.opens.just
+
 pub returns-clause-between : goal.returns-clause-between
-returns-clause-between g c = opens_next g.D.Disk (disk_laws g) (disk_of c.store_new-answer.new.self.journal) c.store_new-answer.new.self.book c.is_an_archive.ensures.holds.near
+returns-clause-between g c = c.shows_its_book.ensures.next
