@@ -62,7 +62,7 @@ takes_alike (x ∷ xs) [] (suc k) same = let first : None ≡ Some x = same 0 (o
 takes_alike (x ∷ xs) (y ∷ ys) (suc k) same =
     ap₂ (λ (a : Volume) (l : List Volume). a ∷ l) (same_Some y x (same 0 (omega arith))) (takes_alike xs ys k (λ j less. same (suc j) (omega (arith, less))))
 
-first_stays : (old new : Book) (k : ℕ) → Grows old new → k < length old.volumes → first_number new k ≡ first_number old k
+pub first_stays : (old new : Book) (k : ℕ) → Grows old new → k < length old.volumes → first_number new k ≡ first_number old k
 first_stays old new k grow within =
     ap (λ (l : List Volume). length (captures_in l)) (takes_alike old.volumes new.volumes k (λ j less. grow.sealed j (omega (arith, less, within))))
 

@@ -72,7 +72,7 @@ one_front one book k p t u a b =
 
 -- ---- a capture has one entry
 
-one_entry : NumbersHaveOneGroup → (book : Book) (number : ℕ) (e f : Facts) → IsEntryOf book number e → IsEntryOf book number f → e ≡ f
+pub one_entry : NumbersHaveOneGroup → (book : Book) (number : ℕ) (e f : Facts) → IsEntryOf book number e → IsEntryOf book number f → e ≡ f
 one_entry one book number e f a b =
     let g = one book number a.text b.text a.group b.group in
     let parsed : IsResponseHeadText b.group.stored.head a.head = subst (λ (s : Stored). IsResponseHeadText s.head a.head) g.stored a.parsed in
