@@ -1,0 +1,7 @@
+pub mod Behind
+pub mod Cutting
+pub mod Missing
+pub mod PuttingLaws
+pub mod ReadingLaws
+pub mod VolumeLaws
+pub mod WritingLaws

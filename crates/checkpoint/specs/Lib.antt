@@ -1,0 +1,6 @@
+pub mod Checkpoints
+pub mod Faults
+pub mod OfVolume
+pub mod Putting
+pub mod Reading
+pub mod steps

@@ -1,0 +1,3 @@
+-- What only proofs read.
+pub mod Lines
+pub mod Texts

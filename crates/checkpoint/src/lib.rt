@@ -1,0 +1,18 @@
+//! Checkpoints: the CDXJ lines of a volume's captures in a file beside it, which is finished or counts for nothing.
+#![tactic(auto)]
+
+mod bytes;
+mod fault;
+mod file;
+mod laws;
+mod lines;
+mod order;
+mod parse;
+mod reading;
+mod typed;
+mod writing;
+
+pub use fault::CheckpointFault;
+pub use laws::{checkpoints_have_one_list_of_lines, volumes_have_one_list_of_lines};
+pub use reading::read_for;
+pub use writing::write_for;
