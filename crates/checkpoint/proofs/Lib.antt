@@ -1,5 +1,6 @@
 pub mod Behind
 pub mod Cutting
+pub mod LeftLaws
 pub mod Missing
 pub mod PuttingLaws
 pub mod ReadingLaws

@@ -13,6 +13,9 @@ mod typed;
 mod writing;
 
 pub use fault::CheckpointFault;
-pub use laws::{checkpoints_have_one_list_of_lines, volumes_have_one_list_of_lines};
+pub use laws::{
+    checkpoints_have_one_list_of_lines, volumes_have_one_list_of_lines,
+    writing_leaves_what_is_given,
+};
 pub use reading::read_for;
 pub use writing::write_for;
