@@ -8,7 +8,7 @@ use Rattle.std.proofs.lemmas.List.Elements.{All-nil}
 use Rattle.cdxj_line.specs.Lines.{HasTypes, IsLine, IsWritable, line_text}
 use Rattle.cdxj_line.specs.declared.line.Line.{Line}
 use Rattle.checkpoint.specs.Checkpoints.{CheckpointsHaveOneListOfLines, IsCheckpoint, checkpoint_text, first_line, line_order, lines_text}
-use Rattle.checkpoint.specs.Reading.{IsReadAs}
+use Rattle.checkpoint.specs.Reading.{IsNoCheckpoint}
 use Rattle.checkpoint.specs.steps.Lines.{CanFollow, IsAtFront, IsNextLine}
 use Rattle.checkpoint.proofs.Behind.{all_at, all_more, behind_from, sorted_more, sorted_none}
 use Rattle.checkpoint.proofs.Cutting.{GoesOn, all_lines, cut_same, line_is_long, none_left}
@@ -56,7 +56,7 @@ front_shorter line behind rest front =
     omega (arith, line_is_long line front.is, ap (λ (t : List ℕ). length t) front.text_is, length-append (line_text line) behind)
 
 -- without the first line there is no checkpoint
-pub no_first_line : (volume : ℕ) (bytes : List ℕ) → ((rest : List ℕ) → bytes ≢ first_line ++ rest) → IsReadAs volume bytes None
+pub no_first_line : (volume : ℕ) (bytes : List ℕ) → ((rest : List ℕ) → bytes ≢ first_line ++ rest) → IsNoCheckpoint volume bytes
 unfolding checkpoint_text
 no_first_line volume bytes none = λ lines is. none (lines_text lines) is.text
 
@@ -80,7 +80,7 @@ by_rest volume bytes lines all (l ∷ ls) rest some none is whole left =
 
 -- where no line can follow on what was read there is no checkpoint
 pub no_next_line : (volume : ℕ) (bytes : List ℕ) (lines : List Line) (rest : List ℕ) → IsReadSoFar volume bytes lines rest → 0 < length rest
-    → IsNextLine volume lines rest None → IsReadAs volume bytes None
+    → IsNextLine volume lines rest None → IsNoCheckpoint volume bytes
 no_next_line volume bytes lines rest so_far some none = λ all is.
     let on = lines_on volume bytes lines all rest so_far is in
     by_rest volume bytes lines all on.more rest some none is on.whole on.left
@@ -94,12 +94,12 @@ all_read volume bytes lines all so_far is =
     ∙ append-nil lines
 
 -- without lines there is no checkpoint
-pub no_lines : (volume : ℕ) (bytes : List ℕ) (lines : List Line) (rest : List ℕ) → IsReadSoFar volume bytes lines rest → length rest ≡ 0 → length lines ≡ 0 → IsReadAs volume bytes None
+pub no_lines : (volume : ℕ) (bytes : List ℕ) (lines : List Line) (rest : List ℕ) → IsReadSoFar volume bytes lines rest → length rest ≡ 0 → length lines ≡ 0 → IsNoCheckpoint volume bytes
 no_lines volume bytes lines [] so_far ended empty = λ all is. omega (arith, ap (λ (xs : List Line). length xs) (all_read volume bytes lines all so_far is), is.fit.some, empty)
 no_lines volume bytes lines (b ∷ rest) so_far ended empty = absurd (omega (arith, ended))
 
 -- and else it is one
-pub is_whole : (volume : ℕ) (bytes : List ℕ) (lines : List Line) (rest : List ℕ) → IsReadSoFar volume bytes lines rest → length rest ≡ 0 → 0 < length lines → IsReadAs volume bytes (Some lines)
+pub is_whole : (volume : ℕ) (bytes : List ℕ) (lines : List Line) (rest : List ℕ) → IsReadSoFar volume bytes lines rest → length rest ≡ 0 → 0 < length lines → IsCheckpoint volume lines bytes
 unfolding checkpoint_text
 is_whole volume bytes lines [] so_far ended some = record {
   typed = so_far.typed;

@@ -1,14 +1,14 @@
 //! The lines that stand in a checkpoint's text.
-ghost use Rattle.std.specs.Prelude.{◌≡◌, ◌≢◌, ◌↔◌, ◌++◌, ℕ, List, IfOk, IfSome, IfNone, IsTrue};
+ghost use Rattle.std.specs.Prelude.{◌≡◌, ◌≢◌, ◌↔◌, ◌++◌, ℕ, List, IfOk, IfSome, IfNone, IsTrue, MatchOption};
 ghost use Rattle.cdxj_line.specs.Lines.{HasTypes};
-ghost use Rattle.checkpoint.specs.Checkpoints.{first_line};
-ghost use Rattle.checkpoint.specs.Reading.{IsReadAs};
+ghost use Rattle.checkpoint.specs.Checkpoints.{AreLinesFor, IsCheckpoint, first_line};
+ghost use Rattle.checkpoint.specs.Reading.{IsNoCheckpoint};
 ghost use Rattle.checkpoint.specs.steps.Lines.{CanFollow, IsNextLine, is_behind};
 
 use crate::lines::FIRST_LINE;
 use crate::order::comes_before;
 use crate::typed::is_typed;
-use capture::{Items, Memory};
+use capture::Memory;
 use cdxj_line::{Line, read_line};
 use memchr::memchr;
 use std::alloc::Global;
@@ -18,8 +18,9 @@ pub(crate) fn lines_of(
     alloc: Global,
     volume: u32,
     bytes: &[u8],
-) -> Result<Option<Items<Line>>, Memory>
-    ensures { IfOk result (IsReadAs volume bytes.now) }
+) -> Result<Option<Vec<Line>>, Memory>
+    ensures whole { IfOk result (λ read. MatchOption read (IsNoCheckpoint volume bytes.now) (λ lines. IsCheckpoint volume lines.items bytes.now)) }
+    ensures fit { IfOk result (λ read. IfSome read (λ lines. AreLinesFor volume lines.items)) }
 {
     let Some(mut rest) = behind_first_line(bytes) else {
         return Ok(None);
@@ -35,7 +36,7 @@ pub(crate) fn lines_of(
     if lines.is_empty() {
         return Ok(None);
     }
-    Ok(Some(Items::of(lines)))
+    Ok(Some(lines))
 }
 
 /// What stands behind the first line of a checkpoint.

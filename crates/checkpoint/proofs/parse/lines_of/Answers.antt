@@ -1,21 +1,20 @@
-use Rattle.std.proofs.Common.{List, Some, length, sym, subst, arith}
+use Rattle.std.proofs.Common.{List, length, sym, subst, arith}
 use Rattle.std.specs.Vec.{vec_len}
 use Rattle.cdxj_line.specs.declared.line.Line.{Line}
-use Rattle.checkpoint.specs.Reading.{IsReadAs}
 use Rattle.checkpoint.specs.steps.Lines.{IsNextLine}
 use Rattle.checkpoint.proofs.ReadingLaws.{IsReadSoFar, begins, front_shorter, goes_on_by, is_whole, next_none, next_some, no_first_line, no_lines, no_next_line, none_if, some_if}
 use Rattle.checkpoint.proofs.parse.lines_of.Goals as goal
 
-pub returns-in_default : goal.returns-in_default
-returns-in_default c = no_first_line c.args.volume c.args.bytes.now c.in_default.ensures.none
+pub returns-in_default-clause-whole : goal.returns-in_default-clause-whole
+returns-in_default-clause-whole c = no_first_line c.args.volume c.args.bytes.now c.in_default.ensures.none
 
 pub loop-rest-init : goal.loop-rest-init
 loop-rest-init c =
     subst (λ (xs : List Line). IsReadSoFar c.args.volume c.args.bytes.now xs c.in-Some.rest.now) (sym c.new-lines.ensures.items)
     (begins c.args.volume c.args.bytes.now c.in-Some.rest.now c.in-Some.ensures.some)
 
-pub returns-in_default-2 : goal.returns-in_default-2
-returns-in_default-2 c =
+pub returns-in_default-2-clause-whole : goal.returns-in_default-2-clause-whole
+returns-in_default-2-clause-whole c =
     no_next_line c.args.volume c.args.bytes.now c.loop-rest.lines.items c.loop-rest.rest.now c.loop-rest.invariant
     (some_if (length c.loop-rest.rest.now) c.is_empty.result c.is_empty.ensures c.loop-rest-test.true)
     (next_none c.args.volume c.loop-rest.lines.items c.loop-rest.rest.now c.in_ok-line.field-0 (λ x e. c.in_default-2.not-Some x e)
@@ -34,17 +33,23 @@ loop-rest-preserved c =
     subst (λ (xs : List Line). IsReadSoFar c.args.volume c.args.bytes.now xs c.in-Some-2.behind.now) (sym c.in_ok-push.ensures.items)
     (goes_on_by c.args.volume c.args.bytes.now c.loop-rest.lines.items c.loop-rest.rest.now c.in-Some-2.line c.in-Some-2.behind.now c.loop-rest.invariant step.0 step.1)
 
-pub returns-then-is_empty : goal.returns-then-is_empty
-returns-then-is_empty c =
+pub returns-then-is_empty-clause-whole : goal.returns-then-is_empty-clause-whole
+returns-then-is_empty-clause-whole c =
     no_lines c.args.volume c.args.bytes.now c.loop-rest.lines.items c.loop-rest.rest.now c.loop-rest.invariant
     (none_if (length c.loop-rest.rest.now) c.is_empty.result c.is_empty.ensures c.loop-rest-test.false)
     (let none = none_if (vec_len c.loop-rest.lines) c.is_empty-2.result c.is_empty-2.ensures c.if-is_empty.true in
     omega (arith, none, c.loop-rest.lines.ok.0))
 
-pub returns : goal.returns
-returns c =
-    subst (λ (xs : List Line). IsReadAs c.args.volume c.args.bytes.now (Some xs)) (sym c.of.ensures)
+pub returns-clause-whole : goal.returns-clause-whole
+returns-clause-whole c =
+    is_whole c.args.volume c.args.bytes.now c.loop-rest.lines.items c.loop-rest.rest.now c.loop-rest.invariant
+    (none_if (length c.loop-rest.rest.now) c.is_empty.result c.is_empty.ensures c.loop-rest-test.false)
+    (let some = some_if (vec_len c.loop-rest.lines) c.is_empty-2.result c.is_empty-2.ensures c.if-is_empty.false in
+    omega (arith, some, c.loop-rest.lines.ok.0))
+
+pub returns-clause-fit : goal.returns-clause-fit
+returns-clause-fit c =
     (is_whole c.args.volume c.args.bytes.now c.loop-rest.lines.items c.loop-rest.rest.now c.loop-rest.invariant
     (none_if (length c.loop-rest.rest.now) c.is_empty.result c.is_empty.ensures c.loop-rest-test.false)
     (let some = some_if (vec_len c.loop-rest.lines) c.is_empty-2.result c.is_empty-2.ensures c.if-is_empty.false in
-    omega (arith, some, c.loop-rest.lines.ok.0)))
+    omega (arith, some, c.loop-rest.lines.ok.0))).fit
