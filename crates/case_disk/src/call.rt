@@ -17,6 +17,10 @@ pub enum Call<'a> {
     Write(Kind, u32, u64, &'a [u8]),
     /// Each byte is written by a call of its own.
     WriteEach(Kind, u32, u64, &'a [u8]),
+    /// The checkpoint of a volume is read.
+    ReadCheckpoint(u32),
+    /// The checkpoint of a volume is written, which has this text.
+    WriteCheckpoint(u32, &'a [u8]),
     /// The counts of the disk are told.
     Counts,
     /// So many further calls pass, and each behind them fails.
@@ -37,9 +41,17 @@ impl<'a> Call<'a> {
             "fuse" => Some(Call::Fuse(number_in(text)?)),
             "half-make" => Some(Call::HalfMake),
             "stop" => stop_in(text),
+            "read-checkpoint" => Some(Call::ReadCheckpoint(small_in(text)?)),
+            "write-checkpoint" => checkpoint_in(text),
             _ => call_of_file(name, text),
         }
     }
+}
+
+/// A checkpoint that is written: the number of its volume, and its text.
+fn checkpoint_in<'a>(text: &'a [u8]) -> Option<Call<'a>> {
+    let (volume, rest) = split_front(text)?;
+    Some(Call::WriteCheckpoint(small_in(volume)?, rest))
 }
 
 /// A call of a file, or a file that is put.

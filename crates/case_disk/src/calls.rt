@@ -2,10 +2,10 @@
 use crate::call::Call;
 use crate::deed::Deed;
 use crate::disk::{DiskSetting, behind_volumes, set};
-use crate::looked;
 use crate::outcome::Outcome;
 use crate::reaching::Absent;
 use crate::told::Told;
+use crate::{checkpoints, looked};
 use capture::Memory;
 use disk_model::{Kind, MemoryDisk};
 use std::alloc::Global;
@@ -80,6 +80,8 @@ fn told(alloc: Global, disk: &mut MemoryDisk, call: Call) -> Result<Told, Memory
         Call::Read(kind, file, at, len) => looked::read(alloc, disk, kind, file, at, len),
         Call::Write(kind, file, at, bytes) => Ok(looked::write(disk, kind, file, at, bytes)),
         Call::WriteEach(kind, file, at, bytes) => Ok(write_each(disk, kind, file, at, bytes)),
+        Call::ReadCheckpoint(volume) => checkpoints::read(alloc, disk, volume),
+        Call::WriteCheckpoint(volume, text) => checkpoints::write(alloc, disk, volume, text),
         Call::Counts => looked::counts(alloc, disk),
         Call::Fuse(_) => Ok(Told::Nothing),
         Call::HalfMake => Ok(Told::Nothing),

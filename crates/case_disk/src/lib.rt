@@ -4,6 +4,7 @@
 
 mod call;
 mod calls;
+mod checkpoints;
 mod deed;
 mod disk;
 mod group;

@@ -14,6 +14,8 @@ pub enum Told {
     DiskFault,
     /// The call wasn't made, since the file or the range isn't there.
     Absent(Absent),
+    /// There is no finished checkpoint of the volume.
+    NoCheckpoint,
     /// The step is no call.
     Nothing,
 }
@@ -28,6 +30,7 @@ impl Told {
             Told::DiskFault => outcome.put_answer(alloc, b"DiskFault"),
             Told::Absent(Absent::File) => outcome.put_answer(alloc, b"NoFile"),
             Told::Absent(Absent::Range) => outcome.put_answer(alloc, b"NoRange"),
+            Told::NoCheckpoint => outcome.put_answer(alloc, b"none"),
             Told::Nothing => Ok(()),
         }
     }
