@@ -6,7 +6,7 @@ use Rattle.cdxj_index.specs.Facts.{Facts}
 use Rattle.cdxj_index.specs.OfLine.{line_at}
 use Rattle.cdxj_line.specs.Lengths.{capped}
 use Rattle.cdxj_line.specs.Lines.{line_text, object_text}
-use Rattle.cdxj_line.specs.Written.{first_members, further_member, last_members, member_text, number_members}
+use Rattle.cdxj_line.specs.steps.Written.{first_members, further_member, last_members, member_text, number_members}
 use Rattle.cdxj_line.specs.declared.line.Line.{Line}
 use Rattle.cdxj_line.proofs.Objects.{object_pieces}
 use Rattle.json.specs.Print.{escape, escape_byte, quoted}
