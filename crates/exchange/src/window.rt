@@ -7,8 +7,8 @@ use outside::Link;
 use std::alloc::Global;
 use std::marker::Model;
 
-/// How many bytes a window holds at most.
-const WINDOW_LEN: usize = 65_536;
+/// How many bytes a window holds at most. A connection has two, the client's and that of its origins: 64 KiB in all.
+const WINDOW_LEN: usize = 32_768;
 
 /// A buffer between a link and what reads it, which serves one message after the other. A contract sees the bytes that
 /// nobody has used yet.
