@@ -3,7 +3,7 @@ use Rattle.std.proofs.Common.{◌≡◌, ◌≢◌, ℕ, ◌+◌, ◌-◌, ◌^�
 use Rattle.std.proofs.lemmas.List.{get_or_push, length-set, length_push}
 use Rattle.capture.specs.Captures.{captures}
 use Rattle.disk_model.specs.Image.{Image}
-use Rattle.disk_model.specs.Moments.{joined}
+use Rattle.disk_model.proofs.MomentLaws.{joined}
 use Rattle.disk_model.specs.declared.disk.Disk.{Ghosts}
 use Rattle.disk_model.specs.declared.kind.Kind.TheVariants.{Warc}
 use Rattle.volume_scan.specs.Books.{AreFronts, BeginsWith, DamagedFilesStandForNoBook, FilesBeginWithWhatWasRead}

@@ -7,7 +7,7 @@ use Rattle.capture.specs.declared.book.Book.{Book}
 use Rattle.capture.specs.declared.book.Volume.{Volume}
 use Rattle.disk_model.specs.Crash.{Leaves}
 use Rattle.disk_model.specs.Image.{Image}
-use Rattle.disk_model.specs.Moments.{none_added}
+use Rattle.disk_model.proofs.MomentLaws.{none_added}
 use Rattle.disk_model.specs.declared.disk.Disk.{Ghosts}
 use Rattle.volume_scan.specs.Scannings.{disk_of, position_of}
 use Rattle.volume_scan.specs.declared.scanning.Scanning.{Scanning}

@@ -1,7 +1,7 @@
 -- A file that was made is there, and stays there when it is written.
 use Rattle.std.proofs.Common.{◌≡◌, ℕ, ◌<◌, List, ap, ◌∙◌, arith}
 use Rattle.disk_model.specs.Image.{Image, file_count, with_file, with_new}
-use Rattle.disk_model.specs.ImageLaws.{file_count-with_file, file_count-with_new}
+use Rattle.disk_model.specs.steps.ImageLaws.{file_count-with_file, file_count-with_new}
 use Rattle.disk_model.specs.declared.kind.Kind.{Kind}
 
 pub is_there : (old new : Image) (kind : Kind) (file : ℕ) → file ≡ file_count old kind → new ≡ with_new old kind → file < file_count new kind

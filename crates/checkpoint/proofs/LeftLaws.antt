@@ -2,7 +2,7 @@
 use Rattle.std.proofs.Common.{◌≤◌, ℕ, List, length, refl, ap, subst, inl, inr, ⊎_elim, arith}
 use Rattle.capture.specs.Tails.{IsRest}
 use Rattle.disk_model.specs.Image.{Image}
-use Rattle.disk_model.specs.Moments.{now_has}
+use Rattle.disk_model.proofs.MomentLaws.{now_has}
 use Rattle.disk_model.specs.declared.disk.Disk.{Ghosts}
 use Rattle.cdxj_line.specs.declared.line.Line.{Line}
 use Rattle.checkpoint.specs.Checkpoints.{IsCheckpoint, checkpoint_of}

@@ -5,12 +5,13 @@ use Rattle.std.proofs.lemmas.List.{length_push}
 use Rattle.capture.specs.Tails.{IsRest}
 use Rattle.disk_model.specs.Crash.{Elapses, HasFile, Leaves, MayCreate, Stepped, Within}
 use Rattle.disk_model.specs.Image.{Image, file_count, file_of, files_of, with_file, with_new}
-use Rattle.disk_model.specs.ImageLaws.{file_count-with_file, file_of-with_file, file_of-with_file_number, files_of-with_file_kind, files_of-with_new, files_of-with_new_kind}
-use Rattle.disk_model.specs.Moments.{AddsOnly, goes_on, joined, none_added, weakened}
+use Rattle.disk_model.specs.steps.ImageLaws.{file_count-with_file, file_of-with_file, file_of-with_file_number, files_of-with_file_kind, files_of-with_new, files_of-with_new_kind}
+use Rattle.disk_model.specs.Moments.{AddsOnly}
+use Rattle.disk_model.proofs.MomentLaws.{goes_on, joined, none_added, weakened}
 use Rattle.disk_model.specs.declared.disk.Disk.{Ghosts}
 use Rattle.disk_model.specs.declared.kind.Kind.TheVariants.{Warc, Cdxj}
 use Rattle.gated_file.specs.Files.{HoldsAfter, HoldsEither, IsAdded, IsEither, KeepsText, text_of}
-use Rattle.gated_file.specs.RewriteLaws.{rewritten_has, rewritten_there}
+use Rattle.gated_file.proofs.RewriteLaws.{rewritten_has, rewritten_there}
 use Rattle.gated_file.specs.declared.file.GatedFile.{GatedFile}
 use Rattle.warc_journal.specs.Extents.{warc_files}
 use Rattle.checkpoint.specs.Checkpoints.{checkpoint_of}

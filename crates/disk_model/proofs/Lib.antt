@@ -1,3 +1,4 @@
+pub mod MomentLaws
 mod Pending
 mod Steps
 mod Stops

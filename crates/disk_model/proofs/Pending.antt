@@ -1,6 +1,7 @@
 -- Whether each change is pending, by its place.
 use Rattle.std.proofs.Common.{◌≡◌, ◌<◌, ℕ, zero, suc, Bool, List, [], ◌∷◌, length, get_or, drop, refl, ap, arith}
-use Rattle.disk_model.specs.Changes.{is_pending, pending_of}
+use Rattle.disk_model.specs.Changes.{is_pending}
+use Rattle.disk_model.specs.steps.Pending.{pending_of}
 use Rattle.disk_model.specs.declared.change.Change.{Change}
 
 pub length-pending_of : (changes : List Change) → length (pending_of changes) ≡ length changes

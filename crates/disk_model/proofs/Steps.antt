@@ -1,12 +1,12 @@
 -- What a call that changes nothing of a disk in memory keeps, and what a change of it does.
 use Rattle.std.proofs.Common.{◌≡◌, ◌<◌, ℕ, List, [], ◌∷◌, ◌++◌, length, refl, sym, ap, ◌∙◌, subst, arith, inl, inr, ⊎_elim}
 use Rattle.disk_model.specs.Changes.{done, replayed, left_by, may_leave, left_since}
-use Rattle.disk_model.specs.ChangesLaws.{replayed-push, left_after-push, half_may_create, elapses-push}
+use Rattle.disk_model.specs.steps.ChangesLaws.{replayed-push, left_after-push, half_may_create, elapses-push}
 use Rattle.disk_model.specs.Crash.{OnFile, MayCreate, HasFile, Follows, Stepped, Elapses}
-use Rattle.disk_model.specs.CrashLaws.{elapses_weaker, on_file_none}
+use Rattle.disk_model.specs.steps.CrashLaws.{elapses_weaker, on_file_none}
 use Rattle.disk_model.specs.Device.{Device, IsFailedCreate, reading_of, images_of, moment_of, images_since_of}
 use Rattle.disk_model.specs.Image.{Image, file_count, file_of, with_new}
-use Rattle.disk_model.specs.ImageLaws.{file_count-with_new, file_of-with_new}
+use Rattle.disk_model.specs.steps.ImageLaws.{file_count-with_new, file_of-with_new}
 use Rattle.disk_model.specs.declared.kind.Kind.{Kind}
 use Rattle.disk_model.specs.declared.change.Change.{Change}
 use Rattle.disk_model.specs.declared.change.Change.TheVariants.{Made, HalfMade, Synced}

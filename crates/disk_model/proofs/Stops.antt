@@ -3,11 +3,11 @@ use Rattle.std.proofs.Common.{◌≡◌, ◌<◌, ◌≤◌, ◌+◌, ◌-◌, �
 use Rattle.std.specs.List.{list_any}
 use Rattle.std.proofs.lemmas.Bool.{cases_lt, cases_eq, eq-eqb, eqb-true, le-leb, leb-true, leb-false}
 use Rattle.disk_model.specs.Image.{Image, IsApart, file_count, file_of, with_file, with_new, written}
-use Rattle.disk_model.specs.ImageLaws.{file_of-with_file, file_count-with_file, file_count-with_new, file_count-with_new_kind, with_file_past, with_file-file_of, same_or_apart, same_kind_or_other, others_stay, bytes_stay}
+use Rattle.disk_model.specs.steps.ImageLaws.{file_of-with_file, file_count-with_file, file_count-with_new, file_count-with_new_kind, with_file_past, with_file-file_of, same_or_apart, same_kind_or_other, others_stay, bytes_stay}
 use Rattle.disk_model.specs.Crash.{Torn, Cut}
-use Rattle.disk_model.specs.CrashLaws.{torn_none, torn_written, cut_none, cut_done, on_file_none}
+use Rattle.disk_model.specs.steps.CrashLaws.{torn_none, torn_written, cut_none, cut_done, on_file_none}
 use Rattle.disk_model.specs.Changes.{done, replayed, left_by, left_after, may_leave, is_kind, is_sync_of, keeps_file, is_pending, durable_changes, torn_changes, stopped_changes}
-use Rattle.disk_model.specs.ChangesLaws.{replayed_is_left, on_if, fewer-with_new, fewer-half, half_bytes, half_may_create, half_past, half_count, half_count_kind, half_grows}
+use Rattle.disk_model.specs.steps.ChangesLaws.{replayed_is_left, on_if, fewer-with_new, fewer-half, half_bytes, half_may_create, half_past, half_count, half_count_kind, half_grows}
 use Rattle.disk_model.specs.declared.kind.Kind.{Kind}
 use Rattle.disk_model.specs.declared.kind.Kind.TheVariants.{Warc, Cdxj}
 use Rattle.disk_model.specs.declared.change.Change.{Change}

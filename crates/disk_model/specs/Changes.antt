@@ -1,6 +1,6 @@
 -- A record of changes and syncs: what a read gives after it, what a crash may leave after it, and what a disk that
 -- is stopped is left with.
-use Rattle.std.specs.Prelude.{◌≡◌, ◌<◌, ◌≤◌, ℕ, zero, suc, ◌-◌, Bool, true, false, not, ◌&&◌, ◌==◌, nat_le, if◌then◌else◌, Option, Some, None, List, [], ◌∷◌, ◌++◌, length, take}
+use Rattle.std.specs.Prelude.{◌≡◌, ◌<◌, ◌≤◌, ℕ, zero, suc, ◌-◌, Bool, true, false, not, ◌&&◌, ◌==◌, nat_le, if◌then◌else◌, List, [], ◌∷◌, ◌++◌, length, take}
 use Rattle.std.specs.List.{list_any}
 use Rattle.disk_model.specs.Image.{Image, file_count, file_of, with_file, with_new, written}
 use Rattle.disk_model.specs.Crash.{Torn, Cut, OnFile, MayCreate}
@@ -98,13 +98,3 @@ abbrev pub stopped_changes : ℕ → List Change → List Change
 stopped_changes zero changes = durable_changes changes
 stopped_changes (suc zero) changes = changes
 stopped_changes (suc (suc budget)) changes = torn_changes budget changes
-
--- the changes of a stop where the pending ones are made for so many bytes, or not at all
-abbrev pub kept_changes : Option ℕ → List Change → List Change
-kept_changes None changes = durable_changes changes
-kept_changes (Some budget) changes = torn_changes budget changes
-
--- whether each change is pending
-abbrev pub pending_of : List Change → List Bool
-pending_of [] = []
-pending_of (change ∷ later) = is_pending change later ∷ pending_of later

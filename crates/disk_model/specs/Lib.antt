@@ -1,9 +1,7 @@
 pub mod Changes
-pub mod ChangesLaws
 pub mod Crash
-pub mod CrashLaws
 pub mod Device
 pub mod Image
-pub mod ImageLaws
+pub mod Laws
 pub mod Moments
-pub mod Synced
+pub mod steps

@@ -2,7 +2,7 @@
 ghost use Rattle.std.specs.Prelude.{◌≡◌, ◌<◌, ◌≤◌, ◌↔◌, ◌+◌, ◌-◌, ◌^◌, [], ◌∷◌, ◌++◌, ◌⊎◌, Some, true, drop, length, min, sum_by, take, IfSome, IsSome, IfOk, IfErr, IsErr, IsTrue, OnOk, OnErr};
 ghost use Rattle.capture.specs.Faults.{CountsFaults};
 ghost use Rattle.disk_model.specs.Changes.{done, replayed, stopped_changes};
-ghost use Rattle.disk_model.specs.ChangesLaws.{replayed_is_left, no_more_left, left_now, left_only_now, left_earlier};
+ghost use Rattle.disk_model.specs.steps.ChangesLaws.{replayed_is_left, no_more_left, left_now, left_only_now, left_earlier};
 ghost use Rattle.disk_model.specs.Crash.{Torn, Cut, OnFile, MayCreate, HasFile, Within, Follows, Stepped, Leaves, Elapses};
 ghost use Rattle.disk_model.specs.Device.{Device, new_device, reading_of, images_of, moment_of, images_since_of, is_to_fail, called, read_called, faulted, changed, half_made, stopped, IsFailedCreate};
 ghost use Rattle.disk_model.specs.Image.{file_count, files_of, file_of, with_file, with_new, written};

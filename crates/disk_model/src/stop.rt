@@ -1,6 +1,7 @@
 //! What a disk in memory holds after it is stopped.
 ghost use Rattle.std.specs.Prelude.{◌≡◌, ◌++◌, ◌∷◌, [], List, true, Option, Some, IfOk};
-ghost use Rattle.disk_model.specs.Changes.{is_pending, kept_changes, replayed, torn_changes};
+ghost use Rattle.disk_model.specs.Changes.{is_pending, replayed, torn_changes};
+ghost use Rattle.disk_model.specs.steps.Pending.{kept_changes};
 ghost use Rattle.disk_model.specs.declared.change.Change.{Change};
 
 use crate::change::Change;

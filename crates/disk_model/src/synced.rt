@@ -1,8 +1,9 @@
 //! Which changes of a record are durable, found in one pass from its end.
 ghost use Rattle.std.specs.Prelude.{◌≡◌, ◌||◌, ◌&&◌, ◌==◌, ℕ, [], ◌∷◌, false, get_or, IfOk, OnOk};
 ghost use Rattle.std.specs.List.{list_any};
-ghost use Rattle.disk_model.specs.Changes.{is_kind, is_pending, keeps_file, pending_of};
-ghost use Rattle.disk_model.specs.Synced.{is_marked, Marks};
+ghost use Rattle.disk_model.specs.Changes.{is_kind, is_pending, keeps_file};
+ghost use Rattle.disk_model.specs.steps.Pending.{pending_of};
+ghost use Rattle.disk_model.specs.steps.Synced.{is_marked, Marks};
 ghost use Rattle.disk_model.specs.declared.kind.Kind.{Kind};
 
 use crate::Kind;

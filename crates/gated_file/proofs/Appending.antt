@@ -2,14 +2,15 @@
 use Rattle.std.proofs.Common.{◌≡◌, ◌⊎◌, ◌<◌, ◌≤◌, ◌+◌, ℕ, false, List, [], ◌++◌, length, take, sym, ap, ◌∙◌, subst, inl, inr, ⊎_elim, arith, length-append}
 use Rattle.std.proofs.lemmas.List.{append-nil, length-take-le, take_all}
 use Rattle.disk_model.specs.Image.{Image, file_count, with_file}
-use Rattle.disk_model.specs.ImageLaws.{with_file-with_file}
-use Rattle.disk_model.specs.Moments.{AddsOnly, joined, weakened}
+use Rattle.disk_model.specs.steps.ImageLaws.{with_file-with_file}
+use Rattle.disk_model.specs.Moments.{AddsOnly}
+use Rattle.disk_model.proofs.MomentLaws.{joined, weakened}
 use Rattle.capture.specs.Tails.{HoldsText}
 use Rattle.gated_file.specs.Files.{HoldsAfter, HoldsBefore, HoldsEither, IsEnded, Rewrites, bytes_of, text_of}
 use Rattle.gated_file.specs.declared.file.GatedFile.{GatedFile}
 use Rattle.gated_file.proofs.Bytes.{holds_alone}
 use Rattle.gated_file.proofs.Mending.{left_now}
-use Rattle.gated_file.specs.RewriteLaws.{bytes_after, rewritten_has, rewritten_there, rewrites_twice, rewrites_weaker}
+use Rattle.gated_file.proofs.RewriteLaws.{bytes_after, rewritten_has, rewritten_there, rewrites_twice, rewrites_weaker}
 
 module _ {D : Type 0} (moment : D → ℕ) (images_since : D → ℕ → Image → Type 0) (images : D → Image → Type 0) (reading : D → Image)
     (counts : (d : D) (t : ℕ) (i : Image) → t ≤ moment d → images d i → images_since d t i)

@@ -3,7 +3,7 @@ use Rattle.std.proofs.Common.{◌≡◌, ◌≢◌, ◌⊎◌, ◌<◌, ◌≤�
 use Rattle.std.proofs.lemmas.Bool.{cases_eq, cases_lt}
 use Rattle.std.proofs.lemmas.List.{append-nil, length_push, length-take-le, nil_from_length, take_all, take_at, take-take, drop_at}
 use Rattle.disk_model.specs.Crash.{Torn, Cut}
-use Rattle.disk_model.specs.CrashLaws.{torn_before, torn_append, torn_byte, written_at_end, written_byte, cut_front, cut_behind}
+use Rattle.disk_model.specs.steps.CrashLaws.{torn_before, torn_append, torn_byte, written_at_end, written_byte, cut_front, cut_behind}
 use Rattle.disk_model.specs.Image.{written}
 use Rattle.capture.specs.Tails.{IsCommitted, IsTail, IsRest, HoldsText}
 use Rattle.gated_file.specs.Files.{KeepsFront}

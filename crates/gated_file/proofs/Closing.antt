@@ -3,15 +3,17 @@ use Rattle.std.proofs.Common.{◌≡◌, ◌⊎◌, ◌<◌, ℕ, List, [], ◌�
 use Rattle.std.proofs.lemmas.Bool.{cases_eq}
 use Rattle.std.proofs.lemmas.List.{length-take-le}
 use Rattle.disk_model.specs.Crash.{Elapses, Follows, HasFile, OnFile, Stepped, Torn, Within}
-use Rattle.disk_model.specs.CrashLaws.{torn_written}
+use Rattle.disk_model.specs.steps.CrashLaws.{torn_written}
 use Rattle.disk_model.specs.Image.{Image, file_count, with_file, written}
-use Rattle.disk_model.specs.ImageLaws.{with_file-file_of}
-use Rattle.disk_model.specs.Moments.{AddsOnly, goes_on, none_added}
+use Rattle.disk_model.specs.steps.ImageLaws.{with_file-file_of}
+use Rattle.disk_model.specs.Moments.{AddsOnly}
+use Rattle.disk_model.proofs.MomentLaws.{goes_on, none_added}
 use Rattle.capture.specs.Tails.{HoldsText, IsCommitted}
-use Rattle.gated_file.specs.Files.{IsSynced, Rewrites, bytes_of, rest_of}
+use Rattle.gated_file.specs.steps.Mending.{IsSynced, rest_of}
+use Rattle.gated_file.specs.Files.{Rewrites, bytes_of}
 use Rattle.gated_file.specs.declared.file.GatedFile.{GatedFile}
 use Rattle.gated_file.proofs.Bytes.{committed_split, holds_closed, one_byte, torn_twice}
-use Rattle.gated_file.specs.RewriteLaws.{on_file_joined}
+use Rattle.gated_file.proofs.RewriteLaws.{on_file_joined}
 
 -- a write, and then a sync that changes no reading
 pub after_sync : (gated : GatedFile) (bytes : List ℕ) (start one two : Image) → two ≡ one → one ≡ with_file start gated.kind gated.file bytes → two ≡ with_file start gated.kind gated.file bytes

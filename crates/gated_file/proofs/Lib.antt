@@ -4,3 +4,4 @@ mod Closing
 mod Mending
 mod Putting
 mod Results
+pub mod RewriteLaws

@@ -3,13 +3,15 @@ use Rattle.std.proofs.Common.{◌≡◌, ◌⊎◌, ◌<◌, ◌≤◌, ℕ, Lis
 use Rattle.std.proofs.lemmas.List.{append-nil, length-take-le, take-take}
 use Rattle.disk_model.specs.Crash.{Cut, Elapses, Follows, OnFile, Stepped, Within}
 use Rattle.disk_model.specs.Image.{Image, file_count, with_file}
-use Rattle.disk_model.specs.ImageLaws.{with_file-with_file}
-use Rattle.disk_model.specs.Moments.{AddsOnly, none_added, goes_on, joined, weakened, absorbed, now_has}
+use Rattle.disk_model.specs.steps.ImageLaws.{with_file-with_file}
+use Rattle.disk_model.specs.Moments.{AddsOnly}
+use Rattle.disk_model.proofs.MomentLaws.{none_added, goes_on, joined, weakened, absorbed, now_has}
 use Rattle.capture.specs.Tails.{HoldsText, IsRest}
-use Rattle.gated_file.specs.Files.{HoldsAfter, HoldsBefore, IsEnded, IsSynced, KeepsFront, Rewrites, bytes_of, rest_of, text_of}
+use Rattle.gated_file.specs.Files.{HoldsAfter, HoldsBefore, IsEnded, KeepsFront, Rewrites, bytes_of, text_of}
+use Rattle.gated_file.specs.steps.Mending.{IsSynced, rest_of}
 use Rattle.gated_file.specs.declared.file.GatedFile.{GatedFile}
 use Rattle.gated_file.proofs.Bytes.{cut_keeps, holds_cut, holds_split, kept_length}
-use Rattle.gated_file.specs.RewriteLaws.{bytes_after, on_file_step, on_file_there, on_file_weaker, rewritten_has, rewritten_there, rewrites_step, rewrites_synced, rewrites_twice, rewrites_weaker}
+use Rattle.gated_file.proofs.RewriteLaws.{bytes_after, on_file_step, on_file_there, on_file_weaker, rewritten_has, rewritten_there, rewrites_step, rewrites_synced, rewrites_twice, rewrites_weaker}
 use Rattle.gated_file.proofs.Putting.{front_stays_twice}
 
 -- the text as a read gives it is kept

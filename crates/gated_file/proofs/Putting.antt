@@ -2,15 +2,16 @@
 use Rattle.std.proofs.Common.{◌≡◌, ◌<◌, ◌≤◌, ◌+◌, ℕ, List, [], ◌∷◌, ◌++◌, length, take, drop, sym, ap, ◌∙◌, subst, inl, inr, ⊎_elim, arith}
 use Rattle.std.proofs.lemmas.List.{length-take-le}
 use Rattle.disk_model.specs.Crash.{Follows, HasFile, Leaves, OnFile, Stepped, Torn}
-use Rattle.disk_model.specs.CrashLaws.{length-written}
+use Rattle.disk_model.specs.steps.CrashLaws.{length-written}
 use Rattle.disk_model.specs.Image.{Image, file_count, with_file, written}
-use Rattle.disk_model.specs.ImageLaws.{with_file-with_file}
-use Rattle.disk_model.specs.Moments.{AddsOnly, none_added}
+use Rattle.disk_model.specs.steps.ImageLaws.{with_file-with_file}
+use Rattle.disk_model.specs.Moments.{AddsOnly}
+use Rattle.disk_model.proofs.MomentLaws.{none_added}
 use Rattle.capture.specs.Tails.{IsCommitted}
 use Rattle.gated_file.specs.Files.{HoldsEither, IsEnded, KeepsFront, Rewrites, bytes_of, text_of}
 use Rattle.gated_file.specs.declared.file.GatedFile.{GatedFile}
 use Rattle.gated_file.proofs.Bytes.{committed_split, holds_behind, holds_one, one_byte, torn_keeps, whole_or_tail, written_first, written_second, written_third}
-use Rattle.gated_file.specs.RewriteLaws.{adds_on, all_after, bytes_after, on_file_joined, on_file_weaker, rewrites_none, there_after}
+use Rattle.gated_file.proofs.RewriteLaws.{adds_on, all_after, bytes_after, on_file_joined, on_file_weaker, rewrites_none, there_after}
 
 -- a write behind the end keeps what a read gives of the text
 pub front_stays : (gated : GatedFile) (at n : ℕ) (old new : Image) → gated.end ≤ at → at ≤ length (bytes_of gated old)

@@ -1,5 +1,5 @@
 -- What files with finished texts hold, and what calls on one of them leave.
-use Rattle.std.specs.Prelude.{◌≡◌, ◌⊎◌, ◌<◌, ℕ, false, List, ◌++◌, take, drop}
+use Rattle.std.specs.Prelude.{◌≡◌, ◌⊎◌, ◌<◌, ℕ, false, List, ◌++◌, take}
 use Rattle.disk_model.specs.Crash.{HasFile, Leaves, OnFile}
 use Rattle.disk_model.specs.Image.{Image, file_count, file_of, with_file}
 use Rattle.capture.specs.Tails.{HoldsText}
@@ -13,10 +13,6 @@ bytes_of gated image = file_of image gated.kind gated.file
 -- the finished text: the file up to its end
 abbrev pub text_of : GatedFile → Image → List ℕ
 text_of gated image = take gated.end (bytes_of gated image)
-
--- what stands behind the finished text
-abbrev pub rest_of : GatedFile → Image → List ℕ
-rest_of gated image = drop gated.end (bytes_of gated image)
 
 -- the bytes below a place stay
 abbrev pub KeepsFront : ℕ → List ℕ → List ℕ → Type 0
@@ -33,10 +29,6 @@ IsEnded gated reading images = Leaves images (HasFile gated.kind gated.file (tex
 -- what is known of the file: where it isn't dirty, a crash leaves just its finished text
 abbrev pub IsKnown : GatedFile → Image → (Image → Type 0) → Type 0
 IsKnown gated reading images = gated.is_dirty ≡ false → IsEnded gated reading images
-
--- a crash leaves the file as a read gives it
-abbrev pub IsSynced : GatedFile → Image → (Image → Type 0) → Type 0
-IsSynced gated reading images = Leaves images (HasFile gated.kind gated.file (bytes_of gated reading))
 
 -- The image is one of those from before, with bytes of this description in a file that it has. Nothing else changed.
 pub record Rewrites (kind : Kind) (file : ℕ) (images : Image → Type 0) (Description : List ℕ → Type 0) (image : Image) : Type 0 where

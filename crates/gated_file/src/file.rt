@@ -5,7 +5,8 @@ ghost use Rattle.disk_model.specs.Crash.{Torn, Cut, OnFile, Within, Follows, Ste
 ghost use Rattle.disk_model.specs.Image.{file_count, with_file, written};
 ghost use Rattle.disk_model.specs.Moments.{AddsOnly};
 ghost use Rattle.capture.specs.Tails.{IsCommitted, IsRest};
-ghost use Rattle.gated_file.specs.Files.{bytes_of, rest_of, text_of, IsEnded, IsKnown, IsSynced, KeepsText, IsFinished, IsAdded, IsEither};
+ghost use Rattle.gated_file.specs.Files.{bytes_of, text_of, IsEnded, IsKnown, KeepsText, IsFinished, IsAdded, IsEither};
+ghost use Rattle.gated_file.specs.steps.Mending.{rest_of, IsSynced};
 
 use capture::Failed;
 use disk_model::{Disk, Kind};

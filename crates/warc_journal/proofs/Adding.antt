@@ -5,7 +5,8 @@ use Rattle.std.proofs.lemmas.List.{length-set, length-take-le, take_all}
 use lib.ListN.{set}
 use Rattle.disk_model.specs.Crash.{Leaves}
 use Rattle.disk_model.specs.Image.{Image, file_of, with_file}
-use Rattle.disk_model.specs.Moments.{AddsOnly, weakened}
+use Rattle.disk_model.specs.Moments.{AddsOnly}
+use Rattle.disk_model.proofs.MomentLaws.{weakened}
 use Rattle.disk_model.specs.declared.disk.Disk.{Ghosts}
 use Rattle.disk_model.specs.declared.kind.Kind.TheVariants.{Warc}
 use Rattle.gated_file.specs.Files.{HoldsAfter, HoldsBefore, HoldsEither, IsAdded, IsEither, IsFinished, IsKnown, KeepsText, Rewrites}

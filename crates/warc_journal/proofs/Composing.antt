@@ -2,7 +2,7 @@
 use Rattle.std.proofs.Common.{◌≡◌, ◌≢◌, ◌⊎◌, ℕ, ◌≤◌, false, List, subst, ◌∙◌, refl, inl, inr, ⊎_elim, Result, Ok, Err, OnErr, OnOk}
 use Rattle.std.specs.Result.{IsErr}
 use Rattle.disk_model.specs.Image.{Image}
-use Rattle.disk_model.specs.Moments.{joined, weakened}
+use Rattle.disk_model.proofs.MomentLaws.{joined, weakened}
 use Rattle.disk_model.specs.declared.disk.Disk.{Ghosts}
 use Rattle.warc_journal.specs.Journals.{Changes, IsInStep, IsLeft, Prepares, texts}
 use Rattle.warc_journal.specs.Extents.{warc_files}

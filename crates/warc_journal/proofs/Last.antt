@@ -5,7 +5,8 @@ use lib.ListN.{set}
 use Rattle.capture.specs.Tails.{HoldsText}
 use Rattle.disk_model.specs.Crash.{Leaves}
 use Rattle.disk_model.specs.Image.{Image, file_of}
-use Rattle.disk_model.specs.Moments.{AddsOnly, weakened}
+use Rattle.disk_model.specs.Moments.{AddsOnly}
+use Rattle.disk_model.proofs.MomentLaws.{weakened}
 use Rattle.disk_model.specs.declared.disk.Disk.{Ghosts}
 use Rattle.disk_model.specs.declared.kind.Kind.TheVariants.{Warc}
 use Rattle.gated_file.specs.Files.{HoldsBefore, IsAdded, IsFinished, KeepsText, Rewrites}

@@ -3,8 +3,8 @@ use Rattle.std.proofs.Common.{◌≡◌, ◌≢◌, ◌⊎◌, ◌<◌, ◌≤�
 use Rattle.std.proofs.lemmas.List.{get_or_append_left, length_push}
 use Rattle.disk_model.specs.Crash.{Elapses, Follows, HasFile, Leaves, MayCreate, Stepped}
 use Rattle.disk_model.specs.Image.{Image, file_count}
-use Rattle.disk_model.specs.ImageLaws.{files_of-with_new, files_of-with_new_kind}
-use Rattle.disk_model.specs.Moments.{goes_on, none_added}
+use Rattle.disk_model.specs.steps.ImageLaws.{files_of-with_new, files_of-with_new_kind}
+use Rattle.disk_model.proofs.MomentLaws.{goes_on, none_added}
 use Rattle.disk_model.specs.declared.disk.Disk.{Ghosts}
 use Rattle.disk_model.specs.declared.kind.Kind.TheVariants.{Warc, Cdxj}
 use Rattle.warc_journal.specs.Journals.{IsInStep, IsLeft, Prepares, texts}

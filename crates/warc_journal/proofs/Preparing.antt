@@ -7,13 +7,14 @@ use lib.ListN.{set}
 use Rattle.capture.specs.Tails.{HoldsText, IsRest}
 use Rattle.disk_model.specs.Crash.{Leaves, OnFile}
 use Rattle.disk_model.specs.Image.{Image, file_count, file_of, files_of, with_file}
-use Rattle.disk_model.specs.ImageLaws.{files_of-with_files, files_of-with_file_kind}
-use Rattle.disk_model.specs.Moments.{AddsOnly, joined, now_has, weakened}
+use Rattle.disk_model.specs.steps.ImageLaws.{files_of-with_files, files_of-with_file_kind}
+use Rattle.disk_model.specs.Moments.{AddsOnly}
+use Rattle.disk_model.proofs.MomentLaws.{joined, now_has, weakened}
 use Rattle.disk_model.specs.declared.disk.Disk.{Ghosts}
 use Rattle.disk_model.specs.declared.kind.Kind.{Kind}
 use Rattle.disk_model.specs.declared.kind.Kind.TheVariants.{Warc, Cdxj}
 use Rattle.gated_file.specs.Files.{HoldsBefore, IsAdded, IsFinished, KeepsText, Rewrites}
-use Rattle.gated_file.specs.RewriteLaws.{on_file_count}
+use Rattle.gated_file.proofs.RewriteLaws.{on_file_count}
 use Rattle.warc_text.specs.StandsFor.{commit_byte}
 use Rattle.warc_journal.specs.Journals.{IsInStep, IsLeft, Prepares, texts}
 use Rattle.warc_journal.specs.Extents.{MakesNoFile, Reaches, cdxj_files, further_of, texts_in, warc_files}

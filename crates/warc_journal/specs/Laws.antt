@@ -3,7 +3,8 @@ use Rattle.std.proofs.Common.{◌≡◌, ◌≤◌, ℕ, List, [], ◌∷◌, le
 use Rattle.std.proofs.lemmas.List.{append-nil, get_or_append_left, get_or_push, length_push}
 use Rattle.disk_model.specs.Crash.{Leaves}
 use Rattle.disk_model.specs.Image.{Image}
-use Rattle.disk_model.specs.Moments.{AddsOnly, now_has}
+use Rattle.disk_model.specs.Moments.{AddsOnly}
+use Rattle.disk_model.proofs.MomentLaws.{now_has}
 use Rattle.disk_model.specs.declared.disk.Disk.{Ghosts}
 use Rattle.warc_journal.specs.Extents.{Reaches, cdxj_files, texts_in, warc_files}
 use Rattle.warc_journal.specs.Journals.{IsInStep, IsLeft, texts}

@@ -1,7 +1,8 @@
 -- Each step makes the next change of those that are left.
 use Rattle.std.proofs.Common.{◌≡◌, ◌<◌, ◌+◌, Bool, List, ◌∷◌, length, get_or, drop, sym, ap, ◌∙◌, arith, add-one}
 use Rattle.std.proofs.lemmas.List.{drop_more}
-use Rattle.disk_model.specs.Changes.{is_pending, kept_changes, replayed}
+use Rattle.disk_model.specs.Changes.{is_pending, replayed}
+use Rattle.disk_model.specs.steps.Pending.{kept_changes}
 use Rattle.disk_model.specs.declared.change.Change.{Change}
 use Rattle.disk_model.proofs.Pending.{length-pending_of, get_or-pending_of}
 use Rattle.disk_model.proofs.stop.replay.Goals as goal

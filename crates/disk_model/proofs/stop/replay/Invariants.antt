@@ -1,5 +1,6 @@
 use Rattle.std.proofs.Common.{◌≡◌, drop}
-use Rattle.disk_model.specs.Changes.{replayed, kept_changes}
+use Rattle.disk_model.specs.Changes.{replayed}
+use Rattle.disk_model.specs.steps.Pending.{kept_changes}
 use Rattle.disk_model.proofs.stop.replay.Given as goal
 
 abbrev pub invariant-loop-i : goal.invariant-loop-i

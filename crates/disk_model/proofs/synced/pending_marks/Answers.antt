@@ -1,8 +1,9 @@
 -- One change more is seen, the one before those that were.
 use Rattle.std.proofs.Common.{◌≡◌, ◌<◌, ◌+◌, ◌-◌, ℕ, List, ◌∷◌, length, take, drop, sym, ap, ◌∙◌, subst, arith}
 use Rattle.std.proofs.lemmas.List.{drop_more, drop-set, length-drop, length-set, take_all}
-use Rattle.disk_model.specs.Changes.{is_pending, pending_of}
-use Rattle.disk_model.specs.Synced.{Marks}
+use Rattle.disk_model.specs.Changes.{is_pending}
+use Rattle.disk_model.specs.steps.Pending.{pending_of}
+use Rattle.disk_model.specs.steps.Synced.{Marks}
 use Rattle.disk_model.specs.declared.change.Change.{Change}
 use Rattle.disk_model.proofs.synced.pending_marks.Goals as goal
 

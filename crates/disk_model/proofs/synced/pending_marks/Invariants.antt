@@ -1,6 +1,6 @@
 use Rattle.std.proofs.Common.{◌≡◌, ◌≤◌, drop, length}
-use Rattle.disk_model.specs.Changes.{pending_of}
-use Rattle.disk_model.specs.Synced.{Marks}
+use Rattle.disk_model.specs.steps.Pending.{pending_of}
+use Rattle.disk_model.specs.steps.Synced.{Marks}
 use Rattle.disk_model.proofs.synced.pending_marks.Given as goal
 
 abbrev pub invariant-loop-i : goal.invariant-loop-i

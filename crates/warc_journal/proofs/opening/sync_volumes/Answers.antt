@@ -1,5 +1,5 @@
 use Rattle.std.proofs.Common.{arith}
-use Rattle.disk_model.specs.ImageLaws.{as_read}
+use Rattle.disk_model.specs.steps.ImageLaws.{as_read}
 use Rattle.disk_model.specs.declared.kind.Kind.TheVariants.{Warc}
 use Rattle.warc_journal.proofs.opening.sync_volumes.Goals as goal
 

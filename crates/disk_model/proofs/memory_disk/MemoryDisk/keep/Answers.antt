@@ -1,7 +1,7 @@
 -- The files are those that the record, with the change at its end, gives.
 use Rattle.std.proofs.Common.{rules, ◌≡◌, [], ◌∷◌, ◌++◌, List, sym, ap, ◌∙◌}
 use Rattle.disk_model.specs.Changes.{done, replayed}
-use Rattle.disk_model.specs.ChangesLaws.{replayed-push}
+use Rattle.disk_model.specs.steps.ChangesLaws.{replayed-push}
 use Rattle.disk_model.specs.Image.{Image}
 use Rattle.disk_model.specs.declared.change.Change.{Change}
 use Rattle.disk_model.proofs.memory_disk.MemoryDisk.keep.Goals as goal

@@ -1,6 +1,6 @@
 -- A call that fails keeps the record, and one that succeeds has the cut at its end.
 use Rattle.std.proofs.Common.{rules, ◌≡◌, ap}
-use Rattle.disk_model.specs.CrashLaws.{cut_none}
+use Rattle.disk_model.specs.steps.CrashLaws.{cut_none}
 use Rattle.disk_model.specs.Device.{Device, called, faulted, changed}
 use Rattle.disk_model.specs.declared.change.Change.TheVariants.{Shortened}
 use Rattle.disk_model.proofs.Steps.{kept_on_file, kept_follows, changed_reading, changed_images}

@@ -1,6 +1,6 @@
 -- A call that fails keeps the record, and one that succeeds has the write at its end.
 use Rattle.std.proofs.Common.{rules, ◌≡◌, ◌∙◌, ap, length}
-use Rattle.disk_model.specs.CrashLaws.{torn_none}
+use Rattle.disk_model.specs.steps.CrashLaws.{torn_none}
 use Rattle.disk_model.specs.Device.{Device, called, faulted, changed}
 use Rattle.disk_model.specs.declared.change.Change.TheVariants.{Wrote}
 use Rattle.disk_model.proofs.Steps.{kept_on_file, kept_follows, changed_reading, changed_images, changed_time}

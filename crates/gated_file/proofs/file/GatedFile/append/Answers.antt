@@ -5,7 +5,7 @@ use Rattle.gated_file.proofs.Appending.{append_adds, append_ended, append_only, 
 use Rattle.gated_file.proofs.Mending.{stays_within}
 use Rattle.gated_file.proofs.Putting.{front_stays_twice}
 use Rattle.gated_file.proofs.Results.{on_err}
-use Rattle.gated_file.specs.RewriteLaws.{on_file_there}
+use Rattle.gated_file.proofs.RewriteLaws.{on_file_there}
 use Rattle.gated_file.proofs.file.GatedFile.append.Goals as goal
 
 pub put-requires-clause-there : goal.put-requires-clause-there

@@ -2,9 +2,9 @@
 use Rattle.std.proofs.Common.{◌≡◌, [], List, ℕ, refl, sym, ap, ◌∙◌}
 use Rattle.std.proofs.lemmas.List.{append-nil}
 use Rattle.disk_model.specs.Image.{Image, with_file}
-use Rattle.disk_model.specs.ImageLaws.{with_file-file_of}
+use Rattle.disk_model.specs.steps.ImageLaws.{with_file-file_of}
 use Rattle.gated_file.specs.Files.{HoldsAfter, KeepsFront, bytes_of, text_of}
-use Rattle.gated_file.specs.RewriteLaws.{on_file_same, rewrites_none}
+use Rattle.gated_file.proofs.RewriteLaws.{on_file_same, rewrites_none}
 use Rattle.gated_file.proofs.file.GatedFile.clean.Goals as goal
 
 pub returns-clause-mended : goal.returns-clause-mended

@@ -6,7 +6,7 @@ use Rattle.gated_file.specs.Files.{bytes_of}
 use Rattle.gated_file.proofs.Bytes.{closed_rest}
 use Rattle.gated_file.proofs.Closing.{after_sync, put_back_adds, torn_done, torn_either_way}
 use Rattle.gated_file.proofs.Putting.{front_stays, front_stays_twice, still_within}
-use Rattle.gated_file.specs.RewriteLaws.{bytes_after, there_after}
+use Rattle.gated_file.proofs.RewriteLaws.{bytes_after, there_after}
 use Rattle.gated_file.proofs.file.GatedFile.close.Goals as goal
 
 pub sync-requires : goal.sync-requires

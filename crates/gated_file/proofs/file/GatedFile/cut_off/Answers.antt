@@ -1,7 +1,7 @@
 use Rattle.std.proofs.Common.{◌∙◌}
-use Rattle.disk_model.specs.CrashLaws.{cut_done}
+use Rattle.disk_model.specs.steps.CrashLaws.{cut_done}
 use Rattle.gated_file.specs.Files.{bytes_of}
-use Rattle.gated_file.specs.RewriteLaws.{there_after}
+use Rattle.gated_file.proofs.RewriteLaws.{there_after}
 use Rattle.gated_file.proofs.file.GatedFile.cut_off.Goals as goal
 
 pub sync-requires : goal.sync-requires

@@ -6,7 +6,7 @@ use Rattle.disk_model.specs.Image.{Image}
 use Rattle.gated_file.specs.Files.{bytes_of, text_of}
 use Rattle.gated_file.proofs.Putting.{front_stays, front_stays_twice, put_first, put_second, put_third, put_only, put_reading, second_within, still_within}
 use Rattle.gated_file.proofs.Results.{on_ok_both}
-use Rattle.gated_file.specs.RewriteLaws.{there_after}
+use Rattle.gated_file.proofs.RewriteLaws.{there_after}
 use Rattle.gated_file.proofs.file.GatedFile.put.Goals as goal
 
 pub write-requires-2-clause-in_range : goal.write-requires-2-clause-in_range

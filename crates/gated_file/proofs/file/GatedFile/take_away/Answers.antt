@@ -2,10 +2,11 @@
 use Rattle.std.proofs.Common.{refl, sym, subst}
 use Rattle.std.proofs.lemmas.Result.{on_ok_weaker}
 use Rattle.disk_model.specs.Image.{Image}
-use Rattle.gated_file.specs.Files.{KeepsFront, IsSynced}
+use Rattle.gated_file.specs.Files.{KeepsFront}
+use Rattle.gated_file.specs.steps.Mending.{IsSynced}
 use Rattle.gated_file.proofs.Mending.{all_until, mend_leaves, mend_only, mend_reading, stays_new, stays_two, stays_within}
 use Rattle.gated_file.proofs.Results.{on_ok_both}
-use Rattle.gated_file.specs.RewriteLaws.{on_file_same}
+use Rattle.gated_file.proofs.RewriteLaws.{on_file_same}
 use Rattle.gated_file.proofs.file.GatedFile.take_away.Goals as goal
 
 pub returns-in_err-sync-clause-stays : goal.returns-in_err-sync-clause-stays

@@ -1,11 +1,12 @@
 use Rattle.std.proofs.Common.{◌⊎◌, ℕ, List, refl, sym, subst, inl, inr, ⊎_elim}
 use Rattle.disk_model.specs.Crash.{OnFile, Stepped, Torn}
 use Rattle.disk_model.specs.Image.{Image}
-use Rattle.disk_model.specs.Moments.{joined, weakened, absorbed}
+use Rattle.disk_model.proofs.MomentLaws.{joined, weakened, absorbed}
 use Rattle.capture.specs.Tails.{IsCommitted}
-use Rattle.gated_file.specs.Files.{HoldsBefore, IsSynced, KeepsFront, Rewrites, bytes_of, rest_of}
+use Rattle.gated_file.specs.Files.{HoldsBefore, KeepsFront, Rewrites, bytes_of}
+use Rattle.gated_file.specs.steps.Mending.{IsSynced, rest_of}
 use Rattle.gated_file.proofs.Closing.{uncommitted}
-use Rattle.gated_file.specs.RewriteLaws.{on_file_same, rewrites_weaker}
+use Rattle.gated_file.proofs.RewriteLaws.{on_file_same, rewrites_weaker}
 use Rattle.gated_file.proofs.file.GatedFile.uncommit.Goals as goal
 
 pub returns-in_err-is_committed-clause-stays : goal.returns-in_err-is_committed-clause-stays

@@ -1,7 +1,7 @@
 use Rattle.std.proofs.Common.{◌∙◌, arith, length}
-use Rattle.disk_model.specs.CrashLaws.{torn_written}
+use Rattle.disk_model.specs.steps.CrashLaws.{torn_written}
 use Rattle.gated_file.specs.Files.{bytes_of}
-use Rattle.gated_file.specs.RewriteLaws.{there_after}
+use Rattle.gated_file.proofs.RewriteLaws.{there_after}
 use Rattle.gated_file.proofs.file.GatedFile.write.Goals as goal
 
 pub sync-requires : goal.sync-requires

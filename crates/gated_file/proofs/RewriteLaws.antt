@@ -1,10 +1,11 @@
 -- Laws of images that were changed in one file.
 use Rattle.std.proofs.Common.{◌≡◌, ◌⊎◌, ◌<◌, ℕ, List, refl, sym, ap, ◌∙◌, subst, arith, inr, ⊎_elim, take}
 use Rattle.disk_model.specs.Crash.{OnFile, HasFile, Follows, Leaves, Stepped}
-use Rattle.disk_model.specs.CrashLaws.{on_file_none}
+use Rattle.disk_model.specs.steps.CrashLaws.{on_file_none}
 use Rattle.disk_model.specs.Image.{Image, IsApart, file_count, file_of, with_file}
-use Rattle.disk_model.specs.ImageLaws.{file_of-with_file, file_count-with_file, others_stay, with_file-with_file, with_file-file_of}
-use Rattle.disk_model.specs.Moments.{AddsOnly, joined, weakened}
+use Rattle.disk_model.specs.steps.ImageLaws.{file_of-with_file, file_count-with_file, others_stay, with_file-with_file, with_file-file_of}
+use Rattle.disk_model.specs.Moments.{AddsOnly}
+use Rattle.disk_model.proofs.MomentLaws.{joined, weakened}
 use Rattle.disk_model.specs.declared.kind.Kind.{Kind}
 use Rattle.gated_file.specs.Files.{IsKnown, Rewrites, bytes_of, text_of}
 use Rattle.gated_file.specs.declared.file.GatedFile.{GatedFile}

@@ -3,9 +3,10 @@ use Rattle.std.proofs.Common.{◌≡◌, ◌<◌, ◌≤◌, ◌+◌, ◌-◌, �
 use Rattle.std.proofs.lemmas.Bool.{cases_lt}
 use Rattle.std.proofs.lemmas.List.{append-nil, take_all, take_at, take_min, drop_all, take-take, take-append-le, drop-drop, drop_at, drop_more, drop-take}
 use Rattle.disk_model.specs.Image.{Image, written, file_of}
-use Rattle.disk_model.specs.ImageLaws.{with_file-file_of}
+use Rattle.disk_model.specs.steps.ImageLaws.{with_file-file_of}
 use Rattle.disk_model.specs.Crash.{Torn, Cut, OnFile, Elapses}
 use Rattle.disk_model.specs.declared.kind.Kind.{Kind}
+use Rattle.disk_model.specs.Laws.{TornAppendStandsBehind, TornByteIsAlone, WrittenAtTheEndStandsBehind, WrittenByteIsAlone, CutLeavesAFrontBehind}
 
 -- a write that wasn't begun
 pub torn_none : (at n : ℕ) (old : List ℕ) → Torn at n old old
@@ -69,11 +70,6 @@ torn_written at n old bytes some = record {
 pub torn_before : (at n : ℕ) (old new : List ℕ) → at ≤ length old → Torn at n old new → take at new ≡ take at old
 torn_before at n old new le torn = sym (take-take at (length old) new le) ∙ torn.before
 
--- a write at the end leaves what was there, and of its bytes as many as it has at most
-abbrev pub TornAppendStandsBehind : Type 0
-TornAppendStandsBehind =
-    (n : ℕ) (old new : List ℕ) → Torn (length old) n old new → (rest : List ℕ) × (new ≡ old ++ rest) × (length rest ≤ n)
-
 pub torn_append : TornAppendStandsBehind
 torn_append n old new torn = (
   drop (length old) new,
@@ -82,12 +78,6 @@ torn_append n old new torn = (
   omega (arith, length-drop (length old) new, torn.no_longer),
 )
 
--- a write of one byte in a file leaves all but that byte, which may be any
-abbrev pub TornByteIsAlone : Type 0
-TornByteIsAlone =
-    (at : ℕ) (old new : List ℕ) → at < length old → Torn at 1 old new
-    → (byte : ℕ) × (new ≡ take at old ++ byte ∷ drop (at + 1) old)
-
 pub torn_byte : TornByteIsAlone
 torn_byte at old new inside torn =
     let before : take at new ≡ take at old = torn_before at 1 old new (omega (arith, inside)) torn in
@@ -95,19 +85,11 @@ torn_byte at old new inside torn =
     drop_more new at 0 (omega (arith, inside, torn.no_shorter)) ∙ ap (λ (l : List ℕ). get_or new at 0 ∷ l) torn.after in
     (get_or new at 0, sym (take-append-drop at new) ∙ (λ i. before i ++ rest i))
 
--- bytes written at the end stand behind those that were there
-abbrev pub WrittenAtTheEndStandsBehind : Type 0
-WrittenAtTheEndStandsBehind = (old bytes : List ℕ) → written old (length old) bytes ≡ old ++ bytes
-
 pub written_at_end : WrittenAtTheEndStandsBehind
 written_at_end old bytes =
     let front : take (length old) old ≡ old = take_all (length old) old (omega arith) in
     let rest : drop (length old + length bytes) old ≡ [] = drop_all (length old + length bytes) old (omega arith) in
     (λ i. front i ++ bytes ++ rest i) ∙ append-nil (old ++ bytes)
-
--- one byte that is written takes the place of one
-abbrev pub WrittenByteIsAlone : Type 0
-WrittenByteIsAlone = (old : List ℕ) (at byte : ℕ) → written old at (byte ∷ []) ≡ take at old ++ byte ∷ drop (at + 1) old
 
 pub written_byte : WrittenByteIsAlone
 written_byte old at byte = append_assoc (take at old) (byte ∷ []) (drop (at + 1) old)
@@ -129,11 +111,6 @@ cut_done n old = record {
 -- a cut of a file that is long enough leaves a front of it
 pub cut_front : (n : ℕ) (old new : List ℕ) → n ≤ length old → Cut n old new → new ≡ take (length new) old
 cut_front n old new le cut = sym (take_all (length old) new (omega (arith, cut.no_longer))) ∙ cut.same
-
--- a cut at the end of a text leaves it, and a front of what stood behind it
-abbrev pub CutLeavesAFrontBehind : Type 0
-CutLeavesAFrontBehind =
-    (text rest new : List ℕ) → Cut (length text) (text ++ rest) new → (k : ℕ) × (new ≡ text ++ take k rest)
 
 pub cut_behind : CutLeavesAFrontBehind
 cut_behind text rest new cut =

@@ -4,9 +4,9 @@ use Rattle.std.specs.Prelude.{◌==◌}
 use Rattle.std.proofs.lemmas.Bool.{cases_lt, cases_eq, eqb-true, eq-eqb, ne_eqb}
 use Rattle.std.proofs.lemmas.List.{take_all, length_push, take-append-le}
 use Rattle.disk_model.specs.Image.{Image, file_count, file_of, with_new, written}
-use Rattle.disk_model.specs.ImageLaws.{file_count-with_file, file_count-with_new, file_count-with_new_kind, same_kind_or_other, bytes_stay, count_grows}
+use Rattle.disk_model.specs.steps.ImageLaws.{file_count-with_file, file_count-with_new, file_count-with_new_kind, same_kind_or_other, bytes_stay, count_grows}
 use Rattle.disk_model.specs.Crash.{Elapses, MayCreate}
-use Rattle.disk_model.specs.CrashLaws.{torn_written, cut_done}
+use Rattle.disk_model.specs.steps.CrashLaws.{torn_written, cut_done}
 use Rattle.disk_model.specs.Changes.{done, replayed, left_by, left_after, may_leave, left_since}
 use Rattle.disk_model.specs.declared.kind.Kind.{Kind}
 use Rattle.disk_model.specs.declared.change.Change.{Change}

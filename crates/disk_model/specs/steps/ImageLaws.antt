@@ -7,6 +7,7 @@ use Rattle.disk_model.specs.Image.{Image, files_of, with_files, file_count, file
 use Rattle.disk_model.specs.Crash.{OnFile, HasFile, MayCreate}
 use Rattle.disk_model.specs.declared.kind.Kind.{Kind}
 use Rattle.disk_model.specs.declared.kind.Kind.TheVariants.{Warc, Cdxj}
+use Rattle.disk_model.specs.Laws.{OtherFilesStay, NewFileChangesNoBytes, SyncedKindIsAsRead}
 
 pub files_of-with_files : (image : Image) (kind : Kind) (files : List (List ℕ)) → files_of (with_files image kind files) kind ≡ files
 unfolding files_of with_files
@@ -113,12 +114,6 @@ same_kind_or_other Warc Cdxj = inr (λ same. cc)
 same_kind_or_other Cdxj Warc = inr (λ same. cc)
 same_kind_or_other Cdxj Cdxj = inl refl
 
--- a change of one file leaves the others
-abbrev pub OtherFilesStay : Type 0
-OtherFilesStay =
-    (image : Image) (kind : Kind) (file : ℕ) (bytes : List ℕ) (k : Kind) (f : ℕ) → IsApart kind file k f
-    → file_of (with_file image kind file bytes) k f ≡ file_of image k f
-
 pub others_stay : OtherFilesStay
 unfolding file_of
 others_stay image kind file bytes k f (inl apart) = ap (λ (files : List (List ℕ)). get_or files f []) (files_of-with_file_kind image kind file bytes k apart)
@@ -127,10 +122,6 @@ others_stay image kind file bytes k f (inr apart) =
     (λ same. subst (λ (kk : Kind). file_of (with_file image kind file bytes) kk f ≡ file_of image kk f) (sym same) (file_of-with_file_number image kind file bytes f apart))
     (λ other. ap (λ (files : List (List ℕ)). get_or files f []) (files_of-with_file_kind image kind file bytes k other))
     (same_kind_or_other k kind)
-
--- a new file changes no bytes
-abbrev pub NewFileChangesNoBytes : Type 0
-NewFileChangesNoBytes = (image : Image) (kind : Kind) (k : Kind) (f : ℕ) → file_of (with_new image kind) k f ≡ file_of image k f
 
 pub bytes_stay : NewFileChangesNoBytes
 unfolding file_of
@@ -184,15 +175,6 @@ pub other_kind-may_create : (kind : Kind) (number : ℕ) (other : Kind) (old new
 other_kind-may_create kind number other old new apart (inl same) = ap (λ (image : Image). files_of image other) same
 other_kind-may_create kind number other old new apart (inr made) =
     ap (λ (image : Image). files_of image other) made.1 ∙ files_of-with_new_kind old kind other apart
-
--- Where each file of a kind that the reading has stands in an image as in the reading, and the image has no more of
--- them, it has the reading's files of that kind. That holds of no files too.
-abbrev pub SyncedKindIsAsRead : Type 0
-SyncedKindIsAsRead =
-    (reading image : Image) (kind : Kind)
-    → ((file : ℕ) → file < file_count reading kind → HasFile kind file (file_of reading kind file) image)
-    → file_count image kind ≤ file_count reading kind
-    → files_of image kind ≡ files_of reading kind
 
 pub as_read : SyncedKindIsAsRead
 as_read reading image kind has fewer = same_kind image reading kind count (λ file there. (has file (omega (arith, there, fewer))).same)
