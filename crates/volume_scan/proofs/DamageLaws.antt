@@ -5,7 +5,7 @@ use Rattle.std.proofs.lemmas.Bool.{cases_lt}
 use Rattle.std.proofs.lemmas.List.{take-append-drop}
 use Rattle.capture.specs.declared.book.Book.{Book}
 use Rattle.warc_journal.specs.Extents.{texts_in}
-use Rattle.warc_scan.specs.Steps.{BeginsWithGroup}
+use Rattle.warc_scan.specs.Answers.{BeginsWithGroup}
 use Rattle.warc_text.specs.Books.{IsGroupText, joined}
 use Rattle.warc_text.specs.Growth.{SoundVolumesHaveOneText}
 use Rattle.warc_text.specs.Sound.{IsSound}

@@ -3,10 +3,11 @@ use Rattle.std.proofs.Common.{◌≡◌, ◌<◌, ◌≤◌, ℕ, Bool, true, fa
 use Rattle.std.proofs.lemmas.Bool.{cases_eq, ltb-false, ltb-true}
 use Rattle.std.proofs.lemmas.List.{append_assoc, drop_all, get_or_append_left, length-drop, take-append-drop}
 use Rattle.capture.specs.Tails.{IsCommitted, IsTail}
-use Rattle.warc_scan.specs.Steps.{BeginsWithGroup, BeginsWithInfo, GroupsReach, HasNoGroup, HasNoInfo, InfosReach, IsCommittedRest, IsEnd, IsUnfinished, MayFollow}
+use Rattle.warc_scan.specs.Answers.{BeginsWithGroup, BeginsWithInfo, GroupsReach, HasNoGroup, HasNoInfo, InfosReach, IsCommittedRest, IsEnd, IsUnfinished, MayFollow}
 use Rattle.warc_scan.specs.declared.group.Group.{Group}
 use Rattle.warc_text.specs.StandsFor.{commit_byte}
-use Rattle.volume_scan.specs.Next.{FitsGroup, HasGroupText, HasInfoText}
+use Rattle.volume_scan.specs.steps.Next.{FitsGroup, HasInfoText}
+use Rattle.volume_scan.specs.Placed.{HasGroupText}
 use Rattle.volume_scan.specs.declared.next.NextGroup.{NextGroup}
 use Rattle.volume_scan.specs.declared.next.NextGroup.TheVariants as next_group
 

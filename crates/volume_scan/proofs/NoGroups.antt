@@ -3,7 +3,7 @@ use Rattle.std.proofs.Common.{◌≡◌, ℕ, List, [], inl, inr, sym, subst}
 use Rattle.capture.specs.Captures.{taken_back}
 use Rattle.capture.specs.Tails.{IsCommitted, IsRest, IsTail}
 use Rattle.warc_scan.specs.Groups.{reference_in}
-use Rattle.warc_scan.specs.Steps.{BeginsWithGroup}
+use Rattle.warc_scan.specs.Answers.{BeginsWithGroup}
 use Rattle.warc_scan.specs.declared.group.Group.{Group}
 use Rattle.warc_text.specs.StandsFor.{commit_byte}
 use Rattle.warc_text.proofs.GroupLaws.{groups_are_committed}

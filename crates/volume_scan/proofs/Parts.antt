@@ -11,9 +11,9 @@ use Rattle.warc_journal.specs.Texts.{Hold, with_more}
 use Rattle.warc_scan.specs.Groups.{IsGroup}
 use Rattle.volume_scan.specs.Damage.{IsDamagedAt}
 use Rattle.volume_scan.specs.Scannings.{CountsFault, Finds, IsDamage, IsInPlace, disk_of, files_in, position_of, texts}
-use Rattle.volume_scan.specs.Steps.{Comes, Keeps, Moves}
+use Rattle.volume_scan.specs.steps.Moves.{Comes, Keeps, Moves}
 use Rattle.volume_scan.specs.Unread.{IsBehind, IsFurthest, unread}
-use Rattle.volume_scan.specs.Windows.{IsReadFault}
+use Rattle.volume_scan.specs.steps.Readings.{IsReadFault}
 use Rattle.volume_scan.specs.declared.fault.ScanFault.{ScanFault}
 use Rattle.volume_scan.specs.declared.fault.ScanFault.TheVariants.{Damaged, DiskFault, Memory}
 use Rattle.volume_scan.specs.declared.found.Found.{Found}

@@ -6,7 +6,7 @@ use Rattle.disk_model.specs.declared.disk.Disk.{Ghosts}
 use Rattle.warc_journal.specs.Extents.{AreVolumesSynced, warc_files}
 use Rattle.warc_journal.specs.Journals.{Rests}
 use Rattle.volume_scan.specs.Scannings.{IsInPlace, LiesIn, Stands, disk_of, file_count, files_in, position_of}
-use Rattle.volume_scan.specs.Steps.{Keeps, Moves}
+use Rattle.volume_scan.specs.steps.Moves.{Keeps, Moves}
 use Rattle.volume_scan.specs.Unread.{IsBehind, IsFurthest, file_at, unread}
 use Rattle.volume_scan.specs.Windows.{IsInside, Shows}
 use Rattle.volume_scan.specs.declared.position.Position.{Position}

@@ -5,7 +5,8 @@ use Rattle.warc_journal.specs.declared.extent.Further.{Further}
 use Rattle.warc_journal.specs.declared.extent.Further.TheVariants.{Absent, Empty, Unknown}
 use Rattle.warc_text.specs.StandsFor.{commit_byte}
 use Rattle.volume_scan.specs.Damage.{IsNoFurther, NextIsNoVolume}
-use Rattle.volume_scan.specs.Unread.{IsBehind, IsFurther, file_at, unread}
+use Rattle.volume_scan.specs.Unread.{IsBehind, file_at, unread}
+use Rattle.volume_scan.specs.steps.Next.{IsFurther}
 use Rattle.volume_scan.specs.declared.position.Position.{Position}
 use Rattle.volume_scan.proofs.BookLaws.{info_committed, rest_is_uncommitted}
 use Rattle.volume_scan.proofs.Texts.{rest_of}

@@ -34,11 +34,6 @@ pub record BeginsWith (book : Book) (texts : List (List ℕ)) (namespace : List 
   pub namespace_is : 0 < length texts → namespace ≡ book.namespace
   pub last : (k : ℕ) → k + 1 ≡ length texts → IsReadUpTo book k (slice_index_or texts k []) number
 
--- the book begins with what a scan has read
-abbrev pub BeginsBook : {D : Type 0} → Ghosts D → Scanning D → Book → Type 0
-BeginsBook d scanning book =
-    BeginsWith book (texts d scanning) (position_of scanning).namespace (captures_of scanning)
-
 -- the warcinfo that was found is that of a volume of the book: its namespace and its birth
 pub record IsVolumeOf (book : Book) (volume : ℕ) (namespace : List ℕ) (born : ℕ) : Type 0 where
   pub namespace_is : namespace ≡ book.namespace

@@ -1,7 +1,7 @@
 -- Where the files go on with nothing that an archive may hold.
 use Rattle.std.specs.Prelude.{◌≡◌, ◌⊎◌, ◌<◌, ℕ, ◌+◌, List, length}
 use Rattle.capture.specs.Tails.{IsCommitted, IsRest, IsTail}
-use Rattle.warc_scan.specs.Steps.{BeginsWithGroup, BeginsWithInfo}
+use Rattle.warc_scan.specs.Answers.{BeginsWithGroup, BeginsWithInfo}
 use Rattle.warc_scan.specs.declared.group.Group.{Group}
 use Rattle.warc_text.specs.StandsFor.{commit_byte}
 use Rattle.volume_scan.specs.Unread.{file_at, unread}

@@ -1,11 +1,12 @@
 -- A group by its place.
-use Rattle.std.specs.Prelude.{◌≡◌, ℕ, List, drop, take, ⊤}
+use Rattle.std.specs.Prelude.{◌≡◌, ℕ, List, drop, take, ⊤, ◌≤◌, length}
 use Rattle.warc_journal.specs.declared.place.Place.{Place}
-use Rattle.warc_scan.specs.Steps.{BeginsWithGroup}
+use Rattle.warc_scan.specs.Answers.{BeginsWithGroup}
 use Rattle.warc_scan.specs.declared.group.Group.{Group}
 use Rattle.volume_scan.specs.Unread.{file_at}
 use Rattle.volume_scan.specs.declared.fault.ScanFault.{ScanFault}
 use Rattle.volume_scan.specs.declared.fault.ScanFault.TheVariants.{Damaged, DiskFault, Memory}
+use Rattle.warc_scan.specs.Groups.{IsGroup}
 
 -- what the files hold there
 abbrev pub bytes_at : Place → List (List ℕ) → List ℕ
@@ -22,3 +23,9 @@ abbrev pub NamesPlace : Place → ScanFault → Type 0
 NamesPlace place (Damaged file at) = (file ≡ place.volume) × (at ≡ place.at)
 NamesPlace place DiskFault = ⊤
 NamesPlace place Memory = ⊤
+
+-- a group that is short enough for the room
+pub record HasGroupText (namespace : List ℕ) (number room : ℕ) (group : Group) : Type 0 where
+  pub text : List ℕ
+  pub is : IsGroup namespace number text group
+  pub fits : length text ≤ room

@@ -20,12 +20,6 @@ abbrev pub IsBehind : Bool → List ℕ → Type 0
 IsBehind false rest = rest ≡ []
 IsBehind true rest = IsTail commit_byte rest
 
--- what is known of the file behind the last volume's: it is empty, or holds a tail
-abbrev pub IsFurther : Further → List ℕ → Type 0
-IsFurther Absent file = ⊥
-IsFurther Empty file = file ≡ []
-IsFurther Unknown file = IsTail commit_byte file
-
 -- the same of all files behind the last volume's, of which there is one at most
 abbrev pub IsFurthest : Further → ℕ → List (List ℕ) → Type 0
 IsFurthest Absent volumes files = length files ≤ volumes

@@ -2,9 +2,10 @@
 ghost use Rattle.std.specs.Prelude.{◌≡◌, ◌-◌, ◌<◌, ◌^◌, IfOk, IsTrue, drop, length};
 ghost use Rattle.warc_journal.specs.Extents.{warc_files};
 ghost use Rattle.warc_journal.specs.Journals.{Rests};
-ghost use Rattle.volume_scan.specs.Next.{FitsGroup, FitsInfo, IsNextGroup, IsNextInfo};
+ghost use Rattle.volume_scan.specs.steps.Next.{FitsGroup, FitsInfo, IsNextGroup, IsNextInfo};
 ghost use Rattle.volume_scan.specs.Unread.{file_at};
-ghost use Rattle.volume_scan.specs.Windows.{CountsRead, IsAt, IsInside, Shows};
+ghost use Rattle.volume_scan.specs.steps.Readings.{CountsRead, IsAt};
+ghost use Rattle.volume_scan.specs.Windows.{IsInside, Shows};
 
 use crate::ScanFault;
 use crate::next::{NextGroup, NextInfo, Unsaid, judge_group, judge_info};

@@ -1,6 +1,6 @@
 //! What stands next in a volume, as far as the scanner tells of the bytes that were read.
 ghost use Rattle.std.specs.Prelude.{◌≡◌, ◌≤◌, ℕ, List, length, min, take, IfErr, IfOk};
-ghost use Rattle.volume_scan.specs.Next.{Asks, FitsGroup, FitsInfo, IsNextGroup, IsNextInfo};
+ghost use Rattle.volume_scan.specs.steps.Next.{Asks, FitsGroup, FitsInfo, IsNextGroup, IsNextInfo};
 
 use std::alloc::Global;
 use uuid::Uuid;

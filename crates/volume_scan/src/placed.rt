@@ -2,9 +2,8 @@
 ghost use Rattle.std.specs.Prelude.{◌≡◌, ◌+◌, ◌≤◌, ◌<◌, ℕ, IfErr, IfOk, IsTrue, length};
 ghost use Rattle.warc_journal.specs.Extents.{warc_files};
 ghost use Rattle.warc_journal.specs.Journals.{IsInStep, Rests, disk_of, extent_of};
-ghost use Rattle.warc_scan.specs.Steps.{BeginsWithGroup};
-ghost use Rattle.volume_scan.specs.Next.{HasGroupText};
-ghost use Rattle.volume_scan.specs.Placed.{IsMissingAt, NamesPlace, bytes_at};
+ghost use Rattle.warc_scan.specs.Answers.{BeginsWithGroup};
+ghost use Rattle.volume_scan.specs.Placed.{HasGroupText, IsMissingAt, NamesPlace, bytes_at};
 ghost use Rattle.volume_scan.specs.Scannings.{CountsDisk};
 ghost use Rattle.volume_scan.specs.Unread.{file_at};
 

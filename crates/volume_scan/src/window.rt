@@ -4,7 +4,8 @@ ghost use Rattle.capture.specs.Faults.{CountsFaults};
 ghost use Rattle.warc_journal.specs.Extents.{warc_files};
 ghost use Rattle.warc_journal.specs.Journals.{Rests};
 ghost use Rattle.volume_scan.specs.Unread.{file_at};
-ghost use Rattle.volume_scan.specs.Windows.{CountsRead, IsAt, IsInside, Shows};
+ghost use Rattle.volume_scan.specs.steps.Readings.{CountsRead, IsAt};
+ghost use Rattle.volume_scan.specs.Windows.{IsInside, Shows};
 
 use crate::ScanFault;
 use disk_model::{Disk, Kind};

@@ -39,7 +39,8 @@ begins_with_rest front h rest is = record {
 printed : (front : List ℕ) (h : grammar.ResponseHead) → IsResponseHeadText front h → front ≡ print_response h
 printed front h is = is.reads.1 ∙ append-nil (print_response h)
 
-ends_there : ResponseHeadsEnd → (block front rest : List ℕ) (h : grammar.ResponseHead) → IsResponseHeadText front h → block ≡ front ++ rest
+-- a head that stands first ends there
+pub ends_there : ResponseHeadsEnd → (block front rest : List ℕ) (h : grammar.ResponseHead) → IsResponseHeadText front h → block ≡ front ++ rest
     → head_end block ≡ Some (length front)
 ends_there ends block front rest h is composed =
     ap head_end composed ∙ ends (front ++ rest) h rest (begins_with_rest front h rest is) ∙ ap (λ t. Some (length t)) (sym (printed front h is))
@@ -63,6 +64,10 @@ pub split_there : ResponseHeadsEnd → (block front rest : List ℕ) (end : ℕ)
 split_there ends block front rest end h is composed found =
     let lens : length front ≡ end = some_same (length front) end (sym (ends_there ends block front rest h is composed) ∙ sym found) in
     ap (take end) composed ∙ take_at front rest end lens
+
+-- the head of these parts ends where it ends
+pub parts_end : ResponseHeadsEnd → (front : List ℕ) (parsed : ResponseHead) → HoldsResponse front parsed → head_end front ≡ Some (length front)
+parts_end ends front parsed holds = ends_there ends front front [] holds.0 holds.1.reads (sym (append-nil front))
 
 -- ---- a final head
 

@@ -19,8 +19,8 @@ use Rattle.capture.specs.declared.framing.FramingFault.{FramingFault}
 use Rattle.http_head.specs.declared.head.WireFault.{WireFault}
 use Rattle.message_body.specs.Framings.{framing_answer, told_by_response}
 use Rattle.warc_text.specs.References.{Reference}
-use Rattle.warc_scan.specs.Answers.{AreParts, IsAnswerOf, IsRead, IsSomeBody, IsToldBy, TellsOfBody, kept_by}
-use Rattle.warc_scan.specs.Digests.{HasDigest, HasLength}
+use Rattle.warc_scan.specs.steps.Responses.{AreParts, IsAnswerOf, IsRead, IsSomeBody, IsToldBy, TellsOfBody, kept_by}
+use Rattle.warc_scan.specs.steps.Digests.{HasDigest, HasLength}
 use Rattle.warc_scan.specs.Groups.{HasPayloadLen, IsResponse, unknown_number}
 use Rattle.warc_scan.specs.Openings.{IsOpening, IsRevisited, opening_of, reference_of}
 use Rattle.warc_scan.specs.declared.answer.Answer.{Answer}

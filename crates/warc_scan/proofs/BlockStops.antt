@@ -2,8 +2,9 @@
 use Rattle.std.proofs.Common.{◌≡◌, ℕ, ◌+◌, ◌^◌, ◌<◌, ◌≤◌, List, ◌++◌, length, length-append, append_assoc, refl, sym, ap, subst, ◌∙◌, arith}
 use Rattle.warc_text.specs.Lines.{ended, length_lines, record_end}
 use Rattle.warc_text.proofs.Fronts.{fronts}
-use Rattle.warc_scan.specs.Blocks.{AsksForBlock, EndsInsideBlock, IsWord, RefusesBlock}
-use Rattle.warc_scan.specs.Stops.{Differs, Leaves, NoneStands}
+use Rattle.warc_scan.specs.steps.BlockParts.{AsksForBlock, RefusesBlock}
+use Rattle.warc_scan.specs.Blocks.{EndsInsideBlock, IsWord}
+use Rattle.warc_scan.specs.steps.Stops.{Differs, Leaves, NoneStands}
 use Rattle.warc_scan.specs.declared.stop.Stop.{Stop}
 use Rattle.warc_scan.specs.declared.stop.Stop.TheVariants.{Open, Until, Wrong, Memory}
 use Rattle.warc_scan.proofs.BlockTold.{length_told}

@@ -4,8 +4,9 @@ use Rattle.sha1.specs.Sha1.{sha1}
 use Rattle.digest32.specs.Base32.{IsDigest}
 use Rattle.time_text.specs.Texts.{InRange}
 use Rattle.warc_text.specs.Lines.{date_line, digest_line, target_line}
-use Rattle.warc_scan.specs.Openings.{IsOpening, IsTarget, Opening, front_text, start_text}
-use Rattle.warc_scan.specs.Stops.{Differs, NoneStands}
+use Rattle.warc_scan.specs.Openings.{IsOpening, IsTarget, Opening}
+use Rattle.warc_scan.specs.steps.OpeningFronts.{front_text, start_text}
+use Rattle.warc_scan.specs.steps.Stops.{Differs, NoneStands}
 use Rattle.warc_scan.specs.declared.stop.Stop.{Stop}
 use Rattle.warc_scan.proofs.FieldsTold.{date_line_told, digest_line_told, target_told}
 use Rattle.warc_scan.proofs.Pieces.{two}

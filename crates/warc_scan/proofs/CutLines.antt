@@ -4,7 +4,7 @@ use Rattle.std.specs.Prelude.{⊤, codes}
 use Rattle.std.proofs.Math.ListN.{get_or-append}
 use Rattle.warc_text.specs.Lines.{content_line, cut_line, field}
 use Rattle.warc_text.specs.declared.kind.RecordKind.TheVariants as kinds
-use Rattle.warc_scan.specs.Stops.{Differs, NoneStands, Refuses}
+use Rattle.warc_scan.specs.steps.Stops.{Differs, NoneStands, Refuses}
 use Rattle.warc_scan.specs.declared.stop.Stop.{Stop}
 use Rattle.warc_scan.specs.declared.stop.Stop.TheVariants.{Open}
 use Rattle.warc_scan.proofs.Pieces.{two}

@@ -10,10 +10,10 @@ use Rattle.time_text.proofs.WarcLemmas.{warc_cases}
 use Rattle.std.proofs.Math.ListN.{get_or-append}
 use Rattle.std.proofs.lemmas.List.{take_at, take-append-le}
 use Rattle.time_text.proofs.DateLaws.{warc_date_front}
-use Rattle.warc_scan.specs.Dates.{IsDateLen}
-use Rattle.warc_scan.specs.Forms.{IsFormStop, date_form, fits}
+use Rattle.warc_scan.specs.steps.Dates.{IsDateLen}
+use Rattle.warc_scan.specs.steps.Stops.{IsFormStop, NoValueStands}
+use Rattle.warc_scan.specs.Forms.{date_form, fits}
 use Rattle.warc_scan.specs.OpenValues.{IsPartOfDate}
-use Rattle.warc_scan.specs.Stops.{NoValueStands}
 use Rattle.warc_scan.specs.declared.stop.Stop.{Stop}
 use Rattle.warc_scan.specs.declared.stop.Stop.TheVariants.{Open, Wrong}
 use Rattle.warc_scan.proofs.Forms.{AllFit, form_stop}

@@ -5,9 +5,9 @@ use Rattle.sha1.specs.Sha1.{sha1}
 use Rattle.digest32.specs.Base32.{IsDigest, IsDigestText, base32}
 use Rattle.digest32.proofs.Texts.{digest_injective, is_digest_text, length-digest_text}
 use Rattle.warc_text.proofs.Fronts.{fronts}
-use Rattle.warc_scan.specs.Forms.{IsFormStop, digest_form}
+use Rattle.warc_scan.specs.steps.Stops.{IsFormStop, NoValueStands}
+use Rattle.warc_scan.specs.Forms.{digest_form}
 use Rattle.warc_scan.specs.OpenValues.{IsPartOfDigest}
-use Rattle.warc_scan.specs.Stops.{NoValueStands}
 use Rattle.warc_scan.specs.declared.stop.Stop.{Stop}
 use Rattle.warc_scan.specs.declared.stop.Stop.TheVariants.{Open, Wrong}
 use Rattle.warc_scan.proofs.Forms.{digest_fits, form_stop}

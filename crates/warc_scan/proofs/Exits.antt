@@ -2,7 +2,7 @@
 use Rattle.std.proofs.Common.{◌≡◌, sym, subst, ◌∙◌}
 use Rattle.std.specs.Prelude.{Result, Ok, Err, IfErr, IsErrAnd, IsErrOf}
 use Rattle.warc_scan.specs.declared.stop.Stop.{Stop}
-use Rattle.warc_scan.specs.declared.stop.Stop.TheVariants.{Open}
+use Rattle.warc_scan.specs.declared.stop.Stop.TheVariants.{Open, Wrong}
 use Rattle.warc_scan.proofs.StopLaws.{same_stop}
 
 -- where the stop that came is handed out, what is known of it is known of the answer
@@ -14,3 +14,8 @@ at_exit P stop (Err y) is p = subst P (sym is) p
 pub at_open_exit : {T : Type 0} (P : Type 0) (stop : Stop) (r : Result T Stop) → IsErrAnd r (λ y. y ≡ stop) → (stop ≡ Open → P) → IsErrOf r Open → P
 at_open_exit {T} P stop (Ok x) is p e = absurd is
 at_open_exit {T} P stop (Err y) is p e = p (sym is ∙ same_stop T y Open e)
+
+-- or that no such text stands there
+pub at_wrong_exit : {T : Type 0} (P : Type 0) (stop : Stop) (r : Result T Stop) → IsErrAnd r (λ y. y ≡ stop) → (stop ≡ Wrong → P) → IsErrOf r Wrong → P
+at_wrong_exit {T} P stop (Ok x) is p e = absurd is
+at_wrong_exit {T} P stop (Err y) is p e = p (sym is ∙ same_stop T y Wrong e)

@@ -7,12 +7,12 @@ use Rattle.warc_text.specs.Ids.{id_of}
 use Rattle.warc_text.specs.Lines.{ended, length_lines, record_end}
 use Rattle.warc_text.specs.Records.{request_opening}
 use Rattle.warc_text.specs.declared.id.IdKind.TheVariants as ids
-use Rattle.warc_scan.specs.Asking.{AsksByStop, second_opening}
-use Rattle.warc_scan.specs.Blocks.{AsksForBlock, RefusesBlock}
-use Rattle.warc_scan.specs.Founds.{IsFoundIn}
+use Rattle.warc_scan.specs.steps.Founds.{AsksByStop, IsFoundIn}
+use Rattle.warc_scan.specs.Asking.{second_opening}
+use Rattle.warc_scan.specs.steps.BlockParts.{AsksForBlock, RefusesBlock}
 use Rattle.warc_scan.specs.Groups.{IsGroup, reference_in}
 use Rattle.warc_scan.specs.Openings.{IsOpening, Opening, opening_of, opening_text}
-use Rattle.warc_scan.specs.Stops.{Differs, Leaves, NoneStands, Refuses}
+use Rattle.warc_scan.specs.steps.Stops.{Differs, Leaves, NoneStands, Refuses}
 use Rattle.warc_scan.specs.declared.group.Group.{Group}
 use Rattle.warc_scan.specs.declared.find.Found.{Found}
 use Rattle.warc_scan.specs.declared.stop.Stop.{Stop}

@@ -10,11 +10,12 @@ use Rattle.warc_text.specs.declared.id.IdKind.TheVariants as ids
 use Rattle.warc_scan.specs.Asking.{first_opening, second_opening}
 use Rattle.warc_scan.specs.Blocks.{IsWord}
 use Rattle.warc_scan.specs.FirstOpenings.{AsksForOpening, BeginsWithOpening, IsFirst, IsOpeningOf, TellsNoOpening, first_lines}
-use Rattle.warc_scan.specs.Fronts.{IsBegun}
+use Rattle.warc_scan.specs.steps.Fronts.{IsBegun}
 use Rattle.warc_scan.specs.Groups.{reference_in}
 use Rattle.warc_scan.specs.Openings.{IsOpening, Opening, opening_by, opening_of, opening_text}
-use Rattle.warc_scan.specs.Steps.{BeginsWithGroup, IsCommittedRest, IsUnfinished}
-use Rattle.warc_scan.specs.Stops.{Begins, NoneStands, no_record_by}
+use Rattle.warc_scan.specs.Answers.{BeginsWithGroup, IsCommittedRest, IsUnfinished}
+use Rattle.warc_scan.specs.OpenValues.{Begins}
+use Rattle.warc_scan.specs.steps.Stops.{NoneStands, no_record_by}
 use Rattle.warc_scan.specs.declared.group.Group.{Group}
 use Rattle.warc_scan.specs.declared.no_record.NoRecord.TheVariants as no_record
 use Rattle.warc_scan.specs.declared.scan_opening.FirstOpening.{FirstOpening}

@@ -1,6 +1,6 @@
 -- Texts of five known pieces, one after another.
 use Rattle.std.proofs.Common.{◌≡◌, ℕ, List, ◌++◌}
-use Rattle.warc_scan.specs.Stops.{Differs}
+use Rattle.warc_scan.specs.steps.Stops.{Differs}
 use Rattle.warc_scan.specs.declared.stop.Stop.{Stop}
 use Rattle.warc_scan.proofs.Pieces.{first_of_four, first_of_two, four, fourth_of_four, second_of_four, second_of_two, third_of_four, two}
 

@@ -8,8 +8,8 @@ use Rattle.uuid.proofs.TextLemmas.{by_index_at, nibble_small}
 use Rattle.digest32.specs.Base32.{IsDigestText}
 use Rattle.digest32.proofs.Alphabet.{alphabet_ranges}
 use Rattle.warc_text.specs.Ids.{uuid_text}
-use Rattle.warc_scan.specs.Forms.{IsFormStop, IsPartOfForm, digest_form, fits, uuid_form}
-use Rattle.warc_scan.specs.Stops.{NoValueStands}
+use Rattle.warc_scan.specs.steps.Stops.{IsFormStop, NoValueStands}
+use Rattle.warc_scan.specs.Forms.{IsPartOfForm, digest_form, fits, uuid_form}
 use Rattle.warc_scan.specs.declared.stop.Stop.{Stop}
 use Rattle.warc_scan.specs.declared.stop.Stop.TheVariants.{Open, Until, Wrong, Memory}
 use Rattle.warc_scan.proofs.Refusals.{wrong_is_not_open}

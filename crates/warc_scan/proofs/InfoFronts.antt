@@ -10,9 +10,10 @@ use Rattle.warc_text.specs.Records.{info_opening, info_text}
 use Rattle.warc_text.specs.declared.id.IdKind.TheVariants as ids
 use Rattle.warc_text.specs.declared.kind.RecordKind.TheVariants as kinds
 use Rattle.warc_text.proofs.LengthLaws.{length_of_info_block}
-use Rattle.warc_scan.specs.InfoParts.{IsInfoFront, front_of_info, info_front, info_middle, namespace_mark}
+use Rattle.warc_scan.specs.steps.InfoFronts.{IsInfoFront, front_of_info}
+use Rattle.warc_scan.specs.InfoParts.{info_front, info_middle, namespace_mark}
 use Rattle.warc_scan.specs.OpenValues.{info_mark}
-use Rattle.warc_scan.specs.Stops.{Differs, NoneStands}
+use Rattle.warc_scan.specs.steps.Stops.{Differs, NoneStands}
 use Rattle.warc_scan.specs.declared.stop.Stop.{Stop}
 use Rattle.warc_scan.proofs.FieldsTold.{date_line_told, told_behind, told_more}
 use Rattle.warc_scan.proofs.Pieces.{first_of_three, second_of_three, third_of_three, three, two}

@@ -9,10 +9,12 @@ use Rattle.warc_text.specs.Lines.{field, opening, type_line, version_line}
 use Rattle.warc_text.specs.Records.{info_text}
 use Rattle.warc_text.specs.declared.id.IdKind.TheVariants as ids
 use Rattle.warc_text.proofs.LengthLaws.{length_of_info}
-use Rattle.warc_scan.specs.Fronts.{IsBegun}
-use Rattle.warc_scan.specs.InfoParts.{AsksForInfo, AsksForLittle, IsAnswerTo, IsInfoAskedFor, IsInfoFront, IsInfoLen, front_of_info, info_front, most_bytes}
-use Rattle.warc_scan.specs.Steps.{HasNoInfo, InfosReach, IsCommittedRest, IsUnfinished, TellsInfo}
-use Rattle.warc_scan.specs.Stops.{Begins, NoneStands}
+use Rattle.warc_scan.specs.steps.Fronts.{IsBegun}
+use Rattle.warc_scan.specs.InfoParts.{AsksForInfo, AsksForLittle, IsInfoAskedFor, IsInfoLen, info_front, most_bytes}
+use Rattle.warc_scan.specs.steps.InfoFronts.{IsAnswerTo, IsInfoFront, front_of_info}
+use Rattle.warc_scan.specs.Answers.{HasNoInfo, InfosReach, IsCommittedRest, IsUnfinished, TellsInfo}
+use Rattle.warc_scan.specs.OpenValues.{Begins}
+use Rattle.warc_scan.specs.steps.Stops.{NoneStands}
 use Rattle.warc_scan.specs.declared.info_step.InfoStep.{InfoStep}
 use Rattle.warc_scan.specs.declared.info_step.InfoStep.TheVariants as info_step
 use Rattle.warc_scan.specs.declared.stop.Stop.{Stop}

@@ -9,11 +9,12 @@ use Rattle.warc_text.specs.declared.kind.RecordKind.TheVariants as kinds
 use Rattle.warc_text.proofs.Fronts.{fronts}
 use Rattle.warc_text.proofs.IdLaws.{id_is_uuid}
 use Rattle.warc_text.proofs.LengthLaws.{length-opening, length-uuid_text, length_of_info}
-use Rattle.warc_scan.specs.InfoParts.{EndsInFront, IsInfoFront, IsInfoLen, NoNamespaceStands, front_of_info, info_front, info_middle}
+use Rattle.warc_scan.specs.InfoParts.{EndsInFront, IsInfoLen, info_front, info_middle}
+use Rattle.warc_scan.specs.steps.InfoFronts.{IsInfoFront, NoNamespaceStands, front_of_info}
 use Rattle.warc_scan.specs.Infos.{IsInfo}
 use Rattle.warc_scan.specs.OpenValues.{IsPartOfUuid}
-use Rattle.warc_scan.specs.Steps.{InfosReach}
-use Rattle.warc_scan.specs.Stops.{Differs, IsLineStop, Leaves, NoneStands, NoValueStands, Refuses}
+use Rattle.warc_scan.specs.Answers.{InfosReach}
+use Rattle.warc_scan.specs.steps.Stops.{Differs, IsLineStop, Leaves, NoneStands, NoValueStands, Refuses}
 use Rattle.warc_scan.specs.declared.stop.Stop.{Stop}
 use Rattle.warc_scan.specs.declared.stop.Stop.TheVariants.{Open, Memory}
 use Rattle.warc_scan.proofs.InfoFronts.{front_told, info_is, info_tail}

@@ -6,7 +6,7 @@ use Rattle.std.proofs.lemmas.List.Elements.{All-from_get_or}
 use Rattle.std.proofs.Math.Seq.{drop-cons, get_or-take}
 use Rattle.memchr.specs.Find.{Nowhere, NoneBefore, Passes, is_byte}
 use Rattle.warc_text.specs.Groups.{IsOneLine}
-use Rattle.warc_scan.specs.SplitLines.{IsSplitLine}
+use Rattle.warc_scan.specs.steps.SplitLines.{IsSplitLine}
 
 -- no line's end stands in the bytes
 pub without_return : (bytes : List ℕ) → Nowhere (Passes (is_byte 13) bytes) 0 (length bytes) → IsOneLine bytes

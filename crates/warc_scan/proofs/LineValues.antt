@@ -2,8 +2,8 @@
 use Rattle.std.proofs.Common.{◌≡◌, ℕ, suc, ◌≤◌, List, [], ◌∷◌, ◌++◌, length, length-append, drop, get_or, append_assoc, inl, inr, refl, sym, ap, subst, ◌∙◌, arith}
 use Rattle.httparse.specs.Ascii.{crlf_bytes}
 use Rattle.warc_text.specs.Groups.{IsOneLine}
-use Rattle.warc_scan.specs.SplitLines.{IsSplitLine}
-use Rattle.warc_scan.specs.Stops.{Differs, Leaves, NoValueStands}
+use Rattle.warc_scan.specs.steps.SplitLines.{IsSplitLine}
+use Rattle.warc_scan.specs.steps.Stops.{Differs, Leaves, NoValueStands}
 use Rattle.warc_scan.specs.declared.stop.Stop.{Stop}
 use Rattle.warc_scan.specs.declared.stop.Stop.TheVariants.{Open, Wrong}
 use Rattle.warc_scan.proofs.Refusals.{begins_behind, leaves_behind, wrong_is_not_open}

@@ -10,9 +10,9 @@ use Rattle.warc_text.specs.Groups.{IsOneLine}
 use Rattle.warc_text.specs.Lines.{field}
 use Rattle.warc_text.proofs.Fronts.{field_front}
 use Rattle.warc_scan.specs.Blocks.{IsWord}
-use Rattle.warc_scan.specs.SplitLines.{IsSplitLine}
+use Rattle.warc_scan.specs.steps.SplitLines.{IsSplitLine}
 use Rattle.warc_scan.specs.OpenValues.{IsPartOfNumber}
-use Rattle.warc_scan.specs.Stops.{Differs, NoValueStands}
+use Rattle.warc_scan.specs.steps.Stops.{Differs, NoValueStands}
 use Rattle.warc_scan.specs.declared.stop.Stop.{Stop}
 use Rattle.warc_scan.specs.declared.stop.Stop.TheVariants.{Open, Wrong}
 use Rattle.warc_scan.proofs.BlockTold.{number_is_one_line}

@@ -11,9 +11,11 @@ use Rattle.warc_text.specs.Records.{response_opening, revisit_end, revisit_front
 use Rattle.warc_text.specs.References.{Reference}
 use Rattle.warc_text.specs.declared.id.IdKind.TheVariants.{Info}
 use Rattle.warc_text.specs.declared.kind.RecordKind.TheVariants as kinds
-use Rattle.warc_scan.specs.Kinds.{IsKind}
-use Rattle.warc_scan.specs.Openings.{IsOpening, IsRevisited, IsTarget, Opening, front_text, opening_by, opening_text}
-use Rattle.warc_scan.specs.Stops.{Differs, EndsInside, NoneStands, Refuses}
+use Rattle.warc_scan.specs.steps.Kinds.{IsKind}
+use Rattle.warc_scan.specs.Openings.{IsOpening, IsRevisited, IsTarget, Opening, opening_by, opening_text}
+use Rattle.warc_scan.specs.steps.OpeningFronts.{front_text}
+use Rattle.warc_scan.specs.steps.Stops.{Differs, NoneStands, Refuses}
+use Rattle.warc_scan.specs.OpenValues.{EndsInside}
 use Rattle.warc_scan.specs.declared.opening.AnswerKind.TheVariants.{Response, Revisit}
 use Rattle.warc_scan.specs.declared.stop.Stop.{Stop}
 use Rattle.warc_scan.specs.declared.stop.Stop.TheVariants.{Open, Wrong}

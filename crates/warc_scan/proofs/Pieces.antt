@@ -2,7 +2,7 @@
 use Rattle.std.proofs.Common.{◌≡◌, ℕ, List, [], ◌++◌, take, drop, append_assoc, sym, ap, ◌∙◌}
 use Rattle.std.proofs.lemmas.List.{take-append-drop}
 use Rattle.warc_scan.specs.OpenValues.{IsPartBehind}
-use Rattle.warc_scan.specs.Stops.{Differs, NoneStands, NoValueStands}
+use Rattle.warc_scan.specs.steps.Stops.{Differs, NoneStands, NoValueStands}
 use Rattle.warc_scan.specs.declared.stop.Stop.{Stop}
 use Rattle.warc_scan.proofs.Refusals.{at_mark, differs_more, differs_behind, none_more, none_first, none_at, none_after, same_behind, IsTold}
 

@@ -15,13 +15,13 @@ use Rattle.warc_text.specs.Records.{answer_text, group_text}
 use Rattle.warc_text.specs.References.{Reference}
 use Rattle.warc_text.specs.declared.id.IdKind.TheVariants as ids
 use Rattle.warc_text.proofs.Fronts.{fronts}
-use Rattle.warc_scan.specs.Answers.{IsAnswerOf}
-use Rattle.warc_scan.specs.Asking.{AsksByStop, second_opening}
-use Rattle.warc_scan.specs.Founds.{IsFound, IsFoundIn, IsGroupIn, first_record, second_record}
+use Rattle.warc_scan.specs.steps.Responses.{IsAnswerOf}
+use Rattle.warc_scan.specs.steps.Founds.{AsksByStop, IsFound, IsFoundIn, IsGroupIn, first_record, second_record}
+use Rattle.warc_scan.specs.Asking.{second_opening}
 use Rattle.warc_scan.specs.Groups.{IsAnswer, IsGroup, reference_in}
 use Rattle.warc_scan.specs.Openings.{Opening, opening_of, opening_text}
-use Rattle.warc_scan.specs.Steps.{BeginsWithGroup}
-use Rattle.warc_scan.specs.Stops.{IsMessageStop, Refuses}
+use Rattle.warc_scan.specs.Answers.{BeginsWithGroup}
+use Rattle.warc_scan.specs.steps.Stops.{IsMessageStop, Refuses}
 use Rattle.warc_scan.specs.declared.group.Group.{Group}
 use Rattle.warc_scan.specs.declared.find.Found.{Found}
 use Rattle.warc_scan.specs.declared.stop.Stop.{Stop}

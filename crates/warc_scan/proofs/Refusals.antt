@@ -2,8 +2,8 @@
 use Rattle.std.proofs.Common.{◌≡◌, ◌⊎◌, ℕ, ◌<◌, ◌≤◌, inl, inr, List, [], ◌++◌, length, take, drop, length-append, append_assoc, refl, sym, ap, subst, ◌∙◌, arith}
 use Rattle.std.proofs.lemmas.List.{take_at, take-append-le, append-nil, take-append-drop}
 use Rattle.warc_text.proofs.Fronts.{fronts}
-use Rattle.warc_scan.specs.OpenValues.{IsOpenValue, IsPartBehind}
-use Rattle.warc_scan.specs.Stops.{Begins, Leaves, Refuses, IsLineStop, EndsInside, Differs, NoneStands, NoValueStands}
+use Rattle.warc_scan.specs.OpenValues.{IsOpenValue, IsPartBehind, Begins, EndsInside}
+use Rattle.warc_scan.specs.steps.Stops.{Leaves, Refuses, IsLineStop, Differs, NoneStands, NoValueStands}
 use Rattle.warc_scan.specs.declared.stop.Stop.{Stop}
 use Rattle.warc_scan.specs.declared.stop.Stop.TheVariants.{Open, Until, Wrong, Memory}
 

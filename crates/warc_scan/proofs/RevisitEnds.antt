@@ -10,7 +10,7 @@ use Rattle.warc_text.specs.References.{Reference}
 use Rattle.warc_text.specs.declared.kind.RecordKind.TheVariants as kinds
 use Rattle.warc_scan.specs.OpenValues.{refers_mark}
 use Rattle.warc_scan.specs.Openings.{IsRevisited, IsTarget}
-use Rattle.warc_scan.specs.Stops.{Differs, NoneStands}
+use Rattle.warc_scan.specs.steps.Stops.{Differs, NoneStands}
 use Rattle.warc_scan.specs.declared.stop.Stop.{Stop}
 use Rattle.warc_scan.proofs.FieldsTold.{refers_date_told, refers_target_told, refers_told, told_more}
 use Rattle.warc_scan.proofs.Pieces.{three, two}

@@ -8,12 +8,14 @@ use Rattle.warc_text.specs.Lines.{field, opening, type_line, version_line}
 use Rattle.warc_text.specs.Records.{group_text, response_opening}
 use Rattle.warc_text.specs.StandsFor.{GroupsAreCommitted, commit_byte}
 use Rattle.warc_text.specs.declared.id.IdKind.TheVariants as ids
-use Rattle.warc_scan.specs.Asking.{AsksByStop, AsksForGroup, AsksForMore, IsAskedFor}
-use Rattle.warc_scan.specs.Fronts.{IsBegun}
+use Rattle.warc_scan.specs.steps.Founds.{AsksByStop, no_group_by}
+use Rattle.warc_scan.specs.Asking.{AsksForGroup, AsksForMore, IsAskedFor}
+use Rattle.warc_scan.specs.steps.Fronts.{IsBegun}
 use Rattle.warc_scan.specs.Groups.{IsGroup, reference_in}
 use Rattle.warc_scan.specs.Openings.{IsOpening, Opening, opening_by}
-use Rattle.warc_scan.specs.Steps.{GroupsReach, HasNoGroup, IsCommittedRest, IsUnfinished, TellsGroup, TellsNoGroup, no_group_by}
-use Rattle.warc_scan.specs.Stops.{Begins, Refuses, no_record_by}
+use Rattle.warc_scan.specs.Answers.{GroupsReach, HasNoGroup, IsCommittedRest, IsUnfinished, TellsGroup, TellsNoGroup}
+use Rattle.warc_scan.specs.OpenValues.{Begins}
+use Rattle.warc_scan.specs.steps.Stops.{Refuses, no_record_by}
 use Rattle.warc_scan.specs.declared.group.Group.{Group}
 use Rattle.warc_scan.specs.declared.group_step.GroupStep.TheVariants as group_step
 use Rattle.warc_scan.specs.declared.no_record.NoRecord.{NoRecord}

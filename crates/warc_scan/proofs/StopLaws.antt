@@ -1,7 +1,7 @@
 -- What stops for want of memory say.
 use Rattle.std.proofs.Common.{◌≡◌, ℕ, Ok, Err}
 use Rattle.std.specs.Prelude.{Result, IfErr, IsErrOf}
-use Rattle.warc_scan.specs.Stops.{IsMessageStop}
+use Rattle.warc_scan.specs.steps.Stops.{IsMessageStop}
 use Rattle.warc_scan.specs.declared.stop.Stop.{Stop}
 use Rattle.warc_scan.specs.declared.stop.Stop.TheVariants.{Open, Until, Wrong, Memory}
 

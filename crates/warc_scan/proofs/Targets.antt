@@ -6,7 +6,7 @@ use Rattle.capture.specs.Target.{authority_of, begins_with_http, is_http_target,
 use Rattle.warc_text.specs.Groups.{IsOneLine}
 use Rattle.warc_scan.specs.Openings.{IsTarget}
 use Rattle.warc_scan.specs.OpenValues.{IsPartOfTarget}
-use Rattle.warc_scan.specs.Stops.{NoValueStands}
+use Rattle.warc_scan.specs.steps.Stops.{NoValueStands}
 use Rattle.warc_scan.specs.declared.stop.Stop.TheVariants.{Open, Wrong}
 use Rattle.warc_scan.proofs.LineValues.{ended_line, open_line}
 use Rattle.warc_scan.proofs.Refusals.{wrong_is_not_open}

@@ -10,9 +10,9 @@ use Rattle.warc_text.specs.declared.id.IdKind.TheVariants.{Info}
 use Rattle.warc_text.proofs.IdLaws.{uuid_text_told}
 use Rattle.warc_text.proofs.Fronts.{fronts}
 use Rattle.warc_text.proofs.LengthLaws.{length-uuid_text}
-use Rattle.warc_scan.specs.Forms.{IsFormStop, fits, uuid_form}
-use Rattle.warc_scan.specs.OpenValues.{IsPartOfUuid}
-use Rattle.warc_scan.specs.Stops.{Begins, NoValueStands}
+use Rattle.warc_scan.specs.steps.Stops.{IsFormStop, NoValueStands}
+use Rattle.warc_scan.specs.Forms.{fits, uuid_form}
+use Rattle.warc_scan.specs.OpenValues.{IsPartOfUuid, Begins}
 use Rattle.warc_scan.specs.declared.stop.Stop.{Stop}
 use Rattle.warc_scan.specs.declared.stop.Stop.TheVariants.{Open, Wrong}
 use Rattle.warc_scan.proofs.Forms.{form_stop, uuid_fits}

@@ -1,6 +1,7 @@
 -- Texts of several values, one after another.
 use Rattle.std.proofs.Common.{◌≡◌, ℕ, List, ◌++◌, append_assoc, sym, ap, subst, ◌∙◌}
-use Rattle.warc_scan.specs.Stops.{Leaves, EndsInside, NoneStands}
+use Rattle.warc_scan.specs.steps.Stops.{Leaves, NoneStands}
+use Rattle.warc_scan.specs.OpenValues.{EndsInside}
 use Rattle.warc_scan.specs.declared.stop.Stop.{Stop}
 use Rattle.warc_scan.proofs.Refusals.{refuses_more, refuses_behind, ends_more, ends_behind, IsTold}
 

@@ -1,60 +1,98 @@
--- The response of a group, by the block of its record.
-use Rattle.std.specs.Prelude.{◌≡◌, ◌≢◌, ℕ, ◌≤◌, List, [], ◌++◌, length, Some, Result, Ok}
-use Rattle.httparse.specs.Grammar.{ResponseHead}
-use Rattle.capture.specs.Captures.{is_cut, kept_wire}
-use Rattle.capture.specs.Head.{head_end}
-use Rattle.capture.specs.WellFormed.{TellsBody}
-use Rattle.capture.specs.declared.captured.Kept.{Kept}
-use Rattle.capture.specs.declared.captured.Kept.TheVariants.{Wire, Same, Cut}
-use Rattle.capture.specs.declared.framing.Framing.{Framing}
-use Rattle.capture.specs.declared.framing.Framing.TheVariants.{Empty}
-use Rattle.capture.specs.declared.framing.FramingFault.{FramingFault}
-use Rattle.http_head.specs.Heads.{HoldsResponse}
-use Rattle.warc_scan.specs.Groups.{HasPayloadLen, IsAnswer, unknown_number}
-use Rattle.warc_scan.specs.Openings.{opening_of}
-use Rattle.warc_scan.specs.declared.answer.Answer.{Answer}
-use Rattle.warc_scan.specs.declared.answer.Form.{Form}
-use Rattle.warc_scan.specs.declared.answer.Form.TheVariants as forms
-use Rattle.warc_scan.specs.declared.answer.Parts.{Parts}
-use Rattle.warc_scan.specs.declared.answer.Told.{Told}
-use Rattle.warc_scan.specs.declared.opening.Opening.{Opening}
+-- What an answer says of the rest of a volume: the bytes that are there, and those that follow where there are more.
+use Rattle.std.specs.Prelude.{◌≡◌, ℕ, ◌<◌, ◌≤◌, Bool, true, false, List, [], ◌++◌, length, ⊤}
+use Rattle.capture.specs.Tails.{IsCommitted, IsTail}
+use Rattle.warc_text.specs.StandsFor.{commit_byte}
+use Rattle.warc_scan.specs.Groups.{IsGroup}
+use Rattle.warc_scan.specs.Infos.{IsInfo}
+use Rattle.warc_scan.specs.declared.group.Group.{Group}
+use Rattle.warc_scan.specs.declared.group_step.GroupStep.{GroupStep}
+use Rattle.warc_scan.specs.declared.group_step.GroupStep.TheVariants as group_step
+use Rattle.warc_scan.specs.declared.info_step.InfoStep.{InfoStep}
+use Rattle.warc_scan.specs.declared.info_step.InfoStep.TheVariants as info_step
+use Rattle.warc_scan.specs.declared.no_record.NoRecord.{NoRecord}
+use Rattle.warc_scan.specs.declared.no_record.NoRecord.TheVariants as no_record
 
--- the block is the head and the wire that is kept, and they are a response of which the opening speaks
-pub record IsAnswerOf (method block : List ℕ) (opening : Opening) (head : List ℕ) (kept : Kept) : Type 0 where
-  pub composed : block ≡ head ++ kept_wire kept
-  pub cut_is : is_cut kept ≡ opening.cut
-  pub answer : IsAnswer method head opening.digest (opening_of opening).same kept
+-- what may follow the bytes: something, where the file goes on, else nothing
+abbrev pub MayFollow : Bool → List ℕ → Type 0
+MayFollow true after = 0 < length after
+MayFollow false after = after ≡ []
 
--- a text is split behind its head, which is that of a final response of these parts
-pub record AreParts (parts : Parts) : Type 0 where
-  pub ends : head_end parts.head.now ≡ Some (length parts.head.now)
-  pub holds : HoldsResponse parts.head.now parts.parsed
-  pub final : 200 ≤ parts.parsed.status
+-- nothing is there
+abbrev pub IsEnd : Bool → List ℕ → Type 0
+IsEnd more bytes = (bytes ≡ []) × (more ≡ false)
 
--- nothing stands behind the head, which tells of a body
-abbrev pub TellsOfBody : List ℕ → Parts → Type 0
-TellsOfBody method parts =
-    (parsed : ResponseHead) × (framing : Framing) × (parts.wire.now ≡ []) × TellsBody method parts.head.now parsed framing
+-- whatever follows, the rest is an unfinished tail
+abbrev pub IsUnfinished : Bool → List ℕ → Type 0
+IsUnfinished more bytes = (after : List ℕ) → MayFollow more after → IsTail commit_byte (bytes ++ after)
 
--- what is kept, by its form and the wire that stands there
-abbrev pub kept_by : Form → List ℕ → Kept
-kept_by forms.Whole wire = Wire wire
-kept_by forms.Revisit wire = Same unknown_number
-kept_by forms.Cut wire = Cut wire
+-- whatever follows, the rest is a committed text
+abbrev pub IsCommittedRest : Bool → List ℕ → Type 0
+IsCommittedRest more bytes = (after : List ℕ) → MayFollow more after → IsCommitted commit_byte (bytes ++ after)
 
--- the head and the wire are the response of which the opening speaks, in this form, and with a payload of this length
-pub record IsToldBy (method : List ℕ) (parts : Parts) (opening : Opening) (told : Told) : Type 0 where
-  pub is : IsAnswerOf method (parts.head.now ++ parts.wire.now) opening parts.head.now (kept_by told.form parts.wire.now)
-  pub all : kept_wire (kept_by told.form parts.wire.now) ≡ parts.wire.now
-  pub payload_len : HasPayloadLen method parts.head.now (kept_by told.form parts.wire.now) told.payload_len
+-- ---- groups
 
--- the block is a response that was read
-pub record IsRead (method block : List ℕ) (opening : Opening) (answer : Answer) : Type 0 where
-  pub is : IsAnswerOf method block opening answer.head.now (kept_by answer.form answer.wire.now)
-  pub all : kept_wire (kept_by answer.form answer.wire.now) ≡ answer.wire.now
-  pub payload_len : HasPayloadLen method answer.head.now (kept_by answer.form answer.wire.now) answer.payload_len
-  pub parsed : HoldsResponse answer.head.now answer.parsed
+-- the bytes begin with this group
+pub record BeginsWithGroup (namespace : List ℕ) (number : ℕ) (bytes : List ℕ) (group : Group) : Type 0 where
+  pub text : List ℕ
+  pub rest : List ℕ
+  pub composed : bytes ≡ text ++ rest
+  pub is : IsGroup namespace number text group
 
--- a head that tells of a body, however long that is
-abbrev pub IsSomeBody : Result Framing FramingFault → Type 0
-IsSomeBody told = (framing : Framing) × (told ≡ Ok framing) × (framing ≢ Empty)
+-- whatever follows, no group stands first
+abbrev pub HasNoGroup : List ℕ → ℕ → Bool → List ℕ → Type 0
+HasNoGroup namespace number more bytes =
+    (after : List ℕ) (group : Group) → MayFollow more after → ¬ (BeginsWithGroup namespace number (bytes ++ after) group)
+
+-- whatever follows, a group that stands first has this length or a greater one
+abbrev pub GroupsReach : List ℕ → ℕ → List ℕ → ℕ → Type 0
+GroupsReach namespace number bytes n =
+    (after : List ℕ) (group : Group) → BeginsWithGroup namespace number (bytes ++ after) group → n ≤ group.len
+
+-- what an answer on a group says
+abbrev pub TellsGroup : List ℕ → ℕ → Bool → List ℕ → GroupStep → Type 0
+TellsGroup namespace number more bytes (group_step.Group group) = BeginsWithGroup namespace number bytes group
+TellsGroup namespace number more bytes group_step.End = IsEnd more bytes
+TellsGroup namespace number more bytes group_step.Unfinished = IsUnfinished more bytes
+TellsGroup namespace number more bytes group_step.Damaged = IsCommittedRest more bytes × HasNoGroup namespace number more bytes
+TellsGroup namespace number more bytes (group_step.Need n) =
+    (more ≡ true) × (length bytes < n) × GroupsReach namespace number bytes n × ¬ (IsUnfinished more bytes)
+TellsGroup namespace number more bytes group_step.Memory = ⊤
+
+-- and what it says
+abbrev pub TellsNoGroup : List ℕ → ℕ → Bool → List ℕ → NoRecord → Type 0
+TellsNoGroup namespace number more bytes no_record.End = IsEnd more bytes
+TellsNoGroup namespace number more bytes no_record.Unfinished = IsUnfinished more bytes
+TellsNoGroup namespace number more bytes no_record.Damaged = IsCommittedRest more bytes × HasNoGroup namespace number more bytes
+TellsNoGroup namespace number more bytes (no_record.Need n) =
+    (more ≡ true) × (length bytes < n) × GroupsReach namespace number bytes n × ¬ (IsUnfinished more bytes)
+TellsNoGroup namespace number more bytes no_record.Memory = ⊤
+
+-- ---- warcinfos
+
+-- the bytes begin with this warcinfo
+pub record BeginsWithInfo (volume : ℕ) (bytes namespace : List ℕ) (born len : ℕ) : Type 0 where
+  pub text : List ℕ
+  pub rest : List ℕ
+  pub composed : bytes ≡ text ++ rest
+  pub is : IsInfo volume text namespace born len
+
+-- whatever follows, no warcinfo stands first
+abbrev pub HasNoInfo : ℕ → Bool → List ℕ → Type 0
+HasNoInfo volume more bytes =
+    (after namespace : List ℕ) (born len : ℕ) → MayFollow more after
+    → ¬ (BeginsWithInfo volume (bytes ++ after) namespace born len)
+
+-- whatever follows, a warcinfo that stands first has this length or a greater one
+abbrev pub InfosReach : ℕ → List ℕ → ℕ → Type 0
+InfosReach volume bytes n =
+    (after namespace : List ℕ) (born len : ℕ) → BeginsWithInfo volume (bytes ++ after) namespace born len → n ≤ len
+
+-- what an answer on a warcinfo says
+abbrev pub TellsInfo : ℕ → Bool → List ℕ → InfoStep → Type 0
+TellsInfo volume more bytes (info_step.Info namespace born len) = BeginsWithInfo volume bytes namespace born len
+TellsInfo volume more bytes info_step.End = IsEnd more bytes
+TellsInfo volume more bytes info_step.Unfinished = IsUnfinished more bytes
+TellsInfo volume more bytes info_step.Damaged = IsCommittedRest more bytes × HasNoInfo volume more bytes
+TellsInfo volume more bytes (info_step.Need n) =
+    (more ≡ true) × (length bytes < n) × InfosReach volume bytes n × ¬ (IsUnfinished more bytes)
+TellsInfo volume more bytes info_step.Memory = ⊤

@@ -6,13 +6,11 @@ use Rattle.warc_text.specs.Records.{request_opening}
 use Rattle.warc_text.specs.declared.id.IdKind.TheVariants as ids
 use Rattle.warc_scan.specs.Blocks.{EndsInsideBlock, IsWord}
 use Rattle.warc_scan.specs.Openings.{IsOpening, Opening, opening_text}
-use Rattle.warc_scan.specs.Stops.{Begins, EndsInside}
+use Rattle.warc_scan.specs.OpenValues.{Begins, EndsInside}
 use Rattle.warc_scan.specs.declared.group_step.GroupStep.{GroupStep}
 use Rattle.warc_scan.specs.declared.group_step.GroupStep.TheVariants as group_step
 use Rattle.warc_scan.specs.declared.no_record.NoRecord.{NoRecord}
 use Rattle.warc_scan.specs.declared.no_record.NoRecord.TheVariants as no_record
-use Rattle.warc_scan.specs.declared.stop.Stop.{Stop}
-use Rattle.warc_scan.specs.declared.stop.Stop.TheVariants.{Open, Until, Wrong, Memory}
 
 -- what a group begins with, up to the block of its first record, and from there to that of its second
 abbrev pub first_opening : List ℕ → ℕ → Opening → List ℕ
@@ -89,10 +87,3 @@ AsksForMore namespace number bytes no_record.Unfinished = ⊤
 AsksForMore namespace number bytes no_record.Damaged = ⊤
 AsksForMore namespace number bytes (no_record.Need n) = IsAskedFor namespace number bytes n
 AsksForMore namespace number bytes no_record.Memory = ⊤
-
--- the same of a stop
-abbrev pub AsksByStop : List ℕ → ℕ → List ℕ → Stop → Type 0
-AsksByStop namespace number bytes Open = EndsInOpening namespace number bytes (length bytes + 1)
-AsksByStop namespace number bytes (Until n) = EndsInBlock namespace number bytes n
-AsksByStop namespace number bytes Wrong = ⊤
-AsksByStop namespace number bytes Memory = ⊤

@@ -1,24 +1,10 @@
 -- A record's block behind its opening, and the line ends behind it (ISO 28500, WARC 1.1, section 4).
-use Rattle.std.specs.Prelude.{◌≡◌, ℕ, ◌+◌, ◌<◌, ◌^◌, List, ◌++◌, length, ⊤}
-use Rattle.warc_text.specs.Lines.{ended, length_lines}
-use Rattle.warc_scan.specs.Stops.{EndsInside, Refuses}
-use Rattle.warc_scan.specs.declared.block.Block.{Block}
-use Rattle.warc_scan.specs.declared.stop.Stop.{Stop}
-use Rattle.warc_scan.specs.declared.stop.Stop.TheVariants.{Open, Until, Wrong, Memory}
+use Rattle.std.specs.Prelude.{◌≡◌, ℕ, ◌+◌, ◌<◌, ◌^◌, List, ◌++◌, length}
+use Rattle.warc_text.specs.Lines.{length_lines}
 
 -- a number of 64 bits
 abbrev pub IsWord : ℕ → Type 0
 IsWord n = n < 2 ^ 64
-
--- behind the opening the bytes go on with the block, its length before it
-pub record HasBlock (opening bytes : List ℕ) (block : Block) : Type 0 where
-  pub composed : bytes ≡ opening ++ ended block.block.now ++ block.rest.now
-  pub short : length (opening ++ ended block.block.now) < 2 ^ 63
-
--- no block follows the opening, or one that goes on
-abbrev pub RefusesBlock : Stop → List ℕ → List ℕ → Type 0
-RefusesBlock stop opening bytes =
-    (block : List ℕ) → length (opening ++ ended block) < 2 ^ 63 → Refuses stop bytes (opening ++ ended block)
 
 -- the length of a block has come, and the record ends with its byte n, behind the block and two line ends
 pub record EndsInsideBlock (opening bytes : List ℕ) (n : ℕ) : Type 0 where
@@ -28,11 +14,3 @@ pub record EndsInsideBlock (opening bytes : List ℕ) (n : ℕ) : Type 0 where
   pub whole : n ≡ length (opening ++ length_lines len) + len + 4
   pub inside : length bytes < n
   pub short : n < 2 ^ 63
-
--- why more is asked for: the bytes end inside the length of some block, or inside the block
-abbrev pub AsksForBlock : List ℕ → List ℕ → Stop → Type 0
-AsksForBlock opening bytes Open =
-    (len : ℕ) × (come : List ℕ) × IsWord len × (bytes ≡ opening ++ come) × EndsInside (length_lines len) come
-AsksForBlock opening bytes (Until n) = EndsInsideBlock opening bytes n
-AsksForBlock opening bytes Wrong = ⊤
-AsksForBlock opening bytes Memory = ⊤

@@ -6,8 +6,8 @@ use Rattle.warc_scan.specs.Asking.{first_opening}
 use Rattle.warc_scan.specs.Blocks.{IsWord}
 use Rattle.warc_scan.specs.Groups.{reference_in}
 use Rattle.warc_scan.specs.Openings.{IsOpening, Opening, opening_of}
-use Rattle.warc_scan.specs.Steps.{IsCommittedRest, IsEnd, IsUnfinished, MayFollow}
-use Rattle.warc_scan.specs.Stops.{EndsInside}
+use Rattle.warc_scan.specs.Answers.{IsCommittedRest, IsEnd, IsUnfinished, MayFollow}
+use Rattle.warc_scan.specs.OpenValues.{EndsInside}
 use Rattle.warc_scan.specs.declared.group.Group.{Group}
 use Rattle.warc_scan.specs.declared.no_record.NoRecord.{NoRecord}
 use Rattle.warc_scan.specs.declared.no_record.NoRecord.TheVariants as no_record

@@ -1,7 +1,5 @@
 -- Values of a fixed length, by the bytes that may stand at each place of them.
 use Rattle.std.specs.Prelude.{ℕ, ◌<◌, ◌==◌, Bool, ◌&&◌, ◌||◌, nat_le, if◌then◌else◌, List, length, slice_index, codes, IsTrue}
-use Rattle.warc_scan.specs.declared.stop.Stop.{Stop}
-use Rattle.warc_scan.specs.declared.stop.Stop.TheVariants.{Open, Until, Wrong, Memory}
 
 -- ---- a form has `9` for a decimal digit, `f` for a hexadecimal one in lower case, `7` for one of base32, and each other byte for itself
 
@@ -44,10 +42,3 @@ digest_form = codes "77777777777777777777777777777777"
 pub record IsPartOfForm (form part : List ℕ) : Type 0 where
   pub short : length part < length form
   pub each : (k : ℕ) → k < length part → IsTrue (fits (slice_index form k) (slice_index part k))
-
--- why no value of the form stands where fewer bytes have come: it goes on, or begins otherwise
-abbrev pub IsFormStop : List ℕ → List ℕ → Stop → Type 0
-IsFormStop form part Open = IsPartOfForm form part
-IsFormStop form part (Until n) = ⊥
-IsFormStop form part Wrong = ¬ (IsPartOfForm form part)
-IsFormStop form part Memory = ⊥

@@ -1,5 +1,6 @@
--- Which bytes may be the beginning of a value in a record's opening or in a warcinfo, and where such a value begins.
-use Rattle.std.specs.Prelude.{◌≡◌, ◌⊎◌, ℕ, ◌<◌, ◌^◌, List, [], ◌++◌, codes, decimal, IsTrue}
+-- Which bytes may be the beginning of a value in a record's opening or in a warcinfo, where such a value begins, and when bytes end
+-- inside a text.
+use Rattle.std.specs.Prelude.{◌≡◌, ◌⊎◌, ℕ, ◌<◌, ◌^◌, List, [], ◌++◌, codes, decimal, IsTrue, ◌+◌, length}
 use Rattle.capture.specs.Target.{is_target_text}
 use Rattle.warc_scan.specs.Forms.{IsPartOfForm, date_form, digest_form, uuid_form}
 
@@ -58,3 +59,19 @@ pub record IsOpenValue (given part : List ℕ) : Type 0 where
   pub mark : List ℕ
   pub ends : given ≡ before ++ mark
   pub value : IsPartBehind mark part
+
+-- the text begins with the bytes, and goes on behind them
+pub record Begins (text bytes : List ℕ) : Type 0 where
+  pub behind : List ℕ
+  pub composed : text ≡ bytes ++ behind
+  pub more : 0 < length behind
+
+-- the bytes are the beginning of the text, or that up to where a value begins, and what may be the beginning of another value
+pub record EndsInside (text bytes : List ℕ) : Type 0 where
+  pub given : List ℕ
+  pub part : List ℕ
+  pub behind : List ℕ
+  pub begins : text ≡ given ++ behind
+  pub more : 0 < length behind
+  pub composed : bytes ≡ given ++ part
+  pub value : (part ≡ []) ⊎ IsOpenValue given part

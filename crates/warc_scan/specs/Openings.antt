@@ -1,23 +1,14 @@
 -- What the opening of a response or revisit record says (ISO 28500, WARC 1.1, sections 5 and 6). The opening of a record is
 -- all up to its block's length.
-use Rattle.std.specs.Prelude.{◌≡◌, ℕ, Bool, false, List, ◌++◌, codes, Option, Some, None, option_map, IfSome, IsTrue}
+use Rattle.std.specs.Prelude.{◌≡◌, ℕ, Bool, false, List, Option, Some, None, option_map, IfSome, IsTrue}
 use Rattle.digest32.specs.Base32.{IsDigest}
 use Rattle.time_text.specs.Texts.{InRange}
 use Rattle.capture.specs.Target.{is_accepted_uri}
 use Rattle.warc_text.specs.Ids.{IsUuid}
-use Rattle.warc_text.specs.Lines.{date_line, digest_line, field, id_line, target_line, version_line}
 use Rattle.warc_text.specs.Records.{response_opening, revisit_opening}
 use Rattle.warc_text.specs.References.{Reference}
 use Rattle.warc_scan.specs.declared.opening.Opening.{Opening as OpeningParts}
 use Rattle.warc_scan.specs.declared.opening_parts.Refers.{Refers}
-
--- what each record begins with, before its date
-abbrev pub start_text : List ℕ → List ℕ → List ℕ
-start_text word id = version_line ++ field (codes "WARC-Type") word ++ id_line id
-
--- what the openings of responses and revisits have in common
-abbrev pub front_text : List ℕ → List ℕ → ℕ → List ℕ → List ℕ → List ℕ
-front_text word id date uri digest = start_text word id ++ date_line date ++ target_line uri ++ digest_line digest
 
 -- the capture's date and target, its payload's digest, whether its response was cut, and the record that a revisit refers to
 pub record Opening : Type 0 where

@@ -2,9 +2,7 @@
 use Rattle.std.specs.Prelude.{◌≡◌, ℕ, List, length}
 use Rattle.capture.specs.Captures.{is_cut, kept_wire}
 use Rattle.http_head.specs.Heads.{HoldsResponse}
-use Rattle.warc_scan.specs.Founds.{IsGroupIn}
-use Rattle.warc_scan.specs.Steps.{BeginsWithGroup}
-use Rattle.warc_scan.specs.declared.find.Found.{Found}
+use Rattle.warc_scan.specs.Answers.{BeginsWithGroup}
 use Rattle.warc_scan.specs.declared.group.Group.{Group}
 use Rattle.warc_scan.specs.declared.outline.Outline.{Outline}
 
@@ -29,7 +27,3 @@ pub record IsOutlineOf (group : Group) (outline : Outline) : Type 0 where
 -- the bytes begin with a group of which this is told
 abbrev pub BeginsWithOutline : List ℕ → ℕ → List ℕ → Outline → Type 0
 BeginsWithOutline namespace number bytes outline = (group : Group) × BeginsWithGroup namespace number bytes group × IsOutlineOf group outline
-
--- the parts make a group of which this is told
-abbrev pub MakesOutline : ℕ → Found → Outline → Type 0
-MakesOutline number found outline = (group : Group) × IsGroupIn number found group × IsOutlineOf group outline

@@ -8,15 +8,15 @@ ghost use Rattle.capture.specs.declared.framing.Framing.{Framing as FramingForm}
 ghost use Rattle.capture.specs.declared.framing.FramingFault.{FramingFault};
 ghost use Rattle.httparse.specs.Grammar.{ResponseHead as ResponseForm};
 ghost use Rattle.message_body.specs.Framings.{framing_answer, told_by_response};
-ghost use Rattle.warc_scan.specs.Answers.{AreParts, IsAnswerOf, IsRead, IsSomeBody, IsToldBy, TellsOfBody};
+ghost use Rattle.warc_scan.specs.steps.Responses.{AreParts, IsAnswerOf, IsRead, IsSomeBody, IsToldBy, TellsOfBody};
 ghost use Rattle.warc_scan.specs.Groups.{HasPayloadLen, IsResponse};
 ghost use Rattle.warc_scan.specs.Openings.{IsOpening, opening_of};
-ghost use Rattle.warc_scan.specs.Stops.{IsMessageStop};
+ghost use Rattle.warc_scan.specs.steps.Stops.{IsMessageStop};
 
 use crate::opening::Opening;
 use crate::stop::Stop;
 use crate::wire_digest::summary_in;
-use capture::{Digest, Framing, heads_end_at_the_first_empty_line};
+use capture::{Digest, Framing};
 use http_head::is_short_head;
 use http_wire::{ResponseHead, WireFault, find_head_end, framing_of, read_head};
 use std::alloc::Global;
@@ -81,14 +81,8 @@ pub fn read_answer<'b>(
         → ¬ (IsAnswerOf method.now block.now opening.now head kept) }
     ensures stops { IfErr result IsMessageStop }
 {
-    let parts = match split_head(alloc, block) {
-        Ok(parts) => parts,
-        Err(stop) => return Err(stop),
-    };
-    let told = match tell(alloc, method, &parts, opening) {
-        Ok(told) => told,
-        Err(stop) => return Err(stop),
-    };
+    let parts = split_head(alloc, block)?;
+    let told = tell(alloc, method, &parts, opening)?;
     Ok(Answer {
         head: parts.head,
         wire: parts.wire,
@@ -130,8 +124,6 @@ fn split_head(alloc: Global, block: &[u8]) -> Result<Parts<'_>, Stop>
         → ¬ (IsFinalHead head parsed) }
     ensures stops { IfErr result IsMessageStop }
 {
-    // By it three answers are found that would have to be written.
-    heads_end_at_the_first_empty_line();
     let Some(end) = find_head_end(block) else {
         return Err(Stop::Wrong);
     };
@@ -200,10 +192,7 @@ fn whole_response(
         Ok(framing) => framing,
         Err(_) => return Err(Stop::Wrong),
     };
-    let found = match summary_in(alloc, framing, parts.wire, false) {
-        Ok(found) => found,
-        Err(stop) => return Err(stop),
-    };
+    let found = summary_in(alloc, framing, parts.wire, false)?;
     if !is_same(&found.digest, digest) {
         return Err(Stop::Wrong);
     }
@@ -233,10 +222,7 @@ fn cut_response(
         Ok(framing) => framing,
         Err(_) => return Err(Stop::Wrong),
     };
-    let found = match summary_in(alloc, framing, parts.wire, true) {
-        Ok(found) => found,
-        Err(stop) => return Err(stop),
-    };
+    let found = summary_in(alloc, framing, parts.wire, true)?;
     if !is_same(&found.digest, digest) {
         return Err(Stop::Wrong);
     }

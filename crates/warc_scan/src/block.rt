@@ -3,9 +3,10 @@ ghost use Rattle.std.specs.Prelude.{◌≡◌, ℕ, ◌+◌, ◌<◌, ◌≤◌,
 ghost use Rattle.httparse.specs.Ascii.{crlf_bytes};
 ghost use Rattle.warc_text.specs.Groups.{IsOneLine};
 ghost use Rattle.warc_text.specs.Lines.{length_lines};
-ghost use Rattle.warc_scan.specs.Blocks.{AsksForBlock, HasBlock, IsWord, RefusesBlock};
+ghost use Rattle.warc_scan.specs.steps.BlockParts.{AsksForBlock, HasBlock, RefusesBlock};
+ghost use Rattle.warc_scan.specs.Blocks.{IsWord};
 ghost use Rattle.warc_scan.specs.OpenValues.{IsPartOfNumber};
-ghost use Rattle.warc_scan.specs.Stops.{NoneStands, NoValueStands};
+ghost use Rattle.warc_scan.specs.steps.Stops.{NoneStands, NoValueStands};
 
 use crate::fields::split_line;
 use crate::stop::Stop;

@@ -1,7 +1,7 @@
 //! What is kept of a group, in memory of its own.
 ghost use Rattle.std.specs.Prelude.{◌≡◌, option_map, IfOk, IfSome, IsTrue};
 ghost use Rattle.capture.specs.Target.{is_accepted_uri};
-ghost use Rattle.warc_scan.specs.Answers.{kept_by};
+ghost use Rattle.warc_scan.specs.steps.Responses.{kept_by};
 ghost use Rattle.warc_scan.specs.Groups.{reference_in};
 ghost use Rattle.warc_scan.specs.Openings.{reference_of};
 

@@ -5,11 +5,11 @@ ghost use Rattle.time_text.specs.Texts.{InRange, warc_date};
 ghost use Rattle.warc_text.specs.Groups.{IsOneLine};
 ghost use Rattle.warc_text.specs.Ids.{IsUuid, id_text, uuid_text};
 ghost use Rattle.warc_text.specs.Lines.{date_field, field, id_field};
-ghost use Rattle.warc_scan.specs.Dates.{IsDateLen};
+ghost use Rattle.warc_scan.specs.steps.Dates.{IsDateLen};
 ghost use Rattle.warc_scan.specs.OpenValues.{IsDateMark, IsPartOfDate, IsPartOfTarget, IsPartOfUuid, IsTargetMark};
 ghost use Rattle.warc_scan.specs.Openings.{IsTarget};
-ghost use Rattle.warc_scan.specs.SplitLines.{IsSplitLine};
-ghost use Rattle.warc_scan.specs.Stops.{Differs, NoneStands, NoValueStands};
+ghost use Rattle.warc_scan.specs.steps.SplitLines.{IsSplitLine};
+ghost use Rattle.warc_scan.specs.steps.Stops.{Differs, NoneStands, NoValueStands};
 
 use crate::form::{DATE_FORM, UUID_FORM, open_form};
 use crate::stop::Stop;

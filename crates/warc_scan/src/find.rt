@@ -2,12 +2,12 @@
 ghost use Rattle.std.specs.Prelude.{◌≡◌, ℕ, List, IfOk, IfErr, IsErrOf};
 ghost use Rattle.capture.specs.WellFormed.{IsRequestOf};
 ghost use Rattle.capture.specs.declared.captured.Kept.{Kept as KeptForm};
-ghost use Rattle.warc_scan.specs.Answers.{IsAnswerOf};
-ghost use Rattle.warc_scan.specs.Asking.{AsksByStop, AsksForMore};
-ghost use Rattle.warc_scan.specs.Founds.{HasMessages, IsFound, IsFoundIn, IsReadIn};
+ghost use Rattle.warc_scan.specs.steps.Responses.{IsAnswerOf};
+ghost use Rattle.warc_scan.specs.steps.Founds.{AsksByStop, HasMessages, IsFound, IsFoundIn, IsReadIn};
+ghost use Rattle.warc_scan.specs.Asking.{AsksForMore};
 ghost use Rattle.warc_scan.specs.Groups.{IsGroup};
-ghost use Rattle.warc_scan.specs.Steps.{TellsNoGroup};
-ghost use Rattle.warc_scan.specs.Stops.{IsMessageStop, Refuses};
+ghost use Rattle.warc_scan.specs.Answers.{TellsNoGroup};
+ghost use Rattle.warc_scan.specs.steps.Stops.{IsMessageStop, Refuses};
 ghost use Rattle.warc_scan.specs.declared.group.Group.{Group as GroupForm};
 
 use crate::NoRecord;
@@ -92,14 +92,12 @@ fn read_group<'b>(
         Ok(found) => found,
         Err(stop) => return Err(stop),
     };
-    match read_messages(alloc, &found) {
-        Ok((method, answer)) => Ok(Read {
-            found,
-            method,
-            answer,
-        }),
-        Err(stop) => Err(stop),
-    }
+    let (method, answer) = read_messages(alloc, &found)?;
+    Ok(Read {
+        found,
+        method,
+        answer,
+    })
 }
 
 /// The parts of the group with this number that the bytes begin with, whatever its blocks are.
@@ -148,8 +146,6 @@ fn read_messages<'b>(alloc: Global, found: &Found<'b>) -> Result<(Text, Answer<'
         Err(_) => return Err(Stop::Memory),
     };
     let method = head.method;
-    match read_answer(alloc, method.as_slice(), found.answer, &found.opening) {
-        Ok(answer) => Ok((method, answer)),
-        Err(stop) => Err(stop),
-    }
+    let answer = read_answer(alloc, method.as_slice(), found.answer, &found.opening)?;
+    Ok((method, answer))
 }

@@ -1,7 +1,8 @@
 //! Values of a fixed length, of which fewer bytes have come.
 ghost use Rattle.std.specs.Prelude.{◌≡◌, ◌<◌, length};
 ghost use Rattle.warc_scan.specs.Forms as spec;
-ghost use Rattle.warc_scan.specs.Forms.{IsFormStop, fits, is_between};
+ghost use Rattle.warc_scan.specs.steps.Stops.{IsFormStop};
+ghost use Rattle.warc_scan.specs.Forms.{fits, is_between};
 
 use crate::stop::Stop;
 

@@ -1,6 +1,6 @@
 //! The first byte of what stands in a volume.
 ghost use Rattle.std.specs.Prelude.{◌≡◌};
-ghost use Rattle.warc_scan.specs.Fronts.{IsFront};
+ghost use Rattle.warc_scan.specs.steps.Fronts.{IsFront};
 
 /// The first byte of a finished warcinfo or group.
 const COMMIT_BYTE: u8 = b'W';

@@ -27,7 +27,7 @@ pub enum NoRecord {
 
 impl NoRecord {
     ghost use Rattle.std.specs.Prelude.{◌+◌, ◌<◌, ◌^◌};
-    ghost use Rattle.warc_scan.specs.Stops.{no_record_by};
+    ghost use Rattle.warc_scan.specs.steps.Stops.{no_record_by};
 
     /// What a stop comes to, where so many bytes have come, which begin with the commit byte and more, and where the file
     /// goes on behind them or doesn't.

@@ -1,8 +1,8 @@
 //! The openings of response and revisit records (ISO 28500, WARC 1.1, sections 6.3 and 6.7).
 ghost use Rattle.std.specs.Prelude.{◌≡◌, ℕ, List, ◌++◌, IfOk, IfErr};
-ghost use Rattle.warc_scan.specs.Kinds.{IsKind};
+ghost use Rattle.warc_scan.specs.steps.Kinds.{IsKind};
 ghost use Rattle.warc_scan.specs.Openings.{IsOpening, opening_of, opening_text};
-ghost use Rattle.warc_scan.specs.Stops.{NoneStands};
+ghost use Rattle.warc_scan.specs.steps.Stops.{NoneStands};
 
 use crate::opening_parts::{Refers, read_common, read_cut, read_revisit_end};
 use crate::stop::Stop;

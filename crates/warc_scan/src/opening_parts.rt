@@ -6,8 +6,9 @@ ghost use Rattle.warc_text.specs.Ids.{IsUuid};
 ghost use Rattle.warc_text.specs.Lines.{cut_line, content_line, date_line, digest_line, profile_lines, refers_line};
 ghost use Rattle.warc_text.specs.Records.{request_opening, revisit_end};
 ghost use Rattle.warc_text.specs.declared.kind.RecordKind.TheVariants as kinds;
-ghost use Rattle.warc_scan.specs.Openings.{IsOpening, IsRevisited, IsTarget, front_text, reference_of, start_text};
-ghost use Rattle.warc_scan.specs.Stops.{Differs, NoneStands};
+ghost use Rattle.warc_scan.specs.Openings.{IsOpening, IsRevisited, IsTarget, reference_of};
+ghost use Rattle.warc_scan.specs.steps.OpeningFronts.{front_text, start_text};
+ghost use Rattle.warc_scan.specs.steps.Stops.{Differs, NoneStands};
 
 use crate::fields::{read_date_field, read_target_field, read_uuid, strip_field, strip_id_field};
 use crate::form::{DIGEST_FORM, open_form};

@@ -1,8 +1,8 @@
 //! Finds the group of a capture in a volume.
 ghost use Rattle.std.specs.Prelude.{◌≡◌, IfOk};
 ghost use Rattle.warc_scan.specs.Asking.{AsksForGroup};
-ghost use Rattle.warc_scan.specs.Founds.{HasMessages, IsFound, IsGroupIn};
-ghost use Rattle.warc_scan.specs.Steps.{TellsGroup, no_group_by};
+ghost use Rattle.warc_scan.specs.steps.Founds.{HasMessages, IsFound, IsGroupIn, no_group_by};
+ghost use Rattle.warc_scan.specs.Answers.{TellsGroup};
 
 use crate::answer::Answer;
 use crate::copy::{copy_bytes, copy_kept, copy_revisited, copy_target};

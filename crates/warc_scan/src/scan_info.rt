@@ -3,9 +3,10 @@ ghost use Rattle.std.specs.Prelude.{◌≡◌, ◌++◌, ◌<◌, ℕ, List, len
 ghost use Rattle.time_text.specs.Texts.{InRange};
 ghost use Rattle.warc_text.specs.Ids.{IsUuid};
 ghost use Rattle.warc_text.specs.Records as spec;
-ghost use Rattle.warc_scan.specs.Steps.{IsCommittedRest, TellsInfo};
-ghost use Rattle.warc_scan.specs.InfoParts.{AsksForInfo, AsksForLittle, IsAnswerTo, IsInfoFront, NoNamespaceStands, front_of_info, info_front, info_middle};
-ghost use Rattle.warc_scan.specs.Stops.{Differs, IsLineStop, NoneStands};
+ghost use Rattle.warc_scan.specs.Answers.{IsCommittedRest, TellsInfo};
+ghost use Rattle.warc_scan.specs.InfoParts.{AsksForInfo, AsksForLittle, info_front, info_middle};
+ghost use Rattle.warc_scan.specs.steps.InfoFronts.{IsAnswerTo, IsInfoFront, NoNamespaceStands, front_of_info};
+ghost use Rattle.warc_scan.specs.steps.Stops.{Differs, IsLineStop, NoneStands};
 
 use crate::InfoStep;
 use crate::fields::{read_date_field, read_uuid};

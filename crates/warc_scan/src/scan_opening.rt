@@ -1,8 +1,8 @@
 //! Reads the opening of a capture's first record, without its block.
 ghost use Rattle.std.specs.Prelude.{◌≡◌, ◌++◌, ℕ, List, IfErr, IfOk};
 ghost use Rattle.warc_scan.specs.FirstOpenings.{AsksForOpening, BeginsWithOpening, IsFirst, IsOpeningOf, TellsNoOpening, first_lines};
-ghost use Rattle.warc_scan.specs.Steps.{BeginsWithGroup};
-ghost use Rattle.warc_scan.specs.Stops.{NoneStands};
+ghost use Rattle.warc_scan.specs.Answers.{BeginsWithGroup};
+ghost use Rattle.warc_scan.specs.steps.Stops.{NoneStands};
 ghost use Rattle.warc_scan.specs.declared.group.Group.{Group as GroupForm};
 
 use crate::NoRecord;

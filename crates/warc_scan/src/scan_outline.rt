@@ -1,9 +1,9 @@
 //! Tells of the group of a capture in a volume without copying the bodies of its messages.
 ghost use Rattle.std.specs.Prelude.{◌≡◌, IfErr, IfOk};
 ghost use Rattle.warc_scan.specs.Asking.{AsksForMore};
-ghost use Rattle.warc_scan.specs.Founds.{HasMessages, IsFound};
-ghost use Rattle.warc_scan.specs.Outlines.{BeginsWithOutline, MakesOutline};
-ghost use Rattle.warc_scan.specs.Steps.{TellsNoGroup};
+ghost use Rattle.warc_scan.specs.steps.Founds.{HasMessages, IsFound, MakesOutline};
+ghost use Rattle.warc_scan.specs.Outlines.{BeginsWithOutline};
+ghost use Rattle.warc_scan.specs.Answers.{TellsNoGroup};
 
 use crate::answer::Answer;
 use crate::copy::{copy_revisited, copy_target};
@@ -36,10 +36,7 @@ pub fn next_outline(
         method,
         answer,
     } = read;
-    match outline_of(alloc, number, &found, method, answer) {
-        Ok(outline) => Ok(outline),
-        Err(Memory) => Err(NoRecord::Memory),
-    }
+    Ok(outline_of(alloc, number, &found, method, answer)?)
 }
 
 /// What is told of the group of these parts, with these messages.

@@ -1,6 +1,6 @@
 //! Texts at the front of bytes.
 ghost use Rattle.std.specs.Prelude.{◌≡◌, ◌++◌, IfOk, IfErr};
-ghost use Rattle.warc_scan.specs.Stops.{Differs};
+ghost use Rattle.warc_scan.specs.steps.Stops.{Differs};
 
 use crate::stop::Stop;
 

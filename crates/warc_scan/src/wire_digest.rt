@@ -2,8 +2,8 @@
 ghost use Rattle.std.specs.Prelude.{◌≡◌, length, IfOk, IfErr, IsErrOf};
 ghost use Rattle.sha1.specs.Sha1.{sha1};
 ghost use Rattle.capture.specs.Body.{IsWire};
-ghost use Rattle.warc_scan.specs.Digests.{HasDigest, HasLength};
-ghost use Rattle.warc_scan.specs.Stops.{IsMessageStop};
+ghost use Rattle.warc_scan.specs.steps.Digests.{HasDigest, HasLength};
+ghost use Rattle.warc_scan.specs.steps.Stops.{IsMessageStop};
 
 use crate::stop::Stop;
 use capture::{Digest, Framing};

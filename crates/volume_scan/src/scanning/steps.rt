@@ -1,11 +1,12 @@
 //! The parts of a step: what stands next, and how the position moves on.
 ghost use Rattle.std.specs.Prelude.{◌≡◌, ◌≢◌, ◌+◌, ◌-◌, ◌<◌, ◌^◌, [], IfOk, IsTrue, OnOk, length};
-ghost use Rattle.warc_scan.specs.Steps.{BeginsWithGroup, BeginsWithInfo};
-ghost use Rattle.volume_scan.specs.Next.{FitsGroup, FitsInfo, HasGroupText, HasInfoText, IsNextGroup, IsNextInfo};
+ghost use Rattle.warc_scan.specs.Answers.{BeginsWithGroup, BeginsWithInfo};
+ghost use Rattle.volume_scan.specs.steps.Next.{FitsGroup, FitsInfo, HasInfoText, IsNextGroup, IsNextInfo, IsFurther};
+ghost use Rattle.volume_scan.specs.Placed.{HasGroupText};
 ghost use Rattle.volume_scan.specs.Scannings.{Finds, IsInPlace, captures_of, disk_of, file_count, files_in, position_of};
-ghost use Rattle.volume_scan.specs.Steps.{Comes, Keeps, Moves};
-ghost use Rattle.volume_scan.specs.Unread.{IsBehind, IsFurther, IsFurthest, file_at, unread};
-ghost use Rattle.volume_scan.specs.Windows.{CountsRead};
+ghost use Rattle.volume_scan.specs.steps.Moves.{Comes, Keeps, Moves};
+ghost use Rattle.volume_scan.specs.Unread.{IsBehind, IsFurthest, file_at, unread};
+ghost use Rattle.volume_scan.specs.steps.Readings.{CountsRead};
 ghost use Rattle.volume_scan.specs.declared.position.Stage.TheVariants.{Done as IsDone, Skipped as Skips};
 
 use super::Scanning;

@@ -1,7 +1,7 @@
 use Rattle.std.proofs.Common.{◌≡◌, ◌-◌, ℕ, List, drop, length, take, sym, ap, subst, ◌∙◌, arith}
 use Rattle.std.proofs.lemmas.List.{length-drop}
 use Rattle.warc_journal.specs.Extents.{warc_files}
-use Rattle.volume_scan.specs.Next.{IsNextGroup}
+use Rattle.volume_scan.specs.steps.Next.{IsNextGroup}
 use Rattle.volume_scan.specs.Unread.{file_at}
 use Rattle.volume_scan.proofs.Windows.{shown_from}
 use Rattle.volume_scan.proofs.asking.read_group.Goals as goal

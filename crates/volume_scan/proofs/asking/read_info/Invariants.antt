@@ -1,7 +1,8 @@
 use Rattle.std.proofs.Common.{◌≡◌, ◌≤◌, ◌-◌, IsTrue}
 use Rattle.warc_journal.specs.Extents.{warc_files}
 use Rattle.warc_journal.specs.Journals.{Rests}
-use Rattle.volume_scan.specs.Windows.{IsAt, IsInside, Shows}
+use Rattle.volume_scan.specs.steps.Readings.{IsAt}
+use Rattle.volume_scan.specs.Windows.{IsInside, Shows}
 use Rattle.volume_scan.proofs.asking.read_info.Given as goal
 
 abbrev pub invariant-asking : goal.invariant-asking

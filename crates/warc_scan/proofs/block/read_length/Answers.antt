@@ -5,7 +5,7 @@ use Rattle.httparse.specs.Ascii.{crlf_bytes}
 use Rattle.warc_text.specs.Lines.{field, length_lines}
 use Rattle.warc_scan.specs.Blocks.{IsWord}
 use Rattle.warc_scan.specs.OpenValues.{IsPartOfNumber}
-use Rattle.warc_scan.specs.Stops.{NoneStands}
+use Rattle.warc_scan.specs.steps.Stops.{NoneStands}
 use Rattle.warc_scan.proofs.Exits.{at_exit}
 use Rattle.warc_scan.proofs.Numbers.{number_line, number_told}
 use Rattle.warc_scan.proofs.Pieces.{at_value, before_value, behind_value, three}

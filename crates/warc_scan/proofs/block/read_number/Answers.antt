@@ -1,7 +1,7 @@
 -- A number is a line of at most twenty digits.
 use Rattle.warc_scan.specs.Blocks.{IsWord}
 use Rattle.warc_scan.specs.OpenValues.{IsPartOfNumber}
-use Rattle.warc_scan.specs.Stops.{NoValueStands}
+use Rattle.warc_scan.specs.steps.Stops.{NoValueStands}
 use Rattle.warc_scan.proofs.Exits.{at_exit}
 use Rattle.warc_scan.proofs.Numbers.{no_number, number_ends, number_line, number_stands}
 use Rattle.warc_scan.proofs.block.read_number.Goals as goal

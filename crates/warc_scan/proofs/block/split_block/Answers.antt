@@ -2,7 +2,7 @@
 use Rattle.std.proofs.Common.{◌≡◌, ℕ, ◌-◌, List, ◌++◌, length, length-append, drop, take, arith, sym, ap, ◌∙◌}
 use Rattle.std.proofs.lemmas.List.{take-append-drop}
 use Rattle.warc_text.specs.Lines.{record_end}
-use Rattle.warc_scan.specs.Blocks.{AsksForBlock, RefusesBlock}
+use Rattle.warc_scan.specs.steps.BlockParts.{AsksForBlock, RefusesBlock}
 use Rattle.warc_scan.proofs.BlockStops.{asks_for_closing, asks_for_length, ends_inside_block, has_block, length-told, length-whole, no_length, other_closing, telling, too_long, until}
 use Rattle.warc_scan.proofs.Exits.{at_exit}
 use Rattle.warc_scan.proofs.block.split_block.Goals as goal

@@ -5,7 +5,7 @@ use Rattle.httparse.specs.Ascii.{crlf_bytes}
 use Rattle.time_text.specs.Texts.{InRange, warc_date}
 use Rattle.warc_text.specs.Lines.{date_field, field}
 use Rattle.warc_scan.specs.OpenValues.{IsPartOfDate}
-use Rattle.warc_scan.specs.Stops.{Differs, NoValueStands}
+use Rattle.warc_scan.specs.steps.Stops.{Differs, NoValueStands}
 use Rattle.warc_scan.proofs.DateFronts.{date_is_short, date_told}
 use Rattle.warc_scan.proofs.Exits.{at_open_exit}
 use Rattle.warc_scan.proofs.Pieces.{at_value, before_value, behind_value, three}

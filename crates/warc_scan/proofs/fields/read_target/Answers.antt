@@ -5,7 +5,7 @@ use Rattle.httparse.specs.Ascii.{crlf_bytes}
 use Rattle.capture.specs.Target.{is_accepted_uri}
 use Rattle.warc_scan.specs.OpenValues.{IsPartOfTarget}
 use Rattle.warc_scan.specs.Openings.{IsTarget}
-use Rattle.warc_scan.specs.Stops.{Differs}
+use Rattle.warc_scan.specs.steps.Stops.{Differs}
 use Rattle.warc_scan.proofs.LineValues.{other_end, other_line}
 use Rattle.warc_scan.proofs.Targets.{target_is_one_line}
 use Rattle.warc_scan.proofs.fields.read_target.Goals as goal

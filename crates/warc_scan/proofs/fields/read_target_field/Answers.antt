@@ -5,7 +5,7 @@ use Rattle.httparse.specs.Ascii.{crlf_bytes}
 use Rattle.warc_text.specs.Lines.{field}
 use Rattle.warc_scan.specs.OpenValues.{IsPartOfTarget}
 use Rattle.warc_scan.specs.Openings.{IsTarget}
-use Rattle.warc_scan.specs.Stops.{Differs}
+use Rattle.warc_scan.specs.steps.Stops.{Differs}
 use Rattle.warc_scan.proofs.Pieces.{before_value, behind_mark}
 use Rattle.warc_scan.proofs.Refusals.{at_mark, none_at, none_same}
 use Rattle.warc_scan.proofs.Samples.{some_target, some_target_is}

@@ -3,7 +3,7 @@ use Rattle.std.specs.Prelude.{codes}
 use Rattle.std.proofs.lemmas.Result.{err_from_is_err_and, IfOk-weaker, IfErr-weaker}
 use Rattle.httparse.specs.Ascii.{crlf_bytes}
 use Rattle.warc_text.specs.Lines.{field}
-use Rattle.warc_scan.specs.Stops.{Differs}
+use Rattle.warc_scan.specs.steps.Stops.{Differs}
 use Rattle.warc_scan.proofs.Pieces.{four, first_of_four, second_of_four, third_of_four, fourth_of_four}
 use Rattle.warc_scan.proofs.fields.strip_field.Goals as goal
 

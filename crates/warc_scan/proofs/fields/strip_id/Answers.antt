@@ -3,7 +3,7 @@ use Rattle.std.specs.Prelude.{codes}
 use Rattle.std.proofs.lemmas.Result.{err_from_is_err_and, IfOk-weaker, IfErr-weaker}
 use Rattle.uuid.specs.Text.{hyphenated_text, lower}
 use Rattle.warc_text.specs.Ids.{id_text, uuid_text}
-use Rattle.warc_scan.specs.Stops.{Differs}
+use Rattle.warc_scan.specs.steps.Stops.{Differs}
 use Rattle.warc_scan.proofs.Pieces.{three, first_of_three, second_of_three, third_of_three}
 use Rattle.warc_scan.proofs.fields.strip_id.Goals as goal
 

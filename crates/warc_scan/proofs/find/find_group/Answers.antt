@@ -3,9 +3,9 @@ use Rattle.std.proofs.lemmas.Result.{err_from_is_err_and}
 use Rattle.warc_text.specs.Ids.{id_of}
 use Rattle.warc_text.specs.Records.{request_opening}
 use Rattle.warc_text.specs.declared.id.IdKind.TheVariants as ids
-use Rattle.warc_scan.specs.Blocks.{AsksForBlock, HasBlock, RefusesBlock}
+use Rattle.warc_scan.specs.steps.BlockParts.{AsksForBlock, HasBlock, RefusesBlock}
 use Rattle.warc_scan.specs.Openings.{opening_of, opening_text}
-use Rattle.warc_scan.specs.Stops.{Differs}
+use Rattle.warc_scan.specs.steps.Stops.{Differs}
 use Rattle.warc_scan.proofs.FindLaws.{block_asks, first_front, found_in, no_block, no_opening, no_request, no_second_opening, none_told, opening_asks, opening_told_by, parts_of, request_asks, second_front, second_opening_asks, second_told}
 use Rattle.warc_scan.proofs.find.find_group.Goals as goal
 

@@ -1,7 +1,7 @@
 use Rattle.std.proofs.Common.{sym, subst}
 use Rattle.warc_text.proofs.GroupLaws.{groups_are_committed}
 use Rattle.warc_scan.specs.Asking.{AsksForMore}
-use Rattle.warc_scan.specs.Steps.{TellsNoGroup}
+use Rattle.warc_scan.specs.Answers.{TellsNoGroup}
 use Rattle.warc_scan.proofs.StepLaws.{asks_none, begun_asks, needs_second_byte, tells_none}
 use Rattle.warc_scan.proofs.find.read_first.Goals as goal
 

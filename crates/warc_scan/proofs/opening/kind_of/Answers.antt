@@ -1,6 +1,6 @@
 use Rattle.std.proofs.Common.{ℕ, List, arith}
 use Rattle.warc_scan.specs.Openings.{IsOpening, opening_text}
-use Rattle.warc_scan.specs.Stops.{NoneStands}
+use Rattle.warc_scan.specs.steps.Stops.{NoneStands}
 use Rattle.warc_scan.proofs.Exits.{at_exit}
 use Rattle.warc_scan.proofs.OpeningKinds.{front_ends, front_refused, letter_refused, response_is_there, revisit_is_there}
 use Rattle.warc_scan.proofs.opening.kind_of.Goals as goal

@@ -1,5 +1,5 @@
 use Rattle.warc_scan.specs.Openings.{IsOpening, opening_text}
-use Rattle.warc_scan.specs.Stops.{NoneStands}
+use Rattle.warc_scan.specs.steps.Stops.{NoneStands}
 use Rattle.warc_scan.proofs.Exits.{at_exit}
 use Rattle.warc_scan.proofs.opening.read_opening.Goals as goal
 

@@ -1,6 +1,6 @@
 use Rattle.std.proofs.Common.{refl}
 use Rattle.warc_scan.specs.Openings.{IsOpening, opening_text, reference_of}
-use Rattle.warc_scan.specs.Stops.{NoneStands}
+use Rattle.warc_scan.specs.steps.Stops.{NoneStands}
 use Rattle.warc_scan.proofs.Exits.{at_exit}
 use Rattle.warc_scan.proofs.OpeningKinds.{end_refused, revisit_front_refused, revisit_stands}
 use Rattle.warc_scan.proofs.opening.read_revisit.Goals as goal

@@ -1,7 +1,8 @@
 use Rattle.std.proofs.Common.{inl, refl}
 use Rattle.warc_text.specs.Lines.{date_line, digest_line, target_line}
-use Rattle.warc_scan.specs.Openings.{IsOpening, front_text, start_text}
-use Rattle.warc_scan.specs.Stops.{NoneStands}
+use Rattle.warc_scan.specs.Openings.{IsOpening}
+use Rattle.warc_scan.specs.steps.OpeningFronts.{front_text, start_text}
+use Rattle.warc_scan.specs.steps.Stops.{NoneStands}
 use Rattle.warc_scan.proofs.CommonFronts.{date_refused, digest_refused, start_refused, target_refused}
 use Rattle.warc_scan.proofs.Exits.{at_exit}
 use Rattle.warc_scan.proofs.Pieces.{four}

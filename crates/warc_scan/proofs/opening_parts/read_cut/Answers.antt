@@ -1,5 +1,5 @@
 use Rattle.std.proofs.Common.{arith}
-use Rattle.warc_scan.specs.Stops.{NoneStands}
+use Rattle.warc_scan.specs.steps.Stops.{NoneStands}
 use Rattle.warc_scan.proofs.CutLines.{IsCut, content_refused, cut_text, mark_refused, marked_content_refused, marked_stands, nothing_refused, whole_stands}
 use Rattle.warc_scan.proofs.Exits.{at_exit}
 use Rattle.warc_scan.proofs.opening_parts.read_cut.Goals as goal

@@ -6,7 +6,7 @@ use Rattle.httparse.specs.Ascii.{crlf_bytes}
 use Rattle.digest32.specs.Base32.{IsDigest, base32}
 use Rattle.warc_text.specs.Lines.{digest_line, field}
 use Rattle.warc_scan.specs.OpenValues.{IsPartOfDigest}
-use Rattle.warc_scan.specs.Stops.{NoneStands}
+use Rattle.warc_scan.specs.steps.Stops.{NoneStands}
 use Rattle.warc_scan.proofs.DigestLines.{digest_stands, digest_stop, digest_told, no_digest}
 use Rattle.warc_scan.proofs.Exits.{at_exit}
 use Rattle.warc_scan.proofs.Pieces.{at_value, before_value, behind_value, three}

@@ -4,7 +4,7 @@ use Rattle.warc_text.specs.Ids.{IsUuid, id_of, uuid_text}
 use Rattle.warc_text.specs.Lines.{refers_line}
 use Rattle.warc_text.specs.declared.id.IdKind.TheVariants.{Info}
 use Rattle.warc_scan.specs.OpenValues.{IsPartOfUuid, refers_mark}
-use Rattle.warc_scan.specs.Stops.{NoneStands}
+use Rattle.warc_scan.specs.steps.Stops.{NoneStands}
 use Rattle.warc_scan.proofs.Exits.{at_exit}
 use Rattle.warc_scan.proofs.Pieces.{at_value, before_value, behind_value, three}
 use Rattle.warc_scan.proofs.RevisitEnds.{id_stands, ids_refused}

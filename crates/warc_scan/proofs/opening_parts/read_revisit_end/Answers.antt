@@ -2,7 +2,7 @@ use Rattle.std.proofs.Common.{inr, refl}
 use Rattle.warc_text.specs.Lines.{refers_date_line, refers_line, refers_target_line}
 use Rattle.warc_text.specs.Records.{revisit_end}
 use Rattle.warc_scan.specs.Openings.{IsRevisited}
-use Rattle.warc_scan.specs.Stops.{NoneStands}
+use Rattle.warc_scan.specs.steps.Stops.{NoneStands}
 use Rattle.warc_scan.proofs.Exits.{at_exit}
 use Rattle.warc_scan.proofs.RevisitEnds.{content_refused, end_stands, id_refused, profile_refused, refers_date_refused, refers_stand, refers_target_refused}
 use Rattle.warc_scan.proofs.opening_parts.read_revisit_end.Goals as goal

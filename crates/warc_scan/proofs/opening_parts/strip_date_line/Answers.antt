@@ -3,7 +3,7 @@ use Rattle.std.specs.Prelude.{IfErr, IfOk, codes}
 use Rattle.std.proofs.lemmas.Result.{OkIff-at_ok}
 use Rattle.time_text.specs.Texts.{InRange, warc_date}
 use Rattle.warc_text.specs.Lines.{date_field, date_line, field}
-use Rattle.warc_scan.specs.Stops.{Differs}
+use Rattle.warc_scan.specs.steps.Stops.{Differs}
 use Rattle.warc_scan.proofs.opening_parts.strip_date_line.Goals as goal
 
 pub returns-clause-ok : goal.returns-clause-ok

@@ -1,7 +1,7 @@
 use Rattle.std.specs.Prelude.{codes}
 use Rattle.std.proofs.lemmas.Result.{IfErr-weaker, IfOk-weaker}
 use Rattle.warc_text.specs.Lines.{field, profile_lines}
-use Rattle.warc_scan.specs.Stops.{Differs}
+use Rattle.warc_scan.specs.steps.Stops.{Differs}
 use Rattle.warc_scan.proofs.Exits.{at_exit}
 use Rattle.warc_scan.proofs.Pieces.{first_of_two, second_of_two, two}
 use Rattle.warc_scan.proofs.opening_parts.strip_profile.Goals as goal

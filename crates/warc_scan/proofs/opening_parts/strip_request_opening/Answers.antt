@@ -3,8 +3,8 @@ use Rattle.std.proofs.lemmas.Result.{IfErr-weaker, IfOk-weaker}
 use Rattle.warc_text.specs.Lines.{concurrent_line, content_line, date_line, opening, target_line, type_line}
 use Rattle.warc_text.specs.Records.{request_opening}
 use Rattle.warc_text.specs.declared.kind.RecordKind.TheVariants as kinds
-use Rattle.warc_scan.specs.Openings.{start_text}
-use Rattle.warc_scan.specs.Stops.{Differs}
+use Rattle.warc_scan.specs.steps.OpeningFronts.{start_text}
+use Rattle.warc_scan.specs.steps.Stops.{Differs}
 use Rattle.warc_scan.proofs.Exits.{at_exit}
 use Rattle.warc_scan.proofs.FivePieces.{fifth_of_five, first_of_five, five, fourth_of_five, second_of_five, third_of_five}
 use Rattle.warc_scan.proofs.opening_parts.strip_request_opening.Goals as goal

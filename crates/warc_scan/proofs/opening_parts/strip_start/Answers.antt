@@ -1,8 +1,8 @@
 use Rattle.std.specs.Prelude.{codes}
 use Rattle.std.proofs.lemmas.Result.{IfErr-weaker, IfOk-weaker}
 use Rattle.warc_text.specs.Lines.{field, id_field, id_line, version_line}
-use Rattle.warc_scan.specs.Openings.{start_text}
-use Rattle.warc_scan.specs.Stops.{Differs}
+use Rattle.warc_scan.specs.steps.OpeningFronts.{start_text}
+use Rattle.warc_scan.specs.steps.Stops.{Differs}
 use Rattle.warc_scan.proofs.Exits.{at_exit}
 use Rattle.warc_scan.proofs.Pieces.{first_of_three, second_of_three, third_of_three, three}
 use Rattle.warc_scan.proofs.opening_parts.strip_start.Goals as goal

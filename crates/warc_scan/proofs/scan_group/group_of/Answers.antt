@@ -1,5 +1,5 @@
 use Rattle.std.proofs.Common.{length, refl, sym, ap, subst, arith}
-use Rattle.warc_scan.specs.Answers.{IsAnswerOf, kept_by}
+use Rattle.warc_scan.specs.steps.Responses.{IsAnswerOf, kept_by}
 use Rattle.warc_scan.specs.Groups.{HasPayloadLen}
 use Rattle.warc_scan.proofs.TargetAscii.{revisited_target}
 use Rattle.warc_scan.proofs.scan_group.group_of.Goals as goal

@@ -1,6 +1,6 @@
 use Rattle.std.proofs.Common.{sym, subst}
 use Rattle.warc_scan.specs.Asking.{AsksForGroup}
-use Rattle.warc_scan.specs.Steps.{TellsGroup}
+use Rattle.warc_scan.specs.Answers.{TellsGroup}
 use Rattle.warc_scan.proofs.ReadLaws.{found_group, found_is}
 use Rattle.warc_scan.proofs.StepLaws.{step_asks, step_tells}
 use Rattle.warc_scan.proofs.scan_group.next_group.Goals as goal

@@ -4,9 +4,9 @@ use Rattle.warc_text.specs.Ids.{IsUuid, id_of, uuid_text}
 use Rattle.warc_text.specs.Lines.{date_line}
 use Rattle.warc_text.specs.declared.id.IdKind.TheVariants.{Info}
 use Rattle.warc_text.proofs.LengthLaws.{length-uuid_text}
-use Rattle.warc_scan.specs.InfoParts.{IsInfoFront, front_of_info}
+use Rattle.warc_scan.specs.steps.InfoFronts.{IsInfoFront, front_of_info}
 use Rattle.warc_scan.specs.OpenValues.{IsPartOfUuid, info_mark}
-use Rattle.warc_scan.specs.Stops.{NoneStands}
+use Rattle.warc_scan.specs.steps.Stops.{NoneStands}
 use Rattle.warc_scan.proofs.Exits.{at_exit, at_open_exit}
 use Rattle.warc_scan.proofs.InfoFronts.{date_refused, front_stands, id_refused}
 use Rattle.warc_scan.proofs.Pieces.{at_value, before_value, behind_value, three}

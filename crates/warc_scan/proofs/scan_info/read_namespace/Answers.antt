@@ -1,5 +1,5 @@
 use Rattle.std.proofs.Common.{ap, Err, ◌∙◌}
-use Rattle.warc_scan.specs.InfoParts.{NoNamespaceStands}
+use Rattle.warc_scan.specs.steps.InfoFronts.{NoNamespaceStands}
 use Rattle.warc_scan.proofs.Exits.{at_exit}
 use Rattle.warc_scan.proofs.InfoStops.{no_middle, no_namespace, no_text}
 use Rattle.warc_scan.proofs.scan_info.read_namespace.Goals as goal

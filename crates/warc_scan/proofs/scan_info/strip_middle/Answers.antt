@@ -2,7 +2,7 @@ use Rattle.std.proofs.Common.{◌≡◌, ◌+◌, decimal, length, ap, ◌∙◌
 use Rattle.std.proofs.lemmas.Result.{IfErr-weaker, IfOk-weaker}
 use Rattle.warc_text.specs.Lengths.{info_block_length}
 use Rattle.warc_scan.specs.InfoParts.{info_middle}
-use Rattle.warc_scan.specs.Stops.{Differs}
+use Rattle.warc_scan.specs.steps.Stops.{Differs}
 use Rattle.warc_scan.proofs.Exits.{at_exit}
 use Rattle.warc_scan.proofs.InfoFronts.{first_of_middle, middle_stands, second_of_middle, third_of_middle}
 use Rattle.warc_scan.proofs.scan_info.strip_middle.Goals as goal

@@ -2,7 +2,7 @@ use Rattle.std.proofs.Common.{[]}
 use Rattle.warc_text.specs.Lines.{length_lines}
 use Rattle.warc_scan.specs.FirstOpenings.{IsFirst, first_lines}
 use Rattle.warc_scan.specs.Openings.{opening_of}
-use Rattle.warc_scan.specs.Stops.{NoneStands}
+use Rattle.warc_scan.specs.steps.Stops.{NoneStands}
 use Rattle.warc_scan.proofs.Exits.{at_exit}
 use Rattle.warc_scan.proofs.FindLaws.{behind_both, length_before, none_told, opening_told_by}
 use Rattle.warc_scan.proofs.FirstLaws.{no_length, no_opening}

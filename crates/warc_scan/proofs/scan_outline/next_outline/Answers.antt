@@ -4,7 +4,7 @@ use Rattle.warc_scan.proofs.scan_outline.next_outline.Goals as goal
 pub outline_of-requires-clause-found : goal.outline_of-requires-clause-found
 outline_of-requires-clause-found c = found_is c.args.namespace.now c.args.number c.args.bytes.now c.in-Ok.read.found c.in-Ok.ensures.ok.found
 
-pub returns-in-Ok-outline_of-clause-ok : goal.returns-in-Ok-outline_of-clause-ok
-returns-in-Ok-outline_of-clause-ok c =
-    let made = c.in-Ok-outline_of.ensures in
+pub returns-clause-ok : goal.returns-clause-ok
+returns-clause-ok c =
+    let made = c.in_ok-outline_of.ensures in
     (made.0, found_group c.args.namespace.now c.args.number c.args.bytes.now c.in-Ok.read.found c.in-Ok.ensures.ok.found made.0 made.1, made.2)

@@ -1,6 +1,6 @@
 use Rattle.std.proofs.Common.{◌+◌, ◌-◌, length, refl, sym, ap, arith}
-use Rattle.warc_scan.specs.Answers.{kept_by}
-use Rattle.warc_scan.specs.Founds.{IsGroupIn}
+use Rattle.warc_scan.specs.steps.Responses.{kept_by}
+use Rattle.warc_scan.specs.steps.Founds.{IsGroupIn}
 use Rattle.warc_scan.specs.declared.group.Group.{Group}
 use Rattle.warc_scan.proofs.TargetAscii.{revisited_target}
 use Rattle.warc_scan.proofs.scan_outline.outline_of.Goals as goal

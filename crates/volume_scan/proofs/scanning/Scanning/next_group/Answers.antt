@@ -1,6 +1,6 @@
 use Rattle.std.proofs.Common.{◌≡◌, ℕ, List, IfOk, drop, sym, ap, subst, ◌∙◌}
 use Rattle.warc_journal.specs.Extents.{warc_files}
-use Rattle.volume_scan.specs.Next.{IsNextGroup}
+use Rattle.volume_scan.specs.steps.Next.{IsNextGroup}
 use Rattle.volume_scan.specs.Scannings.{files_in}
 use Rattle.volume_scan.specs.Unread.{file_at, unread}
 use Rattle.volume_scan.proofs.Texts.{behind_is}

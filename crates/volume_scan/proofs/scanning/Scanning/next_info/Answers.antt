@@ -1,6 +1,6 @@
 use Rattle.std.proofs.Common.{◌≡◌, ℕ, List, IfOk, ap, subst}
 use Rattle.warc_journal.specs.Extents.{warc_files}
-use Rattle.volume_scan.specs.Next.{IsNextInfo}
+use Rattle.volume_scan.specs.steps.Next.{IsNextInfo}
 use Rattle.volume_scan.specs.Scannings.{files_in}
 use Rattle.volume_scan.specs.Unread.{file_at}
 use Rattle.volume_scan.proofs.scanning.Scanning.next_info.Goals as goal

@@ -1,10 +1,11 @@
 -- Why bytes don't begin with a text, whatever follows them.
-use Rattle.std.specs.Prelude.{◌≡◌, ◌⊎◌, ℕ, ◌+◌, ◌<◌, ◌≤◌, Bool, true, false, List, [], ◌++◌, length, ⊤}
-use Rattle.warc_scan.specs.OpenValues.{IsOpenValue}
+use Rattle.std.specs.Prelude.{◌≡◌, ◌⊎◌, ℕ, ◌+◌, ◌<◌, ◌≤◌, Bool, true, false, List, ◌++◌, length, ⊤, if◌then◌else◌}
+use Rattle.warc_scan.specs.OpenValues.{Begins, EndsInside}
 use Rattle.warc_scan.specs.declared.no_record.NoRecord.{NoRecord}
 use Rattle.warc_scan.specs.declared.no_record.NoRecord.TheVariants as no_record
 use Rattle.warc_scan.specs.declared.stop.Stop.{Stop}
 use Rattle.warc_scan.specs.declared.stop.Stop.TheVariants.{Open, Until, Wrong, Memory}
+use Rattle.warc_scan.specs.Forms.{IsPartOfForm}
 
 -- what follows from it that the text stands first, if more bytes follow
 abbrev pub Leaves : Stop → List ℕ → List ℕ → Type 0
@@ -25,22 +26,6 @@ no_record_by (Until n) true len = no_record.Need n
 no_record_by (Until n) false len = no_record.Damaged
 no_record_by Wrong more len = no_record.Damaged
 no_record_by Memory more len = no_record.Memory
-
--- the text begins with the bytes, and goes on behind them
-pub record Begins (text bytes : List ℕ) : Type 0 where
-  pub behind : List ℕ
-  pub composed : text ≡ bytes ++ behind
-  pub more : 0 < length behind
-
--- the bytes are the beginning of the text, or that up to where a value begins, and what may be the beginning of another value
-pub record EndsInside (text bytes : List ℕ) : Type 0 where
-  pub given : List ℕ
-  pub part : List ℕ
-  pub behind : List ℕ
-  pub begins : text ≡ given ++ behind
-  pub more : 0 < length behind
-  pub composed : bytes ≡ given ++ part
-  pub value : (part ≡ []) ⊎ IsOpenValue given part
 
 -- inside a line nothing is known of where a record ends
 abbrev pub IsLineStop : Stop → Type 0
@@ -74,3 +59,10 @@ IsMessageStop Open = ⊥
 IsMessageStop (Until n) = ⊥
 IsMessageStop Wrong = ⊤
 IsMessageStop Memory = ⊤
+
+-- why no value of the form stands where fewer bytes have come: it goes on, or begins otherwise
+abbrev pub IsFormStop : List ℕ → List ℕ → Stop → Type 0
+IsFormStop form part Open = IsPartOfForm form part
+IsFormStop form part (Until n) = ⊥
+IsFormStop form part Wrong = ¬ (IsPartOfForm form part)
+IsFormStop form part Memory = ⊥

@@ -1,17 +1,30 @@
 -- A group that is found by its openings and its blocks, and the group that these make.
-use Rattle.std.specs.Prelude.{◌≡◌, ℕ, ◌+◌, ◌<◌, ◌≤◌, ◌^◌, List, ◌++◌, length}
+use Rattle.std.specs.Prelude.{◌≡◌, ℕ, ◌+◌, ◌<◌, ◌≤◌, ◌^◌, List, ◌++◌, length, ⊤}
 use Rattle.capture.specs.WellFormed.{IsRequestOf}
 use Rattle.warc_text.specs.Ids.{id_of}
 use Rattle.warc_text.specs.Lines.{ended}
 use Rattle.warc_text.specs.Records.{request_opening}
 use Rattle.warc_text.specs.declared.id.IdKind.TheVariants as ids
-use Rattle.warc_scan.specs.Answers.{IsAnswerOf, IsRead}
+use Rattle.warc_scan.specs.steps.Responses.{IsAnswerOf, IsRead}
 use Rattle.warc_scan.specs.Groups.{HasPayloadLen, reference_in}
 use Rattle.warc_scan.specs.Openings.{IsOpening, opening_of, opening_text}
 use Rattle.warc_scan.specs.declared.group.Group.{Group}
 use Rattle.warc_scan.specs.declared.answer.Answer.{Answer}
 use Rattle.warc_scan.specs.declared.find.Found.{Found}
 use Rattle.warc_scan.specs.declared.find.Read.{Read}
+use Rattle.warc_text.specs.declared.id.IdKind.TheVariants as ids
+use Rattle.warc_scan.specs.declared.group_step.GroupStep.{GroupStep}
+use Rattle.warc_scan.specs.declared.group_step.GroupStep.TheVariants as group_step
+use Rattle.warc_scan.specs.declared.no_record.NoRecord.{NoRecord}
+use Rattle.warc_scan.specs.declared.no_record.NoRecord.TheVariants as no_record
+use Rattle.warc_scan.specs.declared.stop.Stop.{Stop}
+use Rattle.warc_scan.specs.declared.stop.Stop.TheVariants.{Open, Until, Wrong, Memory}
+use Rattle.warc_scan.specs.Asking.{EndsInOpening, EndsInBlock}
+use Rattle.warc_scan.specs.declared.outline.Outline.{Outline}
+use Rattle.warc_scan.specs.Outlines.{IsOutlineOf}
+use Rattle.warc_scan.specs.declared.group_step.GroupStep.TheVariants as group_step
+use Rattle.warc_scan.specs.declared.info_step.InfoStep.{InfoStep}
+use Rattle.warc_scan.specs.declared.no_record.NoRecord.TheVariants as no_record
 
 -- its response or revisit record
 abbrev pub first_record : List ℕ → ℕ → Found → List ℕ
@@ -65,3 +78,22 @@ pub record HasMessages (found : Found) (method : List ℕ) (answer : Answer) : T
 pub record IsReadIn (namespace : List ℕ) (number : ℕ) (bytes : List ℕ) (read : Read) : Type 0 where
   pub found : IsFoundIn namespace number bytes read.found
   pub messages : HasMessages read.found read.method read.answer
+
+-- the same of a stop
+abbrev pub AsksByStop : List ℕ → ℕ → List ℕ → Stop → Type 0
+AsksByStop namespace number bytes Open = EndsInOpening namespace number bytes (length bytes + 1)
+AsksByStop namespace number bytes (Until n) = EndsInBlock namespace number bytes n
+AsksByStop namespace number bytes Wrong = ⊤
+AsksByStop namespace number bytes Memory = ⊤
+
+-- the parts make a group of which this is told
+abbrev pub MakesOutline : ℕ → Found → Outline → Type 0
+MakesOutline number found outline = (group : Group) × IsGroupIn number found group × IsOutlineOf group outline
+
+-- the answer where no group is told
+abbrev pub no_group_by : NoRecord → GroupStep
+no_group_by no_record.End = group_step.End
+no_group_by no_record.Unfinished = group_step.Unfinished
+no_group_by no_record.Damaged = group_step.Damaged
+no_group_by (no_record.Need n) = group_step.Need n
+no_group_by no_record.Memory = group_step.Memory

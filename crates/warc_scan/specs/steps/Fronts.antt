@@ -2,7 +2,7 @@
 use Rattle.std.specs.Prelude.{◌≡◌, ◌⊎◌, ℕ, Bool, true, List, [], ◌∷◌}
 use Rattle.capture.specs.Tails.{IsCommitted}
 use Rattle.warc_text.specs.StandsFor.{commit_byte}
-use Rattle.warc_scan.specs.Steps.{IsEnd, IsUnfinished, IsCommittedRest}
+use Rattle.warc_scan.specs.Answers.{IsEnd, IsUnfinished, IsCommittedRest}
 use Rattle.warc_scan.specs.declared.front.Front.{Front}
 use Rattle.warc_scan.specs.declared.front.Front.TheVariants.{Nothing, Tail, Begun, Committed}
 

@@ -1,9 +1,8 @@
 -- What stands next in a file, of all that it has there.
-use Rattle.std.specs.Prelude.{◌≡◌, ◌<◌, ◌≤◌, ℕ, List, [], length, ⊤}
+use Rattle.std.specs.Prelude.{◌≡◌, ◌<◌, ◌≤◌, ℕ, List, [], ⊤}
 use Rattle.capture.specs.Tails.{IsCommitted, IsTail}
-use Rattle.warc_scan.specs.Groups.{IsGroup}
 use Rattle.warc_scan.specs.Infos.{IsInfo}
-use Rattle.warc_scan.specs.Steps.{BeginsWithGroup, BeginsWithInfo}
+use Rattle.warc_scan.specs.Answers.{BeginsWithGroup, BeginsWithInfo}
 use Rattle.warc_scan.specs.declared.group.Group.{Group as GroupFound}
 use Rattle.warc_text.specs.StandsFor.{commit_byte}
 use Rattle.volume_scan.specs.declared.next.NextGroup.{NextGroup}
@@ -12,6 +11,9 @@ use Rattle.volume_scan.specs.declared.next.NextInfo.{NextInfo}
 use Rattle.volume_scan.specs.declared.next.NextInfo.TheVariants as next_info
 use Rattle.volume_scan.specs.declared.next.Unsaid.{Unsaid}
 use Rattle.volume_scan.specs.declared.next.Unsaid.TheVariants.{Need, Memory}
+use Rattle.volume_scan.specs.Placed.{HasGroupText}
+use Rattle.warc_journal.specs.declared.extent.Further.{Further}
+use Rattle.warc_journal.specs.declared.extent.Further.TheVariants.{Absent, Empty, Unknown}
 
 -- the rest of a volume, behind its warcinfo or a group
 abbrev pub IsNextGroup : List ℕ → ℕ → List ℕ → NextGroup → Type 0
@@ -28,12 +30,6 @@ IsNextInfo volume rest next_info.Nothing = rest ≡ []
 IsNextInfo volume rest next_info.Tail = IsTail commit_byte rest
 IsNextInfo volume rest next_info.Damaged =
     IsCommitted commit_byte rest × ((namespace : List ℕ) (born len : ℕ) → ¬ (BeginsWithInfo volume rest namespace born len))
-
--- a group that is short enough for the room
-pub record HasGroupText (namespace : List ℕ) (number room : ℕ) (group : GroupFound) : Type 0 where
-  pub text : List ℕ
-  pub is : IsGroup namespace number text group
-  pub fits : length text ≤ room
 
 -- a warcinfo
 pub record HasInfoText (volume : ℕ) (namespace : List ℕ) (born len : ℕ) : Type 0 where
@@ -58,3 +54,9 @@ FitsInfo volume next_info.Damaged = ⊤
 abbrev pub Asks : ℕ → ℕ → Unsaid → Type 0
 Asks read room (Need n) = (read < n) × (n ≤ room)
 Asks read room Memory = ⊤
+
+-- what is known of the file behind the last volume's: it is empty, or holds a tail
+abbrev pub IsFurther : Further → List ℕ → Type 0
+IsFurther Absent file = ⊥
+IsFurther Empty file = file ≡ []
+IsFurther Unknown file = IsTail commit_byte file

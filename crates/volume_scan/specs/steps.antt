@@ -1,0 +1,4 @@
+-- What only proofs read.
+pub mod Moves
+pub mod Next
+pub mod Readings
