@@ -1,6 +1,8 @@
 //! What the definitions promise to those who build on them.
+ghost use Rattle.std.specs.Prelude.{◌≡◌};
 ghost use Rattle.session.specs.Complete.{CapturesThatAreThereAreReplayed, RequestsAreNotRefused, WholeResponsesArePassedOn};
 ghost use Rattle.session.specs.Laws.{CoursesGrow, CoursesShowOn, CoursesCountFaults, CoursesStayConsistent, IdsDifferOnTheWay, StoredCapturesHaveTheirPayload};
+ghost use Rattle.session.specs.declared.TheConstants.{REQUEST_LIMIT};
 
 use archive_shelf::{leading_books_grow, stored_captures_stand_behind};
 use capture::{captures_have_one_payload, growth_keeps_captures};
@@ -40,3 +42,8 @@ pub fn requests_are_answered()
 {
     decisions_are_one();
 }
+
+/// What the limit is that the definitions speak of: the answer to the 1,000th request of a connection closes it.
+pub fn limits_are_these()
+    ensures { REQUEST_LIMIT ≡ 1000 }
+{}

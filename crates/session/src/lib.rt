@@ -17,7 +17,9 @@ mod serving;
 mod visit;
 mod visiting;
 
-pub use laws::{courses_only_grow, requests_are_answered, stored_captures_have_their_payload};
+pub use laws::{
+    courses_only_grow, limits_are_these, requests_are_answered, stored_captures_have_their_payload,
+};
 pub use served::Served;
 pub use serving::serve;
 
