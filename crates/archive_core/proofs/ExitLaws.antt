@@ -48,7 +48,7 @@ use Rattle.archive_core.specs.Shown.{numbered, numbers_from}
 use Rattle.archive_volumes.specs.Spots.{ArePlaced, AreSpotsOf, text_at, whole_from}
 use Rattle.archive_core.specs.Stores.{Stores}
 use Rattle.archive_volumes.specs.Writing.{HasRoomFor, IsWay, TakesSo, Writes, texts_with, with_prepared}
-use Rattle.archive_volumes.specs.Volumes.{HoldsBook, IsMeasured, checkpoints_of, covers, moment_of, opens}
+use Rattle.archive_volumes.specs.Volumes.{HoldsBook, IsMeasured, crash_of}
 use Rattle.archive_volumes.specs.declared.entry.RecordAt.{RecordAt}
 use Rattle.archive_volumes.specs.declared.room.Prepared.{Prepared}
 use Rattle.archive_volumes.specs.declared.ready.Incoming.{Incoming}
@@ -94,29 +94,32 @@ module _ {D : Type 0} (d : Ghosts D) (was is : Holdings D) (journal_is : is.jour
 
   memory_stores : (taken : Taken) → Stores d was is taken (Err stores.Memory)
   memory_stores taken = record {
-    leaves = record {
-      seen = book_is;
-      shown = ap numbered index_is;
-      others = λ i. record {
-        tells = d.tells;
-        seen = is.book;
-        shown = numbered is.index;
-        mine = numbers_from (found_is i) (length (captures (book_is i)) - found_is i);
-        limits = limits_is i;
+    told = record {
+      leaves = record {
+        seen = book_is;
+        shown = ap numbered index_is;
+        others = λ i. record {
+          tells = d.tells;
+          seen = is.book;
+          shown = numbered is.index;
+          mine = numbers_from (found_is i) (length (captures (book_is i)) - found_is i);
+          limits = limits_is i;
+        };
+      };
+      faults = ap (λ (j : Journal D). d.faults (disk_of j)) journal_is;
+      reading = λ alone told.
+          ((λ none. ap (λ (j : Journal D). d.reading (disk_of j)) journal_is), ap (λ (j : Journal D). cdxj_files (d.reading (disk_of j))) journal_is);
+      crash = record {
+        later = omega (arith, ap (λ (j : Journal D). (crash_of d (disk_of j)).moment) journal_is);
+        moves = λ ids t x le o. inl (subst (λ (j : Journal D). (crash_of d (disk_of j)).openings t x) journal_is o);
+        only = λ ids. tt;
+        refused = λ alone told ids fault. absurd (false≢true fault);
+        quiet = λ none t x le o. inl (subst (λ (j : Journal D). (crash_of d (disk_of j)).openings t x) journal_is o);
+        covered = λ t le all. subst (λ (j : Journal D). (crash_of d (disk_of j)).covered t) (sym journal_is) all;
+        kept = λ files has. subst (λ (j : Journal D). (crash_of d (disk_of j)).checkpoints files) journal_is has;
       };
     };
-    reading = λ told. ((λ none. ap (λ (j : Journal D). d.reading (disk_of j)) journal_is), ap (λ (j : Journal D). cdxj_files (d.reading (disk_of j))) journal_is);
-    faults = ap (λ (j : Journal D). d.faults (disk_of j)) journal_is;
-    opens = record {
-      later = omega (arith, ap (λ (j : Journal D). moment_of d (disk_of j)) journal_is);
-      moves = λ ids t x le o. inl (subst (λ (j : Journal D). opens d (disk_of j) t x) journal_is o);
-      only = λ ids. tt;
-      refused = λ told ids fault. absurd (false≢true fault);
-      quiet = λ none t x le o. inl (subst (λ (j : Journal D). opens d (disk_of j) t x) journal_is o);
-      covered = λ t le all. subst (λ (j : Journal D). covers d (disk_of j) t) (sym journal_is) all;
-      kept = λ files has. subst (λ (j : Journal D). checkpoints_of d (disk_of j) files) journal_is has;
-      just = tt;
-    };
+    just = tt;
   }
 
   -- what a `?` hands out is want of memory
@@ -408,36 +411,38 @@ module _ {D : Type 0} (d : Ghosts D) (basis : StoringBasis) (was : Holdings D) (
             let old : D = disk_of now.journal in
             let quiet = quiet_itself d laws old in
             record {
-              leaves = record {
-                found = book;
-                led = refl;
-                not_full = u.not_full;
-                left = ⊎_elim
-                    (λ (same : after ≡ book). inl same)
-                    (λ (more : after ≡ room). left_by d was.limits.volume_bytes book incoming.taken ready.prepared (with_capture room ready.stored) after u.ready_is.born takes more)
-                    left;
-                shown = ap numbered index_stays;
-                others = λ i. record {
-                  tells = d.tells;
-                  seen = after;
-                  shown = numbered index;
-                  mine = numbers_from was.found (length (captures_stay i) - was.found);
-                  limits = was.limits;
+              told = record {
+                leaves = record {
+                  found = book;
+                  led = refl;
+                  not_full = u.not_full;
+                  left = ⊎_elim
+                      (λ (same : after ≡ book). inl same)
+                      (λ (more : after ≡ room). left_by d was.limits.volume_bytes book incoming.taken ready.prepared (with_capture room ready.stored) after u.ready_is.born takes more)
+                      left;
+                  shown = ap numbered index_stays;
+                  others = λ i. record {
+                    tells = d.tells;
+                    seen = after;
+                    shown = numbered index;
+                    mine = numbers_from was.found (length (captures_stay i) - was.found);
+                    limits = was.limits;
+                  };
+                };
+                reading = λ alone told. ((λ none. absurd none), others told);
+                faults = (counts.later, counts.rose);
+                crash = record {
+                  later = store_later d laws old old (disk_of journal) before (contents_of d.tells is) incoming.taken room (with_capture room ready.stored) answer takes quiet writes;
+                  moves = store_moves d laws old old (disk_of journal) before (contents_of d.tells is) incoming.taken room (with_capture room ready.stored) answer takes quiet writes;
+                  only = λ ids. tt;
+                  refused = λ alone told ids fault_is.
+                      store_refused d laws old old (disk_of journal) before (contents_of d.tells is) incoming.taken room (with_capture room ready.stored) answer takes quiet writes told ids;
+                  quiet = λ none. absurd none;
+                  covered = store_covered d laws old old (disk_of journal) before (contents_of d.tells is) incoming.taken room (with_capture room ready.stored) answer takes quiet writes;
+                  kept = store_kept d laws old old (disk_of journal) before (contents_of d.tells is) incoming.taken room (with_capture room ready.stored) answer takes quiet writes;
                 };
               };
-              reading = λ told. ((λ none. absurd none), others told);
-              faults = (counts.later, counts.rose);
-              opens = record {
-                later = store_later d laws old old (disk_of journal) before (contents_of d.tells is) incoming.taken room (with_capture room ready.stored) answer takes quiet writes;
-                moves = store_moves d laws old old (disk_of journal) before (contents_of d.tells is) incoming.taken room (with_capture room ready.stored) answer takes quiet writes;
-                only = λ ids. tt;
-                refused = λ told ids fault_is.
-                    store_refused d laws old old (disk_of journal) before (contents_of d.tells is) incoming.taken room (with_capture room ready.stored) answer takes quiet writes told ids;
-                quiet = λ none. absurd none;
-                covered = store_covered d laws old old (disk_of journal) before (contents_of d.tells is) incoming.taken room (with_capture room ready.stored) answer takes quiet writes;
-                kept = store_kept d laws old old (disk_of journal) before (contents_of d.tells is) incoming.taken room (with_capture room ready.stored) answer takes quiet writes;
-                just = tt;
-              };
+              just = tt;
             }
 
       -- ---- with the capture
@@ -508,17 +513,19 @@ module _ {D : Type 0} (d : Ghosts D) (basis : StoringBasis) (was : Holdings D) (
             let old : D = disk_of now.journal in
             let quiet = quiet_itself d laws old in
             record {
-              leaves = has_stored receipt number_is same_is;
-              reading = λ told. ((λ none. absurd none), others told);
-              faults = counts.steady;
-              opens = record {
-                later = store_later d laws old old (disk_of journal) before (contents_of d.tells is) incoming.taken room (with_capture room ready.stored) answer takes quiet writes;
-                moves = store_moves d laws old old (disk_of journal) before (contents_of d.tells is) incoming.taken room (with_capture room ready.stored) answer takes quiet writes;
-                only = λ ids. subst (λ (b : Book). IsState (moment_of d) (opens d) (disk_of journal) b None) (sym with_it) (writes.only ids);
-                refused = λ told ids fault. absurd (false≢true fault);
-                quiet = λ none. absurd none;
-                covered = store_covered d laws old old (disk_of journal) before (contents_of d.tells is) incoming.taken room (with_capture room ready.stored) answer takes quiet writes;
-                kept = store_kept d laws old old (disk_of journal) before (contents_of d.tells is) incoming.taken room (with_capture room ready.stored) answer takes quiet writes;
-                just = λ told image now. subst (HasJust image) (sym with_it) (writes.just told image now);
+              told = record {
+                leaves = has_stored receipt number_is same_is;
+                reading = λ alone told. ((λ none. absurd none), others told);
+                faults = counts.steady;
+                crash = record {
+                  later = store_later d laws old old (disk_of journal) before (contents_of d.tells is) incoming.taken room (with_capture room ready.stored) answer takes quiet writes;
+                  moves = store_moves d laws old old (disk_of journal) before (contents_of d.tells is) incoming.taken room (with_capture room ready.stored) answer takes quiet writes;
+                  only = λ ids. subst (λ (b : Book). IsState (crash_of d (disk_of journal)) b None) (sym with_it) (writes.only ids);
+                  refused = λ alone told ids fault. absurd (false≢true fault);
+                  quiet = λ none. absurd none;
+                  covered = store_covered d laws old old (disk_of journal) before (contents_of d.tells is) incoming.taken room (with_capture room ready.stored) answer takes quiet writes;
+                  kept = store_kept d laws old old (disk_of journal) before (contents_of d.tells is) incoming.taken room (with_capture room ready.stored) answer takes quiet writes;
+                };
               };
+              just = λ told image now. subst (HasJust image) (sym with_it) (writes.just told image now);
             }

@@ -17,7 +17,7 @@ use Rattle.archive_shelf.proofs.StoringLaws.{captures_more, captures_stay}
 use Rattle.archive_shelf.specs.Openings.{HasIds, ImageStandsFor, IsNext, OpensNext, SameBook}
 use Rattle.archive_shelf.specs.Storing.{with_capture, with_volume}
 use Rattle.archive_volumes.proofs.ChangeLaws.{DiskLaws, no_volumes_by, now_image, one_with}
-use Rattle.archive_volumes.specs.Volumes.{OpensNear, moment_of, opens}
+use Rattle.archive_volumes.specs.Volumes.{OpensNear, crash_of}
 
 -- what a book with a volume that is next to another one has of it
 pub record IsLike (book x : Book) : Type 0 where
@@ -98,7 +98,7 @@ next_by image seen y x ids next for_y for_x = ⊎_elim
 
 -- where each image is near the book, what may be opened is next to it
 pub opens_next : {D : Type 0} (d : Ghosts D) (laws : DiskLaws d) (disk : D) (seen : Book) → (IsTrue d.tells → OpensNear d disk seen)
-    → HasIds seen → OpensNext (moment_of d) (opens d) disk seen
+    → HasIds seen → OpensNext (crash_of d disk) seen
 opens_next d laws disk seen near ids x o =
     let y = near o.told o.image (now_image d laws disk x o) in
     next_by o.image seen y.0 x ids y.2 y.1 o.stands

@@ -59,8 +59,10 @@ module _ {D : Type 0} (d : Ghosts D) (held : Holdings D) (old new : Volumes D)
   pub looks : OnlyLooks d held (record held { journal = new.journal; book = book_of new.held })
   looks = record {
     others = ap (λ (b : Book). record held { journal = new.journal; book = b }) same_book;
-    reading = λ told. reads.reading told ∙ sym (ap (λ (j : Journal D). d.reading (disk_of j)) journal_is);
-    quiet = subst (λ (j : Journal D). IsQuiet d (disk_of j) (disk_of new.journal)) (sym journal_is) reads.quiet;
+    unwritten = record {
+      reading = λ alone told. reads.reading told ∙ sym (ap (λ (j : Journal D). d.reading (disk_of j)) journal_is);
+      crash = subst (λ (j : Journal D). IsQuiet d (disk_of j) (disk_of new.journal)) (sym journal_is) reads.quiet;
+    };
   }
 
 -- an entry that is shown under a number is that of the book's capture

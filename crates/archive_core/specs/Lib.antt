@@ -6,4 +6,5 @@ pub mod Reopening
 pub mod Rolling
 pub mod Shown
 pub mod Stores
+pub mod Told
 pub mod View

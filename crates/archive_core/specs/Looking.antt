@@ -1,26 +1,25 @@
 -- What an archive is after a call that only reads its disk.
-use Rattle.std.specs.Prelude.{◌≡◌, ℕ, ◌<◌, IsTrue, List, length, Option, Result, Ok, Err, ⊤}
+use Rattle.std.specs.Prelude.{◌≡◌, ℕ, ◌<◌, true, IsTrue, List, length, Option, Result, Ok, Err, ⊤}
 use Rattle.sha1.specs.Sha1.{sha1}
 use Rattle.capture.specs.Captures.{captures, HasPayload}
 use Rattle.capture.specs.Growth.{Grows}
 use Rattle.capture.specs.Soundness.{HasSoundCaptures}
 use Rattle.capture.specs.declared.captured.Taken.{Taken}
 use Rattle.disk_model.specs.declared.disk.Disk.{Ghosts}
-use Rattle.warc_journal.specs.Journals.{disk_of}
 use Rattle.archive_shelf.specs.Answers.{IsDamaged, IsFull, IsNotFull}
 use Rattle.archive_shelf.specs.Comparing.{CanRefer, IsRight, IsSameAs}
 use Rattle.archive_shelf.specs.Contents.{Contents}
+use Rattle.archive_shelf.specs.Told.{WritesNothing}
 use Rattle.archive_shelf.specs.declared.fault.StoreFault.{StoreFault}
 use Rattle.archive_shelf.specs.declared.fault.StoreFault.TheVariants as stores
 use Rattle.archive_shelf.specs.declared.looked.Looked.{Looked}
 use Rattle.archive_core.specs.Holdings.{Holdings}
-use Rattle.archive_volumes.specs.Volumes.{IsQuiet}
+use Rattle.archive_core.specs.Told.{told_of}
 
 -- All stays but the disk: that gives what it gave, and nothing more may be opened.
 pub record OnlyLooks {D : Type 0} (d : Ghosts D) (was is : Holdings D) : Type 0 where
   pub others : is ≡ record was { journal = is.journal }
-  pub reading : IsTrue d.tells → d.reading (disk_of is.journal) ≡ d.reading (disk_of was.journal)
-  pub quiet : IsQuiet d (disk_of was.journal) (disk_of is.journal)
+  pub unwritten : WritesNothing true (told_of d was) (told_of d is)
 
 -- what looking for a payload answers: it is full exactly where the book is, and want of memory may be answered anywhere
 abbrev pub Looks : Contents → List ℕ → Result Looked StoreFault → Type 0

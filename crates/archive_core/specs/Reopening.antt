@@ -18,7 +18,7 @@ use Rattle.archive_core.specs.Holdings.{Holdings, contents_of}
 use Rattle.archive_opening.specs.Opening.{CountsFault, IsCause, IsDamageIn, IsIn, IsOtherIn}
 use Rattle.archive_core.specs.Shown.{numbered}
 use Rattle.archive_opening.specs.declared.opening.Opened.{Opened}
-use Rattle.archive_volumes.specs.Volumes.{IsQuiet, covers, moment_of, opens}
+use Rattle.archive_volumes.specs.Volumes.{IsQuiet, crash_of}
 
 -- An archive as it is opened on a disk.
 pub record IsReopened {D : Type 0} (d : Ghosts D) (disk : D) (asked : Option (List ℕ)) (limits : Limits) (held : Holdings D) : Type 0 where
@@ -39,9 +39,9 @@ pub record IsReopened {D : Type 0} (d : Ghosts D) (disk : D) (asked : Option (Li
   pub faults : d.faults (disk_of held.journal) ≡ d.faults disk
   -- each image that a crash leaves from now on stands for the book, and where its ids differ, for no other one
   pub only : IsTrue d.tells → Leaves (d.images (disk_of held.journal)) (λ image. ImageStandsFor image held.book)
-  pub covered : covers d (disk_of held.journal) (moment_of d (disk_of held.journal))
+  pub covered : (crash_of d (disk_of held.journal)).covered (crash_of d (disk_of held.journal)).moment
   pub state : IdsDifferIn held.book
-      → IsState (λ (h : Holdings D). moment_of d (disk_of h.journal)) (λ h. opens d (disk_of h.journal)) held held.book None
+      → IsState (crash_of d (disk_of held.journal)) held.book None
 
 -- An archive as it is made of what was opened, whatever the disk tells.
 pub record IsMadeOf {D : Type 0} (opened : Opened D) (limits : Limits) (held : Holdings D) : Type 0 where

@@ -147,25 +147,12 @@ impl Archive<MemoryDisk> {
 
 impl<D: Disk> Finder for Archive<D> {
     ghost use Rattle.std.specs.Prelude.{true};
-    ghost use Rattle.archive_core.specs.Holdings.{contents_of};
-    ghost use Rattle.archive_volumes.specs.Volumes.{checkpoints_of, covers, moment_of, opens};
+    ghost use Rattle.archive_core.specs.Told.{told_of};
     ghost use Rattle.warc_journal.specs.Journals.{disk_of};
 
     ghost alone = { true };
 
-    ghost contents = { λ a. contents_of D.tells a };
-
-    ghost faults = { λ a. D.faults (disk_of a.journal) };
-
-    ghost reading = { λ a. D.reading (disk_of a.journal) };
-
-    ghost moment = { λ a. moment_of D.Disk (disk_of a.journal) };
-
-    ghost openings = { λ a t book. opens D.Disk (disk_of a.journal) t book };
-
-    ghost covered = { λ a t. covers D.Disk (disk_of a.journal) t };
-
-    ghost checkpoints = { λ a files. checkpoints_of D.Disk (disk_of a.journal) files };
+    ghost told = { λ a. told_of D.Disk a };
 
     ghost earlier = { λ a t s book le opened. record {
       told = opened.told;

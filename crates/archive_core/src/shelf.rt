@@ -2,11 +2,11 @@
 ghost use Rattle.std.specs.Prelude.{IsTrue, true};
 ghost use Rattle.warc_journal.specs.Journals.{disk_of};
 ghost use Rattle.archive_shelf.specs.Answers.{Brings, CountsIf, is_bring_fault};
-ghost use Rattle.archive_shelf.specs.Contents.{IsConsistent};
-ghost use Rattle.archive_shelf.specs.Openings.{HasIds, OpensNext};
-ghost use Rattle.archive_volumes.specs.Volumes.{OpensNear, moment_of, opens};
+ghost use Rattle.archive_shelf.specs.Told.{ShowsItsBook};
+ghost use Rattle.archive_volumes.specs.Volumes.{OpensNear};
 ghost use Rattle.archive_core.specs.Holdings.{IsArchive, contents_of};
 ghost use Rattle.archive_core.specs.Looking.{OnlyLooks};
+ghost use Rattle.archive_core.specs.Told.{told_of};
 
 use crate::Archive;
 use archive_shelf::{BringFault, Receipt, Shelf, StoreFault};
@@ -42,9 +42,8 @@ impl<D: Disk> Archive<D> {
     /// An archive shows its book, whatever was called before: where the disk tells, the book is sound and its entries are what is
     /// shown; what may be opened is next to it.
     pub fn shows_its_book(&self)
-        ensures consistent { IsConsistent true (contents_of D.tells self.now) }
+        ensures shows { ShowsItsBook true (told_of D.Disk self.now) }
         ensures near { IsTrue D.tells → OpensNear D.Disk (disk_of self.now.journal) self.now.book }
-        ensures next { HasIds self.now.book → OpensNext (moment_of D.Disk) (opens D.Disk) (disk_of self.now.journal) self.now.book }
     {
         self.is_an_archive();
     }

@@ -1,3 +1,4 @@
+pub mod CallLaws
 pub mod ComparingLaws
 pub mod EarlierSoundness
 pub mod EntryLaws

@@ -1,4 +1,4 @@
--- What a shelf tells, and what its calls change of it.
+-- What a shelf tells of what it holds, and what its calls change of it.
 use Rattle.std.specs.Prelude.{◌≡◌, ◌⊎◌, ℕ, ◌≤◌, Bool, true, false, IsTrue, List, [], ◌∷◌, ◌++◌, length, Contains}
 use Rattle.std.specs.List.Sorted.{IsStrictlySortedBy}
 use Rattle.capture.specs.Captures.{captures}
@@ -19,8 +19,8 @@ pub record Contents : Type 0 where
   pub limits : Limits
 
 -- a list is the beginning of another
-pub record Begins (front whole : List Facts) : Type 0 where
-  pub rest : List Facts
+pub record Begins {A : Type 0} (front whole : List A) : Type 0 where
+  pub rest : List A
   pub joined : whole ≡ front ++ rest
 
 -- from the book that was seen last to the one that a call finds: alone it is the same, in company it may have grown

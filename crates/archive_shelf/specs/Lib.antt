@@ -7,3 +7,4 @@ pub mod Laws
 pub mod Openings
 pub mod Queries
 pub mod Storing
+pub mod Told

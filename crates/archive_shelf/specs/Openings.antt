@@ -46,10 +46,6 @@ pub record MayHaveCheckpoints {D : Type 0} (tells : Bool) (d : Ghosts D) (disk :
   pub left : d.images disk image
   pub are : cdxj_files image ≡ files
 
--- a crash leaves no files of checkpoints but those that it might have left before the call
-abbrev pub KeepsCheckpoints : {S : Type 0} → (S → List (List ℕ) → Type 0) → S → S → Type 0
-KeepsCheckpoints checkpoints old new = (files : List (List ℕ)) → checkpoints new files → checkpoints old files
-
 -- the files of the volumes are just the texts of the book, but for one empty file more
 pub record HasJust (image : Image) (book : Book) : Type 0 where
   pub texts : List (List ℕ)
@@ -62,34 +58,56 @@ pub record IsNext (book x : Book) : Type 0 where
   pub roomy : SameBook room book ⊎ ((born : ℕ) × (room ≡ with_volume book born))
   pub is : SameBook x room ⊎ ((stored : Stored) × (x ≡ with_capture room stored))
 
-module _ {S : Type 0} (moment : S → ℕ) (openings : S → ℕ → Book → Type 0) where
-  -- a book that may be opened since a moment up to the call's start might have been before the call, or is allowed
-  abbrev pub Moves : S → S → (Book → Type 0) → Type 0
-  Moves old new Allowed = (t : ℕ) (x : Book) → t ≤ moment old → openings new t x → openings old t x ⊎ Allowed x
+-- What a crash may leave, at a moment, as far as it is told: the moment, as a number that doesn't fall; that an image since a moment
+-- stands for a sound book; that each image since a moment does; and that a crash now may leave these files of checkpoints.
+pub record CrashStates : Type 1 where
+  pub moment : ℕ
+  pub openings : ℕ → Book → Type 0
+  pub covered : ℕ → Type 0
+  pub checkpoints : List (List ℕ) → Type 0
 
-  -- a book that may be opened now might have been before the call, or is this one
-  abbrev pub Keeps : S → S → Book → Type 0
-  Keeps old new book = (x : Book) → openings new (moment new) x → openings old (moment old) x ⊎ SameBook x book
+-- a book that may be opened since a moment up to the call's start might have been before the call, or is allowed
+abbrev pub Moves : CrashStates → CrashStates → (Book → Type 0) → Type 0
+Moves was is Allowed = (t : ℕ) (x : Book) → t ≤ was.moment → is.openings t x → was.openings t x ⊎ Allowed x
 
-  -- only this book may be opened now, and the other, if there is one
-  abbrev pub IsState : S → Book → Option Book → Type 0
-  IsState shelf book other = (x : Book) → openings shelf (moment shelf) x → SameBook x book ⊎ (other ≡ Some x)
+-- a book that may be opened now might have been before the call, or is this one
+abbrev pub Keeps : CrashStates → CrashStates → Book → Type 0
+Keeps was is book = (x : Book) → is.openings is.moment x → was.openings was.moment x ⊎ SameBook x book
 
-  -- only such a book may be opened now that is next to this one
-  abbrev pub OpensNext : S → Book → Type 0
-  OpensNext shelf book = (x : Book) → openings shelf (moment shelf) x → IsNext book x
+-- only this book may be opened now, and the other, if there is one
+abbrev pub IsState : CrashStates → Book → Option Book → Type 0
+IsState now book other = (x : Book) → now.openings now.moment x → SameBook x book ⊎ (other ≡ Some x)
 
-  -- A store that the disk refused. Either the book stayed, and what might have been opened before the call may be still. Or
-  -- one other book may be opened beside the one that is seen: that with the volume, or that with the capture.
-  abbrev pub IsRefused : S → S → Contents → Contents → Taken → Type 0
-  IsRefused old new was is taken =
-      ((is.seen ≡ was.seen) × Keeps old new was.seen)
-      ⊎ ((storing : Storing was.limits.volume_bytes was.seen taken)
-      × (IsState new is.seen (Some storing.unfilled) ⊎ IsState new is.seen (Some (stored_by storing))))
+-- only such a book may be opened now that is next to this one
+abbrev pub OpensNext : CrashStates → Book → Type 0
+OpensNext now book = (x : Book) → now.openings now.moment x → IsNext book x
 
 -- where each image since a moment up to the call's start stood for a book, each does
-abbrev pub StaysCovered : {S : Type 0} → (S → ℕ) → (S → ℕ → Type 0) → S → S → Type 0
-StaysCovered moment covered old new = (t : ℕ) → t ≤ moment old → covered old t → covered new t
+abbrev pub StaysCovered : CrashStates → CrashStates → Type 0
+StaysCovered was is = (t : ℕ) → t ≤ was.moment → was.covered t → is.covered t
+
+-- a crash leaves no files of checkpoints but those that it might have left before the call
+abbrev pub KeepsCheckpoints : CrashStates → CrashStates → Type 0
+KeepsCheckpoints was is = (files : List (List ℕ)) → is.checkpoints files → was.checkpoints files
+
+-- Nothing more may be left: nothing was written.
+pub record LeavesNoMore (was is : CrashStates) : Type 0 where
+  pub later : was.moment ≤ is.moment
+  pub moves : Moves was is (λ x. ⊥)
+  pub covered : StaysCovered was is
+  pub kept : KeepsCheckpoints was is
+
+-- a book that may be opened since a moment may be since an earlier one
+abbrev pub IsEarlier : CrashStates → Type 0
+IsEarlier now = (t s : ℕ) (book : Book) → t ≤ s → now.openings s book → now.openings t book
+
+-- A store that the disk refused. Either the book stayed, and what might have been opened before the call may be still. Or
+-- one other book may be opened beside the one that is seen: that with the volume, or that with the capture.
+abbrev pub IsRefused : CrashStates → CrashStates → Contents → Contents → Taken → Type 0
+IsRefused old new was is taken =
+    ((is.seen ≡ was.seen) × Keeps old new was.seen)
+    ⊎ ((storing : Storing was.limits.volume_bytes was.seen taken)
+    × (IsState new is.seen (Some storing.unfilled) ⊎ IsState new is.seen (Some (stored_by storing))))
 
 -- storing the capture may leave this book, wherever it is stopped: the one before, that with the volume which the capture
 -- needs, or that with the capture

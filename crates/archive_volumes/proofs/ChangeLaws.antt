@@ -17,7 +17,7 @@ use Rattle.warc_text.specs.Sound.{IsSound}
 use Rattle.warc_text.specs.StandsFor.{IdsDifferIn}
 use Rattle.warc_text.specs.declared.id.IdKind.TheVariants.{Response}
 use Rattle.archive_shelf.specs.Openings.{HasIds, ImageStandsFor, IsState, Keeps, KeepsCheckpoints, Moves, SameBook, StaysCovered}
-use Rattle.archive_volumes.specs.Volumes.{IsQuiet, IsStep, LeavesJust, Makes, OpensNear, checkpoints_of, covers, moment_of, opens}
+use Rattle.archive_volumes.specs.Volumes.{IsQuiet, IsStep, LeavesJust, Makes, OpensNear, crash_of}
 
 -- ---- a book by what stands for it
 
@@ -52,7 +52,7 @@ stands book texts image are sound held = record { for = record { texts = texts; 
 
 -- ---- time
 
-pub moment_told : {D : Type 0} (d : Ghosts D) (disk : D) → IsTrue d.tells → moment_of d disk ≡ d.moment disk
+pub moment_told : {D : Type 0} (d : Ghosts D) (disk : D) → IsTrue d.tells → (crash_of d disk).moment ≡ d.moment disk
 moment_told d disk told = ap (λ (b : Bool). if b then d.moment disk else 0) told
 
 later_by : {D : Type 0} (d : Ghosts D) (old new : D) (b : Bool) → (IsTrue b → d.moment old ≤ d.moment new)
@@ -68,16 +68,16 @@ pub record DiskLaws {D : Type 0} (d : Ghosts D) : Type 0 where
 
 module _ {D : Type 0} (d : Ghosts D) (laws : DiskLaws d) where
   -- what may be opened now, an image now stands for
-  pub now_image : (disk : D) (x : Book) (o : opens d disk (moment_of d disk) x) → d.images disk o.image
+  pub now_image : (disk : D) (x : Book) (o : (crash_of d disk).openings (crash_of d disk).moment x) → d.images disk o.image
   now_image disk x o =
       laws.now_only disk o.image (subst (λ (t : ℕ). d.images_since disk t o.image) (moment_told d disk o.told) o.left)
 
   -- what an image now stands for may be opened now
-  pub opens_now : (disk : D) (x : Book) (image : Image) → IsTrue d.tells → d.images disk image → ImageStandsFor image x → opens d disk (moment_of d disk) x
+  pub opens_now : (disk : D) (x : Book) (image : Image) → IsTrue d.tells → d.images disk image → ImageStandsFor image x → (crash_of d disk).openings (crash_of d disk).moment x
   opens_now disk x image told now stands_for = record {
     told = told;
     image = image;
-    left = laws.now_counts disk (moment_of d disk) image (omega (arith, moment_told d disk told)) now;
+    left = laws.now_counts disk (crash_of d disk).moment image (omega (arith, moment_told d disk told)) now;
     stands = stands_for;
   }
 
@@ -122,14 +122,14 @@ module _ {D : Type 0} (d : Ghosts D) (laws : DiskLaws d) where
         (λ (for_a : ImageStandsFor image after). inr (one_with image x after for for_a (ids_after before after step ids) step.some))
         which
 
-    moved : HasIds before → Moves (moment_of d) (opens d) old.disk new.disk (λ x. SameBook x before ⊎ (x ≡ after))
+    moved : HasIds before → Moves (crash_of d old.disk) (crash_of d new.disk) (λ x. SameBook x before ⊎ (x ≡ after))
     moved ids t x le o = ⊎_elim
         (λ (was : d.images_since old.disk t o.image). inl (record { told = o.told; image = o.image; left = was; stands = o.stands }))
         (λ (left : IsLeft (d.images old.disk) (HoldEither (texts d old) texts_after) o.image).
         inr (either ids o.image x o.stands (fors o.told o.image left)))
         ((change o.told).leaves.adds t o.image (omega (arith, le, moment_told d old.disk o.told)) o.left)
 
-    covered_on : StaysCovered (moment_of d) (covers d) old.disk new.disk
+    covered_on : StaysCovered (crash_of d old.disk) (crash_of d new.disk)
     covered_on t le all told image left = ⊎_elim
         (λ (was : d.images_since old.disk t image). all told image was)
         (λ (is_left : IsLeft (d.images old.disk) (HoldEither (texts d old) texts_after) image). ⊎_elim
@@ -164,7 +164,7 @@ module _ {D : Type 0} (d : Ghosts D) (laws : DiskLaws d) where
         stands after texts_after image (will_be told) (stays_sound told) (just_are_held texts_after (warc_files image) left.described)
 
     only_by : HasIds before → (r : Result T E) → (IsTrue d.tells → OnOk r ((image : Image) → d.images new.disk image → IsLeft (d.images old.disk) (AreJust texts_after) image))
-        → OnOk r (IsState (moment_of d) (opens d) new.disk after None)
+        → OnOk r (IsState (crash_of d new.disk) after None)
     only_by ids (Ok v) only = λ x o. inl (inl (one_with o.image x after o.stands
         (for_after o.told o.image (only o.told o.image (now_image new.disk x o))) (ids_after before after step ids) step.some))
     only_by ids (Err e) only = tt
@@ -172,7 +172,7 @@ module _ {D : Type 0} (d : Ghosts D) (laws : DiskLaws d) where
     refused_told : HasIds before → IsTrue d.tells
         → ((image : Image) → d.images new.disk image → d.images old.disk image ⊎ IsLeft (d.images old.disk) (Hold (texts d old)) image)
         ⊎ ((image : Image) → d.images new.disk image → IsLeft (d.images old.disk) (HoldEither (texts d old) texts_after) image)
-        → Keeps (moment_of d) (opens d) old.disk new.disk before ⊎ IsState (moment_of d) (opens d) new.disk before (Some after)
+        → Keeps (crash_of d old.disk) (crash_of d new.disk) before ⊎ IsState (crash_of d new.disk) before (Some after)
     refused_told ids told (inl kept) = inl (λ x o. ⊎_elim
         (λ (was : d.images old.disk o.image). inl (opens_now old.disk x o.image told was o.stands))
         (λ (left : IsLeft (d.images old.disk) (Hold (texts d old)) o.image).
@@ -187,13 +187,13 @@ module _ {D : Type 0} (d : Ghosts D) (laws : DiskLaws d) where
         → (IsTrue d.tells → OnErr r
         (((image : Image) → d.images new.disk image → d.images old.disk image ⊎ IsLeft (d.images old.disk) (Hold (texts d old)) image)
         ⊎ ((image : Image) → d.images new.disk image → IsLeft (d.images old.disk) (HoldEither (texts d old) texts_after) image)))
-        → OnErr r (Keeps (moment_of d) (opens d) old.disk new.disk before ⊎ IsState (moment_of d) (opens d) new.disk before (Some after))
+        → OnErr r (Keeps (crash_of d old.disk) (crash_of d new.disk) before ⊎ IsState (crash_of d new.disk) before (Some after))
     refused_by ids b at (Ok v) refused = tt
     refused_by ids false at (Err e) refused = inl (λ x o. absurd (false≢true (at ∙ o.told)))
     refused_by ids true at (Err e) refused = refused_told ids (sym at) (refused (sym at))
 
     -- an image now has the checkpoints of one from before
-    kept_on : KeepsCheckpoints (checkpoints_of d) old.disk new.disk
+    kept_on : KeepsCheckpoints (crash_of d old.disk) (crash_of d new.disk)
     kept_on files has =
         let made = change has.told in ⊎_elim
         (λ (was : d.images_since old.disk (d.moment old.disk) has.image).

@@ -5,13 +5,14 @@ use Rattle.capture.specs.Captures.{captures}
 use Rattle.capture.specs.declared.book.Book.{Book}
 use Rattle.capture.specs.declared.captured.Taken.{Taken}
 use Rattle.disk_model.specs.declared.disk.Disk.{Ghosts}
+use Rattle.archive_shelf.proofs.CallLaws.{keeps_behind, leaves_no_more_both, leaves_no_more_itself, no_more_keeps}
 use Rattle.archive_shelf.proofs.StoringLaws.{captures_stay}
 use Rattle.archive_shelf.specs.Contents.{Contents}
-use Rattle.archive_shelf.specs.Openings.{HasIds, IsRefused, IsState, Keeps, KeepsCheckpoints, MayLeave, Moves, SameBook, StaysCovered}
+use Rattle.archive_shelf.specs.Openings.{HasIds, IsEarlier, IsRefused, IsState, Keeps, KeepsCheckpoints, MayLeave, Moves, SameBook, StaysCovered}
 use Rattle.archive_shelf.specs.Storing.{new_volume, with_volume}
 use Rattle.archive_volumes.proofs.ChangeLaws.{DiskLaws}
 use Rattle.archive_volumes.specs.Writing.{TakesSo, Writes}
-use Rattle.archive_volumes.specs.Volumes.{IsQuiet, Makes, checkpoints_of, covers, moment_of, opens}
+use Rattle.archive_volumes.specs.Volumes.{IsQuiet, Makes, crash_of}
 
 -- a book that is kept where a call is refused
 pub stays_refused : {T E : Type 0} (result : Result T E) (now before after : Book) → now ≡ (if is_ok result then after else before) → OnErr result (now ≡ before)
@@ -22,33 +23,22 @@ module _ {D : Type 0} (d : Ghosts D) (laws : DiskLaws d) where
   -- ---- quiet calls
 
   pub quiet_itself : (disk : D) → IsQuiet d disk disk
-  quiet_itself disk = record { later = omega arith; moves = λ t x le o. inl o; covered = λ t le all. all; kept = λ files has. has }
+  quiet_itself disk = leaves_no_more_itself (crash_of d disk)
 
   pub quiet_on : (old mid new : D) → IsQuiet d old mid → IsQuiet d mid new → IsQuiet d old new
-  quiet_on old mid new first second = record {
-    later = omega (arith, first.later, second.later);
-    moves = λ t x le o. ⊎_elim
-        (λ was. first.moves t x le was)
-        (λ none. absurd none)
-        (second.moves t x (omega (arith, le, first.later)) o);
-    covered = λ t le all. second.covered t (omega (arith, le, first.later)) (first.covered t le all);
-    kept = λ files has. first.kept files (second.kept files has);
-  }
+  quiet_on old mid new first second = leaves_no_more_both (crash_of d old) (crash_of d mid) (crash_of d new) first second
+
+  -- what may be opened since a moment may be since an earlier one
+  pub opens_earlier : (disk : D) → IsEarlier (crash_of d disk)
+  opens_earlier disk t s book le o = record { told = o.told; image = o.image; left = laws.earlier disk t s o.image le o.left; stands = o.stands }
 
   -- what may be opened after a quiet call might have been before it
-  pub quiet_keeps : (old new : D) (book : Book) → IsQuiet d old new → Keeps (moment_of d) (opens d) old new book
-  quiet_keeps old new book quiet x o = ⊎_elim
-      (λ was. inl was)
-      (λ none. absurd none)
-      (quiet.moves (moment_of d old) x (omega arith)
-      (record { told = o.told; image = o.image; left = laws.earlier new (moment_of d old) (moment_of d new) o.image quiet.later o.left; stands = o.stands }))
+  pub quiet_keeps : (old new : D) (book : Book) → IsQuiet d old new → Keeps (crash_of d old) (crash_of d new) book
+  quiet_keeps old new book quiet = no_more_keeps (crash_of d old) (crash_of d new) book (opens_earlier new) quiet
 
   -- after quiet calls what is kept is kept from before them
-  pub keeps_from : (old mid new : D) (book : Book) → IsQuiet d old mid → Keeps (moment_of d) (opens d) mid new book → Keeps (moment_of d) (opens d) old new book
-  keeps_from old mid new book quiet keeps x o = ⊎_elim
-      (λ was. quiet_keeps old mid book quiet x was)
-      (λ same. inr same)
-      (keeps x o)
+  pub keeps_from : (old mid new : D) (book : Book) → IsQuiet d old mid → Keeps (crash_of d mid) (crash_of d new) book → Keeps (crash_of d old) (crash_of d new) book
+  keeps_from old mid new book quiet keeps = keeps_behind (crash_of d old) (crash_of d mid) (crash_of d new) book (opens_earlier mid) quiet keeps
 
   -- ---- writing
 
@@ -79,8 +69,8 @@ module _ {D : Type 0} (d : Ghosts D) (laws : DiskLaws d) where
     only = made.only;
     refused = λ ids. on_err_both result (made.refused ids) stays
         (λ which same. ⊎_elim
-        (λ (keeps : Keeps (moment_of d) (opens d) old new book). inl (same, keeps))
-        (λ (state : IsState (moment_of d) (opens d) new book (Some after)). inr (inr (subst (λ (b : Book). IsState (moment_of d) (opens d) new b (Some after)) (sym same) state)))
+        (λ (keeps : Keeps (crash_of d old) (crash_of d new) book). inl (same, keeps))
+        (λ (state : IsState (crash_of d new) book (Some after)). inr (inr (subst (λ (b : Book). IsState (crash_of d new) b (Some after)) (sym same) state)))
         which);
     covered = made.covered;
     kept = made.kept;
@@ -99,8 +89,8 @@ module _ {D : Type 0} (d : Ghosts D) (laws : DiskLaws d) where
         (made.moves ids t x le o);
     only = λ ids. tt;
     refused = λ ids. ⊎_elim
-        (λ (keeps : Keeps (moment_of d) (opens d) old new book). inl (refl, keeps))
-        (λ (state : IsState (moment_of d) (opens d) new book (Some room)). inr (inl state))
+        (λ (keeps : Keeps (crash_of d old) (crash_of d new) book). inl (refl, keeps))
+        (λ (state : IsState (crash_of d new) book (Some room)). inr (inl state))
         (made.refused ids);
     covered = made.covered;
     kept = made.kept;
@@ -125,15 +115,15 @@ module _ {D : Type 0} (d : Ghosts D) (laws : DiskLaws d) where
         only = λ ids. second.only (ids_room book born ids);
         refused = λ ids. on_err_both result (second.refused (ids_room book born ids)) stays
             (λ which same. inr (⊎_elim
-            (λ (keeps : Keeps (moment_of d) (opens d) mid new room). inl (λ x o. ⊎_elim
-            (λ (before : opens d mid (moment_of d mid) x). ⊎_elim
+            (λ (keeps : Keeps (crash_of d mid) (crash_of d new) room). inl (λ x o. ⊎_elim
+            (λ (before : (crash_of d mid).openings (crash_of d mid).moment x). ⊎_elim
             (λ (e : SameBook x room). inl (subst (SameBook x) (sym same) e))
             (λ (none : None ≡ Some x). cc)
             (first.only ids x before))
             (λ (e : SameBook x room). inl (subst (SameBook x) (sym same) e))
             (keeps x o)))
-            (λ (state : IsState (moment_of d) (opens d) new room (Some after)).
-            inr (subst (λ (b : Book). IsState (moment_of d) (opens d) new b (Some after)) (sym same) state))
+            (λ (state : IsState (crash_of d new) room (Some after)).
+            inr (subst (λ (b : Book). IsState (crash_of d new) b (Some after)) (sym same) state))
             which));
         covered = λ t le all. second.covered t (omega (arith, le, first.later)) (first.covered t le all);
         kept = λ files has. first.kept files (second.kept files has);
@@ -159,16 +149,16 @@ module _ {D : Type 0} (d : Ghosts D) (laws : DiskLaws d) where
   module _ {T E : Type 0} (old mid new : D) (was is : Contents) (taken : Taken) (room after : Book) (result : Result T E)
       (takes : TakesSo d was.limits.volume_bytes was.seen taken room after) (quiet : IsQuiet d old mid)
       (writes : Writes d mid new was.seen room after is.seen result) where
-    pub store_later : moment_of d old ≤ moment_of d new
+    pub store_later : (crash_of d old).moment ≤ (crash_of d new).moment
     store_later = omega (arith, quiet.later, writes.later)
 
-    pub store_covered : StaysCovered (moment_of d) (covers d) old new
+    pub store_covered : StaysCovered (crash_of d old) (crash_of d new)
     store_covered t le all = writes.covered t (omega (arith, le, quiet.later)) (quiet.covered t le all)
 
-    pub store_kept : KeepsCheckpoints (checkpoints_of d) old new
+    pub store_kept : KeepsCheckpoints (crash_of d old) (crash_of d new)
     store_kept files has = quiet.kept files (writes.kept files has)
 
-    pub store_moves : HasIds was.seen → Moves (moment_of d) (opens d) old new (MayLeave was taken)
+    pub store_moves : HasIds was.seen → Moves (crash_of d old) (crash_of d new) (MayLeave was taken)
     store_moves ids t x le o = ⊎_elim
         (λ before. ⊎_elim (λ first. inl first) (λ none. absurd none) (quiet.moves t x le before))
         (λ which. inr (⊎_elim
@@ -183,17 +173,17 @@ module _ {D : Type 0} (d : Ghosts D) (laws : DiskLaws d) where
         which))
         (writes.moves ids t x (omega (arith, le, quiet.later)) o)
 
-    pub store_refused : IsTrue d.tells → HasIds was.seen → OnErr result (IsRefused (moment_of d) (opens d) old new was is taken)
+    pub store_refused : IsTrue d.tells → HasIds was.seen → OnErr result (IsRefused (crash_of d old) (crash_of d new) was is taken)
     store_refused told ids = on_err_both result (writes.refused ids) (on_err result)
         (λ which done. ⊎_elim
         (λ stays. inl (stays.0, keeps_from old mid new was.seen quiet stays.1))
         (λ state. inr (
           (takes told).storing,
           ⊎_elim
-              (λ (s : IsState (moment_of d) (opens d) new is.seen (Some room)).
-              inl (subst (λ (b : Book). IsState (moment_of d) (opens d) new is.seen (Some b)) (takes told).unfilled s))
-              (λ (s : IsState (moment_of d) (opens d) new is.seen (Some after)).
-              inr (subst (λ (b : Book). IsState (moment_of d) (opens d) new is.seen (Some b)) (takes told).stored s))
+              (λ (s : IsState (crash_of d new) is.seen (Some room)).
+              inl (subst (λ (b : Book). IsState (crash_of d new) is.seen (Some b)) (takes told).unfilled s))
+              (λ (s : IsState (crash_of d new) is.seen (Some after)).
+              inr (subst (λ (b : Book). IsState (crash_of d new) is.seen (Some b)) (takes told).stored s))
               state,
         ))
         which)

@@ -10,7 +10,7 @@ use Rattle.warc_journal.specs.declared.journal.Journal.{Journal}
 use Rattle.warc_text.specs.Books.{AreVolumeTexts}
 use Rattle.warc_text.specs.Records.{info_text}
 use Rattle.warc_text.specs.Sound.{IsSound}
-use Rattle.archive_shelf.specs.Openings.{Covers, HasIds, HasJust, ImageStandsFor, IsNext, IsState, Keeps, KeepsCheckpoints, MayHaveCheckpoints, Moves, Opens, SameBook, StaysCovered}
+use Rattle.archive_shelf.specs.Openings.{Covers, CrashStates, HasIds, HasJust, ImageStandsFor, IsNext, IsState, Keeps, KeepsCheckpoints, LeavesNoMore, MayHaveCheckpoints, Moves, Opens, SameBook, StaysCovered}
 use Rattle.archive_shelf.specs.Storing.{new_volume}
 use Rattle.archive_volumes.specs.Held.{HasSpace, volume_of}
 use Rattle.archive_volumes.specs.declared.room.Prepared.{Prepared}
@@ -46,42 +46,32 @@ pub record IsPrepared (book : Book) (prepared : Prepared) : Type 0 where
 
 -- ---- what may be opened
 
--- the moment of a disk that tells; of another disk nothing may be opened, and time stands still
-abbrev pub moment_of : {D : Type 0} → Ghosts D → D → ℕ
-moment_of d disk = if d.tells then d.moment disk else 0
-
--- the books that may be opened since a moment
-abbrev pub opens : {D : Type 0} → Ghosts D → D → ℕ → Book → Type 0
-opens d disk t book = Opens d.tells d disk t book
-
--- each image since a moment stands for a book
-abbrev pub covers : {D : Type 0} → Ghosts D → D → ℕ → Type 0
-covers d disk t = Covers d.tells d disk t
-
--- the files of checkpoints that a crash may leave
-abbrev pub checkpoints_of : {D : Type 0} → Ghosts D → D → List (List ℕ) → Type 0
-checkpoints_of d disk files = MayHaveCheckpoints d.tells d disk files
+-- what a crash may leave of a disk that tells; of another disk nothing may be opened, and time stands still
+abbrev pub crash_of : {D : Type 0} → Ghosts D → D → CrashStates
+crash_of d disk = record {
+  moment = if d.tells then d.moment disk else 0;
+  openings = λ t book. Opens d.tells d disk t book;
+  covered = λ t. Covers d.tells d disk t;
+  checkpoints = λ files. MayHaveCheckpoints d.tells d disk files;
+}
 
 -- where the disk tells, each image has just the texts of the book
 abbrev pub LeavesJust : {D : Type 0} → Ghosts D → D → Book → Type 0
 LeavesJust d disk book = IsTrue d.tells → (image : Image) → d.images disk image → HasJust image book
 
--- A call that only reads: nothing more may be opened.
-pub record IsQuiet {D : Type 0} (d : Ghosts D) (old new : D) : Type 0 where
-  pub later : moment_of d old ≤ moment_of d new
-  pub moves : Moves (moment_of d) (opens d) old new (λ x. ⊥)
-  pub covered : StaysCovered (moment_of d) (covers d) old new
-  pub kept : KeepsCheckpoints (checkpoints_of d) old new
+-- a call that only reads: nothing more may be opened
+abbrev pub IsQuiet : {D : Type 0} → Ghosts D → D → D → Type 0
+IsQuiet d old new = LeavesNoMore (crash_of d old) (crash_of d new)
 
 -- A call that makes one change, from one book to another, or is refused.
 pub record Makes {D T E : Type 0} (d : Ghosts D) (old new : D) (before after : Book) (result : Result T E) : Type 0 where
-  pub later : moment_of d old ≤ moment_of d new
-  pub moves : HasIds before → Moves (moment_of d) (opens d) old new (λ x. SameBook x before ⊎ (x ≡ after))
-  pub only : HasIds before → OnOk result (IsState (moment_of d) (opens d) new after None)
+  pub later : (crash_of d old).moment ≤ (crash_of d new).moment
+  pub moves : HasIds before → Moves (crash_of d old) (crash_of d new) (λ x. SameBook x before ⊎ (x ≡ after))
+  pub only : HasIds before → OnOk result (IsState (crash_of d new) after None)
   pub refused : HasIds before → OnErr result
-      (Keeps (moment_of d) (opens d) old new before ⊎ IsState (moment_of d) (opens d) new before (Some after))
-  pub covered : StaysCovered (moment_of d) (covers d) old new
-  pub kept : KeepsCheckpoints (checkpoints_of d) old new
+      (Keeps (crash_of d old) (crash_of d new) before ⊎ IsState (crash_of d new) before (Some after))
+  pub covered : StaysCovered (crash_of d old) (crash_of d new)
+  pub kept : KeepsCheckpoints (crash_of d old) (crash_of d new)
   pub just : OnOk result (LeavesJust d new after)
 
 -- a book with a volume or a capture more

@@ -9,7 +9,7 @@ use Rattle.archive_shelf.specs.Gaining.{AreFilled}
 use Rattle.archive_shelf.specs.Openings.{HasIds, IsState, Keeps, KeepsCheckpoints, Moves, SameBook, StaysCovered}
 use Rattle.archive_shelf.specs.Storing.{Storing, stored_by, with_volume}
 use Rattle.archive_volumes.specs.Held.{TakesCapture, TakesVolume, book_of, is_filled}
-use Rattle.archive_volumes.specs.Volumes.{IsPrepared, LeavesJust, checkpoints_of, covers, moment_of, opens}
+use Rattle.archive_volumes.specs.Volumes.{IsPrepared, LeavesJust, crash_of}
 use Rattle.archive_volumes.specs.declared.room.Prepared.{Prepared}
 use Rattle.archive_volumes.specs.declared.volumes.Volumes.{Volumes}
 
@@ -58,14 +58,14 @@ end_with volumes_now (Some prepared) = length prepared.info
 
 -- A call that writes a capture into a book, once a volume was begun if it needs one; or it is refused, and this book is held.
 pub record Writes {D T E : Type 0} (d : Ghosts D) (old new : D) (book room after now : Book) (result : Result T E) : Type 0 where
-  pub later : moment_of d old ≤ moment_of d new
-  pub moves : HasIds book → Moves (moment_of d) (opens d) old new (λ x. SameBook x book ⊎ ((x ≡ room) ⊎ (x ≡ after)))
-  pub only : HasIds book → OnOk result (IsState (moment_of d) (opens d) new after None)
+  pub later : (crash_of d old).moment ≤ (crash_of d new).moment
+  pub moves : HasIds book → Moves (crash_of d old) (crash_of d new) (λ x. SameBook x book ⊎ ((x ≡ room) ⊎ (x ≡ after)))
+  pub only : HasIds book → OnOk result (IsState (crash_of d new) after None)
   pub refused : HasIds book → OnErr result
-      (((now ≡ book) × Keeps (moment_of d) (opens d) old new book)
-      ⊎ (IsState (moment_of d) (opens d) new now (Some room) ⊎ IsState (moment_of d) (opens d) new now (Some after)))
-  pub covered : StaysCovered (moment_of d) (covers d) old new
-  pub kept : KeepsCheckpoints (checkpoints_of d) old new
+      (((now ≡ book) × Keeps (crash_of d old) (crash_of d new) book)
+      ⊎ (IsState (crash_of d new) now (Some room) ⊎ IsState (crash_of d new) now (Some after)))
+  pub covered : StaysCovered (crash_of d old) (crash_of d new)
+  pub kept : KeepsCheckpoints (crash_of d old) (crash_of d new)
   pub just : OnOk result (LeavesJust d new after)
 
 -- where the disk tells, the book takes the capture in this way: with this book with room, and this one after it

@@ -1,9 +1,11 @@
 -- What the command `pipe` leaves.
-use Rattle.std.proofs.Common.{◌≡◌, ◌⊎◌, ℕ, ◌<◌, ◌≤◌, Bool, IsTrue, List, [], ◌∷◌, length, Option, refl, sym, ap, subst, ◌∙◌, inl, inr, arith}
+use Rattle.std.proofs.Common.{◌≡◌, ◌⊎◌, ℕ, ◌<◌, ◌≤◌, Bool, true, IsTrue, List, [], ◌∷◌, length, Option, refl, sym, ap, subst, ◌∙◌, inl, inr, arith}
 use Rattle.std.specs.Prelude.{get_or}
 use Rattle.archive_core.specs.Holdings.{Holdings, contents_of}
 use Rattle.archive_core.specs.Reopening.{IsReopened}
-use Rattle.archive_volumes.specs.Volumes.{OpensNear, covers, moment_of}
+use Rattle.archive_core.specs.Told.{told_of}
+use Rattle.archive_volumes.proofs.ChangeLaws.{DiskLaws}
+use Rattle.archive_volumes.specs.Volumes.{OpensNear, crash_of}
 use Rattle.capture.specs.Growth.{Grows}
 use Rattle.outside.proofs.HangUps.{connections_hung_up_are_logged}
 use Rattle.outside.specs.Gate.{Connections, heard_of, one_given, one_hung_up, one_served}
@@ -15,7 +17,7 @@ use Rattle.proxy_run.specs.Pipes.{HasServed, HasServedNone, Pipes, around_in}
 use Rattle.proxy_run.specs.Serving.{IsServedStatus, IsReason, ServesNone, ServesOne, pipe_setting, unheard}
 use Rattle.proxy_run.specs.declared.status.Status.{Status}
 use Rattle.proxy_run.specs.declared.status.Status.TheVariants.{Outside}
-use Rattle.proxy_run.proofs.ConnectionLaws.{DiskLaws, held_by, leaves_just, served_over}
+use Rattle.proxy_run.proofs.ConnectionLaws.{leaves_just, served_over}
 use Rattle.proxy_run.proofs.OpeningLaws.{unchanged_by}
 use Rattle.warc_journal.specs.Journals.{disk_of}
 
@@ -49,7 +51,7 @@ first_any (item ∷ items) a b some = refl
 
 module _ {D G L P N M C O : Type 0} (kinds : Kinds D G L P N M C O) (laws : DiskLaws kinds.disks) (was is : Objects D G N C O) (asked : Option (List ℕ))
     (status : Status) (held left : Holdings D) (reopened : IsReopened kinds.disks was.disk asked usual_limits held) (closed : is.disk ≡ disk_of left.journal) where
-  pub has_served : ServesOne (held_by kinds.disks) (pipe_setting kinds.clocks.tells) (around_in kinds was) (around_in kinds is) held left status
+  pub has_served : ServesOne true (pipe_setting kinds.clocks.tells) (around_in kinds was) (around_in kinds is) (told_of kinds.disks held) (told_of kinds.disks left) status
       → HasServed kinds was is (contents_of kinds.disks.tells held) (contents_of kinds.disks.tells left) status
   unfolding served_over
   has_served one =
@@ -71,7 +73,7 @@ module _ {D G L P N M C O : Type 0} (kinds : Kinds D G L P N M C O) (laws : Disk
         same = ap (λ (h : Holdings D). contents_of kinds.disks.tells h) same;
       })
 
-  serves_by : (ServesOne (held_by kinds.disks) (pipe_setting kinds.clocks.tells) (around_in kinds was) (around_in kinds is) held left status
+  serves_by : (ServesOne true (pipe_setting kinds.clocks.tells) (around_in kinds was) (around_in kinds is) (told_of kinds.disks held) (told_of kinds.disks left) status
       ⊎ (ServesNone (kinds.gates.closed was.gate) (kinds.gates.faults was.gate) (kinds.gates.faults is.gate) (around_in kinds was) (around_in kinds is) status × (left ≡ held)))
       → HasServed kinds was is (contents_of kinds.disks.tells held) (contents_of kinds.disks.tells left) status
       ⊎ HasServedNone kinds was is (contents_of kinds.disks.tells held) (contents_of kinds.disks.tells left) status
@@ -80,10 +82,10 @@ module _ {D G L P N M C O : Type 0} (kinds : Kinds D G L P N M C O) (laws : Disk
 
   pub pipes_by : IsOpened kinds.disks asked was.disk (contents_of kinds.disks.tells held)
       → (IsTrue kinds.clients_tell → IsTrue kinds.origins_tell
-      → ServesOne (held_by kinds.disks) (pipe_setting kinds.clocks.tells) (around_in kinds was) (around_in kinds is) held left status
+      → ServesOne true (pipe_setting kinds.clocks.tells) (around_in kinds was) (around_in kinds is) (told_of kinds.disks held) (told_of kinds.disks left) status
       ⊎ (ServesNone (kinds.gates.closed was.gate) (kinds.gates.faults was.gate) (kinds.gates.faults is.gate) (around_in kinds was) (around_in kinds is) status × (left ≡ held)))
       → Grows held.book left.book → (IsTrue kinds.disks.tells → OpensNear kinds.disks is.disk left.book)
-      → ((t : ℕ) → t ≤ moment_of kinds.disks (disk_of held.journal) → covers kinds.disks (disk_of held.journal) t → covers kinds.disks (disk_of left.journal) t)
+      → ((t : ℕ) → t ≤ (crash_of kinds.disks (disk_of held.journal)).moment → (crash_of kinds.disks (disk_of held.journal)).covered t → (crash_of kinds.disks (disk_of left.journal)).covered t)
       → IsServedStatus status → (status ≡ Outside) ⊎ (kinds.gates.faults is.gate ≡ kinds.gates.faults was.gate)
       → kinds.disks.faults (disk_of held.journal) ≤ kinds.disks.faults (disk_of left.journal) → is.out ≡ was.out
       → Pipes kinds asked was is status
@@ -95,7 +97,7 @@ module _ {D G L P N M C O : Type 0} (kinds : Kinds D G L P N M C O) (laws : Disk
     grows = grows;
     near = near;
     covered = λ t le all.
-        subst (λ (d : D). covers kinds.disks d t) (sym closed)
+        subst (λ (d : D). (crash_of kinds.disks d).covered t) (sym closed)
         (covered t (omega (arith, le, reopened.quiet.later)) (reopened.quiet.covered t le all));
     ends = ends;
     gate_failed = gate_failed;

@@ -1,9 +1,9 @@
 -- What the command `pipe` leaves.
 use Rattle.std.specs.Prelude.{◌≡◌, ◌⊎◌, ◌≤◌, ℕ, List, true, IsTrue, Option}
-use Rattle.archive_volumes.specs.Volumes.{OpensNear, checkpoints_of, covers, moment_of, opens}
+use Rattle.archive_core.specs.Told.{told_on}
+use Rattle.archive_volumes.specs.Volumes.{OpensNear, crash_of}
 use Rattle.archive_shelf.specs.Contents.{Contents}
 use Rattle.archive_shelf.specs.Openings.{HasIds, ImageStandsFor, SameBook, StaysCovered}
-use Rattle.archive_shelf.specs.declared.finder.Finder.{Ghosts as Finders}
 use Rattle.capture.specs.Growth.{Grows}
 use Rattle.capture.specs.declared.book.Book.{Book}
 use Rattle.disk_model.specs.Image.{Image}
@@ -16,28 +16,6 @@ use Rattle.proxy_run.specs.declared.status.Status.TheVariants.{Outside}
 use Rattle.session.specs.Images.{HasAllIds, OpensAtLast}
 use Rattle.session.specs.Rounds.{Round}
 use Rattle.session.specs.Traces.{Terms, terms_of}
-
--- an archive alone: its disk, and what is told of it
-pub record Alone (D : Type 0) : Type 0 where
-  pub disk : D
-  pub now : Contents
-
--- the archive on a disk of which this is told
-abbrev pub alone_on : {D : Type 0} → D → Contents → Alone D
-alone_on disk now = record { disk = disk; now = now }
-
--- what a shelf tells that is an archive alone over a disk
-abbrev pub over : {D : Type 0} → Disks D → Finders (Alone D)
-over disks = record {
-  alone = true;
-  contents = λ kept. kept.now;
-  faults = λ kept. disks.faults kept.disk;
-  reading = λ kept. disks.reading kept.disk;
-  moment = λ kept. moment_of disks kept.disk;
-  openings = λ kept t book. opens disks kept.disk t book;
-  covered = λ kept t. covers disks kept.disk t;
-  checkpoints = λ kept files. checkpoints_of disks kept.disk files;
-}
 
 -- where and over what `pipe` serves its connection
 abbrev pub pipe_terms : Contents → Terms
@@ -58,8 +36,8 @@ module _ {D G L P N M C O : Type 0} (kinds : Kinds D G L P N M C O) where
 
   -- the gate's first connection was served over the archive, and hung up
   pub record HasServed (was is : Objects D G N C O) (before after : Contents) (status : Status) : Type 0 where
-    pub one : ServesOne (over kinds.disks) (pipe_setting kinds.clocks.tells) (around_in was) (around_in is)
-        (alone_on was.disk before) (alone_on is.disk after) status
+    pub one : ServesOne true (pipe_setting kinds.clocks.tells) (around_in was) (around_in is)
+        (told_on kinds.disks was.disk before) (told_on kinds.disks is.disk after) status
     pub left : LeavesJust kinds.disks before one.connection.rounds is.disk
 
   -- the gate gave no connection, and nothing was written
@@ -80,7 +58,7 @@ module _ {D G L P N M C O : Type 0} (kinds : Kinds D G L P N M C O) where
         → HasServed was is before after status ⊎ HasServedNone was is before after status
     pub grows : Grows before.seen after.seen
     pub near : IsTrue kinds.disks.tells → OpensNear kinds.disks is.disk after.seen
-    pub covered : StaysCovered (moment_of kinds.disks) (covers kinds.disks) was.disk is.disk
+    pub covered : StaysCovered (crash_of kinds.disks was.disk) (crash_of kinds.disks is.disk)
     pub ends : IsServedStatus status
     pub gate_failed : (status ≡ Outside) ⊎ (kinds.gates.faults is.gate ≡ kinds.gates.faults was.gate)
     pub disk_faults : kinds.disks.faults was.disk ≤ kinds.disks.faults is.disk

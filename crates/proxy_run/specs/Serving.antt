@@ -1,6 +1,6 @@
 -- What serving the gate's first connection leaves.
 use Rattle.std.specs.Prelude.{◌≡◌, ℕ, Bool, true, false, [], codes, ⊤}
-use Rattle.archive_shelf.specs.declared.finder.Finder.{Ghosts}
+use Rattle.archive_shelf.specs.Told.{Told}
 use Rattle.capture.specs.Faults.{Rose}
 use Rattle.capture.specs.declared.site.Site.{Site}
 use Rattle.outside.specs.Gate.{one_served}
@@ -42,7 +42,7 @@ abbrev pub unheard : Heard
 unheard = record { given = []; ended = false; written = []; faults = 0; failed_writes = 0 }
 
 -- what the objects around a connection tell, with what was heard of its client
-abbrev pub world_of : {S : Type 0} → Heard → Around → S → World S
+abbrev pub world_of : Heard → Around → Told → World
 world_of heard told shelf = record {
   heard = heard;
   answers = told.answers;
@@ -52,15 +52,15 @@ world_of heard told shelf = record {
 }
 
 -- a connection before its first byte
-abbrev pub first_stage : {S : Type 0} → Around → S → Stage S
+abbrev pub first_stage : Around → Told → Stage
 first_stage told shelf = record { served = 0; pending = []; world = world_of unheard told shelf }
 
 -- One connection was given, served and hung up, and is all that the gate gave.
-pub record ServesOne {S : Type 0} (finder : Ghosts S) (setting : Setting) (was is : Around) (shelf_was shelf_is : S) (status : Status) : Type 0 where
+pub record ServesOne (alone : Bool) (setting : Setting) (was is : Around) (shelf_was shelf_is : Told) (status : Status) : Type 0 where
   pub heard : Heard
   pub served : Served
   pub logged : is.connections ≡ one_served was.connections heard
-  pub connection : IsConnection finder setting (first_stage was shelf_was) (world_of heard is shelf_is) served
+  pub connection : IsConnection alone setting (first_stage was shelf_was) (world_of heard is shelf_is) served
   pub status_is : status ≡ status_of served
 
 -- why a gate gave no connection: it was closed, it failed, or there was no memory

@@ -23,13 +23,13 @@ pub fn serve_first<S: Shelf, G: Gate, N: Dialer, C: Clock>(
     member: &mut (N, C),
 ) -> Status
     ensures serves { IsTrue G.Link.tells → IsTrue N.Link.tells
-        → ServesOne S.Finder (pipe_setting C.tells) (told_around G.Gate N.Dialer C.Clock gate.old member.old)
-        (told_around G.Gate N.Dialer C.Clock gate.new member.new) shelf.old shelf.new result
+        → ServesOne S.alone (pipe_setting C.tells) (told_around G.Gate N.Dialer C.Clock gate.old member.old)
+        (told_around G.Gate N.Dialer C.Clock gate.new member.new) (S.told shelf.old) (S.told shelf.new) result
         ⊎ (ServesNone (G.closed gate.old) (G.faults gate.old) (G.faults gate.new) (told_around G.Gate N.Dialer C.Clock gate.old member.old)
         (told_around G.Gate N.Dialer C.Clock gate.new member.new) result × (shelf.new ≡ shelf.old)) }
-    ensures grows { Grows (S.contents shelf.old).seen (S.contents shelf.new).seen }
-    ensures faults { S.faults shelf.old ≤ S.faults shelf.new }
-    ensures covered { StaysCovered S.moment S.covered shelf.old shelf.new }
+    ensures grows { Grows (S.told shelf.old).contents.seen (S.told shelf.new).contents.seen }
+    ensures faults { (S.told shelf.old).faults ≤ (S.told shelf.new).faults }
+    ensures covered { StaysCovered (S.told shelf.old).crash (S.told shelf.new).crash }
     ensures ends { IsServedStatus result }
     ensures gate_failed { (result ≡ Status.Outside) ⊎ (G.faults gate.new ≡ G.faults gate.old) }
 {
@@ -60,12 +60,12 @@ fn serve_link<S: Shelf, G: Gate, N: Dialer, C: Clock>(
     requires fresh { IsTrue G.Link.tells → IsFresh (G.Link.traffic link) }
     requires site { site.now ≡ pipe_site }
     ensures serves { IsTrue G.Link.tells → IsTrue N.Link.tells → (before : Connections) → G.connections gate.old ≡ one_given before
-        → ServesOne S.Finder (pipe_setting C.tells)
+        → ServesOne S.alone (pipe_setting C.tells)
         (record (told_around G.Gate N.Dialer C.Clock gate.old member.old) { connections = before })
-        (told_around G.Gate N.Dialer C.Clock gate.new member.new) shelf.old shelf.new result }
-    ensures grows { Grows (S.contents shelf.old).seen (S.contents shelf.new).seen }
-    ensures faults { S.faults shelf.old ≤ S.faults shelf.new }
-    ensures covered { StaysCovered S.moment S.covered shelf.old shelf.new }
+        (told_around G.Gate N.Dialer C.Clock gate.new member.new) (S.told shelf.old) (S.told shelf.new) result }
+    ensures grows { Grows (S.told shelf.old).contents.seen (S.told shelf.new).contents.seen }
+    ensures faults { (S.told shelf.old).faults ≤ (S.told shelf.new).faults }
+    ensures covered { StaysCovered (S.told shelf.old).crash (S.told shelf.new).crash }
     ensures ends { IsServedStatus result }
     ensures same_faults { G.faults gate.new ≡ G.faults gate.old }
 {

@@ -1,7 +1,6 @@
 -- A lawful round and then a connection are a connection.
 use Rattle.std.proofs.Common.{◌≡◌, ℕ, ◌+◌, inl, inr, Bool, true, false, ◌||◌, List, [], ◌∷◌, ◌++◌, refl, sym, ◌∙◌, ap, append_assoc}
 use Rattle.archive_shelf.specs.Contents.{Contents}
-use Rattle.archive_shelf.specs.declared.finder.Finder.{Ghosts}
 use Rattle.capture.specs.declared.refusal.Refusal.{Refusal}
 use Rattle.capture.specs.declared.site.Site.{Site}
 use Rattle.exchange.specs.Receiving.{StaysAccounted}
@@ -135,11 +134,11 @@ pub same_terms : (site : Site) (alone : Bool) (a b : Contents) (m : List ℕ) �
 same_terms site alone a b m e = ap (λ (c : Contents). terms_of site alone c) e
 
 -- the law
-pub then_on : {S : Type 0} (finder : Ghosts S) (setting : Setting) (r : Round) (from to : Stage S) (is : World S) (result : Served)
-    → IsStep finder setting r from to → IsConnection finder setting to is result → IsConnection finder setting from is result
-then_on {S} finder setting r from to is result step c =
-    let same : terms_at finder setting to.world.shelf ≡ terms_at finder setting from.world.shelf =
-    same_terms setting.site finder.alone (finder.contents from.world.shelf) (finder.contents to.world.shelf) (gains_by r).numbers step.made.gained.stored in
+pub then_on : (alone : Bool) (setting : Setting) (r : Round) (from to : Stage) (is : World) (result : Served)
+    → IsStep alone setting r from to → IsConnection alone setting to is result → IsConnection alone setting from is result
+then_on alone setting r from to is result step c =
+    let same : terms_at alone setting to.world.shelf ≡ terms_at alone setting from.world.shelf =
+    same_terms setting.site alone from.world.shelf.contents to.world.shelf.contents (gains_by r).numbers step.made.gained.stored in
     record {
       rounds = r ∷ c.rounds;
       rest = c.rest;
@@ -156,7 +155,7 @@ then_on {S} finder setting r from to is result step c =
       ends = ends_behind setting.site from.served is.heard r c.rounds c.rest step.stays
           (left_false r.lacked (closes_outcome from.served r.outcome) step.stays)
           (no_refusal from.served r.outcome (right_false r.lacked (closes_outcome from.served r.outcome) step.stays)) result (rw step.next at c.ends);
-      gained = gained_both finder setting from.world to.world is (gains_by r) (gains_of c.rounds) step.made.gained c.gained;
-      images = images_both finder (terms_at finder setting from.world.shelf) r c.rounds from.world.shelf to.world.shelf is.shelf step.made.images
+      gained = gained_both alone setting from.world to.world is (gains_by r) (gains_of c.rounds) step.made.gained c.gained;
+      images = images_both (terms_at alone setting from.world.shelf) r c.rounds from.world.shelf to.world.shelf is.shelf step.made.images
           (rw same at c.images);
     }

@@ -1,5 +1,5 @@
 -- Entries of one key stand in order of their dates.
-use Rattle.std.proofs.Common.{◌≡◌, ℕ, ◌<◌, ◌≤◌, List, length, get_or, ap, sym, ◌∙◌, inl, inr, arith}
+use Rattle.std.proofs.Common.{◌≡◌, ℕ, ◌<◌, ◌≤◌, List, length, get_or, ap, sym, ◌∙◌, inl, inr, arith, Bool}
 use Rattle.std.specs.Prelude.{Contains}
 use Rattle.std.proofs.lemmas.Bool.{cases_lt}
 use Rattle.std.proofs.lemmas.Cmp.{nat_list_cmp_total, tied_itself}
@@ -11,9 +11,9 @@ use Rattle.std.specs.Cmp.Lexicographic.{slice_cmp}
 use Rattle.std.specs.List.Sorted.{IsNonDecreasingBy, IsStrictlySortedBy}
 use Rattle.std.specs.Ordering.{nat_cmp, ordering_then}
 use Rattle.std.specs.declared.cmp.Ordering.TheVariants.{Less, Greater}
-use Rattle.archive_shelf.specs.declared.finder.Finder.{Ghosts}
 use Rattle.cdxj_index.specs.Facts.{Facts}
 use Rattle.cdxj_index.specs.Order.{moment_cmp, moment_of, order}
+use Rattle.archive_shelf.specs.Contents.{Contents}
 use Rattle.session.specs.Looking.{FindsAll}
 
 -- of two entries of one key the earlier has no later date
@@ -44,7 +44,7 @@ dates_in_order found key sorted keyed i j d below within = elim (cases_lt i j) [
 ]
 
 -- all entries of a URL that are shown
-pub listed_in_order : {S : Type 0} (finder : Ghosts S) (shelf : S) (url : List ℕ) (found : List Facts) → FindsAll finder shelf url found
+pub listed_in_order : (alone : Bool) (now : Contents) (url : List ℕ) (found : List Facts) → FindsAll alone now url found
     → IsNonDecreasingBy (λ (e : Facts). e.date) found
-listed_in_order finder shelf url found h =
+listed_in_order alone now url found h =
     dates_in_order found h.key h.picked.in_order (λ entry there. sym ((bytes_eq-Decides h.key entry.key).0 (h.picked.picked entry there)))

@@ -1,7 +1,9 @@
 -- What asking an origin makes of a round, where no response came.
-use Rattle.std.proofs.Common.{◌≡◌, inl, inr, ℕ, ◌≤◌, Bool, true, List, [], ◌∷◌, ◌++◌, Result, Ok, Err, refl, sym, ◌∙◌, ap, subst}
+use Rattle.std.proofs.Common.{◌≡◌, inl, inr, ℕ, ◌≤◌, Bool, true, List, [], ◌∷◌, ◌++◌, Result, Ok, Err, refl, sym, ◌∙◌, ap, subst, arith}
 use Rattle.std.proofs.lemmas.List.{append-nil}
-use Rattle.archive_shelf.specs.declared.finder.Finder.{Ghosts}
+use Rattle.archive_shelf.proofs.CallLaws.{shown_itself}
+use Rattle.archive_shelf.specs.Openings.{IsEarlier}
+use Rattle.archive_shelf.specs.Told.{Told}
 use Rattle.capture.specs.declared.memory.Memory.{Memory}
 use Rattle.capture.specs.declared.refusal.Refusal.{Refusal}
 use Rattle.capture.specs.declared.refusal.Refusal.TheVariants.{DialFault, OriginFault, OriginEnded, OriginMalformed, OriginTooLong, TooManyInterim}
@@ -19,10 +21,9 @@ use Rattle.session.specs.Images.{NoDeed, deed_of_failure}
 use Rattle.session.specs.Rounds.{is_disk_fault, is_origin_fault}
 use Rattle.session.specs.Traces.{CountsMet}
 use Rattle.session.specs.declared.answer.Answer.{Answer}
-use Rattle.session.proofs.EndingLaws.{shown_itself}
-use Rattle.session.proofs.ExchangeLaws.{Founded, lacking_comes, refused_comes, untouched}
+use Rattle.session.proofs.ExchangeLaws.{lacking_comes, refused_comes, untouched}
 use Rattle.session.proofs.GainLaws.{none_met}
-use Rattle.session.proofs.VisitLaws.{rose_met, stayed_below, stayed_met}
+use Rattle.session.proofs.VisitLaws.{rose_met, stayed_met}
 
 -- what clock and dialer tell of one exchange
 abbrev dialed : ℕ → List Transcript → ℕ → ℕ → Around
@@ -45,56 +46,56 @@ as_asked e request asks outcome old new sent same h =
 
 -- the count of faults doesn't fall
 pub fetch_later : (before now : ℕ) (outcome : Result Received FetchFault) → CountsFetch before now outcome → before ≤ now
-fetch_later before now (Ok received) h = stayed_below before now h
+fetch_later before now (Ok received) h = omega (arith, h)
 fetch_later before now (Err fetch_fault.DialFault) h = h.0
 fetch_later before now (Err fetch_fault.OriginFault) h = h.0
-fetch_later before now (Err fetch_fault.OriginEnded) h = stayed_below before now h
-fetch_later before now (Err fetch_fault.OriginMalformed) h = stayed_below before now h
-fetch_later before now (Err fetch_fault.OriginTooLong) h = stayed_below before now h
-fetch_later before now (Err fetch_fault.TooManyInterim) h = stayed_below before now h
-fetch_later before now (Err fetch_fault.Memory) h = stayed_below before now h
+fetch_later before now (Err fetch_fault.OriginEnded) h = omega (arith, h)
+fetch_later before now (Err fetch_fault.OriginMalformed) h = omega (arith, h)
+fetch_later before now (Err fetch_fault.OriginTooLong) h = omega (arith, h)
+fetch_later before now (Err fetch_fault.TooManyInterim) h = omega (arith, h)
+fetch_later before now (Err fetch_fault.Memory) h = omega (arith, h)
 
 -- ---- no response came
 
-module _ {S : Type 0} (finder : Ghosts S) (site : Site) (e : Exchange) (closes : Bool) (date : ℕ) (result : Result Answer Memory)
-    (old new : Links Transcript) (before now : ℕ) (shelf : S) (laws : Founded finder) (in_range : InRange date) (asks : Bool) (same : asks ≡ answers_head e) where
+module _ (alone : Bool) (site : Site) (e : Exchange) (closes : Bool) (date : ℕ) (result : Result Answer Memory)
+    (old new : Links Transcript) (before now : ℕ) (shelf : Told) (earlier : IsEarlier shelf.crash) (in_range : InRange date) (asks : Bool) (same : asks ≡ answers_head e) where
   -- what holds of the one link, by how it ended
   abbrev Vain : FetchFault → Transcript → Type 0
-  Vain fault t = WentInVain (terms_in finder site e shelf) e fault (traces_of finder site e (dialed date (t ∷ []) before now) (finder.contents shelf).seen shelf shelf)
+  Vain fault t = WentInVain (terms_in alone site e shelf) e fault (traces_of alone site e (dialed date (t ∷ []) before now) shelf.contents.seen shelf shelf)
 
   -- the link was hung up, and the request refused
   vain : (fault : FetchFault) (refusal : Refusal) → LogsFetched (asking_of e) (Err fault) old new → deed_of_failure e refusal ≡ NoDeed
       → CountsMet (is_origin_fault refusal) before now → is_disk_fault refusal ≡ 0
       → ((t : Transcript) → Vain fault t
-      → IsFailure (terms_in finder site e shelf) e refusal (traces_of finder site e (dialed date (t ∷ []) before now) (finder.contents shelf).seen shelf shelf))
+      → IsFailure (terms_in alone site e shelf) e refusal (traces_of alone site e (dialed date (t ∷ []) before now) shelf.contents.seen shelf shelf))
       → Refuses refusal asks closes result
-      → Asks finder site e closes date result (record { links = old; faults = before; shelf = shelf }) (record { links = new; faults = now; shelf = shelf })
+      → Asks alone site e closes date result (record { links = old; faults = before; shelf = shelf }) (record { links = new; faults = now; shelf = shelf })
   vain fault refusal logs deed dialer none is refuses = record {
     transcripts = logs.t ∷ [];
     logged = logs.gains;
-    comes = refused_comes finder site e refusal asks closes (dialed date (logs.t ∷ []) before now) result shelf shelf same
-        (λ lacked. untouched finder site e lacked (Fails refusal) (dialed date (logs.t ∷ []) before now) shelf laws deed refl dialer
-        (subst (λ (n : ℕ). CountsMet n (finder.faults shelf) (finder.faults shelf)) (sym none) (none_met (finder.faults shelf)))
+    comes = refused_comes alone site e refusal asks closes (dialed date (logs.t ∷ []) before now) result shelf shelf same
+        (λ lacked. untouched alone site e lacked (Fails refusal) (dialed date (logs.t ∷ []) before now) shelf earlier deed refl dialer
+        (subst (λ (n : ℕ). CountsMet n shelf.faults shelf.faults) (sym none) (none_met shelf.faults))
         (is logs.t (record {
           timed = record { date = date; only = refl; in_range = in_range };
           linked = record { t = logs.t; only = refl; fetched = logs.fetched };
-          untouched = record { book = refl; shown = shown_itself finder.alone (finder.contents shelf).shown };
+          untouched = record { book = refl; shown = shown_itself alone shelf.contents.shown };
         }))) refuses;
   }
 
   -- by the fault
   pub fetch_failed : (fault : FetchFault) → LogsFetch (asking_of e) (Err fault) old new → CountsFetch before now (Err fault)
       → FailsBy fault asks closes result
-      → Asks finder site e closes date result (record { links = old; faults = before; shelf = shelf }) (record { links = new; faults = now; shelf = shelf })
+      → Asks alone site e closes date result (record { links = old; faults = before; shelf = shelf }) (record { links = new; faults = now; shelf = shelf })
   fetch_failed fetch_fault.DialFault logs counts fails = record {
     transcripts = [];
     logged = same_log old new logs;
-    comes = refused_comes finder site e DialFault asks closes (dialed date [] before now) result shelf shelf same
-        (λ lacked. untouched finder site e lacked (Fails DialFault) (dialed date [] before now) shelf laws refl refl
-        (rose_met before now counts.1) (none_met (finder.faults shelf)) (record {
+    comes = refused_comes alone site e DialFault asks closes (dialed date [] before now) result shelf shelf same
+        (λ lacked. untouched alone site e lacked (Fails DialFault) (dialed date [] before now) shelf earlier refl refl
+        (rose_met before now counts.1) (none_met shelf.faults) (record {
           timed = record { date = date; only = refl; in_range = in_range };
           none = refl;
-          untouched = record { book = refl; shown = shown_itself finder.alone (finder.contents shelf).shown };
+          untouched = record { book = refl; shown = shown_itself alone shelf.contents.shown };
         })) fails;
   }
   fetch_failed fetch_fault.OriginFault logs counts fails =
@@ -110,29 +111,29 @@ module _ {S : Type 0} (finder : Ghosts S) (site : Site) (e : Exchange) (closes :
   fetch_failed fetch_fault.Memory (inl none) counts fails = record {
     transcripts = [];
     logged = same_log old new none;
-    comes = lacking_comes finder site e closes (dialed date [] before now) result shelf shelf
-        (untouched finder site e true LacksReply (dialed date [] before now) shelf laws refl refl
-        (stayed_met before now counts) (none_met (finder.faults shelf)) (
+    comes = lacking_comes alone site e closes (dialed date [] before now) result shelf shelf
+        (untouched alone site e true LacksReply (dialed date [] before now) shelf earlier refl refl
+        (stayed_met before now counts) (none_met shelf.faults) (
           refl,
           record {
             begun = inr (inr (record { timed = record { date = date; only = refl; in_range = in_range }; linked = inl refl }));
-            untouched = record { book = refl; shown = shown_itself finder.alone (finder.contents shelf).shown };
+            untouched = record { book = refl; shown = shown_itself alone shelf.contents.shown };
           },
         )) fails;
   }
   fetch_failed fetch_fault.Memory (inr logs) counts fails = record {
     transcripts = logs.t ∷ [];
     logged = logs.gains;
-    comes = lacking_comes finder site e closes (dialed date (logs.t ∷ []) before now) result shelf shelf
-        (untouched finder site e true LacksReply (dialed date (logs.t ∷ []) before now) shelf laws refl refl
-        (stayed_met before now counts) (none_met (finder.faults shelf)) (
+    comes = lacking_comes alone site e closes (dialed date (logs.t ∷ []) before now) result shelf shelf
+        (untouched alone site e true LacksReply (dialed date (logs.t ∷ []) before now) shelf earlier refl refl
+        (stayed_met before now counts) (none_met shelf.faults) (
           refl,
           record {
             begun = inr (inr (record {
               timed = record { date = date; only = refl; in_range = in_range };
               linked = inr (record { t = logs.t; only = refl; fetched = logs.fetched });
             }));
-            untouched = record { book = refl; shown = shown_itself finder.alone (finder.contents shelf).shown };
+            untouched = record { book = refl; shown = shown_itself alone shelf.contents.shown };
           },
         )) fails;
   }

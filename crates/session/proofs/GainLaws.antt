@@ -1,11 +1,12 @@
 -- What is gained in one step after another.
-use Rattle.std.proofs.Common.{◌≡◌, ℕ, ◌+◌, ◌-◌, ◌^◌, ◌<◌, Bool, List, [], ◌++◌, length, refl, sym, ◌∙◌, ap, subst, arith, append_assoc, length-append}
+use Rattle.std.proofs.Common.{◌≡◌, ℕ, ◌+◌, ◌-◌, ◌^◌, ◌<◌, Bool, List, [], ◌++◌, length, refl, sym, ◌∙◌, ap, arith, append_assoc, length-append}
 use Rattle.std.proofs.lemmas.List.{append-nil}
 use Rattle.archive_shelf.specs.Contents.{Contents}
-use Rattle.archive_shelf.specs.declared.finder.Finder.{Ghosts}
 use Rattle.capture.specs.Faults.{RoseBy}
 use Rattle.outside.specs.Records.{Links}
 use Rattle.outside.specs.declared.dialer.Transcript.{Transcript}
+use Rattle.outside.specs.declared.gate.Heard.{Heard}
+use Rattle.session.specs.Endings.{heard_now}
 use Rattle.session.specs.Connection.{Setting, Gained}
 use Rattle.session.specs.Gains.{World, Gains, no_gains, both_gains, GainsOutside}
 use Rattle.session.specs.Traces.{CountsMet}
@@ -58,7 +59,7 @@ stored_on a b c m n e f =
 stored_none : (a : Contents) → a ≡ record a { seen = a.seen; shown = a.shown; mine = a.mine ++ [] }
 stored_none a = ap (λ (l : List ℕ). record a { mine = l }) (sym (append-nil a.mine))
 
-outside_both : {S : Type 0} (clock_tells : Bool) (was mid is : World S) (first second : Gains) → GainsOutside clock_tells was mid first
+outside_both : (clock_tells : Bool) (was mid is : World) (first second : Gains) → GainsOutside clock_tells was mid first
     → GainsOutside clock_tells mid is second → GainsOutside clock_tells was is (both_gains first second)
 outside_both clock_tells was mid is first second h k = record {
   asked = λ told. asked_on was.answers mid.answers is.answers first.times second.times (h.asked told) (k.asked told);
@@ -66,21 +67,19 @@ outside_both clock_tells was mid is first second h k = record {
 }
 
 -- what was gained in one step, and then in others
-pub gained_both : {S : Type 0} (finder : Ghosts S) (setting : Setting) (was mid is : World S) (first second : Gains)
-    → Gained finder setting was mid first → Gained finder setting mid is second → Gained finder setting was is (both_gains first second)
-gained_both finder setting was mid is first second h k = record {
+pub gained_both : (alone : Bool) (setting : Setting) (was mid is : World) (first second : Gains)
+    → Gained alone setting was mid first → Gained alone setting mid is second → Gained alone setting was is (both_gains first second)
+gained_both alone setting was mid is first second h k = record {
   around = outside_both setting.clock_tells was mid is first second h.around k.around;
-  stored = stored_on (finder.contents was.shelf) (finder.contents mid.shelf) (finder.contents is.shelf) first.numbers second.numbers h.stored k.stored;
+  stored = stored_on was.shelf.contents mid.shelf.contents is.shelf.contents first.numbers second.numbers h.stored k.stored;
 }
 
--- where nothing but what was heard has changed, nothing was gained
-pub gained_none : {S : Type 0} (finder : Ghosts S) (setting : Setting) (was is : World S) → is ≡ record was { heard = is.heard }
-    → Gained finder setting was is no_gains
-gained_none {S} finder setting was is e =
-    subst (λ (w : World S). Gained finder setting was w no_gains) (sym e) (record {
-      around = record {
-        asked = λ _ _. sym (append-nil was.answers);
-        logged = ap (λ (l : List Transcript). record was.links { log = l }) (sym (append-nil was.links.log));
-      };
-      stored = stored_none (finder.contents was.shelf);
-    })
+-- where nothing but the client was heard, nothing was gained
+pub gained_none : (alone : Bool) (setting : Setting) (was : World) (now : Heard) → Gained alone setting was (heard_now was now) no_gains
+gained_none alone setting was now = record {
+  around = record {
+    asked = λ _ _. sym (append-nil was.answers);
+    logged = ap (λ (l : List Transcript). record was.links { log = l }) (sym (append-nil was.links.log));
+  };
+  stored = stored_none was.shelf.contents;
+}

@@ -1,7 +1,7 @@
 -- A book only grows while a connection is served, and so does what is shown.
-use Rattle.std.proofs.Common.{◌≡◌, inl, inr, ℕ, ◌+◌, ◌≤◌, Bool, true, false, IsTrue, List, [], ◌∷◌, ◌++◌, length, Err, refl, sym, ◌∙◌, ap, subst, arith, append_assoc, length-append}
-use Rattle.std.proofs.lemmas.List.{append-nil}
-use Rattle.archive_shelf.specs.Contents.{Begins, Leads, LeadsShown, LeadsShownPast}
+use Rattle.std.proofs.Common.{◌≡◌, ℕ, ◌+◌, ◌≤◌, IsTrue, List, [], ◌∷◌, length, Err, refl, sym, ap, subst, arith, length-append}
+use Rattle.archive_shelf.proofs.CallLaws.{begins_both, leads_begins, leads_same, past_begins, shown_same}
+use Rattle.archive_shelf.specs.Contents.{Begins}
 use Rattle.archive_shelf.specs.Laws.{BooksLeadToThemselves, GainsGrow, LeadingGrows, StoresGrow}
 use Rattle.archive_shelf.specs.Openings.{HasIds}
 use Rattle.archive_shelf.specs.declared.fault.StoreFault.TheVariants as store_fault
@@ -12,7 +12,6 @@ use Rattle.capture.specs.declared.book.Book.{Book}
 use Rattle.capture.specs.declared.captured.Stored.{Stored}
 use Rattle.capture.specs.declared.refusal.Refusal.{Refusal}
 use Rattle.capture.specs.declared.refusal.Refusal.TheVariants.{Malformed, TargetRefused, BadTime, BadAcceptDatetime, BadQuery, NotAForm, NoCapture, NoSuch, MethodRefused, BodyTooLong, HeadTooLong, ClockRange, ConnectRefused, SecureRefused, CodingRefused, DialFault, OriginFault, OriginEnded, OriginMalformed, OriginTooLong, TooManyInterim, Full, DiskFault, Damaged}
-use Rattle.cdxj_index.specs.Facts.{Facts}
 use Rattle.http_head.specs.declared.head.Received.{Received}
 use Rattle.session.specs.Exchanges.{Exchange, Fails, Passes, LacksReply, IsFailure, IsRefusedByDisk, IsPassedOn}
 use Rattle.session.specs.Images.{Deed, NoDeed, Stores, IsDenied, deed_of, contents_at, NeedsIds}
@@ -128,24 +127,6 @@ ids_differ laws terms served was (r ∷ rounds) is (lawful, leads, knows, last, 
 
 -- ---- what is shown
 
-pub begins_both : (a b c : List Facts) → Begins a b → Begins b c → Begins a c
-begins_both a b c h k = record {
-  rest = h.rest ++ k.rest;
-  joined = k.joined ∙ ap (λ (x : List Facts). x ++ k.rest) h.joined ∙ append_assoc a h.rest k.rest;
-}
-
-begins_same : (a b : List Facts) → b ≡ a → Begins a b
-begins_same a b e = record { rest = []; joined = e ∙ sym (append-nil a) }
-
-pub leads_begins : (alone : Bool) (a b : List Facts) → LeadsShown alone a b → Begins a b
-leads_begins true a b e = begins_same a b e
-leads_begins false a b h = h
-
-pub past_begins : (alone : Bool) (number : ℕ) (a b : List Facts) → LeadsShownPast alone number a b → Begins a b
-past_begins true number a b (inl e) = begins_same a b e
-past_begins true number a b (inr (entry, number_is, e)) = record { rest = entry ∷ []; joined = e }
-past_begins false number a b h = h
-
 leaves_shows : (terms : Terms) (traces : Traces) → Leaves terms traces → Begins traces.before.shown traces.after.shown
 leaves_shows terms traces (Stayed h) = leads_begins terms.alone traces.before.shown traces.after.shown h.shown
 leaves_shows terms traces (Denied e h) = leads_begins terms.alone traces.before.shown traces.after.shown h.shown.shown
@@ -180,14 +161,6 @@ courses_count terms served was (r ∷ rounds) is (lawful, leads, knows, last, ot
     )
 
 -- ---- alone
-
-pub leads_same : (alone : Bool) (a b : Book) → IsTrue alone → Leads alone a b → b ≡ a
-leads_same true a b t e = e
-leads_same false a b t h = let bad : ⊥ = cc in absurd bad
-
-shown_same : (alone : Bool) (a b : List Facts) → IsTrue alone → LeadsShown alone a b → b ≡ a
-shown_same true a b t e = e
-shown_same false a b t h = let bad : ⊥ = cc in absurd bad
 
 same_consistent : (terms : Terms) (a b : View) → b.book ≡ a.book → b.shown ≡ a.shown → IsConsistentView terms a → IsConsistentView terms b
 same_consistent terms a b e f h = λ alone tells. rw (e, f) (h alone tells)

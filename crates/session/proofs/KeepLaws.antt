@@ -1,18 +1,17 @@
 -- What storing the capture of an exchange makes of a round.
 use Rattle.std.proofs.Common.{◌≡◌, inr, ℕ, ◌<◌, ◌≤◌, Bool, true, false, ◌||◌, IsTrue, IfOk, List, [], ◌∷◌, ◌++◌, length, Option, Result, Ok, Err, refl, sym, ◌∙◌, ap, subst, arith}
-use Rattle.std.proofs.lemmas.List.{append-nil}
+use Rattle.archive_shelf.proofs.CallLaws.{leads_same, shown_itself}
 use Rattle.archive_shelf.specs.Answers.{WritesNone}
 use Rattle.archive_shelf.specs.Contents.{Contents, IsConsistent}
-use Rattle.archive_shelf.specs.Laws.{LeadingGrows, StoresGrow}
+use Rattle.archive_shelf.specs.Openings.{IsEarlier}
 use Rattle.archive_shelf.specs.declared.fault.StoreFault.{StoreFault}
 use Rattle.archive_shelf.specs.declared.fault.StoreFault.TheVariants as store_fault
-use Rattle.archive_shelf.specs.declared.finder.Finder.{Ghosts}
+use Rattle.archive_shelf.specs.Told.{StoresOn, Told, WritesNothing}
 use Rattle.archive_shelf.specs.declared.receipt.Receipt.{Receipt}
 use Rattle.capture.specs.Captures.{HasPayload, IsPayloadOf, captures}
 use Rattle.capture.specs.Methods.{asks_for_head}
 use Rattle.capture.specs.Payload.{IsPayload}
 use Rattle.capture.specs.declared.book.Book.{Book}
-use Rattle.capture.specs.declared.captured.Taken.{Taken}
 use Rattle.capture.specs.declared.limits.TheConstants.{BODY_LIMIT}
 use Rattle.capture.specs.declared.memory.Memory.{Memory}
 use Rattle.capture.specs.declared.refusal.Refusal.TheVariants.{Full, DiskFault, Damaged}
@@ -28,17 +27,14 @@ use Rattle.outside.specs.declared.dialer.Transcript.{Transcript}
 use Rattle.time_text.specs.Texts.{InRange}
 use Rattle.warc_text.specs.Fits.{Fits}
 use Rattle.session.specs.Exchanges.{Exchange, Fails, Fetched, HasRoom, LacksReply, Passes, answers_head, asking_of, taken_of}
-use Rattle.session.specs.Exchanging.{Around, Comes, FollowsStore, HasCome, Keeps, PassesOn, Replies, Stores, round_of, terms_in, traces_of}
+use Rattle.session.specs.Exchanging.{Around, Comes, FollowsStore, HasCome, Keeps, PassesOn, Replies, round_of, terms_in, traces_of}
 use Rattle.session.specs.Laws.{StoredCapturesHaveTheirPayload}
-use Rattle.session.specs.Shelving.{GoesOn, IsQuiet}
 use Rattle.session.specs.Traces.{IsConsistentView, view_of}
 use Rattle.session.specs.declared.answer.Answer.{Answer}
-use Rattle.session.proofs.EndingLaws.{shown_itself}
-use Rattle.session.proofs.ExchangeLaws.{Founded, lacking_comes, none_stored, refused_comes, untouched, unwritten}
+use Rattle.session.proofs.ExchangeLaws.{lacking_comes, none_stored, refused_comes, untouched, unwritten}
 use Rattle.session.proofs.GainLaws.{none_met}
-use Rattle.session.proofs.GrowingLaws.{leads_begins, leads_same, past_begins}
 use Rattle.session.proofs.StoreLaws.{images_denied, images_stored}
-use Rattle.session.proofs.VisitLaws.{rose_met, stayed_below, stayed_met, stays_on}
+use Rattle.session.proofs.VisitLaws.{rose_met, stayed_met}
 
 -- ---- the capture
 
@@ -69,39 +65,7 @@ has_payload received method payload (stream, response) is = record {
   decoded = is;
 }
 
--- ---- a shelf that stored a capture, or didn't
-
--- whatever a store says, the shelf goes on
-pub stores_go_on : {S : Type 0} (finder : Ghosts S) (taken : Taken) (said : Result Receipt StoreFault) (was is : S) → LeadingGrows → StoresGrow
-    → Stores finder taken said was is → GoesOn finder was is
-stores_go_on finder taken (Ok receipt) was is leading grow h = record {
-  grows = grow finder.alone taken (finder.contents was) (finder.contents is) (Ok receipt) h.leaves;
-  shows = past_begins finder.alone receipt.number (finder.contents was).shown (finder.contents is).shown h.leaves.shown;
-  mine = record { rest = receipt.number ∷ []; splits = ap (λ (x : Contents). x.mine) h.leaves.others };
-  same_tells = ap (λ (x : Contents). x.tells) h.leaves.others;
-  same_limits = ap (λ (x : Contents). x.limits) h.leaves.others;
-  consistent = λ _. h.consistent;
-  faults = stayed_below (finder.faults was) (finder.faults is) h.faults;
-  later = h.later;
-  covered = h.covered;
-}
-stores_go_on finder taken (Err (store_fault.Full count limit)) was is leading grow h =
-    stays_on finder was is leading h.leaves.0 h.consistent (stayed_below (finder.faults was) (finder.faults is) h.faults) h.later h.covered
-stores_go_on finder taken (Err store_fault.DiskFault) was is leading grow h = record {
-  grows = grow finder.alone taken (finder.contents was) (finder.contents is) (Err store_fault.DiskFault) h.leaves;
-  shows = leads_begins finder.alone (finder.contents was).shown (finder.contents is).shown h.leaves.shown;
-  mine = record { rest = []; splits = ap (λ (x : Contents). x.mine) h.leaves.others ∙ sym (append-nil (finder.contents was).mine) };
-  same_tells = ap (λ (x : Contents). x.tells) h.leaves.others;
-  same_limits = ap (λ (x : Contents). x.limits) h.leaves.others;
-  consistent = λ _. h.consistent;
-  faults = h.faults.0;
-  later = h.later;
-  covered = h.covered;
-}
-stores_go_on finder taken (Err (store_fault.Damaged number kept found)) was is leading grow h =
-    stays_on finder was is leading h.leaves.0 h.consistent (stayed_below (finder.faults was) (finder.faults is) h.faults) h.later h.covered
-stores_go_on finder taken (Err store_fault.Memory) was is leading grow h =
-    stays_on finder was is leading h.leaves h.consistent (stayed_below (finder.faults was) (finder.faults is) h.faults) h.later h.covered
+-- ---- the answer
 
 -- an answer behind a store closes where the request asks for it
 pub follows_close : (ready : Answer) (asks closes : Bool) (said : Result Receipt StoreFault) (result : Result Answer Memory)
@@ -123,17 +87,10 @@ pub passes_close : (received : Received) (asks closes : Bool) (ready : Answer) �
 passes_close received asks closes ready h c = h.closes_is ∙ or_behind received.cut closes c
 
 -- what is shown stays consistent, by a disk that tells as it told
-stays_consistent : {S : Type 0} (finder : Ghosts S) (site : Site) (e : Exchange) (was is : S) (faults : ℕ)
-    → (finder.contents is).tells ≡ (finder.contents was).tells → IsConsistent finder.alone (finder.contents is)
-    → IsConsistentView (terms_in finder site e was) (view_of (finder.contents is) faults (finder.faults is))
-stays_consistent finder site e was is faults same h = λ alone tells. h.shown alone (same ∙ tells)
-
--- what lower crates promise of storing
-pub record Storing {S : Type 0} (finder : Ghosts S) : Type 0 where
-  pub founded : Founded finder
-  pub leading : LeadingGrows
-  pub grow : StoresGrow
-  pub payloads : StoredCapturesHaveTheirPayload
+stays_consistent : (alone : Bool) (site : Site) (e : Exchange) (was is : Told) (faults : ℕ)
+    → is.contents.tells ≡ was.contents.tells → IsConsistent alone is.contents
+    → IsConsistentView (terms_in alone site e was) (view_of is.contents faults is.faults)
+stays_consistent alone site e was is faults same h = λ is_alone tells. h.shown is_alone (same ∙ tells)
 
 -- the numbers of a shelf's own captures
 mine_stored : (a b : Contents) (m n : ℕ) → m ≡ n → b ≡ record a { seen = b.seen; shown = b.shown; mine = a.mine ++ m ∷ [] }
@@ -146,10 +103,10 @@ mine_stored a b m n same h = h ∙ ap (λ (k : ℕ). record a { seen = b.seen; s
 lost : (e : Exchange) (received : Received) (t : Transcript) → IsFetched (asking_of e) t (Ok received) → IsFetched (asking_of e) t (Err fetch_fault.Memory)
 lost e received t h = record { host = h.host; port = h.port; sent = h.sent; received = tt; faults = h.faults }
 
-module _ {S : Type 0} (finder : Ghosts S) (site : Site) (e : Exchange) (closes : Bool) (date : ℕ) (received : Received) (around : Around)
+module _ (alone : Bool) (site : Site) (e : Exchange) (closes : Bool) (date : ℕ) (received : Received) (around : Around)
     (in_range : InRange date) (come : HasCome e date received around) where
   -- a response has come, over these traces
-  abbrev fetched_in : (found : Book) (was is : S) → Fetched e received (traces_of finder site e around found was is)
+  abbrev fetched_in : (found : Book) (was is : Told) → Fetched e received (traces_of alone site e around found was is)
   fetched_in found was is = record {
     date = date;
     timed = come.timed;
@@ -159,43 +116,45 @@ module _ {S : Type 0} (finder : Ghosts S) (site : Site) (e : Exchange) (closes :
     fetched = come.fetched;
   }
 
-  abbrev room_in : (found : Book) (was is : S) → length (captures found) < (finder.contents was).limits.captures
-      → HasRoom (terms_in finder site e was) e (traces_of finder site e around found was is)
+  abbrev room_in : (found : Book) (was is : Told) → length (captures found) < was.contents.limits.captures
+      → HasRoom (terms_in alone site e was) e (traces_of alone site e around found was is)
   room_in found was is room = record { received = received; fetched = fetched_in found was is; room = room }
 
   -- there was no memory for the answer
-  pub unready : (shelf : S) → Founded finder → Replies finder site e true LacksReply around shelf shelf
-  unready shelf laws =
-      untouched finder site e true LacksReply around shelf laws refl refl
-      (stayed_met around.faults_before around.faults_now come.steady) (none_met (finder.faults shelf)) (
+  pub unready : (shelf : Told) → IsEarlier shelf.crash → Replies alone site e true LacksReply around shelf shelf
+  unready shelf earlier =
+      untouched alone site e true LacksReply around shelf earlier refl refl
+      (stayed_met around.faults_before around.faults_now come.steady) (none_met shelf.faults) (
         refl,
         record {
           begun = inr (inr (record {
             timed = record { date = date; only = come.timed; in_range = in_range };
             linked = inr (record { t = come.t; only = come.linked; fetched = lost e received come.t come.fetched });
           }));
-          untouched = record { book = refl; shown = shown_itself finder.alone (finder.contents shelf).shown };
+          untouched = record { book = refl; shown = shown_itself alone shelf.contents.shown };
         },
       )
 
   -- ---- nothing was written
 
-  quiet_by : (said : Result Receipt StoreFault) (was is : S) → Stores finder (taken_of e date received) said was is → WritesNone said
-      → IsQuiet finder (terms_in finder site e was) was is
-  quiet_by said was is h none = record { moves = h.quiet none; reading = λ alone tells. (h.reading alone tells).0 none }
+  quiet_by : (said : Result Receipt StoreFault) (was is : Told) → StoresOn alone (taken_of e date received) was is said → WritesNone said
+      → WritesNothing alone was is
+  quiet_by said was is h none = record {
+    reading = λ is_alone tells. (h.reading is_alone tells).0 none;
+    crash = record { later = h.crash.later; moves = h.crash.quiet none; covered = h.crash.covered; kept = h.crash.kept };
+  }
 
   -- the archive was full
-  full_reply : (count limit : ℕ) (lacked : Bool) (was is : S) → Founded finder → LeadingGrows → StoresGrow
-      → Stores finder (taken_of e date received) (Err (store_fault.Full count limit)) was is
-      → Replies finder site e lacked (Fails (Full count limit)) around was is
-  full_reply count limit lacked was is laws leading grow h =
-      unwritten finder site e lacked (Fails (Full count limit)) around was is laws.earlier h.leaves.0
-      (stores_go_on finder (taken_of e date received) (Err (store_fault.Full count limit)) was is leading grow h)
+  full_reply : (count limit : ℕ) (lacked : Bool) (was is : Told) → IsEarlier is.crash
+      → StoresOn alone (taken_of e date received) was is (Err (store_fault.Full count limit))
+      → Replies alone site e lacked (Fails (Full count limit)) around was is
+  full_reply count limit lacked was is earlier h =
+      unwritten alone site e lacked (Fails (Full count limit)) around was is earlier h.leaves.0
       (quiet_by (Err (store_fault.Full count limit)) was is h tt) refl refl
-      (stayed_met around.faults_before around.faults_now come.steady) (stayed_met (finder.faults was) (finder.faults is) h.faults)
+      (stayed_met around.faults_before around.faults_now come.steady) (stayed_met was.faults is.faults h.faults)
       (record {
         received = received;
-        fetched = fetched_in (finder.contents is).seen was is;
+        fetched = fetched_in is.contents.seen was is;
         count_is = h.leaves.2;
         limit_is = h.leaves.3;
         full = omega (arith, h.leaves.1, h.leaves.2, h.leaves.3);
@@ -203,30 +162,27 @@ module _ {S : Type 0} (finder : Ghosts S) (site : Site) (e : Exchange) (closes :
       })
 
   -- an earlier capture is damaged
-  damaged_reply : (number : ℕ) (kept : List ℕ) (found : Option (List ℕ)) (lacked : Bool) (was is : S) → Founded finder → LeadingGrows → StoresGrow
-      → Stores finder (taken_of e date received) (Err (store_fault.Damaged number kept found)) was is
-      → Replies finder site e lacked (Fails (Damaged number kept found)) around was is
-  damaged_reply number kept found lacked was is laws leading grow h =
-      unwritten finder site e lacked (Fails (Damaged number kept found)) around was is laws.earlier h.leaves.0
-      (stores_go_on finder (taken_of e date received) (Err (store_fault.Damaged number kept found)) was is leading grow h)
+  damaged_reply : (number : ℕ) (kept : List ℕ) (found : Option (List ℕ)) (lacked : Bool) (was is : Told) → IsEarlier is.crash
+      → StoresOn alone (taken_of e date received) was is (Err (store_fault.Damaged number kept found))
+      → Replies alone site e lacked (Fails (Damaged number kept found)) around was is
+  damaged_reply number kept found lacked was is earlier h =
+      unwritten alone site e lacked (Fails (Damaged number kept found)) around was is earlier h.leaves.0
       (quiet_by (Err (store_fault.Damaged number kept found)) was is h tt) refl refl
-      (stayed_met around.faults_before around.faults_now come.steady) (stayed_met (finder.faults was) (finder.faults is) h.faults)
+      (stayed_met around.faults_before around.faults_now come.steady) (stayed_met was.faults is.faults h.faults)
       (record {
-        room = room_in (finder.contents is).seen was is h.leaves.1;
+        room = room_in is.contents.seen was is h.leaves.1;
         number_is = h.leaves.2;
         is = h.leaves.3;
         untouched = record { book = refl; shown = h.leaves.0.shown };
       })
 
   -- there was no memory to store the capture
-  unkept_reply : (was is : S) → Founded finder → LeadingGrows → StoresGrow
-      → Stores finder (taken_of e date received) (Err store_fault.Memory) was is
-      → Replies finder site e true LacksReply around was is
-  unkept_reply was is laws leading grow h =
-      unwritten finder site e true LacksReply around was is laws.earlier h.leaves
-      (stores_go_on finder (taken_of e date received) (Err store_fault.Memory) was is leading grow h)
+  unkept_reply : (was is : Told) → IsEarlier is.crash → StoresOn alone (taken_of e date received) was is (Err store_fault.Memory)
+      → Replies alone site e true LacksReply around was is
+  unkept_reply was is earlier h =
+      unwritten alone site e true LacksReply around was is earlier h.leaves
       (quiet_by (Err store_fault.Memory) was is h tt) refl refl
-      (stayed_met around.faults_before around.faults_now come.steady) (stayed_met (finder.faults was) (finder.faults is) h.faults) (
+      (stayed_met around.faults_before around.faults_now come.steady) (stayed_met was.faults is.faults h.faults) (
         refl,
         record {
           begun = inr (inr (record {
@@ -240,10 +196,10 @@ module _ {S : Type 0} (finder : Ghosts S) (site : Site) (e : Exchange) (closes :
   -- ---- the disk
 
   -- the disk failed
-  denied_reply : (lacked : Bool) (was is : S) → LeadingGrows → StoresGrow
-      → Stores finder (taken_of e date received) (Err store_fault.DiskFault) was is
-      → Replies finder site e lacked (Fails DiskFault) around was is
-  denied_reply lacked was is leading grow h = record {
+  denied_reply : (lacked : Bool) (was is : Told) → IsConsistent alone is.contents
+      → StoresOn alone (taken_of e date received) was is (Err store_fault.DiskFault)
+      → Replies alone site e lacked (Fails DiskFault) around was is
+  denied_reply lacked was is consistent h = record {
     found = h.leaves.found;
     led = h.leaves.led;
     by = record {
@@ -251,46 +207,42 @@ module _ {S : Type 0} (finder : Ghosts S) (site : Site) (e : Exchange) (closes :
       left = h.leaves.left;
       shown = record {
         shown = h.leaves.shown;
-        consistent = stays_consistent finder site e was is around.faults_now (ap (λ (x : Contents). x.tells) h.leaves.others) h.consistent;
+        consistent = stays_consistent alone site e was is around.faults_now (ap (λ (x : Contents). x.tells) h.leaves.others) consistent;
       };
     };
     dialer = stayed_met around.faults_before around.faults_now come.steady;
-    disk = rose_met (finder.faults was) (finder.faults is) h.faults.1;
-    stored = none_stored (finder.contents was) (finder.contents is) [] refl h.leaves.others;
-    images = λ incoming text. images_denied finder (terms_in finder site e was)
-        (round_of finder site e incoming (Fails DiskFault) lacked (traces_of finder site e around h.leaves.found was is) text) e was is
-        (stores_go_on finder (taken_of e date received) (Err store_fault.DiskFault) was is leading grow h)
+    disk = rose_met was.faults is.faults h.faults.1;
+    stored = none_stored was.contents is.contents [] refl h.leaves.others;
+    images = λ incoming text. images_denied alone site
+        (round_of alone site e incoming (Fails DiskFault) lacked (traces_of alone site e around h.leaves.found was is) text) e was is
         (record {
           deed = refl;
           room = room_in h.leaves.found was is h.leaves.not_full;
-          limits = refl;
-          found = λ alone. leads_same finder.alone (finder.contents was).seen h.leaves.found alone h.leaves.led;
+          found = λ is_alone. leads_same alone was.contents.seen h.leaves.found is_alone h.leaves.led;
           after = refl;
-          moves = h.moves;
-          checkpoints = λ alone tells. (h.reading alone tells).1;
-          refused = λ alone tells ids. h.refused alone tells ids refl;
+          stores = h;
         });
   }
 
   -- ---- stored
 
   -- the payload of the capture that was stored
-  there_is : (payload : List ℕ) (receipt : Receipt) (was is : S) → StoredCapturesHaveTheirPayload
+  there_is : (payload : List ℕ) (receipt : Receipt) (was is : Told) → StoredCapturesHaveTheirPayload
       → HasPayload received.cut e.message.head.method received.head.text received.wire payload
-      → (h : Stores finder (taken_of e date received) (Ok receipt) was is) → IsTrue (finder.contents was).tells
-      → IsPayloadOf (finder.contents is).seen receipt.number payload
-  there_is payload receipt was is law has h tells =
-      subst (λ (n : ℕ). IsPayloadOf (finder.contents is).seen n payload) (sym h.leaves.number)
-      (law (finder.contents was).limits.volume_bytes h.leaves.found (taken_of e date received) receipt (finder.contents is).seen payload
-      (h.leaves.by_rule tells) has (h.consistent.sound (ap (λ (x : Contents). x.tells) h.leaves.others ∙ tells)).sound)
+      → IsConsistent alone is.contents → (h : StoresOn alone (taken_of e date received) was is (Ok receipt)) → IsTrue was.contents.tells
+      → IsPayloadOf is.contents.seen receipt.number payload
+  there_is payload receipt was is law has consistent h tells =
+      subst (λ (n : ℕ). IsPayloadOf is.contents.seen n payload) (sym h.leaves.number)
+      (law was.contents.limits.volume_bytes h.leaves.found (taken_of e date received) receipt is.contents.seen payload
+      (h.leaves.by_rule tells) has (consistent.sound (ap (λ (x : Contents). x.tells) h.leaves.others ∙ tells)).sound)
 
   -- the capture is stored, and the response is passed on
-  stored_reply : (payload : List ℕ) (receipt : Receipt) (was is : S) → LeadingGrows → StoresGrow → StoredCapturesHaveTheirPayload
+  stored_reply : (payload : List ℕ) (receipt : Receipt) (was is : Told) → StoredCapturesHaveTheirPayload
       → IsPayload received.cut received.framing received.wire payload
       → HasPayload received.cut e.message.head.method received.head.text received.wire payload
-      → Stores finder (taken_of e date received) (Ok receipt) was is
-      → Replies finder site e false (Passes received payload) around was is
-  stored_reply payload receipt was is leading grow law payload_is has h = record {
+      → IsConsistent alone is.contents → StoresOn alone (taken_of e date received) was is (Ok receipt)
+      → Replies alone site e false (Passes received payload) around was is
+  stored_reply payload receipt was is law payload_is has consistent h = record {
     found = h.leaves.found;
     led = h.leaves.led;
     by = record {
@@ -302,61 +254,58 @@ module _ {S : Type 0} (finder : Ghosts S) (site : Site) (e : Exchange) (closes :
       refers = h.leaves.refers;
       gained = h.leaves.gained;
       by_rule = h.leaves.by_rule;
-      there = there_is payload receipt was is law has h;
+      there = there_is payload receipt was is law has consistent h;
       shown = record {
         shown = h.leaves.shown;
-        consistent = stays_consistent finder site e was is around.faults_now (ap (λ (x : Contents). x.tells) h.leaves.others) h.consistent;
+        consistent = stays_consistent alone site e was is around.faults_now (ap (λ (x : Contents). x.tells) h.leaves.others) consistent;
       };
     };
     dialer = stayed_met around.faults_before around.faults_now come.steady;
-    disk = stayed_met (finder.faults was) (finder.faults is) h.faults;
-    stored = mine_stored (finder.contents was) (finder.contents is) receipt.number (length (captures h.leaves.found)) h.leaves.number h.leaves.others;
-    images = λ incoming text. images_stored finder (terms_in finder site e was)
-        (round_of finder site e incoming (Passes received payload) false (traces_of finder site e around h.leaves.found was is) text) e received was is
-        (stores_go_on finder (taken_of e date received) (Ok receipt) was is leading grow h)
+    disk = stayed_met was.faults is.faults h.faults;
+    stored = mine_stored was.contents is.contents receipt.number (length (captures h.leaves.found)) h.leaves.number h.leaves.others;
+    images = λ incoming text. images_stored alone site
+        (round_of alone site e incoming (Passes received payload) false (traces_of alone site e around h.leaves.found was is) text) e received was is
         (record {
           deed = refl;
           fetched = fetched_in h.leaves.found was is;
-          limits = refl;
-          found = λ alone. leads_same finder.alone (finder.contents was).seen h.leaves.found alone h.leaves.led;
+          found = λ is_alone. leads_same alone was.contents.seen h.leaves.found is_alone h.leaves.led;
           after = refl;
-          moves = h.moves;
-          checkpoints = λ alone tells. (h.reading alone tells).1;
-          only = h.only;
+          receipt = receipt;
+          stores = h;
         });
   }
 
   -- ---- by what the store said
 
-  by_said : (ready : Answer) (asks : Bool) (said : Result Receipt StoreFault) (result : Result Answer Memory) (was is : S) → Storing finder
-      → asks ≡ answers_head e → IsOneResponse (asks_for_head e.message.head.method) received → PassesOn received asks closes ready
-      → Stores finder (taken_of e date received) said was is → FollowsStore ready asks closes said result
-      → Comes finder site e around closes result was is
-  by_said ready asks (Ok receipt) (Ok answer) was is laws same response passes h follows =
+  by_said : (ready : Answer) (asks : Bool) (said : Result Receipt StoreFault) (result : Result Answer Memory) (was is : Told)
+      → StoredCapturesHaveTheirPayload → IsEarlier is.crash → asks ≡ answers_head e
+      → IsOneResponse (asks_for_head e.message.head.method) received → PassesOn received asks closes ready
+      → IsConsistent alone is.contents → StoresOn alone (taken_of e date received) was is said → FollowsStore ready asks closes said result
+      → Comes alone site e around closes result was is
+  by_said ready asks (Ok receipt) (Ok answer) was is law earlier same response passes consistent h follows =
       let e_is : answer ≡ ready = cc in
       rw e_is (record {
         reply = Passes received passes.payload;
-        replies = stored_reply passes.payload receipt was is laws.leading laws.grow laws.payloads passes.payload_is
-            (has_payload received e.message.head.method passes.payload response passes.payload_is) h;
+        replies = stored_reply passes.payload receipt was is law passes.payload_is
+            (has_payload received e.message.head.method passes.payload response passes.payload_is) consistent h;
         text_is = passes.text_is ∙ ap (λ (b : Bool). answered received passes.payload b (received.cut || closes)) same;
         closes_is = passes.closes_is;
       })
-  by_said ready asks (Ok receipt) (Err memory) was is laws same response passes h follows = let bad : ⊥ = cc in absurd bad
-  by_said ready asks (Err (store_fault.Full count limit)) result was is laws same response passes h follows =
-      refused_comes finder site e (Full count limit) asks closes around result was is same
-      (λ lacked. full_reply count limit lacked was is laws.founded laws.leading laws.grow h) follows
-  by_said ready asks (Err store_fault.DiskFault) result was is laws same response passes h follows =
-      refused_comes finder site e DiskFault asks closes around result was is same
-      (λ lacked. denied_reply lacked was is laws.leading laws.grow h) follows
-  by_said ready asks (Err (store_fault.Damaged number kept found)) result was is laws same response passes h follows =
-      refused_comes finder site e (Damaged number kept found) asks closes around result was is same
-      (λ lacked. damaged_reply number kept found lacked was is laws.founded laws.leading laws.grow h) follows
-  by_said ready asks (Err store_fault.Memory) result was is laws same response passes h follows =
-      lacking_comes finder site e closes around result was is (unkept_reply was is laws.founded laws.leading laws.grow h) follows
+  by_said ready asks (Ok receipt) (Err memory) was is law earlier same response passes consistent h follows = let bad : ⊥ = cc in absurd bad
+  by_said ready asks (Err (store_fault.Full count limit)) result was is law earlier same response passes consistent h follows =
+      refused_comes alone site e (Full count limit) asks closes around result was is same (λ lacked. full_reply count limit lacked was is earlier h) follows
+  by_said ready asks (Err store_fault.DiskFault) result was is law earlier same response passes consistent h follows =
+      refused_comes alone site e DiskFault asks closes around result was is same (λ lacked. denied_reply lacked was is consistent h) follows
+  by_said ready asks (Err (store_fault.Damaged number kept found)) result was is law earlier same response passes consistent h follows =
+      refused_comes alone site e (Damaged number kept found) asks closes around result was is same
+      (λ lacked. damaged_reply number kept found lacked was is earlier h) follows
+  by_said ready asks (Err store_fault.Memory) result was is law earlier same response passes consistent h follows =
+      lacking_comes alone site e closes around result was is (unkept_reply was is earlier h) follows
 
   -- a response that was to be stored answers the request
-  pub kept_comes : (ready : Answer) (asks : Bool) (result : Result Answer Memory) (was is : S) → Storing finder
-      → asks ≡ answers_head e → IsOneResponse (asks_for_head e.message.head.method) received → PassesOn received asks closes ready
-      → Keeps finder (taken_of e date received) ready asks closes result was is → Comes finder site e around closes result was is
-  kept_comes ready asks result was is laws same response passes k =
-      by_said ready asks k.said result was is laws same response passes k.stores k.follows
+  pub kept_comes : (ready : Answer) (asks : Bool) (result : Result Answer Memory) (was is : Told) → StoredCapturesHaveTheirPayload
+      → IsEarlier is.crash → asks ≡ answers_head e → IsOneResponse (asks_for_head e.message.head.method) received
+      → PassesOn received asks closes ready → Keeps alone (taken_of e date received) ready asks closes result was is
+      → Comes alone site e around closes result was is
+  kept_comes ready asks result was is law earlier same response passes k =
+      by_said ready asks k.said result was is law earlier same response passes k.shows.consistent k.stores k.follows

@@ -11,7 +11,7 @@ mod FoundLaws
 mod GainLaws
 mod GrowingLaws
 mod HeadLaws
-mod ImageLaws
+pub mod ImageLaws
 mod KeepLaws
 mod LookLaws
 mod PayloadLaws

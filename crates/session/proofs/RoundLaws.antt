@@ -1,16 +1,19 @@
 -- Rounds that ask nothing of clock, origin and archive.
-use Rattle.std.proofs.Common.{◌≡◌, ◌⊎◌, inl, inr, ℕ, true, false, List, [], ◌∷◌, ◌++◌, Option, refl, sym, ◌∙◌, ap, subst, arith}
+use Rattle.std.proofs.Common.{◌≡◌, ◌⊎◌, inl, inr, ℕ, true, false, List, [], ◌∷◌, ◌++◌, Option, refl, sym, ◌∙◌, ap, subst, arith, Bool}
 use Rattle.std.proofs.lemmas.List.{append-nil}
+use Rattle.archive_shelf.proofs.CallLaws.{shown_itself}
 use Rattle.archive_shelf.specs.Laws.{BooksLeadToThemselves}
-use Rattle.archive_shelf.specs.declared.finder.Finder.{Ghosts}
+use Rattle.archive_shelf.specs.Told.{Told}
 use Rattle.capture.specs.declared.book.Book.{Book}
 use Rattle.session.specs.Connection.{Setting, Stage, IsConnection, IsMade, Gained, terms_at, view_at}
-use Rattle.session.specs.Endings.{Begins}
+use Rattle.session.specs.Endings.{client_at, heard_now}
 use Rattle.session.specs.Gains.{World, Gains, no_gains, gains_by}
 use Rattle.session.specs.Images.{Deed, NoDeed, deed_of, KeepsImages, OpensBehind}
 use Rattle.capture.specs.declared.refusal.Refusal.{Refusal}
 use Rattle.http_head.specs.declared.head.RequestHead.{RequestHead}
 use Rattle.exchange.specs.Refusals.{refusal_text, memory_text}
+use Rattle.outside.specs.declared.gate.Heard.{Heard}
+use Rattle.session.specs.Reads.{Client, HasTaken}
 use Rattle.session.specs.Steps.{EndsRefusal}
 use Rattle.session.specs.Requests.{IsBegun, IsInterim, IsRefused, answers_head}
 use Rattle.session.specs.Rounds.{Round, Undecided, Refused, IsRound, is_from_shown}
@@ -19,7 +22,7 @@ use Rattle.session.specs.Wire.{Tries}
 use Rattle.session.specs.declared.served.Served.{Served}
 use Rattle.session.specs.declared.served.Served.TheVariants.{Done, ClientBroke, ClientEndedEarly, ClientRefused, WantOfMemory}
 use Rattle.session.proofs.CourseLaws.{part_behind}
-use Rattle.session.proofs.EndingLaws.{last_whole, last_part, shown_itself, view_itself}
+use Rattle.session.proofs.EndingLaws.{last_whole, last_part, view_itself}
 use Rattle.session.proofs.GainLaws.{behind_text, gained_none, none_met}
 
 -- nothing was asked, and this is seen of the archive
@@ -27,21 +30,20 @@ abbrev pub idle_traces : View → Traces
 idle_traces view = record { times = []; transcripts = []; before = view; after = view }
 
 -- nothing is stored: what images do
-images_quiet : {S : Type 0} (finder : Ghosts S) (terms : Terms) (r : Round) (deed : Deed) (was : S) → deed ≡ NoDeed
-    → (x : Book) → finder.openings was (finder.moment was) x
-    → OpensBehind terms r.traces deed (λ b. finder.openings was (finder.moment was) b) x
-images_quiet finder terms r deed was e x o =
-    subst (λ (d : Deed). OpensBehind terms r.traces d (λ b. finder.openings was (finder.moment was) b) x) (sym e) o
+images_quiet : (terms : Terms) (r : Round) (deed : Deed) (was : Told) → deed ≡ NoDeed
+    → (x : Book) → was.crash.openings was.crash.moment x
+    → OpensBehind terms r.traces deed (λ b. was.crash.openings was.crash.moment b) x
+images_quiet terms r deed was e x o =
+    subst (λ (d : Deed). OpensBehind terms r.traces d (λ b. was.crash.openings was.crash.moment b) x) (sym e) o
 
-images_idle : {S : Type 0} (finder : Ghosts S) (terms : Terms) (r : Round) (shelf : S) → deed_of r.outcome ≡ NoDeed
-    → KeepsImages finder terms (r ∷ []) shelf shelf
-images_idle finder terms r shelf e = record {
+images_idle : (terms : Terms) (r : Round) (shelf : Told) → deed_of r.outcome ≡ NoDeed → KeepsImages terms (r ∷ []) shelf shelf
+images_idle terms r shelf e = record {
   later = omega arith;
   covered = λ t le c. c;
-  reading = λ alone tells none. refl;
-  checkpoints = λ alone tells. refl;
-  opened = λ alone ids t x le o. inl o;
-  left = λ alone tells ids x o. images_quiet finder terms r (deed_of r.outcome) shelf e x o;
+  reading = λ is_alone tells none. refl;
+  checkpoints = λ is_alone tells. refl;
+  opened = λ is_alone ids t x le o. inl o;
+  left = λ is_alone tells ids x o. images_quiet terms r (deed_of r.outcome) shelf e x o;
 }
 
 -- what is known of a round that asks nothing
@@ -51,21 +53,18 @@ pub record AsksNothing (r : Round) (view : View) : Type 0 where
   pub deed : deed_of r.outcome ≡ NoDeed
   pub shown : is_from_shown r.outcome ≡ false
 
--- a lawful round that asks nothing was made where nothing but what was heard has changed
-pub made_idle : {S : Type 0} (finder : Ghosts S) (setting : Setting) (served : ℕ) (r : Round) (was is : World S) → BooksLeadToThemselves
-    → IsRound (terms_at finder setting was.shelf) served r → AsksNothing r (view_at finder setting was)
-    → is ≡ record was { heard = is.heard } → IsMade finder setting served r was is
-made_idle {S} finder setting served r was is itself lawful h others =
-    let same : is.shelf ≡ was.shelf = ap (λ (w : World S). w.shelf) others in
-    let same_faults : is.dialer_faults ≡ was.dialer_faults = ap (λ (w : World S). w.dialer_faults) others in
-    record {
-      lawful = lawful;
-      leads = rw h.traces (view_itself (terms_at finder setting was.shelf) (view_at finder setting was) itself);
-      knows = λ tells from. let bad : ⊥ = cc (h.shown, from) in absurd bad;
-      left = rw (same, h.traces, same_faults) refl;
-      gained = subst (λ (g : Gains). Gained finder setting was is g) (sym h.gains) (gained_none finder setting was is others);
-      images = rw same (images_idle finder (terms_at finder setting was.shelf) r was.shelf h.deed);
-    }
+-- a lawful round that asks nothing was made where nothing but the client was heard
+pub made_idle : (alone : Bool) (setting : Setting) (served : ℕ) (r : Round) (was : World) (now : Heard) → BooksLeadToThemselves
+    → IsRound (terms_at alone setting was.shelf) served r → AsksNothing r (view_at alone setting was)
+    → IsMade alone setting served r was (heard_now was now)
+made_idle alone setting served r was now itself lawful h = record {
+  lawful = lawful;
+  leads = rw h.traces (view_itself (terms_at alone setting was.shelf) (view_at alone setting was) itself);
+  knows = λ tells from. let bad : ⊥ = cc (h.shown, from) in absurd bad;
+  left = rw h.traces refl;
+  gained = subst (λ (g : Gains). Gained alone setting was (heard_now was now) g) (sym h.gains) (gained_none alone setting was now);
+  images = images_idle (terms_at alone setting was.shelf) r was.shelf h.deed;
+}
 
 -- ---- want of memory
 
@@ -91,43 +90,41 @@ lacking_lawful terms served wire interim view begun known = record {
 }
 
 -- the connection is given up with the text that says so, whatever was begun
-pub gave_up : {S : Type 0} (finder : Ghosts S) (setting : Setting) (wire rest interim : List ℕ) (from : Stage S) (mid is : World S)
-    → BooksLeadToThemselves → IsBegun setting.site wire → IsInterim setting.site wire interim ⊎ (interim ≡ []) → Begins from wire rest interim mid
-    → Tries memory_text mid.heard is.heard → is ≡ record mid { heard = is.heard } → IsConnection finder setting from is WantOfMemory
-gave_up {S} finder setting wire rest interim from mid is itself begun known b tries others = by_trying tries where
-  whole : is ≡ record from.world { heard = is.heard }
-  whole = others ∙ ap (λ (w : World S). record w { heard = is.heard }) b.others
-
+pub gave_up : (alone : Bool) (setting : Setting) (wire interim : List ℕ) (from : Stage) (to : Client) (now : Heard)
+    → BooksLeadToThemselves → IsBegun setting.site wire → IsInterim setting.site wire interim ⊎ (interim ≡ [])
+    → HasTaken (client_at from) wire interim to → Tries memory_text to.heard now
+    → IsConnection alone setting from (heard_now from.world now) WantOfMemory
+gave_up alone setting wire interim from to now itself begun known taken tries = by_trying tries where
   r : Round
-  r = lacking_round wire interim (view_at finder setting from.world)
+  r = lacking_round wire interim (view_at alone setting from.world)
 
-  made : IsMade finder setting from.served r from.world is
-  made = made_idle finder setting from.served r from.world is itself
-      (lacking_lawful (terms_at finder setting from.world.shelf) from.served wire interim (view_at finder setting from.world) begun known)
-      (record { traces = refl; gains = refl; deed = refl; shown = refl }) whole
+  made : IsMade alone setting from.served r from.world (heard_now from.world now)
+  made = made_idle alone setting from.served r from.world now itself
+      (lacking_lawful (terms_at alone setting from.world.shelf) from.served wire interim (view_at alone setting from.world) begun known)
+      (record { traces = refl; gains = refl; deed = refl; shown = refl })
 
-  by_trying : Tries memory_text mid.heard is.heard → IsConnection finder setting from is WantOfMemory
-  by_trying (inl w) = last_whole finder setting r rest from is WantOfMemory itself (record {
+  by_trying : Tries memory_text to.heard now → IsConnection alone setting from (heard_now from.world now) WantOfMemory
+  by_trying (inl w) = last_whole alone setting r to.pending from (heard_now from.world now) WantOfMemory itself (record {
     made = made;
     closed = refl;
-    accounts = λ done e. w.same_given ∙ b.accounts done e;
-    written = w.written ∙ behind_text from.world.heard.written mid.heard.written interim memory_text b.written;
+    accounts = λ done e. w.same_given ∙ taken.accounts done e;
+    written = w.written ∙ behind_text from.world.heard.written to.heard.written interim memory_text taken.written;
     ends = refl;
   })
-  by_trying (inr broken) = last_part finder setting r rest from is WantOfMemory itself (record {
+  by_trying (inr broken) = last_part alone setting r to.pending from (heard_now from.world now) WantOfMemory itself (record {
     made = made;
-    accounts = λ done e. broken.same_given ∙ b.accounts done e;
-    part = part_behind mid.heard.written (from.world.heard.written ++ interim) is.heard.written memory_text b.written broken.part;
+    accounts = λ done e. broken.same_given ∙ taken.accounts done e;
+    part = part_behind to.heard.written (from.world.heard.written ++ interim) now.written memory_text taken.written broken.part;
     unwritten = broken.unwritten;
     ends = refl;
   })
 
 -- given up before anything was read
-pub gave_up_at_once : {S : Type 0} (finder : Ghosts S) (setting : Setting) (from : Stage S) (is : World S) → BooksLeadToThemselves
-    → Tries memory_text from.world.heard is.heard → is ≡ record from.world { heard = is.heard } → IsConnection finder setting from is WantOfMemory
-gave_up_at_once finder setting from is itself tries others =
-    gave_up finder setting [] from.pending [] from from.world is itself (inl (inl (refl, refl))) (inr refl)
-    (record { accounts = λ done e. e; written = sym (append-nil from.world.heard.written); others = refl }) tries others
+pub gave_up_at_once : (alone : Bool) (setting : Setting) (from : Stage) (now : Heard) → BooksLeadToThemselves
+    → Tries memory_text from.world.heard now → IsConnection alone setting from (heard_now from.world now) WantOfMemory
+gave_up_at_once alone setting from now itself tries =
+    gave_up alone setting [] [] from (client_at from) now itself (inl (inl (refl, refl))) (inr refl)
+    (record { accounts = λ done e. e; written = sym (append-nil from.world.heard.written) }) tries
 
 -- ---- bytes that were refused
 
@@ -152,39 +149,37 @@ refusal_lawful terms served head refusal wire interim view is known = record {
 }
 
 -- the bytes are refused, by how the connection then ends
-pub refused_bytes : {S : Type 0} (finder : Ghosts S) (setting : Setting) (head : Option RequestHead) (refusal : Refusal) (wire rest interim : List ℕ)
-    (from : Stage S) (mid is : World S) (result : Served) → BooksLeadToThemselves → IsRefused setting.site wire head refusal
-    → IsInterim setting.site wire interim → Begins from wire rest interim mid → is ≡ record mid { heard = is.heard }
-    → EndsRefusal refusal (refusal_text refusal (answers_head head) true) mid.heard is.heard result → IsConnection finder setting from is result
-refused_bytes {S} finder setting head refusal wire rest interim from mid is result itself refused known b others ends = by_result result ends where
-  whole : is ≡ record from.world { heard = is.heard }
-  whole = others ∙ ap (λ (w : World S). record w { heard = is.heard }) b.others
-
+pub refused_bytes : (alone : Bool) (setting : Setting) (head : Option RequestHead) (refusal : Refusal) (wire interim : List ℕ)
+    (from : Stage) (to : Client) (now : Heard) (result : Served) → BooksLeadToThemselves → IsRefused setting.site wire head refusal
+    → IsInterim setting.site wire interim → HasTaken (client_at from) wire interim to
+    → EndsRefusal refusal (refusal_text refusal (answers_head head) true) to.heard now result
+    → IsConnection alone setting from (heard_now from.world now) result
+refused_bytes alone setting head refusal wire interim from to now result itself refused known taken ends = by_result result ends where
   r : Round
-  r = refusal_round head refusal wire interim (view_at finder setting from.world)
+  r = refusal_round head refusal wire interim (view_at alone setting from.world)
 
-  made : IsMade finder setting from.served r from.world is
-  made = made_idle finder setting from.served r from.world is itself
-      (refusal_lawful (terms_at finder setting from.world.shelf) from.served head refusal wire interim (view_at finder setting from.world) refused known)
-      (record { traces = refl; gains = refl; deed = refl; shown = refl }) whole
+  made : IsMade alone setting from.served r from.world (heard_now from.world now)
+  made = made_idle alone setting from.served r from.world now itself
+      (refusal_lawful (terms_at alone setting from.world.shelf) from.served head refusal wire interim (view_at alone setting from.world) refused known)
+      (record { traces = refl; gains = refl; deed = refl; shown = refl })
 
-  by_result : (result : Served) → EndsRefusal refusal (refusal_text refusal (answers_head head) true) mid.heard is.heard result
-      → IsConnection finder setting from is result
-  by_result (ClientRefused told) (e, w) = last_whole finder setting r rest from is (ClientRefused told) itself (record {
+  by_result : (result : Served) → EndsRefusal refusal (refusal_text refusal (answers_head head) true) to.heard now result
+      → IsConnection alone setting from (heard_now from.world now) result
+  by_result (ClientRefused told) (e, w) = last_whole alone setting r to.pending from (heard_now from.world now) (ClientRefused told) itself (record {
     made = made;
     closed = refl;
-    accounts = λ done given. w.same_given ∙ b.accounts done given;
-    written = w.written ∙ behind_text from.world.heard.written mid.heard.written interim (refusal_text refusal (answers_head head) true) b.written;
+    accounts = λ done given. w.same_given ∙ taken.accounts done given;
+    written = w.written ∙ behind_text from.world.heard.written to.heard.written interim (refusal_text refusal (answers_head head) true) taken.written;
     ends = (record { whole = w.whole; enough = refl; between = inl refl }, ap (λ (x : Refusal). x ∷ []) (sym e));
   })
-  by_result ClientBroke broken = last_part finder setting r rest from is ClientBroke itself (record {
+  by_result ClientBroke broken = last_part alone setting r to.pending from (heard_now from.world now) ClientBroke itself (record {
     made = made;
-    accounts = λ done given. broken.same_given ∙ b.accounts done given;
-    part = part_behind mid.heard.written (from.world.heard.written ++ interim) is.heard.written (refusal_text refusal (answers_head head) true) b.written broken.part;
+    accounts = λ done given. broken.same_given ∙ taken.accounts done given;
+    part = part_behind to.heard.written (from.world.heard.written ++ interim) now.written (refusal_text refusal (answers_head head) true) taken.written broken.part;
     unwritten = broken.unwritten;
     ends = (broken.broke, refl);
   })
   by_result Done h = absurd h
   by_result ClientEndedEarly h = absurd h
   by_result WantOfMemory tries =
-      gave_up finder setting wire rest interim from mid is itself (inr (inr (head, refusal, refused))) (inl known) b tries others
+      gave_up alone setting wire interim from to now itself (inr (inr (head, refusal, refused))) (inl known) taken tries

@@ -1,6 +1,6 @@
 -- What answering a request leaves.
 use Rattle.std.specs.Prelude.{◌≡◌, ℕ, Bool, true, false, List, [], Result, Ok, Err}
-use Rattle.archive_shelf.specs.declared.finder.Finder.{Ghosts}
+use Rattle.archive_shelf.specs.Told.{Told}
 use Rattle.capture.specs.declared.memory.Memory.{Memory}
 use Rattle.exchange.specs.Refusals.{memory_text}
 use Rattle.exchange.specs.declared.aim.Aim.TheVariants.{Site as ToSite}
@@ -22,12 +22,12 @@ pub record Incoming : Type 0 where
   pub wire : List ℕ
   pub interim : List ℕ
 
-module _ {S : Type 0} (finder : Ghosts S) (setting : Setting) where
+module _ (alone : Bool) (setting : Setting) where
   -- a lawful round was made of it, with this text, or there was no memory to go on from what was decided
-  pub record MakesRound (incoming : Incoming) (lacked : Bool) (text : List ℕ) (was is : World S) : Type 0 where
+  pub record MakesRound (incoming : Incoming) (lacked : Bool) (text : List ℕ) (was is : World) : Type 0 where
     pub outcome : Outcome
     pub traces : Traces
-    pub made : IsMade finder setting incoming.served (record {
+    pub made : IsMade alone setting incoming.served (record {
       wire = incoming.wire;
       outcome = outcome;
       lacked = lacked;
@@ -38,17 +38,17 @@ module _ {S : Type 0} (finder : Ghosts S) (setting : Setting) where
     pub unrefused : refusal_in outcome ≡ []
 
   -- a lawful round was made of it, whose text this is, after which the connection closes as is told
-  pub record IsAnswered (incoming : Incoming) (answer : Answer) (was is : World S) : Type 0 where
+  pub record IsAnswered (incoming : Incoming) (answer : Answer) (was is : World) : Type 0 where
     pub makes : MakesRound incoming false answer.text was is
     pub closes_is : closes_outcome incoming.served makes.outcome ≡ answer.closes
 
   -- what comes of a request
-  abbrev pub Answers : Incoming → Result Answer Memory → World S → World S → Type 0
+  abbrev pub Answers : Incoming → Result Answer Memory → World → World → Type 0
   Answers incoming (Ok answer) was is = IsAnswered incoming answer was is
   Answers incoming (Err memory) was is = MakesRound incoming true memory_text was is
 
   -- what comes of a request to the site, which clock and origins don't see
-  abbrev pub AnswersVisit : SiteRequest → Bool → Result Answer Memory → S → S → Type 0
+  abbrev pub AnswersVisit : SiteRequest → Bool → Result Answer Memory → Told → Told → Type 0
   AnswersVisit q closes result was is =
       (incoming : Incoming) (then now : Heard) (answers : List ℕ) (links : Links Transcript) (faults : ℕ)
       → closes ≡ closes_after incoming.served q.message.head

@@ -1,11 +1,9 @@
 -- What the steps of an exchange with an origin leave: the clock's answer, what the dialer's link gave, and the capture that is stored.
-use Rattle.std.specs.Prelude.{◌≡◌, ℕ, ◌≤◌, Bool, true, false, ◌||◌, List, [], ◌∷◌, ◌++◌, IsErr, IsTrue, IfOk, OnOk, Result, Ok, Err, None}
-use Rattle.archive_shelf.specs.Answers.{CountsIf, LeavesReading, StoreLeaves, WritesNone, is_store_fault}
-use Rattle.archive_shelf.specs.Contents.{IsConsistent, Leads}
-use Rattle.archive_shelf.specs.Openings.{HasIds, IsRefused, IsState, MayLeave, Moves, StaysCovered}
+use Rattle.std.specs.Prelude.{◌≡◌, ℕ, Bool, true, false, ◌||◌, List, [], ◌∷◌, ◌++◌, IsErr, IfOk, Result, Ok, Err}
+use Rattle.archive_shelf.specs.Contents.{Leads}
 use Rattle.archive_shelf.specs.declared.fault.StoreFault.{StoreFault}
 use Rattle.archive_shelf.specs.declared.fault.StoreFault.TheVariants as store_fault
-use Rattle.archive_shelf.specs.declared.finder.Finder.{Ghosts}
+use Rattle.archive_shelf.specs.Told.{ShowsItsBook, StoresOn, Told}
 use Rattle.archive_shelf.specs.declared.receipt.Receipt.{Receipt}
 use Rattle.capture.specs.Payload.{IsPayload}
 use Rattle.capture.specs.declared.book.Book.{Book}
@@ -93,55 +91,39 @@ pub record HasCome (e : Exchange) (date : ℕ) (received : Received) (around : A
   pub steady : around.faults_now ≡ around.faults_before
 
 -- what a dialer tells, and a shelf
-pub record Beyond (S : Type 0) : Type 0 where
+pub record Beyond : Type 1 where
   pub links : Links Transcript
   pub faults : ℕ
-  pub shelf : S
+  pub shelf : Told
 
-module _ {S : Type 0} (finder : Ghosts S) where
-  -- what one store leaves of a shelf, by what it said
-  pub record Stores (taken : Taken) (said : Result Receipt StoreFault) (was is : S) : Type 0 where
-    pub leaves : StoreLeaves finder.alone taken (finder.contents was) (finder.contents is) said
-    pub consistent : IsConsistent finder.alone (finder.contents is)
-    pub reading : IsTrue finder.alone → IsTrue (finder.contents was).tells → LeavesReading (finder.reading was) (finder.reading is) said
-    pub faults : CountsIf (is_store_fault said) (finder.faults was) (finder.faults is)
-    pub later : finder.moment was ≤ finder.moment is
-    pub moves : HasIds (finder.contents was).seen → Moves finder.moment finder.openings was is (MayLeave (finder.contents was) taken)
-    pub only : HasIds (finder.contents was).seen
-        → OnOk said (IsState finder.moment finder.openings is (finder.contents is).seen None)
-    pub refused : IsTrue finder.alone → IsTrue (finder.contents was).tells → HasIds (finder.contents was).seen
-        → IsTrue (is_store_fault said)
-        → IsRefused finder.moment finder.openings was is (finder.contents was) (finder.contents is) taken
-    pub quiet : WritesNone said → Moves finder.moment finder.openings was is (λ x. ⊥)
-    pub covered : StaysCovered finder.moment finder.covered was is
+-- the capture was given to the shelf, once, and the answer follows from what that said
+pub record Keeps (alone : Bool) (taken : Taken) (ready : Answer) (answers_head closes : Bool) (result : Result Answer Memory) (was is : Told) : Type 0 where
+  pub said : Result Receipt StoreFault
+  pub stores : StoresOn alone taken was is said
+  pub shows : ShowsItsBook alone is
+  pub follows : FollowsStore ready answers_head closes said result
 
-  -- the capture was given to the shelf, once, and the answer follows from what that said
-  pub record Keeps (taken : Taken) (ready : Answer) (answers_head closes : Bool) (result : Result Answer Memory) (was is : S) : Type 0 where
-    pub said : Result Receipt StoreFault
-    pub stores : Stores taken said was is
-    pub follows : FollowsStore ready answers_head closes said result
-
-module _ {S : Type 0} (finder : Ghosts S) (site : Site) (e : Exchange) where
+module _ (alone : Bool) (site : Site) (e : Exchange) where
   -- what holds while the request is answered
-  abbrev pub terms_in : S → Terms
-  terms_in shelf = terms_of site finder.alone (finder.contents shelf)
+  abbrev pub terms_in : Told → Terms
+  terms_in shelf = terms_of site alone shelf.contents
 
   -- what was seen when the reply was decided: this book
-  abbrev pub view_before : Around → Book → S → View
+  abbrev pub view_before : Around → Book → Told → View
   view_before around found was = record {
     book = found;
-    shown = (finder.contents was).shown;
+    shown = was.contents.shown;
     dialer_faults = around.faults_before;
-    disk_faults = finder.faults was;
+    disk_faults = was.faults;
   }
 
   -- what the exchange left outside
-  abbrev pub traces_of : Around → Book → S → S → Traces
+  abbrev pub traces_of : Around → Book → Told → Told → Traces
   traces_of around found was is = record {
     times = around.times;
     transcripts = around.transcripts;
     before = view_before around found was;
-    after = view_of (finder.contents is) around.faults_now (finder.faults is);
+    after = view_of is.contents around.faults_now is.faults;
   }
 
   -- the round that was made
@@ -156,34 +138,34 @@ module _ {S : Type 0} (finder : Ghosts S) (site : Site) (e : Exchange) where
   }
 
   -- how the request is answered follows from what clock, dialer and shelf left
-  pub record Replies (lacked : Bool) (reply : Reply) (around : Around) (was is : S) : Type 0 where
+  pub record Replies (lacked : Bool) (reply : Reply) (around : Around) (was is : Told) : Type 0 where
     pub found : Book
-    pub led : Leads finder.alone (finder.contents was).seen found
+    pub led : Leads alone was.contents.seen found
     pub by : IsReply (terms_in was) e lacked reply (traces_of around found was is)
     pub dialer : CountsMet (origin_fault (Exchanged e reply)) around.faults_before around.faults_now
-    pub disk : CountsMet (disk_fault (Exchanged e reply)) (finder.faults was) (finder.faults is)
-    pub stored : finder.contents is ≡ record (finder.contents was) {
-      seen = (finder.contents is).seen;
-      shown = (finder.contents is).shown;
-      mine = (finder.contents was).mine ++ numbers_by (Exchanged e reply) (view_before around found was);
+    pub disk : CountsMet (disk_fault (Exchanged e reply)) was.faults is.faults
+    pub stored : is.contents ≡ record was.contents {
+      seen = is.contents.seen;
+      shown = is.contents.shown;
+      mine = was.contents.mine ++ numbers_by (Exchanged e reply) (view_before around found was);
     }
     pub images : (incoming : Incoming) (text : List ℕ)
-        → KeepsImages finder (terms_in was) (round_of incoming reply lacked (traces_of around found was is) text ∷ []) was is
+        → KeepsImages (terms_in was) (round_of incoming reply lacked (traces_of around found was is) text ∷ []) was is
 
   -- the answer is the text of such a reply
-  pub record HasReply (around : Around) (closes : Bool) (answer : Answer) (was is : S) : Type 0 where
+  pub record HasReply (around : Around) (closes : Bool) (answer : Answer) (was is : Told) : Type 0 where
     pub reply : Reply
     pub replies : Replies false reply around was is
     pub text_is : answer.text ≡ reply_text e reply (is_cut_off reply || closes)
     pub closes_is : answer.closes ≡ (is_cut_off reply || closes)
 
   -- what comes of the request: the answer that is its reply, or want of memory
-  abbrev pub Comes : Around → Bool → Result Answer Memory → S → S → Type 0
+  abbrev pub Comes : Around → Bool → Result Answer Memory → Told → Told → Type 0
   Comes around closes (Ok answer) was is = HasReply around closes answer was is
   Comes around closes (Err memory) was is = (reply : Reply) × Replies true reply around was is
 
   -- the request was answered behind the clock's answer, and the dialer's log gained the transcripts of its links
-  pub record Asks (closes : Bool) (date : ℕ) (result : Result Answer Memory) (was is : Beyond S) : Type 0 where
+  pub record Asks (closes : Bool) (date : ℕ) (result : Result Answer Memory) (was is : Beyond) : Type 0 where
     pub transcripts : List Transcript
     pub logged : is.links ≡ record was.links { log = was.links.log ++ transcripts }
     pub comes : Comes (record {
@@ -193,10 +175,10 @@ module _ {S : Type 0} (finder : Ghosts S) (site : Site) (e : Exchange) where
       faults_now = is.faults;
     }) closes result was.shelf is.shelf
 
-module _ {S : Type 0} (finder : Ghosts S) (setting : Setting) where
+module _ (alone : Bool) (setting : Setting) where
   -- what comes of a request to an origin
-  abbrev pub AnswersProxied : Exchange → Bool → Result Answer Memory → World S → World S → Type 0
+  abbrev pub AnswersProxied : Exchange → Bool → Result Answer Memory → World → World → Type 0
   AnswersProxied e closes result was is =
       (incoming : Incoming) → closes ≡ closes_after incoming.served e.message.head
       → IsAsked setting.site incoming.wire e.message (Origin e.target) → IsInterim setting.site incoming.wire incoming.interim
-      → Answers finder setting incoming result was is
+      → Answers alone setting incoming result was is

@@ -1,5 +1,6 @@
 -- What rounds gain of the outside, and what its objects tell of that.
 use Rattle.std.specs.Prelude.{◌≡◌, ℕ, ◌-◌, ◌^◌, ◌<◌, Bool, List, [], ◌∷◌, ◌++◌, length, IsTrue}
+use Rattle.archive_shelf.specs.Told.{Told}
 use Rattle.outside.specs.Records.{Links}
 use Rattle.outside.specs.declared.dialer.Transcript.{Transcript}
 use Rattle.outside.specs.declared.gate.Heard.{Heard}
@@ -36,16 +37,16 @@ abbrev pub gains_of : List Round → Gains
 gains_of [] = no_gains
 gains_of (r ∷ rounds) = both_gains (gains_by r) (gains_of rounds)
 
--- What the objects around a connection tell so far: what was heard of the client; the clock's answers; the dialer's log, what is
--- out of it and its faults. The shelf tells of itself.
-pub record World (S : Type 0) : Type 0 where
+-- What the objects of a connection tell so far: what was heard of the client; the clock's answers; the dialer's log, what is
+-- out of it and its faults; and what is told of the shelf.
+pub record World : Type 1 where
   pub heard : Heard
   pub answers : List ℕ
   pub links : Links Transcript
   pub dialer_faults : ℕ
-  pub shelf : S
+  pub shelf : Told
 
 -- Clock and dialer tell these gains, and no link is left out. A clock that tells does so while its answers are fewer than 2^64 - 1.
-pub record GainsOutside {S : Type 0} (clock_tells : Bool) (was is : World S) (gains : Gains) : Type 0 where
+pub record GainsOutside (clock_tells : Bool) (was is : World) (gains : Gains) : Type 0 where
   pub asked : IsTrue clock_tells → length is.answers < 2 ^ 64 - 1 → is.answers ≡ was.answers ++ gains.times
   pub logged : is.links ≡ record was.links { log = was.links.log ++ gains.transcripts }

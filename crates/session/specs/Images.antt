@@ -3,7 +3,7 @@ use Rattle.std.specs.Prelude.{◌≡◌, ◌⊎◌, ◌≤◌, List, [], ◌∷�
 use Rattle.archive_shelf.specs.Contents.{Contents}
 use Rattle.archive_shelf.specs.Openings.{SameBook, HasIds, Moves, StaysCovered, MayLeave}
 use Rattle.archive_shelf.specs.Storing.{Storing, stored_by}
-use Rattle.archive_shelf.specs.declared.finder.Finder.{Ghosts}
+use Rattle.archive_shelf.specs.Told.{Told}
 use Rattle.capture.specs.declared.book.Book.{Book}
 use Rattle.capture.specs.declared.refusal.Refusal.{Refusal}
 use Rattle.capture.specs.declared.refusal.Refusal.TheVariants.{DiskFault}
@@ -88,12 +88,12 @@ WriteNone (r ∷ rounds) = (deed_of r.outcome ≡ NoDeed) × WriteNone rounds
 -- What images do while rounds are served. Where nothing is written a read of the disk gives what it gave, and in any case the
 -- checkpoints that it gave. Where the ids differ, a book that may be opened since a moment might be before the first round, or one
 -- of them may leave it; and those that may be opened at last are told by the rounds in their order.
-pub record KeepsImages {S : Type 0} (finder : Ghosts S) (terms : Terms) (rounds : List Round) (was is : S) : Type 0 where
-  pub later : finder.moment was ≤ finder.moment is
-  pub covered : StaysCovered finder.moment finder.covered was is
-  pub reading : IsTrue terms.alone → IsTrue terms.tells → WriteNone rounds → finder.reading is ≡ finder.reading was
-  pub checkpoints : IsTrue terms.alone → IsTrue terms.tells → cdxj_files (finder.reading is) ≡ cdxj_files (finder.reading was)
-  pub opened : IsTrue terms.alone → HasAllIds rounds → Moves finder.moment finder.openings was is (IsPassed terms rounds)
+pub record KeepsImages (terms : Terms) (rounds : List Round) (was is : Told) : Type 0 where
+  pub later : was.crash.moment ≤ is.crash.moment
+  pub covered : StaysCovered was.crash is.crash
+  pub reading : IsTrue terms.alone → IsTrue terms.tells → WriteNone rounds → is.reading ≡ was.reading
+  pub checkpoints : IsTrue terms.alone → IsTrue terms.tells → cdxj_files is.reading ≡ cdxj_files was.reading
+  pub opened : IsTrue terms.alone → HasAllIds rounds → Moves was.crash is.crash (IsPassed terms rounds)
   pub left : IsTrue terms.alone → IsTrue terms.tells → HasAllIds rounds
-      → (x : Book) → finder.openings is (finder.moment is) x
-      → OpensAtLast terms (λ b. finder.openings was (finder.moment was) b) rounds x
+      → (x : Book) → is.crash.openings is.crash.moment x
+      → OpensAtLast terms (λ b. was.crash.openings was.crash.moment b) rounds x

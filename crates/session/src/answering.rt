@@ -1,10 +1,10 @@
 //! Answers requests.
 ghost use Rattle.std.specs.Prelude.{◌≡◌, ◌≤◌, [], IsTrue, IfOk};
+ghost use Rattle.archive_shelf.specs.Told.{GoesOn};
 ghost use Rattle.outside.specs.declared.gate.Heard.{Heard};
 ghost use Rattle.session.specs.Answering.{Answers, Incoming};
 ghost use Rattle.session.specs.Reads.{IsWellAsked};
 ghost use Rattle.session.specs.Requests.{IsAsked, IsInterim, closes_after as closes_by};
-ghost use Rattle.session.specs.Shelving.{GoesOn};
 
 use crate::answer::Answer;
 use crate::exchanging::{Proxied, answer_proxied};
@@ -43,11 +43,11 @@ pub fn answer<S: Shelf, N: Dialer, C: Clock>(
     ensures answers { IsTrue N.Link.tells → (incoming : Incoming) (then now : Heard)
         → ask.entry.closes ≡ closes_by incoming.served ask.entry.asked.message.head
         → IsAsked ask.entry.site.now incoming.wire ask.entry.asked.message ask.entry.asked.aim → IsInterim ask.entry.site.now incoming.wire incoming.interim
-        → Answers S.Finder (record { site = ask.entry.site.now; clock_tells = C.tells }) incoming result
-        (record { heard = then; answers = C.answers clock.old; links = N.links dialer.old; dialer_faults = N.faults dialer.old; shelf = shelf.old })
-        (record { heard = now; answers = C.answers clock.new; links = N.links dialer.new; dialer_faults = N.faults dialer.new; shelf = shelf.new }) }
+        → Answers S.alone (record { site = ask.entry.site.now; clock_tells = C.tells }) incoming result
+        (record { heard = then; answers = C.answers clock.old; links = N.links dialer.old; dialer_faults = N.faults dialer.old; shelf = S.told shelf.old })
+        (record { heard = now; answers = C.answers clock.new; links = N.links dialer.new; dialer_faults = N.faults dialer.new; shelf = S.told shelf.new }) }
     ensures closes { IfOk result (λ answer. IsTrue ask.entry.closes → IsTrue answer.closes) }
-    ensures goes_on { GoesOn S.Finder shelf.old shelf.new }
+    ensures goes_on { GoesOn S.alone (S.told shelf.old) (S.told shelf.new) }
     ensures faults { N.faults dialer.old ≤ N.faults dialer.new }
     ensures window { window.new ≡ [] }
 {

@@ -1,5 +1,6 @@
 //! Answers requests to origins: the exchange is stored, durably, before its response is passed on.
 ghost use Rattle.std.specs.Prelude.{◌≡◌, ◌≤◌, [], length, IfOk, IsTrue};
+ghost use Rattle.archive_shelf.specs.Told.{GoesOn};
 ghost use Rattle.capture.specs.Body.{IsWire};
 ghost use Rattle.capture.specs.Methods.{asks_for_head as method_asks};
 ghost use Rattle.capture.specs.Payload.{IsPayload};
@@ -11,7 +12,6 @@ ghost use Rattle.exchange.specs.Texts.{forwarded};
 ghost use Rattle.outside.specs.declared.gate.Heard.{Heard};
 ghost use Rattle.session.specs.Exchanges as spec;
 ghost use Rattle.session.specs.Exchanging.{AnswersProxied, Around, Asks, Comes, FailsBy, HasCome, Keeps, PassesOn, TurnsDown, exchange_of};
-ghost use Rattle.session.specs.Shelving.{GoesOn};
 ghost use Rattle.time_text.specs.Texts.{InRange};
 ghost use Rattle.warc_text.specs.Fits.{Fits};
 
@@ -19,8 +19,8 @@ use crate::answer::Answer;
 use crate::heads::asks_for_head;
 use crate::laws::stored_captures_have_their_payload;
 use crate::refusing::refused;
-use archive_shelf::{Shelf, StoreFault, leading_books_grow, stored_captures_stand_behind};
-use capture::{Bytes, Memory, Refusal, Taken, growth_keeps_captures};
+use archive_shelf::{Shelf, StoreFault};
+use capture::{Bytes, Memory, Refusal, Taken};
 use exchange::{
     FetchFault, Target, Window, client_text, fetch, forward_text, requests_can_be_stored,
 };
@@ -66,16 +66,14 @@ pub fn answer_proxied<S: Shelf, N: Dialer, C: Clock>(
     requires asked { IsForOrigin proxied.message proxied.target }
     requires empty { window.old ≡ [] }
     ensures answers { IsTrue N.Link.tells → (site : Site) (then now : Heard)
-        → AnswersProxied S.Finder (record { site = site; clock_tells = C.tells }) (exchange_of proxied) proxied.closes result
-        (record { heard = then; answers = C.answers clock.old; links = N.links dialer.old; dialer_faults = N.faults dialer.old; shelf = shelf.old })
-        (record { heard = now; answers = C.answers clock.new; links = N.links dialer.new; dialer_faults = N.faults dialer.new; shelf = shelf.new }) }
+        → AnswersProxied S.alone (record { site = site; clock_tells = C.tells }) (exchange_of proxied) proxied.closes result
+        (record { heard = then; answers = C.answers clock.old; links = N.links dialer.old; dialer_faults = N.faults dialer.old; shelf = S.told shelf.old })
+        (record { heard = now; answers = C.answers clock.new; links = N.links dialer.new; dialer_faults = N.faults dialer.new; shelf = S.told shelf.new }) }
     ensures closes { IfOk result (λ answer. IsTrue proxied.closes → IsTrue answer.closes) }
-    ensures goes_on { GoesOn S.Finder shelf.old shelf.new }
+    ensures goes_on { GoesOn S.alone (S.told shelf.old) (S.told shelf.new) }
     ensures faults { N.faults dialer.old ≤ N.faults dialer.new }
     ensures window { window.new ≡ [] }
 {
-    leading_books_grow();
-    growth_keeps_captures();
     let date = clock.now();
     if LATEST < date {
         return refused(
@@ -115,16 +113,14 @@ fn ask<S: Shelf, N: Dialer>(
     requires date { InRange sending.date }
     requires empty { window.old ≡ [] }
     ensures asks { IsTrue N.Link.tells → (site : Site)
-        → Asks S.Finder site (exchange_of sending.proxied) sending.proxied.closes sending.date result
-        (record { links = N.links dialer.old; faults = N.faults dialer.old; shelf = shelf.old })
-        (record { links = N.links dialer.new; faults = N.faults dialer.new; shelf = shelf.new }) }
+        → Asks S.alone site (exchange_of sending.proxied) sending.proxied.closes sending.date result
+        (record { links = N.links dialer.old; faults = N.faults dialer.old; shelf = S.told shelf.old })
+        (record { links = N.links dialer.new; faults = N.faults dialer.new; shelf = S.told shelf.new }) }
     ensures closes { IfOk result (λ answer. IsTrue sending.proxied.closes → IsTrue answer.closes) }
-    ensures goes_on { GoesOn S.Finder shelf.old shelf.new }
+    ensures goes_on { GoesOn S.alone (S.told shelf.old) (S.told shelf.new) }
     ensures faults { N.faults dialer.old ≤ N.faults dialer.new }
     ensures window { window.new ≡ [] }
 {
-    leading_books_grow();
-    growth_keeps_captures();
     let answers_head = asks_for_head(&sending.proxied.message.head);
     match fetch(
         alloc,
@@ -179,15 +175,12 @@ fn pass_on<S: Shelf>(
     requires final_status { 200 ≤ received.head.status }
     requires within { length received.wire ≤ BODY_LIMIT }
     ensures passes { (site : Site) (around : Around) → HasCome (exchange_of sending.proxied) sending.date received around
-        → Comes S.Finder site (exchange_of sending.proxied) around sending.proxied.closes result shelf.old shelf.new }
+        → Comes S.alone site (exchange_of sending.proxied) around sending.proxied.closes result (S.told shelf.old) (S.told shelf.new) }
     ensures closes { IfOk result (λ answer. IsTrue sending.proxied.closes → IsTrue answer.closes) }
-    ensures goes_on { GoesOn S.Finder shelf.old shelf.new }
+    ensures goes_on { GoesOn S.alone (S.told shelf.old) (S.told shelf.new) }
 {
-    leading_books_grow();
-    growth_keeps_captures();
     requests_can_be_stored();
     responses_can_be_stored();
-    stored_captures_stand_behind();
     stored_captures_have_their_payload();
     let answers_head = asks_for_head(&sending.proxied.message.head);
     let closes = sending.proxied.closes;
@@ -274,7 +267,7 @@ fn keep<S: Shelf>(
     closes: bool,
 ) -> Result<Answer, Memory>
     requires { Fits taken }
-    ensures { Keeps S.Finder taken ready answers_head closes result shelf.old shelf.new }
+    ensures { Keeps S.alone taken ready answers_head closes result (S.told shelf.old) (S.told shelf.new) }
 {
     match shelf.store(alloc, taken) {
         Ok(_receipt) => Ok(ready),

@@ -1,12 +1,12 @@
 //! The list of a URL's captures, as an answer.
 ghost use Rattle.std.specs.Prelude.{◌≡◌, ◌<◌, ◌++◌, Bool, length, OnOk, IfOk};
 ghost use Rattle.std.specs.List.Sorted.{IsNonDecreasingBy};
+ghost use Rattle.archive_shelf.specs.Told.{GoesOn, LooksOn};
 ghost use Rattle.capture.specs.Methods.{asks_for_head as is_head};
 ghost use Rattle.replay_url.specs.Keyed.{HasKey};
 ghost use Rattle.replay_url.specs.declared.form.Form.TheVariants.{Map as TheMap};
 ghost use Rattle.session.specs.Answering.{AnswersVisit};
-ghost use Rattle.session.specs.Looking.{FindsAll, LooksOn};
-ghost use Rattle.session.specs.Shelving.{GoesOn};
+ghost use Rattle.session.specs.Looking.{FindsAll};
 ghost use Rattle.session.specs.SiteAnswers as spec;
 ghost use Rattle.session.specs.SiteAnswers.{Asks};
 ghost use Rattle.timemap.specs.LinkList.{timemap_text};
@@ -15,7 +15,7 @@ use crate::answer::Answer;
 use crate::heads::asks_for_head;
 use crate::refusing::refused;
 use crate::visit::Visit;
-use archive_shelf::{Shelf, leading_books_grow};
+use archive_shelf::Shelf;
 use capture::{Bytes, Memory, Refusal};
 use cdxj_index::Entry;
 use head_lines::{Status, put_body_unless, put_head_end, put_own_status_line, put_type_line};
@@ -35,12 +35,11 @@ pub fn visit_map<S: Shelf>(
 ) -> Result<Answer, Memory>
     requires asks { Asks (record { message = visit.message.now; address = visit.address.now }) (TheMap of.now.url) }
     requires keyed { HasKey of.now }
-    ensures answers { (clock_tells : Bool) → AnswersVisit S.Finder (record { site = visit.entry.site.now; clock_tells = clock_tells })
-        (record { message = visit.entry.message.now; address = visit.entry.address.now }) visit.entry.closes result shelf.old shelf.new }
+    ensures answers { (clock_tells : Bool) → AnswersVisit S.alone (record { site = visit.entry.site.now; clock_tells = clock_tells })
+        (record { message = visit.entry.message.now; address = visit.entry.address.now }) visit.entry.closes result (S.told shelf.old) (S.told shelf.new) }
     ensures closes { IfOk result (λ answer. answer.closes ≡ visit.entry.closes) }
-    ensures goes_on { GoesOn S.Finder shelf.old shelf.new }
+    ensures goes_on { GoesOn S.alone (S.told shelf.old) (S.told shelf.new) }
 {
-    leading_books_grow();
     let answers_head = asks_for_head(&visit.message.head);
     match all_of(alloc, shelf, of) {
         Ok(entries) => {
@@ -56,8 +55,8 @@ pub fn visit_map<S: Shelf>(
 /// All entries of a URL's key, in order of their dates.
 fn all_of<S: Shelf>(alloc: Global, shelf: &mut S, of: &KeyedUrl) -> Result<Vec<Entry>, Memory>
     requires keyed { HasKey of.now }
-    ensures found { IfOk result (λ entries. FindsAll S.Finder shelf.new of.now.url entries.items) }
-    ensures looks { LooksOn S.Finder shelf.old shelf.new }
+    ensures found { IfOk result (λ entries. FindsAll S.alone (S.told shelf.new).contents of.now.url entries.items) }
+    ensures looks { LooksOn S.alone (S.told shelf.old) (S.told shelf.new) }
 {
     shelf.map(alloc, &of.key)
 }

@@ -1,21 +1,21 @@
 //! Answers with captures that are brought from the archive.
 ghost use Rattle.std.specs.Prelude.{◌≡◌, Bool, IfOk};
+ghost use Rattle.archive_shelf.specs.Told.{GoesOn, LooksOn};
 ghost use Rattle.archive_shelf.specs.Answers.{IsReplayable};
 ghost use Rattle.capture.specs.Methods.{asks_for_head as is_head};
 ghost use Rattle.replay_answer.specs.Mementos.{IsMemento};
 ghost use Rattle.replay_url.specs.Questions.{by_memento};
 ghost use Rattle.replay_url.specs.declared.form.Form.TheVariants.{Number as TheNumber};
 ghost use Rattle.session.specs.Answering.{AnswersVisit};
-ghost use Rattle.session.specs.Looking.{FindsJust, LooksOn};
-ghost use Rattle.session.specs.Shelving.{GoesOn};
+ghost use Rattle.session.specs.Looking.{FindsJust};
 ghost use Rattle.session.specs.SiteAnswers.{Asks};
 
 use crate::answer::Answer;
 use crate::heads::asks_for_head;
 use crate::refusing::refused;
 use crate::visit::{Sought, Visit};
-use archive_shelf::{BringFault, Shelf, leading_books_grow};
-use capture::{Brought, Memory, Refusal, growth_keeps_captures};
+use archive_shelf::{BringFault, Shelf};
+use capture::{Brought, Memory, Refusal};
 use replay_answer::memento;
 use std::alloc::Global;
 
@@ -27,12 +27,11 @@ pub fn replay_number<S: Shelf>(
     number: u32,
 ) -> Result<Answer, Memory>
     requires asks { Asks (record { message = visit.message.now; address = visit.address.now }) (TheNumber number) }
-    ensures answers { (clock_tells : Bool) → AnswersVisit S.Finder (record { site = visit.entry.site.now; clock_tells = clock_tells })
-        (record { message = visit.entry.message.now; address = visit.entry.address.now }) visit.entry.closes result shelf.old shelf.new }
+    ensures answers { (clock_tells : Bool) → AnswersVisit S.alone (record { site = visit.entry.site.now; clock_tells = clock_tells })
+        (record { message = visit.entry.message.now; address = visit.entry.address.now }) visit.entry.closes result (S.told shelf.old) (S.told shelf.new) }
     ensures closes { IfOk result (λ answer. answer.closes ≡ visit.entry.closes) }
-    ensures goes_on { GoesOn S.Finder shelf.old shelf.new }
+    ensures goes_on { GoesOn S.alone (S.told shelf.old) (S.told shelf.new) }
 {
-    leading_books_grow();
     let answers_head = asks_for_head(&visit.message.head);
     match shelf.bring(alloc, number) {
         Ok(brought) => replay(alloc, visit, &brought, true),
@@ -76,16 +75,14 @@ pub fn replay_found<S: Shelf>(
     sought: Sought,
     number: u32,
 ) -> Result<Answer, Memory>
-    requires found { FindsJust S.Finder shelf.old (record { message = visit.message.now; address = visit.address.now })
+    requires found { FindsJust S.alone (S.told shelf.old).contents (record { message = visit.message.now; address = visit.address.now })
         (by_memento sought.time sought.digits sought.raw sought.of.now.url) number }
-    ensures answers { (clock_tells : Bool) (was : S) → LooksOn S.Finder was shelf.old
-        → AnswersVisit S.Finder (record { site = visit.entry.site.now; clock_tells = clock_tells })
-        (record { message = visit.entry.message.now; address = visit.entry.address.now }) visit.entry.closes result was shelf.new }
+    ensures answers { (clock_tells : Bool) (was : S) → LooksOn S.alone (S.told was) (S.told shelf.old)
+        → AnswersVisit S.alone (record { site = visit.entry.site.now; clock_tells = clock_tells })
+        (record { message = visit.entry.message.now; address = visit.entry.address.now }) visit.entry.closes result (S.told was) (S.told shelf.new) }
     ensures closes { IfOk result (λ answer. answer.closes ≡ visit.entry.closes) }
-    ensures goes_on { GoesOn S.Finder shelf.old shelf.new }
+    ensures goes_on { GoesOn S.alone (S.told shelf.old) (S.told shelf.new) }
 {
-    leading_books_grow();
-    growth_keeps_captures();
     let answers_head = asks_for_head(&visit.message.head);
     match shelf.bring(alloc, number) {
         Ok(brought) => replay(alloc, visit, &brought, sought.raw),

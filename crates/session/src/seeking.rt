@@ -1,5 +1,6 @@
 //! Answers requests to the site for a capture by its date (RFC 7089, sections 4 and 4.1.1).
 ghost use Rattle.std.specs.Prelude.{◌≡◌, Bool, true, Some, IfOk, MatchResult, codes, map, slice_get};
+ghost use Rattle.archive_shelf.specs.Told.{GoesOn, LooksOn};
 ghost use Rattle.capture.specs.Fields.{values_of};
 ghost use Rattle.http_head.specs.Heads.{named_value};
 ghost use Rattle.replay_url.specs.Forms.{IsForm};
@@ -7,8 +8,7 @@ ghost use Rattle.replay_url.specs.Keyed.{HasKey};
 ghost use Rattle.replay_url.specs.Questions.{names_date};
 ghost use Rattle.replay_url.specs.declared.form.Form.TheVariants.{Gate as TheGate, Memento as TheMemento};
 ghost use Rattle.session.specs.Answering.{AnswersVisit};
-ghost use Rattle.session.specs.Looking.{FindsNearest, LooksOn};
-ghost use Rattle.session.specs.Shelving.{GoesOn};
+ghost use Rattle.session.specs.Looking.{FindsNearest};
 ghost use Rattle.session.specs.SiteAnswers as spec;
 ghost use Rattle.session.specs.SiteAnswers.{Asks, IsGateTime, NamesNoTime};
 ghost use Rattle.timegate.specs.Redirect.{redirect_text};
@@ -18,8 +18,8 @@ use crate::heads::asks_for_head;
 use crate::refusing::refused;
 use crate::replaying::replay_found;
 use crate::visit::{Sought, Visit};
-use archive_shelf::{Shelf, leading_books_grow};
-use capture::{Memory, Refusal, growth_keeps_captures};
+use archive_shelf::Shelf;
+use capture::{Memory, Refusal};
 use cdxj_index::Entry;
 use http_head::{Field, first_value};
 use std::alloc::Global;
@@ -38,13 +38,11 @@ pub fn visit_gate<S: Shelf>(
     requires method { spec.serves_method visit.message.now.head.method ≡ true }
     requires form { IsForm visit.address.now (TheGate of.now.url) }
     requires keyed { HasKey of.now }
-    ensures answers { (clock_tells : Bool) → AnswersVisit S.Finder (record { site = visit.entry.site.now; clock_tells = clock_tells })
-        (record { message = visit.entry.message.now; address = visit.entry.address.now }) visit.entry.closes result shelf.old shelf.new }
+    ensures answers { (clock_tells : Bool) → AnswersVisit S.alone (record { site = visit.entry.site.now; clock_tells = clock_tells })
+        (record { message = visit.entry.message.now; address = visit.entry.address.now }) visit.entry.closes result (S.told shelf.old) (S.told shelf.new) }
     ensures closes { IfOk result (λ answer. answer.closes ≡ visit.entry.closes) }
-    ensures goes_on { GoesOn S.Finder shelf.old shelf.new }
+    ensures goes_on { GoesOn S.alone (S.told shelf.old) (S.told shelf.new) }
 {
-    leading_books_grow();
-    growth_keeps_captures();
     match gate_time(visit.message.head.fields.as_slice()) {
         Ok(time) => redirect_to_nearest(alloc, shelf, visit, of, time),
         Err(NotATime) => refused(
@@ -67,12 +65,11 @@ fn redirect_to_nearest<S: Shelf>(
     requires asks { Asks (record { message = visit.message.now; address = visit.address.now }) (TheGate of.now.url) }
     requires keyed { HasKey of.now }
     requires timed { IsGateTime (spec.date_field (record { message = visit.message.now; address = visit.address.now })) time }
-    ensures answers { (clock_tells : Bool) → AnswersVisit S.Finder (record { site = visit.entry.site.now; clock_tells = clock_tells })
-        (record { message = visit.entry.message.now; address = visit.entry.address.now }) visit.entry.closes result shelf.old shelf.new }
+    ensures answers { (clock_tells : Bool) → AnswersVisit S.alone (record { site = visit.entry.site.now; clock_tells = clock_tells })
+        (record { message = visit.entry.message.now; address = visit.entry.address.now }) visit.entry.closes result (S.told shelf.old) (S.told shelf.new) }
     ensures closes { IfOk result (λ answer. answer.closes ≡ visit.entry.closes) }
-    ensures goes_on { GoesOn S.Finder shelf.old shelf.new }
+    ensures goes_on { GoesOn S.alone (S.told shelf.old) (S.told shelf.new) }
 {
-    leading_books_grow();
     let answers_head = asks_for_head(&visit.message.head);
     match seek(alloc, shelf, of, time) {
         Ok(Some(entry)) => lead_to(alloc, visit, of.url.as_slice(), &entry, false, true),
@@ -91,13 +88,11 @@ pub fn visit_memento<S: Shelf>(
 ) -> Result<Answer, Memory>
     requires asks { Asks (record { message = visit.message.now; address = visit.address.now }) (TheMemento sought.time sought.digits sought.raw sought.of.now.url) }
     requires keyed { HasKey sought.of.now }
-    ensures answers { (clock_tells : Bool) → AnswersVisit S.Finder (record { site = visit.entry.site.now; clock_tells = clock_tells })
-        (record { message = visit.entry.message.now; address = visit.entry.address.now }) visit.entry.closes result shelf.old shelf.new }
+    ensures answers { (clock_tells : Bool) → AnswersVisit S.alone (record { site = visit.entry.site.now; clock_tells = clock_tells })
+        (record { message = visit.entry.message.now; address = visit.entry.address.now }) visit.entry.closes result (S.told shelf.old) (S.told shelf.new) }
     ensures closes { IfOk result (λ answer. answer.closes ≡ visit.entry.closes) }
-    ensures goes_on { GoesOn S.Finder shelf.old shelf.new }
+    ensures goes_on { GoesOn S.alone (S.told shelf.old) (S.told shelf.new) }
 {
-    leading_books_grow();
-    growth_keeps_captures();
     let answers_head = asks_for_head(&visit.message.head);
     match seek(alloc, shelf, sought.of, sought.time) {
         Ok(Some(entry)) => {
@@ -126,8 +121,8 @@ fn seek<S: Shelf>(
     time: u64,
 ) -> Result<Option<Entry>, Memory>
     requires keyed { HasKey of.now }
-    ensures found { IfOk result (λ found. FindsNearest S.Finder shelf.new of.now.url time found) }
-    ensures looks { LooksOn S.Finder shelf.old shelf.new }
+    ensures found { IfOk result (λ found. FindsNearest S.alone (S.told shelf.new).contents of.now.url time found) }
+    ensures looks { LooksOn S.alone (S.told shelf.old) (S.told shelf.new) }
 {
     shelf.by_date(alloc, &of.key, time)
 }

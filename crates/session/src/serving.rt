@@ -1,9 +1,9 @@
 //! Serves a connection.
 ghost use Rattle.std.specs.Prelude.{◌≡◌, ◌≤◌, [], IsTrue};
+ghost use Rattle.archive_shelf.specs.Told.{GoesOn};
 ghost use Rattle.capture.specs.Faults.{Rose};
 ghost use Rattle.outside.specs.Gate.{heard_of};
 ghost use Rattle.session.specs.Connection.{IsConnection};
-ghost use Rattle.session.specs.Shelving.{GoesOn};
 
 use crate::Served;
 use crate::answering::{Ask, answer};
@@ -11,7 +11,7 @@ use crate::heads::closes_after;
 use crate::reading::read_request;
 use crate::saying::{give_up, say};
 use archive_shelf::{Shelf, leading_books_grow};
-use capture::{Failed, Memory, Site, growth_keeps_captures};
+use capture::{Failed, Memory, Site};
 use exchange::Window;
 use outside::{Clock, Dialer, Link};
 use std::alloc::Global;
@@ -30,7 +30,7 @@ pub fn serve<S: Shelf, L: Link, N: Dialer, C: Clock>(
     site: &Site,
 ) -> Served
     requires no_fault { L.faults client.old ≡ 0 }
-    ensures serves { IsTrue L.tells → IsTrue N.Link.tells → IsConnection S.Finder (record { site = site.now; clock_tells = C.tells })
+    ensures serves { IsTrue L.tells → IsTrue N.Link.tells → IsConnection S.alone (record { site = site.now; clock_tells = C.tells })
         (record {
           served = 0;
           pending = [];
@@ -39,7 +39,7 @@ pub fn serve<S: Shelf, L: Link, N: Dialer, C: Clock>(
             answers = C.answers clock.old;
             links = N.links dialer.old;
             dialer_faults = N.faults dialer.old;
-            shelf = shelf.old;
+            shelf = S.told shelf.old;
           };
         })
         (record {
@@ -47,15 +47,14 @@ pub fn serve<S: Shelf, L: Link, N: Dialer, C: Clock>(
           answers = C.answers clock.new;
           links = N.links dialer.new;
           dialer_faults = N.faults dialer.new;
-          shelf = shelf.new;
+          shelf = S.told shelf.new;
         }) result }
     ensures later { L.faults client.old ≤ L.faults client.new }
     ensures broke { result ≡ Served.ClientBroke → Rose (L.faults client.old) (L.faults client.new) }
-    ensures goes_on { GoesOn S.Finder shelf.old shelf.new }
+    ensures goes_on { GoesOn S.alone (S.told shelf.old) (S.told shelf.new) }
     ensures faults { N.faults dialer.old ≤ N.faults dialer.new }
 {
     leading_books_grow();
-    growth_keeps_captures();
     let mut of_client = match Window::new(alloc) {
         Ok(window) => window,
         Err(Memory) => return give_up(client),

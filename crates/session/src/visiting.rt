@@ -1,9 +1,9 @@
 //! Answers requests to the archive's own site (RFC 7089).
 ghost use Rattle.std.specs.Prelude.{◌≡◌, Bool, true, IfOk};
+ghost use Rattle.archive_shelf.specs.Told.{GoesOn};
 ghost use Rattle.replay_url.specs.Forms.{IsForm};
 ghost use Rattle.replay_url.specs.Keyed.{HasKeys, form_of};
 ghost use Rattle.session.specs.Answering.{AnswersVisit};
-ghost use Rattle.session.specs.Shelving.{GoesOn};
 ghost use Rattle.session.specs.SiteAnswers as spec;
 
 use crate::answer::Answer;
@@ -13,21 +13,19 @@ use crate::refusing::refused;
 use crate::replaying::replay_number;
 use crate::seeking::{visit_gate, visit_memento};
 use crate::visit::{Sought, Visit};
-use archive_shelf::{Shelf, leading_books_grow};
-use capture::{Memory, Refusal, growth_keeps_captures};
+use archive_shelf::Shelf;
+use capture::{Memory, Refusal};
 use http_wire::RequestMessage;
 use replay_url::{FormFault, KeyedForm, read_keyed_form};
 use std::alloc::Global;
 
 /// Answers a request to the site by what the archive holds.
 pub fn answer_visit<S: Shelf>(alloc: Global, shelf: &mut S, visit: Visit) -> Result<Answer, Memory>
-    ensures answers { (clock_tells : Bool) → AnswersVisit S.Finder (record { site = visit.entry.site.now; clock_tells = clock_tells })
-        (record { message = visit.entry.message.now; address = visit.entry.address.now }) visit.entry.closes result shelf.old shelf.new }
+    ensures answers { (clock_tells : Bool) → AnswersVisit S.alone (record { site = visit.entry.site.now; clock_tells = clock_tells })
+        (record { message = visit.entry.message.now; address = visit.entry.address.now }) visit.entry.closes result (S.told shelf.old) (S.told shelf.new) }
     ensures closes { IfOk result (λ answer. answer.closes ≡ visit.entry.closes) }
-    ensures goes_on { GoesOn S.Finder shelf.old shelf.new }
+    ensures goes_on { GoesOn S.alone (S.told shelf.old) (S.told shelf.new) }
 {
-    leading_books_grow();
-    growth_keeps_captures();
     let answers_head = asks_for_head(&visit.message.head);
     if !serves(visit.message) {
         return refused(alloc, Refusal::MethodRefused, answers_head, visit.closes);
@@ -57,10 +55,10 @@ fn visit_form<S: Shelf>(
     requires method { spec.serves_method visit.message.now.head.method ≡ true }
     requires form { IsForm visit.address.now (form_of form.now) }
     requires keys { HasKeys form.now }
-    ensures answers { (clock_tells : Bool) → AnswersVisit S.Finder (record { site = visit.entry.site.now; clock_tells = clock_tells })
-        (record { message = visit.entry.message.now; address = visit.entry.address.now }) visit.entry.closes result shelf.old shelf.new }
+    ensures answers { (clock_tells : Bool) → AnswersVisit S.alone (record { site = visit.entry.site.now; clock_tells = clock_tells })
+        (record { message = visit.entry.message.now; address = visit.entry.address.now }) visit.entry.closes result (S.told shelf.old) (S.told shelf.new) }
     ensures closes { IfOk result (λ answer. answer.closes ≡ visit.entry.closes) }
-    ensures goes_on { GoesOn S.Finder shelf.old shelf.new }
+    ensures goes_on { GoesOn S.alone (S.told shelf.old) (S.told shelf.new) }
 {
     match form {
         KeyedForm::Number(number) => replay_number(alloc, shelf, visit, *number),

@@ -1,13 +1,13 @@
 -- The archive was refused, or the gate's first connection was served over it.
 use Rattle.std.proofs.Common.{refl, inl, inr}
 use Rattle.proxy_run.specs.Objects.{kinds_of, objects_of}
-use Rattle.proxy_run.proofs.ConnectionLaws.{DiskLaws}
+use Rattle.archive_volumes.proofs.ChangeLaws.{DiskLaws}
 use Rattle.proxy_run.proofs.PipeLaws.{pipes_by}
 use Rattle.proxy_run.proofs.piping.pipe.Given.{Over}
 use Rattle.proxy_run.proofs.piping.pipe.Goals as goal
 
 disk_laws : (g : Over) → DiskLaws g.D.Disk
-disk_laws g = record { earlier = g.met.D.Disk.earlier; now_counts = g.met.D.Disk.now_counts }
+disk_laws g = record { earlier = g.met.D.Disk.earlier; now_counts = g.met.D.Disk.now_counts; now_only = g.met.D.Disk.now_only }
 
 pub open-requires : goal.open-requires
 open-requires g c = record { uuid = rw c.asked_of.ensures c.requires.uuid }

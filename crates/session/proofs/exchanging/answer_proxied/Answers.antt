@@ -1,9 +1,9 @@
 -- What clock, origin and shelf left answers the request.
 use Rattle.std.proofs.Common.{[], ◌∷◌, Err, refl, arith}
+use Rattle.archive_shelf.proofs.CallLaws.{goes_on_itself}
 use Rattle.capture.specs.declared.refusal.Refusal.TheVariants.{ClockRange}
 use Rattle.session.specs.Exchanges.{LacksReply}
 use Rattle.session.specs.Exchanging.{exchange_of}
-use Rattle.session.proofs.AnswerLaws.{goes_on_itself}
 use Rattle.session.proofs.ExchangeLaws.{clock_alone, comes_answers, past_the_clock, refused_comes, unsent}
 use Rattle.session.proofs.FetchLaws.{same_log}
 use Rattle.session.proofs.exchanging.answer_proxied.Goals as goal
@@ -13,14 +13,14 @@ returns-then-date-gt-LATEST-clause-answers g c t site then now =
     let date = c.now-date.result in
     let faults = g.N.Dialer.faults c.args.dialer.now in
     let e = exchange_of c.args.proxied in
-    comes_answers g.S.Finder (record { site = site; clock_tells = g.C.Clock.tells }) e c.args.proxied.closes c.refused.result (date ∷ []) []
-    (record { heard = then; answers = g.C.Clock.answers c.args.clock.now; links = g.N.Dialer.links c.args.dialer.now; dialer_faults = faults; shelf = c.args.shelf.now })
-    (record { heard = now; answers = g.C.Clock.answers c.now-date.new.self; links = g.N.Dialer.links c.args.dialer.now; dialer_faults = faults; shelf = c.args.shelf.now })
+    comes_answers g.S.Finder.alone (record { site = site; clock_tells = g.C.Clock.tells }) e c.args.proxied.closes c.refused.result (date ∷ []) []
+    (record { heard = then; answers = g.C.Clock.answers c.args.clock.now; links = g.N.Dialer.links c.args.dialer.now; dialer_faults = faults; shelf = g.S.Finder.told c.args.shelf.now })
+    (record { heard = now; answers = g.C.Clock.answers c.now-date.new.self; links = g.N.Dialer.links c.args.dialer.now; dialer_faults = faults; shelf = g.S.Finder.told c.args.shelf.now })
     c.now-date.ensures.answers (same_log (g.N.Dialer.links c.args.dialer.now) (g.N.Dialer.links c.args.dialer.now) refl)
-    (refused_comes g.S.Finder site e (ClockRange date) c.asks_for_head.result c.args.proxied.closes (clock_alone date faults) c.refused.result c.args.shelf.now c.args.shelf.now
+    (refused_comes g.S.Finder.alone site e (ClockRange date) c.asks_for_head.result c.args.proxied.closes (clock_alone date faults) c.refused.result (g.S.Finder.told c.args.shelf.now) (g.S.Finder.told c.args.shelf.now)
     c.asks_for_head.ensures
-    (λ lacked. past_the_clock g.S.Finder site e lacked date faults c.args.shelf.now
-    (record { leads = c.leading_books_grow.ensures.itself; grows = c.growth_keeps_captures.ensures.itself; earlier = g.met.S.Finder.earlier })
+    (λ lacked. past_the_clock g.S.Finder.alone site e lacked date faults (g.S.Finder.told c.args.shelf.now)
+    (g.met.S.Finder.earlier c.args.shelf.now)
     (λ within. omega (arith, c.if-date-gt-LATEST.true, within)))
     (record { text_is = c.refused.ensures.text; closes_is = c.refused.ensures.closes }))
 
@@ -29,25 +29,25 @@ returns-in-Err-clause-answers g c t site then now =
     let date = c.now-date.result in
     let faults = g.N.Dialer.faults c.args.dialer.now in
     let e = exchange_of c.args.proxied in
-    comes_answers g.S.Finder (record { site = site; clock_tells = g.C.Clock.tells }) e c.args.proxied.closes (Err _) (date ∷ []) []
-    (record { heard = then; answers = g.C.Clock.answers c.args.clock.now; links = g.N.Dialer.links c.args.dialer.now; dialer_faults = faults; shelf = c.args.shelf.now })
-    (record { heard = now; answers = g.C.Clock.answers c.now-date.new.self; links = g.N.Dialer.links c.args.dialer.now; dialer_faults = faults; shelf = c.args.shelf.now })
+    comes_answers g.S.Finder.alone (record { site = site; clock_tells = g.C.Clock.tells }) e c.args.proxied.closes (Err _) (date ∷ []) []
+    (record { heard = then; answers = g.C.Clock.answers c.args.clock.now; links = g.N.Dialer.links c.args.dialer.now; dialer_faults = faults; shelf = g.S.Finder.told c.args.shelf.now })
+    (record { heard = now; answers = g.C.Clock.answers c.now-date.new.self; links = g.N.Dialer.links c.args.dialer.now; dialer_faults = faults; shelf = g.S.Finder.told c.args.shelf.now })
     c.now-date.ensures.answers (same_log (g.N.Dialer.links c.args.dialer.now) (g.N.Dialer.links c.args.dialer.now) refl) (
       LacksReply,
-      unsent g.S.Finder site e date faults c.args.shelf.now
-          (record { leads = c.leading_books_grow.ensures.itself; grows = c.growth_keeps_captures.ensures.itself; earlier = g.met.S.Finder.earlier }),
+      unsent g.S.Finder.alone site e date faults (g.S.Finder.told c.args.shelf.now)
+          (g.met.S.Finder.earlier c.args.shelf.now),
     )
 
 pub returns-clause-answers : goal.returns-clause-answers
 returns-clause-answers g c t site then now =
     let asked = c.ask.ensures.asks t site in
-    comes_answers g.S.Finder (record { site = site; clock_tells = g.C.Clock.tells }) (exchange_of c.args.proxied) c.args.proxied.closes c.ask.result (c.now-date.result ∷ []) asked.transcripts
-    (record { heard = then; answers = g.C.Clock.answers c.args.clock.now; links = g.N.Dialer.links c.args.dialer.now; dialer_faults = g.N.Dialer.faults c.args.dialer.now; shelf = c.args.shelf.now })
-    (record { heard = now; answers = g.C.Clock.answers c.now-date.new.self; links = g.N.Dialer.links c.ask.new.dialer; dialer_faults = g.N.Dialer.faults c.ask.new.dialer; shelf = c.ask.new.shelf })
+    comes_answers g.S.Finder.alone (record { site = site; clock_tells = g.C.Clock.tells }) (exchange_of c.args.proxied) c.args.proxied.closes c.ask.result (c.now-date.result ∷ []) asked.transcripts
+    (record { heard = then; answers = g.C.Clock.answers c.args.clock.now; links = g.N.Dialer.links c.args.dialer.now; dialer_faults = g.N.Dialer.faults c.args.dialer.now; shelf = g.S.Finder.told c.args.shelf.now })
+    (record { heard = now; answers = g.C.Clock.answers c.now-date.new.self; links = g.N.Dialer.links c.ask.new.dialer; dialer_faults = g.N.Dialer.faults c.ask.new.dialer; shelf = g.S.Finder.told c.ask.new.shelf })
     c.now-date.ensures.answers asked.logged asked.comes
 
 pub returns-then-date-gt-LATEST-clause-goes_on : goal.returns-then-date-gt-LATEST-clause-goes_on
-returns-then-date-gt-LATEST-clause-goes_on g c = goes_on_itself g.S.Finder c.args.shelf.now c.growth_keeps_captures.ensures.itself
+returns-then-date-gt-LATEST-clause-goes_on g c = goes_on_itself g.S.Finder.alone (g.S.Finder.told c.args.shelf.now)
 
 pub returns-in-Err-clause-goes_on : goal.returns-in-Err-clause-goes_on
-returns-in-Err-clause-goes_on g c = goes_on_itself g.S.Finder c.args.shelf.now c.growth_keeps_captures.ensures.itself
+returns-in-Err-clause-goes_on g c = goes_on_itself g.S.Finder.alone (g.S.Finder.told c.args.shelf.now)

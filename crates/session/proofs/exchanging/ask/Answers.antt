@@ -1,7 +1,7 @@
 -- What the origin gave, and what the shelf made of it.
 use Rattle.std.proofs.Common.{◌∷◌, [], Ok, Err, refl, ◌∙◌}
+use Rattle.archive_shelf.proofs.CallLaws.{goes_on_itself}
 use Rattle.session.specs.Exchanging.{exchange_of}
-use Rattle.session.proofs.AnswerLaws.{goes_on_itself}
 use Rattle.session.proofs.FetchLaws.{as_asked, fetch_failed, fetch_later}
 use Rattle.session.proofs.exchanging.ask.Goals as goal
 
@@ -23,17 +23,17 @@ returns-in-Ok-clause-asks g c t site =
 
 pub returns-in-Err-clause-asks : goal.returns-in-Err-clause-asks
 returns-in-Err-clause-asks g c t site =
-    fetch_failed g.S.Finder site (exchange_of c.args.sending.proxied) c.args.sending.proxied.closes c.args.sending.date c.fail.result
+    fetch_failed g.S.Finder.alone site (exchange_of c.args.sending.proxied) c.args.sending.proxied.closes c.args.sending.date c.fail.result
     (g.N.Dialer.links c.args.dialer.now) (g.N.Dialer.links c.fetch.new.dialer) (g.N.Dialer.faults c.args.dialer.now) (g.N.Dialer.faults c.fetch.new.dialer)
-    c.args.shelf.now
-    (record { leads = c.leading_books_grow.ensures.itself; grows = c.growth_keeps_captures.ensures.itself; earlier = g.met.S.Finder.earlier })
+    (g.S.Finder.told c.args.shelf.now)
+    (g.met.S.Finder.earlier c.args.shelf.now)
     c.requires.date c.asks_for_head-answers_head.result c.asks_for_head-answers_head.ensures c.in-Err.fault
     (as_asked (exchange_of c.args.sending.proxied) c.as_slice.result.now c.asks_for_head-answers_head.result (Err c.in-Err.fault)
     (g.N.Dialer.links c.args.dialer.now) (g.N.Dialer.links c.fetch.new.dialer) (c.as_slice.ensures ∙ c.requires.request) c.asks_for_head-answers_head.ensures
     (c.in-Err.ensures.logs t)) c.in-Err.ensures.counts c.fail.ensures.fails
 
 pub returns-in-Err-clause-goes_on : goal.returns-in-Err-clause-goes_on
-returns-in-Err-clause-goes_on g c = goes_on_itself g.S.Finder c.args.shelf.now c.growth_keeps_captures.ensures.itself
+returns-in-Err-clause-goes_on g c = goes_on_itself g.S.Finder.alone (g.S.Finder.told c.args.shelf.now)
 
 pub returns-in-Ok-clause-faults : goal.returns-in-Ok-clause-faults
 returns-in-Ok-clause-faults g c =

@@ -1,8 +1,8 @@
 -- The answer that was ready, or the refusal of the store.
+use Rattle.archive_shelf.proofs.CallLaws.{goes_on_itself, stored_goes_on}
 use Rattle.session.specs.Exchanges.{LacksReply}
 use Rattle.session.specs.Exchanging.{exchange_of}
-use Rattle.session.proofs.AnswerLaws.{goes_on_itself}
-use Rattle.session.proofs.KeepLaws.{fits, follows_close, kept_comes, passes_close, stores_go_on, unready}
+use Rattle.session.proofs.KeepLaws.{fits, follows_close, kept_comes, passes_close, unready}
 use Rattle.session.proofs.exchanging.pass_on.Goals as goal
 
 pub passed_on-requires : goal.passed_on-requires
@@ -18,29 +18,24 @@ keep-requires g c =
 pub returns-in-Err-clause-passes : goal.returns-in-Err-clause-passes
 returns-in-Err-clause-passes g c site around come = (
   LacksReply,
-  unready g.S.Finder site (exchange_of c.args.sending.proxied) c.args.sending.proxied.closes c.args.sending.date c.args.received around c.requires.date come
-      c.args.shelf.now (record { leads = c.leading_books_grow.ensures.itself; grows = c.growth_keeps_captures.ensures.itself; earlier = g.met.S.Finder.earlier }),
+  unready g.S.Finder.alone site (exchange_of c.args.sending.proxied) c.args.sending.proxied.closes c.args.sending.date c.args.received around c.requires.date come
+      (g.S.Finder.told c.args.shelf.now) (g.met.S.Finder.earlier c.args.shelf.now),
 )
 
 pub returns-clause-passes : goal.returns-clause-passes
 returns-clause-passes g c site around come =
-    kept_comes g.S.Finder site (exchange_of c.args.sending.proxied) c.args.sending.proxied.closes c.args.sending.date c.args.received around c.requires.date come
-    c.in-Ok.ready c.asks_for_head-answers_head.result c.keep.result c.args.shelf.now c.keep.new.shelf
-    (record {
-      founded = record { leads = c.leading_books_grow.ensures.itself; grows = c.growth_keeps_captures.ensures.itself; earlier = g.met.S.Finder.earlier };
-      leading = c.leading_books_grow.ensures.grows;
-      grow = c.stored_captures_stand_behind.ensures.stores;
-      payloads = c.stored_captures_have_their_payload.ensures;
-    })
+    kept_comes g.S.Finder.alone site (exchange_of c.args.sending.proxied) c.args.sending.proxied.closes c.args.sending.date c.args.received around c.requires.date come
+    c.in-Ok.ready c.asks_for_head-answers_head.result c.keep.result (g.S.Finder.told c.args.shelf.now) (g.S.Finder.told c.keep.new.shelf)
+    c.stored_captures_have_their_payload.ensures (g.met.S.Finder.earlier c.keep.new.shelf)
     c.asks_for_head-answers_head.ensures c.requires.response c.in-Ok.ensures (rw c.taken_of.ensures at c.keep.ensures)
 
 pub returns-in-Err-clause-goes_on : goal.returns-in-Err-clause-goes_on
-returns-in-Err-clause-goes_on g c = goes_on_itself g.S.Finder c.args.shelf.now c.growth_keeps_captures.ensures.itself
+returns-in-Err-clause-goes_on g c = goes_on_itself g.S.Finder.alone (g.S.Finder.told c.args.shelf.now)
 
 pub returns-clause-goes_on : goal.returns-clause-goes_on
 returns-clause-goes_on g c =
-    stores_go_on g.S.Finder _ c.keep.ensures.said c.args.shelf.now c.keep.new.shelf c.leading_books_grow.ensures.grows
-    c.stored_captures_stand_behind.ensures.stores c.keep.ensures.stores
+    stored_goes_on g.S.Finder.alone _ (g.S.Finder.told c.args.shelf.now) (g.S.Finder.told c.keep.new.shelf) c.keep.ensures.said c.keep.ensures.shows.consistent
+    c.keep.ensures.stores
 
 pub returns-clause-closes : goal.returns-clause-closes
 returns-clause-closes g c =

@@ -1,52 +1,53 @@
 -- The list of the captures that are shown, or that there are none.
 use Rattle.std.proofs.Common.{refl, arith}
 use Rattle.std.specs.Prelude.{vec_len}
+use Rattle.archive_shelf.proofs.CallLaws.{looked_goes_on}
 use Rattle.capture.specs.declared.refusal.Refusal.TheVariants.{NoCapture}
 use Rattle.replay_url.specs.declared.form.Form.TheVariants.{Map}
 use Rattle.session.specs.SiteAnswers.{Refuses, Lists}
 use Rattle.session.proofs.DateLaws.{listed_in_order}
-use Rattle.session.proofs.LookLaws.{empty_list, lists_none, look_lacking, looked_answers, looked_on, some_list}
+use Rattle.session.proofs.LookLaws.{empty_list, lists_none, look_lacking, looked_answers, some_list}
 use Rattle.session.proofs.VisitLaws.{refusal_is}
 use Rattle.session.proofs.listing.visit_map.Goals as goal
 
 pub list-requires-clause-in_order : goal.list-requires-clause-in_order
-list-requires-clause-in_order g c = rw c.as_slice-in-Ok.ensures.value (listed_in_order g.S.Finder c.all_of.new.shelf c.args.of.now.url c.in-Ok.entries.items c.in-Ok.ensures.found)
+list-requires-clause-in_order g c = rw c.as_slice-in-Ok.ensures.value (listed_in_order g.S.Finder.alone (g.S.Finder.told c.all_of.new.shelf).contents c.args.of.now.url c.in-Ok.entries.items c.in-Ok.ensures.found)
 
 pub returns-then-is_empty-clause-answers : goal.returns-then-is_empty-clause-answers
 returns-then-is_empty-clause-answers g c clock_tells =
     let found = c.in-Ok.ensures.found in
-    looked_answers g.S.Finder (record { site = c.args.visit.site.now; clock_tells = clock_tells })
+    looked_answers g.S.Finder.alone (record { site = c.args.visit.site.now; clock_tells = clock_tells })
     (record { message = c.args.visit.message.now; address = c.args.visit.address.now })
-    (Refuses NoCapture) c.args.visit.closes c.refused.result c.args.shelf.now c.all_of.new.shelf
-    g.met.S.Finder.earlier c.leading_books_grow.ensures.itself c.leading_books_grow.ensures.grows c.all_of.ensures.looks found.knows refl
-    (λ lacked faults. record { form = Map c.args.of.now.url; asks = c.requires.asks; url = c.args.of.now.url; asked = refl; key = found.key; keyed = found.keyed; none = lists_none g.S.Finder c.all_of.new.shelf c.args.of.now.url c.in-Ok.entries.items found (empty_list c.in-Ok.entries.items (vec_len c.in-Ok.entries) c.is_empty.result (omega (arith, c.in-Ok.entries.ok.0)) c.is_empty.ensures c.if-is_empty.true) })
+    (Refuses NoCapture) c.args.visit.closes c.refused.result (g.S.Finder.told c.args.shelf.now) (g.S.Finder.told c.all_of.new.shelf)
+    (g.met.S.Finder.earlier c.all_of.new.shelf) c.all_of.ensures.looks found.knows refl
+    (λ lacked faults. record { form = Map c.args.of.now.url; asks = c.requires.asks; url = c.args.of.now.url; asked = refl; key = found.key; keyed = found.keyed; none = lists_none g.S.Finder.alone (g.S.Finder.told c.all_of.new.shelf).contents c.args.of.now.url c.in-Ok.entries.items found (empty_list c.in-Ok.entries.items (vec_len c.in-Ok.entries) c.is_empty.result (omega (arith, c.in-Ok.entries.ok.0)) c.is_empty.ensures c.if-is_empty.true) })
     (refusal_is c.refused.result NoCapture c.asks_for_head-answers_head.result _ c.args.visit.closes c.asks_for_head-answers_head.ensures c.refused.ensures.text)
     c.refused.ensures.closes
 
 pub returns-else-is_empty-clause-answers : goal.returns-else-is_empty-clause-answers
 returns-else-is_empty-clause-answers g c clock_tells =
     let found = c.in-Ok.ensures.found in
-    looked_answers g.S.Finder (record { site = c.args.visit.site.now; clock_tells = clock_tells })
+    looked_answers g.S.Finder.alone (record { site = c.args.visit.site.now; clock_tells = clock_tells })
     (record { message = c.args.visit.message.now; address = c.args.visit.address.now })
-    (Lists c.args.of.now.url c.in-Ok.entries.items) c.args.visit.closes c.list.result c.args.shelf.now c.all_of.new.shelf
-    g.met.S.Finder.earlier c.leading_books_grow.ensures.itself c.leading_books_grow.ensures.grows c.all_of.ensures.looks found.knows refl
+    (Lists c.args.of.now.url c.in-Ok.entries.items) c.args.visit.closes c.list.result (g.S.Finder.told c.args.shelf.now) (g.S.Finder.told c.all_of.new.shelf)
+    (g.met.S.Finder.earlier c.all_of.new.shelf) c.all_of.ensures.looks found.knows refl
     (λ lacked faults. record { asks = c.requires.asks; key = found.key; keyed = found.keyed; picked = found.picked; some = some_list c.in-Ok.entries.items (vec_len c.in-Ok.entries) c.is_empty.result (omega (arith, c.in-Ok.entries.ok.0)) c.is_empty.ensures c.if-is_empty.false })
     (rw (c.as_slice.ensures.value, c.as_slice-in-Ok.ensures.value) at c.list.ensures.text) c.list.ensures.closes
 
 pub returns-in-Err-clause-answers : goal.returns-in-Err-clause-answers
 returns-in-Err-clause-answers g c clock_tells =
-    look_lacking g.S.Finder (record { site = c.args.visit.site.now; clock_tells = clock_tells })
-    (record { message = c.args.visit.message.now; address = c.args.visit.address.now }) c.args.visit.closes _ c.args.shelf.now c.all_of.new.shelf
-    g.met.S.Finder.earlier c.leading_books_grow.ensures.itself c.leading_books_grow.ensures.grows c.all_of.ensures.looks
+    look_lacking g.S.Finder.alone (record { site = c.args.visit.site.now; clock_tells = clock_tells })
+    (record { message = c.args.visit.message.now; address = c.args.visit.address.now }) c.args.visit.closes _ (g.S.Finder.told c.args.shelf.now) (g.S.Finder.told c.all_of.new.shelf)
+    (g.met.S.Finder.earlier c.all_of.new.shelf) c.all_of.ensures.looks
 
 pub returns-then-is_empty-clause-goes_on : goal.returns-then-is_empty-clause-goes_on
 returns-then-is_empty-clause-goes_on g c =
-    looked_on g.S.Finder c.args.shelf.now c.all_of.new.shelf c.leading_books_grow.ensures.itself c.leading_books_grow.ensures.grows c.all_of.ensures.looks
+    looked_goes_on g.S.Finder.alone (g.S.Finder.told c.args.shelf.now) (g.S.Finder.told c.all_of.new.shelf) c.all_of.ensures.looks
 
 pub returns-else-is_empty-clause-goes_on : goal.returns-else-is_empty-clause-goes_on
 returns-else-is_empty-clause-goes_on g c =
-    looked_on g.S.Finder c.args.shelf.now c.all_of.new.shelf c.leading_books_grow.ensures.itself c.leading_books_grow.ensures.grows c.all_of.ensures.looks
+    looked_goes_on g.S.Finder.alone (g.S.Finder.told c.args.shelf.now) (g.S.Finder.told c.all_of.new.shelf) c.all_of.ensures.looks
 
 pub returns-in-Err-clause-goes_on : goal.returns-in-Err-clause-goes_on
 returns-in-Err-clause-goes_on g c =
-    looked_on g.S.Finder c.args.shelf.now c.all_of.new.shelf c.leading_books_grow.ensures.itself c.leading_books_grow.ensures.grows c.all_of.ensures.looks
+    looked_goes_on g.S.Finder.alone (g.S.Finder.told c.args.shelf.now) (g.S.Finder.told c.all_of.new.shelf) c.all_of.ensures.looks

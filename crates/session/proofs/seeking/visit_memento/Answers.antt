@@ -1,12 +1,12 @@
 -- The capture that an address leads to or names, or that there is none.
 use Rattle.std.proofs.Common.{Some, refl}
+use Rattle.archive_shelf.proofs.CallLaws.{goes_on_both, looked_goes_on}
 use Rattle.capture.specs.declared.refusal.Refusal.TheVariants.{NoCapture}
 use Rattle.replay_url.specs.Questions.{by_memento, names_date}
 use Rattle.replay_url.specs.declared.form.Form.TheVariants.{Memento}
 use Rattle.session.specs.SiteAnswers.{Refuses, Redirects}
 use Rattle.session.proofs.FoundLaws.{by_test}
-use Rattle.session.proofs.LookLaws.{look_lacking, looked_answers, looked_on}
-use Rattle.session.proofs.StoreLaws.{goes_on_both}
+use Rattle.session.proofs.LookLaws.{look_lacking, looked_answers}
 use Rattle.session.proofs.VisitLaws.{refusal_is}
 use Rattle.session.proofs.seeking.visit_memento.Goals as goal
 
@@ -30,17 +30,17 @@ returns-then-names_date-clause-answers g c clock_tells = c.replay_found.ensures.
 
 pub returns-then-names_date-clause-goes_on : goal.returns-then-names_date-clause-goes_on
 returns-then-names_date-clause-goes_on g c =
-    goes_on_both g.S.Finder c.args.shelf.now c.seek.new.shelf c.replay_found.new.shelf c.growth_keeps_captures.ensures.steps
-    (looked_on g.S.Finder c.args.shelf.now c.seek.new.shelf c.leading_books_grow.ensures.itself c.leading_books_grow.ensures.grows c.seek.ensures.looks)
+    goes_on_both g.S.Finder.alone (g.S.Finder.told c.args.shelf.now) (g.S.Finder.told c.seek.new.shelf) (g.S.Finder.told c.replay_found.new.shelf)
+    (looked_goes_on g.S.Finder.alone (g.S.Finder.told c.args.shelf.now) (g.S.Finder.told c.seek.new.shelf) c.seek.ensures.looks)
     c.replay_found.ensures.goes_on
 
 pub returns-else-names_date-clause-answers : goal.returns-else-names_date-clause-answers
 returns-else-names_date-clause-answers g c clock_tells =
     let found = rw c.in-Ok-Some.field-0-is at c.in-Ok-Some.ensures.found in
-    looked_answers g.S.Finder (record { site = c.args.visit.site.now; clock_tells = clock_tells })
+    looked_answers g.S.Finder.alone (record { site = c.args.visit.site.now; clock_tells = clock_tells })
     (record { message = c.args.visit.message.now; address = c.args.visit.address.now })
-    (Redirects (by_memento c.args.sought.time c.args.sought.digits c.args.sought.raw c.args.sought.of.now.url) c.in-Ok-Some.entry) c.args.visit.closes c.lead_to.result c.args.shelf.now c.seek.new.shelf
-    g.met.S.Finder.earlier c.leading_books_grow.ensures.itself c.leading_books_grow.ensures.grows c.seek.ensures.looks found.knows refl
+    (Redirects (by_memento c.args.sought.time c.args.sought.digits c.args.sought.raw c.args.sought.of.now.url) c.in-Ok-Some.entry) c.args.visit.closes c.lead_to.result (g.S.Finder.told c.args.shelf.now) (g.S.Finder.told c.seek.new.shelf)
+    (g.met.S.Finder.earlier c.seek.new.shelf) c.seek.ensures.looks found.knows refl
     (λ lacked faults. record {
       reaches = record { form = Memento c.args.sought.time c.args.sought.digits c.args.sought.raw c.args.sought.of.now.url; asks = c.requires.asks; asked = refl; key = found.key; keyed = found.keyed; time = c.args.sought.time; timed = refl; nearest = found.nearest };
       other = by_test c.names_date.result (names_date (Some (record { time = c.args.sought.time; digits = c.args.sought.digits })) c.in-Ok-Some.entry.date) c.names_date.ensures c.if-names_date.false;
@@ -50,28 +50,28 @@ returns-else-names_date-clause-answers g c clock_tells =
 pub returns-in-Ok-None-clause-answers : goal.returns-in-Ok-None-clause-answers
 returns-in-Ok-None-clause-answers g c clock_tells =
     let found = rw c.in-Ok-None.field-0-is at c.in-Ok-None.ensures.found in
-    looked_answers g.S.Finder (record { site = c.args.visit.site.now; clock_tells = clock_tells })
+    looked_answers g.S.Finder.alone (record { site = c.args.visit.site.now; clock_tells = clock_tells })
     (record { message = c.args.visit.message.now; address = c.args.visit.address.now })
-    (Refuses NoCapture) c.args.visit.closes c.refused.result c.args.shelf.now c.seek.new.shelf
-    g.met.S.Finder.earlier c.leading_books_grow.ensures.itself c.leading_books_grow.ensures.grows c.seek.ensures.looks found.knows refl
+    (Refuses NoCapture) c.args.visit.closes c.refused.result (g.S.Finder.told c.args.shelf.now) (g.S.Finder.told c.seek.new.shelf)
+    (g.met.S.Finder.earlier c.seek.new.shelf) c.seek.ensures.looks found.knows refl
     (λ lacked faults. record { form = Memento c.args.sought.time c.args.sought.digits c.args.sought.raw c.args.sought.of.now.url; asks = c.requires.asks; url = c.args.sought.of.now.url; asked = refl; key = found.key; keyed = found.keyed; none = found.nearest })
     (refusal_is c.refused.result NoCapture c.asks_for_head-answers_head.result _ c.args.visit.closes c.asks_for_head-answers_head.ensures c.refused.ensures.text)
     c.refused.ensures.closes
 
 pub returns-in-Err-clause-answers : goal.returns-in-Err-clause-answers
 returns-in-Err-clause-answers g c clock_tells =
-    look_lacking g.S.Finder (record { site = c.args.visit.site.now; clock_tells = clock_tells })
-    (record { message = c.args.visit.message.now; address = c.args.visit.address.now }) c.args.visit.closes _ c.args.shelf.now c.seek.new.shelf
-    g.met.S.Finder.earlier c.leading_books_grow.ensures.itself c.leading_books_grow.ensures.grows c.seek.ensures.looks
+    look_lacking g.S.Finder.alone (record { site = c.args.visit.site.now; clock_tells = clock_tells })
+    (record { message = c.args.visit.message.now; address = c.args.visit.address.now }) c.args.visit.closes _ (g.S.Finder.told c.args.shelf.now) (g.S.Finder.told c.seek.new.shelf)
+    (g.met.S.Finder.earlier c.seek.new.shelf) c.seek.ensures.looks
 
 pub returns-else-names_date-clause-goes_on : goal.returns-else-names_date-clause-goes_on
 returns-else-names_date-clause-goes_on g c =
-    looked_on g.S.Finder c.args.shelf.now c.seek.new.shelf c.leading_books_grow.ensures.itself c.leading_books_grow.ensures.grows c.seek.ensures.looks
+    looked_goes_on g.S.Finder.alone (g.S.Finder.told c.args.shelf.now) (g.S.Finder.told c.seek.new.shelf) c.seek.ensures.looks
 
 pub returns-in-Ok-None-clause-goes_on : goal.returns-in-Ok-None-clause-goes_on
 returns-in-Ok-None-clause-goes_on g c =
-    looked_on g.S.Finder c.args.shelf.now c.seek.new.shelf c.leading_books_grow.ensures.itself c.leading_books_grow.ensures.grows c.seek.ensures.looks
+    looked_goes_on g.S.Finder.alone (g.S.Finder.told c.args.shelf.now) (g.S.Finder.told c.seek.new.shelf) c.seek.ensures.looks
 
 pub returns-in-Err-clause-goes_on : goal.returns-in-Err-clause-goes_on
 returns-in-Err-clause-goes_on g c =
-    looked_on g.S.Finder c.args.shelf.now c.seek.new.shelf c.leading_books_grow.ensures.itself c.leading_books_grow.ensures.grows c.seek.ensures.looks
+    looked_goes_on g.S.Finder.alone (g.S.Finder.told c.args.shelf.now) (g.S.Finder.told c.seek.new.shelf) c.seek.ensures.looks

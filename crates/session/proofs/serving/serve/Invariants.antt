@@ -1,9 +1,11 @@
 -- Each connection from here makes one from the start.
-use Rattle.std.proofs.Common.{◌≡◌, ◌-◌, ◌<◌, ◌≤◌, [], IsTrue}
+use Rattle.std.proofs.Common.{◌≡◌, ℕ, ◌-◌, ◌<◌, ◌≤◌, List, [], IsTrue}
+use Rattle.archive_shelf.specs.Told.{GoesOn}
 use Rattle.outside.specs.Gate.{heard_of}
+use Rattle.outside.specs.Records.{Links}
+use Rattle.outside.specs.declared.dialer.Transcript.{Transcript}
+use Rattle.outside.specs.declared.gate.Heard.{Heard}
 use Rattle.session.specs.Connection.{IsConnection}
-use Rattle.session.specs.Gains.{World}
-use Rattle.session.specs.Shelving.{GoesOn}
 use Rattle.session.specs.declared.TheConstants.{REQUEST_LIMIT}
 use Rattle.session.specs.declared.served.Served.{Served}
 use Rattle.session.proofs.serving.serve.Given as goal
@@ -14,8 +16,9 @@ invariant-serving g l =
     let dialer = g.N.Dialer in
     let clock = g.C.Clock in
     record {
-      joins : IsTrue link.tells → IsTrue g.N.Link.Link.tells → (is : World g.row.S.Denot) (result : Served)
-          → IsConnection g.S.Finder (record { site = l.fn.site; clock_tells = clock.tells })
+      joins : IsTrue link.tells → IsTrue g.N.Link.Link.tells → (heard : Heard) (answers : List ℕ) (links : Links Transcript) (faults : ℕ)
+          (shelf : g.row.S.Denot) (result : Served)
+          → IsConnection g.S.Finder.alone (record { site = l.fn.site; clock_tells = clock.tells })
           (record {
             served = l.served;
             pending = l.of_client;
@@ -24,10 +27,10 @@ invariant-serving g l =
               answers = clock.answers l.clock;
               links = dialer.links l.dialer;
               dialer_faults = dialer.faults l.dialer;
-              shelf = l.shelf;
+              shelf = g.S.Finder.told l.shelf;
             };
-          }) is result
-          → IsConnection g.S.Finder (record { site = l.fn.site; clock_tells = clock.tells })
+          }) (record { heard = heard; answers = answers; links = links; dialer_faults = faults; shelf = g.S.Finder.told shelf }) result
+          → IsConnection g.S.Finder.alone (record { site = l.fn.site; clock_tells = clock.tells })
           (record {
             served = 0;
             pending = [];
@@ -36,13 +39,13 @@ invariant-serving g l =
               answers = clock.answers l.fn.clock;
               links = dialer.links l.fn.dialer;
               dialer_faults = dialer.faults l.fn.dialer;
-              shelf = l.fn.shelf;
+              shelf = g.S.Finder.told l.fn.shelf;
             };
-          }) is result;
+          }) (record { heard = heard; answers = answers; links = links; dialer_faults = faults; shelf = g.S.Finder.told shelf }) result;
       whole : link.faults l.client ≡ 0;
       fewer : l.served < REQUEST_LIMIT;
       empty : l.of_origin ≡ [];
-      goes_on : GoesOn g.S.Finder l.fn.shelf l.shelf;
+      goes_on : GoesOn g.S.Finder.alone (g.S.Finder.told l.fn.shelf) (g.S.Finder.told l.shelf);
       faults : dialer.faults l.fn.dialer ≤ dialer.faults l.dialer;
     }
 

@@ -9,11 +9,11 @@ use Rattle.archive_core.proofs.archive.Archive.shows_its_book.Goals as goal
 disk_laws : (g : Over) → DiskLaws g.D.Disk
 disk_laws g = record { earlier = g.met.D.Disk.earlier; now_counts = g.met.D.Disk.now_counts; now_only = g.met.D.Disk.now_only }
 
-pub returns-clause-consistent : goal.returns-clause-consistent
-returns-clause-consistent g c = consistent g.D.Disk c.args.self.now c.is_an_archive.ensures
+pub returns-clause-shows : goal.returns-clause-shows
+returns-clause-shows g c = record {
+  consistent = consistent g.D.Disk c.args.self.now c.is_an_archive.ensures;
+  next = opens_next g.D.Disk (disk_laws g) (disk_of c.args.self.now.journal) c.args.self.now.book c.is_an_archive.ensures.holds.near;
+}
 
 pub returns-clause-near : goal.returns-clause-near
 returns-clause-near g c = c.is_an_archive.ensures.holds.near
-
-pub returns-clause-next : goal.returns-clause-next
-returns-clause-next g c = opens_next g.D.Disk (disk_laws g) (disk_of c.args.self.now.journal) c.args.self.now.book c.is_an_archive.ensures.holds.near

@@ -11,8 +11,8 @@ pub returns-clause-found : goal.returns-clause-found
 returns-clause-found g c =
     subst (λ (held : Holdings _). IfOk c.nearest.result (λ entry. IsFound (numbered held.index) c.args.key.now c.args.time entry)) c.self.view_is c.nearest.ensures
 
-pub returns-clause-shows : goal.returns-clause-shows
-returns-clause-shows g c =
+pub returns-clause-knows : goal.returns-clause-knows
+returns-clause-knows g c =
     let is = subst (λ (held : Holdings _). IsArchive g.D.Disk held) c.self.view_is c.self.invariant in
     laws.on_each_ok c.nearest.result (IsTrue g.D.Disk.tells → AreEntries c.args.self.now.book (numbered c.args.self.now.index))
     (laws.shows_entries g.D.Disk c.args.self.now is)
