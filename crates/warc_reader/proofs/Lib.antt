@@ -1,3 +1,11 @@
+mod AskLaws
+mod BlockLaws
+mod DateTextLaws
+mod FileLaws
+mod OneImport
 mod OneReading
+mod OutcomeLaws
 mod RecordLaws
+mod TableLaws
+mod TrimLaws
 mod ValueLaws

@@ -1,2 +1,9 @@
+pub mod Blocks
+pub mod Dates
+pub mod Fields
+pub mod Files
+pub mod Imports
 pub mod Laws
 pub mod Records
+pub mod Requests
+pub mod Tables

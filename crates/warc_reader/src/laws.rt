@@ -1,5 +1,8 @@
 //! What the definitions promise to those who build on them.
-ghost use Rattle.warc_reader.specs.Laws.{FilesAreNotRefused, FilesAreOne, RecordsAreOne, RefusalsAreOne};
+ghost use Rattle.warc_reader.specs.Laws.{FilesAreNotRefused, FilesAreOne, ImportsAreOne, RecordsAreOne, RefusalsAreOne};
+
+use capture::{ended_bodies_are_cut, heads_end_at_the_first_empty_line};
+use http_wire::decisions_are_one;
 
 /// A file is read in one way: at the front of a text stands one record at most; a text is one list of records, or there is one
 /// place at which it is refused.
@@ -9,3 +12,12 @@ pub fn records_are_read_in_one_way()
     ensures apart { FilesAreNotRefused }
     ensures places { RefusalsAreOne }
 {}
+
+/// An import is one: what the records of a file give is one list.
+pub fn files_have_one_import()
+    ensures { ImportsAreOne }
+{
+    decisions_are_one();
+    ended_bodies_are_cut();
+    heads_end_at_the_first_empty_line();
+}
