@@ -40,10 +40,10 @@ use Rattle.archive_shelf.specs.declared.fault.StoreFault.TheVariants as stores
 use Rattle.archive_shelf.specs.declared.receipt.Receipt.{Receipt}
 use Rattle.archive_core.specs.Basis.{StoringBasis}
 use Rattle.archive_volumes.specs.Entries.{EntersAs, IsEntryAt, entered}
-use Rattle.archive_volumes.specs.Held.{book_of}
+use Rattle.archive_volumes.specs.Held.{book_of, stored_in}
 use Rattle.archive_core.specs.Holdings.{AreLimits, Holdings, IsArchive, contents_of}
 use Rattle.archive_core.specs.Looking.{IsDigestOf, RefersTo}
-use Rattle.archive_volumes.specs.Ready.{CanCommit, IsReady, record_in}
+use Rattle.archive_volumes.specs.Ready.{CanCommit, Incoming, IsReady, record_in}
 use Rattle.archive_core.specs.Shown.{numbered, numbers_from}
 use Rattle.archive_volumes.specs.Spots.{ArePlaced, AreSpotsOf, text_at, whole_from}
 use Rattle.archive_core.specs.Stores.{Stores}
@@ -51,7 +51,6 @@ use Rattle.archive_volumes.specs.Writing.{HasRoomFor, IsWay, TakesSo, Writes, te
 use Rattle.archive_volumes.specs.Volumes.{HoldsBook, IsMeasured, crash_of}
 use Rattle.archive_volumes.specs.declared.entry.RecordAt.{RecordAt}
 use Rattle.archive_volumes.specs.declared.room.Prepared.{Prepared}
-use Rattle.archive_volumes.specs.declared.ready.Incoming.{Incoming}
 use Rattle.archive_volumes.specs.declared.ready.Ready.{Ready}
 use Rattle.archive_volumes.specs.declared.spot.Spot.{Spot}
 use Rattle.archive_volumes.specs.declared.volumes.Volumes.{Volumes}
@@ -294,18 +293,18 @@ module _ {D : Type 0} (d : Ghosts D) (basis : StoringBasis) (was : Holdings D) (
   below : (f : Facts) → Among was.index f → f.number < number
   below f among = u.is.counted.below f (contains_from_among was.index f among)
 
-  pub ready_head : IsResponseHeadText ready.stored.head u.has.parsed
+  pub ready_head : IsResponseHeadText (stored_in ready.stored).head u.has.parsed
   ready_head = subst (λ (s : Stored). IsResponseHeadText s.head u.has.parsed) (sym u.ready_is.stored) u.has.whole
 
-  takes : TakesSo d was.limits.volume_bytes book incoming.taken room (with_capture room ready.stored)
+  takes : TakesSo d was.limits.volume_bytes book incoming.taken room (with_capture room (stored_in ready.stored))
   takes told =
       subst (λ (s : Stored). IsWay d was.limits.volume_bytes book incoming.taken room (with_capture room s)) (sym u.ready_is.stored)
       (way d now.journal book incoming.taken u.payload incoming.same ready.group told u.is.holds u.has (u.finds told) u.ready_is.group
       basis.groups u.is.measured.count was.limits.volume_bytes ready.prepared u.ready_is.born u.ready_is.decided)
 
   module _ (at : RecordAt) (n : ℕ) (at_is : at ≡ record_in now ready n) (n_is : n ≡ length (captures (book_of now.held))) (entry : Option Facts)
-      (enters : (h : grammar.ResponseHead) → IsResponseHeadText ready.stored.head h → EntersAs ready.stored h at entry) where
-    number_by : (e : Option Facts) → EntersAs ready.stored u.has.parsed at e → IfSome e (λ (f : Facts). f.number ≡ length (captures (book_of now.held)))
+      (enters : (h : grammar.ResponseHead) → IsResponseHeadText (stored_in ready.stored).head h → EntersAs (stored_in ready.stored) h at entry) where
+    number_by : (e : Option Facts) → EntersAs (stored_in ready.stored) u.has.parsed at e → IfSome e (λ (f : Facts). f.number ≡ length (captures (book_of now.held)))
     number_by None is = tt
     number_by (Some e) is = is.number ∙ ap (λ (a : RecordAt). a.number) at_is ∙ n_is
 
@@ -371,7 +370,7 @@ module _ {D : Type 0} (d : Ghosts D) (basis : StoringBasis) (was : Holdings D) (
         (record { head = u.has.parsed; parsed = u.has.whole; asked = is.asked; told = is.told })
         (tells_new told e is)
 
-    known_after : IsTrue d.tells → AreOf (with_capture room ready.stored) (entered entry was.index)
+    known_after : IsTrue d.tells → AreOf (with_capture room (stored_in ready.stored)) (entered entry was.index)
     known_after told =
         subst (λ (s : Stored). AreOf (with_capture room s) (entered entry was.index)) (sym u.ready_is.stored)
         (known_by told entry (λ h parsed. subst (λ (s : Stored). EntersAs s h at entry) u.ready_is.stored
@@ -401,7 +400,7 @@ module _ {D : Type 0} (d : Ghosts D) (basis : StoringBasis) (was : Holdings D) (
 
         pub refused_stores : {T E : Type 0} (fault : E)
             → Writes {T = T} {E = E} d (disk_of now.journal) (disk_of journal) (book_of now.held) (with_prepared (book_of now.held) ready.prepared)
-            (with_capture (with_prepared (book_of now.held) ready.prepared) ready.stored) after (Err fault)
+            (with_capture (with_prepared (book_of now.held) ready.prepared) (stored_in ready.stored)) after (Err fault)
             → CountsFaults {T = T} {E = E} (d.faults (disk_of now.journal)) (d.faults (disk_of journal)) (Err fault)
             → Stores d (in_volumes was now) (record was { journal = journal; book = after; table = table; index = index; spots = spots })
             incoming.taken (Err stores.DiskFault)
@@ -418,7 +417,7 @@ module _ {D : Type 0} (d : Ghosts D) (basis : StoringBasis) (was : Holdings D) (
                   not_full = u.not_full;
                   left = ⊎_elim
                       (λ (same : after ≡ book). inl same)
-                      (λ (more : after ≡ room). left_by d was.limits.volume_bytes book incoming.taken ready.prepared (with_capture room ready.stored) after u.ready_is.born takes more)
+                      (λ (more : after ≡ room). left_by d was.limits.volume_bytes book incoming.taken ready.prepared (with_capture room (stored_in ready.stored)) after u.ready_is.born takes more)
                       left;
                   shown = ap numbered index_stays;
                   others = λ i. record {
@@ -432,14 +431,14 @@ module _ {D : Type 0} (d : Ghosts D) (basis : StoringBasis) (was : Holdings D) (
                 reading = λ alone told. ((λ none. absurd none), others told);
                 faults = (counts.later, counts.rose);
                 crash = record {
-                  later = store_later d laws old old (disk_of journal) before (contents_of d.tells is) incoming.taken room (with_capture room ready.stored) answer takes quiet writes;
-                  moves = store_moves d laws old old (disk_of journal) before (contents_of d.tells is) incoming.taken room (with_capture room ready.stored) answer takes quiet writes;
+                  later = store_later d laws old old (disk_of journal) before (contents_of d.tells is) incoming.taken room (with_capture room (stored_in ready.stored)) answer takes quiet writes;
+                  moves = store_moves d laws old old (disk_of journal) before (contents_of d.tells is) incoming.taken room (with_capture room (stored_in ready.stored)) answer takes quiet writes;
                   only = λ ids. tt;
                   refused = λ alone told ids fault_is.
-                      store_refused d laws old old (disk_of journal) before (contents_of d.tells is) incoming.taken room (with_capture room ready.stored) answer takes quiet writes told ids;
+                      store_refused d laws old old (disk_of journal) before (contents_of d.tells is) incoming.taken room (with_capture room (stored_in ready.stored)) answer takes quiet writes told ids;
                   quiet = λ none. absurd none;
-                  covered = store_covered d laws old old (disk_of journal) before (contents_of d.tells is) incoming.taken room (with_capture room ready.stored) answer takes quiet writes;
-                  kept = store_kept d laws old old (disk_of journal) before (contents_of d.tells is) incoming.taken room (with_capture room ready.stored) answer takes quiet writes;
+                  covered = store_covered d laws old old (disk_of journal) before (contents_of d.tells is) incoming.taken room (with_capture room (stored_in ready.stored)) answer takes quiet writes;
+                  kept = store_kept d laws old old (disk_of journal) before (contents_of d.tells is) incoming.taken room (with_capture room (stored_in ready.stored)) answer takes quiet writes;
                 };
               };
               just = tt;
@@ -447,7 +446,7 @@ module _ {D : Type 0} (d : Ghosts D) (basis : StoringBasis) (was : Holdings D) (
 
       -- ---- with the capture
 
-      module _ (revisits : ℕ) (with_it : after ≡ with_capture (with_prepared (book_of now.held) ready.prepared) ready.stored)
+      module _ (revisits : ℕ) (with_it : after ≡ with_capture (with_prepared (book_of now.held) ready.prepared) (stored_in ready.stored))
           (index_is : index ≡ entered entry was.index) where
         stored_is : after ≡ with_capture room stored
         stored_is = with_it ∙ ap (λ (s : Stored). with_capture room s) u.ready_is.stored
@@ -465,7 +464,7 @@ module _ {D : Type 0} (d : Ghosts D) (basis : StoringBasis) (was : Holdings D) (
             (more ∙ ap (λ (k : ℕ). was.revisits + k) (revisit_by incoming.taken.cut book incoming.same incoming.taken.wire u.refers))
             table_is spots_are placed
             (λ told. subst (λ (b : Book). AreOf b index) (sym with_it)
-            (subst (λ (l : List Facts). AreOf (with_capture room ready.stored) l) (sym index_is) (known_after told)))
+            (subst (λ (l : List Facts). AreOf (with_capture room (stored_in ready.stored)) l) (sym index_is) (known_after told)))
 
         has_stored : (receipt : Receipt) → receipt.number ≡ number → receipt.same_as ≡ incoming.same
             → HasStored true incoming.taken before
@@ -502,7 +501,7 @@ module _ {D : Type 0} (d : Ghosts D) (basis : StoringBasis) (was : Holdings D) (
 
         pub stored_stores : {T E : Type 0} (value : T)
             → Writes {T = T} {E = E} d (disk_of now.journal) (disk_of journal) (book_of now.held) (with_prepared (book_of now.held) ready.prepared)
-            (with_capture (with_prepared (book_of now.held) ready.prepared) ready.stored) after (Ok value)
+            (with_capture (with_prepared (book_of now.held) ready.prepared) (stored_in ready.stored)) after (Ok value)
             → CountsFaults {T = T} {E = E} (d.faults (disk_of now.journal)) (d.faults (disk_of journal)) (Ok value)
             → (receipt : Receipt) → receipt.number ≡ length (captures (book_of now.held)) → receipt.same_as ≡ incoming.same
             → Stores d (in_volumes was now) (record was { journal = journal; book = after; table = table; index = index; spots = spots; revisits = revisits })
@@ -518,13 +517,13 @@ module _ {D : Type 0} (d : Ghosts D) (basis : StoringBasis) (was : Holdings D) (
                 reading = λ alone told. ((λ none. absurd none), others told);
                 faults = counts.steady;
                 crash = record {
-                  later = store_later d laws old old (disk_of journal) before (contents_of d.tells is) incoming.taken room (with_capture room ready.stored) answer takes quiet writes;
-                  moves = store_moves d laws old old (disk_of journal) before (contents_of d.tells is) incoming.taken room (with_capture room ready.stored) answer takes quiet writes;
+                  later = store_later d laws old old (disk_of journal) before (contents_of d.tells is) incoming.taken room (with_capture room (stored_in ready.stored)) answer takes quiet writes;
+                  moves = store_moves d laws old old (disk_of journal) before (contents_of d.tells is) incoming.taken room (with_capture room (stored_in ready.stored)) answer takes quiet writes;
                   only = λ ids. subst (λ (b : Book). IsState (crash_of d (disk_of journal)) b None) (sym with_it) (writes.only ids);
                   refused = λ alone told ids fault. absurd (false≢true fault);
                   quiet = λ none. absurd none;
-                  covered = store_covered d laws old old (disk_of journal) before (contents_of d.tells is) incoming.taken room (with_capture room ready.stored) answer takes quiet writes;
-                  kept = store_kept d laws old old (disk_of journal) before (contents_of d.tells is) incoming.taken room (with_capture room ready.stored) answer takes quiet writes;
+                  covered = store_covered d laws old old (disk_of journal) before (contents_of d.tells is) incoming.taken room (with_capture room (stored_in ready.stored)) answer takes quiet writes;
+                  kept = store_kept d laws old old (disk_of journal) before (contents_of d.tells is) incoming.taken room (with_capture room (stored_in ready.stored)) answer takes quiet writes;
                 };
               };
               just = λ told image now. subst (HasJust image) (sym with_it) (writes.just told image now);

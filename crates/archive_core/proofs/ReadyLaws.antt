@@ -22,13 +22,12 @@ use Rattle.archive_volumes.proofs.KeepLaws.{spot_is, spot_placed}
 use Rattle.archive_volumes.proofs.RoomLaws.{last_long, texts_count}
 use Rattle.archive_volumes.proofs.WayLaws.{group_in_room, room_gains, room_some, sound_after}
 use Rattle.archive_volumes.specs.Grouping.{IsGroupFor, block_of}
-use Rattle.archive_volumes.specs.Held.{book_of}
-use Rattle.archive_volumes.specs.Ready.{CanCommit, IsReady}
+use Rattle.archive_volumes.specs.Held.{book_of, stored_in}
+use Rattle.archive_volumes.specs.Ready.{CanCommit, Incoming, IsReady}
 use Rattle.archive_volumes.specs.Spots.{IsPlaced, IsSpotOf, spot_of, text_at}
 use Rattle.archive_volumes.specs.Writing.{IsDecided, end_with, texts_with, with_prepared}
 use Rattle.archive_volumes.specs.Volumes.{HoldsBook, IsMeasured}
 use Rattle.archive_volumes.specs.declared.room.Prepared.{Prepared}
-use Rattle.archive_volumes.specs.declared.ready.Incoming.{Incoming}
 use Rattle.archive_volumes.specs.declared.ready.Ready.{Ready}
 use Rattle.archive_volumes.specs.declared.volumes.Volumes.{Volumes}
 
@@ -38,6 +37,7 @@ pub ready_now : {D : Type 0} (old now : Volumes D) (limit : ℕ) (incoming : Inc
 ready_now {D} old now limit incoming payload ready book journal is = record {
   stored = is.stored;
   digest = is.digest;
+  kept = is.kept;
   group = subst (λ (b : Book). IsGroupFor b incoming.taken payload incoming.same ready.group) (sym book) is.group;
   layout = is.layout;
   room = is.room;
@@ -110,10 +110,11 @@ module _ {D : Type 0} (d : Ghosts D) (now : Volumes D) (limit : ℕ) (incoming :
       → CanCommit d now ready
   can_commit committed add keep small few = record {
     room = is.room;
+    kept = is.kept;
     committed = subst (IsCommitted commit_byte) (sym is.group.composed)
         (committed book.namespace (length (captures book)) incoming.taken (sha1 payload) (reference_of book.namespace is.group.other));
     fits = is.fits;
-    gains = room_gains book ready.prepared ready.stored some;
+    gains = room_gains book ready.prepared (stored_in ready.stored) some;
     spot = subst (λ (s : Stored). IsSpotOf (with_capture room s) (length (captures book))
         (spot_of s ready.digest (length room.volumes - 1) (end_with now ready.prepared + ready.layout.head_at))) (sym is.stored)
         (spot_is book (with_capture room stored) incoming.taken incoming.same gains ready.digest (length room.volumes - 1)

@@ -50,7 +50,7 @@ impl<D: Disk> Archive<D> {
 }
 
 impl<D: Disk> Shelf for Archive<D> {
-    fn store(&mut self, alloc: Global, taken: Taken) -> Result<Receipt, StoreFault> {
+    fn store(&mut self, alloc: Global, taken: &Taken) -> Result<Receipt, StoreFault> {
         let answer = self.store_new(alloc, taken);
         self.shows_its_book();
         answer

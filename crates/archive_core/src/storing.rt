@@ -15,7 +15,7 @@ use archive_shelf::{
     Looked, Receipt, StoreFault, entries_gain_what_is_stored, storing_keeps_soundness,
     texts_go_on_behind,
 };
-use archive_volumes::{Incoming, entry_for, reserve_kept};
+use archive_volumes::{entry_for, reserve_kept};
 use capture::{Digest, Taken, growth_keeps_captures, wires_have_one_payload};
 use digest32::payload_digest;
 use disk_model::Disk;
@@ -52,29 +52,34 @@ impl<D: Disk> Archive<D> {
     pub(crate) fn store_compared(
         &mut self,
         alloc: Global,
-        incoming: Incoming,
+        taken: &Taken,
+        digest: &Digest,
+        same: Option<u32>,
     ) -> Result<Receipt, StoreFault>
         requires not_full { IsNotFull (contents_of D.tells self.old) self.old.book }
-        requires fits { Fits incoming.taken }
-        requires digest { IsDigestOf incoming.taken incoming.digest }
-        requires refers { RefersTo (contents_of D.tells self.old) incoming.taken incoming.same }
-        ensures stores { Stores D.Disk self.old self.new incoming.taken result }
+        requires fits { Fits taken.now }
+        requires digest { IsDigestOf taken.now digest.now }
+        requires refers { RefersTo (contents_of D.tells self.old) taken.now same }
+        ensures stores { Stores D.Disk self.old self.new taken.now result }
         ensures unread { (number : ℕ) → NoneDamagedBelow number result }
     {
         storing_has_a_basis();
         let number = self.spots.len() as u32;
-        let same_as = incoming.same;
         let limit = self.limits.volume_bytes;
-        reserve_kept(alloc, &mut self.spots, &mut self.table, &incoming.digest)?;
+        reserve_kept(alloc, &mut self.spots, &mut self.table, digest)?;
         let ready = self
             .volumes
-            .make_ready(alloc, self.spots.as_slice(), incoming, limit)?;
-        let entry = entry_for(alloc, &ready, self.volumes.record_at(&ready, number))?;
+            .make_ready(alloc, self.spots.as_slice(), taken, digest, same, limit)?;
+        let at = self.volumes.record_at(&ready, number);
+        let entry = entry_for(alloc, &ready, taken.head.as_slice(), at)?;
         enter(alloc, &mut self.index, entry)?;
         match self.volumes.commit(&mut self.spots, &mut self.table, ready) {
             Ok(()) => {
-                self.revisits += revisits_in(same_as);
-                Ok(Receipt { number, same_as })
+                self.revisits += revisits_in(same);
+                Ok(Receipt {
+                    number,
+                    same_as: same,
+                })
             }
             Err(_) => {
                 self.index.take_back(number);
@@ -87,26 +92,19 @@ impl<D: Disk> Archive<D> {
     fn store_looked(
         &mut self,
         alloc: Global,
-        taken: Taken,
+        taken: &Taken,
         digest: &Digest,
         looked: Looked,
     ) -> Result<Receipt, StoreFault>
         requires not_full { IsNotFull (contents_of D.tells self.old) self.old.book }
-        requires fits { Fits taken }
-        requires digest { IsDigestOf taken digest.now }
-        requires right { IsRightOf (contents_of D.tells self.old) taken looked }
-        ensures stores { Stores D.Disk self.old self.new taken result }
+        requires fits { Fits taken.now }
+        requires digest { IsDigestOf taken.now digest.now }
+        requires right { IsRightOf (contents_of D.tells self.old) taken.now looked }
+        ensures stores { Stores D.Disk self.old self.new taken.now result }
         ensures since { NoneDamagedBelow looked.upto result }
     {
-        let same = self.same_of(alloc, &taken, digest, looked)?;
-        self.store_compared(
-            alloc,
-            Incoming {
-                taken,
-                digest: *digest,
-                same,
-            },
-        )
+        let same = self.same_of(alloc, taken, digest, looked)?;
+        self.store_compared(alloc, taken, digest, same)
     }
 
     /// Stores a capture whose payload was looked for before, by `compare`: of that, `looked` may be an earlier answer. The answer
@@ -114,14 +112,14 @@ impl<D: Disk> Archive<D> {
     pub fn store_after(
         &mut self,
         alloc: Global,
-        taken: Taken,
+        taken: &Taken,
         digest: &Digest,
         looked: Looked,
     ) -> Result<Receipt, StoreFault>
-        requires fits { Fits taken }
-        requires digest { IsDigestOf taken digest.now }
-        requires right { IsRightOf (contents_of D.tells self.old) taken looked }
-        ensures stores { Stores D.Disk self.old self.new taken result }
+        requires fits { Fits taken.now }
+        requires digest { IsDigestOf taken.now digest.now }
+        requires right { IsRightOf (contents_of D.tells self.old) taken.now looked }
+        ensures stores { Stores D.Disk self.old self.new taken.now result }
         ensures since { NoneDamagedBelow looked.upto result }
     {
         self.check_room()?;
@@ -129,24 +127,17 @@ impl<D: Disk> Archive<D> {
     }
 
     /// Stores a capture whose payload wasn't looked for.
-    pub(crate) fn store_new(&mut self, alloc: Global, taken: Taken) -> Result<Receipt, StoreFault>
-        requires fits { Fits taken }
-        ensures { Stores D.Disk self.old self.new taken result }
+    pub(crate) fn store_new(&mut self, alloc: Global, taken: &Taken) -> Result<Receipt, StoreFault>
+        requires fits { Fits taken.now }
+        ensures { Stores D.Disk self.old self.new taken.now result }
     {
         self.check_room()?;
         wires_have_one_payload();
-        let payload = payload_of_taken(alloc, &taken)?;
+        let payload = payload_of_taken(alloc, taken)?;
         let bytes = payload.as_slice();
         let digest = payload_digest(bytes);
-        let same = self.same_by(alloc, &taken, bytes, &digest, Looked::none())?;
+        let same = self.same_by(alloc, taken, bytes, &digest, Looked::none())?;
         drop(payload);
-        self.store_compared(
-            alloc,
-            Incoming {
-                taken,
-                digest,
-                same,
-            },
-        )
+        self.store_compared(alloc, taken, &digest, same)
     }
 }

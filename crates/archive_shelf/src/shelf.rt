@@ -10,10 +10,10 @@ use std::alloc::Global;
 /// Stores captures, and brings them back by their numbers.
 pub trait Shelf: Finder {
     /// Stores a capture. It refers to the first earlier one with its payload, where there is one that wasn't cut; a payload
-    /// that is empty is kept. Every growth is made before the first write to the disk.
-    fn store(&mut self, alloc: Global, taken: Taken) -> Result<Receipt, StoreFault>
-        requires fits { Fits taken }
-        ensures stores { StoresOn Self.alone taken (Self.told self.old) (Self.told self.new) result }
+    /// that is empty is kept. Every growth is made before the first write to the disk. The capture stays the caller's.
+    fn store(&mut self, alloc: Global, taken: &Taken) -> Result<Receipt, StoreFault>
+        requires fits { Fits taken.now }
+        ensures stores { StoresOn Self.alone taken.now (Self.told self.old) (Self.told self.new) result }
         ensures just { HoldsJust Self.alone (Self.told self.new) result }
         ensures shows { ShowsItsBook Self.alone (Self.told self.new) };
 

@@ -1,12 +1,12 @@
 -- The book that is held, as volumes and captures are added.
 use Rattle.std.proofs.Common.{◌≡◌, ℕ, Bool, not, nat_eq, List, [], ◌∷◌, ◌++◌, length, map, Option, Some, option_to_list, refl, ap, sym, ◌∙◌}
 use Rattle.std.proofs.lemmas.List.{length-map, map-append}
-use Rattle.std.specs.declared.snapshot.Snapshot.{Snapshot}
 use Rattle.capture.specs.declared.book.Volume.{Volume}
 use Rattle.capture.specs.declared.captured.Stored.{Stored}
-use Rattle.archive_volumes.specs.Held.{is_filled, volume_of}
+use Rattle.archive_volumes.specs.Held.{is_filled, stored_in, volume_of}
 use Rattle.archive_shelf.specs.Storing.{add_to_last, new_volume}
 use Rattle.archive_volumes.specs.declared.held.Shadow.{Shadow}
+use Rattle.archive_volumes.specs.declared.stored_ghost.StoredGhost.{StoredGhost}
 
 -- a capture more in the last volume
 pub add_behind : (sealed : List Volume) (last : Volume) (stored : Stored)
@@ -25,16 +25,16 @@ volume_behind sealed after last volume born items is =
     ∙ ap (λ (v : Volume). (map volume_of sealed ++ map volume_of (option_to_list last)) ++ v ∷ []) is
 
 -- a capture more behind those of the last volume
-pub capture_behind : (sealed : List Shadow) (born : ℕ) (before after : List (Snapshot Stored)) (noted : Snapshot Stored) (stored : Stored)
-    → after ≡ before ++ noted ∷ [] → noted.value ≡ stored
-    → map volume_of sealed ++ record { born = born; captures = map (λ (s : Snapshot Stored). s.value) after } ∷ []
-    ≡ add_to_last (map volume_of sealed ++ record { born = born; captures = map (λ (s : Snapshot Stored). s.value) before } ∷ []) stored
+pub capture_behind : (sealed : List Shadow) (born : ℕ) (before after : List StoredGhost) (noted : StoredGhost) (stored : Stored)
+    → after ≡ before ++ noted ∷ [] → stored_in noted ≡ stored
+    → map volume_of sealed ++ record { born = born; captures = map stored_in after } ∷ []
+    ≡ add_to_last (map volume_of sealed ++ record { born = born; captures = map stored_in before } ∷ []) stored
 capture_behind sealed born before after noted stored items value =
     let front : List Volume = map volume_of sealed in
-    let old : List Stored = map (λ (s : Snapshot Stored). s.value) before in
-    let captures : map (λ (s : Snapshot Stored). s.value) after ≡ old ++ stored ∷ [] =
-    ap (λ (l : List (Snapshot Stored)). map (λ (s : Snapshot Stored). s.value) l) items
-    ∙ map-append (λ (s : Snapshot Stored). s.value) before (noted ∷ [])
+    let old : List Stored = map stored_in before in
+    let captures : map stored_in after ≡ old ++ stored ∷ [] =
+    ap (λ (l : List StoredGhost). map stored_in l) items
+    ∙ map-append stored_in before (noted ∷ [])
     ∙ ap (λ (v : Stored). old ++ v ∷ []) value in
     ap (λ (l : List Stored). front ++ record { born = born; captures = l } ∷ []) captures
     ∙ sym (add_behind front (record { born = born; captures = old }) stored)
@@ -49,6 +49,6 @@ pub is_filled_last : (sealed : List Shadow) (last : Option Shadow) (shadow : Sha
     → empty ≡ nat_eq (length shadow.captures.items) 0
     → not empty ≡ is_filled (map volume_of sealed ++ map volume_of (option_to_list last))
 is_filled_last sealed last shadow empty is empty_is =
-    ap not (empty_is ∙ sym (ap (λ (n : ℕ). nat_eq n 0) (length-map shadow.captures.items (λ (s : Snapshot Stored). s.value))))
+    ap not (empty_is ∙ sym (ap (λ (n : ℕ). nat_eq n 0) (length-map shadow.captures.items stored_in)))
     ∙ sym (last_filled (map volume_of sealed) (volume_of shadow))
     ∙ sym (ap (λ (l : Option Shadow). is_filled (map volume_of sealed ++ map volume_of (option_to_list l))) is)

@@ -22,7 +22,7 @@ use Rattle.archive_shelf.specs.Comparing.{CanRefer, RefersBy}
 use Rattle.archive_shelf.specs.Laws.{IsOriginal}
 use Rattle.archive_shelf.specs.Storing.{as_stored, kept_of}
 use Rattle.archive_volumes.proofs.WayLaws.{room_captures}
-use Rattle.archive_volumes.specs.Held.{book_of}
+use Rattle.archive_volumes.specs.Held.{book_of, stored_in}
 use Rattle.archive_volumes.specs.Ready.{CanCommit, book_with, spot_in}
 use Rattle.archive_volumes.proofs.SpotLaws.{GoOn, placed_at, placed_stay, placed_with, spots_stay, spots_with}
 use Rattle.archive_volumes.specs.Grouping.{StandsAt, block_of}
@@ -194,7 +194,7 @@ module _ {D : Type 0} (d : Ghosts D) (before : Volumes D) (ready : Ready) (can :
   kept_spots now spots items spot are is all is_spot =
       subst (AreSpotsOf now) (sym (all ∙ ap (λ (s : Spot). spots ++ s ∷ []) is_spot))
       (subst (λ (b : Book). AreSpotsOf b (spots ++ spot_in before ready ∷ [])) (sym is)
-      (spots_with (book_of before.held) (book_with before ready) ready.stored can.gains spots (spot_in before ready) are can.spot))
+      (spots_with (book_of before.held) (book_with before ready) (stored_in ready.stored) can.gains spots (spot_in before ready) are can.spot))
 
   pub kept_placed : IsTrue d.tells → (texts_now : List (List ℕ)) (now : Book) (spots items : List Spot) (spot : Spot) → AreSpotsOf (book_of before.held) spots
       → ArePlaced (texts d before.journal) (book_of before.held) spots → texts_now ≡ with_more (texts_with (texts d before.journal) ready.prepared) ready.group
@@ -205,7 +205,7 @@ module _ {D : Type 0} (d : Ghosts D) (before : Volumes D) (ready : Ready) (can :
       (subst (λ (b : Book). ArePlaced texts_now b (spots ++ spot_in before ready ∷ [])) (sym is)
       (subst (λ (t : List (List ℕ)). ArePlaced t (book_with before ready) (spots ++ spot_in before ready ∷ [])) (sym is_texts)
       (placed_with (texts d before.journal) all_texts (texts_go_more (texts d before.journal) ready.prepared ready.group)
-      (book_of before.held) (book_with before ready) (ready.stored ∷ []) can.gains spots (spot_in before ready) placed
+      (book_of before.held) (book_with before ready) ((stored_in ready.stored) ∷ []) can.gains spots (spot_in before ready) placed
       (subst (λ (n : ℕ). IsPlaced all_texts (book_with before ready) n (spot_in before ready)) (sym are.count) (can.placed told)))))
 
 -- ---- where it is refused

@@ -2,6 +2,7 @@ pub mod BringLaws
 pub mod ChangeLaws
 pub mod ChooseLaws
 pub mod DecodeLaws
+mod GhostLaws
 pub mod GroupLaws
 pub mod HeldLaws
 pub mod KeepLaws

@@ -1,5 +1,5 @@
 -- The entry of a capture, by what is told of it and where its record stands.
-use Rattle.std.specs.Prelude.{◌≡◌, ◌≢◌, List, codes, Option, Some, None}
+use Rattle.std.specs.Prelude.{◌≡◌, ◌≢◌, ℕ, Bool, List, codes, Option, Some, None}
 use Rattle.httparse.specs.Grammar.{ResponseHead, status_code}
 use Rattle.capture.specs.Fields.{named_values}
 use Rattle.capture.specs.declared.captured.Stored.{Stored}
@@ -7,7 +7,15 @@ use Rattle.cdxj_index.specs.Facts.{Facts}
 use Rattle.cdxj_index.specs.OfBook.{mime_by}
 use Rattle.cdxj_index.specs.Order.{with_entry}
 use Rattle.surt_key.specs.Key.{key_of}
+use Rattle.archive_volumes.specs.Spots.{form_of, is_same_form}
 use Rattle.archive_volumes.specs.declared.entry.RecordAt.{RecordAt}
+
+-- this is told of the capture: its method, target and date, and whether another capture keeps its payload
+pub record IsAskedOf (stored : Stored) (method uri : List ℕ) (date : ℕ) (revisit : Bool) : Type 0 where
+  pub method_is : stored.method ≡ method
+  pub uri_is : stored.uri ≡ uri
+  pub date_is : stored.date ≡ date
+  pub revisit_is : revisit ≡ is_same_form (form_of stored.kept)
 
 -- the entry tells of the capture, whose record stands there
 pub record IsEntryAt (stored : Stored) (head : ResponseHead) (at : RecordAt) (entry : Facts) : Type 0 where

@@ -5,11 +5,14 @@ ghost use Rattle.cdxj_index.specs.OfBook.{mime_by};
 ghost use Rattle.http_head.specs.Heads.{HoldsResponseParts, named_value};
 ghost use Rattle.httparse.specs.Grammar as grammar;
 ghost use Rattle.time_text.specs.Texts.{InRange};
-ghost use Rattle.archive_volumes.specs.Entries.{EntersAs};
+ghost use Rattle.archive_volumes.specs.Entries.{EntersAs, IsAskedOf};
 ghost use Rattle.capture.specs.Message.{IsResponseHeadText};
-ghost use Rattle.archive_volumes.specs.Held.{book_of};
+ghost use Rattle.archive_volumes.specs.Held.{book_of, stored_in};
 ghost use Rattle.archive_volumes.specs.Ready.{record_in, room_of};
+ghost use Rattle.archive_volumes.specs.Spots.{form_of, is_same_form, spot_of};
 ghost use Rattle.archive_volumes.specs.Writing.{HasRoomFor};
+ghost use Rattle.capture.specs.declared.captured.Kept.{Kept as Keeping};
+ghost use Rattle.capture.specs.declared.captured.Stored.{Stored as Capture};
 ghost use Rattle.archive_volumes.specs.Volumes.{IsMeasured};
 
 use crate::ready::Ready;
@@ -40,6 +43,19 @@ pub struct RecordAt {
     pub len: u64,
 }
 
+/// What an entry tells of a capture itself.
+#[derive(Clone, Copy, Debug)]
+struct Asked<'s> {
+    /// The request's method.
+    method: &'s Text,
+    /// The target that the client sent, in absolute form.
+    uri: &'s Text,
+    /// When it was fetched, in milliseconds since 1970.
+    date: u64,
+    /// Whether another capture keeps its payload.
+    revisit: bool,
+}
+
 /// The entry of a capture; none where it isn't found by date, since it wasn't asked for by GET or its response is 304 (RFC
 /// 9110, section 15.4.5), or where its target has no key.
 pub fn entry_of(
@@ -52,23 +68,55 @@ pub fn entry_of(
     requires parsed { (h : grammar.ResponseHead) × HoldsResponseParts stored.now.head h head.now }
     ensures { (text : List ℕ) (h : grammar.ResponseHead) → HoldsResponseParts text h head.now → IfOk result (EntersAs stored.now h at) }
 {
-    if stored.method.as_slice() != b"GET".as_slice() {
+    let asked = Asked {
+        method: &stored.method,
+        uri: &stored.uri,
+        date: stored.date,
+        revisit: is_revisit(&stored.kept),
+    };
+    entry_by(alloc, &asked, head, at)
+}
+
+/// Whether another capture keeps the payload.
+fn is_revisit(kept: &Kept) -> bool
+    ensures { result ≡ is_same_form (form_of kept.now) }
+{
+    match kept {
+        Kept::Wire(_) => false,
+        Kept::Same(_) => true,
+        Kept::Cut(_) => false,
+    }
+}
+
+/// The entry of a capture of which this is told; none where it isn't found by date.
+fn entry_by(
+    alloc: Global,
+    asked: &Asked,
+    head: &ResponseHead,
+    at: RecordAt,
+) -> Result<Option<Entry>, Memory>
+    requires date { InRange asked.now.date }
+    requires parsed { (text : List ℕ) × (h : grammar.ResponseHead) × HoldsResponseParts text h head.now }
+    ensures { (stored : Capture) (text : List ℕ) (h : grammar.ResponseHead) → IsAskedOf stored asked.now.method.now asked.now.uri.now asked.now.date asked.now.revisit
+        → HoldsResponseParts text h head.now → IfOk result (EntersAs stored h at) }
+{
+    if asked.method.as_slice() != b"GET".as_slice() {
         return Ok(None);
     }
     if head.status == NOT_MODIFIED {
         return Ok(None);
     }
-    let key = match key_of(alloc, stored.uri.as_slice()) {
+    let key = match key_of(alloc, asked.uri.as_slice()) {
         Ok(key) => key,
         Err(KeyFault::NotHttp) => return Ok(None),
         Err(KeyFault::Memory) => return Err(Memory),
     };
     Ok(Some(Entry {
         key,
-        date: stored.date,
+        date: asked.date,
         number: at.number,
-        uri: stored.uri.copy()?,
-        mime: mime_of(alloc, &stored.kept, head)?,
+        uri: asked.uri.copy()?,
+        mime: mime_of(alloc, asked.revisit, head)?,
         status: head.status,
         digest: at.digest,
         volume: at.volume,
@@ -78,13 +126,13 @@ pub fn entry_of(
 }
 
 /// The media type of an entry: that of a revisit is its own.
-fn mime_of(alloc: Global, kept: &Kept, head: &ResponseHead) -> Result<Text, Memory>
-    ensures { (text : List ℕ) (h : grammar.ResponseHead) → HoldsResponseParts text h head.now → IfOk result (λ mime. mime ≡ mime_by kept.now (named_values h.fields)) }
+fn mime_of(alloc: Global, revisit: bool, head: &ResponseHead) -> Result<Text, Memory>
+    ensures { (kept : Keeping) (text : List ℕ) (h : grammar.ResponseHead) → revisit ≡ is_same_form (form_of kept) → HoldsResponseParts text h head.now
+        → IfOk result (λ mime. mime ≡ mime_by kept (named_values h.fields)) }
 {
-    match kept {
-        Kept::Wire(_) => media_type(alloc, content_type(head)),
-        Kept::Same(_) => Text::from_str(alloc, REVISIT),
-        Kept::Cut(_) => media_type(alloc, content_type(head)),
+    match revisit {
+        true => Text::from_str(alloc, REVISIT),
+        false => media_type(alloc, content_type(head)),
     }
 }
 
@@ -123,14 +171,28 @@ impl<D: Disk> Volumes<D> {
     }
 }
 
-/// The entry of a capture that is ready, whose first record is to stand there; none where it isn't found by date.
-pub fn entry_for(alloc: Global, ready: &Ready, at: RecordAt) -> Result<Option<Entry>, Memory>
-    requires date { InRange ready.now.stored.date }
-    requires head { (h : grammar.ResponseHead) × IsResponseHeadText ready.now.stored.head h }
-    ensures { (h : grammar.ResponseHead) → IsResponseHeadText ready.now.stored.head h → IfOk result (EntersAs ready.now.stored h at) }
+/// The entry of a capture that is ready, whose response has this head, and whose first record is to stand there; none where it
+/// isn't found by date.
+pub fn entry_for(
+    alloc: Global,
+    ready: &Ready,
+    head: &[u8],
+    at: RecordAt,
+) -> Result<Option<Entry>, Memory>
+    requires date { InRange (stored_in ready.now.stored).date }
+    requires kept { ready.now.spot ≡ spot_of (stored_in ready.now.stored) ready.now.digest 0 0 }
+    requires is { head.now ≡ (stored_in ready.now.stored).head }
+    requires head { (h : grammar.ResponseHead) × IsResponseHeadText head.now h }
+    ensures { (h : grammar.ResponseHead) → IsResponseHeadText head.now h → IfOk result (EntersAs (stored_in ready.now.stored) h at) }
 {
-    match read_head(alloc, ready.stored.head.as_slice()) {
-        Ok(head) => entry_of(alloc, &ready.stored, &head, at),
+    let asked = Asked {
+        method: &ready.spot.method,
+        uri: &ready.spot.uri,
+        date: ready.spot.date,
+        revisit: ready.spot.form.is_same(),
+    };
+    match read_head(alloc, head) {
+        Ok(parts) => entry_by(alloc, &asked, &parts, at),
         Err(WireFault::Memory) => Err(Memory),
         Err(_) => unreachable!(),
     }

@@ -3,16 +3,16 @@ ghost use Rattle.std.specs.Prelude.{◌≡◌, ◌<◌, [], length, vec_len, IfO
 ghost use Rattle.std.specs.Vec.{vec_capacity};
 ghost use Rattle.archive_shelf.specs.Storing.{empty_book, new_volume, with_capture, with_volume};
 
+use crate::stored_ghost::StoredGhost;
 use capture::{Memory, Stored};
 use std::alloc::Global;
-use std::snapshot::Snapshot;
 use uuid::Uuid;
 
 /// A volume, of whose captures only clauses know.
 #[derive(Drop)]
 pub struct Shadow {
     born: u64,
-    captures: Vec<Snapshot<Stored>>,
+    captures: Vec<StoredGhost>,
 }
 
 /// A book, of whose captures only clauses know.
@@ -25,7 +25,7 @@ pub struct Held {
 }
 
 impl Held {
-    ghost use Rattle.archive_volumes.specs.Held.{HasSpace, TakesCapture, TakesVolume, book_of, is_filled, volume_of};
+    ghost use Rattle.archive_volumes.specs.Held.{HasSpace, TakesCapture, TakesVolume, book_of, is_filled, stored_in, volume_of};
 
     /// A book without volumes. Takes no memory.
     pub fn new(alloc: Global, namespace: Uuid) -> Held
@@ -90,8 +90,16 @@ impl Held {
         requires space { TakesCapture self.old }
         ensures book { book_of self.new ≡ with_capture (book_of self.old) stored.now }
     {
+        self.add_ghost(StoredGhost::of(stored));
+    }
+
+    /// Adds a capture of which only clauses know. Takes no memory.
+    pub fn add_ghost(&mut self, stored: StoredGhost)
+        requires space { TakesCapture self.old }
+        ensures book { book_of self.new ≡ with_capture (book_of self.old) (stored_in stored) }
+    {
         if let Some(last) = &mut self.last {
-            last.captures.push_reserved(Snapshot::of(stored));
+            last.captures.push_reserved(stored);
         }
     }
 }

@@ -12,6 +12,7 @@ mod payload;
 mod ready;
 mod room;
 mod spot;
+mod stored_ghost;
 mod volumes;
 mod write;
 
@@ -19,7 +20,8 @@ pub use decode::{framing_behind, is_head};
 pub use entry::{RecordAt, entry_for, entry_of};
 pub use group::Layout;
 pub use held::{Held, Shadow};
-pub use ready::{Incoming, Ready};
+pub use ready::Ready;
 pub use room::Prepared;
 pub use spot::{Form, Spot, reserve_kept};
+pub use stored_ghost::StoredGhost;
 pub use volumes::Volumes;

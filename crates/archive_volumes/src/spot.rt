@@ -1,10 +1,11 @@
 //! What is kept of a capture in memory, and how it is put behind the others.
-ghost use Rattle.std.specs.Prelude.{◌≡◌, ◌+◌, ◌^◌, ◌<◌, length, ◌++◌, ◌∷◌, [], All, vec_len, Some, OnOk, if◌then◌else◌};
+ghost use Rattle.std.specs.Prelude.{◌≡◌, ◌+◌, ◌^◌, ◌<◌, ℕ, List, length, ◌++◌, ◌∷◌, [], All, vec_len, Some, IfOk, OnOk, if◌then◌else◌};
 ghost use Rattle.capture.specs.Captures.{kept_wire};
+ghost use Rattle.archive_shelf.specs.Storing.{as_stored, kept_of};
 ghost use Rattle.archive_volumes.specs.Spots.{form_of, is_cut_form, is_same_form, spot_of, is_whole, whole_from};
 ghost use Rattle.std.specs.Vec.{vec_capacity};
 
-use capture::{Digest, Kept, Memory, Stored, Text};
+use capture::{Digest, Kept, Memory, Stored, Taken, Text};
 use revisit_table::Digests;
 use std::alloc::Global;
 use warc_journal::Place;
@@ -98,6 +99,39 @@ impl Spot {
         }
     }
 
+    /// What is kept of a capture that was taken, whose payload has this digest, and which refers to this one, if to any. It
+    /// doesn't stand anywhere yet.
+    pub(crate) fn of_taken(
+        taken: &Taken,
+        digest: &Digest,
+        same: Option<u32>,
+    ) -> Result<Spot, Memory>
+        ensures { IfOk result (λ spot. spot ≡ spot_of (as_stored taken.now same) digest.now 0 0) }
+    {
+        Ok(Spot {
+            method: taken.method.copy()?,
+            uri: taken.uri.copy()?,
+            date: taken.date,
+            digest: *digest,
+            form: form_taken(taken.cut, same),
+            volume: 0,
+            head_at: 0,
+            head_len: taken.head.as_slice().len() as u64,
+            wire_len: wire_len_taken(taken, same),
+        })
+    }
+
+    /// The same of a capture whose head begins at this place of a volume's text.
+    pub(crate) fn standing(self, volume: u32, head_at: u64) -> Spot
+        ensures { result ≡ record self { volume = volume; head_at = head_at } }
+    {
+        Spot {
+            volume,
+            head_at,
+            ..self
+        }
+    }
+
     /// Where the head stands.
     pub(crate) fn head_place(&self) -> Place
         ensures { result ≡ record { volume = self.now.volume; at = self.now.head_at; len = self.now.head_len } }
@@ -123,13 +157,40 @@ impl Spot {
 }
 
 /// In which form this is kept.
-fn form_kept(kept: &Kept) -> Form
+pub(crate) fn form_kept(kept: &Kept) -> Form
     ensures { result ≡ form_of kept.now }
 {
     match kept {
         Kept::Wire(_) => Form::Whole,
         Kept::Same(first) => Form::Same(*first),
         Kept::Cut(_) => Form::Cut,
+    }
+}
+
+/// In which form a capture is kept that was taken, by whether it was cut and what it refers to.
+pub(crate) fn form_taken(cut: bool, same: Option<u32>) -> Form
+    ensures { (wire : List ℕ) → result ≡ form_of (kept_of cut wire same) }
+{
+    if cut {
+        return Form::Cut;
+    }
+    match same {
+        Some(first) => Form::Same(first),
+        None => Form::Whole,
+    }
+}
+
+/// The length of the wire that is kept of a capture that was taken, in bytes.
+fn wire_len_taken(taken: &Taken, same: Option<u32>) -> u64
+    ensures { result ≡ length (kept_wire (kept_of taken.now.cut taken.now.wire same)) }
+{
+    let whole = taken.wire.as_slice().len() as u64;
+    if taken.cut {
+        return whole;
+    }
+    match same {
+        Some(_) => 0,
+        None => whole,
     }
 }
 

@@ -13,13 +13,14 @@ ghost use Rattle.warc_text.specs.Sound.{IsSound};
 ghost use Rattle.warc_text.specs.StandsFor.{commit_byte};
 ghost use Rattle.archive_shelf.specs.Gaining.{AreFilled};
 ghost use Rattle.archive_shelf.specs.Storing.{with_capture, with_volume};
-ghost use Rattle.archive_volumes.specs.Held.{HasSpace, TakesCapture, TakesVolume, book_of};
+ghost use Rattle.archive_volumes.specs.Held.{HasSpace, TakesCapture, TakesVolume, book_of, stored_in};
 ghost use Rattle.archive_volumes.specs.Volumes.{HoldsBook, IsMeasured, IsPrepared, IsQuiet, Makes};
 
 use crate::held::Held;
 use crate::room::Prepared;
+use crate::stored_ghost::StoredGhost;
 use archive_shelf::{storing_keeps_soundness, texts_go_on_behind};
-use capture::{Bytes, Memory, Stored};
+use capture::{Bytes, Memory};
 use disk_model::Disk;
 use std::alloc::Global;
 use warc_journal::{DiskFault, Journal, Place};
@@ -112,17 +113,17 @@ impl<D: Disk> Volumes<D> {
     }
 
     /// Adds a capture with its group to the last volume, in the room that is there. Refused, the book is as before.
-    pub(crate) fn add(&mut self, stored: &Stored, group: &[u8]) -> Result<Place, DiskFault>
+    pub(crate) fn add(&mut self, stored: StoredGhost, group: &[u8]) -> Result<Place, DiskFault>
         requires space { TakesCapture self.old.held }
         requires holds { HoldsBook D.Disk self.old.journal (book_of self.old.held) }
         requires measured { IsMeasured self.old.journal (book_of self.old.held) }
         requires committed { IsCommitted commit_byte group.now }
-        requires group { IsTrue D.tells → IsGroupText (with_capture (book_of self.old.held) stored.now)
+        requires group { IsTrue D.tells → IsGroupText (with_capture (book_of self.old.held) (stored_in stored))
             (length (captures (book_of self.old.held))) group.now }
-        requires sound { IsTrue D.tells → IsSound (with_capture (book_of self.old.held) stored.now) }
+        requires sound { IsTrue D.tells → IsSound (with_capture (book_of self.old.held) (stored_in stored)) }
         requires fits { last_len self.old.journal + length group.now < 2 ^ 62 }
         ensures book { book_of self.new.held ≡ (if is_ok result
-            then with_capture (book_of self.old.held) stored.now else book_of self.old.held) }
+            then with_capture (book_of self.old.held) (stored_in stored) else book_of self.old.held) }
         ensures holds { HoldsBook D.Disk self.new.journal (book_of self.new.held) }
         ensures measured { IsMeasured self.new.journal (book_of self.new.held) }
         ensures last_len { last_len self.new.journal
@@ -134,12 +135,12 @@ impl<D: Disk> Volumes<D> {
         ensures others { IsTrue D.tells
             → cdxj_files (D.reading (disk_of self.new.journal)) ≡ cdxj_files (D.reading (disk_of self.old.journal)) }
         ensures makes { Makes D.Disk (disk_of self.old.journal) (disk_of self.new.journal)
-            (book_of self.old.held) (with_capture (book_of self.old.held) stored.now) result }
+            (book_of self.old.held) (with_capture (book_of self.old.held) (stored_in stored)) result }
         ensures faults { CountsFaults (D.faults (disk_of self.old.journal)) (D.faults (disk_of self.new.journal)) result }
     {
         texts_go_on_behind();
         let place = self.journal.append(group)?;
-        self.held.add(stored);
+        self.held.add_ghost(stored);
         Ok(place)
     }
 

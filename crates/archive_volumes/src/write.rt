@@ -10,7 +10,7 @@ ghost use Rattle.warc_text.specs.Books.{IsGroupText};
 ghost use Rattle.warc_text.specs.Sound.{IsSound};
 ghost use Rattle.warc_text.specs.StandsFor.{commit_byte};
 ghost use Rattle.archive_shelf.specs.Storing.{with_capture};
-ghost use Rattle.archive_volumes.specs.Held.{book_of};
+ghost use Rattle.archive_volumes.specs.Held.{book_of, stored_in};
 ghost use Rattle.archive_volumes.specs.Writing.{HasRoomFor, Writes, end_with, texts_with, with_prepared};
 ghost use Rattle.archive_volumes.specs.Volumes.{HoldsBook, IsMeasured};
 ghost use Rattle.std.specs.Vec.{vec_capacity};
@@ -20,8 +20,8 @@ ghost use Rattle.archive_volumes.specs.Spots.{AreSpotsOf, ArePlaced, whole_from}
 use crate::ready::Ready;
 use crate::room::Prepared;
 use crate::spot::{Spot, keep};
+use crate::stored_ghost::StoredGhost;
 use crate::volumes::Volumes;
-use capture::Stored;
 use disk_model::Disk;
 use revisit_table::Digests;
 use warc_journal::{DiskFault, Place};
@@ -32,19 +32,19 @@ impl<D: Disk> Volumes<D> {
     pub(crate) fn write(
         &mut self,
         prepared: Option<Prepared>,
-        stored: &Stored,
+        stored: StoredGhost,
         group: &[u8],
     ) -> Result<Place, DiskFault>
         requires room { HasRoomFor self.old prepared }
         requires holds { HoldsBook D.Disk self.old.journal (book_of self.old.held) }
         requires measured { IsMeasured self.old.journal (book_of self.old.held) }
         requires committed { IsCommitted commit_byte group.now }
-        requires group { IsTrue D.tells → IsGroupText (with_capture (with_prepared (book_of self.old.held) prepared) stored.now)
+        requires group { IsTrue D.tells → IsGroupText (with_capture (with_prepared (book_of self.old.held) prepared) (stored_in stored))
             (length (captures (with_prepared (book_of self.old.held) prepared))) group.now }
-        requires sound { IsTrue D.tells → IsSound (with_capture (with_prepared (book_of self.old.held) prepared) stored.now) }
+        requires sound { IsTrue D.tells → IsSound (with_capture (with_prepared (book_of self.old.held) prepared) (stored_in stored)) }
         requires fits { end_with self.old prepared + length group.now < 2 ^ 62 }
         ensures stored { OnOk result (book_of self.new.held
-            ≡ with_capture (with_prepared (book_of self.old.held) prepared) stored.now) }
+            ≡ with_capture (with_prepared (book_of self.old.held) prepared) (stored_in stored)) }
         ensures left { OnErr result ((book_of self.new.held ≡ book_of self.old.held)
             ⊎ (book_of self.new.held ≡ with_prepared (book_of self.old.held) prepared)) }
         ensures holds { HoldsBook D.Disk self.new.journal (book_of self.new.held) }
@@ -62,7 +62,7 @@ impl<D: Disk> Volumes<D> {
             → cdxj_files (D.reading (disk_of self.new.journal)) ≡ cdxj_files (D.reading (disk_of self.old.journal)) }
         ensures writes { Writes D.Disk (disk_of self.old.journal) (disk_of self.new.journal) (book_of self.old.held)
             (with_prepared (book_of self.old.held) prepared)
-            (with_capture (with_prepared (book_of self.old.held) prepared) stored.now) (book_of self.new.held) result }
+            (with_capture (with_prepared (book_of self.old.held) prepared) (stored_in stored)) (book_of self.new.held) result }
         ensures faults { CountsFaults (D.faults (disk_of self.old.journal)) (D.faults (disk_of self.new.journal)) result }
     {
         match prepared {
@@ -94,7 +94,7 @@ impl<D: Disk> Volumes<D> {
         requires reserved { table.old.reserved ≡ Some ready.digest }
         requires few { length spots.old.items < 2 ^ 32 }
         ensures stored { OnOk result (book_of self.new.held
-            ≡ with_capture (with_prepared (book_of self.old.held) ready.prepared) ready.stored) }
+            ≡ with_capture (with_prepared (book_of self.old.held) ready.prepared) (stored_in ready.stored)) }
         ensures left { OnErr result ((book_of self.new.held ≡ book_of self.old.held)
             ⊎ (book_of self.new.held ≡ with_prepared (book_of self.old.held) ready.prepared)) }
         ensures holds { HoldsBook D.Disk self.new.journal (book_of self.new.held) }
@@ -106,18 +106,19 @@ impl<D: Disk> Volumes<D> {
             → cdxj_files (D.reading (disk_of self.new.journal)) ≡ cdxj_files (D.reading (disk_of self.old.journal)) }
         ensures writes { Writes D.Disk (disk_of self.old.journal) (disk_of self.new.journal) (book_of self.old.held)
             (with_prepared (book_of self.old.held) ready.prepared)
-            (with_capture (with_prepared (book_of self.old.held) ready.prepared) ready.stored) (book_of self.new.held) result }
+            (with_capture (with_prepared (book_of self.old.held) ready.prepared) (stored_in ready.stored)) (book_of self.new.held) result }
         ensures faults { CountsFaults (D.faults (disk_of self.old.journal)) (D.faults (disk_of self.new.journal)) result }
     {
         let Ready {
             stored,
-            digest,
+            spot,
+            digest: _,
             group,
             layout,
             prepared,
         } = ready;
-        let place = self.write(prepared, &stored, group.as_slice())?;
-        let spot = Spot::of(stored, digest, place.volume, place.at + layout.head_at);
+        let place = self.write(prepared, stored, group.as_slice())?;
+        let spot = spot.standing(place.volume, place.at + layout.head_at);
         keep(spots, table, spot);
         Ok(())
     }

@@ -83,7 +83,7 @@ fn fault_of<D: Disk>(
 ) -> Result<Option<String>, Memory>
     requires { IsPrepared prepared }
 {
-    match archive.store(alloc, prepared.taken) {
+    match archive.store(alloc, &prepared.taken) {
         Ok(_) => Ok(None),
         Err(fault) => Ok(Some(store_fault_text(alloc, fault)?)),
     }

@@ -101,7 +101,7 @@ fn stored_with<D: Disk>(
     requires right { IsRightOf (contents_of D.tells archive.old) prepared.taken looked }
 {
     compared_payloads_serve_later();
-    match archive.store_after(alloc, prepared.taken, digest, looked) {
+    match archive.store_after(alloc, &prepared.taken, digest, looked) {
         Ok(receipt) => receipt_text(alloc, receipt),
         Err(fault) => store_fault_text(alloc, fault),
     }

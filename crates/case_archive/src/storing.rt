@@ -14,7 +14,7 @@ use time_text::LATEST;
 pub fn stored<S: Shelf>(alloc: Global, shelf: &mut S, taken: Taken) -> Result<String, Memory>
     requires { Fits taken }
 {
-    match shelf.store(alloc, taken) {
+    match shelf.store(alloc, &taken) {
         Ok(receipt) => receipt_text(alloc, receipt),
         Err(fault) => store_fault_text(alloc, fault),
     }

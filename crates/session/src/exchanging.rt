@@ -269,7 +269,7 @@ fn keep<S: Shelf>(
     requires { Fits taken }
     ensures { Keeps S.alone taken ready answers_head closes result (S.told shelf.old) (S.told shelf.new) }
 {
-    match shelf.store(alloc, taken) {
+    match shelf.store(alloc, &taken) {
         Ok(_receipt) => Ok(ready),
         Err(fault) => turn_down(alloc, fault, answers_head, closes),
     }

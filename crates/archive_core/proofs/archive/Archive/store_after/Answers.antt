@@ -12,7 +12,7 @@ disk_laws g = record { earlier = g.met.D.Disk.earlier; now_counts = g.met.D.Disk
 
 pub returns-in_err-check_room-clause-stores : goal.returns-in_err-check_room-clause-stores
 returns-in_err-check_room-clause-stores g c =
-    full_exit g.D.Disk (disk_laws g) c.args.self.now c.args.taken c.in_err-check_room.field-0.0 c.from_residual.result c.from_residual.ensures.1
+    full_exit g.D.Disk (disk_laws g) c.args.self.now c.args.taken.now c.in_err-check_room.field-0.0 c.from_residual.result c.from_residual.ensures.1
     c.in_err-check_room.ensures
 
 pub returns-in_err-check_room-clause-since : goal.returns-in_err-check_room-clause-since

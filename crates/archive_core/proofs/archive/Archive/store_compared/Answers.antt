@@ -1,20 +1,23 @@
 use Rattle.std.proofs.Common.{rules, ◌≡◌, ◌+◌, ℕ, List, length, Some, Ok, Err, refl, sym, ap, subst, ◌∙◌, arith}
 use Rattle.std.specs.Prelude.{is_some}
 use Rattle.capture.specs.Captures.{captures}
+use Rattle.capture.specs.Message.{IsResponseHeadText}
 use Rattle.capture.specs.declared.book.Book.{Book}
 use Rattle.capture.specs.declared.captured.Stored.{Stored}
 use Rattle.cdxj_index.specs.Facts.{Facts}
+use Rattle.httparse.specs.Grammar.{ResponseHead}
 use Rattle.cdxj_index.specs.Order.{without}
 use Rattle.time_text.specs.Texts.{InRange}
 use Rattle.warc_journal.specs.Journals.{texts}
 use Rattle.archive_shelf.specs.Answers.{IsNotFull}
 use Rattle.archive_shelf.specs.declared.fault.StoreFault.TheVariants as stores
 use Rattle.archive_shelf.specs.declared.receipt.Receipt.{Receipt}
-use Rattle.archive_volumes.specs.Entries.{entered}
-use Rattle.archive_volumes.specs.Held.{book_of}
+use Rattle.archive_volumes.specs.Entries.{EntersAs, entered}
+use Rattle.archive_volumes.specs.Held.{book_of, stored_in}
 use Rattle.archive_core.specs.Holdings.{Holdings, contents_of}
 use Rattle.archive_core.specs.Looking.{RefersTo}
 use Rattle.archive_volumes.specs.Spots.{ArePlaced, AreSpotsOf, whole_from}
+use Rattle.archive_volumes.specs.Ready.{incoming_of}
 use Rattle.archive_core.specs.Stores.{Stores}
 use Rattle.archive_core.specs.View.{holdings_of}
 use Rattle.archive_volumes.specs.declared.spot.Spot.{Spot}
@@ -46,8 +49,8 @@ make_ready-requires-clause-few g c =
 pub make_ready-requires-clause-refers : goal.make_ready-requires-clause-refers
 make_ready-requires-clause-refers g c =
     let was : Holdings _ = holdings_of c.self.inside in
-    let refers : RefersTo (contents_of g.D.Disk.tells was) c.args.incoming.taken c.args.incoming.same =
-    subst (λ (held : Holdings _). RefersTo (contents_of g.D.Disk.tells held) c.args.incoming.taken c.args.incoming.same) (sym c.self.view_is) c.requires.refers in
+    let refers : RefersTo (contents_of g.D.Disk.tells was) c.args.taken.now c.args.same =
+    subst (λ (held : Holdings _). RefersTo (contents_of g.D.Disk.tells held) c.args.taken.now c.args.same) (sym c.self.view_is) c.requires.refers in
     refers.can
 
 pub make_ready-requires-clause-limit : goal.make_ready-requires-clause-limit
@@ -55,25 +58,25 @@ make_ready-requires-clause-limit g c = c.self.invariant.counted.limits.volume_by
 
 pub make_ready-requires-clause-payload : goal.make_ready-requires-clause-payload
 make_ready-requires-clause-payload g c =
-    let there = has_one c.storing_has_a_basis.ensures.whole c.storing_has_a_basis.ensures.cut c.args.incoming.taken c.requires.fits in
+    let there = has_one c.storing_has_a_basis.ensures.whole c.storing_has_a_basis.ensures.cut c.args.taken.now c.requires.fits in
     (there.payload, c.requires.digest there.payload there.has)
 
-pub record_at-requires-clause-measured : goal.record_at-requires-clause-measured
-record_at-requires-clause-measured g c =
+pub record_at-at-requires-clause-measured : goal.record_at-at-requires-clause-measured
+record_at-at-requires-clause-measured g c =
     let was : Holdings _ = holdings_of c.self.inside in
     let now = c.make_ready.new.self in
     let ready = c.in_ok-ready.ready in
-    let u = laws.under_way g.D.Disk c.storing_has_a_basis.ensures c.args.self.now was c.self.inside.volumes now c.args.incoming ready c.self.view_is
+    let u = laws.under_way g.D.Disk c.storing_has_a_basis.ensures c.args.self.now was c.self.inside.volumes now (incoming_of c.args.taken.now c.args.digest.now c.args.same) ready c.self.view_is
     refl refl c.self.invariant c.requires.fits c.requires.not_full c.requires.digest c.requires.refers c.make_ready.ensures.journal
     c.make_ready.ensures.book c.in_ok-ready.ensures.ready in
     u.is.measured
 
-pub record_at-requires-clause-room : goal.record_at-requires-clause-room
-record_at-requires-clause-room g c =
+pub record_at-at-requires-clause-room : goal.record_at-at-requires-clause-room
+record_at-at-requires-clause-room g c =
     let was : Holdings _ = holdings_of c.self.inside in
     let now = c.make_ready.new.self in
     let ready = c.in_ok-ready.ready in
-    let u = laws.under_way g.D.Disk c.storing_has_a_basis.ensures c.args.self.now was c.self.inside.volumes now c.args.incoming ready c.self.view_is
+    let u = laws.under_way g.D.Disk c.storing_has_a_basis.ensures c.args.self.now was c.self.inside.volumes now (incoming_of c.args.taken.now c.args.digest.now c.args.same) ready c.self.view_is
     refl refl c.self.invariant c.requires.fits c.requires.not_full c.requires.digest c.requires.refers c.make_ready.ensures.journal
     c.make_ready.ensures.book c.in_ok-ready.ensures.ready in
     u.ready_is.room
@@ -83,7 +86,7 @@ entry_for-requires-clause-date g c =
     let was : Holdings _ = holdings_of c.self.inside in
     let now = c.make_ready.new.self in
     let ready = c.in_ok-ready.ready in
-    let u = laws.under_way g.D.Disk c.storing_has_a_basis.ensures c.args.self.now was c.self.inside.volumes now c.args.incoming ready c.self.view_is
+    let u = laws.under_way g.D.Disk c.storing_has_a_basis.ensures c.args.self.now was c.self.inside.volumes now (incoming_of c.args.taken.now c.args.digest.now c.args.same) ready c.self.view_is
     refl refl c.self.invariant c.requires.fits c.requires.not_full c.requires.digest c.requires.refers c.make_ready.ensures.journal
     c.make_ready.ensures.book c.in_ok-ready.ensures.ready in
     subst (λ (s : Stored). InRange s.date) (sym u.ready_is.stored) c.requires.fits.date
@@ -93,10 +96,35 @@ entry_for-requires-clause-head g c =
     let was : Holdings _ = holdings_of c.self.inside in
     let now = c.make_ready.new.self in
     let ready = c.in_ok-ready.ready in
-    let u = laws.under_way g.D.Disk c.storing_has_a_basis.ensures c.args.self.now was c.self.inside.volumes now c.args.incoming ready c.self.view_is
+    let u = laws.under_way g.D.Disk c.storing_has_a_basis.ensures c.args.self.now was c.self.inside.volumes now (incoming_of c.args.taken.now c.args.digest.now c.args.same) ready c.self.view_is
     refl refl c.self.invariant c.requires.fits c.requires.not_full c.requires.digest c.requires.refers c.make_ready.ensures.journal
     c.make_ready.ensures.book c.in_ok-ready.ensures.ready in
-    (u.has.parsed, laws.ready_head g.D.Disk c.storing_has_a_basis.ensures was now c.args.incoming ready u)
+    let is : c.as_slice-2.result.now ≡ (stored_in ready.stored).head =
+    c.as_slice-2.ensures ∙ sym (ap (λ (s : Stored). s.head) u.ready_is.stored) in (
+      u.has.parsed,
+      subst (λ (h : List ℕ). IsResponseHeadText h u.has.parsed) (sym is)
+          (laws.ready_head g.D.Disk c.storing_has_a_basis.ensures was now (incoming_of c.args.taken.now c.args.digest.now c.args.same) ready u),
+    )
+
+pub entry_for-requires-clause-kept : goal.entry_for-requires-clause-kept
+entry_for-requires-clause-kept g c =
+    let was : Holdings _ = holdings_of c.self.inside in
+    let now = c.make_ready.new.self in
+    let ready = c.in_ok-ready.ready in
+    let u = laws.under_way g.D.Disk c.storing_has_a_basis.ensures c.args.self.now was c.self.inside.volumes now (incoming_of c.args.taken.now c.args.digest.now c.args.same) ready c.self.view_is
+    refl refl c.self.invariant c.requires.fits c.requires.not_full c.requires.digest c.requires.refers c.make_ready.ensures.journal
+    c.make_ready.ensures.book c.in_ok-ready.ensures.ready in
+    u.ready_is.kept
+
+pub entry_for-requires-clause-is : goal.entry_for-requires-clause-is
+entry_for-requires-clause-is g c =
+    let was : Holdings _ = holdings_of c.self.inside in
+    let now = c.make_ready.new.self in
+    let ready = c.in_ok-ready.ready in
+    let u = laws.under_way g.D.Disk c.storing_has_a_basis.ensures c.args.self.now was c.self.inside.volumes now (incoming_of c.args.taken.now c.args.digest.now c.args.same) ready c.self.view_is
+    refl refl c.self.invariant c.requires.fits c.requires.not_full c.requires.digest c.requires.refers c.make_ready.ensures.journal
+    c.make_ready.ensures.book c.in_ok-ready.ensures.ready in
+    c.as_slice-2.ensures ∙ sym (ap (λ (s : Stored). s.head) u.ready_is.stored)
 
 pub enter-requires-clause-indexed : goal.enter-requires-clause-indexed
 enter-requires-clause-indexed g c = c.self.invariant.indexed
@@ -106,32 +134,36 @@ enter-requires-clause-behind g c =
     let was : Holdings _ = holdings_of c.self.inside in
     let now = c.make_ready.new.self in
     let ready = c.in_ok-ready.ready in
-    let u = laws.under_way g.D.Disk c.storing_has_a_basis.ensures c.args.self.now was c.self.inside.volumes now c.args.incoming ready c.self.view_is
+    let u = laws.under_way g.D.Disk c.storing_has_a_basis.ensures c.args.self.now was c.self.inside.volumes now (incoming_of c.args.taken.now c.args.digest.now c.args.same) ready c.self.view_is
     refl refl c.self.invariant c.requires.fits c.requires.not_full c.requires.digest c.requires.refers c.make_ready.ensures.journal
     c.make_ready.ensures.book c.in_ok-ready.ensures.ready in
+    let is : c.as_slice-2.result.now ≡ (stored_in ready.stored).head =
+    c.as_slice-2.ensures ∙ sym (ap (λ (s : Stored). s.head) u.ready_is.stored) in
+    let enters : (h : ResponseHead) → IsResponseHeadText (stored_in ready.stored).head h → EntersAs (stored_in ready.stored) h c.record_at-at.result c.in_ok-entry.entry =
+    λ h reads. c.in_ok-entry.ensures h (subst (λ (t : List ℕ). IsResponseHeadText t h) (sym is) reads) in
     let many : c.len-number.result ≡ length c.self.inside.spots.items = search rules in
     let count : c.len-number.result ≡ length (captures was.book) = many ∙ c.self.invariant.spots.count in
     let number : c.len-number.result ≡ length (captures (book_of now.held)) =
     count ∙ sym (ap (λ (b : Book). length (captures b)) c.make_ready.ensures.book) in
-    laws.entry_behind g.D.Disk c.storing_has_a_basis.ensures was now c.args.incoming ready u c.record_at.result c.len-number.result
-    c.record_at.ensures number c.in_ok-entry.entry c.in_ok-entry.ensures
+    laws.entry_behind g.D.Disk c.storing_has_a_basis.ensures was now (incoming_of c.args.taken.now c.args.digest.now c.args.same) ready u c.record_at-at.result c.len-number.result
+    c.record_at-at.ensures number c.in_ok-entry.entry enters
 
 pub commit-requires-clause-ready : goal.commit-requires-clause-ready
 commit-requires-clause-ready g c =
     let was : Holdings _ = holdings_of c.self.inside in
     let now = c.make_ready.new.self in
     let ready = c.in_ok-ready.ready in
-    let u = laws.under_way g.D.Disk c.storing_has_a_basis.ensures c.args.self.now was c.self.inside.volumes now c.args.incoming ready c.self.view_is
+    let u = laws.under_way g.D.Disk c.storing_has_a_basis.ensures c.args.self.now was c.self.inside.volumes now (incoming_of c.args.taken.now c.args.digest.now c.args.same) ready c.self.view_is
     refl refl c.self.invariant c.requires.fits c.requires.not_full c.requires.digest c.requires.refers c.make_ready.ensures.journal
     c.make_ready.ensures.book c.in_ok-ready.ensures.ready in
-    laws.commit_ready g.D.Disk c.storing_has_a_basis.ensures was now c.args.incoming ready u
+    laws.commit_ready g.D.Disk c.storing_has_a_basis.ensures was now (incoming_of c.args.taken.now c.args.digest.now c.args.same) ready u
 
 pub commit-requires-clause-holds : goal.commit-requires-clause-holds
 commit-requires-clause-holds g c =
     let was : Holdings _ = holdings_of c.self.inside in
     let now = c.make_ready.new.self in
     let ready = c.in_ok-ready.ready in
-    let u = laws.under_way g.D.Disk c.storing_has_a_basis.ensures c.args.self.now was c.self.inside.volumes now c.args.incoming ready c.self.view_is
+    let u = laws.under_way g.D.Disk c.storing_has_a_basis.ensures c.args.self.now was c.self.inside.volumes now (incoming_of c.args.taken.now c.args.digest.now c.args.same) ready c.self.view_is
     refl refl c.self.invariant c.requires.fits c.requires.not_full c.requires.digest c.requires.refers c.make_ready.ensures.journal
     c.make_ready.ensures.book c.in_ok-ready.ensures.ready in
     u.is.holds
@@ -141,7 +173,7 @@ commit-requires-clause-measured g c =
     let was : Holdings _ = holdings_of c.self.inside in
     let now = c.make_ready.new.self in
     let ready = c.in_ok-ready.ready in
-    let u = laws.under_way g.D.Disk c.storing_has_a_basis.ensures c.args.self.now was c.self.inside.volumes now c.args.incoming ready c.self.view_is
+    let u = laws.under_way g.D.Disk c.storing_has_a_basis.ensures c.args.self.now was c.self.inside.volumes now (incoming_of c.args.taken.now c.args.digest.now c.args.same) ready c.self.view_is
     refl refl c.self.invariant c.requires.fits c.requires.not_full c.requires.digest c.requires.refers c.make_ready.ensures.journal
     c.make_ready.ensures.book c.in_ok-ready.ensures.ready in
     u.is.measured
@@ -151,7 +183,7 @@ commit-requires-clause-spots g c =
     let was : Holdings _ = holdings_of c.self.inside in
     let now = c.make_ready.new.self in
     let ready = c.in_ok-ready.ready in
-    let u = laws.under_way g.D.Disk c.storing_has_a_basis.ensures c.args.self.now was c.self.inside.volumes now c.args.incoming ready c.self.view_is
+    let u = laws.under_way g.D.Disk c.storing_has_a_basis.ensures c.args.self.now was c.self.inside.volumes now (incoming_of c.args.taken.now c.args.digest.now c.args.same) ready c.self.view_is
     refl refl c.self.invariant c.requires.fits c.requires.not_full c.requires.digest c.requires.refers c.make_ready.ensures.journal
     c.make_ready.ensures.book c.in_ok-ready.ensures.ready in
     subst (λ (l : List Spot). AreSpotsOf (book_of now.held) l) (sym c.reserve_kept.ensures.spots) u.is.spots
@@ -161,7 +193,7 @@ commit-requires-clause-placed g c told =
     let was : Holdings _ = holdings_of c.self.inside in
     let now = c.make_ready.new.self in
     let ready = c.in_ok-ready.ready in
-    let u = laws.under_way g.D.Disk c.storing_has_a_basis.ensures c.args.self.now was c.self.inside.volumes now c.args.incoming ready c.self.view_is
+    let u = laws.under_way g.D.Disk c.storing_has_a_basis.ensures c.args.self.now was c.self.inside.volumes now (incoming_of c.args.taken.now c.args.digest.now c.args.same) ready c.self.view_is
     refl refl c.self.invariant c.requires.fits c.requires.not_full c.requires.digest c.requires.refers c.make_ready.ensures.journal
     c.make_ready.ensures.book c.in_ok-ready.ensures.ready in
     subst (λ (l : List Spot). ArePlaced (texts g.D.Disk now.journal) (book_of now.held) l) (sym c.reserve_kept.ensures.spots) (u.is.placed told)
@@ -178,7 +210,7 @@ commit-requires-clause-reserved g c =
     let was : Holdings _ = holdings_of c.self.inside in
     let now = c.make_ready.new.self in
     let ready = c.in_ok-ready.ready in
-    let u = laws.under_way g.D.Disk c.storing_has_a_basis.ensures c.args.self.now was c.self.inside.volumes now c.args.incoming ready c.self.view_is
+    let u = laws.under_way g.D.Disk c.storing_has_a_basis.ensures c.args.self.now was c.self.inside.volumes now (incoming_of c.args.taken.now c.args.digest.now c.args.same) ready c.self.view_is
     refl refl c.self.invariant c.requires.fits c.requires.not_full c.requires.digest c.requires.refers c.make_ready.ensures.journal
     c.make_ready.ensures.book c.in_ok-ready.ensures.ready in
     c.in_ok-reserve_kept.ensures.reserved ∙ ap (λ (digest : List ℕ). Some digest) (sym u.ready_is.digest)
@@ -197,8 +229,8 @@ pub returns-in_err-reserve_kept-clause-stores : goal.returns-in_err-reserve_kept
 returns-in_err-reserve_kept-clause-stores g c =
     let was : Holdings _ = holdings_of c.self.inside in
     let is : Holdings _ = record was { journal = c.self.inside.volumes.journal; book = book_of c.self.inside.volumes.held; table = c.reserve_kept.new.table; index = c.self.inside.index; spots = c.reserve_kept.new.spots.items } in
-    subst (λ (held : Holdings _). Stores g.D.Disk held is c.args.incoming.taken c.from_residual.result) c.self.view_is
-    (laws.memory_exit g.D.Disk was is refl refl refl refl refl c.args.incoming.taken c.from_residual.result c.from_residual.ensures.1)
+    subst (λ (held : Holdings _). Stores g.D.Disk held is c.args.taken.now c.from_residual.result) c.self.view_is
+    (laws.memory_exit g.D.Disk was is refl refl refl refl refl c.args.taken.now c.from_residual.result c.from_residual.ensures.1)
 
 pub invariant_of-self-in_err-ready : goal.invariant_of-self-in_err-ready
 invariant_of-self-in_err-ready g c =
@@ -210,8 +242,8 @@ pub returns-in_err-ready-clause-stores : goal.returns-in_err-ready-clause-stores
 returns-in_err-ready-clause-stores g c =
     let was : Holdings _ = holdings_of c.self.inside in
     let is : Holdings _ = record was { journal = c.make_ready.new.self.journal; book = book_of c.make_ready.new.self.held; table = c.reserve_kept.new.table; index = c.self.inside.index; spots = c.reserve_kept.new.spots.items } in
-    subst (λ (held : Holdings _). Stores g.D.Disk held is c.args.incoming.taken c.from_residual-in_err-ready.result) c.self.view_is
-    (laws.memory_exit g.D.Disk was is c.make_ready.ensures.journal c.make_ready.ensures.book refl refl refl c.args.incoming.taken c.from_residual-in_err-ready.result c.from_residual-in_err-ready.ensures.1)
+    subst (λ (held : Holdings _). Stores g.D.Disk held is c.args.taken.now c.from_residual-in_err-ready.result) c.self.view_is
+    (laws.memory_exit g.D.Disk was is c.make_ready.ensures.journal c.make_ready.ensures.book refl refl refl c.args.taken.now c.from_residual-in_err-ready.result c.from_residual-in_err-ready.ensures.1)
 
 pub invariant_of-self-in_err-entry : goal.invariant_of-self-in_err-entry
 invariant_of-self-in_err-entry g c =
@@ -223,8 +255,8 @@ pub returns-in_err-entry-clause-stores : goal.returns-in_err-entry-clause-stores
 returns-in_err-entry-clause-stores g c =
     let was : Holdings _ = holdings_of c.self.inside in
     let is : Holdings _ = record was { journal = c.make_ready.new.self.journal; book = book_of c.make_ready.new.self.held; table = c.reserve_kept.new.table; index = c.self.inside.index; spots = c.reserve_kept.new.spots.items } in
-    subst (λ (held : Holdings _). Stores g.D.Disk held is c.args.incoming.taken c.from_residual-in_err-entry.result) c.self.view_is
-    (laws.memory_exit g.D.Disk was is c.make_ready.ensures.journal c.make_ready.ensures.book refl refl refl c.args.incoming.taken c.from_residual-in_err-entry.result c.from_residual-in_err-entry.ensures.1)
+    subst (λ (held : Holdings _). Stores g.D.Disk held is c.args.taken.now c.from_residual-in_err-entry.result) c.self.view_is
+    (laws.memory_exit g.D.Disk was is c.make_ready.ensures.journal c.make_ready.ensures.book refl refl refl c.args.taken.now c.from_residual-in_err-entry.result c.from_residual-in_err-entry.ensures.1)
 
 pub invariant_of-self-in_err-enter : goal.invariant_of-self-in_err-enter
 invariant_of-self-in_err-enter g c =
@@ -236,17 +268,21 @@ pub returns-in_err-enter-clause-stores : goal.returns-in_err-enter-clause-stores
 returns-in_err-enter-clause-stores g c =
     let was : Holdings _ = holdings_of c.self.inside in
     let is : Holdings _ = record was { journal = c.make_ready.new.self.journal; book = book_of c.make_ready.new.self.held; table = c.reserve_kept.new.table; index = c.enter.new.index; spots = c.reserve_kept.new.spots.items } in
-    subst (λ (held : Holdings _). Stores g.D.Disk held is c.args.incoming.taken c.from_residual-in_err-enter.result) c.self.view_is
-    (laws.memory_exit g.D.Disk was is c.make_ready.ensures.journal c.make_ready.ensures.book c.in_err-enter.ensures.refused refl refl c.args.incoming.taken c.from_residual-in_err-enter.result c.from_residual-in_err-enter.ensures.1)
+    subst (λ (held : Holdings _). Stores g.D.Disk held is c.args.taken.now c.from_residual-in_err-enter.result) c.self.view_is
+    (laws.memory_exit g.D.Disk was is c.make_ready.ensures.journal c.make_ready.ensures.book c.in_err-enter.ensures.refused refl refl c.args.taken.now c.from_residual-in_err-enter.result c.from_residual-in_err-enter.ensures.1)
 
 pub invariant_of-self-in-Err : goal.invariant_of-self-in-Err
 invariant_of-self-in-Err g c =
     let was : Holdings _ = holdings_of c.self.inside in
     let now = c.make_ready.new.self in
     let ready = c.in_ok-ready.ready in
-    let u = laws.under_way g.D.Disk c.storing_has_a_basis.ensures c.args.self.now was c.self.inside.volumes now c.args.incoming ready c.self.view_is
+    let u = laws.under_way g.D.Disk c.storing_has_a_basis.ensures c.args.self.now was c.self.inside.volumes now (incoming_of c.args.taken.now c.args.digest.now c.args.same) ready c.self.view_is
     refl refl c.self.invariant c.requires.fits c.requires.not_full c.requires.digest c.requires.refers c.make_ready.ensures.journal
     c.make_ready.ensures.book c.in_ok-ready.ensures.ready in
+    let is : c.as_slice-2.result.now ≡ (stored_in ready.stored).head =
+    c.as_slice-2.ensures ∙ sym (ap (λ (s : Stored). s.head) u.ready_is.stored) in
+    let enters : (h : ResponseHead) → IsResponseHeadText (stored_in ready.stored).head h → EntersAs (stored_in ready.stored) h c.record_at-at.result c.in_ok-entry.entry =
+    λ h reads. c.in_ok-entry.ensures h (subst (λ (t : List ℕ). IsResponseHeadText t h) (sym is) reads) in
     let many : c.len-number.result ≡ length c.self.inside.spots.items = search rules in
     let count : c.len-number.result ≡ length (captures was.book) = many ∙ c.self.invariant.spots.count in
     let number : c.len-number.result ≡ length (captures (book_of now.held)) =
@@ -254,8 +290,8 @@ invariant_of-self-in-Err g c =
     let back = c.take_back.ensures
     ∙ ap (λ (l : List Facts). without c.len-number.result l) c.in_ok-enter.ensures.entered
     ∙ ap (λ (k : ℕ). without k (entered c.in_ok-entry.entry was.index)) number in
-    laws.refused_archive g.D.Disk c.storing_has_a_basis.ensures was now c.args.incoming ready u c.record_at.result c.len-number.result
-    c.record_at.ensures number c.in_ok-entry.entry c.in_ok-entry.ensures (disk_laws g)
+    laws.refused_archive g.D.Disk c.storing_has_a_basis.ensures was now (incoming_of c.args.taken.now c.args.digest.now c.args.same) ready u c.record_at-at.result c.len-number.result
+    c.record_at-at.ensures number c.in_ok-entry.entry enters (disk_laws g)
     c.commit.new.self.journal (book_of c.commit.new.self.held) c.commit.new.table c.take_back.new.self c.commit.new.spots.items
     c.commit.ensures.holds c.commit.ensures.measured c.commit.ensures.table c.commit.ensures.spots c.commit.ensures.placed c.commit.ensures.others
     c.in-Err.ensures.left back
@@ -265,9 +301,13 @@ returns-in-Err-clause-stores g c =
     let was : Holdings _ = holdings_of c.self.inside in
     let now = c.make_ready.new.self in
     let ready = c.in_ok-ready.ready in
-    let u = laws.under_way g.D.Disk c.storing_has_a_basis.ensures c.args.self.now was c.self.inside.volumes now c.args.incoming ready c.self.view_is
+    let u = laws.under_way g.D.Disk c.storing_has_a_basis.ensures c.args.self.now was c.self.inside.volumes now (incoming_of c.args.taken.now c.args.digest.now c.args.same) ready c.self.view_is
     refl refl c.self.invariant c.requires.fits c.requires.not_full c.requires.digest c.requires.refers c.make_ready.ensures.journal
     c.make_ready.ensures.book c.in_ok-ready.ensures.ready in
+    let is : c.as_slice-2.result.now ≡ (stored_in ready.stored).head =
+    c.as_slice-2.ensures ∙ sym (ap (λ (s : Stored). s.head) u.ready_is.stored) in
+    let enters : (h : ResponseHead) → IsResponseHeadText (stored_in ready.stored).head h → EntersAs (stored_in ready.stored) h c.record_at-at.result c.in_ok-entry.entry =
+    λ h reads. c.in_ok-entry.ensures h (subst (λ (t : List ℕ). IsResponseHeadText t h) (sym is) reads) in
     let many : c.len-number.result ≡ length c.self.inside.spots.items = search rules in
     let count : c.len-number.result ≡ length (captures was.book) = many ∙ c.self.invariant.spots.count in
     let number : c.len-number.result ≡ length (captures (book_of now.held)) =
@@ -284,9 +324,9 @@ returns-in-Err-clause-stores g c =
       index = c.take_back.new.self;
       spots = c.commit.new.spots.items;
     } in
-    subst (λ (held : Holdings _). Stores g.D.Disk held is c.args.incoming.taken (Err stores.DiskFault)) same
-    (laws.refused_stores g.D.Disk c.storing_has_a_basis.ensures was now c.args.incoming ready u c.record_at.result c.len-number.result
-    c.record_at.ensures number c.in_ok-entry.entry c.in_ok-entry.ensures (disk_laws g)
+    subst (λ (held : Holdings _). Stores g.D.Disk held is c.args.taken.now (Err stores.DiskFault)) same
+    (laws.refused_stores g.D.Disk c.storing_has_a_basis.ensures was now (incoming_of c.args.taken.now c.args.digest.now c.args.same) ready u c.record_at-at.result c.len-number.result
+    c.record_at-at.ensures number c.in_ok-entry.entry enters (disk_laws g)
     c.commit.new.self.journal (book_of c.commit.new.self.held) c.commit.new.table c.take_back.new.self c.commit.new.spots.items
     c.commit.ensures.holds c.commit.ensures.measured c.commit.ensures.table c.commit.ensures.spots c.commit.ensures.placed c.commit.ensures.others
     c.in-Err.ensures.left back c.in-Err.field-0 c.in-Err.ensures.writes c.in-Err.ensures.faults)
@@ -296,7 +336,7 @@ overflow_add-self g c =
     omega (
       arith,
       c.revisits_in.ensures,
-      laws.revisits_few g.D.Disk (holdings_of c.self.inside) (is_some c.args.incoming.same) c.self.invariant,
+      laws.revisits_few g.D.Disk (holdings_of c.self.inside) (is_some c.args.same) c.self.invariant,
     )
 
 pub invariant_of-self-in-Ok : goal.invariant_of-self-in-Ok
@@ -304,16 +344,20 @@ invariant_of-self-in-Ok g c =
     let was : Holdings _ = holdings_of c.self.inside in
     let now = c.make_ready.new.self in
     let ready = c.in_ok-ready.ready in
-    let u = laws.under_way g.D.Disk c.storing_has_a_basis.ensures c.args.self.now was c.self.inside.volumes now c.args.incoming ready c.self.view_is
+    let u = laws.under_way g.D.Disk c.storing_has_a_basis.ensures c.args.self.now was c.self.inside.volumes now (incoming_of c.args.taken.now c.args.digest.now c.args.same) ready c.self.view_is
     refl refl c.self.invariant c.requires.fits c.requires.not_full c.requires.digest c.requires.refers c.make_ready.ensures.journal
     c.make_ready.ensures.book c.in_ok-ready.ensures.ready in
+    let is : c.as_slice-2.result.now ≡ (stored_in ready.stored).head =
+    c.as_slice-2.ensures ∙ sym (ap (λ (s : Stored). s.head) u.ready_is.stored) in
+    let enters : (h : ResponseHead) → IsResponseHeadText (stored_in ready.stored).head h → EntersAs (stored_in ready.stored) h c.record_at-at.result c.in_ok-entry.entry =
+    λ h reads. c.in_ok-entry.ensures h (subst (λ (t : List ℕ). IsResponseHeadText t h) (sym is) reads) in
     let many : c.len-number.result ≡ length c.self.inside.spots.items = search rules in
     let count : c.len-number.result ≡ length (captures was.book) = many ∙ c.self.invariant.spots.count in
     let number : c.len-number.result ≡ length (captures (book_of now.held)) =
     count ∙ sym (ap (λ (b : Book). length (captures b)) c.make_ready.ensures.book) in
     let more = ap (λ (k : ℕ). c.self.inside.revisits + k) c.revisits_in.ensures in
-    laws.stored_archive g.D.Disk c.storing_has_a_basis.ensures was now c.args.incoming ready u c.record_at.result c.len-number.result
-    c.record_at.ensures number c.in_ok-entry.entry c.in_ok-entry.ensures (disk_laws g)
+    laws.stored_archive g.D.Disk c.storing_has_a_basis.ensures was now (incoming_of c.args.taken.now c.args.digest.now c.args.same) ready u c.record_at-at.result c.len-number.result
+    c.record_at-at.ensures number c.in_ok-entry.entry enters (disk_laws g)
     c.commit.new.self.journal (book_of c.commit.new.self.held) c.commit.new.table c.enter.new.index c.commit.new.spots.items
     c.commit.ensures.holds c.commit.ensures.measured c.commit.ensures.table c.commit.ensures.spots c.commit.ensures.placed c.commit.ensures.others
     (c.self.inside.revisits + c.revisits_in.result) c.in-Ok.ensures.stored c.in_ok-enter.ensures.entered c.enter.ensures.indexed more
@@ -323,9 +367,13 @@ returns-in-Ok-clause-stores g c =
     let was : Holdings _ = holdings_of c.self.inside in
     let now = c.make_ready.new.self in
     let ready = c.in_ok-ready.ready in
-    let u = laws.under_way g.D.Disk c.storing_has_a_basis.ensures c.args.self.now was c.self.inside.volumes now c.args.incoming ready c.self.view_is
+    let u = laws.under_way g.D.Disk c.storing_has_a_basis.ensures c.args.self.now was c.self.inside.volumes now (incoming_of c.args.taken.now c.args.digest.now c.args.same) ready c.self.view_is
     refl refl c.self.invariant c.requires.fits c.requires.not_full c.requires.digest c.requires.refers c.make_ready.ensures.journal
     c.make_ready.ensures.book c.in_ok-ready.ensures.ready in
+    let is : c.as_slice-2.result.now ≡ (stored_in ready.stored).head =
+    c.as_slice-2.ensures ∙ sym (ap (λ (s : Stored). s.head) u.ready_is.stored) in
+    let enters : (h : ResponseHead) → IsResponseHeadText (stored_in ready.stored).head h → EntersAs (stored_in ready.stored) h c.record_at-at.result c.in_ok-entry.entry =
+    λ h reads. c.in_ok-entry.ensures h (subst (λ (t : List ℕ). IsResponseHeadText t h) (sym is) reads) in
     let many : c.len-number.result ≡ length c.self.inside.spots.items = search rules in
     let count : c.len-number.result ≡ length (captures was.book) = many ∙ c.self.invariant.spots.count in
     let number : c.len-number.result ≡ length (captures (book_of now.held)) =
@@ -340,10 +388,10 @@ returns-in-Ok-clause-stores g c =
       spots = c.commit.new.spots.items;
       revisits = c.self.inside.revisits + c.revisits_in.result;
     } in
-    let receipt : Receipt = record { number = c.len-number.result; same_as = c.args.incoming.same } in
-    subst (λ (held : Holdings _). Stores g.D.Disk held is c.args.incoming.taken (Ok receipt)) same
-    (laws.stored_stores g.D.Disk c.storing_has_a_basis.ensures was now c.args.incoming ready u c.record_at.result c.len-number.result
-    c.record_at.ensures number c.in_ok-entry.entry c.in_ok-entry.ensures (disk_laws g)
+    let receipt : Receipt = record { number = c.len-number.result; same_as = c.args.same } in
+    subst (λ (held : Holdings _). Stores g.D.Disk held is c.args.taken.now (Ok receipt)) same
+    (laws.stored_stores g.D.Disk c.storing_has_a_basis.ensures was now (incoming_of c.args.taken.now c.args.digest.now c.args.same) ready u c.record_at-at.result c.len-number.result
+    c.record_at-at.ensures number c.in_ok-entry.entry enters (disk_laws g)
     c.commit.new.self.journal (book_of c.commit.new.self.held) c.commit.new.table c.enter.new.index c.commit.new.spots.items
     c.commit.ensures.holds c.commit.ensures.measured c.commit.ensures.table c.commit.ensures.spots c.commit.ensures.placed c.commit.ensures.others
     (c.self.inside.revisits + c.revisits_in.result) c.in-Ok.ensures.stored c.in_ok-enter.ensures.entered

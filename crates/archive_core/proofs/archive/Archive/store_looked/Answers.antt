@@ -14,7 +14,7 @@ disk_laws g = record { earlier = g.met.D.Disk.earlier; now_counts = g.met.D.Disk
 
 pub returns-in_err-same-clause-stores : goal.returns-in_err-same-clause-stores
 returns-in_err-same-clause-stores g c =
-    fault_exit g.D.Disk (disk_laws g) c.args.self.now c.same_of.new.self c.args.taken c.in_err-same.field-0.0 c.from_residual.result
+    fault_exit g.D.Disk (disk_laws g) c.args.self.now c.same_of.new.self c.args.taken.now c.in_err-same.field-0.0 c.from_residual.result
     c.from_residual.ensures.1 c.in_err-same.ensures.looks c.requires.not_full c.in_err-same.ensures.refers c.in_err-same.ensures.faults
 
 pub store_compared-requires-clause-not_full : goal.store_compared-requires-clause-not_full
@@ -23,7 +23,7 @@ store_compared-requires-clause-not_full g c =
 
 pub returns-clause-stores : goal.returns-clause-stores
 returns-clause-stores g c =
-    stores_after g.D.Disk (disk_laws g) c.args.self.now c.same_of.new.self c.store_compared.new.self c.args.taken c.store_compared.result
+    stores_after g.D.Disk (disk_laws g) c.args.self.now c.same_of.new.self c.store_compared.new.self c.args.taken.now c.store_compared.result
     c.in_ok-same.ensures.looks c.in_ok-same.ensures.faults c.store_compared.ensures.stores
 
 pub returns-in_err-same-clause-since : goal.returns-in_err-same-clause-since

@@ -15,23 +15,23 @@ disk_laws g = record { earlier = g.met.D.Disk.earlier; now_counts = g.met.D.Disk
 
 pub returns-in_err-check_room : goal.returns-in_err-check_room
 returns-in_err-check_room g c =
-    full_exit g.D.Disk (disk_laws g) c.args.self.now c.args.taken c.in_err-check_room.field-0.0 c.from_residual.result c.from_residual.ensures.1
+    full_exit g.D.Disk (disk_laws g) c.args.self.now c.args.taken.now c.in_err-check_room.field-0.0 c.from_residual.result c.from_residual.ensures.1
     c.in_err-check_room.ensures
 
 pub returns-in_err-payload : goal.returns-in_err-payload
 returns-in_err-payload g c =
-    memory_exit g.D.Disk c.args.self.now c.args.self.now refl refl refl refl refl c.args.taken c.from_residual-in_err-payload.result
+    memory_exit g.D.Disk c.args.self.now c.args.self.now refl refl refl refl refl c.args.taken.now c.from_residual-in_err-payload.result
     c.from_residual-in_err-payload.ensures.1
 
 pub same_by-requires-clause-payload : goal.same_by-requires-clause-payload
-same_by-requires-clause-payload g c = subst (Has c.args.taken) (sym c.as_slice-bytes.ensures) c.in_ok-payload.ensures
+same_by-requires-clause-payload g c = subst (Has c.args.taken.now) (sym c.as_slice-bytes.ensures) c.in_ok-payload.ensures
 
 pub same_by-requires-clause-right : goal.same_by-requires-clause-right
 same_by-requires-clause-right g c = c.none.ensures.right g.D.Disk.tells c.args.self.now.book c.as_slice-bytes.result.now
 
 pub returns-in_err-same : goal.returns-in_err-same
 returns-in_err-same g c =
-    fault_exit g.D.Disk (disk_laws g) c.args.self.now c.same_by.new.self c.args.taken c.in_err-same.field-0.0 c.from_residual-in_err-same.result
+    fault_exit g.D.Disk (disk_laws g) c.args.self.now c.same_by.new.self c.args.taken.now c.in_err-same.field-0.0 c.from_residual-in_err-same.result
     c.from_residual-in_err-same.ensures.1 c.in_err-same.ensures.looks c.in_ok-check_room.ensures c.in_err-same.ensures.refers
     c.in_err-same.ensures.faults
 
@@ -41,10 +41,10 @@ store_compared-requires-clause-not_full g c =
 
 pub store_compared-requires-clause-digest : goal.store_compared-requires-clause-digest
 store_compared-requires-clause-digest g c =
-    digest_by c.wires_have_one_payload.ensures.one c.args.taken c.payload_digest-digest.result c.as_slice-bytes.result.now (subst (Has c.args.taken) (sym c.as_slice-bytes.ensures) c.in_ok-payload.ensures)
+    digest_by c.wires_have_one_payload.ensures.one c.args.taken.now c.payload_digest-digest.result c.as_slice-bytes.result.now (subst (Has c.args.taken.now) (sym c.as_slice-bytes.ensures) c.in_ok-payload.ensures)
     c.payload_digest-digest.ensures
 
 pub returns : goal.returns
 returns g c =
-    stores_after g.D.Disk (disk_laws g) c.args.self.now c.same_by.new.self c.store_compared.new.self c.args.taken c.store_compared.result
+    stores_after g.D.Disk (disk_laws g) c.args.self.now c.same_by.new.self c.store_compared.new.self c.args.taken.now c.store_compared.result
     c.in_ok-same.ensures.looks c.in_ok-same.ensures.faults c.store_compared.ensures.stores

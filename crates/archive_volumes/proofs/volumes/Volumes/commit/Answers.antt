@@ -2,10 +2,11 @@ use Rattle.std.proofs.Common.{rules, ◌≡◌, ◌+◌, List, ℕ, ap, ◌∙�
 use Rattle.warc_journal.specs.Journals.{disk_of, texts}
 use Rattle.warc_journal.specs.Texts.{with_more}
 use Rattle.warc_journal.specs.declared.place.Place.{Place}
-use Rattle.archive_volumes.specs.Held.{book_of}
+use Rattle.archive_volumes.specs.Held.{book_of, stored_in}
 use Rattle.archive_volumes.specs.Ready.{book_with, room_of, spot_in}
 use Rattle.archive_volumes.specs.Spots.{spot_of}
 use Rattle.archive_volumes.specs.Writing.{texts_with}
+use Rattle.archive_volumes.specs.declared.spot.Spot.{Spot}
 use Rattle.archive_volumes.proofs.ChangeLaws.{DiskLaws}
 use Rattle.archive_volumes.proofs.KeepLaws.{kept_placed, kept_spots, placed_left, spots_left}
 use Rattle.archive_volumes.proofs.StoreLaws.{writes_refused}
@@ -34,18 +35,22 @@ returns-in_err-place-clause-writes g c =
 
 pub returns-clause-spots : goal.returns-clause-spots
 returns-clause-spots g c =
-    let is_spot : c.of-spot.result ≡ spot_in c.args.self.now c.args.ready =
-    c.of-spot.ensures ∙ ap (λ (p : Place). spot_of c.args.ready.stored c.args.ready.digest p.volume (p.at + c.args.ready.layout.head_at)) c.in_ok-place.ensures.place in
-    kept_spots g.D.Disk c.args.self.now c.args.ready c.requires.ready (book_of c.write.new.self.held) c.args.spots.now.items c.keep.new.spots.items c.of-spot.result
+    let is_spot : c.standing-spot.result ≡ spot_in c.args.self.now c.args.ready =
+    c.standing-spot.ensures
+    ∙ ap (λ (s : Spot). record s { volume = c.in_ok-place.place.volume; head_at = c.in_ok-place.place.at + c.args.ready.layout.head_at }) c.requires.ready.kept
+    ∙ ap (λ (p : Place). spot_of (stored_in c.args.ready.stored) c.args.ready.digest p.volume (p.at + c.args.ready.layout.head_at)) c.in_ok-place.ensures.place in
+    kept_spots g.D.Disk c.args.self.now c.args.ready c.requires.ready (book_of c.write.new.self.held) c.args.spots.now.items c.keep.new.spots.items c.standing-spot.result
     c.requires.spots c.in_ok-place.ensures.stored c.keep.ensures.spots is_spot
 
 pub returns-clause-placed : goal.returns-clause-placed
 returns-clause-placed g c told =
-    let is_spot : c.of-spot.result ≡ spot_in c.args.self.now c.args.ready =
-    c.of-spot.ensures ∙ ap (λ (p : Place). spot_of c.args.ready.stored c.args.ready.digest p.volume (p.at + c.args.ready.layout.head_at)) c.in_ok-place.ensures.place in
+    let is_spot : c.standing-spot.result ≡ spot_in c.args.self.now c.args.ready =
+    c.standing-spot.ensures
+    ∙ ap (λ (s : Spot). record s { volume = c.in_ok-place.place.volume; head_at = c.in_ok-place.place.at + c.args.ready.layout.head_at }) c.requires.ready.kept
+    ∙ ap (λ (p : Place). spot_of (stored_in c.args.ready.stored) c.args.ready.digest p.volume (p.at + c.args.ready.layout.head_at)) c.in_ok-place.ensures.place in
     let given : c.as_slice.result.now ≡ c.args.ready.group = search rules in
     let all : List (List ℕ) = texts_with (texts g.D.Disk c.args.self.now.journal) c.args.ready.prepared in
     kept_placed g.D.Disk c.args.self.now c.args.ready c.requires.ready told (texts g.D.Disk c.write.new.self.journal) (book_of c.write.new.self.held)
-    c.args.spots.now.items c.keep.new.spots.items c.of-spot.result c.requires.spots (c.requires.placed told)
+    c.args.spots.now.items c.keep.new.spots.items c.standing-spot.result c.requires.spots (c.requires.placed told)
     (c.in_ok-place.ensures.text told ∙ ap (λ (t : List ℕ). with_more all t) given)
     c.in_ok-place.ensures.stored c.keep.ensures.spots is_spot
