@@ -1,7 +1,10 @@
-//! Calls over WARC files of other tools, by name: their records. The answer is a text.
+//! Calls over WARC files of other tools, by name: their records, and what an import makes of these. The answer is a text.
 #![tactic(auto)]
 
+mod captures;
+
 use capture::{Memory, put_all, put_number};
+use captures::captures_shown;
 use case_texts::{Call, always, told};
 use std::alloc::Global;
 use warc_reader::{Record, RecordFault, read_record};
@@ -20,6 +23,7 @@ pub fn answer(alloc: Global, call: &Call) -> Result<Option<Vec<u8>>, Memory> {
     match call.name {
         "foreign_record" => always(record_shown(alloc, text)),
         "foreign_file" => always(file_shown(alloc, text)),
+        "foreign_captures" => always(captures_shown(alloc, text)),
         _ => Ok(None),
     }
 }
