@@ -7,7 +7,7 @@ use capture::{Bytes, Memory, put_all, put_number};
 use case_language::split_word;
 use case_messages::{fault_shown, received};
 use case_texts::{site_of, told};
-use exchange::{Aim, AimFault, Target, aim_of, client_text, forward_text};
+use exchange::{Aim, AimFault, Target, aim_of, forward_text, put_client_head};
 use http_head::{RequestHead, read_request_head};
 use http_wire::{Received, RequestMessage, read_request};
 use message_body::{PayloadFault, payload_in};
@@ -114,7 +114,10 @@ fn client_shown(
         Err(PayloadFault::Memory) => return Err(Memory),
         Err(PayloadFault::Malformed) => return told(alloc, b"Malformed"),
     };
-    let text = client_text(alloc, response, payload.as_slice(), answers_head, closes)?;
+    let mut text = Vec::new(alloc);
+    let len = payload.as_slice().len() as u64;
+    put_client_head(alloc, &mut text, response, len, answers_head, closes)?;
+    put_all(&mut text, payload.as_slice())?;
     told(alloc, text.as_slice())
 }
 

@@ -106,17 +106,21 @@ told_length_line Chunked = []
 told_length_line ToEnd = []
 
 -- the length of a response, where it has one: of a whole one that of its payload, of one that was cut what it told
-unfoldable pub length_line_unless : Bool → Bool → Framing → List ℕ → List ℕ
-length_line_unless without cut framing payload =
-    if without then [] else (if cut then told_length_line framing else length_line (length payload))
+unfoldable pub length_line_unless : Bool → Bool → Framing → ℕ → List ℕ
+length_line_unless without cut framing len =
+    if without then [] else (if cut then told_length_line framing else length_line len)
 
--- what the client gets of an origin's response with this payload; one that was cut closes the connection
-unfoldable pub answered : Received → List ℕ → Bool → Bool → List ℕ
-answered received payload answers_head closes =
+-- the head of what the client gets of an origin's response, whose payload is so long; one that was cut closes the connection
+unfoldable pub answered_head : Received → ℕ → Bool → Bool → List ℕ
+answered_head received len answers_head closes =
     status_line received.head.status received.head.reason
     ++ client_lines (keeps_length answers_head received.head.status) (map named_value received.head.fields)
     ++ via_line (minor_of received.head.version)
     ++ cut_line_where received.cut
-    ++ length_line_unless (has_no_length answers_head received.head.status) received.cut received.framing payload
+    ++ length_line_unless (has_no_length answers_head received.head.status) received.cut received.framing len
     ++ close_line_where (received.cut || closes)
-    ++ crlf_bytes ++ payload
+    ++ crlf_bytes
+
+-- what the client gets of it: the payload stands behind the head
+abbrev pub answered : Received → List ℕ → Bool → Bool → List ℕ
+answered received payload answers_head closes = answered_head received (length payload) answers_head closes ++ payload

@@ -1,58 +1,45 @@
-//! The origin's response as the client gets it.
-ghost use Rattle.std.specs.Prelude.{◌≡◌, ◌++◌, OnOk, IfOk};
-ghost use Rattle.capture.specs.Payload.{IsPayload};
+//! The head of the origin's response as the client gets it.
+ghost use Rattle.std.specs.Prelude.{◌≡◌, ◌++◌, OnOk};
 ghost use Rattle.http_wire.specs.Messages.{IsOneResponse};
 ghost use Rattle.exchange.specs.Texts as spec;
-ghost use Rattle.exchange.specs.Texts.{answered, length_line_unless, told_length_line};
+ghost use Rattle.exchange.specs.Texts.{answered_head, length_line_unless, told_length_line};
 
 use crate::filter::put_client_fields;
 use crate::lines::{put_cut_line, put_via_line};
-use capture::{Bytes, Framing, Memory, put_all};
+use capture::{Framing, Memory};
 use head_lines::{
     put_close_line_where, put_length_line, put_line_end, put_status_line, tells_no_length,
 };
 use http_head::Received;
 use std::alloc::Global;
 
-/// More than what the proxy adds to a head.
-const ADDED: usize = 256;
-
-/// The text that the client gets of a response, whole or cut (RFC 9110, section 7.6), whose wire has this payload,
-/// where the request was HEAD or not, and where the connection closes after it or not.
-#[tactic(auto, unfolding(crate::specs::Texts::answered))]
-pub fn client_text(
+/// Puts the head of what the client gets of a response, whole or cut (RFC 9110, section 7.6), whose payload has this
+/// length, where the request was HEAD or not, and where the connection closes after it or not.
+#[tactic(auto, unfolding(crate::specs::Texts::answered_head))]
+pub fn put_client_head(
     alloc: Global,
+    out: &mut Vec<u8>,
     received: &Received,
-    payload: &[u8],
+    len: u64,
     answers_head: bool,
     closes: bool,
-) -> Result<Bytes, Memory>
-    requires response { IsOneResponse answers_head received.now }
-    requires payload { IsPayload received.now.cut received.now.framing received.now.wire payload.now }
-    ensures { IfOk result (λ text. text ≡ answered received.now payload.now answers_head closes) }
+) -> Result<(), Memory>
+    requires { IsOneResponse answers_head received.now }
+    ensures { OnOk result (out.new.items ≡ out.old.items ++ answered_head received.now len answers_head closes) }
 {
     let head = &received.head;
-    let capacity = head.text.as_slice().len().saturating_add(payload.len());
-    let mut out = Vec::with_capacity(alloc, capacity.saturating_add(ADDED))?;
-    put_status_line(&mut out, head.status, head.reason.as_slice())?;
+    put_status_line(out, head.status, head.reason.as_slice())?;
     put_client_fields(
         alloc,
-        &mut out,
+        out,
         head.fields.as_slice(),
         keeps_length(answers_head, head.status),
     )?;
-    put_via_line(&mut out, head.version)?;
-    put_cut_line(&mut out, received.cut)?;
-    put_length_unless(
-        &mut out,
-        has_no_length(answers_head, head.status),
-        received,
-        payload,
-    )?;
-    put_close_line_where(&mut out, received.cut || closes)?;
-    put_line_end(&mut out)?;
-    put_all(&mut out, payload)?;
-    Ok(Bytes::of(out))
+    put_via_line(out, head.version)?;
+    put_cut_line(out, received.cut)?;
+    put_length_unless(out, has_no_length(answers_head, head.status), received, len)?;
+    put_close_line_where(out, received.cut || closes)?;
+    put_line_end(out)
 }
 
 /// Whether the length that came goes on, since it is that of another response's body (RFC 9110, section 8.6).
@@ -76,9 +63,9 @@ fn put_length_unless(
     out: &mut Vec<u8>,
     without: bool,
     received: &Received,
-    payload: &[u8],
+    len: u64,
 ) -> Result<(), Memory>
-    ensures { OnOk result (out.new.items ≡ out.old.items ++ length_line_unless without received.now.cut received.now.framing payload.now) }
+    ensures { OnOk result (out.new.items ≡ out.old.items ++ length_line_unless without received.now.cut received.now.framing len) }
 {
     if without {
         return Ok(());
@@ -86,7 +73,7 @@ fn put_length_unless(
     if received.cut {
         return put_told_length(out, received.framing);
     }
-    put_length_line(out, payload.len() as u64)
+    put_length_line(out, len)
 }
 
 /// Puts the length that a response told of its body, where it told one.

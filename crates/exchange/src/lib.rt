@@ -19,7 +19,7 @@ mod window;
 
 pub use aim::{Aim, AimFault, HTTP_PORT, Target};
 pub use aiming::{aim_of, host_of};
-pub use answer::client_text;
+pub use answer::put_client_head;
 pub use fetching::{FetchFault, fetch};
 pub use filter::is_content_length;
 pub use forward::forward_text;

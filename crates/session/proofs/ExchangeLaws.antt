@@ -23,7 +23,7 @@ use Rattle.session.specs.Images.{NoDeed, deed_of}
 use Rattle.session.specs.Requests.{IsAsked, IsInterim}
 use Rattle.session.specs.Rounds.{Exchanged, closes_exchange, disk_fault, is_cut_off, numbers_by, origin_fault}
 use Rattle.session.specs.Traces.{CountsMet}
-use Rattle.session.specs.declared.answer.Answer.{Answer}
+use Rattle.session.specs.Givens.{Given}
 use Rattle.session.proofs.GainLaws.{none_met}
 use Rattle.session.proofs.StoreLaws.{images_unwritten}
 
@@ -67,7 +67,7 @@ made alone setting e incoming lacked reply times transcripts text was is asked k
 }
 
 -- what came of a request answers it
-pub comes_answers : (alone : Bool) (setting : Setting) (e : Exchange) (closes : Bool) (result : Result Answer Memory) (times : List ℕ)
+pub comes_answers : (alone : Bool) (setting : Setting) (e : Exchange) (closes : Bool) (result : Result Given Memory) (times : List ℕ)
     (transcripts : List Transcript) (was is : World)
     → (IsTrue setting.clock_tells → length is.answers < 2 ^ 64 - 1 → is.answers ≡ was.answers ++ times)
     → is.links ≡ record was.links { log = was.links.log ++ transcripts }
@@ -86,7 +86,7 @@ comes_answers alone setting e closes (Err memory) times transcripts was is answe
 
 -- a refusal, whether or not there was memory for it
 pub refused_comes : (alone : Bool) (site : Site) (e : Exchange) (refusal : Refusal) (asks closes : Bool) (around : Around)
-    (result : Result Answer Memory) (was is : Told) → asks ≡ answers_head e
+    (result : Result Given Memory) (was is : Told) → asks ≡ answers_head e
     → ((lacked : Bool) → Replies alone site e lacked (Fails refusal) around was is) → Refuses refusal asks closes result
     → Comes alone site e around closes result was is
 refused_comes alone site e refusal asks closes around (Ok answer) was is same h r = record {
@@ -98,7 +98,7 @@ refused_comes alone site e refusal asks closes around (Ok answer) was is same h 
 refused_comes alone site e refusal asks closes around (Err memory) was is same h r = (Fails refusal, h true)
 
 -- no answer, for want of memory
-pub lacking_comes : (alone : Bool) (site : Site) (e : Exchange) (closes : Bool) (around : Around) (result : Result Answer Memory)
+pub lacking_comes : (alone : Bool) (site : Site) (e : Exchange) (closes : Bool) (around : Around) (result : Result Given Memory)
     (was is : Told) → Replies alone site e true LacksReply around was is → IsErr result → Comes alone site e around closes result was is
 lacking_comes alone site e closes around (Ok answer) was is h err = let bad : ⊥ = cc in absurd bad
 lacking_comes alone site e closes around (Err memory) was is h err = (LacksReply, h)

@@ -20,7 +20,7 @@ use Rattle.session.specs.Exchanging.{Around, Asks, FailsBy, Refuses, terms_in, t
 use Rattle.session.specs.Images.{NoDeed, deed_of_failure}
 use Rattle.session.specs.Rounds.{is_disk_fault, is_origin_fault}
 use Rattle.session.specs.Traces.{CountsMet}
-use Rattle.session.specs.declared.answer.Answer.{Answer}
+use Rattle.session.specs.Givens.{Given}
 use Rattle.session.proofs.ExchangeLaws.{lacking_comes, refused_comes, untouched}
 use Rattle.session.proofs.GainLaws.{none_met}
 use Rattle.session.proofs.VisitLaws.{rose_met, stayed_met}
@@ -57,7 +57,7 @@ fetch_later before now (Err fetch_fault.Memory) h = omega (arith, h)
 
 -- ---- no response came
 
-module _ (alone : Bool) (site : Site) (e : Exchange) (closes : Bool) (date : ℕ) (result : Result Answer Memory)
+module _ (alone : Bool) (site : Site) (e : Exchange) (closes : Bool) (date : ℕ) (result : Result Given Memory)
     (old new : Links Transcript) (before now : ℕ) (shelf : Told) (earlier : IsEarlier shelf.crash) (in_range : InRange date) (asks : Bool) (same : asks ≡ answers_head e) where
   -- what holds of the one link, by how it ended
   abbrev Vain : FetchFault → Transcript → Type 0

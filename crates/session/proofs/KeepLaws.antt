@@ -30,7 +30,7 @@ use Rattle.session.specs.Exchanges.{Exchange, Fails, Fetched, HasRoom, LacksRepl
 use Rattle.session.specs.Exchanging.{Around, Comes, FollowsStore, HasCome, Keeps, PassesOn, Replies, round_of, terms_in, traces_of}
 use Rattle.session.specs.Laws.{StoredCapturesHaveTheirPayload}
 use Rattle.session.specs.Traces.{IsConsistentView, view_of}
-use Rattle.session.specs.declared.answer.Answer.{Answer}
+use Rattle.session.specs.Givens.{Given}
 use Rattle.session.proofs.ExchangeLaws.{lacking_comes, none_stored, refused_comes, untouched, unwritten}
 use Rattle.session.proofs.GainLaws.{none_met}
 use Rattle.session.proofs.StoreLaws.{images_denied, images_stored}
@@ -68,7 +68,7 @@ has_payload received method payload (stream, response) is = record {
 -- ---- the answer
 
 -- an answer behind a store closes where the request asks for it
-pub follows_close : (ready : Answer) (asks closes : Bool) (said : Result Receipt StoreFault) (result : Result Answer Memory)
+pub follows_close : (ready : Given) (asks closes : Bool) (said : Result Receipt StoreFault) (result : Result Given Memory)
     → FollowsStore ready asks closes said result → (IsTrue closes → IsTrue ready.closes)
     → IfOk result (λ answer. IsTrue closes → IsTrue answer.closes)
 follows_close ready asks closes (Ok receipt) (Ok answer) same h = λ c. let e : answer.closes ≡ ready.closes = cc in e ∙ h c
@@ -83,7 +83,7 @@ or_behind true b e = refl
 or_behind false b e = e
 
 -- the answer that passes a response on closes where the request asks for it
-pub passes_close : (received : Received) (asks closes : Bool) (ready : Answer) → PassesOn received asks closes ready → IsTrue closes → IsTrue ready.closes
+pub passes_close : (received : Received) (asks closes : Bool) (ready : Given) → PassesOn received asks closes ready → IsTrue closes → IsTrue ready.closes
 passes_close received asks closes ready h c = h.closes_is ∙ or_behind received.cut closes c
 
 -- what is shown stays consistent, by a disk that tells as it told
@@ -277,7 +277,7 @@ module _ (alone : Bool) (site : Site) (e : Exchange) (closes : Bool) (date : ℕ
 
   -- ---- by what the store said
 
-  by_said : (ready : Answer) (asks : Bool) (said : Result Receipt StoreFault) (result : Result Answer Memory) (was is : Told)
+  by_said : (ready : Given) (asks : Bool) (said : Result Receipt StoreFault) (result : Result Given Memory) (was is : Told)
       → StoredCapturesHaveTheirPayload → IsEarlier is.crash → asks ≡ answers_head e
       → IsOneResponse (asks_for_head e.message.head.method) received → PassesOn received asks closes ready
       → IsConsistent alone is.contents → StoresOn alone (taken_of e date received) was is said → FollowsStore ready asks closes said result
@@ -303,7 +303,7 @@ module _ (alone : Bool) (site : Site) (e : Exchange) (closes : Bool) (date : ℕ
       lacking_comes alone site e closes around result was is (unkept_reply was is earlier h) follows
 
   -- a response that was to be stored answers the request
-  pub kept_comes : (ready : Answer) (asks : Bool) (result : Result Answer Memory) (was is : Told) → StoredCapturesHaveTheirPayload
+  pub kept_comes : (ready : Given) (asks : Bool) (result : Result Given Memory) (was is : Told) → StoredCapturesHaveTheirPayload
       → IsEarlier is.crash → asks ≡ answers_head e → IsOneResponse (asks_for_head e.message.head.method) received
       → PassesOn received asks closes ready → Keeps alone (taken_of e date received) ready asks closes result was is
       → Comes alone site e around closes result was is

@@ -14,6 +14,7 @@ mod HeadLaws
 pub mod ImageLaws
 mod KeepLaws
 mod LookLaws
+mod PassLaws
 mod PayloadLaws
 mod ReadLaws
 mod RoundLaws

@@ -19,7 +19,7 @@ use Rattle.session.specs.Connection.{Setting, terms_at}
 use Rattle.session.specs.Looking.{FindsNearest, FindsAll}
 use Rattle.session.specs.Rounds.{Visited, disk_fault}
 use Rattle.session.specs.SiteAnswers.{SiteRequest, SiteReply, LacksSiteReply, IsSiteReplyBy, IsSiteText}
-use Rattle.session.specs.declared.answer.Answer.{Answer}
+use Rattle.session.specs.Givens.{Given}
 use Rattle.session.proofs.VisitLaws.{Visits, bring_lacking, one_if, seen_at, visit_answers, visit_lacked}
 
 -- the entries that are shown know the book that was seen before
@@ -46,7 +46,7 @@ found_visits alone setting q lacked reply fault was mid is h knows k met by = re
 }
 
 pub found_answers : (alone : Bool) (setting : Setting) (q : SiteRequest) (reply : SiteReply) (closes fault : Bool)
-    (result : Result Answer Memory) (was mid is : Told) → IsEarlier is.crash
+    (result : Result Given Memory) (was mid is : Told) → IsEarlier is.crash
     → LooksOn alone was mid → KnowsBook alone mid.contents → ReadsOn alone fault mid is → disk_fault (Visited q reply) ≡ one_if fault
     → ((lacked : Bool) (faults : ℕ) → IsSiteReplyBy (terms_at alone setting was) q lacked reply (seen_at mid.contents.shown faults was is))
     → IfOk result (λ answer. IsSiteText (terms_at alone setting was) q reply closes answer.text) → IfOk result (λ answer. answer.closes ≡ closes)
@@ -64,7 +64,7 @@ found_lacking alone setting q closes memory was mid is earlier h knows k incomin
 
 -- by a look alone
 pub looked_answers : (alone : Bool) (setting : Setting) (q : SiteRequest) (reply : SiteReply) (closes : Bool)
-    (result : Result Answer Memory) (was is : Told) → IsEarlier is.crash → LooksOn alone was is
+    (result : Result Given Memory) (was is : Told) → IsEarlier is.crash → LooksOn alone was is
     → KnowsBook alone is.contents → disk_fault (Visited q reply) ≡ 0
     → ((lacked : Bool) (faults : ℕ) → IsSiteReplyBy (terms_at alone setting was) q lacked reply (seen_at is.contents.shown faults was is))
     → IfOk result (λ answer. IsSiteText (terms_at alone setting was) q reply closes answer.text) → IfOk result (λ answer. answer.closes ≡ closes)

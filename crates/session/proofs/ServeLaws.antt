@@ -15,7 +15,7 @@ use Rattle.session.specs.Gains.{World}
 use Rattle.session.specs.Reads.{Client, HasRead, HasTaken, ReadsNone, NoMore, Breaking, Refusing, GivingUp}
 use Rattle.session.specs.Rounds.{Round, Outcome, closes, refusal_in}
 use Rattle.session.specs.Wire.{Breaks, Tries, Writes}
-use Rattle.session.specs.declared.answer.Answer.{Answer}
+use Rattle.session.specs.Givens.{Given}
 use Rattle.session.specs.declared.served.Served.{Served}
 use Rattle.session.specs.declared.served.Served.TheVariants.{Done, ClientBroke, WantOfMemory}
 use Rattle.session.proofs.CourseLaws.{or_true, part_behind, then_on}
@@ -74,7 +74,7 @@ answer_lacked alone setting from incoming to is itself same taken makes (inr bro
     })
 
 -- the answer was written in part
-pub answer_broke : (alone : Bool) (setting : Setting) (from : Stage) (incoming : Incoming) (answer : Answer) (to : Client) (is : World)
+pub answer_broke : (alone : Bool) (setting : Setting) (from : Stage) (incoming : Incoming) (answer : Given) (to : Client) (is : World)
     → BooksLeadToThemselves → incoming.served ≡ from.served → HasTaken (client_at from) incoming.wire incoming.interim to
     → IsAnswered alone setting incoming answer from.world is → Breaks answer.text to.heard is.heard
     → IsConnection alone setting from is ClientBroke
@@ -88,7 +88,7 @@ answer_broke alone setting from incoming answer to is itself same taken answered
     })
 
 -- the answer was written, and closes
-pub answer_closed : (alone : Bool) (setting : Setting) (from : Stage) (incoming : Incoming) (answer : Answer) (to : Client) (is : World)
+pub answer_closed : (alone : Bool) (setting : Setting) (from : Stage) (incoming : Incoming) (answer : Given) (to : Client) (is : World)
     → BooksLeadToThemselves → incoming.served ≡ from.served → HasTaken (client_at from) incoming.wire incoming.interim to
     → IsAnswered alone setting incoming answer from.world is → Writes answer.text to.heard is.heard → answer.closes ≡ true
     → IsConnection alone setting from is Done
@@ -106,7 +106,7 @@ answer_closed alone setting from incoming answer to is itself same taken answere
     })
 
 -- the answer was written, and the connection goes on
-pub answer_said : (alone : Bool) (setting : Setting) (from : Stage) (incoming : Incoming) (answer : Answer) (to : Client) (mid : World)
+pub answer_said : (alone : Bool) (setting : Setting) (from : Stage) (incoming : Incoming) (answer : Given) (to : Client) (mid : World)
     (is : World) (result : Served) → incoming.served ≡ from.served → HasTaken (client_at from) incoming.wire incoming.interim to
     → IsAnswered alone setting incoming answer from.world mid → Writes answer.text to.heard mid.heard → answer.closes ≡ false
     → IsConnection alone setting (record { served = from.served + 1; pending = to.pending; world = mid }) is result

@@ -25,7 +25,7 @@ use Rattle.session.specs.SiteAnswers.{SiteRequest, SiteReply, Refuses, LacksSite
 use Rattle.session.specs.Traces.{Terms, View, CountsMet}
 use Rattle.capture.specs.declared.captured.Brought.{Brought}
 use Rattle.capture.specs.declared.memory.Memory.{Memory}
-use Rattle.session.specs.declared.answer.Answer.{Answer}
+use Rattle.session.specs.Givens.{Given}
 use Rattle.session.proofs.GainLaws.{none_met}
 use Rattle.session.proofs.StoreLaws.{images_unwritten}
 
@@ -127,7 +127,7 @@ visited alone setting incoming q lacked reply shown text was is then now answers
 
 -- the reply was answered
 pub visit_answered : (alone : Bool) (setting : Setting) (incoming : Incoming) (q : SiteRequest) (reply : SiteReply) (shown : List Facts)
-    (answer : Answer) (closes : Bool) (was is : Told) (then now : Heard) (answers : List ℕ) (links : Links Transcript) (faults : ℕ)
+    (answer : Given) (closes : Bool) (was is : Told) (then now : Heard) (answers : List ℕ) (links : Links Transcript) (faults : ℕ)
     → IsEarlier is.crash → closes ≡ closes_after incoming.served q.message.head
     → IsAsked setting.site incoming.wire q.message (ToSite q.address) → IsInterim setting.site incoming.wire incoming.interim
     → Visits alone setting q false reply shown was is → answer.closes ≡ closes
@@ -166,7 +166,7 @@ visit_lacked alone setting incoming q reply shown was is then now answers links 
 
 -- the one or the other
 pub visit_answers : (alone : Bool) (setting : Setting) (q : SiteRequest) (reply : SiteReply) (shown : List Facts) (closes : Bool)
-    (result : Result Answer Memory) (was is : Told) (incoming : Incoming) (then now : Heard) (answers : List ℕ) (links : Links Transcript) (faults : ℕ)
+    (result : Result Given Memory) (was is : Told) (incoming : Incoming) (then now : Heard) (answers : List ℕ) (links : Links Transcript) (faults : ℕ)
     → IsEarlier is.crash → ((lacked : Bool) → Visits alone setting q lacked reply shown was is)
     → IfOk result (λ answer. IsSiteText (terms_at alone setting was) q reply closes answer.text) → IfOk result (λ answer. answer.closes ≡ closes)
     → closes ≡ closes_after incoming.served q.message.head
@@ -197,7 +197,7 @@ at_once alone setting q lacked reply shelf none unshown by = record {
 }
 
 -- the text of a refusal
-pub refusal_is : (result : Result Answer Memory) (refusal : Refusal) (asks head closes : Bool) → asks ≡ head
+pub refusal_is : (result : Result Given Memory) (refusal : Refusal) (asks head closes : Bool) → asks ≡ head
     → IfOk result (λ answer. answer.text ≡ refusal_text refusal asks closes) → IfOk result (λ answer. answer.text ≡ refusal_text refusal head closes)
 refusal_is (Ok answer) refusal asks head closes e h = h ∙ ap (λ (b : Bool). refusal_text refusal b closes) e
 refusal_is (Err memory) refusal asks head closes e h = tt
@@ -245,7 +245,7 @@ number_replayed terms q number brought is faults disk asks (there, replayable, n
 
 -- a request that is answered by what was brought
 pub bring_answers : (alone : Bool) (setting : Setting) (q : SiteRequest) (reply : SiteReply) (closes fault : Bool)
-    (result : Result Answer Memory) (was is : Told) → IsEarlier is.crash → ReadsOn alone fault was is
+    (result : Result Given Memory) (was is : Told) → IsEarlier is.crash → ReadsOn alone fault was is
     → disk_fault (Visited q reply) ≡ one_if fault → is_of_shown reply ≡ false
     → ((lacked : Bool) (faults : ℕ) → IsSiteReplyBy (terms_at alone setting was) q lacked reply (seen_at is.contents.shown faults was is))
     → IfOk result (λ answer. IsSiteText (terms_at alone setting was) q reply closes answer.text) → IfOk result (λ answer. answer.closes ≡ closes)
@@ -257,7 +257,7 @@ bring_answers alone setting q reply closes fault result was is earlier h met uns
 
 -- a request that is refused, or lacks memory, where the shelf wasn't called
 pub refusal_answers : (alone : Bool) (setting : Setting) (q : SiteRequest) (refusal : Refusal) (asks closes : Bool)
-    (result : Result Answer Memory) (shelf : Told) → IsEarlier shelf.crash → asks ≡ answers_head q
+    (result : Result Given Memory) (shelf : Told) → IsEarlier shelf.crash → asks ≡ answers_head q
     → disk_fault (Visited q (Refuses refusal)) ≡ 0 → is_of_shown (Refuses refusal) ≡ false
     → ((lacked : Bool) (faults : ℕ)
     → IsSiteReplyBy (terms_at alone setting shelf) q lacked (Refuses refusal) (seen_at shelf.contents.shown faults shelf shelf))

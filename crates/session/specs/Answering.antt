@@ -13,7 +13,7 @@ use Rattle.session.specs.Requests.{IsAsked, IsInterim, closes_after}
 use Rattle.session.specs.Rounds.{Outcome, closes_outcome, refusal_in}
 use Rattle.session.specs.SiteAnswers.{SiteRequest}
 use Rattle.session.specs.Traces.{Traces}
-use Rattle.session.specs.declared.answer.Answer.{Answer}
+use Rattle.session.specs.Givens.{Given}
 
 -- a request that is to be answered: how many were served before it, the client's bytes that it took, and the text that was written
 -- in the middle of them
@@ -38,17 +38,17 @@ module _ (alone : Bool) (setting : Setting) where
     pub unrefused : refusal_in outcome ≡ []
 
   -- a lawful round was made of it, whose text this is, after which the connection closes as is told
-  pub record IsAnswered (incoming : Incoming) (answer : Answer) (was is : World) : Type 0 where
+  pub record IsAnswered (incoming : Incoming) (answer : Given) (was is : World) : Type 0 where
     pub makes : MakesRound incoming false answer.text was is
     pub closes_is : closes_outcome incoming.served makes.outcome ≡ answer.closes
 
   -- what comes of a request
-  abbrev pub Answers : Incoming → Result Answer Memory → World → World → Type 0
+  abbrev pub Answers : Incoming → Result Given Memory → World → World → Type 0
   Answers incoming (Ok answer) was is = IsAnswered incoming answer was is
   Answers incoming (Err memory) was is = MakesRound incoming true memory_text was is
 
   -- what comes of a request to the site, which clock and origins don't see
-  abbrev pub AnswersVisit : SiteRequest → Bool → Result Answer Memory → Told → Told → Type 0
+  abbrev pub AnswersVisit : SiteRequest → Bool → Result Given Memory → Told → Told → Type 0
   AnswersVisit q closes result was is =
       (incoming : Incoming) (then now : Heard) (answers : List ℕ) (links : Links Transcript) (faults : ℕ)
       → closes ≡ closes_after incoming.served q.message.head

@@ -1,5 +1,5 @@
 -- What the steps of an exchange with an origin leave: the clock's answer, what the dialer's link gave, and the capture that is stored.
-use Rattle.std.specs.Prelude.{◌≡◌, ℕ, Bool, true, false, ◌||◌, List, [], ◌∷◌, ◌++◌, IsErr, IfOk, Result, Ok, Err}
+use Rattle.std.specs.Prelude.{◌≡◌, ℕ, Bool, true, false, ◌||◌, List, [], ◌∷◌, ◌++◌, IsErr, IfOk, Option, Some, None, Result, Ok, Err}
 use Rattle.archive_shelf.specs.Contents.{Leads}
 use Rattle.archive_shelf.specs.declared.fault.StoreFault.{StoreFault}
 use Rattle.archive_shelf.specs.declared.fault.StoreFault.TheVariants as store_fault
@@ -29,8 +29,11 @@ use Rattle.session.specs.Images.{KeepsImages}
 use Rattle.session.specs.Requests.{IsAsked, IsInterim, closes_after}
 use Rattle.session.specs.Rounds.{Round, Exchanged, disk_fault, is_cut_off, numbers_by, origin_fault}
 use Rattle.session.specs.Traces.{Terms, Traces, View, CountsMet, terms_of, view_of}
-use Rattle.session.specs.declared.answer.Answer.{Answer}
+use Rattle.session.specs.Givens.{Given, with_body}
 use Rattle.session.specs.declared.exchanging.Proxied.{Proxied}
+use Rattle.session.specs.declared.passing.Ready.{Ready}
+use Rattle.session.specs.declared.passing.Rest.{Rest}
+use Rattle.session.specs.declared.passing.Rest.TheVariants as rests
 
 -- the request, and the origin that it goes to
 abbrev pub exchange_of : Proxied → Exchange
@@ -39,12 +42,12 @@ exchange_of proxied = record { message = proxied.message; target = proxied.targe
 -- ---- answers
 
 -- the answer is this refusal, or there was no memory for one
-pub record Refuses (refusal : Refusal) (answers_head closes : Bool) (result : Result Answer Memory) : Type 0 where
+pub record Refuses (refusal : Refusal) (answers_head closes : Bool) (result : Result Given Memory) : Type 0 where
   pub text_is : IfOk result (λ answer. answer.text ≡ refusal_text refusal answers_head closes)
   pub closes_is : IfOk result (λ answer. answer.closes ≡ closes)
 
 -- the answer to a request of which no response came, by the reason
-abbrev pub FailsBy : FetchFault → Bool → Bool → Result Answer Memory → Type 0
+abbrev pub FailsBy : FetchFault → Bool → Bool → Result Given Memory → Type 0
 FailsBy fetch_fault.DialFault answers_head closes result = Refuses DialFault answers_head closes result
 FailsBy fetch_fault.OriginFault answers_head closes result = Refuses OriginFault answers_head closes result
 FailsBy fetch_fault.OriginEnded answers_head closes result = Refuses OriginEnded answers_head closes result
@@ -53,22 +56,32 @@ FailsBy fetch_fault.OriginTooLong answers_head closes result = Refuses OriginToo
 FailsBy fetch_fault.TooManyInterim answers_head closes result = Refuses TooManyInterim answers_head closes result
 FailsBy fetch_fault.Memory answers_head closes result = IsErr result
 
+-- what is written behind the text that is ready, by where it is kept
+abbrev pub body_of : Rest → List ℕ → Option (List ℕ)
+body_of rests.Nothing wire = None
+body_of rests.Wire wire = Some wire
+body_of (rests.Joined payload) wire = Some payload
+
 -- The answer passes the response on, with the payload of its wire. One that was cut closes the connection.
-pub record PassesOn (received : Received) (answers_head closes : Bool) (answer : Answer) : Type 0 where
+pub record PassesOn (received : Received) (answers_head closes : Bool) (answer : Given) : Type 0 where
   pub payload : List ℕ
   pub payload_is : IsPayload received.cut received.framing received.wire payload
   pub text_is : answer.text ≡ answered received payload answers_head (received.cut || closes)
   pub closes_is : answer.closes ≡ (received.cut || closes)
 
+-- the answer that is ready, once the wire is free to be written
+abbrev pub given_of : Ready → List ℕ → Given
+given_of ready wire = record { text = with_body ready.text (body_of ready.rest wire); closes = ready.closes }
+
 -- the answer to a request whose capture wasn't stored, by the reason
-abbrev pub TurnsDown : StoreFault → Bool → Bool → Result Answer Memory → Type 0
+abbrev pub TurnsDown : StoreFault → Bool → Bool → Result Given Memory → Type 0
 TurnsDown (store_fault.Full count limit) answers_head closes result = Refuses (Full count limit) answers_head closes result
 TurnsDown store_fault.DiskFault answers_head closes result = Refuses DiskFault answers_head closes result
 TurnsDown (store_fault.Damaged number kept found) answers_head closes result = Refuses (Damaged number kept found) answers_head closes result
 TurnsDown store_fault.Memory answers_head closes result = IsErr result
 
 -- the answer by what a store said: the one that is ready, where the capture is stored
-abbrev pub FollowsStore : Answer → Bool → Bool → Result Receipt StoreFault → Result Answer Memory → Type 0
+abbrev pub FollowsStore : Given → Bool → Bool → Result Receipt StoreFault → Result Given Memory → Type 0
 FollowsStore ready answers_head closes (Ok receipt) result = result ≡ Ok ready
 FollowsStore ready answers_head closes (Err fault) result = TurnsDown fault answers_head closes result
 
@@ -97,7 +110,7 @@ pub record Beyond : Type 1 where
   pub shelf : Told
 
 -- the capture was given to the shelf, once, and the answer follows from what that said
-pub record Keeps (alone : Bool) (taken : Taken) (ready : Answer) (answers_head closes : Bool) (result : Result Answer Memory) (was is : Told) : Type 0 where
+pub record Keeps (alone : Bool) (taken : Taken) (ready : Given) (answers_head closes : Bool) (result : Result Given Memory) (was is : Told) : Type 0 where
   pub said : Result Receipt StoreFault
   pub stores : StoresOn alone taken was is said
   pub shows : ShowsItsBook alone is
@@ -153,19 +166,19 @@ module _ (alone : Bool) (site : Site) (e : Exchange) where
         → KeepsImages (terms_in was) (round_of incoming reply lacked (traces_of around found was is) text ∷ []) was is
 
   -- the answer is the text of such a reply
-  pub record HasReply (around : Around) (closes : Bool) (answer : Answer) (was is : Told) : Type 0 where
+  pub record HasReply (around : Around) (closes : Bool) (answer : Given) (was is : Told) : Type 0 where
     pub reply : Reply
     pub replies : Replies false reply around was is
     pub text_is : answer.text ≡ reply_text e reply (is_cut_off reply || closes)
     pub closes_is : answer.closes ≡ (is_cut_off reply || closes)
 
   -- what comes of the request: the answer that is its reply, or want of memory
-  abbrev pub Comes : Around → Bool → Result Answer Memory → Told → Told → Type 0
+  abbrev pub Comes : Around → Bool → Result Given Memory → Told → Told → Type 0
   Comes around closes (Ok answer) was is = HasReply around closes answer was is
   Comes around closes (Err memory) was is = (reply : Reply) × Replies true reply around was is
 
   -- the request was answered behind the clock's answer, and the dialer's log gained the transcripts of its links
-  pub record Asks (closes : Bool) (date : ℕ) (result : Result Answer Memory) (was is : Beyond) : Type 0 where
+  pub record Asks (closes : Bool) (date : ℕ) (result : Result Given Memory) (was is : Beyond) : Type 0 where
     pub transcripts : List Transcript
     pub logged : is.links ≡ record was.links { log = was.links.log ++ transcripts }
     pub comes : Comes (record {
@@ -177,7 +190,7 @@ module _ (alone : Bool) (site : Site) (e : Exchange) where
 
 module _ (alone : Bool) (setting : Setting) where
   -- what comes of a request to an origin
-  abbrev pub AnswersProxied : Exchange → Bool → Result Answer Memory → World → World → Type 0
+  abbrev pub AnswersProxied : Exchange → Bool → Result Given Memory → World → World → Type 0
   AnswersProxied e closes result was is =
       (incoming : Incoming) → closes ≡ closes_after incoming.served e.message.head
       → IsAsked setting.site incoming.wire e.message (Origin e.target) → IsInterim setting.site incoming.wire incoming.interim

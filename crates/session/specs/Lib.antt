@@ -5,6 +5,7 @@ pub mod Endings
 pub mod Exchanges
 pub mod Exchanging
 pub mod Gains
+pub mod Givens
 pub mod Images
 pub mod Laws
 pub mod Looking

@@ -1,11 +1,77 @@
 //! An answer.
-use capture::Bytes;
+ghost use Rattle.std.specs.Prelude.{◌≡◌, IsTrue, MatchResult, OnOk, Some};
+ghost use Rattle.capture.specs.Faults.{CountsFaults};
+ghost use Rattle.outside.specs.Gate.{heard_of};
+ghost use Rattle.session.specs.Givens.{with_body};
+ghost use Rattle.session.specs.Wire.{Breaks, Writes};
 
-/// The answer to a request.
+use crate::saying::{say, say_both};
+use capture::{Bytes, Failed};
+use outside::Link;
+use std::marker::Model;
+
+/// The answer to a request. A long body isn't copied behind its head: both are written one after the other. A contract sees one
+/// text.
 #[derive(Debug, Drop)]
 pub struct Answer {
-    /// Its text, as the client gets it.
-    pub text: Bytes,
+    /// The text, or the head of a long one.
+    head: Bytes,
+    /// What is written behind the head.
+    body: Option<Bytes>,
     /// Whether the connection closes behind it.
-    pub closes: bool,
+    closes: bool,
+}
+
+impl Model for Answer {
+    ghost use Rattle.session.specs.Givens.{Given, with_body};
+
+    ghost Value = { Given };
+
+    ghost view = { λ a. record { text = with_body a.head a.body; closes = a.closes } };
+}
+
+impl Answer {
+    /// The answer with this text.
+    pub fn of(text: Bytes, closes: bool) -> Answer
+        ensures { result ≡ record { text = text; closes = closes } }
+    {
+        Answer {
+            head: text,
+            body: None,
+            closes,
+        }
+    }
+
+    /// The answer with this text and a body behind it.
+    pub fn with_body(head: Bytes, body: Bytes, closes: bool) -> Answer
+        ensures { result ≡ record { text = with_body head (Some body); closes = closes } }
+    {
+        Answer {
+            head,
+            body: Some(body),
+            closes,
+        }
+    }
+
+    /// Whether the connection closes behind it.
+    pub fn closes(&self) -> bool
+        ensures { result ≡ self.now.closes }
+    {
+        self.closes
+    }
+
+    /// Writes the whole text to a client whose link is whole.
+    pub fn say<L: Link>(&self, client: &mut L) -> Result<(), Failed>
+        requires { L.faults client.old ≡ 0 }
+        ensures says { IsTrue L.tells → MatchResult result
+            (λ _. Writes self.now.text (heard_of (L.traffic client.old) (L.faults client.old)) (heard_of (L.traffic client.new) (L.faults client.new)))
+            (λ _. Breaks self.now.text (heard_of (L.traffic client.old) (L.faults client.old)) (heard_of (L.traffic client.new) (L.faults client.new))) }
+        ensures whole { OnOk result (L.faults client.new ≡ 0) }
+        ensures counts { CountsFaults (L.faults client.old) (L.faults client.new) result }
+    {
+        match &self.body {
+            Some(body) => say_both(client, self.head.as_slice(), body.as_slice()),
+            None => say(client, self.head.as_slice()),
+        }
+    }
 }

@@ -1,9 +1,7 @@
 //! Answers requests to origins: the exchange is stored, durably, before its response is passed on.
 ghost use Rattle.std.specs.Prelude.{◌≡◌, ◌≤◌, [], length, IfOk, IsTrue};
 ghost use Rattle.archive_shelf.specs.Told.{GoesOn};
-ghost use Rattle.capture.specs.Body.{IsWire};
 ghost use Rattle.capture.specs.Methods.{asks_for_head as method_asks};
-ghost use Rattle.capture.specs.Payload.{IsPayload};
 ghost use Rattle.capture.specs.declared.limits.TheConstants.{BODY_LIMIT};
 ghost use Rattle.capture.specs.declared.site.Site.{Site};
 ghost use Rattle.http_wire.specs.Messages.{IsOneResponse};
@@ -11,22 +9,19 @@ ghost use Rattle.exchange.specs.Storing.{IsForOrigin};
 ghost use Rattle.exchange.specs.Texts.{forwarded};
 ghost use Rattle.outside.specs.declared.gate.Heard.{Heard};
 ghost use Rattle.session.specs.Exchanges as spec;
-ghost use Rattle.session.specs.Exchanging.{AnswersProxied, Around, Asks, Comes, FailsBy, HasCome, Keeps, PassesOn, TurnsDown, exchange_of};
+ghost use Rattle.session.specs.Exchanging.{AnswersProxied, Around, Asks, Comes, FailsBy, HasCome, Keeps, TurnsDown, exchange_of, given_of};
 ghost use Rattle.time_text.specs.Texts.{InRange};
 ghost use Rattle.warc_text.specs.Fits.{Fits};
 
 use crate::answer::Answer;
 use crate::heads::asks_for_head;
 use crate::laws::stored_captures_have_their_payload;
+use crate::passing::{Ready, passed_on};
 use crate::refusing::refused;
 use archive_shelf::{Shelf, StoreFault};
 use capture::{Bytes, Memory, Refusal, Taken};
-use exchange::{
-    FetchFault, Target, Window, client_text, fetch, forward_text, requests_can_be_stored,
-};
-use http_wire::{
-    PayloadFault, Received, RequestHead, RequestMessage, payload_in, responses_can_be_stored,
-};
+use exchange::{FetchFault, Target, Window, fetch, forward_text, requests_can_be_stored};
+use http_wire::{Received, RequestHead, RequestMessage, responses_can_be_stored};
 use outside::{Clock, Dialer};
 use std::alloc::Global;
 use time_text::LATEST;
@@ -198,30 +193,6 @@ fn pass_on<S: Shelf>(
     )
 }
 
-/// The answer that passes a response on, whole or cut. One that was cut closes the connection.
-fn passed_on(
-    alloc: Global,
-    received: &Received,
-    answers_head: bool,
-    closes: bool,
-) -> Result<Answer, Memory>
-    requires { IsOneResponse answers_head received.now }
-    ensures { IfOk result (λ answer. PassesOn received.now answers_head closes answer) }
-{
-    let wire = received.wire.as_slice();
-    let payload = match payload_in(alloc, received.framing, wire, received.cut) {
-        Ok(payload) => payload,
-        // What was received is a wire of its framing.
-        Err(PayloadFault::Malformed) => unreachable!(),
-        Err(PayloadFault::Memory) => return Err(Memory),
-    };
-    let closes = received.cut || closes;
-    match client_text(alloc, received, payload.as_slice(), answers_head, closes) {
-        Ok(text) => Ok(Answer { text, closes }),
-        Err(Memory) => Err(Memory),
-    }
-}
-
 /// What is stored of an exchange.
 fn taken_of(sending: Sending, received: Received) -> Taken
     requires { sending.request ≡ forwarded sending.proxied.message sending.proxied.target }
@@ -262,15 +233,18 @@ fn keep<S: Shelf>(
     alloc: Global,
     shelf: &mut S,
     taken: Taken,
-    ready: Answer,
+    ready: Ready,
     answers_head: bool,
     closes: bool,
 ) -> Result<Answer, Memory>
     requires { Fits taken }
-    ensures { Keeps S.alone taken ready answers_head closes result (S.told shelf.old) (S.told shelf.new) }
+    ensures { Keeps S.alone taken (given_of ready taken.wire) answers_head closes result (S.told shelf.old) (S.told shelf.new) }
 {
     match shelf.store(alloc, &taken) {
-        Ok(_receipt) => Ok(ready),
+        Ok(_receipt) => {
+            let Taken { wire, .. } = taken;
+            Ok(ready.given(wire))
+        }
         Err(fault) => turn_down(alloc, fault, answers_head, closes),
     }
 }

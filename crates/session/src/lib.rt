@@ -7,6 +7,7 @@ mod exchanging;
 mod heads;
 mod laws;
 mod listing;
+mod passing;
 mod reading;
 mod refusing;
 mod replaying;

@@ -76,10 +76,7 @@ fn list(alloc: Global, visit: Visit, url: &[u8], entries: &[Entry]) -> Result<An
         asks_for_head(&visit.message.head),
         visit.closes,
     )?;
-    Ok(Answer {
-        text,
-        closes: visit.closes,
-    })
+    Ok(Answer::of(text, visit.closes))
 }
 
 /// The list of a URL's captures as an answer (RFC 7089, section 5), after which the connection closes or not.

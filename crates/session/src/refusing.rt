@@ -18,5 +18,5 @@ pub fn refused(
     ensures closes { IfOk result (λ answer. answer.closes ≡ closes) }
 {
     let text = refusal_text(alloc, &refusal, answers_head, closes)?;
-    Ok(Answer { text, closes })
+    Ok(Answer::of(text, closes))
 }

@@ -128,8 +128,5 @@ fn replay(alloc: Global, visit: Visit, brought: &Brought, raw: bool) -> Result<A
         asks_for_head(&visit.message.head),
         visit.closes,
     )?;
-    Ok(Answer {
-        text,
-        closes: visit.closes,
-    })
+    Ok(Answer::of(text, visit.closes))
 }

@@ -154,10 +154,7 @@ fn lead_to(
     ensures closes { IfOk result (λ answer. answer.closes ≡ visit.entry.closes) }
 {
     let text = redirect(alloc, visit.site, url, entry, raw, by_gate, visit.closes)?;
-    Ok(Answer {
-        text,
-        closes: visit.closes,
-    })
+    Ok(Answer::of(text, visit.closes))
 }
 
 /// The time that a gate is asked for, by the first field Accept-Datetime (RFC 7089, section 2.1.1).

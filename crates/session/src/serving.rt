@@ -9,7 +9,7 @@ use crate::Served;
 use crate::answering::{Ask, answer};
 use crate::heads::closes_after;
 use crate::reading::read_request;
-use crate::saying::{give_up, say};
+use crate::saying::give_up;
 use archive_shelf::{Shelf, leading_books_grow};
 use capture::{Failed, Memory, Site};
 use exchange::Window;
@@ -79,11 +79,13 @@ pub fn serve<S: Shelf, L: Link, N: Dialer, C: Clock>(
             Ok(answer) => answer,
             Err(Memory) => return give_up(client),
         };
-        match say(client, answer.text.as_slice()) {
+        match answer.say(client) {
             Ok(()) => {}
             Err(Failed) => return Served::ClientBroke,
         }
-        if answer.closes {
+        let closed = answer.closes();
+        drop(answer);
+        if closed {
             return Served::Done;
         }
         served += 1;

@@ -1,7 +1,7 @@
 -- The answer that was ready, or the refusal of the store.
 use Rattle.archive_shelf.proofs.CallLaws.{goes_on_itself, stored_goes_on}
 use Rattle.session.specs.Exchanges.{LacksReply}
-use Rattle.session.specs.Exchanging.{exchange_of}
+use Rattle.session.specs.Exchanging.{exchange_of, given_of}
 use Rattle.session.proofs.KeepLaws.{fits, follows_close, kept_comes, passes_close, unready}
 use Rattle.session.proofs.exchanging.pass_on.Goals as goal
 
@@ -25,7 +25,7 @@ returns-in-Err-clause-passes g c site around come = (
 pub returns-clause-passes : goal.returns-clause-passes
 returns-clause-passes g c site around come =
     kept_comes g.S.Finder.alone site (exchange_of c.args.sending.proxied) c.args.sending.proxied.closes c.args.sending.date c.args.received around c.requires.date come
-    c.in-Ok.ready c.asks_for_head-answers_head.result c.keep.result (g.S.Finder.told c.args.shelf.now) (g.S.Finder.told c.keep.new.shelf)
+    (given_of c.in-Ok.ready c.args.received.wire) c.asks_for_head-answers_head.result c.keep.result (g.S.Finder.told c.args.shelf.now) (g.S.Finder.told c.keep.new.shelf)
     c.stored_captures_have_their_payload.ensures (g.met.S.Finder.earlier c.keep.new.shelf)
     c.asks_for_head-answers_head.ensures c.requires.response c.in-Ok.ensures (rw c.taken_of.ensures at c.keep.ensures)
 
@@ -39,5 +39,6 @@ returns-clause-goes_on g c =
 
 pub returns-clause-closes : goal.returns-clause-closes
 returns-clause-closes g c =
-    follows_close c.in-Ok.ready c.asks_for_head-answers_head.result c.args.sending.proxied.closes c.keep.ensures.said c.keep.result c.keep.ensures.follows
-    (λ closes. passes_close c.args.received c.asks_for_head-answers_head.result c.args.sending.proxied.closes c.in-Ok.ready c.in-Ok.ensures closes)
+    let kept = rw c.taken_of.ensures at c.keep.ensures in
+    follows_close (given_of c.in-Ok.ready c.args.received.wire) c.asks_for_head-answers_head.result c.args.sending.proxied.closes kept.said c.keep.result kept.follows
+    (λ closes. passes_close c.args.received c.asks_for_head-answers_head.result c.args.sending.proxied.closes (given_of c.in-Ok.ready c.args.received.wire) c.in-Ok.ensures closes)

@@ -1,5 +1,5 @@
 -- What each step of serving makes of the connection.
-use Rattle.std.proofs.Common.{[], refl, arith, lit<}
+use Rattle.std.proofs.Common.{[], refl, sym, ◌∙◌, arith, lit<}
 use Rattle.archive_shelf.proofs.CallLaws.{goes_on_both, goes_on_itself}
 use Rattle.outside.specs.Gate.{heard_of}
 use Rattle.session.specs.declared.TheConstants.{REQUEST_LIMIT}
@@ -70,7 +70,7 @@ returns-in-Err-say-clause-serves g c t n =
     (record { heard = heard_of (g.L.Link.traffic c.say.new.client) (g.L.Link.faults c.say.new.client); answers = g.C.Clock.answers c.answer.new.clock; links = g.N.Dialer.links c.answer.new.dialer; dialer_faults = g.N.Dialer.faults c.answer.new.dialer; shelf = g.S.Finder.told c.answer.new.shelf })
     c.leading_books_grow.ensures.itself refl read.taken
     (c.in-Ok-answer.ensures.answers n (record { served = c.serving.served; wire = read.wire; interim = read.interim }) (heard_of (g.L.Link.traffic c.serving.client) (g.L.Link.faults c.serving.client)) (heard_of (g.L.Link.traffic c.say.new.client) (g.L.Link.faults c.say.new.client)) c.closes_after-closes.ensures read.asked read.interim_is)
-    (rw c.as_slice.ensures at (c.in-Err-say.ensures.says t)))
+    (c.in-Err-say.ensures.says t))
 
 pub returns-in-Err-say-clause-goes_on : goal.returns-in-Err-say-clause-goes_on
 returns-in-Err-say-clause-goes_on g c =
@@ -79,8 +79,8 @@ returns-in-Err-say-clause-goes_on g c =
 pub returns-in-Err-say-clause-faults : goal.returns-in-Err-say-clause-faults
 returns-in-Err-say-clause-faults g c = omega (arith, c.serving.invariant.faults, c.answer.ensures.faults)
 
-pub returns-then-answer-clause-serves : goal.returns-then-answer-clause-serves
-returns-then-answer-clause-serves g c t n =
+pub returns-then-closed-clause-serves : goal.returns-then-closed-clause-serves
+returns-then-closed-clause-serves g c t n =
     let read = c.in-Ok-read_request.ensures.reads t in
     c.serving.invariant.joins t n _ _ _ _ c.answer.new.shelf _ (answer_closed g.S.Finder.alone (record { site = c.args.site.now; clock_tells = g.C.Clock.tells })
     (record { served = c.serving.served; pending = c.serving.of_client; world = (record { heard = heard_of (g.L.Link.traffic c.serving.client) (g.L.Link.faults c.serving.client); answers = g.C.Clock.answers c.serving.clock; links = g.N.Dialer.links c.serving.dialer; dialer_faults = g.N.Dialer.faults c.serving.dialer; shelf = g.S.Finder.told c.serving.shelf }) })
@@ -88,14 +88,14 @@ returns-then-answer-clause-serves g c t n =
     (record { heard = heard_of (g.L.Link.traffic c.say.new.client) (g.L.Link.faults c.say.new.client); answers = g.C.Clock.answers c.answer.new.clock; links = g.N.Dialer.links c.answer.new.dialer; dialer_faults = g.N.Dialer.faults c.answer.new.dialer; shelf = g.S.Finder.told c.answer.new.shelf })
     c.leading_books_grow.ensures.itself refl read.taken
     (c.in-Ok-answer.ensures.answers n (record { served = c.serving.served; wire = read.wire; interim = read.interim }) (heard_of (g.L.Link.traffic c.serving.client) (g.L.Link.faults c.serving.client)) (heard_of (g.L.Link.traffic c.say.new.client) (g.L.Link.faults c.say.new.client)) c.closes_after-closes.ensures read.asked read.interim_is)
-    (rw c.as_slice.ensures at (c.in-Ok-say.ensures.says t)) c.if-answer.true)
+    (c.in-Ok-say.ensures.says t) (sym c.closes-closed.ensures ∙ c.if-closed.true))
 
-pub returns-then-answer-clause-goes_on : goal.returns-then-answer-clause-goes_on
-returns-then-answer-clause-goes_on g c =
+pub returns-then-closed-clause-goes_on : goal.returns-then-closed-clause-goes_on
+returns-then-closed-clause-goes_on g c =
     goes_on_both g.S.Finder.alone (g.S.Finder.told c.args.shelf.now) (g.S.Finder.told c.serving.shelf) (g.S.Finder.told c.answer.new.shelf) c.serving.invariant.goes_on c.answer.ensures.goes_on
 
-pub returns-then-answer-clause-faults : goal.returns-then-answer-clause-faults
-returns-then-answer-clause-faults g c = omega (arith, c.serving.invariant.faults, c.answer.ensures.faults)
+pub returns-then-closed-clause-faults : goal.returns-then-closed-clause-faults
+returns-then-closed-clause-faults g c = omega (arith, c.serving.invariant.faults, c.answer.ensures.faults)
 
 pub serving-preserved : goal.serving-preserved
 serving-preserved g c = record {
@@ -107,10 +107,10 @@ serving-preserved g c = record {
       (record { heard = heard_of (g.L.Link.traffic c.say.new.client) (g.L.Link.faults c.say.new.client); answers = g.C.Clock.answers c.answer.new.clock; links = g.N.Dialer.links c.answer.new.dialer; dialer_faults = g.N.Dialer.faults c.answer.new.dialer; shelf = g.S.Finder.told c.answer.new.shelf })
       (record { heard = heard; answers = answers; links = links; dialer_faults = faults; shelf = g.S.Finder.told shelf }) result refl read.taken
       (c.in-Ok-answer.ensures.answers n (record { served = c.serving.served; wire = read.wire; interim = read.interim }) (heard_of (g.L.Link.traffic c.serving.client) (g.L.Link.faults c.serving.client)) (heard_of (g.L.Link.traffic c.say.new.client) (g.L.Link.faults c.say.new.client)) c.closes_after-closes.ensures read.asked read.interim_is)
-      (rw c.as_slice.ensures at (c.in-Ok-say.ensures.says t)) c.if-answer.false h);
+      (c.in-Ok-say.ensures.says t) (sym c.closes-closed.ensures ∙ c.if-closed.false) h);
   whole = c.in-Ok-say.ensures.whole;
   fewer = still_fewer c.serving.served REQUEST_LIMIT _ c.closes_after-closes.result c.in-Ok-answer.answer.closes c.serving.invariant.fewer
-      c.closes_after-closes.ensures c.in-Ok-answer.ensures.closes c.if-answer.false;
+      c.closes_after-closes.ensures c.in-Ok-answer.ensures.closes (sym c.closes-closed.ensures ∙ c.if-closed.false);
   empty = c.answer.ensures.window;
   goes_on = goes_on_both g.S.Finder.alone (g.S.Finder.told c.args.shelf.now) (g.S.Finder.told c.serving.shelf) (g.S.Finder.told c.answer.new.shelf) c.serving.invariant.goes_on c.answer.ensures.goes_on;
   faults = omega (arith, c.serving.invariant.faults, c.answer.ensures.faults);
