@@ -8,8 +8,10 @@ pub mod FindingLaws
 pub mod FuseLaws
 pub mod IndexLaws
 pub mod MatchLaws
+pub mod NamespaceLaws
 pub mod NextLaws
 pub mod PayloadLaws
+pub mod PieceLaws
 pub mod ReadLaws
 pub mod ReadyLaws
 pub mod ReopenLaws

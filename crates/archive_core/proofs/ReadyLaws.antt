@@ -18,13 +18,14 @@ use Rattle.warc_text.specs.StandsFor.{GroupsAreCommitted, commit_byte}
 use Rattle.archive_shelf.specs.Comparing.{CanRefer, RefersBy}
 use Rattle.archive_shelf.specs.Gaining.{CapturesAddTheirGroup, StoringKeepsSoundness}
 use Rattle.archive_shelf.specs.Storing.{as_stored, new_volume, with_capture}
+use Rattle.archive_volumes.proofs.GroupPlaces.{in_last_volume}
 use Rattle.archive_volumes.proofs.KeepLaws.{spot_is, spot_placed}
 use Rattle.archive_volumes.proofs.RoomLaws.{last_long, texts_count}
-use Rattle.archive_volumes.proofs.WayLaws.{group_in_room, room_gains, room_some, sound_after}
+use Rattle.archive_volumes.proofs.WayLaws.{group_in_room, room_captures, room_gains, room_some, sound_after}
 use Rattle.archive_volumes.specs.Grouping.{IsGroupFor, block_of}
 use Rattle.archive_volumes.specs.Held.{book_of, stored_in}
 use Rattle.archive_volumes.specs.Ready.{CanCommit, Incoming, IsReady}
-use Rattle.archive_volumes.specs.Spots.{IsPlaced, IsSpotOf, spot_of, text_at}
+use Rattle.archive_volumes.specs.Spots.{IsInVolume, IsPlaced, IsSpotOf, spot_of, text_at}
 use Rattle.archive_volumes.specs.Writing.{IsDecided, end_with, texts_with, with_prepared}
 use Rattle.archive_volumes.specs.Volumes.{HoldsBook, IsMeasured}
 use Rattle.archive_volumes.specs.declared.room.Prepared.{Prepared}
@@ -95,16 +96,19 @@ module _ {D : Type 0} (d : Ghosts D) (now : Volumes D) (limit : ℕ) (incoming :
 
   placed : CapturesAddTheirGroup → IsTrue d.tells
       → IsPlaced (with_more (texts_with (texts d now.journal) ready.prepared) ready.group) (with_capture room stored) (length (captures book))
-      (spot_of stored ready.digest (length room.volumes - 1) (end_with now ready.prepared + ready.layout.head_at))
+      (spot_of stored ready.digest (length room.volumes - 1) (end_with now ready.prepared) (end_with now ready.prepared + ready.layout.head_at))
   placed add told =
       let all : List (List ℕ) = texts_with (texts d now.journal) ready.prepared in
       let count : length all ≡ length room.volumes = with_count book (texts d now.journal) ready.prepared (holds.texts_are told).count in
-      let at : ℕ = end_with now ready.prepared + ready.layout.head_at in
-      subst (λ (n : ℕ). IsPlaced (with_more all ready.group) (with_capture room stored) (length (captures book)) (spot_of stored ready.digest (n - 1) at)) count
-      (subst (λ (digest : List ℕ). IsPlaced (with_more all ready.group) (with_capture room stored) (length (captures book)) (spot_of stored digest (length all - 1) at))
+      let end : ℕ = end_with now ready.prepared in
+      let at : ℕ = end + ready.layout.head_at in
+      subst (λ (n : ℕ). IsPlaced (with_more all ready.group) (with_capture room stored) (length (captures book)) (spot_of stored ready.digest (n - 1) end at)) count
+      (subst (λ (digest : List ℕ). IsPlaced (with_more all ready.group) (with_capture room stored) (length (captures book)) (spot_of stored digest (length all - 1) end at))
       (sym (is.digest ∙ digested))
       (spot_placed book (with_capture room stored) incoming.taken incoming.same gains all ready.group payload ready.layout (end_with now ready.prepared)
-      (omega (arith, some, count)) (with_end d now book ready.prepared told holds some) is.layout (holds.sound told) refers has (finds told)))
+      (omega (arith, some, count)) (with_end d now book ready.prepared told holds some) is.layout (holds.sound told) refers has (finds told)
+      (subst (λ (all : List Stored). IsGroupText (with_capture room stored) (length all) ready.group) (room_captures book ready.prepared)
+      (group_in_room d now.journal book incoming.taken payload incoming.same ready.group told holds has (finds told) is.group ready.prepared some))))
 
   pub can_commit : GroupsAreCommitted → CapturesAddTheirGroup → StoringKeepsSoundness → limit < 2 ^ 62 → length (captures (book_of now.held)) + 1 < 2 ^ 32 - 1
       → CanCommit d now ready
@@ -116,15 +120,18 @@ module _ {D : Type 0} (d : Ghosts D) (now : Volumes D) (limit : ℕ) (incoming :
     fits = is.fits;
     gains = room_gains book ready.prepared (stored_in ready.stored) some;
     spot = subst (λ (s : Stored). IsSpotOf (with_capture room s) (length (captures book))
-        (spot_of s ready.digest (length room.volumes - 1) (end_with now ready.prepared + ready.layout.head_at))) (sym is.stored)
+        (spot_of s ready.digest (length room.volumes - 1) (end_with now ready.prepared) (end_with now ready.prepared + ready.layout.head_at))) (sym is.stored)
         (spot_is book (with_capture room stored) incoming.taken incoming.same gains ready.digest (length room.volumes - 1)
-        (end_with now ready.prepared + ready.layout.head_at) fits refers ends);
+        (end_with now ready.prepared) (end_with now ready.prepared + ready.layout.head_at) fits refers ends
+        (subst (λ (all : List Stored). IsInVolume (with_capture room stored) (length all) (length room.volumes - 1)) (room_captures book ready.prepared)
+        (in_last_volume room stored some)));
     group = λ told. subst (λ (s : Stored). IsGroupText (with_capture room s) (length (captures room)) ready.group) (sym is.stored)
         (group_in_room d now.journal book incoming.taken payload incoming.same ready.group told holds has (finds told) is.group ready.prepared some);
     sound = λ told. subst (λ (s : Stored). IsSound (with_capture room s)) (sym is.stored)
         (sound_after d now.journal book incoming.taken payload incoming.same ready.group told holds has (finds told) is.group add keep measured.count limit
         ready.prepared is.born is.decided fits small few);
     placed = λ told. subst (λ (s : Stored). IsPlaced (with_more (texts_with (texts d now.journal) ready.prepared) ready.group) (with_capture room s)
-        (length (captures book)) (spot_of s ready.digest (length room.volumes - 1) (end_with now ready.prepared + ready.layout.head_at))) (sym is.stored)
+        (length (captures book)) (spot_of s ready.digest (length room.volumes - 1) (end_with now ready.prepared)
+        (end_with now ready.prepared + ready.layout.head_at))) (sym is.stored)
         (placed add told);
   }

@@ -21,13 +21,14 @@ use Rattle.revisit_table.specs.Table.{Table}
 use Rattle.warc_journal.specs.Extents.{warc_files}
 use Rattle.warc_journal.specs.Journals.{Rests, disk_of, texts}
 use Rattle.warc_journal.specs.declared.journal.Journal.{Journal}
-use Rattle.warc_text.proofs.BookLaws.{files_stand_for_no_volume, files_stand_for_one_book}
+use Rattle.warc_text.proofs.BookLaws.{files_stand_for_no_volume}
 use Rattle.warc_text.specs.Sound.{IsSound}
-use Rattle.warc_text.specs.StandsFor.{IdsDifferIn, StandsFor}
+use Rattle.warc_text.specs.StandsFor.{StandsFor}
 use Rattle.archive_shelf.specs.Openings.{ImageStandsFor}
 use Rattle.archive_shelf.specs.Storing.{is_revisit}
 use Rattle.archive_shelf.specs.declared.fault.ReopenFault.{ReopenFault}
 use Rattle.archive_shelf.specs.declared.fault.ReopenFault.TheVariants as faults
+use Rattle.archive_core.proofs.NamespaceLaws.{one_namespace}
 use Rattle.archive_core.proofs.ArchiveLaws.{entries_shown}
 use Rattle.archive_volumes.proofs.ChangeLaws.{DiskLaws, moment_told, now_image, one_of, quiet_by, stands}
 use Rattle.archive_opening.specs.Gathering.{IsInStepWith, IsOpened, IsUsable}
@@ -154,24 +155,24 @@ module _ {D : Type 0} (d : Ghosts D) (journal : Journal D) (book : Book) (spots 
 -- ---- what isn't refused
 
 -- what files stand for isn't in another namespace
-not_other : (files : List (List ℕ)) (asked : Option (List ℕ)) (other : List ℕ) → HoldsOther files asked other → (book : Book) → IsSound book → IdsDifferIn book
+not_other : (files : List (List ℕ)) (asked : Option (List ℕ)) (other : List ℕ) → HoldsOther files asked other → (book : Book) → IsSound book
     → StandsFor files book → IsAskedFor asked book → ⊥
-not_other files None other is book sound ids for its = is.asked_for refl
-not_other files (Some namespace) other is book sound ids for its = ⊎_elim
+not_other files None other is book sound for its = is.asked_for refl
+not_other files (Some namespace) other is book sound for its = ⊎_elim
     (λ (some : 0 < length book.volumes).
-    let same : book ≡ is.book = files_stand_for_one_book files book is.book sound is.sound ids for is.for some in
-    is.differs namespace refl (sym is.namespace ∙ sym (ap (λ (b : Book). b.namespace) same) ∙ its namespace refl))
+    let same : book.namespace ≡ is.book.namespace = one_namespace files book is.book sound is.sound for is.for some is.some in
+    is.differs namespace refl (sym is.namespace ∙ sym same ∙ its namespace refl))
     (λ (none : length book.volumes ≤ 0).
     let empty : length is.book.volumes ≡ 0 = files_stand_for_no_volume files book is.book for is.for (omega (arith, none)) in
     absurd (omega (arith, empty, is.some)))
     (cases_lt 0 (length book.volumes))
 
 outside : (files : List (List ℕ)) (asked : Option (List ℕ)) (fault : ReopenFault) → IsDamageIn files fault → IsOtherIn files asked fault
-    → (book : Book) → IsSound book → IdsDifferIn book → StandsFor files book → IsAskedFor asked book → IsOutside fault
-outside files asked (faults.Damaged kind file place) damage other book sound ids for its = damage.1 book sound for
-outside files asked (faults.OtherNamespace ns) damage other book sound ids for its = not_other files asked ns other book sound ids for its
-outside files asked faults.DiskFault damage other book sound ids for its = tt
-outside files asked faults.Memory damage other book sound ids for its = tt
+    → (book : Book) → IsSound book → StandsFor files book → IsAskedFor asked book → IsOutside fault
+outside files asked (faults.Damaged kind file place) damage other book sound for its = damage.1 book sound for
+outside files asked (faults.OtherNamespace ns) damage other book sound for its = not_other files asked ns other book sound for its
+outside files asked faults.DiskFault damage other book sound for its = tt
+outside files asked faults.Memory damage other book sound for its = tt
 
 -- ---- what may be opened of it
 
@@ -224,7 +225,7 @@ module _ {D : Type 0} (d : Ghosts D) (laws : DiskLaws d) (disk : D) (asked : Opt
       cause = tt;
       damage = λ told. tt;
       other = λ told. tt;
-      complete = λ told book sound ids for its. tt;
+      complete = λ told book sound for its. tt;
       rests = is.rests;
       quiet = quiet_by d laws disk (disk_of opened.journal) is.rests;
       faults = is.faults;
@@ -254,7 +255,7 @@ module _ {D : Type 0} (d : Ghosts D) (laws : DiskLaws d) (disk : D) (asked : Opt
     cause = cause;
     damage = damage;
     other = other;
-    complete = λ told book sound ids for its. outside (warc_files (d.reading disk)) asked refused.0 (damage told) (other told) book sound ids for its;
+    complete = λ told book sound for its. outside (warc_files (d.reading disk)) asked refused.0 (damage told) (other told) book sound for its;
     rests = rests;
     quiet = quiet_by d laws disk refused.1 rests;
     faults = count;

@@ -89,11 +89,11 @@ stays_archive d entries_stay was journal book is holds measured same grows on = 
     below = λ entry has. omega (arith, is.counted.below entry has, ap length same);
     limits = is.counted.limits;
   };
-  spots = spots_stay was.book book same was.spots is.spots;
+  spots = spots_stay was.book book same grows was.spots is.spots;
   table = is.table;
   indexed = is.indexed;
   placed = λ told. placed_stay (texts d was.journal) (texts d journal) (on told) was.book book []
-      (same ∙ sym (append-nil (captures was.book))) was.spots (is.placed told);
+      (same ∙ sym (append-nil (captures was.book))) grows was.spots (is.placed told);
   known = λ told. entries_stay was.book book was.index grows same (is.known told);
 }
 

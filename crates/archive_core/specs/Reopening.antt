@@ -68,8 +68,8 @@ pub record IsNotOpened {D : Type 0} (d : Ghosts D) (disk : D) (asked : Option (L
   pub cause : IsCause asked refused.0
   pub damage : IsTrue d.tells → IsDamageIn (warc_files (d.reading disk)) refused.0
   pub other : IsTrue d.tells → IsOtherIn (warc_files (d.reading disk)) asked refused.0
-  pub complete : IsTrue d.tells → (book : Book) → IsSound book → IdsDifferIn book → StandsFor (warc_files (d.reading disk)) book
-      → IsAskedFor asked book → IsOutside refused.0
+  pub complete : IsTrue d.tells → (book : Book) → IsSound book → StandsFor (warc_files (d.reading disk)) book → IsAskedFor asked book
+      → IsOutside refused.0
   pub rests : IsTrue d.tells → Rests d disk refused.1
   pub quiet : IsQuiet d disk refused.1
   pub faults : CountsFault (d.faults disk) (d.faults refused.1) refused.0

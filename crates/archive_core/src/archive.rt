@@ -1,17 +1,18 @@
 //! The archive over a disk.
-ghost use Rattle.std.specs.Prelude.{◌≡◌, Contains, IfNone, IfSome, IsTrue, Some, option_copied};
+ghost use Rattle.std.specs.Prelude.{◌≡◌, Contains, IfNone, IfOk, IfSome, IsTrue, Some, option_copied};
 ghost use Rattle.cdxj_index.specs.Queries.{with_number};
 ghost use Rattle.warc_journal.specs.Journals.{disk_of};
 ghost use Rattle.archive_shelf.specs.Answers.{ShowsNone};
 ghost use Rattle.archive_shelf.specs.Storing.{counts_of};
 ghost use Rattle.archive_core.specs.Holdings.{contents_of};
 ghost use Rattle.archive_core.specs.Stores.{Admits};
+ghost use Rattle.archive_volumes.specs.Facts.{facts_of};
 ghost use Rattle.archive_volumes.specs.Held.{book_of};
 ghost use Rattle.archive_volumes.specs.Volumes.{OpensNear};
 
 use crate::finding;
 use archive_shelf::{Counts, Finder, StoreFault};
-use archive_volumes::{Held, Spot, Volumes};
+use archive_volumes::{Held, Spot, VolumeFacts, Volumes};
 use capture::{Limits, Memory};
 use cdxj_index::{Entry, Index};
 use disk_model::{Disk, MemoryDisk};
@@ -100,6 +101,13 @@ impl<D: Disk> Archive<D> {
         ensures { book_of result.now ≡ self.now.book }
     {
         &self.volumes.held
+    }
+
+    /// Its volumes, in order: each with the number of its first capture, and how many it has.
+    pub fn volumes(&self, alloc: Global) -> Result<Vec<VolumeFacts>, Memory>
+        ensures { IfOk result (λ facts. facts.items ≡ facts_of self.now.book) }
+    {
+        self.volumes.held.facts(alloc)
     }
 
     /// Refuses a capture more where there are as many as there may be.

@@ -6,6 +6,7 @@ mod comparing;
 mod finding;
 mod index;
 mod laws;
+mod piece;
 mod reopen;
 mod rolling;
 mod shelf;

@@ -51,8 +51,8 @@ tells_with_volume laws book texts spots lengths entries is text born info filled
     let same : captures new ≡ captures book = captures_stay book.volumes born in
     record {
       read = with_info laws book texts is.read text born info filled;
-      spots_are = spots_stay book new same spots is.spots_are;
-      placed = placed_stay texts (texts ++ text ∷ []) (go_on_push texts text) book new [] (same ∙ sym (append-nil (captures book))) spots is.placed;
+      spots_are = spots_stay book new same (volume_grows book born) spots is.spots_are;
+      placed = placed_stay texts (texts ++ text ∷ []) (go_on_push texts text) book new [] (same ∙ sym (append-nil (captures book))) (volume_grows book born) spots is.placed;
       lengths_are = lengths_stay book new lengths same is.lengths_are;
       entries_are = record {
         in_order = is.entries_are.in_order;
@@ -110,7 +110,10 @@ unfolding IsStrictlySortedBy
 nothing_gathered namespace is = record {
   read = nothing_read namespace is;
   spots_are = record { count = refl; each = λ number spot at. absurd (omega (arith, slice_get_within [] number spot at)) };
-  placed = record { each = λ number spot at. absurd (omega (arith, slice_get_within [] number spot at)) };
+  placed = record {
+    each = λ number spot at. absurd (omega (arith, slice_get_within [] number spot at));
+    apart = λ number spot next group at after same is. absurd (omega (arith, slice_get_within [] number spot at));
+  };
   lengths_are = record {
     each = λ number stored wire payload keeps. absurd (omega (arith, slice_get_within [] number stored keeps.placed));
     small = λ number less. absurd (omega (arith, less));

@@ -1,5 +1,5 @@
 -- What is kept of a capture that was taken, and where it stands.
-use Rattle.std.proofs.Common.{◌≡◌, ◌≢◌, ℕ, ◌+◌, ◌-◌, ◌<◌, List, [], ◌∷◌, ◌++◌, length, get_or, refl, sym, ap, subst, ◌∙◌, arith, append-nil, append_assoc, length-append}
+use Rattle.std.proofs.Common.{◌≡◌, ◌≢◌, ℕ, ◌+◌, ◌-◌, ◌<◌, ◌≤◌, List, [], ◌∷◌, ◌++◌, length, get_or, refl, sym, ap, subst, ◌∙◌, arith, append-nil, append_assoc, length-append}
 use Rattle.std.specs.Prelude.{nat_eq, if◌then◌else◌, IsTrue, Option, Some, None, option_to_list, slice_get}
 use Rattle.std.proofs.lemmas.Bool.{cond_both, eqb-false, eqb-true}
 use Rattle.std.proofs.lemmas.List.{get_or-set_other, length-set}
@@ -36,6 +36,7 @@ use Rattle.archive_opening.proofs.CaptureLaws.{AgreesBy, agrees, composed_is, ga
 use Rattle.archive_opening.proofs.FrontLaws.{last_with_more}
 use Rattle.archive_opening.proofs.MeasuringLaws.{one_head}
 use Rattle.archive_opening.proofs.PlaceLaws.{answer_and_request}
+use Rattle.archive_volumes.proofs.GroupPlaces.{in_last_volume}
 use Rattle.archive_volumes.proofs.Places.{StandsIn, block_in_group}
 use Rattle.archive_volumes.proofs.SpotLaws.{GoOn, placed_at, placed_with, spots_with}
 use Rattle.archive_opening.proofs.TakeLaws.{entries_push}
@@ -44,7 +45,7 @@ use Rattle.surt_key.specs.Targets.{TargetsHaveKeys}
 use Rattle.archive_opening.specs.Noting.{IsGroupAt, IsWithin, record_at}
 use Rattle.archive_opening.specs.Reading.{IsRead, Laws}
 use Rattle.archive_opening.specs.Revisits.{IsCaptureOf, IsKeptAs}
-use Rattle.archive_volumes.specs.Spots.{ArePlaced, AreSpotsOf, IsPlaced, IsSpotOf, RefersBack, form_of, spot_of, text_at}
+use Rattle.archive_volumes.specs.Spots.{ArePlaced, AreSpotsOf, HasGroupAt, IsInVolume, IsPlaced, IsSpotOf, RefersBack, form_of, spot_of, text_at}
 use Rattle.archive_volumes.specs.declared.spot.Spot.{Spot}
 
 -- what is behind the last text of those that go on
@@ -111,7 +112,7 @@ module _ (laws : Laws) (book : Book) (texts : List (List ℕ)) (is : IsRead book
   says = agrees laws book texts is text group at.some at.is stored of_group
 
   abbrev spot : Spot
-  spot = spot_of stored group.digest place.volume (place.at + group.head_at)
+  spot = spot_of stored group.digest place.volume place.at (place.at + group.head_at)
 
   block : answer_block (taken_back stored) (reference_of book.namespace says.same) ≡ stored.head ++ kept_wire stored.kept
   block = block_is new stored stored.kept says.same book.namespace says.refers
@@ -147,6 +148,9 @@ module _ (laws : Laws) (book : Book) (texts : List (List ℕ)) (is : IsRead book
   wires : length (answer_block (taken_back stored) (reference_of book.namespace says.same)) ≡ length stored.head + length (kept_wire stored.kept)
   wires = ap length block ∙ length-append stored.head (kept_wire stored.kept)
 
+  in_the_last : place.volume ≡ length book.volumes - 1
+  in_the_last = omega (arith, at.volume, is.are.count)
+
   pub spot_is : IsSpotOf new number spot
   spot_is = record {
     stored = stored;
@@ -155,6 +159,7 @@ module _ (laws : Laws) (book : Book) (texts : List (List ℕ)) (is : IsRead book
     uri = refl;
     date = refl;
     form = refl;
+    inside = subst (IsInVolume new number) (sym in_the_last) (in_last_volume book stored (omega (arith, at.some, is.are.count)));
     refers = refers_back book new (stored ∷ []) (gains laws book texts is text group at.some at.is stored of_group) number group group.stored.kept stored.kept of_group.kept;
     in_range = subst InRange (sym (ap (λ (s : Stored). s.date) of_group.others)) at.is.date;
     short = short_target laws.one_text new number stored read_taken.sound stands;
@@ -179,24 +184,6 @@ module _ (laws : Laws) (book : Book) (texts : List (List ℕ)) (is : IsRead book
   front_long : length (last ++ in_group.front) ≡ place.at + group.head_at
   front_long = omega (arith, length-append last in_group.front, at.at, head_at)
 
-  pub spot_placed : IsPlaced now new number spot
-  unfolding has
-  spot_placed =
-      subst (λ (d : List ℕ). IsPlaced now new number (spot_of stored d place.volume (place.at + group.head_at))) (sym says.digest)
-      (subst (λ (n : ℕ). IsPlaced now new number (spot_of stored (sha1 says.payload) place.volume n)) front_long
-      (placed_at now new number says.payload has place.volume (last ++ in_group.front) in_group.rest
-      (omega (arith, at.volume, length-set texts (length texts - 1) (last ++ text))) in_text))
-
-  pub spots_taken : (spots : List Spot) → AreSpotsOf book spots → AreSpotsOf new (spots ++ spot ∷ [])
-  spots_taken spots are = spots_with book new stored (gains laws book texts is text group at.some at.is stored of_group) spots spot are spot_is
-
-  pub places_taken : (spots : List Spot) → AreSpotsOf book spots → ArePlaced texts book spots → ArePlaced now new (spots ++ spot ∷ [])
-  places_taken spots are there =
-      placed_with texts now (go_on_more texts text at.some) book new (stored ∷ []) (gains laws book texts is text group at.some at.is stored of_group) spots spot there
-      (subst (λ (n : ℕ). IsPlaced now new n spot) (sym are.count) spot_placed)
-
-  -- ---- its entry
-
   group_text_is : IsGroupText new number text
   group_text_is = record {
     stored = stored;
@@ -207,6 +194,45 @@ module _ (laws : Laws) (book : Book) (texts : List (List ℕ)) (is : IsRead book
     refers = says.refers;
     composed = composed_is laws book texts is text group at.some at.is stored of_group;
   }
+
+  group_at : HasGroupAt new number (text_at now place.volume) place.at
+  group_at = record {
+    front = last;
+    group = text;
+    rest = [];
+    is = group_text_is;
+    composed = last_with_more texts text place.volume at.volume ∙ ap (λ (k : ℕ). get_or texts k [] ++ text) here_last
+        ∙ ap (λ (t : List ℕ). last ++ t) (sym (append-nil text));
+    behind = at.at;
+  }
+    where
+      here_last : place.volume ≡ length texts - 1
+      here_last = omega (arith, at.volume)
+
+  pub spot_placed : IsPlaced now new number spot
+  unfolding has
+  spot_placed =
+      subst (λ (d : List ℕ). IsPlaced now new number (spot_of stored d place.volume place.at (place.at + group.head_at))) (sym says.digest)
+      (subst (λ (n : ℕ). IsPlaced now new number (spot_of stored (sha1 says.payload) place.volume place.at n)) front_long
+      (placed_at now new number says.payload has place.volume place.at (last ++ in_group.front) in_group.rest
+      (omega (arith, at.volume, length-set texts (length texts - 1) (last ++ text))) group_at in_text))
+
+  pub spots_taken : (spots : List Spot) → AreSpotsOf book spots → AreSpotsOf new (spots ++ spot ∷ [])
+  spots_taken spots are =
+      spots_with book new stored (gains laws book texts is text group at.some at.is stored of_group) (capture_grows book stored) spots spot are spot_is
+
+  begins : length (text_at texts place.volume) ≤ place.at
+  begins = omega (arith, at.at, ap (λ (k : ℕ). length (get_or texts k [])) last_text)
+    where
+      last_text : place.volume ≡ length texts - 1
+      last_text = omega (arith, at.volume)
+
+  pub places_taken : (spots : List Spot) → AreSpotsOf book spots → ArePlaced texts book spots → ArePlaced now new (spots ++ spot ∷ [])
+  places_taken spots are there =
+      placed_with texts now (go_on_more texts text at.some) book new (stored ∷ []) (gains laws book texts is text group at.some at.is stored of_group)
+      (capture_grows book stored) spots spot there (subst (λ (n : ℕ). IsPlaced now new n spot) (sym are.count) spot_placed) begins
+
+  -- ---- its entry
 
   same_date : stored.date ≡ group.stored.date
   same_date = ap (λ (s : Stored). s.date) of_group.others

@@ -86,9 +86,10 @@ taken laws keys was is texts text place group number first head noted tells at l
     let new : Book = with_capture book noted.stored in
     let now : List (List ℕ) = with_more texts text in
     let more = gains laws book texts tells.read text group at.some at.is noted.stored of_group in
-    let spot_is : spot_of noted.stored group.digest place.volume (place.at + group.head_at) ≡ spot_of noted.stored noted.digest noted.volume noted.head_at =
-    (λ i. spot_of noted.stored (sym n.digest i) (sym n.volume i) (sym n.head_at i)) in
-    let spots : List Spot = was.spots.items ++ spot_of noted.stored group.digest place.volume (place.at + group.head_at) ∷ [] in
+    let spot_is : spot_of noted.stored group.digest place.volume place.at (place.at + group.head_at)
+    ≡ spot_of noted.stored noted.digest noted.volume noted.at noted.head_at =
+    (λ i. spot_of noted.stored (sym n.digest i) (sym n.volume i) (sym n.at i) (sym n.head_at i)) in
+    let spots : List Spot = was.spots.items ++ spot_of noted.stored group.digest place.volume place.at (place.at + group.head_at) ∷ [] in
     let entered = entries_taken laws book texts tells.read text place group at noted.stored of_group within head parsed keys was.entries.items tells.entries_are noted.entry n.entry in
     let all : TellsOf new now spots (was.lengths.items ++ noted.length ∷ []) (was.entries.items ++ option_to_list noted.entry) = record {
       read = read_taken laws book texts tells.read text place group at noted.stored of_group within;

@@ -9,6 +9,7 @@ use Rattle.disk_model.specs.Crash.{Leaves}
 use Rattle.disk_model.specs.declared.disk.Disk.{Ghosts}
 use Rattle.disk_model.specs.declared.kind.Kind.TheVariants.{Warc}
 use Rattle.revisit_table.specs.Table.{Table}
+use Rattle.time_text.specs.Texts.{InRange}
 use Rattle.volume_scan.specs.Scannings.{captures_of, file_count, files_in, position_of, texts as texts_read}
 use Rattle.volume_scan.specs.declared.found.Found.{Found}
 use Rattle.volume_scan.specs.declared.found.Found.TheVariants.{Info, Group, End}
@@ -75,7 +76,7 @@ pub record HasVolumeMore (was is : Gathered) (born : ℕ) : Type 0 where
 -- what was noted of a capture was added
 pub record HasAdded (was is : Gathered) (noted : Noted) : Type 0 where
   pub book : book_of is.held ≡ with_capture (book_of was.held) noted.stored
-  pub spots : is.spots.items ≡ was.spots.items ++ spot_of noted.stored noted.digest noted.volume noted.head_at ∷ []
+  pub spots : is.spots.items ≡ was.spots.items ++ spot_of noted.stored noted.digest noted.volume noted.at noted.head_at ∷ []
   pub lengths : is.lengths.items ≡ was.lengths.items ++ noted.length ∷ []
   pub entries : is.entries.items ≡ was.entries.items ++ option_to_list noted.entry
 
@@ -99,7 +100,7 @@ pub record FitsGroup (g : Gathered) (place : Place) (group : GroupFound) : Type 
   pub volume : 0 < length (book_of g.held).volumes
 
 abbrev pub FitsFound : Gathered → Found → Type 0
-FitsFound g (Info volume namespace born) = IsUuid namespace
+FitsFound g (Info volume namespace born) = IsUuid namespace × InRange born
 FitsFound g (Group place group) = FitsGroup g place group
 FitsFound g End = ⊤
 

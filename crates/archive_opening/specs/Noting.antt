@@ -59,6 +59,7 @@ pub record IsNoted (head : ResponseHead) (place : Place) (group : Group) (first 
   pub stored : noted.stored ≡ referring group.stored first
   pub digest : noted.digest ≡ group.digest
   pub volume : noted.volume ≡ place.volume
+  pub at : noted.at ≡ place.at
   pub head_at : noted.head_at ≡ place.at + group.head_at
   pub length : (wire : List ℕ) → noted.stored.kept ≡ Wire wire → IsLengthOf noted.stored.method noted.stored.head wire noted.length
   pub fits : noted.length < 2 ^ 64

@@ -4,6 +4,7 @@ ghost use Rattle.httparse.specs.Grammar as grammar;
 ghost use Rattle.capture.specs.Captures.{captures};
 ghost use Rattle.capture.specs.Message.{IsResponseHeadText};
 ghost use Rattle.http_head.specs.Heads.{HoldsResponse, HoldsResponseParts};
+ghost use Rattle.time_text.specs.Texts.{InRange};
 ghost use Rattle.warc_journal.specs.Texts.{with_more};
 ghost use Rattle.warc_scan.specs.Infos.{IsInfo};
 ghost use Rattle.warc_text.specs.Ids.{IsUuid};
@@ -172,6 +173,7 @@ impl Gathered {
     ) -> Result<(), Refusal>
         requires steady { IsSteady self.old }
         requires uuid { IsUuid namespace }
+        requires born { InRange born }
         ensures steady { OnOk result (IsSteady self.new) }
         ensures gathered { (texts : List (List ℕ)) (text : List ℕ) → IsGathered self.old texts → volume ≡ length texts
             → IsInfo volume text namespace born (length text) → OnOk result (HasBegun self.old self.new texts text namespace) }
@@ -195,6 +197,7 @@ impl Gathered {
     /// Adds a volume.
     fn add_volume(&mut self, alloc: Global, born: u64) -> Result<(), Refusal>
         requires steady { IsSteady self.old }
+        requires born { InRange born }
         ensures steady { OnOk result (IsSteady self.new) }
         ensures added { OnOk result (HasVolumeMore self.old self.new born) }
         ensures memory { IfErr result (λ refusal. refusal ≡ IsMemory) }
@@ -283,6 +286,7 @@ impl Gathered {
             stored,
             digest,
             volume,
+            at,
             head_at,
             length,
             entry,
@@ -294,7 +298,8 @@ impl Gathered {
         self.lengths.push(length)?;
         self.held.reserve()?;
         self.held.add(&stored);
-        self.spots.push(Spot::of(stored, digest, volume, head_at))?;
+        self.spots
+            .push(Spot::of(stored, digest, volume, at, head_at))?;
         Ok(())
     }
 }

@@ -30,7 +30,9 @@ pub(crate) struct Noted {
     pub(crate) digest: Digest,
     /// The volume in which it stands.
     pub(crate) volume: u32,
-    /// Where in the volume's text the response's head begins, in bytes.
+    /// Where in the volume's text its group begins, in bytes.
+    pub(crate) at: u64,
+    /// Where in that text the response's head begins, in bytes.
     pub(crate) head_at: u64,
     /// The length of its payload in bytes, where it keeps its whole wire.
     pub(crate) length: u64,
@@ -85,6 +87,7 @@ pub(crate) fn note(
         stored,
         digest,
         volume: place.volume,
+        at: place.at,
         head_at,
         length,
         entry,

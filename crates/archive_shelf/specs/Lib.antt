@@ -5,6 +5,7 @@ pub mod Entering
 pub mod Gaining
 pub mod Laws
 pub mod Openings
+pub mod Pieces
 pub mod Queries
 pub mod Storing
 pub mod Told

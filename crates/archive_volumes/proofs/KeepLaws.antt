@@ -7,7 +7,9 @@ use Rattle.std.proofs.lemmas.Grind.{get_or-set_at}
 use Rattle.std.proofs.lemmas.Option.{slice_get_within}
 use Rattle.std.proofs.Math.Seq.{drop-append-add}
 use Rattle.sha1.specs.Sha1.{sha1}
+use Rattle.capture.proofs.GrowthLaws.{grows_from_itself, growth_goes_on}
 use Rattle.capture.specs.Captures.{captures, kept_wire, HasPayload, IsPayloadBy, IsPayloadOf}
+use Rattle.capture.specs.Growth.{Grows}
 use Rattle.capture.specs.declared.book.Book.{Book}
 use Rattle.capture.specs.declared.captured.Stored.{Stored}
 use Rattle.capture.specs.declared.captured.Taken.{Taken}
@@ -15,18 +17,22 @@ use Rattle.disk_model.specs.declared.disk.Disk.{Ghosts}
 use Rattle.warc_journal.specs.Journals.{texts}
 use Rattle.warc_journal.specs.Texts.{with_more}
 use Rattle.warc_text.proofs.BookLaws.{get_behind}
+use Rattle.warc_text.specs.Books.{IsGroupText}
 use Rattle.warc_text.specs.Fits.{Fits}
 use Rattle.warc_text.specs.Sound.{IsSound}
 use Rattle.archive_shelf.proofs.ComparingLaws.{first_keeps_its_wire, placed_later}
+use Rattle.archive_shelf.proofs.StoringLaws.{capture_grows, volume_grows}
 use Rattle.archive_shelf.specs.Comparing.{CanRefer, RefersBy}
 use Rattle.archive_shelf.specs.Laws.{IsOriginal}
-use Rattle.archive_shelf.specs.Storing.{as_stored, kept_of}
+use Rattle.archive_shelf.specs.Storing.{as_stored, kept_of, with_capture}
+use Rattle.archive_volumes.proofs.GroupPlaces.{begins_behind, has_volume}
 use Rattle.archive_volumes.proofs.WayLaws.{room_captures}
 use Rattle.archive_volumes.specs.Held.{book_of, stored_in}
 use Rattle.archive_volumes.specs.Ready.{CanCommit, book_with, spot_in}
 use Rattle.archive_volumes.proofs.SpotLaws.{GoOn, placed_at, placed_stay, placed_with, spots_stay, spots_with}
 use Rattle.archive_volumes.specs.Grouping.{StandsAt, block_of}
-use Rattle.archive_volumes.specs.Spots.{ArePlaced, AreSpotsOf, IsPlaced, IsSpotOf, RefersBack, form_of, spot_of, text_at}
+use Rattle.archive_volumes.specs.Spots.{ArePlaced, AreSpotsOf, HasGroupAt, IsInVolume, IsPlaced, IsSpotOf, RefersBack, form_of, spot_of, text_at}
+use Rattle.archive_volumes.specs.Volumes.{HoldsBook}
 use Rattle.archive_volumes.specs.Writing.{texts_with, with_prepared}
 use Rattle.archive_volumes.specs.declared.group.Layout.{Layout}
 use Rattle.archive_volumes.specs.declared.room.Prepared.{Prepared}
@@ -72,9 +78,9 @@ module _ (old new : Book) (taken : Taken) (same : Option ℕ) (gains : captures 
       ∙ get_behind (captures old ++ as_stored taken same ∷ []) (captures old) (as_stored taken same) [] number refl refl
 
   -- what is kept of the new capture is that
-  pub spot_is : (digest : List ℕ) (volume head_at : ℕ) → Fits taken → CanRefer taken.cut old same → head_at + length (block_of taken same) < 2 ^ 62
-      → IsSpotOf new (length (captures old)) (spot_of (as_stored taken same) digest volume head_at)
-  spot_is digest volume head_at fits refers ends =
+  pub spot_is : (digest : List ℕ) (volume at head_at : ℕ) → Fits taken → CanRefer taken.cut old same → head_at + length (block_of taken same) < 2 ^ 62
+      → IsInVolume new (length (captures old)) volume → IsSpotOf new (length (captures old)) (spot_of (as_stored taken same) digest volume at head_at)
+  spot_is digest volume at head_at fits refers ends inside =
       let wire : List ℕ = kept_wire (kept_of taken.cut taken.wire same) in
       record {
         stored = as_stored taken same;
@@ -84,6 +90,7 @@ module _ (old new : Book) (taken : Taken) (same : Option ℕ) (gains : captures 
         date = refl;
         form = refl;
         refers = refers_by taken.cut taken.wire same refers;
+        inside = inside;
         in_range = fits.date;
         short = omega (arith, fits.short.uri);
         ends = omega (arith, ends, ap length (kept_block old taken same refers), length-append taken.head wire);
@@ -113,9 +120,9 @@ module _ (old new : Book) (taken : Taken) (same : Option ℕ) (gains : captures 
   -- it stands behind the last text, in its group
   pub spot_placed : (texts : List (List ℕ)) (group payload : List ℕ) (layout : Layout) (end : ℕ) → 0 < length texts
       → length (text_at texts (length texts - 1)) ≡ end → StandsAt taken same group layout → IsSound old → CanRefer taken.cut old same
-      → HasPayload taken.cut taken.method taken.head taken.wire payload → RefersBy taken.cut old payload same
-      → IsPlaced (with_more texts group) new (length (captures old)) (spot_of (as_stored taken same) (sha1 payload) (length texts - 1) (end + layout.head_at))
-  spot_placed texts group payload layout end some is_end at sound refers has by =
+      → HasPayload taken.cut taken.method taken.head taken.wire payload → RefersBy taken.cut old payload same → IsGroupText new (length (captures old)) group
+      → IsPlaced (with_more texts group) new (length (captures old)) (spot_of (as_stored taken same) (sha1 payload) (length texts - 1) end (end + layout.head_at))
+  spot_placed texts group payload layout end some is_end at sound refers has by is_group =
       let k : ℕ = length texts - 1 in
       let text : List ℕ = text_at texts k in
       let stored : Stored = as_stored taken same in
@@ -132,10 +139,18 @@ module _ (old new : Book) (taken : Taken) (same : Option ℕ) (gains : captures 
         placed = new_placed;
         by_kept = payload_by taken.method taken.head taken.wire payload taken.cut same stored refl refl sound has by;
       } in
-      subst (λ (n : ℕ). IsPlaced (with_more texts group) new (length (captures old)) (spot_of stored (sha1 payload) k n))
+      let there : HasGroupAt new (length (captures old)) (text_at (with_more texts group) k) end = record {
+        front = text;
+        group = group;
+        rest = [];
+        is = is_group;
+        composed = more ∙ ap (λ (g : List ℕ). text ++ g) (sym (append-nil group));
+        behind = sym is_end;
+      } in
+      subst (λ (n : ℕ). IsPlaced (with_more texts group) new (length (captures old)) (spot_of stored (sha1 payload) k end n))
       (length-append text at.front ∙ omega (arith, is_end, at.head_at))
-      (placed_at (with_more texts group) new (length (captures old)) payload is_payload k (text ++ at.front) at.rest
-      (omega (arith, some, length-set texts k (text ++ group))) composed)
+      (placed_at (with_more texts group) new (length (captures old)) payload is_payload k end (text ++ at.front) at.rest
+      (omega (arith, some, length-set texts k (text ++ group))) there composed)
 
 -- ---- the texts go on
 
@@ -188,25 +203,37 @@ texts_go_more texts prepared group =
 
 -- ---- once it is written
 
+-- the book has grown with it
+ready_grows : (book : Book) (prepared : Option Prepared) (stored : Stored) → Grows book (with_capture (with_prepared book prepared) stored)
+ready_grows book None stored = capture_grows book stored
+ready_grows book (Some p) stored =
+    growth_goes_on book (with_prepared book (Some p)) (with_capture (with_prepared book (Some p)) stored) (volume_grows book p.shadow.born)
+    (capture_grows (with_prepared book (Some p)) stored)
+
 module _ {D : Type 0} (d : Ghosts D) (before : Volumes D) (ready : Ready) (can : CanCommit d before ready) where
   pub kept_spots : (now : Book) (spots items : List Spot) (spot : Spot) → AreSpotsOf (book_of before.held) spots → now ≡ book_with before ready
       → items ≡ spots ++ spot ∷ [] → spot ≡ spot_in before ready → AreSpotsOf now items
   kept_spots now spots items spot are is all is_spot =
       subst (AreSpotsOf now) (sym (all ∙ ap (λ (s : Spot). spots ++ s ∷ []) is_spot))
       (subst (λ (b : Book). AreSpotsOf b (spots ++ spot_in before ready ∷ [])) (sym is)
-      (spots_with (book_of before.held) (book_with before ready) (stored_in ready.stored) can.gains spots (spot_in before ready) are can.spot))
+      (spots_with (book_of before.held) (book_with before ready) (stored_in ready.stored) can.gains (ready_grows (book_of before.held) ready.prepared (stored_in ready.stored)) spots
+      (spot_in before ready) are can.spot))
 
-  pub kept_placed : IsTrue d.tells → (texts_now : List (List ℕ)) (now : Book) (spots items : List Spot) (spot : Spot) → AreSpotsOf (book_of before.held) spots
+  pub kept_placed : IsTrue d.tells → HoldsBook d before.journal (book_of before.held) → (texts_now : List (List ℕ)) (now : Book) (spots items : List Spot) (spot : Spot)
+      → AreSpotsOf (book_of before.held) spots
       → ArePlaced (texts d before.journal) (book_of before.held) spots → texts_now ≡ with_more (texts_with (texts d before.journal) ready.prepared) ready.group
       → now ≡ book_with before ready → items ≡ spots ++ spot ∷ [] → spot ≡ spot_in before ready → ArePlaced texts_now now items
-  kept_placed told texts_now now spots items spot are placed is_texts is all is_spot =
+  kept_placed told holds texts_now now spots items spot are placed is_texts is all is_spot =
       let all_texts : List (List ℕ) = with_more (texts_with (texts d before.journal) ready.prepared) ready.group in
       subst (ArePlaced texts_now now) (sym (all ∙ ap (λ (s : Spot). spots ++ s ∷ []) is_spot))
       (subst (λ (b : Book). ArePlaced texts_now b (spots ++ spot_in before ready ∷ [])) (sym is)
       (subst (λ (t : List (List ℕ)). ArePlaced t (book_with before ready) (spots ++ spot_in before ready ∷ [])) (sym is_texts)
       (placed_with (texts d before.journal) all_texts (texts_go_more (texts d before.journal) ready.prepared ready.group)
-      (book_of before.held) (book_with before ready) ((stored_in ready.stored) ∷ []) can.gains spots (spot_in before ready) placed
-      (subst (λ (n : ℕ). IsPlaced all_texts (book_with before ready) n (spot_in before ready)) (sym are.count) (can.placed told)))))
+      (book_of before.held) (book_with before ready) ((stored_in ready.stored) ∷ []) can.gains (ready_grows (book_of before.held) ready.prepared (stored_in ready.stored))
+      spots (spot_in before ready) placed
+      (subst (λ (n : ℕ). IsPlaced all_texts (book_with before ready) n (spot_in before ready)) (sym are.count) (can.placed told))
+      (begins_behind d before ready.prepared told holds
+      (has_volume (with_prepared (book_of before.held) ready.prepared) (stored_in ready.stored) (length (captures (book_of before.held))) can.spot.inside)))))
 
 -- ---- where it is refused
 
@@ -218,13 +245,18 @@ texts_left : (was now : List (List ℕ)) (prepared : Option Prepared) → (now �
 texts_left was now prepared (inl is) = subst (GoOn was) (sym is) (texts_go_with was None)
 texts_left was now prepared (inr is) = subst (GoOn was) (sym is) (texts_go_with was prepared)
 
+grows_left : (book now : Book) (prepared : Option Prepared) → (now ≡ book) ⊎ (now ≡ with_prepared book prepared) → Grows book now
+grows_left book now prepared (inl is) = subst (Grows book) (sym is) (grows_from_itself book)
+grows_left book now None (inr is) = subst (Grows book) (sym is) (grows_from_itself book)
+grows_left book now (Some p) (inr is) = subst (Grows book) (sym is) (volume_grows book p.shadow.born)
+
 pub spots_left : (book now : Book) (prepared : Option Prepared) (spots : List Spot) → (now ≡ book) ⊎ (now ≡ with_prepared book prepared)
     → AreSpotsOf book spots → AreSpotsOf now spots
-spots_left book now prepared spots left are = spots_stay book now (captures_left book now prepared left) spots are
+spots_left book now prepared spots left are = spots_stay book now (captures_left book now prepared left) (grows_left book now prepared left) spots are
 
 pub placed_left : (book now : Book) (prepared : Option Prepared) (was texts_now : List (List ℕ)) (spots : List Spot)
     → (now ≡ book) ⊎ (now ≡ with_prepared book prepared) → (texts_now ≡ was) ⊎ (texts_now ≡ texts_with was prepared)
     → ArePlaced was book spots → ArePlaced texts_now now spots
 placed_left book now prepared was texts_now spots left goes are =
     placed_stay was texts_now (texts_left was texts_now prepared goes) book now []
-    (captures_left book now prepared left ∙ sym (append-nil (captures book))) spots are
+    (captures_left book now prepared left ∙ sym (append-nil (captures book))) (grows_left book now prepared left) spots are

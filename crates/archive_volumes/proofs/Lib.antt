@@ -2,10 +2,15 @@ pub mod BringLaws
 pub mod ChangeLaws
 pub mod ChooseLaws
 pub mod DecodeLaws
+pub mod FactsLaws
 mod GhostLaws
 pub mod GroupLaws
+pub mod GroupPlaces
 pub mod HeldLaws
+pub mod KeptGroupLaws
 pub mod KeepLaws
+pub mod PieceAnswers
+pub mod PieceFronts
 pub mod PieceLaws
 pub mod Places
 pub mod RoomLaws

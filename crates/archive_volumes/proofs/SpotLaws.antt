@@ -6,10 +6,13 @@ use Rattle.std.proofs.Math.Seq.{drop-append-add, take-append_seam}
 use Rattle.std.proofs.lemmas.List.{drop-append-le, length-drop, take-append-le}
 use Rattle.sha1.specs.Sha1.{sha1}
 use Rattle.capture.specs.Captures.{captures, kept_wire, IsPayloadOf}
+use Rattle.capture.specs.Growth.{Grows}
 use Rattle.capture.specs.declared.book.Book.{Book}
 use Rattle.capture.specs.declared.captured.Stored.{Stored}
 use Rattle.archive_shelf.proofs.ComparingLaws.{payload_later, placed_later}
-use Rattle.archive_volumes.specs.Spots.{AreSpotsOf, ArePlaced, IsPlaced, IsSpotOf, RefersBack, is_whole, part, spot_of, text_at, whole_from}
+use Rattle.archive_volumes.proofs.GroupPlaces.{each_ends, ends_in_text, group_at_later, in_volume_later}
+use Rattle.warc_text.specs.Books.{IsGroupText}
+use Rattle.archive_volumes.specs.Spots.{AreSpotsOf, ArePlaced, HasGroupAt, IsPlaced, IsSpotOf, RefersBack, is_whole, part, spot_of, text_at, whole_from}
 use Rattle.archive_volumes.specs.declared.spot.Form.{Form}
 use Rattle.archive_volumes.specs.declared.spot.Form.TheVariants as forms
 use Rattle.archive_volumes.specs.declared.spot.Spot.{Spot}
@@ -41,7 +44,7 @@ stands_in (s ∷ ss) last (suc k) spot e = later s ss last k spot (stands_in ss 
 
 -- ---- a book that gained captures
 
-module _ (old new : Book) (added : List Stored) (gains : captures new ≡ captures old ++ added) where
+module _ (old new : Book) (added : List Stored) (gains : captures new ≡ captures old ++ added) (grow : Grows old new) where
   refers_stay : (number : ℕ) (form : Form) → RefersBack old number form → RefersBack new number form
   refers_stay number forms.Whole is = is
   refers_stay number (forms.Same first) is = (
@@ -64,6 +67,7 @@ module _ (old new : Book) (added : List Stored) (gains : captures new ≡ captur
     date = is.date;
     form = is.form;
     refers = refers_stay number spot.form is.refers;
+    inside = in_volume_later old new number spot.volume grow is.inside;
     in_range = is.in_range;
     short = is.short;
     ends = is.ends;
@@ -77,10 +81,10 @@ module _ (old new : Book) (added : List Stored) (gains : captures new ≡ captur
   }
 
 -- as many captures, and the same ones
-pub spots_stay : (old new : Book) → captures new ≡ captures old → (spots : List Spot) → AreSpotsOf old spots → AreSpotsOf new spots
-spots_stay old new same spots are = record {
+pub spots_stay : (old new : Book) → captures new ≡ captures old → Grows old new → (spots : List Spot) → AreSpotsOf old spots → AreSpotsOf new spots
+spots_stay old new same grow spots are = record {
   count = are.count ∙ ap length (sym same);
-  each = λ number spot at. spot_stays old new [] (same ∙ sym (no_more (captures old))) number spot (are.each number spot at);
+  each = λ number spot at. spot_stays old new [] (same ∙ sym (no_more (captures old))) grow number spot (are.each number spot at);
 }
   where
     no_more : (xs : List Stored) → xs ++ [] ≡ xs
@@ -88,15 +92,15 @@ spots_stay old new same spots are = record {
     no_more (x ∷ xs) = ap (λ (l : List Stored). x ∷ l) (no_more xs)
 
 -- one capture more
-pub spots_with : (old new : Book) (stored : Stored) → captures new ≡ captures old ++ stored ∷ [] → (spots : List Spot) (spot : Spot)
+pub spots_with : (old new : Book) (stored : Stored) → captures new ≡ captures old ++ stored ∷ [] → Grows old new → (spots : List Spot) (spot : Spot)
     → AreSpotsOf old spots → IsSpotOf new (length (captures old)) spot → AreSpotsOf new (spots ++ spot ∷ [])
-spots_with old new stored gains spots spot are is = record {
+spots_with old new stored gains grow spots spot are is = record {
   count = omega (arith, are.count, ap length gains, length-append spots (spot ∷ []), length-append (captures old) (stored ∷ []));
   each = λ number other at. by number other (stands_in spots spot number other at);
 }
   where
     by : (number : ℕ) (other : Spot) → Stands spots spot number other → IsSpotOf new number other
-    by number other (before at) = spot_stays old new (stored ∷ []) gains number other (are.each number other at)
+    by number other (before at) = spot_stays old new (stored ∷ []) gains grow number other (are.each number other at)
     by number other (behind last same) =
         subst (λ (s : Spot). IsSpotOf new number s) (sym same) (subst (λ (n : ℕ). IsSpotOf new n spot) (sym (last ∙ are.count)) is)
 
@@ -115,7 +119,7 @@ part_stays text more at long within =
     ap (take long) (drop-append-le at text more (omega (arith, within)))
     ∙ take-append-le long (drop at text) more (omega (arith, within, rest))
 
-module _ (was now : List (List ℕ)) (on : GoOn was now) (old new : Book) (added : List Stored) (gains : captures new ≡ captures old ++ added) where
+module _ (was now : List (List ℕ)) (on : GoOn was now) (old new : Book) (added : List Stored) (gains : captures new ≡ captures old ++ added) (grow : Grows old new) where
   pub place_stays : (number : ℕ) (spot : Spot) → IsPlaced was old number spot → IsPlaced now new number spot
   unfolding payload_stays
   place_stays number spot is =
@@ -123,9 +127,10 @@ module _ (was now : List (List ℕ)) (on : GoOn was now) (old new : Book) (added
       let more : text_at now spot.volume ≡ text ++ on.rest spot.volume = on.each spot.volume is.there in
       record {
         payload = is.payload;
-        has = payload_stays old new added gains number is.payload is.has;
+        has = payload_stays old new added gains grow number is.payload is.has;
         digest = is.digest;
         there = omega (arith, is.there, on.count);
+        group = group_at_later old new number spot.at text (on.rest spot.volume) (text_at now spot.volume) grow more is.group;
         within = omega (arith, is.within, ap length more, length-append text (on.rest spot.volume));
         head = ap (λ (t : List ℕ). part t spot.head_at spot.head_len) more
             ∙ part_stays text (on.rest spot.volume) spot.head_at spot.head_len (omega (arith, is.within)) ∙ is.head;
@@ -134,10 +139,47 @@ module _ (was now : List (List ℕ)) (on : GoOn was now) (old new : Book) (added
       }
 
   pub placed_stay : (spots : List Spot) → ArePlaced was old spots → ArePlaced now new spots
-  placed_stay spots are = record { each = λ number spot at. place_stays number spot (are.each number spot at) }
+  placed_stay spots are = record {
+    each = λ number spot at. place_stays number spot (are.each number spot at);
+    apart = λ number spot next group at after same is.
+        let there = are.each number spot at in
+        let own : HasGroupAt old number (text_at was spot.volume) spot.at = there.group in
+        each_ends old new number spot.at next.at (text_at was spot.volume) group grow own (are.apart number spot next own.group at after same own.is) is;
+  }
 
-  pub placed_with : (spots : List Spot) (spot : Spot) → ArePlaced was old spots → IsPlaced now new (length spots) spot → ArePlaced now new (spots ++ spot ∷ [])
-  placed_with spots spot are is = record { each = λ number other at. by number other (stands_in spots spot number other at) }
+  own_at : (spots : List Spot) → ArePlaced was old spots → (number : ℕ) (other : Spot) → slice_get spots number ≡ Some other
+      → HasGroupAt old number (text_at was other.volume) other.at
+  own_at spots are number other at = (are.each number other at).group
+
+  -- where the last one begins behind what stood in its volume, each still ends before the next one begins
+  last_begins : (other spot next : Spot) → next ≡ spot → next.volume ≡ other.volume → length (text_at was spot.volume) ≤ spot.at
+      → length (text_at was other.volume) ≤ next.at
+  last_begins other spot next last same begins =
+      let volume : spot.volume ≡ other.volume = sym (ap (λ (s : Spot). s.volume) last) ∙ same in
+      omega (arith, begins, ap (λ (k : ℕ). length (text_at was k)) volume, ap (λ (s : Spot). s.at) last)
+
+  between : (spots : List Spot) (spot : Spot) → ArePlaced was old spots → length (text_at was spot.volume) ≤ spot.at
+      → (number : ℕ) (other next : Spot) (group : List ℕ) → Stands spots spot number other → Stands spots spot (suc number) next
+      → next.volume ≡ other.volume → IsGroupText new number group → other.at + length group ≤ next.at
+  between spots spot are begins number other next group (before at) (before after) same g =
+      let own = own_at spots are number other at in
+      each_ends old new number other.at next.at (text_at was other.volume) group grow own (are.apart number other next own.group at after same own.is) g
+  between spots spot are begins number other next group (before at) (behind last is_last) same g =
+      let own = own_at spots are number other at in
+      each_ends old new number other.at next.at (text_at was other.volume) group grow own
+      (omega (arith, ends_in_text old number other.at (text_at was other.volume) own, last_begins other spot next is_last same begins)) g
+  between spots spot are begins number other next group (behind at is_other) (before after) same g =
+      absurd (omega (arith, at, get_within spots (suc number) next after))
+  between spots spot are begins number other next group (behind at is_other) (behind last is_last) same g = absurd (omega (arith, at, last))
+
+  -- one capture more, whose group begins behind what stood in its volume
+  pub placed_with : (spots : List Spot) (spot : Spot) → ArePlaced was old spots → IsPlaced now new (length spots) spot
+      → length (text_at was spot.volume) ≤ spot.at → ArePlaced now new (spots ++ spot ∷ [])
+  placed_with spots spot are is begins = record {
+    each = λ number other at. by number other (stands_in spots spot number other at);
+    apart = λ number other next group at after same g.
+        between spots spot are begins number other next group (stands_in spots spot number other at) (stands_in spots spot (suc number) next after) same g;
+  }
     where
       by : (number : ℕ) (other : Spot) → Stands spots spot number other → IsPlaced now new number other
       by number other (before at) = place_stays number other (are.each number other at)
@@ -159,11 +201,11 @@ first_part front block rest =
     ∙ part_behind front (block ++ rest) 0 (length block) ∙ take-append_seam block rest
 
 -- a head and a wire that stand between a front and a rest
-pub placed_at : (texts : List (List ℕ)) (book : Book) (number : ℕ) (payload : List ℕ) (has : IsPayloadOf book number payload) (volume : ℕ)
-    (front rest : List ℕ) → volume < length texts
+pub placed_at : (texts : List (List ℕ)) (book : Book) (number : ℕ) (payload : List ℕ) (has : IsPayloadOf book number payload) (volume at : ℕ)
+    (front rest : List ℕ) → volume < length texts → HasGroupAt book number (text_at texts volume) at
     → text_at texts volume ≡ front ++ ((has.stored.head ++ kept_wire has.stored.kept) ++ rest)
-    → IsPlaced texts book number (spot_of has.stored (sha1 payload) volume (length front))
-placed_at texts book number payload has volume front rest there composed =
+    → IsPlaced texts book number (spot_of has.stored (sha1 payload) volume at (length front))
+placed_at texts book number payload has volume at front rest there group composed =
     let head : List ℕ = has.stored.head in
     let wire : List ℕ = kept_wire has.stored.kept in
     let text : List ℕ = text_at texts volume in
@@ -174,6 +216,7 @@ placed_at texts book number payload has volume front rest there composed =
       has = has;
       digest = refl;
       there = there;
+      group = group;
       within = omega (arith, ap length composed, length-append front ((head ++ wire) ++ rest), length-append (head ++ wire) rest, length-append head wire);
       head = ap (λ (t : List ℕ). part t (length front) (length head)) as_head ∙ first_part front head (wire ++ rest);
       wire = ap (λ (n : ℕ). part text n (length wire)) (sym (length-append front head))

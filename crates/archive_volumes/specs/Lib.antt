@@ -2,8 +2,10 @@ pub mod Bringing
 pub mod Choosing
 pub mod Decoding
 pub mod Entries
+pub mod Facts
 pub mod Grouping
 pub mod Held
+pub mod KeptGroups
 pub mod Ready
 pub mod Spots
 pub mod Volumes

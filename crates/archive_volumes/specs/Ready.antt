@@ -33,7 +33,7 @@ incoming_of taken digest same = record { taken = taken; digest = digest; same = 
 pub record IsReady {D : Type 0} (old new : Volumes D) (limit : ℕ) (incoming : Incoming) (payload : List ℕ) (ready : Ready) : Type 0 where
   pub stored : (stored_in ready.stored) ≡ as_stored incoming.taken incoming.same
   pub digest : ready.digest ≡ incoming.digest
-  pub kept : ready.spot ≡ spot_of (stored_in ready.stored) ready.digest 0 0
+  pub kept : ready.spot ≡ spot_of (stored_in ready.stored) ready.digest 0 0 0
   pub group : IsGroupFor (book_of old.held) incoming.taken payload incoming.same ready.group
   pub layout : StandsAt incoming.taken incoming.same ready.group ready.layout
   pub room : HasRoomFor new ready.prepared
@@ -51,12 +51,13 @@ book_with volumes_now ready = with_capture (room_of volumes_now ready) (stored_i
 -- what is kept of it once it is written
 abbrev pub spot_in : {D : Type 0} → Volumes D → Ready → Spot
 spot_in volumes_now ready =
-    spot_of (stored_in ready.stored) ready.digest (length (room_of volumes_now ready).volumes - 1) (end_with volumes_now ready.prepared + ready.layout.head_at)
+    spot_of (stored_in ready.stored) ready.digest (length (room_of volumes_now ready).volumes - 1) (end_with volumes_now ready.prepared)
+    (end_with volumes_now ready.prepared + ready.layout.head_at)
 
 -- the capture can be written into these volumes, and kept
 pub record CanCommit {D : Type 0} (d : Ghosts D) (volumes_now : Volumes D) (ready : Ready) : Type 0 where
   pub room : HasRoomFor volumes_now ready.prepared
-  pub kept : ready.spot ≡ spot_of (stored_in ready.stored) ready.digest 0 0
+  pub kept : ready.spot ≡ spot_of (stored_in ready.stored) ready.digest 0 0 0
   pub committed : IsCommitted commit_byte ready.group
   pub fits : end_with volumes_now ready.prepared + length ready.group < 2 ^ 62
   pub gains : captures (book_with volumes_now ready) ≡ captures (book_of volumes_now.held) ++ (stored_in ready.stored) ∷ []

@@ -1,13 +1,15 @@
 -- What is kept of the captures in memory, and where they stand in the volumes.
-use Rattle.std.specs.Prelude.{◌≡◌, ℕ, suc, ◌+◌, ◌^◌, ◌<◌, ◌≤◌, Bool, true, false, List, [], ◌∷◌, length, take, drop, slice_get, slice_index_or, Some, if◌then◌else◌, ⊤}
+use Rattle.std.specs.Prelude.{◌≡◌, ℕ, suc, ◌+◌, ◌^◌, ◌<◌, ◌≤◌, Bool, true, false, List, [], ◌∷◌, ◌++◌, length, take, drop, slice_get, slice_index_or, Some, if◌then◌else◌, ⊤}
 use Rattle.sha1.specs.Sha1.{sha1}
-use Rattle.capture.specs.Captures.{captures, kept_wire, IsPayloadOf}
+use Rattle.capture.specs.Captures.{captures, first_number, kept_wire, IsPayloadOf}
 use Rattle.capture.specs.declared.book.Book.{Book}
+use Rattle.capture.specs.declared.book.Volume.{Volume}
 use Rattle.capture.specs.declared.captured.Kept.{Kept}
 use Rattle.capture.specs.declared.captured.Kept.TheVariants as keeps
 use Rattle.capture.specs.declared.captured.Stored.{Stored}
 use Rattle.revisit_table.specs.Table.{Table}
 use Rattle.time_text.specs.Texts.{InRange}
+use Rattle.warc_text.specs.Books.{IsGroupText}
 use Rattle.archive_shelf.specs.Comparing.{KeepsWire}
 use Rattle.archive_volumes.specs.declared.spot.Form.{Form}
 use Rattle.archive_volumes.specs.declared.spot.Form.TheVariants as forms
@@ -33,15 +35,16 @@ is_same_form forms.Whole = false
 is_same_form (forms.Same first) = true
 is_same_form forms.Cut = false
 
--- what is kept of a capture, by the digest of its payload and the place of its head
-abbrev pub spot_of : Stored → List ℕ → ℕ → ℕ → Spot
-spot_of stored digest volume head_at = record {
+-- what is kept of a capture, by the digest of its payload and the places of its group and of its head
+abbrev pub spot_of : Stored → List ℕ → ℕ → ℕ → ℕ → Spot
+spot_of stored digest volume at head_at = record {
   method = stored.method;
   uri = stored.uri;
   date = stored.date;
   digest = digest;
   form = form_of stored.kept;
   volume = volume;
+  at = at;
   head_at = head_at;
   head_len = length stored.head;
   wire_len = length (kept_wire stored.kept);
@@ -53,6 +56,13 @@ RefersBack book number forms.Whole = ⊤
 RefersBack book number (forms.Same first) = (first < number) × KeepsWire book first
 RefersBack book number forms.Cut = ⊤
 
+-- the capture with this number is one of the volume with that number
+pub record IsInVolume (book : Book) (number volume : ℕ) : Type 0 where
+  pub of : Volume
+  pub placed : slice_get book.volumes volume ≡ Some of
+  pub from : first_number book volume ≤ number
+  pub below : number < first_number book volume + length of.captures
+
 -- whatever the disk tells: this is kept of the book's capture with this number
 pub record IsSpotOf (book : Book) (number : ℕ) (spot : Spot) : Type 0 where
   pub stored : Stored
@@ -62,6 +72,7 @@ pub record IsSpotOf (book : Book) (number : ℕ) (spot : Spot) : Type 0 where
   pub date : spot.date ≡ stored.date
   pub form : spot.form ≡ form_of stored.kept
   pub refers : RefersBack book number spot.form
+  pub inside : IsInVolume book number spot.volume
   pub in_range : InRange spot.date
   pub short : length spot.uri < 2 ^ 61
   pub ends : spot.head_at + spot.head_len + spot.wire_len < 2 ^ 62
@@ -74,12 +85,22 @@ part text at long = take long (drop at text)
 abbrev pub text_at : List (List ℕ) → ℕ → List ℕ
 text_at texts volume = slice_index_or texts volume []
 
--- Where the disk tells: the head and the wire of the capture stand there, and this is the digest of its payload.
+-- the group of the capture with this number begins at this place of a text
+pub record HasGroupAt (book : Book) (number : ℕ) (text : List ℕ) (at : ℕ) : Type 0 where
+  pub front : List ℕ
+  pub group : List ℕ
+  pub rest : List ℕ
+  pub is : IsGroupText book number group
+  pub composed : text ≡ front ++ (group ++ rest)
+  pub behind : at ≡ length front
+
+-- Where the disk tells: the group, the head and the wire of the capture stand there, and this is the digest of its payload.
 pub record IsPlaced (texts : List (List ℕ)) (book : Book) (number : ℕ) (spot : Spot) : Type 0 where
   pub payload : List ℕ
   pub has : IsPayloadOf book number payload
   pub digest : spot.digest ≡ sha1 payload
   pub there : spot.volume < length texts
+  pub group : HasGroupAt book number (text_at texts spot.volume) spot.at
   pub within : spot.head_at + spot.head_len + spot.wire_len ≤ length (text_at texts spot.volume)
   pub head : part (text_at texts spot.volume) spot.head_at spot.head_len ≡ has.stored.head
   pub wire : part (text_at texts spot.volume) (spot.head_at + spot.head_len) spot.wire_len ≡ kept_wire has.stored.kept
@@ -103,9 +124,11 @@ pub record AreSpotsOf (book : Book) (spots : List Spot) : Type 0 where
   pub count : length spots ≡ length (captures book)
   pub each : (number : ℕ) (spot : Spot) → slice_get spots number ≡ Some spot → IsSpotOf book number spot
 
--- where the disk tells: each stands where it says
+-- where the disk tells: each stands where it says, and ends before the next one of its volume begins
 pub record ArePlaced (texts : List (List ℕ)) (book : Book) (spots : List Spot) : Type 0 where
   pub each : (number : ℕ) (spot : Spot) → slice_get spots number ≡ Some spot → IsPlaced texts book number spot
+  pub apart : (number : ℕ) (spot next : Spot) (group : List ℕ) → slice_get spots number ≡ Some spot → slice_get spots (suc number) ≡ Some next
+      → next.volume ≡ spot.volume → IsGroupText book number group → spot.at + length group ≤ next.at
 
 -- ---- the table of digests
 

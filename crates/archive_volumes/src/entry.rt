@@ -180,7 +180,7 @@ pub fn entry_for(
     at: RecordAt,
 ) -> Result<Option<Entry>, Memory>
     requires date { InRange (stored_in ready.now.stored).date }
-    requires kept { ready.now.spot ≡ spot_of (stored_in ready.now.stored) ready.now.digest 0 0 }
+    requires kept { ready.now.spot ≡ spot_of (stored_in ready.now.stored) ready.now.digest 0 0 0 }
     requires is { head.now ≡ (stored_in ready.now.stored).head }
     requires head { (h : grammar.ResponseHead) × IsResponseHeadText head.now h }
     ensures { (h : grammar.ResponseHead) → IsResponseHeadText head.now h → IfOk result (EntersAs (stored_in ready.now.stored) h at) }

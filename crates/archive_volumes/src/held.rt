@@ -1,9 +1,13 @@
 //! The book that an archive holds, without its bytes.
-ghost use Rattle.std.specs.Prelude.{◌≡◌, ◌<◌, [], length, vec_len, IfOk, IfSome, OnOk, None};
+ghost use Rattle.std.specs.Prelude.{◌≡◌, ◌<◌, ◌^◌, [], length, slice_get, vec_len, IfOk, IfSome, OnOk, None, Some};
+ghost use Rattle.capture.specs.Captures.{captures};
+ghost use Rattle.capture.specs.declared.book.Volume.{Volume};
 ghost use Rattle.std.specs.Vec.{vec_capacity};
+ghost use Rattle.time_text.specs.Texts.{InRange};
 ghost use Rattle.archive_shelf.specs.Storing.{empty_book, new_volume, with_capture, with_volume};
 
 use crate::stored_ghost::StoredGhost;
+use crate::volume_facts::{VolumeFacts, tell};
 use capture::{Memory, Stored};
 use std::alloc::Global;
 use uuid::Uuid;
@@ -13,6 +17,7 @@ use uuid::Uuid;
 pub struct Shadow {
     born: u64,
     captures: Vec<StoredGhost>,
+    ghost in_range: { InRange born },
 }
 
 /// A book, of whose captures only clauses know.
@@ -25,6 +30,7 @@ pub struct Held {
 }
 
 impl Held {
+    ghost use Rattle.archive_volumes.specs.Facts.{facts_of};
     ghost use Rattle.archive_volumes.specs.Held.{HasSpace, TakesCapture, TakesVolume, book_of, is_filled, stored_in, volume_of};
 
     /// A book without volumes. Takes no memory.
@@ -48,6 +54,48 @@ impl Held {
         }
     }
 
+    /// When the volume with this number was begun.
+    pub(crate) fn born(&self, volume: u32) -> u64
+        requires { volume < length (book_of self.now).volumes }
+        ensures born { (v : Volume) → slice_get (book_of self.now).volumes volume ≡ Some v → result ≡ v.born }
+        ensures in_range { InRange result }
+    {
+        let sealed = self.sealed.as_slice();
+        let number = volume as usize;
+        if number < sealed.len() {
+            return sealed[number].born;
+        }
+        match &self.last {
+            Some(last) => last.born,
+            None => unreachable!(),
+        }
+    }
+
+    /// What is told of its volumes, in order.
+    pub fn facts(&self, alloc: Global) -> Result<Vec<VolumeFacts>, Memory>
+        requires volumes { length (book_of self.now).volumes < 2 ^ 32 }
+        requires captures { length (captures (book_of self.now)) < 2 ^ 32 }
+        ensures { IfOk result (λ facts. facts.items ≡ facts_of (book_of self.now)) }
+    {
+        let sealed = self.sealed.as_slice();
+        let mut facts = Vec::new(alloc);
+        let mut first = 0;
+        let mut done = 0;
+        'volumes: while done < sealed.len() {
+            let count = sealed[done].captures.len() as u32;
+            first = tell(&mut facts, first, count)?;
+            done += 1;
+        }
+        match &self.last {
+            Some(last) => {
+                let count = last.captures.len() as u32;
+                tell(&mut facts, first, count)?;
+                Ok(facts)
+            }
+            None => Ok(facts),
+        }
+    }
+
     /// Makes room for one capture more in the last volume.
     pub fn reserve(&mut self) -> Result<(), Memory>
         requires { 0 < length (book_of self.old).volumes }
@@ -62,6 +110,7 @@ impl Held {
 
     /// A new volume with room for one capture, and room for it behind the others.
     pub fn prepare_volume(&mut self, alloc: Global, born: u64) -> Result<Shadow, Memory>
+        requires { InRange born }
         ensures volume { IfOk result (λ shadow. volume_of shadow ≡ new_volume born) }
         ensures space { IfOk result HasSpace }
         ensures book { book_of self.new ≡ book_of self.old }

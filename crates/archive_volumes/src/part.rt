@@ -16,7 +16,7 @@ use warc_journal::{DiskFault, Place};
 
 /// Why bytes weren't read.
 #[derive(Clone, Copy, Debug, PartialEq, Eq)]
-pub(crate) enum ReadFault {
+pub enum ReadFault {
     /// The disk failed: its count of faults rose.
     DiskFault,
     /// There was no memory.

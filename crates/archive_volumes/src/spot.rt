@@ -61,7 +61,9 @@ pub struct Spot {
     pub form: Form,
     /// The volume in which it stands.
     pub volume: u32,
-    /// Where in that volume's text the response's head begins, in bytes. The wire that is kept stands behind the head.
+    /// Where in that volume's text its group begins, in bytes, which is where its first record does.
+    pub at: u64,
+    /// Where in that text the response's head begins, in bytes. The wire that is kept stands behind the head.
     pub head_at: u64,
     /// The head's length in bytes.
     pub head_len: u64,
@@ -70,10 +72,10 @@ pub struct Spot {
 }
 
 impl Spot {
-    /// What is kept of a capture whose payload has this digest, and whose head begins at this place of a volume's text.
-    /// The rest of it is let go. Takes no memory.
-    pub fn of(stored: Stored, digest: Digest, volume: u32, head_at: u64) -> Spot
-        ensures { result ≡ spot_of stored digest volume head_at }
+    /// What is kept of a capture whose payload has this digest, and whose group and head begin at these places of a volume's
+    /// text. The rest of it is let go. Takes no memory.
+    pub fn of(stored: Stored, digest: Digest, volume: u32, at: u64, head_at: u64) -> Spot
+        ensures { result ≡ spot_of stored digest volume at head_at }
     {
         let Stored {
             method,
@@ -93,6 +95,7 @@ impl Spot {
             digest,
             form,
             volume,
+            at,
             head_at,
             head_len,
             wire_len,
@@ -106,7 +109,7 @@ impl Spot {
         digest: &Digest,
         same: Option<u32>,
     ) -> Result<Spot, Memory>
-        ensures { IfOk result (λ spot. spot ≡ spot_of (as_stored taken.now same) digest.now 0 0) }
+        ensures { IfOk result (λ spot. spot ≡ spot_of (as_stored taken.now same) digest.now 0 0 0) }
     {
         Ok(Spot {
             method: taken.method.copy()?,
@@ -115,18 +118,20 @@ impl Spot {
             digest: *digest,
             form: form_taken(taken.cut, same),
             volume: 0,
+            at: 0,
             head_at: 0,
             head_len: taken.head.as_slice().len() as u64,
             wire_len: wire_len_taken(taken, same),
         })
     }
 
-    /// The same of a capture whose head begins at this place of a volume's text.
-    pub(crate) fn standing(self, volume: u32, head_at: u64) -> Spot
-        ensures { result ≡ record self { volume = volume; head_at = head_at } }
+    /// The same of a capture whose group and head begin at these places of a volume's text.
+    pub(crate) fn standing(self, volume: u32, at: u64, head_at: u64) -> Spot
+        ensures { result ≡ record self { volume = volume; at = at; head_at = head_at } }
     {
         Spot {
             volume,
+            at,
             head_at,
             ..self
         }

@@ -118,7 +118,7 @@ impl<D: Disk> Volumes<D> {
             prepared,
         } = ready;
         let place = self.write(prepared, stored, group.as_slice())?;
-        let spot = spot.standing(place.volume, place.at + layout.head_at);
+        let spot = spot.standing(place.volume, place.at, place.at + layout.head_at);
         keep(spots, table, spot);
         Ok(())
     }

@@ -13,6 +13,7 @@ returns c = λ h of. record {
   stored = c.refer-stored.ensures;
   digest = refl;
   volume = refl;
+  at = refl;
   head_at = refl;
   length = λ wire kept. kept_length c.wires_have_one_payload.ensures.one c.args.group c.requires.found.is.payload_len c.args.first _ c.refer-stored.ensures wire kept;
   fits = omega arith;

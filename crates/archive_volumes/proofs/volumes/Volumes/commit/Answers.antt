@@ -37,8 +37,8 @@ pub returns-clause-spots : goal.returns-clause-spots
 returns-clause-spots g c =
     let is_spot : c.standing-spot.result ≡ spot_in c.args.self.now c.args.ready =
     c.standing-spot.ensures
-    ∙ ap (λ (s : Spot). record s { volume = c.in_ok-place.place.volume; head_at = c.in_ok-place.place.at + c.args.ready.layout.head_at }) c.requires.ready.kept
-    ∙ ap (λ (p : Place). spot_of (stored_in c.args.ready.stored) c.args.ready.digest p.volume (p.at + c.args.ready.layout.head_at)) c.in_ok-place.ensures.place in
+    ∙ ap (λ (s : Spot). record s { volume = c.in_ok-place.place.volume; at = c.in_ok-place.place.at; head_at = c.in_ok-place.place.at + c.args.ready.layout.head_at }) c.requires.ready.kept
+    ∙ ap (λ (p : Place). spot_of (stored_in c.args.ready.stored) c.args.ready.digest p.volume p.at (p.at + c.args.ready.layout.head_at)) c.in_ok-place.ensures.place in
     kept_spots g.D.Disk c.args.self.now c.args.ready c.requires.ready (book_of c.write.new.self.held) c.args.spots.now.items c.keep.new.spots.items c.standing-spot.result
     c.requires.spots c.in_ok-place.ensures.stored c.keep.ensures.spots is_spot
 
@@ -46,11 +46,11 @@ pub returns-clause-placed : goal.returns-clause-placed
 returns-clause-placed g c told =
     let is_spot : c.standing-spot.result ≡ spot_in c.args.self.now c.args.ready =
     c.standing-spot.ensures
-    ∙ ap (λ (s : Spot). record s { volume = c.in_ok-place.place.volume; head_at = c.in_ok-place.place.at + c.args.ready.layout.head_at }) c.requires.ready.kept
-    ∙ ap (λ (p : Place). spot_of (stored_in c.args.ready.stored) c.args.ready.digest p.volume (p.at + c.args.ready.layout.head_at)) c.in_ok-place.ensures.place in
+    ∙ ap (λ (s : Spot). record s { volume = c.in_ok-place.place.volume; at = c.in_ok-place.place.at; head_at = c.in_ok-place.place.at + c.args.ready.layout.head_at }) c.requires.ready.kept
+    ∙ ap (λ (p : Place). spot_of (stored_in c.args.ready.stored) c.args.ready.digest p.volume p.at (p.at + c.args.ready.layout.head_at)) c.in_ok-place.ensures.place in
     let given : c.as_slice.result.now ≡ c.args.ready.group = search rules in
     let all : List (List ℕ) = texts_with (texts g.D.Disk c.args.self.now.journal) c.args.ready.prepared in
-    kept_placed g.D.Disk c.args.self.now c.args.ready c.requires.ready told (texts g.D.Disk c.write.new.self.journal) (book_of c.write.new.self.held)
+    kept_placed g.D.Disk c.args.self.now c.args.ready c.requires.ready told c.requires.holds (texts g.D.Disk c.write.new.self.journal) (book_of c.write.new.self.held)
     c.args.spots.now.items c.keep.new.spots.items c.standing-spot.result c.requires.spots (c.requires.placed told)
     (c.in_ok-place.ensures.text told ∙ ap (λ (t : List ℕ). with_more all t) given)
     c.in_ok-place.ensures.stored c.keep.ensures.spots is_spot

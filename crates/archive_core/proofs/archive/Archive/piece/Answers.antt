@@ -1,0 +1,31 @@
+use Rattle.std.proofs.Common.{rules, ◌≡◌, ◌<◌, ◌≤◌, refl, sym, subst, ◌∙◌, arith}
+use Rattle.std.specs.Prelude.{length}
+use Rattle.capture.specs.Captures.{captures}
+use Rattle.capture.specs.declared.book.Book.{Book}
+use Rattle.archive_volumes.specs.Held.{book_of}
+use Rattle.archive_volumes.specs.KeptGroups.{GivesPieceFrom}
+use Rattle.archive_core.specs.Holdings.{Holdings, IsArchive}
+use Rattle.archive_core.specs.View.{holdings_of}
+use Rattle.archive_core.proofs.PieceLaws.{gives_by}
+use Rattle.archive_core.proofs.ReadLaws as laws
+use Rattle.archive_core.proofs.archive.Archive.piece.Goals as goal
+
+pub returns-then-number-count-clause-gives : goal.returns-then-number-count-clause-gives
+returns-then-number-count-clause-gives g c =
+    let many : c.len-count.result ≡ length c.self.inside.spots.items = search rules in
+    let count : c.len-count.result ≡ length (captures c.args.self.now.book) =
+    many ∙ subst (λ (held : Holdings _). length c.self.inside.spots.items ≡ length (captures held.book)) c.self.view_is c.self.invariant.spots.count in
+    (count, c.if-number-count.true)
+
+pub invariant_of-self : goal.invariant_of-self
+invariant_of-self g c =
+    laws.reads_archive g.D.Disk (holdings_of c.self.inside) c.self.inside.volumes c.piece.new.self refl refl c.piece.ensures.reads c.self.invariant
+
+pub returns-clause-gives : goal.returns-clause-gives
+returns-clause-gives g c =
+    let many : c.len-count.result ≡ length c.self.inside.spots.items = search rules in
+    let same = laws.same_book g.D.Disk (holdings_of c.self.inside) c.self.inside.volumes c.piece.new.self refl refl c.piece.ensures.reads in
+    gives_by g.D.Disk (record (holdings_of c.self.inside) { journal = c.piece.new.self.journal; book = book_of c.piece.new.self.held })
+    c.args.number c.piece.result
+    (subst (λ (b : Book). c.args.number < length (captures b)) (sym same) (omega (arith, many, c.self.invariant.spots.count, c.if-number-count.false)))
+    (subst (λ (b : Book). GivesPieceFrom g.D.Disk.tells b c.args.number c.piece.result) (sym same) c.piece.ensures.gives)

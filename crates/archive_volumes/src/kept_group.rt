@@ -1,0 +1,165 @@
+//! The group of a capture that is kept, as the disk has it.
+ghost use Rattle.std.specs.Prelude.{◌≡◌, ◌+◌, ◌<◌, ℕ, List, IfOk, IfSome, IsTrue, Some, length, slice_get};
+ghost use Rattle.capture.specs.Faults.{CountsFaults};
+ghost use Rattle.warc_journal.specs.Journals.{disk_of, texts, volumes};
+ghost use Rattle.warc_scan.specs.Outlines.{BeginsWithOutline};
+ghost use Rattle.archive_shelf.specs.Answers.{CountsIf};
+ghost use Rattle.archive_volumes.specs.Bringing.{OnlyReads, is_read_fault};
+ghost use Rattle.archive_volumes.specs.Held.{book_of};
+ghost use Rattle.archive_volumes.specs.KeptGroups.{EndsGroup, IsFirstIn, IsKeptGroup, IsNextAt, IsSomeGroup};
+ghost use Rattle.archive_volumes.specs.Spots.{AreSpotsOf, ArePlaced, text_at};
+ghost use Rattle.archive_volumes.specs.Volumes.{HoldsBook, IsMeasured};
+ghost use Rattle.archive_volumes.specs.declared.spot.Spot.{Spot};
+
+use crate::part::ReadFault;
+use crate::spot::Spot;
+use crate::volumes::Volumes;
+use capture::{Bytes, Memory};
+use disk_model::Disk;
+use std::alloc::Global;
+use uuid::Uuid;
+use warc_journal::{DiskFault, Place};
+use warc_scan::{NoRecord, Outline, next_outline};
+
+/// The group of a capture, as it was read.
+#[derive(Debug, Drop)]
+pub enum KeptGroup {
+    /// A group with the capture's number: its bytes, and what they tell.
+    Right { bytes: Bytes, outline: Outline },
+    /// No group with its number stands there.
+    Damaged,
+}
+
+/// The group with this number with which the bytes begin.
+fn group_in(
+    alloc: Global,
+    bytes: Vec<u8>,
+    namespace: &Uuid,
+    number: u32,
+) -> Result<KeptGroup, Memory>
+    ensures { IfOk result (IsFirstIn namespace.now number bytes.items) }
+{
+    match next_outline(alloc, bytes.as_slice(), false, namespace, number) {
+        Ok(outline) => Ok(cut_off(bytes, outline)),
+        Err(NoRecord::End) => Ok(KeptGroup::Damaged),
+        Err(NoRecord::Unfinished) => Ok(KeptGroup::Damaged),
+        Err(NoRecord::Damaged) => Ok(KeptGroup::Damaged),
+        // All the bytes are there.
+        Err(NoRecord::Need(_)) => unreachable!(),
+        Err(NoRecord::Memory) => Err(Memory),
+    }
+}
+
+/// The bytes of which this is told, without what stands behind them.
+fn cut_off(mut bytes: Vec<u8>, outline: Outline) -> KeptGroup
+    ensures { (namespace : List ℕ) (number : ℕ) → BeginsWithOutline namespace number bytes.items outline
+        → IsFirstIn namespace number bytes.items result }
+{
+    bytes.truncate(outline.len as usize);
+    KeptGroup::Right {
+        bytes: Bytes::of(bytes),
+        outline,
+    }
+}
+
+/// The volume in which the capture with this number stands.
+pub(crate) fn volume_at(spots: &[Spot], number: usize) -> u32
+    requires { number < length spots.now }
+    ensures { (spot : Spot) → slice_get spots.now number ≡ Some spot → result ≡ spot.volume }
+{
+    spots[number].volume
+}
+
+/// Where the capture behind the one with this number begins, if it stands in this volume.
+fn next_at(spots: &[Spot], number: u32, volume: u32) -> Option<u64>
+    requires { number < length spots.now }
+    ensures { IfSome result (IsNextAt spots.now number volume) }
+{
+    let next = number as usize + 1;
+    if next == spots.len() {
+        return None;
+    }
+    let spot = &spots[next];
+    if spot.volume == volume {
+        Some(spot.at)
+    } else {
+        None
+    }
+}
+
+impl<D: Disk> Volumes<D> {
+    /// The length of the file of a volume, which isn't the last one.
+    fn sealed_len(&mut self, volume: u32) -> Result<u64, DiskFault>
+        requires holds { HoldsBook D.Disk self.old.journal (book_of self.old.held) }
+        requires there { volume + 1 < volumes self.old.journal }
+        ensures len { IsTrue D.tells → IfOk result (λ len. len ≡ length (text_at (texts D.Disk self.old.journal) volume)) }
+        ensures reads { OnlyReads D.Disk self.old self.new }
+        ensures faults { CountsFaults (D.faults (disk_of self.old.journal)) (D.faults (disk_of self.new.journal)) result }
+    {
+        self.journal.len(volume)
+    }
+
+    /// The length of a volume's text in bytes.
+    fn text_len(&mut self, volume: u32) -> Result<u64, ReadFault>
+        requires holds { HoldsBook D.Disk self.old.journal (book_of self.old.held) }
+        requires there { volume < volumes self.old.journal }
+        ensures len { IsTrue D.tells → IfOk result (λ len. len ≡ length (text_at (texts D.Disk self.old.journal) volume)) }
+        ensures reads { OnlyReads D.Disk self.old self.new }
+        ensures faults { CountsIf (is_read_fault result) (D.faults (disk_of self.old.journal)) (D.faults (disk_of self.new.journal)) }
+    {
+        let last = self.journal.volumes() - 1;
+        if volume == last {
+            return Ok(self.journal.last_len());
+        }
+        let len = self.sealed_len(volume)?;
+        Ok(len)
+    }
+
+    /// Where the group of a capture may end: where the next one of its volume begins, or the volume's text ends.
+    fn group_end(&mut self, spots: &[Spot], number: u32) -> Result<u64, ReadFault>
+        requires holds { HoldsBook D.Disk self.old.journal (book_of self.old.held) }
+        requires measured { IsMeasured self.old.journal (book_of self.old.held) }
+        requires below { number < length spots.now }
+        requires spots { AreSpotsOf (book_of self.old.held) spots.now }
+        requires placed { IsTrue D.tells → ArePlaced (texts D.Disk self.old.journal) (book_of self.old.held) spots.now }
+        ensures end { IsTrue D.tells → IfOk result (EndsGroup (texts D.Disk self.old.journal) (book_of self.old.held) spots.now number) }
+        ensures reads { OnlyReads D.Disk self.old self.new }
+        ensures faults { CountsIf (is_read_fault result) (D.faults (disk_of self.old.journal)) (D.faults (disk_of self.new.journal)) }
+    {
+        let volume = volume_at(spots, number as usize);
+        match next_at(spots, number, volume) {
+            Some(at) => Ok(at),
+            None => self.text_len(volume),
+        }
+    }
+
+    /// The group of the capture with this number, of those whose spots these are. It is read by its place, and no byte of
+    /// another one is.
+    pub fn read_group(
+        &mut self,
+        alloc: Global,
+        spots: &[Spot],
+        number: u32,
+    ) -> Result<KeptGroup, ReadFault>
+        requires holds { HoldsBook D.Disk self.old.journal (book_of self.old.held) }
+        requires measured { IsMeasured self.old.journal (book_of self.old.held) }
+        requires below { number < length spots.now }
+        requires spots { AreSpotsOf (book_of self.old.held) spots.now }
+        requires placed { IsTrue D.tells → ArePlaced (texts D.Disk self.old.journal) (book_of self.old.held) spots.now }
+        ensures some { IfOk result (IsSomeGroup (book_of self.old.held).namespace number) }
+        ensures exact { IsTrue D.tells → IfOk result (IsKeptGroup (book_of self.old.held) number) }
+        ensures reads { OnlyReads D.Disk self.old self.new }
+        ensures faults { CountsIf (is_read_fault result) (D.faults (disk_of self.old.journal)) (D.faults (disk_of self.new.journal)) }
+    {
+        let spot = &spots[number as usize];
+        let end = self.group_end(spots, number)?;
+        let place = Place {
+            volume: spot.volume,
+            at: spot.at,
+            len: end.saturating_sub(spot.at),
+        };
+        let bytes = self.read_part(alloc, place)?;
+        let kept = group_in(alloc, bytes, &self.held.namespace, number)?;
+        Ok(kept)
+    }
+}

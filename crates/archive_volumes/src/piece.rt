@@ -1,0 +1,95 @@
+//! The piece of a capture: its group, with the warcinfo of its volume before it where it is the first of that.
+ghost use Rattle.std.specs.Prelude.{◌≡◌, ◌<◌, ℕ, IfOk, IsFalse, IsTrue, Some, length, slice_get};
+ghost use Rattle.warc_journal.specs.Journals.{disk_of, texts};
+ghost use Rattle.archive_shelf.specs.Answers.{CountsIf};
+ghost use Rattle.archive_shelf.specs.Pieces.{IsFirstOf, is_piece_fault};
+ghost use Rattle.archive_volumes.specs.Bringing.{OnlyReads};
+ghost use Rattle.archive_volumes.specs.Held.{book_of};
+ghost use Rattle.archive_volumes.specs.KeptGroups.{GivesPieceFrom, HasFront};
+ghost use Rattle.archive_volumes.specs.Spots.{AreSpotsOf, ArePlaced};
+ghost use Rattle.archive_volumes.specs.Volumes.{HoldsBook, IsMeasured};
+ghost use Rattle.archive_volumes.specs.declared.spot.Spot.{Spot};
+ghost use Rattle.capture.specs.declared.book.Book.{Book};
+
+use crate::kept_group::{KeptGroup, volume_at};
+use crate::spot::Spot;
+use crate::volumes::Volumes;
+use archive_shelf::BringFault;
+use capture::{Bytes, Memory};
+use disk_model::Disk;
+use std::alloc::Global;
+use warc_text::{info_len, put_info};
+
+/// Whether the capture with this number is the first of its volume.
+fn is_first(spots: &[Spot], number: u32) -> bool
+    requires { number < length spots.now }
+    ensures first { IsTrue result → (book : Book) (spot : Spot) → AreSpotsOf book spots.now → slice_get spots.now number ≡ Some spot
+        → IsFirstOf book number spot.volume }
+    ensures other { IsFalse result → (book : Book) → AreSpotsOf book spots.now → (k : ℕ) → IsFirstOf book number k → ⊥ }
+{
+    if number == 0 {
+        return true;
+    }
+    let before = volume_at(spots, number as usize - 1);
+    let own = volume_at(spots, number as usize);
+    before != own
+}
+
+impl<D: Disk> Volumes<D> {
+    /// The group with what stands before it in the piece of its capture.
+    fn with_front(
+        &self,
+        alloc: Global,
+        spots: &[Spot],
+        number: u32,
+        group: Bytes,
+    ) -> Result<Bytes, Memory>
+        requires below { number < length spots.now }
+        requires spots { AreSpotsOf (book_of self.now.held) spots.now }
+        ensures { IfOk result (HasFront (book_of self.now.held) number group) }
+    {
+        if !is_first(spots, number) {
+            return Ok(group);
+        }
+        let volume = volume_at(spots, number as usize);
+        let born = self.held.born(volume);
+        let mut piece = Vec::with_capacity(alloc, info_len(volume, born) as usize)?;
+        put_info(&mut piece, &self.held.namespace, volume, born)?;
+        piece.extend_from_slice(group.as_slice())?;
+        Ok(Bytes::of(piece))
+    }
+
+    /// The piece of the capture with this number, of those whose spots these are.
+    pub fn piece(&mut self, alloc: Global, spots: &[Spot], number: u32) -> Result<Bytes, BringFault>
+        requires holds { HoldsBook D.Disk self.old.journal (book_of self.old.held) }
+        requires measured { IsMeasured self.old.journal (book_of self.old.held) }
+        requires below { number < length spots.now }
+        requires spots { AreSpotsOf (book_of self.old.held) spots.now }
+        requires placed { IsTrue D.tells → ArePlaced (texts D.Disk self.old.journal) (book_of self.old.held) spots.now }
+        ensures gives { GivesPieceFrom D.tells (book_of self.old.held) number result }
+        ensures reads { OnlyReads D.Disk self.old self.new }
+        ensures faults { CountsIf (is_piece_fault result) (D.faults (disk_of self.old.journal)) (D.faults (disk_of self.new.journal)) }
+    {
+        let read = self.read_group(alloc, spots, number)?;
+        let kept = spots[number as usize].digest;
+        match read {
+            KeptGroup::Right { bytes, outline } => {
+                let found = outline.digest;
+                if found != kept {
+                    return Err(BringFault::Damaged {
+                        number,
+                        kept,
+                        found: Some(found),
+                    });
+                }
+                let piece = self.with_front(alloc, spots, number, bytes)?;
+                Ok(piece)
+            }
+            KeptGroup::Damaged => Err(BringFault::Damaged {
+                number,
+                kept,
+                found: None,
+            }),
+        }
+    }
+}
