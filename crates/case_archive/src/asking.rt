@@ -2,6 +2,7 @@
 use crate::filling::{filled, load_in};
 use crate::finding::{brought, entry_text, found_by_date, mapped, starting_with};
 use crate::opening::counts_text;
+use crate::pieces::{piece_of, volumes_text};
 use crate::storing::{compared, rolled, stored};
 use crate::taking::{exchanged_in, prepared_of};
 use crate::words;
@@ -31,6 +32,8 @@ pub fn told<D: Disk>(
         "counts" => words::text(counts_text(alloc, archive.counts())),
         "faults" => words::text(faults_text(alloc, archive.faults())),
         "entry" => entry(alloc, archive, text),
+        "piece" => piece(alloc, archive, text),
+        "volumes" => words::bytes(volumes_text(alloc, archive)),
         _ => Ok(None),
     }
 }
@@ -87,6 +90,17 @@ fn entry<D: Disk>(
 ) -> Result<Option<Vec<u8>>, Memory> {
     match capture_in(text) {
         Some(number) => words::text(entry_text(alloc, archive.entry(number))),
+        None => Ok(None),
+    }
+}
+
+fn piece<D: Disk>(
+    alloc: Global,
+    archive: &mut Archive<D>,
+    text: &[u8],
+) -> Result<Option<Vec<u8>>, Memory> {
+    match capture_in(text) {
+        Some(number) => words::bytes(piece_of(alloc, archive, number)),
         None => Ok(None),
     }
 }

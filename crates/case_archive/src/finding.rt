@@ -34,7 +34,8 @@ fn put_brought(out: &mut Vec<u8>, brought: &Brought) -> Result<(), Memory> {
     put_all(out, brought.payload.as_slice())
 }
 
-fn fault_bytes(alloc: Global, fault: BringFault) -> Result<Vec<u8>, Memory> {
+/// Why no capture was brought.
+pub fn fault_bytes(alloc: Global, fault: BringFault) -> Result<Vec<u8>, Memory> {
     let text = fault_text(alloc, fault)?;
     Ok(text.into_bytes())
 }

@@ -9,6 +9,7 @@ mod finding;
 mod held;
 mod looking;
 mod opening;
+mod pieces;
 mod play;
 mod storing;
 mod taking;
