@@ -7,11 +7,13 @@ mod DecodeLaws
 mod FeedLaws
 mod FieldLaws
 pub mod HeldLaws
+mod InPlaceLaws
 mod LineSteps
 mod MemberLaws
 mod NumberLaws
 mod PlaceLaws
 mod RunLaws
+mod SliceLaws
 mod SplitLaws
 mod SplitSteps
 mod TrailerLaws

@@ -184,18 +184,25 @@ same_chunk text line data_bytes behind at c rest is first =
     let len : length data_bytes ≡ length c.data_bytes = at.size ∙ ap chunk_size same.0 ∙ sym is.size in
     (same_fronts data_bytes c.data_bytes behind (crlf_bytes ++ rest) len same.1).1
 
-of_two_sizes : (text : List ℕ) (l k : ChunkLine) (rest more : List ℕ) → LineFirst text l rest → LineFirst text k more
+pub same_bytes : (text : List ℕ) (line : ChunkLine) (data_bytes behind : List ℕ) → DataFirst text line data_bytes behind
+    → (c : Chunk) (rest : List ℕ) → IsChunk c → LineFirst text c.line (behind_line c rest) → data_bytes ≡ c.data_bytes
+same_bytes text line data_bytes behind at c rest is first =
+    let same = one_line text line c.line _ _ at.first first in
+    let len : length data_bytes ≡ length c.data_bytes = at.size ∙ ap chunk_size same.0 ∙ sym is.size in
+    (same_fronts data_bytes c.data_bytes behind (crlf_bytes ++ rest) len same.1).0
+
+pub of_two_sizes : (text : List ℕ) (l k : ChunkLine) (rest more : List ℕ) → LineFirst text l rest → LineFirst text k more
     → 0 < chunk_size l → chunk_size k ≡ 0 → ⊥
 of_two_sizes text l k rest more first second some zero =
     absurd (omega (arith, some, zero, ap chunk_size (one_line text l k rest more first second).0))
 
-not_in_data : (text : List ℕ) (line : ChunkLine) (data_bytes behind : List ℕ) → DataFirst text line data_bytes behind
+pub not_in_data : (text : List ℕ) (line : ChunkLine) (data_bytes behind : List ℕ) → DataFirst text line data_bytes behind
     → (k : ChunkLine) (come : List ℕ) → LineFirst text k come → length come < chunk_size k → ⊥
 not_in_data text line data_bytes behind at k come first few =
     let same = one_line text line k _ come at.first first in
     absurd (omega (arith, few, at.size, ap chunk_size same.0, ap length same.1, length-append data_bytes behind))
 
-same_line_end : (text : List ℕ) (line : ChunkLine) (data_bytes behind : List ℕ) → DataFirst text line data_bytes behind
+pub same_line_end : (text : List ℕ) (line : ChunkLine) (data_bytes behind : List ℕ) → DataFirst text line data_bytes behind
     → (k : ChunkLine) (others come : List ℕ) → LineFirst text k (others ++ come) → length others ≡ chunk_size k → behind ≡ come
 same_line_end text line data_bytes behind at k others come first size =
     let same = one_line text line k _ _ at.first first in

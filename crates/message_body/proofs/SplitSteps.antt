@@ -146,7 +146,7 @@ nothing_behind_data text d holds wrong =
 
 -- ---- a chunk
 
-chunk_data_first : (text : List ℕ) (d : Span) (holds : HoldsChunk text d)
+pub chunk_data_first : (text : List ℕ) (d : Span) (holds : HoldsChunk text d)
     → DataFirst text holds.chunk.line holds.chunk.data_bytes (crlf_bytes ++ drop (d.end + 2) text)
 chunk_data_first text d holds = record {
   first = record {
@@ -160,7 +160,7 @@ chunk_data_first text d holds = record {
     regrouped : (a b c d : List ℕ) → a ++ b ++ c ++ d ≡ a ++ (b ++ (c ++ d))
     regrouped a b c d = simp append_assoc
 
-not_begun : (rest : List ℕ) → IsBegunLineEnd (crlf_bytes ++ rest) → ⊥
+pub not_begun : (rest : List ℕ) → IsBegunLineEnd (crlf_bytes ++ rest) → ⊥
 not_begun rest (inl none) = cc
 not_begun rest (inr cr) = cc
 

@@ -4,4 +4,5 @@ pub mod BodyStream
 pub mod Framings
 pub mod Lent
 pub mod Readings
+pub mod Slices
 pub mod steps

@@ -20,7 +20,7 @@ pub enum Decoded {
 
 /// What stands behind the size line of 0.
 #[derive(Clone, Copy, Debug, PartialEq, Eq)]
-enum TrailerSeen {
+pub enum TrailerSeen {
     /// One trailer section.
     Whole,
     /// The beginning of a section, which hasn't ended.
@@ -62,7 +62,7 @@ pub fn decode(alloc: Global, wire: &[u8]) -> Result<Decoded, Memory>
 }
 
 /// What the text behind the size line of 0 is.
-fn trailer_of(alloc: Global, text: &[u8]) -> Result<TrailerSeen, Memory>
+pub fn trailer_of(alloc: Global, text: &[u8]) -> Result<TrailerSeen, Memory>
     ensures { IfOk result (IsTrailerSeen text.now) }
 {
     match find_section_end(text) {

@@ -1,5 +1,5 @@
 -- What a text is that is decoded as a chunked body (RFC 9112, section 7.1): a whole body, one that was cut, or neither.
-use Rattle.std.specs.Prelude.{◌≡◌, ◌≢◌, ℕ, None, List}
+use Rattle.std.specs.Prelude.{◌≡◌, ◌≢◌, ℕ, None, List, take}
 use Rattle.capture.specs.Head.{section_len}
 use Rattle.capture.specs.Payload.{IsJoined, IsCutJoined}
 use Rattle.http_head.specs.Sections.{IsSection}
@@ -8,6 +8,8 @@ use Rattle.message_body.specs.declared.decode.Decoded.{Decoded}
 use Rattle.message_body.specs.declared.decode.Decoded.TheVariants.{Whole, Cut, Neither}
 use Rattle.message_body.specs.declared.decode.TrailerSeen.{TrailerSeen}
 use Rattle.message_body.specs.declared.decode.TrailerSeen.TheVariants as seen
+use Rattle.message_body.specs.declared.in_place.Gathered.{Gathered}
+use Rattle.message_body.specs.declared.in_place.Gathered.TheVariants as gathered
 
 -- what the text is, and its data
 abbrev pub IsDecoded : List ℕ → Decoded → Type 0
@@ -20,3 +22,9 @@ abbrev pub IsTrailerSeen : List ℕ → TrailerSeen → Type 0
 IsTrailerSeen text seen.Whole = IsSection text
 IsTrailerSeen text seen.Open = section_len text ≡ None
 IsTrailerSeen text seen.Wrong = (IsSection text → ⊥) × (section_len text ≢ None)
+
+-- what the text was whose data were moved to the front of these bytes
+abbrev pub IsGathered : List ℕ → List ℕ → Gathered → Type 0
+IsGathered wire bytes (gathered.Whole len) = IsJoined wire (take len bytes)
+IsGathered wire bytes (gathered.Cut len) = IsCutJoined wire (take len bytes)
+IsGathered wire bytes gathered.Neither = HasNoBody wire × HasNoCut wire
