@@ -24,6 +24,7 @@ pub mod OpeningKinds
 pub mod OpeningTold
 pub mod Pieces
 pub mod ReadLaws
+pub mod RecordTexts
 pub mod Refusals
 pub mod RequestLaws
 pub mod RevisitEnds
@@ -32,6 +33,7 @@ pub mod StepLaws
 pub mod StopLaws
 pub mod TargetAscii
 pub mod Targets
+pub mod ToldLens
 pub mod UuidFronts
 pub mod UuidParsing
 pub mod Values

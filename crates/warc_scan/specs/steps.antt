@@ -7,6 +7,7 @@ pub mod Fronts
 pub mod InfoFronts
 pub mod Kinds
 pub mod OpeningFronts
+pub mod RecordLines
 pub mod Responses
 pub mod SplitLines
 pub mod Stops

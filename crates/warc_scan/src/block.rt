@@ -100,7 +100,7 @@ fn open_number(bytes: &[u8]) -> Stop
 }
 
 /// The number that is written so.
-fn number_of(digits: &[u8]) -> Option<u64>
+pub fn number_of(digits: &[u8]) -> Option<u64>
     ensures some { IfSome result (λ n. IsWord n × (digits.now ≡ decimal n)) }
     ensures none { IfNone result ((n : ℕ) → IsWord n → ¬ (digits.now ≡ decimal n)) }
 {

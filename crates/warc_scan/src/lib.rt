@@ -5,6 +5,7 @@
 mod answer;
 mod block;
 mod copy;
+mod cut;
 mod fields;
 mod find;
 mod form;
@@ -24,6 +25,7 @@ mod stop;
 mod strip;
 mod wire_digest;
 
+pub use cut::told_len;
 pub use group::{Group, Revisited};
 pub use group_step::GroupStep;
 pub use info_step::InfoStep;
