@@ -21,7 +21,7 @@ use Rattle.warc_reader.proofs.FileLaws.{StandsIn, places_rise, records_stand}
 use Rattle.warc_reader.proofs.OneReading.{one_file, one_record}
 
 -- what holds of each record holds of the one that was found
-found_is_one : (P : Placed → Type 0) (test : Placed → Bool) (all : List Placed) → All P all → (p : Placed) → first_where test all ≡ Some p → P p
+pub found_is_one : (P : Placed → Type 0) (test : Placed → Bool) (all : List Placed) → All P all → (p : Placed) → first_where test all ≡ Some p → P p
 found_is_one P test [] holds p is = absurd cc
 found_is_one P test (q ∷ all) holds p is = by (test q) is (found_is_one P test all (All-tail P q all holds) p)
   where

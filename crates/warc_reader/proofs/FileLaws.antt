@@ -22,7 +22,7 @@ use Rattle.warc_reader.proofs.OneReading.{one_record, record_has_bytes}
 abbrev pub one_placed : ℕ → WarcRecord → List Placed
 one_placed at r = record { at = at; form = r } ∷ []
 
-placed_more : (at : ℕ) (done : List WarcRecord) (r : WarcRecord)
+pub placed_more : (at : ℕ) (done : List WarcRecord) (r : WarcRecord)
     → placed_from at (done ++ r ∷ []) ≡ placed_from at done ++ one_placed (at + length (print_records done)) r
 placed_more at [] r = ap (λ n. one_placed n r) (omega arith)
 placed_more at (p ∷ done) r =

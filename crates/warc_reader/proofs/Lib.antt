@@ -1,11 +1,13 @@
 mod AskLaws
 mod BlockLaws
 mod DateTextLaws
-mod FileLaws
-mod OneImport
+pub mod FileLaws
+pub mod InTurn
+pub mod OneImport
 mod OneReading
 mod OutcomeLaws
 mod RecordLaws
+pub mod StorableLaws
 mod TableLaws
 mod TrimLaws
 mod ValueLaws

@@ -1,7 +1,7 @@
 -- What a reader of captures knows of its file.
 use Rattle.std.specs.Prelude.{◌≡◌, ℕ, ◌++◌, List, [], ◌∷◌, length, All, Option, Some, None, ⊤}
 use Rattle.capture.specs.Fields.{NamedValue}
-use Rattle.warc_reader.specs.Imports.{IsOutcome, IsSkipped}
+use Rattle.warc_reader.specs.Imports.{AreOutcomes, IsOutcome, IsSkipped}
 use Rattle.warc_reader.specs.Records.{HasNoRecordAt, IsFile, IsRecord, WarcRecord, print_records}
 use Rattle.warc_reader.specs.Requests.{Asked, Placed, placed_from}
 use Rattle.warc_reader.specs.Tables.{HoldsRequests}
@@ -42,6 +42,13 @@ abbrev pub Gives : FileReading → List WarcRecord → List WarcRecord → Optio
 Gives new done [] None = IsBetween new done []
 Gives new done (r ∷ more) (Some outcome) = GivesNext new done r more outcome
 Gives new done rest found = ⊥
+
+-- these outcomes are what the records before the place give, in order
+pub record HasGiven (reading : FileReading) (outcomes : List Outcome) : Type 0 where
+  pub done : List WarcRecord
+  pub rest : List WarcRecord
+  pub between : IsBetween reading done rest
+  pub give : AreOutcomes (placed_from 0 (done ++ rest)) (placed_from 0 done) outcomes
 
 -- ---- steps of a reader
 

@@ -1,5 +1,5 @@
 //! What the definitions promise to those who build on them.
-ghost use Rattle.warc_reader.specs.Laws.{FilesAreNotRefused, FilesAreOne, ImportsAreOne, RecordsAreOne, RefusalsAreOne};
+ghost use Rattle.warc_reader.specs.Laws.{CapturesCanBeStored, FilesAreNotRefused, FilesAreOne, FirstsGaveNone, ImportsAreOne, LastsGaveAll, NextsGiveOneMore, RecordsAreOne, RefusalsAreOne};
 
 use capture::{ended_bodies_are_cut, heads_end_at_the_first_empty_line};
 use http_wire::decisions_are_one;
@@ -21,3 +21,15 @@ pub fn files_have_one_import()
     ended_bodies_are_cut();
     heads_end_at_the_first_empty_line();
 }
+
+/// A capture that is made of a record of a file can be stored: it is well formed, its date is in range, and its parts are short.
+pub fn imported_captures_can_be_stored()
+    ensures { CapturesCanBeStored }
+{}
+
+/// Who calls `next` until there is none more is given the one import of the file, in order.
+pub fn imports_come_in_turn()
+    ensures first { FirstsGaveNone }
+    ensures more { NextsGiveOneMore }
+    ensures last { LastsGaveAll }
+{}

@@ -19,6 +19,9 @@ mod targets;
 
 pub use captures::CaptureReader;
 pub use import::{ImportFault, Outcome, Reason, Skipped};
-pub use laws::{files_have_one_import, records_are_read_in_one_way};
+pub use laws::{
+    files_have_one_import, imported_captures_can_be_stored, imports_come_in_turn,
+    records_are_read_in_one_way,
+};
 pub use record::{BLOCK_LIMIT, Record, RecordFault};
 pub use records::read_record;
