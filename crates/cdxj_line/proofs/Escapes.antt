@@ -1,9 +1,10 @@
 -- Bytes of JSON strings, and how they are escaped.
 use Rattle.std.proofs.Common.{◌≡◌, ℕ, ◌/◌, ◌%◌, ◌<◌, ◌≤◌, true, not, ◌&&◌, ◌==◌, List, [], ◌∷◌, ◌++◌, refl, ap, ◌∙◌, arith}
-use Rattle.std.specs.Prelude.{nat_le}
+use Rattle.std.specs.Prelude.{nat_le, nat_lt, IsAscii}
 use Rattle.std.specs.Char.{digit_char}
 use Rattle.std.specs.List.{list_all}
-use Rattle.std.proofs.lemmas.Bool.{and_parts, lt-ltb, le-ltb, leb-true}
+use Rattle.std.proofs.lemmas.Bool.{and_parts, lt-ltb, le-ltb, leb-true, ltb-true}
+use Rattle.std.proofs.lemmas.Str.Ascii.{IsAscii-cons, IsAscii-nil}
 use Rattle.json.specs.Print.{escape, escape_byte, escape_letter}
 use Rattle.json.proofs.Printed.Strings.{escape_byte_plain}
 use Rattle.cdxj_line.specs.steps.Written.{is_plain}
@@ -29,9 +30,18 @@ other a b e same = grind (arith, e, same)
 
 plain_byte : (x : ℕ) → is_plain x ≡ true → escape_byte x ≡ x ∷ []
 plain_byte x e =
-    let parts = and_parts (not (x == 34) && not (x == 92)) (nat_le 32 x) e in
-    let marks = and_parts (not (x == 34)) (not (x == 92)) parts.0 in
-    escape_byte_plain x (other x 34 marks.0) (other x 92 marks.1) (leb-true 32 x parts.1)
+    let parts = and_parts (not (x == 34) && not (x == 92) && nat_le 32 x) (nat_lt x 128) e in
+    let visible = and_parts (not (x == 34) && not (x == 92)) (nat_le 32 x) parts.0 in
+    let marks = and_parts (not (x == 34)) (not (x == 92)) visible.0 in
+    escape_byte_plain x (other x 34 marks.0) (other x 92 marks.1) (leb-true 32 x visible.1)
+
+-- it is of ASCII
+pub plain_is_ascii : (text : List ℕ) → list_all is_plain text ≡ true → IsAscii text
+plain_is_ascii [] e = IsAscii-nil
+plain_is_ascii (x ∷ text) e =
+    let parts = and_parts (is_plain x) (list_all is_plain text) e in
+    let low = (and_parts (not (x == 34) && not (x == 92) && nat_le 32 x) (nat_lt x 128) parts.0).1 in
+    IsAscii-cons x text (ltb-true x 128 low) (plain_is_ascii text parts.1)
 
 -- a text in which every byte stands for itself
 pub plain_text : (text : List ℕ) → list_all is_plain text ≡ true → escape text ≡ text

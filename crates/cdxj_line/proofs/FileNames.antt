@@ -1,6 +1,6 @@
 -- A volume's number in the name of its file: six digits or more, written and read.
 use Rattle.std.proofs.Common.{◌≡◌, ℕ, zero, suc, codes, List, [], ◌∷◌, ◌++◌, ◌-◌, ◌^◌, ◌<◌, ◌≤◌, length, true, Result, Ok, refl, ap, ◌∙◌, subst, sym, arith, length-append}
-use Rattle.std.proofs.lemmas.Bool.{and_parts, and_from, ne_eqb, le-leb}
+use Rattle.std.proofs.lemmas.Bool.{and_parts, and_from, ne_eqb, le-leb, lt-ltb}
 use Rattle.std.proofs.lemmas.List.{append_assoc}
 use Rattle.std.proofs.lemmas.Fmt.{decimal_is_IsNumeral, IsAscii-decimal}
 use Rattle.std.proofs.lemmas.Str.{IsUtf8-append, IsUtf8-from_ascii}
@@ -29,7 +29,7 @@ plain_zeros zero = refl
 plain_zeros (suc n) = plain_zeros n
 
 plain_digit : (c : ℕ) → 48 ≤ c → c ≤ 57 → is_plain c ≡ true
-plain_digit c from to = rw (ne_eqb c 34 (λ e. omega arith), ne_eqb c 92 (λ e. omega arith), le-leb 32 c (omega arith)) refl
+plain_digit c from to = rw (ne_eqb c 34 (λ e. omega arith), ne_eqb c 92 (λ e. omega arith), le-leb 32 c (omega arith), lt-ltb c 128 (omega arith)) refl
 
 pub plain_digits : (ds : List ℕ) → AllDigits 10 ds → list_all is_plain ds ≡ true
 plain_digits [] all = refl

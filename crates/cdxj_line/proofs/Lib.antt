@@ -2,6 +2,7 @@ pub mod Cuts
 pub mod Escapes
 pub mod FileNames
 pub mod LineLengths
+pub mod Numerals
 pub mod Objects
 pub mod Raw
 pub mod Strings

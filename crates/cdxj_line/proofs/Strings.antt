@@ -1,15 +1,14 @@
 -- Where a JSON string ends, and what it tells.
-use Rattle.std.proofs.Common.{◌≡◌, ◌≢◌, ℕ, suc, ◌/◌, ◌%◌, ◌+◌, ◌<◌, ◌≤◌, true, false, ◌⊎◌, inl, inr, List, [], ◌∷◌, ◌++◌, Result, Option, None, Some, length, length-append, take, drop, refl, ap, ◌∙◌, sym, arith}
-use Rattle.std.specs.Prelude.{IfOk, IfSome}
+use Rattle.std.proofs.Common.{◌≡◌, ◌≢◌, ℕ, suc, ◌/◌, ◌%◌, ◌+◌, ◌<◌, ◌≤◌, true, false, ◌⊎◌, inl, inr, List, [], ◌∷◌, ◌++◌, Some, length, length-append, take, drop, cond, refl, ap, ◌∙◌, sym, arith}
 use Rattle.std.specs.Char.{digit_char}
-use Rattle.std.specs.List.{list_all}
+use Rattle.std.specs.List.{list_all, prefix_len}
 use Rattle.std.proofs.lemmas.Bool.{cases_lt, lt-ltb, le-ltb, ne_eqb}
+use Rattle.std.proofs.lemmas.Bool.Decides.{eqb_tells}
 use Rattle.std.proofs.lemmas.List.{append_assoc, take_at, drop_at}
-use Rattle.std.proofs.lemmas.Result.{IfOk-weaker}
 use Rattle.json.specs.Print.{escape, escape_byte, escape_letter}
 use Rattle.json.specs.Text.{content, plain}
 use Rattle.json.proofs.Printed.Strings.{content-escape}
-use Rattle.cdxj_line.specs.steps.Strings.{string_len}
+use Rattle.cdxj_line.specs.steps.Strings.{is_unmarked, string_len}
 use Rattle.cdxj_line.specs.steps.Written.{is_plain}
 use Rattle.cdxj_line.proofs.Escapes.{short_escape, long_escape, no_escape, plain_text}
 
@@ -76,9 +75,29 @@ string_cut text value rest front back n is len front_is back_is =
 pub plain_is_told : (raw text : List ℕ) → list_all is_plain raw ≡ true → raw ≡ escape text → raw ≡ text
 plain_is_told raw text plain_raw is = escape_injective raw text (plain_text raw plain_raw ∙ is)
 
-pub plain_told : {E : Type 0} (r : Result (Option (List ℕ)) E) (raw : List ℕ) → list_all is_plain raw ≡ true → IfOk r (λ read. IfSome read (λ text. raw ≡ text))
-    → IfOk r (λ read. IfSome read (λ text. raw ≡ escape text))
-plain_told r raw plain_raw told = IfOk-weaker r (λ read. IfSome read (λ text. raw ≡ text)) (λ read. IfSome read (λ text. raw ≡ escape text)) go told where
-  go : (read : Option (List ℕ)) → IfSome read (λ text. raw ≡ text) → IfSome read (λ text. raw ≡ escape text)
-  go None h = h
-  go (Some text) h = sym (plain_text raw plain_raw) ∙ ap escape h
+-- ---- what stands before the first quote or backslash
+
+marked_front : (b n : ℕ) (text : List ℕ) → is_unmarked b ≡ false
+    → cond (is_unmarked b) (1 + n) 0 + string_len false (drop (cond (is_unmarked b) (1 + n) 0) (b ∷ text)) ≡ string_len false (b ∷ text)
+marked_front b n text is = rw is (omega arith)
+
+unmarked_front : (b n : ℕ) (text : List ℕ) → b ≢ 34 → b ≢ 92 → is_unmarked b ≡ true → n + string_len false (drop n text) ≡ string_len false text
+    → cond (is_unmarked b) (1 + n) 0 + string_len false (drop (cond (is_unmarked b) (1 + n) 0) (b ∷ text)) ≡ string_len false (b ∷ text)
+unmarked_front b n text quote slash is behind =
+    let more : 1 + n ≡ suc n = omega arith in
+    rw (is, more) (omega (arith, other_byte b text quote slash, behind))
+
+string_front : (text : List ℕ) → prefix_len is_unmarked text + string_len false (drop (prefix_len is_unmarked text) text) ≡ string_len false text
+string_front [] = refl
+string_front (b ∷ text) =
+    elim (eqb_tells b 34) [
+      | inl quote ↦ marked_front b (prefix_len is_unmarked text) text (rw quote.0 refl)
+      | inr other ↦ elim (eqb_tells b 92) [
+        | inl slash ↦ marked_front b (prefix_len is_unmarked text) text (rw (other.0, slash.0) refl)
+        | inr plain_byte ↦ unmarked_front b (prefix_len is_unmarked text) text other.1 plain_byte.1 (rw (other.0, plain_byte.0) refl) (string_front text)
+      ]
+    ]
+
+pub string_len_behind : (text rest : List ℕ) (front more : ℕ) → front ≡ prefix_len is_unmarked text → rest ≡ drop front text → more ≡ string_len false rest → front + more ≡ string_len false text
+string_len_behind text rest front more front_is rest_is more_is =
+    ap (λ n. front + n) (more_is ∙ ap (string_len false) rest_is) ∙ ap (λ n. n + string_len false (drop n text)) front_is ∙ string_front text

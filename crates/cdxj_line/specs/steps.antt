@@ -1,4 +1,5 @@
 -- What only proofs read.
+pub mod Numerals
 pub mod Shown
 pub mod Strings
 pub mod Written

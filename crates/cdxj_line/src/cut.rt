@@ -22,6 +22,8 @@ pub(crate) fn cut_at_blank(text: &[u8]) -> Option<(&[u8], &[u8])>
 }
 
 /// What stands behind a text that another one begins with.
+// Inlined, so that a literal is compared by whole words.
+#[inline(always)]
 pub(crate) fn strip<'a>(text: &'a [u8], front: &[u8]) -> Option<&'a [u8]>
     ensures some { IfSome result (λ rest. text.now ≡ front.now ++ rest.now) }
     ensures found { (rest : List ℕ) → text.now ≡ front.now ++ rest → IsSomeAnd result (λ behind. behind.now ≡ rest) }
@@ -34,6 +36,7 @@ pub(crate) fn strip<'a>(text: &'a [u8], front: &[u8]) -> Option<&'a [u8]>
 }
 
 /// What stands before a text that another one ends with.
+#[inline(always)]
 pub(crate) fn before<'a>(text: &'a [u8], end: &[u8]) -> Option<&'a [u8]>
     ensures some { IfSome result (λ front. text.now ≡ front.now ++ end.now) }
     ensures found { (front : List ℕ) → text.now ≡ front ++ end.now → IsSomeAnd result (λ rest. rest.now ≡ front) }

@@ -33,18 +33,18 @@ fn put_escaped(out: &mut Vec<u8>, text: &[u8]) -> Result<(), Memory>
     Ok(())
 }
 
-/// Whether no byte has to be escaped, as of nearly every text.
+/// Whether the text is of ASCII and no byte has to be escaped, as of nearly every text.
 fn is_plain(text: &[u8]) -> bool
     ensures { result ≡ list_all spec.is_plain text.now }
 {
     text.iter().all(|b| is_plain_byte(*b))
 }
 
-/// Whether the byte stands for itself.
+/// Whether the byte is of ASCII and stands for itself.
 fn is_plain_byte(byte: u8) -> bool
     ensures { result ≡ spec.is_plain byte }
 {
-    byte != b'"' && byte != b'\\' && byte >= 32
+    byte != b'"' && byte != b'\\' && byte >= 32 && byte < 128
 }
 
 /// Puts a byte, escaped where it has to be.
@@ -97,7 +97,7 @@ pub(crate) fn read_escaped(alloc: Global, raw: &[u8]) -> Result<Option<Text>, Me
     ensures found { (text : List ℕ) → IsAscii text → raw.now ≡ escape text → IfOk result (λ read. read ≡ Some text) }
 {
     if is_plain(raw) {
-        return text_of(alloc, raw);
+        return Ok(Some(plain_text(alloc, raw)?));
     }
     let Some(text) = unescaped(alloc, raw)? else {
         return Ok(None);
@@ -108,6 +108,17 @@ pub(crate) fn read_escaped(alloc: Global, raw: &[u8]) -> Result<Option<Text>, Me
         return Ok(None);
     }
     Ok(Some(text))
+}
+
+/// A text that is known to be of ASCII, in memory of its own.
+fn plain_text(alloc: Global, ascii: &[u8]) -> Result<Text, Memory>
+    requires { IsAscii ascii.now }
+    ensures { IfOk result (λ text. text ≡ ascii.now) }
+{
+    match std::str::from_utf8(ascii) {
+        Ok(text) => Text::from_str(alloc, text),
+        Err(_) => unreachable!(),
+    }
 }
 
 /// Whether the text is escaped to this.

@@ -1,5 +1,6 @@
 //! The members of a line's JSON object, all of which are strings.
 ghost use Rattle.std.specs.Prelude.{◌≡◌, ◌≤◌, ℕ, List, ◌∷◌, ◌++◌, false, length, codes, IfSome, IsSomeAnd};
+ghost use Rattle.std.specs.List.{prefix_len};
 ghost use Rattle.json.specs.Print.{escape};
 ghost use Rattle.cdxj_line.specs.Lines.{object_text};
 ghost use Rattle.cdxj_line.specs.steps.Shown.{Shows, between, text_of};
@@ -63,6 +64,8 @@ fn last_member(text: &[u8]) -> Option<&[u8]>
 }
 
 /// The string of a member of which what stands before its value is told, and what stands behind it.
+// Inlined, so that its front is a literal where it is compared.
+#[inline(always)]
 fn member<'a>(text: &'a [u8], front: &[u8]) -> Option<(&'a [u8], &'a [u8])>
     ensures some { IfSome result (λ read. text.now ≡ between front.now read.0.now read.1.now) }
     ensures found { (value rest : List ℕ) → text.now ≡ between front.now (escape value) rest
@@ -76,6 +79,32 @@ fn member<'a>(text: &'a [u8], front: &[u8]) -> Option<(&'a [u8], &'a [u8])>
 
 /// How many bytes stand before the quote that closes a string.
 fn string_len(text: &[u8]) -> usize
+    ensures value { result ≡ spec.string_len false text.now }
+    ensures within { result ≤ length text.now }
+{
+    // Nearly no string has a backslash, so its quote is mostly the first of both.
+    let front = unmarked_len(text);
+    let (_, rest) = text.split_at(front);
+    front + marked_len(rest)
+}
+
+/// How many bytes stand before the first quote or backslash.
+fn unmarked_len(text: &[u8]) -> usize
+    ensures value { result ≡ prefix_len spec.is_unmarked text.now }
+    ensures within { result ≤ length text.now }
+{
+    text.iter().take_while(|&&b| is_unmarked(b)).count()
+}
+
+/// Whether the byte is neither a quote nor a backslash.
+fn is_unmarked(byte: u8) -> bool
+    ensures { result ≡ spec.is_unmarked byte }
+{
+    byte != b'"' && byte != b'\\'
+}
+
+/// How many bytes stand before the quote that closes a string, of which some may be escaped.
+fn marked_len(text: &[u8]) -> usize
     ensures value { result ≡ spec.string_len false text.now }
     ensures within { result ≤ length text.now }
 {

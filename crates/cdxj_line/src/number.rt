@@ -1,30 +1,58 @@
 //! Numbers and digests, as the strings of a line's members tell them.
-ghost use Rattle.std.specs.Prelude.{◌≡◌, ◌<◌, ◌≤◌, ◌^◌, ℕ, List, decimal, Some, IfSome};
+ghost use Rattle.std.specs.Prelude.{◌≡◌, ◌<◌, ◌≤◌, ◌^◌, ℕ, List, true, decimal, Some, IfSome, IfNone};
+ghost use Rattle.std.specs.Char.{is_ascii_digit};
+ghost use Rattle.std.specs.List.{list_all};
+ghost use Rattle.std.specs.Str.Parse.{digits_value};
 ghost use Rattle.digest32.specs.Base32.{base32, IsDigest};
 ghost use Rattle.json.specs.Print.{escape};
+ghost use Rattle.cdxj_line.specs.steps.Numerals as spec;
 
 use capture::Digest;
 use digest32::read_base32;
-use itoa::Buffer;
 
 /// The number that stands so between the quotes of a string, in digits without a zero before them.
 pub(crate) fn number_of(digits: &[u8]) -> Option<u64>
     ensures some { IfSome result (λ number. digits.now ≡ escape (decimal number)) }
     ensures found { (number : ℕ) → number < 2 ^ 64 → digits.now ≡ escape (decimal number) → result ≡ Some number }
 {
-    let Ok(text) = std::str::from_utf8(digits) else {
+    if !is_numeral(digits) {
         return None;
-    };
-    let Ok(number) = text.parse::<u64>() else {
-        return None;
-    };
-    // A sign and zeros at the front are read too.
-    let mut buffer = Buffer::new();
-    if buffer.format(number).as_bytes() == digits {
-        Some(number)
-    } else {
-        None
     }
+    value_of(digits)
+}
+
+/// Whether the text is digits, of which the first is a zero only where it stands alone.
+fn is_numeral(text: &[u8]) -> bool
+    ensures { result ≡ spec.is_numeral text.now }
+{
+    !text.is_empty() && (text.len() == 1 || text[0] != b'0') && has_digits_alone(text)
+}
+
+/// Whether each byte is a digit.
+fn has_digits_alone(text: &[u8]) -> bool
+    ensures { result ≡ list_all is_ascii_digit text.now }
+{
+    text.iter().all(|b| b.is_ascii_digit())
+}
+
+/// The number that the digits write, where it is one of 64 bits.
+fn value_of(digits: &[u8]) -> Option<u64>
+    requires { list_all is_ascii_digit digits.now ≡ true }
+    ensures fits { IfSome result (λ number. number < 2 ^ 64) }
+    ensures value { IfSome result (λ number. number ≡ digits_value 10 digits.now) }
+    ensures none { IfNone result (2 ^ 64 ≤ digits_value 10 digits.now) }
+{
+    let mut value: u64 = 0;
+    for digit in digits {
+        match value.checked_mul(10) {
+            None => return None,
+            Some(tens) => match tens.checked_add(u64::from(*digit - b'0')) {
+                None => return None,
+                Some(next) => value = next,
+            },
+        }
+    }
+    Some(value)
 }
 
 /// The number, where it is one of 32 bits.

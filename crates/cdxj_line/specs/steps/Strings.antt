@@ -9,3 +9,7 @@ is_mark escaped byte mark = not escaped && (byte == mark)
 abbrev pub string_len : Bool → List ℕ → ℕ
 string_len escaped [] = 0
 string_len escaped (b ∷ bs) = if is_mark escaped b 34 then 0 else suc (string_len (is_mark escaped b 92) bs)
+
+-- the byte is neither a quote nor a backslash
+abbrev pub is_unmarked : ℕ → Bool
+is_unmarked b = not (b == 34) && not (b == 92)

@@ -1,14 +1,14 @@
 -- The text of a line's JSON object in the pieces in which it is written.
-use Rattle.std.specs.Prelude.{ℕ, Bool, not, ◌&&◌, ◌==◌, nat_le, List, [], ◌++◌, codes, decimal, if◌then◌else◌}
+use Rattle.std.specs.Prelude.{ℕ, Bool, not, ◌&&◌, ◌==◌, nat_le, nat_lt, List, [], ◌++◌, codes, decimal, if◌then◌else◌}
 use Rattle.digest32.specs.Base32.{base32}
 use Rattle.json.specs.Print.{quoted}
 use Rattle.time_text.specs.Texts.{time_digits}
 use Rattle.cdxj_line.specs.Lines.{file_name}
 use Rattle.cdxj_line.specs.declared.line.Line.{Line}
 
--- the byte stands for itself in a JSON string
+-- the byte is of ASCII and stands for itself in a JSON string
 abbrev pub is_plain : ℕ → Bool
-is_plain b = not (b == 34) && not (b == 92) && nat_le 32 b
+is_plain b = not (b == 34) && not (b == 92) && nat_le 32 b && nat_lt b 128
 
 -- a member, of which what stands before its value is told
 unfoldable pub member_text : List ℕ → List ℕ → List ℕ

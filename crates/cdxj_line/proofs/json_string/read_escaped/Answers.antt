@@ -1,19 +1,21 @@
-use Rattle.std.proofs.Common.{◌≡◌, Some, ap, sym, subst, ◌∙◌, IsAscii}
+use Rattle.std.proofs.Common.{◌≡◌, Some, ap, sym, ◌∙◌}
 use Rattle.std.proofs.lemmas.Bool.{false≢true}
-use Rattle.std.proofs.lemmas.Result.{IfOk-weaker}
 use Rattle.std.proofs.lemmas.Slice.Eq.{bytes_eq-Decides}
 use Rattle.json.specs.Print.{escape}
-use Rattle.cdxj_line.proofs.Strings.{plain_is_told, plain_told}
+use Rattle.cdxj_line.proofs.Escapes.{plain_is_ascii, plain_text}
+use Rattle.cdxj_line.proofs.Strings.{plain_is_told}
 use Rattle.cdxj_line.proofs.json_string.read_escaped.Goals as goal
+
+pub plain_text-requires : goal.plain_text-requires
+plain_text-requires c = plain_is_ascii c.args.raw.now (sym c.is_plain.ensures ∙ c.if-is_plain.true)
 
 pub returns-then-is_plain-clause-some : goal.returns-then-is_plain-clause-some
 returns-then-is_plain-clause-some c =
-    plain_told c.text_of.result c.args.raw.now (sym c.is_plain.ensures ∙ c.if-is_plain.true) c.text_of.ensures.some
+    sym (plain_text c.args.raw.now (sym c.is_plain.ensures ∙ c.if-is_plain.true)) ∙ ap escape (sym c.in_ok-plain_text.ensures)
 
 pub returns-then-is_plain-clause-found : goal.returns-then-is_plain-clause-found
 returns-then-is_plain-clause-found c = λ text ascii is.
-    let same : c.args.raw.now ≡ text = plain_is_told c.args.raw.now text (sym c.is_plain.ensures ∙ c.if-is_plain.true) is in
-    IfOk-weaker c.text_of.result (λ read. read ≡ Some c.args.raw.now) (λ read. read ≡ Some text) (λ read e. e ∙ ap Some same) (c.text_of.ensures.found (subst IsAscii (sym same) ascii))
+    ap Some (c.in_ok-plain_text.ensures ∙ plain_is_told c.args.raw.now text (sym c.is_plain.ensures ∙ c.if-is_plain.true) is)
 
 pub returns-in_default-clause-found : goal.returns-in_default-clause-found
 returns-in_default-clause-found c = λ text ascii is. absurd (c.in_default.not-Some text (c.in_ok-text.ensures text ascii is))

@@ -1,6 +1,6 @@
 use Rattle.std.proofs.Common.{◌≡◌, ◌+◌, false, drop}
 use Rattle.cdxj_line.specs.steps.Strings.{string_len}
-use Rattle.cdxj_line.proofs.members.string_len.Given as goal
+use Rattle.cdxj_line.proofs.members.marked_len.Given as goal
 
 -- the bytes so far
 abbrev pub invariant-loop-byte : goal.invariant-loop-byte
