@@ -7,6 +7,7 @@ pub mod Objects
 pub mod Raw
 pub mod Strings
 pub mod Told
+pub mod ToldBytes
 pub mod ToldLaws
 pub mod Trimming
 pub mod Whole

@@ -10,7 +10,7 @@ use Rattle.json.specs.Print.{quoted, escape, escape_byte}
 use Rattle.json.specs.Tree as tree
 use Rattle.json.proofs.Printed.Tokens.{tokens-print}
 use Rattle.json.proofs.Printed.Trees.{value-json_tokens, ArePrintable-json_tokens}
-use Rattle.serde_json.specs.Data.{object, string}
+use Rattle.serde_json.specs.Data.{object}
 use Rattle.serde_json.specs.Read.{read, of_json, max_depth}
 use Rattle.serde_json.specs.Written.{compact_text, outline, members_outline}
 use Rattle.serde_json.proofs.Texts.{print-outline}
@@ -95,15 +95,6 @@ read-strings pairs =
 pub read-object_text : (line : Line) → read (object_text false line) ≡ Some (object_of false line)
 unfolding object_text
 read-object_text line = read-strings (members_of false line)
-
-pub read-quoted : (text : List ℕ) → read (quoted text) ≡ Some (string text)
-read-quoted text =
-    let d = string text in
-    let j = outline d in
-    let lexed : tokens (compact_text d) ≡ tree.json_tokens j = ap tokens (sym (print-outline d)) ∙ tokens-print (tree.json_tokens j) (ArePrintable-json_tokens j tt) in
-    let parsed : value max_depth (tokens (compact_text d)) ≡ Some (j, []) =
-    ap (value max_depth) (lexed ∙ sym (append-nil (tree.json_tokens j))) ∙ value-json_tokens j max_depth [] (omega arith) in
-    ap (λ r. option_and_then of_json (option_and_then (λ p. if_last p.0 p.1) r)) parsed
 
 -- ---- by the strings as they stand between their quotes
 

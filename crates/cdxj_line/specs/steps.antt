@@ -2,4 +2,5 @@
 pub mod Numerals
 pub mod Shown
 pub mod Strings
+pub mod Unescaped
 pub mod Written

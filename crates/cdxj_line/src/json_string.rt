@@ -1,13 +1,13 @@
 //! Strings of JSON (RFC 8259, section 7), as `serde_json` writes them.
-ghost use Rattle.std.specs.Prelude.{◌≡◌, ℕ, ◌+◌, ◌++◌, ◌<◌, List, [], ◌∷◌, length, IsAscii, bytes_eq, Some, IfOk, IfSome, OnOk};
+ghost use Rattle.std.specs.Prelude.{◌≡◌, ℕ, ◌+◌, ◌++◌, ◌<◌, List, length, IsAscii, Some, IfOk, IfSome, OnOk};
 ghost use Rattle.std.specs.Char.{digit_char};
 ghost use Rattle.std.specs.List.{list_all};
 ghost use Rattle.cdxj_line.specs.Lengths.{capped};
 ghost use Rattle.cdxj_line.specs.steps.Written as spec;
 ghost use Rattle.json.specs.Print.{escape, escape_byte, escape_letter, quoted};
 
+use crate::unescaping::unescaped;
 use capture::{Memory, Text, put_all};
-use serde_json::Value;
 use std::alloc::Global;
 
 /// Puts a text in quotes.
@@ -64,7 +64,7 @@ fn put_escaped_byte(out: &mut Vec<u8>, byte: u8) -> Result<(), Memory>
 }
 
 /// The letter of a byte's short escape, or 0 where it has none.
-fn letter_of(byte: u8) -> u8
+pub(crate) fn letter_of(byte: u8) -> u8
     ensures { result ≡ escape_letter byte }
 {
     match byte {
@@ -80,7 +80,7 @@ fn letter_of(byte: u8) -> u8
 }
 
 /// A digit of a hexadecimal number, in lower case.
-fn hex_digit(number: u8) -> u8
+pub(crate) fn hex_digit(number: u8) -> u8
     requires { number < 16 }
     ensures { result ≡ digit_char number }
 {
@@ -91,7 +91,7 @@ fn hex_digit(number: u8) -> u8
     }
 }
 
-/// The text of ASCII that stands so between the quotes of a string. Takes no memory beside it, unless there is an escape.
+/// The text of ASCII that stands so between the quotes of a string. Takes no memory beside it.
 pub(crate) fn read_escaped(alloc: Global, raw: &[u8]) -> Result<Option<Text>, Memory>
     ensures some { IfOk result (λ read. IfSome read (λ text. raw.now ≡ escape text)) }
     ensures found { (text : List ℕ) → IsAscii text → raw.now ≡ escape text → IfOk result (λ read. read ≡ Some text) }
@@ -99,15 +99,7 @@ pub(crate) fn read_escaped(alloc: Global, raw: &[u8]) -> Result<Option<Text>, Me
     if is_plain(raw) {
         return Ok(Some(plain_text(alloc, raw)?));
     }
-    let Some(text) = unescaped(alloc, raw)? else {
-        return Ok(None);
-    };
-    // Escapes that aren't the ones written are read too.
-    let same = is_escaped_so(alloc, text.as_slice(), raw)?;
-    if !same {
-        return Ok(None);
-    }
-    Ok(Some(text))
+    unescaped(alloc, raw)
 }
 
 /// A text that is known to be of ASCII, in memory of its own.
@@ -118,60 +110,6 @@ fn plain_text(alloc: Global, ascii: &[u8]) -> Result<Text, Memory>
     match std::str::from_utf8(ascii) {
         Ok(text) => Text::from_str(alloc, text),
         Err(_) => unreachable!(),
-    }
-}
-
-/// Whether the text is escaped to this.
-fn is_escaped_so(alloc: Global, text: &[u8], raw: &[u8]) -> Result<bool, Memory>
-    ensures { IfOk result (λ same. same ≡ bytes_eq (escape text.now) raw.now) }
-{
-    let mut written = Vec::with_capacity(alloc, raw.len())?;
-    put_escaped(&mut written, text)?;
-    Ok(written.as_slice() == raw)
-}
-
-/// The text of ASCII that a string tells. Of what stands in no string it may be any.
-fn unescaped(alloc: Global, raw: &[u8]) -> Result<Option<Text>, Memory>
-    ensures { (text : List ℕ) → IsAscii text → raw.now ≡ escape text → IfOk result (λ read. read ≡ Some text) }
-{
-    let string = in_quotes(alloc, raw)?;
-    string_told(alloc, string.as_slice())
-}
-
-/// What stands between the quotes of a string, with these.
-fn in_quotes(alloc: Global, raw: &[u8]) -> Result<Vec<u8>, Memory>
-    ensures { IfOk result (λ string. string.items ≡ 34 ∷ (raw.now ++ 34 ∷ [])) }
-{
-    let mut string = Vec::with_capacity(alloc, raw.len().saturating_add(2))?;
-    string.push(b'"')?;
-    string.extend_from_slice(raw)?;
-    string.push(b'"')?;
-    Ok(string)
-}
-
-/// The text of ASCII that a string in its quotes tells.
-fn string_told(alloc: Global, string: &[u8]) -> Result<Option<Text>, Memory>
-    ensures { (text : List ℕ) → IsAscii text → string.now ≡ quoted text → IfOk result (λ read. read ≡ Some text) }
-{
-    let value = match Value::from_slice(alloc, string) {
-        Ok(value) => value,
-        Err(error) if error.is_memory() => return Err(Memory),
-        Err(_) => return Ok(None),
-    };
-    match value.as_str() {
-        Some(text) => text_of(alloc, text.as_bytes()),
-        None => Ok(None),
-    }
-}
-
-/// A text of ASCII, in memory of its own.
-fn text_of(alloc: Global, bytes: &[u8]) -> Result<Option<Text>, Memory>
-    ensures some { IfOk result (λ read. IfSome read (λ text. bytes.now ≡ text)) }
-    ensures found { IsAscii bytes.now → IfOk result (λ read. read ≡ Some bytes.now) }
-{
-    match Text::of(Vec::from_slice(alloc, bytes)?) {
-        Some(text) => Ok(Some(text)),
-        None => Ok(None),
     }
 }
 

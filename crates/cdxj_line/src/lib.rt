@@ -14,6 +14,7 @@ mod number;
 mod object;
 mod read;
 mod shown;
+mod unescaping;
 mod write;
 
 pub use content_type::{REVISIT, media_type};
