@@ -1,0 +1,4 @@
+pub mod Judging
+pub mod OneVerdict
+pub mod RestLaws
+pub mod RunLaws

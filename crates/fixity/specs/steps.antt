@@ -1,0 +1,4 @@
+-- What only proofs read.
+pub mod Files
+pub mod Nexts
+pub mod Runs

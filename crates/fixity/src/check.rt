@@ -1,0 +1,57 @@
+//! Checks the bytes of a volume.
+ghost use Rattle.std.specs.Prelude.{◌≡◌, ◌+◌, ◌<◌, ◌^◌, IfOk, IsTrue};
+ghost use Rattle.disk_model.specs.Image.{file_count, file_of};
+ghost use Rattle.fixity.specs.Faults.{CountsDisk};
+ghost use Rattle.fixity.specs.Verdicts.{IsVerdict, volume_of};
+
+use crate::due::Due;
+use crate::groups::find_groups;
+use crate::info::read_info;
+use crate::reading::read_bytes;
+use crate::remainder::{FIRST_BYTES, is_sound_rest};
+use crate::{FixityFault, Verdict};
+use disk_model::{Disk, Kind};
+use std::alloc::Global;
+use uuid::Uuid;
+
+/// Whether a volume holds what is due in it: the warcinfo of its number in this namespace, and the groups of `count` captures
+/// from the number `first` on. What a revisit refers to isn't looked up. One worker reads the groups in turn. Of the volume no
+/// more than 128 MiB are in memory at once, or one group and an eighth more.
+pub fn check_volume_in_turn<D: Disk>(
+    alloc: Global,
+    disk: &mut D,
+    volume: u32,
+    namespace: &Uuid,
+    first: u32,
+    count: u32,
+    last: bool,
+) -> Result<Verdict, FixityFault>
+    requires there { IsTrue D.tells → volume < file_count (D.reading disk.old) Kind.Warc }
+    requires numbers { first + count < 2 ^ 32 }
+    ensures verdict { IsTrue D.tells → IfOk result (IsVerdict (volume_of volume namespace.now first count last)
+        (file_of (D.reading disk.old) Kind.Warc volume)) }
+    ensures reading { IsTrue D.tells → D.reading disk.new ≡ D.reading disk.old }
+    ensures faults { CountsDisk (D.faults disk.old) (D.faults disk.new) result }
+{
+    let len = disk.len(Kind::Warc, volume)?;
+    let due = Due {
+        volume,
+        len,
+        first,
+        count,
+        last,
+    };
+    let Some(start) = read_info(alloc, disk, due, namespace)? else {
+        return Ok(Verdict::Damaged { place: 0 });
+    };
+    let found = find_groups(alloc, disk, due, namespace, start)?;
+    if found.groups < count {
+        return Ok(Verdict::Damaged { place: found.place });
+    }
+    let front = read_bytes(alloc, disk, due, found.place, FIRST_BYTES)?;
+    if is_sound_rest(front.as_slice(), last) {
+        Ok(Verdict::Sound { bytes: found.place })
+    } else {
+        Ok(Verdict::Damaged { place: found.place })
+    }
+}

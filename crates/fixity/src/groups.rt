@@ -1,0 +1,77 @@
+//! The groups of a volume, read in batches.
+ghost use Rattle.std.specs.Prelude.{◌≡◌, ◌+◌, ◌<◌, ◌≤◌, ◌^◌, IfOk, IsTrue};
+ghost use Rattle.fixity.specs.Faults.{CountsDisk};
+ghost use Rattle.fixity.specs.Verdicts.{StandsUpTo};
+ghost use Rattle.fixity.specs.steps.Files.{IsIn, file_in, volume_in};
+ghost use Rattle.fixity.specs.steps.Runs.{IsFarthest};
+
+use crate::FixityFault;
+use crate::due::Due;
+use crate::reading::read_bytes;
+use crate::run::{RunEnd, run_of};
+use disk_model::Disk;
+use std::alloc::Global;
+use uuid::Uuid;
+
+/// How many bytes are read at once, unless one group is longer: 128 MiB.
+const BATCH: u64 = 134_217_728;
+
+/// How far the groups of a volume stand.
+#[derive(Clone, Copy, Debug)]
+pub struct Found {
+    /// How many of them stand.
+    pub groups: u32,
+    /// Where the last of these ends, in bytes.
+    pub place: u64,
+}
+
+/// How far the groups of a volume stand behind its warcinfo, which ends at `start`: up to the last that is due, or to the first
+/// that doesn't stand.
+pub fn find_groups<D: Disk>(
+    alloc: Global,
+    disk: &mut D,
+    due: Due,
+    namespace: &Uuid,
+    start: u64,
+) -> Result<Found, FixityFault>
+    requires start { start ≤ due.len }
+    requires numbers { due.first + due.count < 2 ^ 32 }
+    requires there { IsTrue D.tells → IsIn (D.reading disk.old) due }
+    requires begins { IsTrue D.tells → StandsUpTo (volume_in due namespace.now) (file_in (D.reading disk.old) due) 0 start }
+    ensures found { IsTrue D.tells → IfOk result (λ found. IsFarthest (volume_in due namespace.now) (file_in (D.reading disk.old) due) found.groups found.place) }
+    ensures fits { IfOk result (λ found. (found.groups ≤ due.count) × (found.place ≤ due.len)) }
+    ensures reading { IsTrue D.tells → D.reading disk.new ≡ D.reading disk.old }
+    ensures faults { CountsDisk (D.faults disk.old) (D.faults disk.new) result }
+{
+    let mut groups = 0;
+    let mut place = start;
+    let mut batch = BATCH;
+    'batches: while groups < due.count {
+        let bytes = read_bytes(alloc, disk, due, place, batch)?;
+        let room = due.len - place;
+        let run = run_of(
+            alloc,
+            bytes.as_slice(),
+            room,
+            namespace,
+            due.first + groups,
+            due.count - groups,
+        )?;
+        groups += run.groups;
+        place += run.len;
+        match run.end {
+            RunEnd::Whole => return Ok(Found { groups, place }),
+            RunEnd::Missing => return Ok(Found { groups, place }),
+            RunEnd::Need(n) => batch = batch_for(n),
+        }
+    }
+    Ok(Found { groups, place })
+}
+
+/// How many bytes are read at once where the next group has so many at least. What isn't told yet of its length is likely to
+/// stand in an eighth more.
+fn batch_for(group: u64) -> u64
+    ensures { group ≤ result }
+{
+    BATCH.max(group.saturating_add(group / 8))
+}

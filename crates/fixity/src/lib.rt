@@ -1,0 +1,19 @@
+//! Fixity: whether the bytes of a volume are still what an archive wrote.
+#![tactic(auto)]
+
+mod check;
+mod due;
+mod fault;
+mod groups;
+mod info;
+mod laws;
+mod next;
+mod reading;
+mod remainder;
+mod run;
+mod verdict;
+
+pub use check::check_volume_in_turn;
+pub use fault::FixityFault;
+pub use laws::volumes_have_one_verdict;
+pub use verdict::Verdict;
