@@ -6,7 +6,7 @@ use Rattle.capture.specs.declared.captured.Taken.{Taken}
 use Rattle.disk_model.specs.Image.{Image}
 use Rattle.disk_model.specs.declared.disk.Disk.{Ghosts}
 use Rattle.warc_journal.specs.Extents.{cdxj_files}
-use Rattle.warc_journal.specs.Journals.{disk_of}
+use Rattle.warc_journal.specs.Journals.{disk_of, last_len}
 use Rattle.warc_journal.specs.declared.journal.Journal.{Journal}
 use Rattle.archive_shelf.proofs.CallLaws.{leaves_no_more_itself, stores_behind, unwritten_store}
 use Rattle.archive_shelf.specs.Answers.{CountsIf, StoreLeaves, is_store_fault}
@@ -20,6 +20,7 @@ use Rattle.archive_core.specs.Looking.{LooksFor, OnlyLooks}
 use Rattle.archive_core.specs.Stores.{Admits, Stores}
 use Rattle.archive_core.specs.Told.{told_of}
 use Rattle.archive_volumes.specs.Volumes.{crash_of}
+use Rattle.archive_core.proofs.FillLaws.{fills_after}
 use Rattle.archive_volumes.proofs.ChangeLaws.{DiskLaws}
 use Rattle.archive_volumes.proofs.StoreLaws.{opens_earlier}
 
@@ -37,6 +38,7 @@ full_stores d laws was taken (stores.Full count limit) full = record {
         (opens_earlier d laws (disk_of was.journal)) (leaves_no_more_itself (crash_of d (disk_of was.journal)));
   };
   just = tt;
+  fills = tt;
 }
 full_stores d laws was taken stores.DiskFault full = absurd full
 full_stores d laws was taken (stores.Damaged at kept found) full = absurd full
@@ -67,6 +69,7 @@ module _ {D : Type 0} (d : Ghosts D) (laws : DiskLaws d) (was : Holdings D) (jou
       crash = unwritten_store true taken (told_of d was) (told_of d looked) fault refl (opens_earlier d laws (disk_of journal)) unwritten.crash;
     };
     just = tt;
+    fills = tt;
   }
 
   fault_by : length (captures was.book) < was.limits.captures → (fault : StoreFault)
@@ -82,12 +85,14 @@ module _ {D : Type 0} (d : Ghosts D) (laws : DiskLaws d) (was : Holdings D) (jou
 
   -- ---- and then a store
 
-  pub then_by : d.faults (disk_of journal) ≡ d.faults (disk_of was.journal) → (is : Holdings D) (result : Result Receipt StoreFault)
+  pub then_by : d.faults (disk_of journal) ≡ d.faults (disk_of was.journal) → last_len journal ≡ last_len was.journal
+      → (is : Holdings D) (result : Result Receipt StoreFault)
       → Stores d (record was { journal = journal }) is taken result → Stores d was is taken result
-  then_by steady is result stored = record {
+  then_by steady ends is result stored = record {
     told = stores_behind true taken (told_of d was) (told_of d looked) (told_of d is) result refl steady (opens_earlier d laws (disk_of journal)) unwritten
         stored.told;
     just = stored.just;
+    fills = fills_after was is journal taken ends result stored.fills;
   }
 
 -- what only looked is known by its journal
@@ -98,7 +103,7 @@ known_by d was mid looks = record { reading = looks.unwritten.reading; crash = l
 pub stores_after : {D : Type 0} (d : Ghosts D) (laws : DiskLaws d) (was mid is : Holdings D) (taken : Taken) (result : Result Receipt StoreFault)
     → OnlyLooks d was mid → d.faults (disk_of mid.journal) ≡ d.faults (disk_of was.journal) → Stores d mid is taken result → Stores d was is taken result
 stores_after {D} d laws was mid is taken result looks steady stored =
-    then_by d laws was mid.journal taken (known_by d was mid looks) steady is result
+    then_by d laws was mid.journal taken (known_by d was mid looks) steady looks.ends is result
     (subst (λ (held : Holdings D). Stores d held is taken result) looks.others stored)
 
 pub fault_after : {D : Type 0} (d : Ghosts D) (laws : DiskLaws d) (was mid : Holdings D) (taken : Taken) (fault : StoreFault)

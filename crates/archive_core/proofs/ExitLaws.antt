@@ -46,8 +46,8 @@ use Rattle.archive_core.specs.Looking.{IsDigestOf, RefersTo}
 use Rattle.archive_volumes.specs.Ready.{CanCommit, Incoming, IsReady, record_in}
 use Rattle.archive_core.specs.Shown.{numbered, numbers_from}
 use Rattle.archive_volumes.specs.Spots.{ArePlaced, AreSpotsOf, text_at, whole_from}
-use Rattle.archive_core.specs.Stores.{Stores}
-use Rattle.archive_volumes.specs.Writing.{HasRoomFor, IsWay, TakesSo, Writes, texts_with, with_prepared}
+use Rattle.archive_core.specs.Stores.{FillsVolumes, Stores}
+use Rattle.archive_volumes.specs.Writing.{HasRoomFor, IsWay, TakesSo, Writes, end_with, texts_with, with_prepared}
 use Rattle.archive_volumes.specs.Volumes.{HoldsBook, IsMeasured, crash_of}
 use Rattle.archive_volumes.specs.declared.entry.RecordAt.{RecordAt}
 use Rattle.archive_volumes.specs.declared.room.Prepared.{Prepared}
@@ -56,6 +56,7 @@ use Rattle.archive_volumes.specs.declared.spot.Spot.{Spot}
 use Rattle.archive_volumes.specs.declared.volumes.Volumes.{Volumes}
 use Rattle.archive_volumes.proofs.ChangeLaws.{DiskLaws}
 use Rattle.archive_core.proofs.EnterLaws.{TellsOfCapture, known_left, known_room, known_with, known_without, tells_of_new}
+use Rattle.archive_core.proofs.FillLaws.{fills_by}
 use Rattle.archive_core.proofs.PayloadLaws.{has_one, one_payload}
 use Rattle.archive_core.proofs.ReadyLaws.{can_commit, ready_now, with_count, with_end}
 use Rattle.archive_core.proofs.ShownLaws.{numbered_with, taken_out}
@@ -119,6 +120,7 @@ module _ {D : Type 0} (d : Ghosts D) (was is : Holdings D) (journal_is : is.jour
       };
     };
     just = tt;
+    fills = tt;
   }
 
   -- what a `?` hands out is want of memory
@@ -442,6 +444,7 @@ module _ {D : Type 0} (d : Ghosts D) (basis : StoringBasis) (was : Holdings D) (
                 };
               };
               just = tt;
+              fills = tt;
             }
 
       -- ---- with the capture
@@ -503,10 +506,11 @@ module _ {D : Type 0} (d : Ghosts D) (basis : StoringBasis) (was : Holdings D) (
             → Writes {T = T} {E = E} d (disk_of now.journal) (disk_of journal) (book_of now.held) (with_prepared (book_of now.held) ready.prepared)
             (with_capture (with_prepared (book_of now.held) ready.prepared) (stored_in ready.stored)) after (Ok value)
             → CountsFaults {T = T} {E = E} (d.faults (disk_of now.journal)) (d.faults (disk_of journal)) (Ok value)
+            → last_len journal ≡ end_with now ready.prepared + length ready.group
             → (receipt : Receipt) → receipt.number ≡ length (captures (book_of now.held)) → receipt.same_as ≡ incoming.same
             → Stores d (in_volumes was now) (record was { journal = journal; book = after; table = table; index = index; spots = spots; revisits = revisits })
             incoming.taken (Ok receipt)
-        stored_stores {T} {E} value writes counts receipt number_is same_is =
+        stored_stores {T} {E} value writes counts ends receipt number_is same_is =
             let is : Holdings D = record was { journal = journal; book = after; table = table; index = index; spots = spots; revisits = revisits } in
             let answer : Result T E = Ok value in
             let old : D = disk_of now.journal in
@@ -527,4 +531,7 @@ module _ {D : Type 0} (d : Ghosts D) (basis : StoringBasis) (was : Holdings D) (
                 };
               };
               just = λ told image now. subst (HasJust image) (sym with_it) (writes.just told image now);
+              fills = subst (λ (same : Option ℕ). FillsVolumes (in_volumes was now) is incoming.taken same) (sym same_is)
+                  (fills_by (in_volumes was now) is now incoming.taken incoming.same u.payload ready.group refl refl u.has u.ready_is.group ready.prepared
+                  u.ready_is.room u.ready_is.born u.ready_is.decided stored_is ends);
             }

@@ -4,6 +4,7 @@ pub mod CompareLaws
 pub mod EnterLaws
 pub mod ExitLaws
 pub mod FaultLaws
+pub mod FillLaws
 pub mod FindingLaws
 pub mod FuseLaws
 pub mod IndexLaws

@@ -8,7 +8,7 @@ use Rattle.cdxj_index.specs.OfBook.{AreOf, IsEntryOf}
 use Rattle.disk_model.specs.Image.{Image}
 use Rattle.disk_model.specs.declared.disk.Disk.{Ghosts}
 use Rattle.warc_journal.specs.Extents.{texts_in, warc_files}
-use Rattle.warc_journal.specs.Journals.{disk_of, extent_of, texts}
+use Rattle.warc_journal.specs.Journals.{disk_of, extent_of, last_len, texts}
 use Rattle.warc_journal.specs.declared.extent.Extent.{Extent}
 use Rattle.warc_journal.specs.declared.journal.Journal.{Journal}
 use Rattle.capture.specs.declared.captured.Stored.{Stored}
@@ -59,6 +59,7 @@ module _ {D : Type 0} (d : Ghosts D) (held : Holdings D) (old new : Volumes D)
   pub looks : OnlyLooks d held (record held { journal = new.journal; book = book_of new.held })
   looks = record {
     others = ap (λ (b : Book). record held { journal = new.journal; book = b }) same_book;
+    ends = ap (λ (extent : Extent). extent.end) reads.extent ∙ sym (ap (λ (j : Journal D). last_len j) journal_is);
     unwritten = record {
       reading = λ alone told. reads.reading told ∙ sym (ap (λ (j : Journal D). d.reading (disk_of j)) journal_is);
       crash = subst (λ (j : Journal D). IsQuiet d (disk_of j) (disk_of new.journal)) (sym journal_is) reads.quiet;

@@ -121,7 +121,7 @@ module _ {D : Type 0} (d : Ghosts D) (now : Volumes D) (limit : ℕ) (incoming :
     gains = room_gains book ready.prepared (stored_in ready.stored) some;
     spot = subst (λ (s : Stored). IsSpotOf (with_capture room s) (length (captures book))
         (spot_of s ready.digest (length room.volumes - 1) (end_with now ready.prepared) (end_with now ready.prepared + ready.layout.head_at))) (sym is.stored)
-        (spot_is book (with_capture room stored) incoming.taken incoming.same gains ready.digest (length room.volumes - 1)
+        (spot_is book (with_capture room stored) incoming.taken incoming.same gains ready.digest payload has (is.digest ∙ digested) (length room.volumes - 1)
         (end_with now ready.prepared) (end_with now ready.prepared + ready.layout.head_at) fits refers ends
         (subst (λ (all : List Stored). IsInVolume (with_capture room stored) (length all) (length room.volumes - 1)) (room_captures book ready.prepared)
         (in_last_volume room stored some)));

@@ -10,8 +10,9 @@ use Rattle.capture.specs.declared.book.Volume.{Volume}
 use Rattle.capture.specs.declared.captured.Stored.{Stored}
 use Rattle.disk_model.specs.declared.disk.Disk.{Ghosts}
 use Rattle.warc_journal.specs.Extents.{cdxj_files}
-use Rattle.warc_journal.specs.Journals.{disk_of, texts}
+use Rattle.warc_journal.specs.Journals.{disk_of, last_len, texts}
 use Rattle.warc_journal.specs.declared.journal.Journal.{Journal}
+use Rattle.warc_text.specs.Records.{info_text}
 use Rattle.archive_shelf.specs.Entering.{EntriesStayAll}
 use Rattle.archive_shelf.proofs.StoringLaws.{captures_stay, volume_grows}
 use Rattle.archive_shelf.specs.Storing.{is_revisit, new_volume, rolled_in, with_volume}
@@ -125,6 +126,7 @@ module _ {D : Type 0} (d : Ghosts D) (was : Holdings D) (now : ℕ) where
   rolls_none empty = record {
     book = sym (ap (λ (volumes : List Volume). record was.book { volumes = volumes }) (rolled_none was.book.volumes now empty));
     others = refl;
+    ends = sym (ap (λ (b : Bool). if b then length (info_text was.book.namespace (length was.book.volumes) now) else last_len was.journal) empty);
     faults = refl;
     makes = λ filled. not_filled (is_filled was.book.volumes) empty filled;
     checkpoints = λ told. refl;
@@ -138,10 +140,13 @@ module _ {D : Type 0} (d : Ghosts D) (was : Holdings D) (now : ℕ) where
     pub rolls_ok : {T E : Type 0} (value : T) → book ≡ with_volume was.book now
         → Makes {T = T} {E = E} d (disk_of was.journal) (disk_of journal) was.book (with_volume was.book now) (Ok value)
         → CountsFaults {T = T} {E = E} (d.faults (disk_of was.journal)) (d.faults (disk_of journal)) (Ok value)
+        → last_len journal ≡ length (info_text was.book.namespace (length was.book.volumes) now)
         → Rolls {T = ⊤} d was (record was { journal = journal; book = book }) now (Ok tt)
-    rolls_ok value with_it made counts = record {
+    rolls_ok value with_it made counts ends = record {
       book = with_it ∙ sym (ap (λ (volumes : List Volume). record was.book { volumes = volumes }) (rolled_one was.book.volumes now filled));
       others = refl;
+      ends = ends
+          ∙ sym (ap (λ (b : Bool). if b then length (info_text was.book.namespace (length was.book.volumes) now) else last_len was.journal) filled);
       faults = counts.steady;
       makes = λ full. record { later = made.later; moves = made.moves; only = made.only; refused = made.refused; covered = made.covered; kept = made.kept; just = made.just };
       checkpoints = others;
@@ -153,10 +158,12 @@ module _ {D : Type 0} (d : Ghosts D) (was : Holdings D) (now : ℕ) where
     pub rolls_err : {T E : Type 0} (fault : E) → book ≡ was.book
         → Makes {T = T} {E = E} d (disk_of was.journal) (disk_of journal) was.book (with_volume was.book now) (Err fault)
         → CountsFaults {T = T} {E = E} (d.faults (disk_of was.journal)) (d.faults (disk_of journal)) (Err fault)
+        → last_len journal ≡ last_len was.journal
         → Rolls {T = ⊤} d was (record was { journal = journal; book = book }) now (Err rolls.DiskFault)
-    rolls_err fault same made counts = record {
+    rolls_err fault same made counts ends = record {
       book = same;
       others = refl;
+      ends = ends;
       faults = (counts.later, counts.rose);
       makes = λ full. record { later = made.later; moves = made.moves; only = made.only; refused = made.refused; covered = made.covered; kept = made.kept; just = tt };
       checkpoints = others;

@@ -1,18 +1,22 @@
 -- What storing a capture leaves of an archive in which nobody else stores.
-use Rattle.std.specs.Prelude.{◌≡◌, true, length, OnOk, Result, Ok, Err}
-use Rattle.capture.specs.Captures.{captures}
+use Rattle.std.specs.Prelude.{◌≡◌, ℕ, ◌+◌, Bool, true, if◌then◌else◌, List, length, IfOk, OnOk, Option, Result, Ok, Err}
+use Rattle.capture.specs.Captures.{captures, HasPayload}
 use Rattle.capture.specs.declared.captured.Taken.{Taken}
 use Rattle.disk_model.specs.declared.disk.Disk.{Ghosts}
-use Rattle.warc_journal.specs.Journals.{disk_of}
+use Rattle.warc_journal.specs.Journals.{disk_of, last_len}
+use Rattle.warc_text.specs.Records.{info_text}
 use Rattle.archive_shelf.specs.Answers.{IsFull, IsNotFull}
 use Rattle.archive_shelf.specs.Contents.{Contents}
+use Rattle.archive_shelf.specs.Storing.{as_stored, with_capture, with_volume}
 use Rattle.archive_shelf.specs.Told.{StoresOn}
 use Rattle.archive_shelf.specs.declared.fault.StoreFault.{StoreFault}
 use Rattle.archive_shelf.specs.declared.fault.StoreFault.TheVariants as stores
 use Rattle.archive_shelf.specs.declared.receipt.Receipt.{Receipt}
 use Rattle.archive_core.specs.Holdings.{Holdings}
 use Rattle.archive_core.specs.Told.{told_of}
+use Rattle.archive_volumes.specs.Grouping.{IsGroupFor}
 use Rattle.archive_volumes.specs.Volumes.{LeavesJust}
+use Rattle.archive_volumes.specs.Writing.{IsNeeded}
 
 -- Whether a capture more may be stored: it is full exactly where there are as many as there may be.
 abbrev pub Admits : {T : Type 0} → Contents → Result T StoreFault → Type 0
@@ -23,8 +27,22 @@ Admits now (Err stores.DiskFault) = ⊥
 Admits now (Err (stores.Damaged at kept found)) = ⊥
 Admits now (Err stores.Memory) = ⊥
 
+-- Whatever the disk tells: a volume was begun exactly where the capture needed one, by where the last volume's text ended and by how
+-- long the capture's group is; and the group stands behind that text, or behind the new volume's warcinfo.
+pub record FillsVolumes {D : Type 0} (was is : Holdings D) (taken : Taken) (same : Option ℕ) : Type 0 where
+  pub payload : List ℕ
+  pub has : HasPayload taken.cut taken.method taken.head taken.wire payload
+  pub group : List ℕ
+  pub of : IsGroupFor was.book taken payload same group
+  pub begun : Bool
+  pub needed : IsNeeded was.limits.volume_bytes was.book (last_len was.journal) (length group) begun
+  pub book : is.book ≡ with_capture (if begun then with_volume was.book taken.date else was.book) (as_stored taken same)
+  pub ends : last_len is.journal
+      ≡ (if begun then length (info_text was.book.namespace (length was.book.volumes) taken.date) else last_len was.journal) + length group
+
 -- a capture was stored, or refused
 pub record Stores {D : Type 0} (d : Ghosts D) (was is : Holdings D) (taken : Taken) (result : Result Receipt StoreFault) : Type 0 where
   pub told : StoresOn true taken (told_of d was) (told_of d is) result
   -- once it is stored, the files of the volumes are just the texts of the book, in each image
   pub just : OnOk result (LeavesJust d (disk_of is.journal) is.book)
+  pub fills : IfOk result (λ receipt. FillsVolumes was is taken receipt.same_as)

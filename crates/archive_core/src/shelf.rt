@@ -1,7 +1,8 @@
 //! How an archive is a shelf.
 ghost use Rattle.std.specs.Prelude.{IsTrue, true};
 ghost use Rattle.warc_journal.specs.Journals.{disk_of};
-ghost use Rattle.archive_shelf.specs.Answers.{Brings, CountsIf, is_bring_fault};
+ghost use Rattle.archive_shelf.specs.Answers.{Brings, CountsIf, NamesKeeper, is_bring_fault};
+ghost use Rattle.archive_shelf.specs.Digests.{GoesByDigest};
 ghost use Rattle.archive_shelf.specs.Told.{ShowsItsBook};
 ghost use Rattle.archive_volumes.specs.Volumes.{OpensNear};
 ghost use Rattle.archive_core.specs.Holdings.{IsArchive, contents_of};
@@ -10,7 +11,7 @@ ghost use Rattle.archive_core.specs.Told.{told_of};
 
 use crate::Archive;
 use archive_shelf::{BringFault, Receipt, Shelf, StoreFault};
-use capture::{Brought, Taken};
+use capture::{Brought, Bytes, Taken};
 use disk_model::Disk;
 use std::alloc::Global;
 
@@ -22,6 +23,8 @@ impl<D: Disk> Archive<D> {
         number: u32,
     ) -> Result<Brought, BringFault>
         ensures brings { Brings (contents_of D.tells self.new) number result }
+        ensures names { NamesKeeper self.new.book number result }
+        ensures digests { GoesByDigest self.new.book number result }
         ensures looks { OnlyLooks D.Disk self.old self.new }
         ensures faults { CountsIf (is_bring_fault result) (D.faults (disk_of self.old.journal)) (D.faults (disk_of self.new.journal)) }
     {
@@ -58,6 +61,12 @@ impl<D: Disk> Shelf for Archive<D> {
 
     fn bring(&mut self, alloc: Global, number: u32) -> Result<Brought, BringFault> {
         let answer = self.bring_numbered(alloc, number);
+        self.shows_its_book();
+        answer
+    }
+
+    fn piece(&mut self, alloc: Global, number: u32) -> Result<Bytes, BringFault> {
+        let answer = self.piece_numbered(alloc, number);
         self.shows_its_book();
         answer
     }

@@ -36,6 +36,7 @@ use Rattle.archive_opening.proofs.CaptureLaws.{AgreesBy, agrees, composed_is, ga
 use Rattle.archive_opening.proofs.FrontLaws.{last_with_more}
 use Rattle.archive_opening.proofs.MeasuringLaws.{one_head}
 use Rattle.archive_opening.proofs.PlaceLaws.{answer_and_request}
+use Rattle.archive_volumes.proofs.DigestLaws.{own_digest}
 use Rattle.archive_volumes.proofs.GroupPlaces.{in_last_volume}
 use Rattle.archive_volumes.proofs.Places.{StandsIn, block_in_group}
 use Rattle.archive_volumes.proofs.SpotLaws.{GoOn, placed_at, placed_with, spots_with}
@@ -159,6 +160,7 @@ module _ (laws : Laws) (book : Book) (texts : List (List ℕ)) (is : IsRead book
     uri = refl;
     date = refl;
     form = refl;
+    digest = own_digest new stored stored.kept says.payload group.digest says.payload_is says.digest;
     inside = subst (IsInVolume new number) (sym in_the_last) (in_last_volume book stored (omega (arith, at.some, is.are.count)));
     refers = refers_back book new (stored ∷ []) (gains laws book texts is text group at.some at.is stored of_group) number group group.stored.kept stored.kept of_group.kept;
     in_range = subst InRange (sym (ap (λ (s : Stored). s.date) of_group.others)) at.is.date;

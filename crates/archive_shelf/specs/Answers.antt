@@ -1,12 +1,13 @@
 -- What a shelf's calls answer, by cases of the answer, and what they leave.
-use Rattle.std.specs.Prelude.{◌≡◌, ◌≢◌, ◌⊎◌, ℕ, ◌<◌, ◌≤◌, Bool, true, false, IsTrue, IsFalse, List, [], ◌∷◌, ◌++◌, length, slice_get, Contains, Option, Some, Result, Ok, Err, ⊤}
+use Rattle.std.specs.Prelude.{◌≡◌, ◌≢◌, ◌⊎◌, ℕ, ◌<◌, ◌≤◌, Bool, true, false, IsTrue, IsFalse, List, [], ◌∷◌, ◌++◌, length, slice_get, Contains, Option, Some, None, Result, Ok, Err, ⊤}
 use Rattle.httparse.specs.Grammar.{ResponseHead}
 use Rattle.capture.specs.Captures.{captures, IsPayloadOf}
 use Rattle.capture.specs.Faults.{Rose}
 use Rattle.capture.specs.Message.{IsResponseHeadText}
 use Rattle.capture.specs.declared.book.Book.{Book}
 use Rattle.capture.specs.declared.captured.Brought.{Brought}
-use Rattle.capture.specs.declared.captured.Kept.TheVariants.{Same}
+use Rattle.capture.specs.declared.captured.Kept.{Kept}
+use Rattle.capture.specs.declared.captured.Kept.TheVariants.{Wire, Same, Cut}
 use Rattle.capture.specs.declared.captured.Stored.{Stored}
 use Rattle.capture.specs.declared.captured.Taken.{Taken}
 use Rattle.cdxj_index.specs.Facts.{Facts}
@@ -95,6 +96,26 @@ pub record IsNamed (book : Book) (number : ℕ) (brought : Brought) : Type 0 whe
 abbrev pub KeepsPayloadOf : Book → ℕ → ℕ → Type 0
 KeepsPayloadOf book number at =
     (at ≡ number) ⊎ ((stored : Stored) × (slice_get (captures book) number ≡ Some stored) × (stored.kept ≡ Same at))
+
+-- which capture keeps the payload of the one with this number
+abbrev pub keeper_by : Kept → ℕ → ℕ
+keeper_by (Wire wire) number = number
+keeper_by (Same first) number = first
+keeper_by (Cut wire) number = number
+
+pub record IsKeeperOf (book : Book) (number keeper : ℕ) : Type 0 where
+  pub stored : Stored
+  pub placed : slice_get (captures book) number ≡ Some stored
+  pub is : keeper ≡ keeper_by stored.kept number
+
+-- What is damaged is named by the capture that keeps the payload; or it is the one that was asked for, of which no head of a response
+-- was read.
+abbrev pub NamesKeeper : Book → ℕ → Result Brought BringFault → Type 0
+NamesKeeper book number (Ok brought) = ⊤
+NamesKeeper book number (Err (brings.NoSuch count)) = ⊤
+NamesKeeper book number (Err brings.DiskFault) = ⊤
+NamesKeeper book number (Err (brings.Damaged at kept found)) = IsKeeperOf book number at ⊎ ((at ≡ number) × (found ≡ None))
+NamesKeeper book number (Err brings.Memory) = ⊤
 
 -- what is brought is the capture with this number, with its payload
 pub record IsBrought (book : Book) (number : ℕ) (brought : Brought) : Type 0 where

@@ -1,6 +1,7 @@
 pub mod Answers
 pub mod Comparing
 pub mod Contents
+pub mod Digests
 pub mod Entering
 pub mod Gaining
 pub mod Laws

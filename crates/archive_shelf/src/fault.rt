@@ -75,7 +75,7 @@ pub enum BringFault {
     #[error("the disk failed")]
     DiskFault,
     /// The bytes that were read have another digest than the one kept, or don't decode (`None`). `number` is that of the
-    /// capture that keeps the payload.
+    /// capture that keeps the payload, or of a revisit whose own head doesn't decode.
     #[error("capture {number} is damaged")]
     Damaged {
         number: u32,

@@ -31,7 +31,7 @@ use Rattle.archive_volumes.specs.Held.{book_of, stored_in}
 use Rattle.archive_volumes.specs.Ready.{CanCommit, book_with, spot_in}
 use Rattle.archive_volumes.proofs.SpotLaws.{GoOn, placed_at, placed_stay, placed_with, spots_stay, spots_with}
 use Rattle.archive_volumes.specs.Grouping.{StandsAt, block_of}
-use Rattle.archive_volumes.specs.Spots.{ArePlaced, AreSpotsOf, HasGroupAt, IsInVolume, IsPlaced, IsSpotOf, RefersBack, form_of, spot_of, text_at}
+use Rattle.archive_volumes.specs.Spots.{ArePlaced, AreSpotsOf, HasGroupAt, HasOwnDigest, IsInVolume, IsPlaced, IsSpotOf, RefersBack, form_of, spot_of, text_at}
 use Rattle.archive_volumes.specs.Volumes.{HoldsBook}
 use Rattle.archive_volumes.specs.Writing.{texts_with, with_prepared}
 use Rattle.archive_volumes.specs.declared.group.Layout.{Layout}
@@ -77,10 +77,11 @@ module _ (old new : Book) (taken : Taken) (same : Option ℕ) (gains : captures 
       ap (λ (l : List Stored). slice_get l number) gains
       ∙ get_behind (captures old ++ as_stored taken same ∷ []) (captures old) (as_stored taken same) [] number refl refl
 
-  -- what is kept of the new capture is that
-  pub spot_is : (digest : List ℕ) (volume at head_at : ℕ) → Fits taken → CanRefer taken.cut old same → head_at + length (block_of taken same) < 2 ^ 62
+  -- what is kept of the new capture, whose payload has this digest, is that
+  pub spot_is : (digest payload : List ℕ) → HasPayload taken.cut taken.method taken.head taken.wire payload → digest ≡ sha1 payload
+      → (volume at head_at : ℕ) → Fits taken → CanRefer taken.cut old same → head_at + length (block_of taken same) < 2 ^ 62
       → IsInVolume new (length (captures old)) volume → IsSpotOf new (length (captures old)) (spot_of (as_stored taken same) digest volume at head_at)
-  spot_is digest volume at head_at fits refers ends inside =
+  spot_is digest payload has digested volume at head_at fits refers ends inside =
       let wire : List ℕ = kept_wire (kept_of taken.cut taken.wire same) in
       record {
         stored = as_stored taken same;
@@ -89,12 +90,19 @@ module _ (old new : Book) (taken : Taken) (same : Option ℕ) (gains : captures 
         uri = refl;
         date = refl;
         form = refl;
+        digest = own_by taken.cut taken.wire same has;
         refers = refers_by taken.cut taken.wire same refers;
         inside = inside;
         in_range = fits.date;
         short = omega (arith, fits.short.uri);
         ends = omega (arith, ends, ap length (kept_block old taken same refers), length-append taken.head wire);
       }
+    where
+      own_by : (cut : Bool) (wire : List ℕ) (other : Option ℕ) → HasPayload cut taken.method taken.head wire payload
+          → HasOwnDigest (as_stored taken same) (kept_of cut wire other) digest
+      own_by true wire other has = (payload, has, digested)
+      own_by false wire None has = (payload, has, digested)
+      own_by false wire (Some first) has = tt
 
   -- ---- where the disk tells
 

@@ -2,6 +2,7 @@ pub mod BringLaws
 pub mod ChangeLaws
 pub mod ChooseLaws
 pub mod DecodeLaws
+pub mod DigestLaws
 pub mod FactsLaws
 mod GhostLaws
 pub mod GroupLaws

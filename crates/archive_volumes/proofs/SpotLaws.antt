@@ -66,6 +66,7 @@ module _ (old new : Book) (added : List Stored) (gains : captures new ≡ captur
     uri = is.uri;
     date = is.date;
     form = is.form;
+    digest = is.digest;
     refers = refers_stay number spot.form is.refers;
     inside = in_volume_later old new number spot.volume grow is.inside;
     in_range = is.in_range;

@@ -1,6 +1,7 @@
 pub mod Bringing
 pub mod Choosing
 pub mod Decoding
+pub mod Digests
 pub mod Entries
 pub mod Facts
 pub mod Grouping

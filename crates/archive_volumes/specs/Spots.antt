@@ -1,7 +1,7 @@
 -- What is kept of the captures in memory, and where they stand in the volumes.
 use Rattle.std.specs.Prelude.{◌≡◌, ℕ, suc, ◌+◌, ◌^◌, ◌<◌, ◌≤◌, Bool, true, false, List, [], ◌∷◌, ◌++◌, length, take, drop, slice_get, slice_index_or, Some, if◌then◌else◌, ⊤}
 use Rattle.sha1.specs.Sha1.{sha1}
-use Rattle.capture.specs.Captures.{captures, first_number, kept_wire, IsPayloadOf}
+use Rattle.capture.specs.Captures.{captures, first_number, kept_wire, HasPayload, IsPayloadOf}
 use Rattle.capture.specs.declared.book.Book.{Book}
 use Rattle.capture.specs.declared.book.Volume.{Volume}
 use Rattle.capture.specs.declared.captured.Kept.{Kept}
@@ -56,6 +56,14 @@ RefersBack book number forms.Whole = ⊤
 RefersBack book number (forms.Same first) = (first < number) × KeepsWire book first
 RefersBack book number forms.Cut = ⊤
 
+-- where the capture keeps its wire, this is the digest of its payload
+abbrev pub HasOwnDigest : Stored → Kept → List ℕ → Type 0
+HasOwnDigest stored (keeps.Wire wire) digest =
+    (payload : List ℕ) × HasPayload false stored.method stored.head wire payload × (digest ≡ sha1 payload)
+HasOwnDigest stored (keeps.Same first) digest = ⊤
+HasOwnDigest stored (keeps.Cut wire) digest =
+    (payload : List ℕ) × HasPayload true stored.method stored.head wire payload × (digest ≡ sha1 payload)
+
 -- the capture with this number is one of the volume with that number
 pub record IsInVolume (book : Book) (number volume : ℕ) : Type 0 where
   pub of : Volume
@@ -71,6 +79,7 @@ pub record IsSpotOf (book : Book) (number : ℕ) (spot : Spot) : Type 0 where
   pub uri : spot.uri ≡ stored.uri
   pub date : spot.date ≡ stored.date
   pub form : spot.form ≡ form_of stored.kept
+  pub digest : HasOwnDigest stored stored.kept spot.digest
   pub refers : RefersBack book number spot.form
   pub inside : IsInVolume book number spot.volume
   pub in_range : InRange spot.date

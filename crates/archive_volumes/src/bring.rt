@@ -1,8 +1,10 @@
 //! A capture by its number, with its payload.
 ghost use Rattle.std.specs.Prelude.{◌≡◌, ◌<◌, false, IsTrue, IfOk, length};
 ghost use Rattle.warc_journal.specs.Journals.{disk_of, texts};
-ghost use Rattle.archive_shelf.specs.Answers.{CountsIf, is_bring_fault};
+ghost use Rattle.archive_shelf.specs.Answers.{CountsIf, NamesKeeper, is_bring_fault};
+ghost use Rattle.archive_shelf.specs.Digests.{GoesByDigest};
 ghost use Rattle.archive_volumes.specs.Bringing.{BringsFrom, OnlyReads, brought_of};
+ghost use Rattle.archive_volumes.specs.Digests.{GoesByKeeper, GoesByOwn};
 ghost use Rattle.archive_volumes.specs.Held.{book_of};
 ghost use Rattle.archive_volumes.specs.Spots.{AreSpotsOf, ArePlaced, IsPlaced, IsSpotOf, is_same_form};
 ghost use Rattle.archive_volumes.specs.Volumes.{HoldsBook};
@@ -39,6 +41,7 @@ impl<D: Disk> Volumes<D> {
         requires placed { IsTrue D.tells → IsPlaced (texts D.Disk self.old.journal) (book_of self.old.held) number spot.now }
         requires own { is_same_form spot.now.form ≡ false }
         ensures brings { BringsFrom D.tells (book_of self.old.held) number result }
+        ensures digest { GoesByOwn number spot.now.digest result }
         ensures reads { OnlyReads D.Disk self.old self.new }
         ensures faults { CountsIf (is_bring_fault result) (D.faults (disk_of self.old.journal)) (D.faults (disk_of self.new.journal)) }
     {
@@ -53,7 +56,8 @@ impl<D: Disk> Volumes<D> {
         }
     }
 
-    /// Brings a capture of which another one, the keeper, has the payload. The head is the capture's own.
+    /// Brings a capture of which another one, the keeper, has the payload. The head is the capture's own; damage of that is told
+    /// under its own number, by the digest of the payload.
     fn bring_same(
         &mut self,
         alloc: Global,
@@ -69,6 +73,7 @@ impl<D: Disk> Volumes<D> {
         requires keeper { IsSpotOf (book_of self.old.held) first keeper.now }
         requires kept { IsTrue D.tells → IsPlaced (texts D.Disk self.old.journal) (book_of self.old.held) first keeper.now }
         ensures brings { BringsFrom D.tells (book_of self.old.held) number result }
+        ensures digest { GoesByKeeper number first keeper.now.digest result }
         ensures reads { OnlyReads D.Disk self.old self.new }
         ensures faults { CountsIf (is_bring_fault result) (D.faults (disk_of self.old.journal)) (D.faults (disk_of self.new.journal)) }
     {
@@ -76,7 +81,7 @@ impl<D: Disk> Volumes<D> {
         if !is_response_head(alloc, head.as_slice())? {
             return Err(BringFault::Damaged {
                 number,
-                kept: spot.digest,
+                kept: keeper.digest,
                 found: None,
             });
         }
@@ -103,6 +108,8 @@ impl<D: Disk> Volumes<D> {
         requires spots { AreSpotsOf (book_of self.old.held) spots.now }
         requires placed { IsTrue D.tells → ArePlaced (texts D.Disk self.old.journal) (book_of self.old.held) spots.now }
         ensures brings { BringsFrom D.tells (book_of self.old.held) number result }
+        ensures names { NamesKeeper (book_of self.old.held) number result }
+        ensures digests { GoesByDigest (book_of self.old.held) number result }
         ensures reads { OnlyReads D.Disk self.old self.new }
         ensures faults { CountsIf (is_bring_fault result) (D.faults (disk_of self.old.journal)) (D.faults (disk_of self.new.journal)) }
     {

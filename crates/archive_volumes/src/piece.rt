@@ -2,6 +2,7 @@
 ghost use Rattle.std.specs.Prelude.{◌≡◌, ◌<◌, ℕ, IfOk, IsFalse, IsTrue, Some, length, slice_get};
 ghost use Rattle.warc_journal.specs.Journals.{disk_of, texts};
 ghost use Rattle.archive_shelf.specs.Answers.{CountsIf};
+ghost use Rattle.archive_shelf.specs.Digests.{PieceGoesByDigest};
 ghost use Rattle.archive_shelf.specs.Pieces.{IsFirstOf, is_piece_fault};
 ghost use Rattle.archive_volumes.specs.Bringing.{OnlyReads};
 ghost use Rattle.archive_volumes.specs.Held.{book_of};
@@ -67,6 +68,7 @@ impl<D: Disk> Volumes<D> {
         requires spots { AreSpotsOf (book_of self.old.held) spots.now }
         requires placed { IsTrue D.tells → ArePlaced (texts D.Disk self.old.journal) (book_of self.old.held) spots.now }
         ensures gives { GivesPieceFrom D.tells (book_of self.old.held) number result }
+        ensures digests { PieceGoesByDigest (book_of self.old.held) number result }
         ensures reads { OnlyReads D.Disk self.old self.new }
         ensures faults { CountsIf (is_piece_fault result) (D.faults (disk_of self.old.journal)) (D.faults (disk_of self.new.journal)) }
     {

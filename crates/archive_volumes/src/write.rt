@@ -4,7 +4,7 @@ ghost use Rattle.capture.specs.Captures.{captures};
 ghost use Rattle.capture.specs.Faults.{CountsFaults};
 ghost use Rattle.capture.specs.Tails.{IsCommitted};
 ghost use Rattle.warc_journal.specs.Extents.{cdxj_files};
-ghost use Rattle.warc_journal.specs.Journals.{disk_of, texts};
+ghost use Rattle.warc_journal.specs.Journals.{disk_of, last_len, texts};
 ghost use Rattle.warc_journal.specs.Texts.{with_more};
 ghost use Rattle.warc_text.specs.Books.{IsGroupText};
 ghost use Rattle.warc_text.specs.Sound.{IsSound};
@@ -54,6 +54,7 @@ impl<D: Disk> Volumes<D> {
           at = end_with self.old prepared;
           len = length group.now;
         }) }
+        ensures last_len { OnOk result (last_len self.new.journal ≡ end_with self.old prepared + length group.now) }
         ensures text { IsTrue D.tells → OnOk result (texts D.Disk self.new.journal
             ≡ with_more (texts_with (texts D.Disk self.old.journal) prepared) group.now) }
         ensures texts_left { IsTrue D.tells → OnErr result ((texts D.Disk self.new.journal ≡ texts D.Disk self.old.journal)
@@ -99,6 +100,7 @@ impl<D: Disk> Volumes<D> {
             ⊎ (book_of self.new.held ≡ with_prepared (book_of self.old.held) ready.prepared)) }
         ensures holds { HoldsBook D.Disk self.new.journal (book_of self.new.held) }
         ensures measured { IsMeasured self.new.journal (book_of self.new.held) }
+        ensures last_len { OnOk result (last_len self.new.journal ≡ end_with self.old ready.prepared + length ready.group) }
         ensures spots { AreSpotsOf (book_of self.new.held) spots.new.items }
         ensures placed { IsTrue D.tells → ArePlaced (texts D.Disk self.new.journal) (book_of self.new.held) spots.new.items }
         ensures table { table.new.kept ≡ whole_from 0 spots.new.items }

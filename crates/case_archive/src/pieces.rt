@@ -1,18 +1,15 @@
 //! Steps that give the pieces of captures and tell the volumes.
 use crate::finding::fault_bytes;
 use archive_core::Archive;
+use archive_shelf::Shelf;
 use archive_volumes::VolumeFacts;
 use capture::{Memory, put_all, put_number};
 use disk_model::Disk;
 use std::alloc::Global;
 
 /// The piece of the capture with this number; or the fault.
-pub fn piece_of<D: Disk>(
-    alloc: Global,
-    archive: &mut Archive<D>,
-    number: u32,
-) -> Result<Vec<u8>, Memory> {
-    match archive.piece(alloc, number) {
+pub fn piece_of<S: Shelf>(alloc: Global, shelf: &mut S, number: u32) -> Result<Vec<u8>, Memory> {
+    match shelf.piece(alloc, number) {
         Ok(piece) => Ok(Vec::from_slice(alloc, piece.as_slice())?),
         Err(fault) => fault_bytes(alloc, fault),
     }

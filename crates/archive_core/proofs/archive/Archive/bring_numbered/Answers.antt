@@ -2,6 +2,8 @@ use Rattle.std.proofs.Common.{rules, ◌≡◌, ◌<◌, ◌≤◌, refl, sym, s
 use Rattle.std.specs.Prelude.{length}
 use Rattle.capture.specs.Captures.{captures}
 use Rattle.capture.specs.declared.book.Book.{Book}
+use Rattle.archive_shelf.specs.Answers.{NamesKeeper}
+use Rattle.archive_shelf.specs.Digests.{GoesByDigest}
 use Rattle.archive_volumes.specs.Bringing.{BringsFrom}
 use Rattle.archive_volumes.specs.Held.{book_of}
 use Rattle.archive_core.specs.Holdings.{Holdings, IsArchive}
@@ -31,3 +33,13 @@ returns-clause-brings g c =
     (laws.reads_archive g.D.Disk (holdings_of c.self.inside) c.self.inside.volumes c.bring.new.self refl refl c.bring.ensures.reads c.self.invariant)
     (subst (λ (b : Book). c.args.number < length (captures b)) (sym same) (omega (arith, many, c.self.invariant.spots.count, c.if-number-count.false)))
     (subst (λ (b : Book). BringsFrom g.D.Disk.tells b c.args.number c.bring.result) (sym same) c.bring.ensures.brings)
+
+pub returns-clause-names : goal.returns-clause-names
+returns-clause-names g c =
+    let same = laws.same_book g.D.Disk (holdings_of c.self.inside) c.self.inside.volumes c.bring.new.self refl refl c.bring.ensures.reads in
+    subst (λ (b : Book). NamesKeeper b c.args.number c.bring.result) (sym same) c.bring.ensures.names
+
+pub returns-clause-digests : goal.returns-clause-digests
+returns-clause-digests g c =
+    let same = laws.same_book g.D.Disk (holdings_of c.self.inside) c.self.inside.volumes c.bring.new.self refl refl c.bring.ensures.reads in
+    subst (λ (b : Book). GoesByDigest b c.args.number c.bring.result) (sym same) c.bring.ensures.digests

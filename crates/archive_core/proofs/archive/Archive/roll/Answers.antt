@@ -1,11 +1,12 @@
 use Rattle.std.specs.Prelude.{Result, ⊤}
-use Rattle.std.proofs.Common.{◌++◌, ◌∷◌, [], ℕ, true, refl, Ok, Err, subst, sym, ap, ◌∙◌, arith}
+use Rattle.std.proofs.Common.{◌++◌, ◌∷◌, [], ℕ, length, true, refl, Ok, Err, subst, sym, ap, ◌∙◌, arith}
 use Rattle.capture.specs.Faults.{CountsFaults}
 use Rattle.capture.specs.declared.book.Book.{Book}
 use Rattle.warc_journal.specs.Extents.{cdxj_files}
-use Rattle.warc_journal.specs.Journals.{disk_of, texts, volumes}
+use Rattle.warc_journal.specs.Journals.{disk_of, last_len, texts, volumes}
 use Rattle.warc_journal.specs.declared.fault.DiskFault.{DiskFault}
 use Rattle.warc_journal.specs.declared.journal.Journal.{Journal}
+use Rattle.warc_text.specs.Records.{info_text}
 use Rattle.archive_shelf.specs.Gaining.{AreFilled}
 use Rattle.archive_shelf.specs.Storing.{with_volume}
 use Rattle.archive_shelf.specs.declared.fault.RollFault.TheVariants as rolls
@@ -63,7 +64,8 @@ returns-in_err-begin g c =
     c.prepare.new.self.journal c.self.inside.volumes.journal (book_of c.prepare.new.self.held) (book_of c.self.inside.volumes.held)
     c.in_ok-prepared.prepared.shadow.born c.args.now same.journal same.book same.born c.in_err-begin.ensures.makes)
     (subst (λ (j : Journal _). CountsFaults {T = ⊤} {E = DiskFault} (g.D.Disk.faults (disk_of j)) (g.D.Disk.faults (disk_of c.begin.new.self.journal)) (Err c.in_err-begin.field-0.0))
-    same.journal c.in_err-begin.ensures.faults)))
+    same.journal c.in_err-begin.ensures.faults)
+    (c.in_err-begin.ensures.last_len ∙ ap (λ (j : Journal _). last_len j) same.journal)))
 
 pub invariant_of-self-2 : goal.invariant_of-self-2
 invariant_of-self-2 g c =
@@ -91,4 +93,7 @@ returns g c =
     c.prepare.new.self.journal c.self.inside.volumes.journal (book_of c.prepare.new.self.held) (book_of c.self.inside.volumes.held)
     c.in_ok-prepared.prepared.shadow.born c.args.now same.journal same.book same.born c.in_ok-begin.ensures.makes)
     (subst (λ (j : Journal _). CountsFaults {T = ⊤} {E = DiskFault} (g.D.Disk.faults (disk_of j)) (g.D.Disk.faults (disk_of c.begin.new.self.journal)) (Ok c.in_ok-begin.field-0))
-    same.journal c.in_ok-begin.ensures.faults))
+    same.journal c.in_ok-begin.ensures.faults)
+    (c.in_ok-begin.ensures.last_len
+    ∙ ap length same.prepared.info
+    ∙ ap (λ (n : ℕ). length (info_text (book_of c.self.inside.volumes.held).namespace (length (book_of c.self.inside.volumes.held).volumes) n)) same.born))

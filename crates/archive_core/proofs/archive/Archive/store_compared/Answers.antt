@@ -395,7 +395,7 @@ returns-in-Ok-clause-stores g c =
     c.commit.new.self.journal (book_of c.commit.new.self.held) c.commit.new.table c.enter.new.index c.commit.new.spots.items
     c.commit.ensures.holds c.commit.ensures.measured c.commit.ensures.table c.commit.ensures.spots c.commit.ensures.placed c.commit.ensures.others
     (c.self.inside.revisits + c.revisits_in.result) c.in-Ok.ensures.stored c.in_ok-enter.ensures.entered
-    c.in-Ok.field-0 c.in-Ok.ensures.writes c.in-Ok.ensures.faults receipt number refl)
+    c.in-Ok.field-0 c.in-Ok.ensures.writes c.in-Ok.ensures.faults c.in-Ok.ensures.last_len receipt number refl)
 
 pub returns-in_err-reserve_kept-clause-unread : goal.returns-in_err-reserve_kept-clause-unread
 returns-in_err-reserve_kept-clause-unread g c number = memory_since _ number c.from_residual.result c.from_residual.ensures.1

@@ -13,3 +13,9 @@ returns-clause-reads g c =
 
 pub returns-clause-shows : goal.returns-clause-shows
 returns-clause-shows g c = c.shows_its_book.ensures.shows
+
+pub returns-clause-names : goal.returns-clause-names
+returns-clause-names g c = c.bring_numbered-answer.ensures.names
+
+pub returns-clause-digests : goal.returns-clause-digests
+returns-clause-digests g c = c.bring_numbered-answer.ensures.digests

@@ -1,7 +1,8 @@
-use Rattle.std.proofs.Common.{IsTrue, Ok, sym, subst}
+use Rattle.std.proofs.Common.{IsTrue, Ok, refl, sym, subst, inl, arith}
 use Rattle.capture.specs.declared.captured.Brought.{Brought}
-use Rattle.archive_volumes.proofs.BringLaws.{named, own_brought, replayable}
+use Rattle.archive_volumes.proofs.BringLaws.{damaged, named, own_brought, replayable}
 use Rattle.archive_volumes.specs.Bringing.{AreOf, BringsFrom, IsChecked, IsReadRight}
+use Rattle.archive_volumes.specs.Digests.{GoesByOwn}
 use Rattle.archive_volumes.specs.Held.{book_of}
 use Rattle.archive_volumes.specs.declared.payload.ReadBack.{ReadBack}
 use Rattle.archive_volumes.proofs.volumes.Volumes.bring_own.Goals as goal
@@ -19,4 +20,22 @@ returns-in_ok-brought-in-Right-clause-brings g c =
           (subst (λ (r : ReadBack). IsChecked spot.digest r) c.in-Right.is checked).0,
       named book c.args.number spot c.requires.spot c.in-Right.head c.in-Right.payload,
       λ told. own_brought book c.args.number spot c.requires.spot c.in-Right.head c.in-Right.payload (right told),
+    )
+
+pub returns-in_ok-brought-in-Right-clause-digest : goal.returns-in_ok-brought-in-Right-clause-digest
+returns-in_ok-brought-in-Right-clause-digest g c =
+    let spot = c.args.spot.now in
+    subst (λ (b : Brought). GoesByOwn c.args.number spot.digest (Ok b)) (sym c.in_ok-brought-in-Right.ensures)
+    (subst (λ (r : ReadBack). IsChecked spot.digest r) c.in-Right.is c.in_ok-read.ensures.checked).1
+
+pub returns-in-Damaged-clause-brings : goal.returns-in-Damaged-clause-brings
+returns-in-Damaged-clause-brings g c =
+    let spot = c.args.spot.now in
+    let never : IsTrue g.D.Disk.tells → ⊥ = λ told. subst (λ (r : ReadBack). IsReadRight (book_of c.args.self.now.held) c.args.number r) c.in-Damaged.is
+    (c.in_ok-read.ensures.right c.args.number told
+    (record { is = c.requires.spot; placed = c.requires.placed told; own = c.requires.own })) in (
+      omega arith,
+      inl refl,
+      damaged g.D.Disk.tells spot.digest c.in-Damaged.found never
+          (subst (λ (r : ReadBack). IsChecked spot.digest r) c.in-Damaged.is c.in_ok-read.ensures.checked),
     )

@@ -1,9 +1,10 @@
-use Rattle.std.proofs.Common.{◌≢◌, ℕ, IsTrue, false, true, List, Option, Some, None, Ok, refl, sym, ap, subst, ◌∙◌, inl, arith}
+use Rattle.std.proofs.Common.{◌≢◌, ℕ, IsTrue, false, true, List, Option, Some, None, Ok, refl, sym, ap, subst, ◌∙◌, inl, inr, arith}
 use Rattle.capture.specs.declared.book.Book.{Book}
 use Rattle.capture.specs.declared.captured.Brought.{Brought}
 use Rattle.warc_journal.specs.Journals.{texts}
 use Rattle.archive_volumes.proofs.BringLaws.{damaged, has_head, keeper_keeps, keeps_payload, kept_on, named, reads_then, refers_to, replayable, same_brought}
 use Rattle.archive_volumes.specs.Bringing.{AreOf, BringsFrom, IsChecked, IsReadRight}
+use Rattle.archive_volumes.specs.Digests.{GoesByKeeper}
 use Rattle.archive_volumes.specs.Decoding.{IsHead}
 use Rattle.archive_volumes.specs.Held.{book_of}
 use Rattle.archive_volumes.specs.declared.payload.ReadBack.{ReadBack}
@@ -23,11 +24,11 @@ returns-then-not-branch-clause-brings g c =
     let is : IsHead c.as_slice.result.now false = subst (λ b. IsHead c.as_slice.result.now b) c.if-not-branch.true c.in_ok-is_response_head.ensures in (
       omega arith,
       inl refl,
-      damaged g.D.Disk.tells spot.digest None
+      damaged g.D.Disk.tells c.args.keeper.now.digest None
           (λ told. has_head book c.args.number spot c.requires.spot c.args.first c.requires.form (texts g.D.Disk c.args.self.now.journal) (c.requires.placed told)
           c.in_ok-head.head.items (rw c.head_place.ensures at c.in_ok-head.ensures.bytes told) (c.requires.holds.sound told)
           (subst (λ (h : List ℕ). IsHead h false) c.as_slice.ensures.value is))
-          (no_digest spot.digest),
+          (no_digest c.args.keeper.now.digest),
     )
 
 pub returns-in_err-read-clause-reads : goal.returns-in_err-read-clause-reads
@@ -84,3 +85,15 @@ returns-in-Damaged-clause-brings g c =
           never
           (subst (λ (r : ReadBack). IsChecked c.args.keeper.now.digest r) c.in-Damaged.is c.in_ok-read.ensures.checked),
     )
+
+pub returns-then-not-branch-clause-digest : goal.returns-then-not-branch-clause-digest
+returns-then-not-branch-clause-digest g c = (inr (refl, refl), refl)
+
+pub returns-in_ok-brought-in-Right-clause-digest : goal.returns-in_ok-brought-in-Right-clause-digest
+returns-in_ok-brought-in-Right-clause-digest g c =
+    let kept = c.args.keeper.now.digest in
+    subst (λ (b : Brought). GoesByKeeper c.args.number c.args.first kept (Ok b)) (sym c.in_ok-brought-in-Right.ensures)
+    (subst (λ (r : ReadBack). IsChecked kept r) c.in-Right.is c.in_ok-read.ensures.checked).1
+
+pub returns-in-Damaged-clause-digest : goal.returns-in-Damaged-clause-digest
+returns-in-Damaged-clause-digest g c = (inl refl, refl)

@@ -1,14 +1,15 @@
-use Rattle.std.proofs.Common.{rules, ◌≡◌, ◌<◌, ◌≤◌, refl, sym, subst, ◌∙◌, arith}
+use Rattle.std.proofs.Common.{rules, ◌≡◌, ◌<◌, refl, sym, subst, ◌∙◌, arith}
 use Rattle.std.specs.Prelude.{length}
 use Rattle.capture.specs.Captures.{captures}
 use Rattle.capture.specs.declared.book.Book.{Book}
+use Rattle.archive_shelf.specs.Digests.{PieceGoesByDigest}
 use Rattle.archive_volumes.specs.Held.{book_of}
 use Rattle.archive_volumes.specs.KeptGroups.{GivesPieceFrom}
-use Rattle.archive_core.specs.Holdings.{Holdings, IsArchive}
+use Rattle.archive_core.specs.Holdings.{Holdings}
 use Rattle.archive_core.specs.View.{holdings_of}
 use Rattle.archive_core.proofs.PieceLaws.{gives_by}
 use Rattle.archive_core.proofs.ReadLaws as laws
-use Rattle.archive_core.proofs.archive.Archive.piece.Goals as goal
+use Rattle.archive_core.proofs.archive.Archive.piece_numbered.Goals as goal
 
 pub returns-then-number-count-clause-gives : goal.returns-then-number-count-clause-gives
 returns-then-number-count-clause-gives g c =
@@ -29,3 +30,8 @@ returns-clause-gives g c =
     c.args.number c.piece.result
     (subst (λ (b : Book). c.args.number < length (captures b)) (sym same) (omega (arith, many, c.self.invariant.spots.count, c.if-number-count.false)))
     (subst (λ (b : Book). GivesPieceFrom g.D.Disk.tells b c.args.number c.piece.result) (sym same) c.piece.ensures.gives)
+
+pub returns-clause-digests : goal.returns-clause-digests
+returns-clause-digests g c =
+    let same = laws.same_book g.D.Disk (holdings_of c.self.inside) c.self.inside.volumes c.piece.new.self refl refl c.piece.ensures.reads in
+    subst (λ (b : Book). PieceGoesByDigest b c.args.number c.piece.result) (sym same) c.piece.ensures.digests

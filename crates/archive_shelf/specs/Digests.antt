@@ -1,0 +1,37 @@
+-- How what is read goes by the digests of what was stored, whatever the disk tells.
+use Rattle.std.specs.Prelude.{◌≡◌, ℕ, List, Result, Ok, Err, ⊤}
+use Rattle.sha1.specs.Sha1.{sha1}
+use Rattle.capture.specs.Captures.{IsPayloadOf}
+use Rattle.capture.specs.declared.book.Book.{Book}
+use Rattle.capture.specs.declared.captured.Brought.{Brought}
+use Rattle.archive_shelf.specs.Answers.{IsKeeperOf}
+use Rattle.archive_shelf.specs.Pieces.{IsSomePiece}
+use Rattle.archive_shelf.specs.declared.fault.BringFault.{BringFault}
+use Rattle.archive_shelf.specs.declared.fault.BringFault.TheVariants as brings
+
+-- the digest is that of the payload which the capture with this number has in the book
+pub record HasDigestOf (book : Book) (number : ℕ) (digest : List ℕ) : Type 0 where
+  pub payload : List ℕ
+  pub has : IsPayloadOf book number payload
+  pub is : digest ≡ sha1 payload
+
+-- A payload that is brought has the digest of the capture's payload; damage is told with that digest.
+abbrev pub GoesByDigest : Book → ℕ → Result Brought BringFault → Type 0
+GoesByDigest book number (Ok brought) = HasDigestOf book number (sha1 brought.payload)
+GoesByDigest book number (Err (brings.NoSuch count)) = ⊤
+GoesByDigest book number (Err brings.DiskFault) = ⊤
+GoesByDigest book number (Err (brings.Damaged at kept found)) = HasDigestOf book number kept
+GoesByDigest book number (Err brings.Memory) = ⊤
+
+-- the group in a piece tells the digest of the capture's payload
+pub record TellsDigestOf (book : Book) (number : ℕ) (bytes : List ℕ) : Type 0 where
+  pub piece : IsSomePiece book number bytes
+  pub tells : HasDigestOf book number piece.digest
+
+-- So it is in the piece of a capture that keeps its wire; damage of such a one is told with that digest.
+abbrev pub PieceGoesByDigest : Book → ℕ → Result (List ℕ) BringFault → Type 0
+PieceGoesByDigest book number (Ok bytes) = IsKeeperOf book number number → TellsDigestOf book number bytes
+PieceGoesByDigest book number (Err (brings.NoSuch count)) = ⊤
+PieceGoesByDigest book number (Err brings.DiskFault) = ⊤
+PieceGoesByDigest book number (Err (brings.Damaged at kept found)) = IsKeeperOf book number number → HasDigestOf book number kept
+PieceGoesByDigest book number (Err brings.Memory) = ⊤
