@@ -1,0 +1,136 @@
+-- Turns that only read.
+use Rattle.std.proofs.Common.{◌≡◌, ℕ, ◌<◌, ◌≤◌, Bool, true, false, IsTrue, List, ◌++◌, length, Result, Ok, Err, refl, sym, ap, subst, ◌∙◌, arith}
+use Rattle.capture.specs.Captures.{captures}
+use Rattle.capture.specs.declared.book.Book.{Book}
+use Rattle.capture.specs.declared.captured.Brought.{Brought}
+use Rattle.capture.specs.declared.limits.Limits.{Limits}
+use Rattle.warc_text.specs.Sound.{IsSound}
+use Rattle.archive_shelf.specs.Answers.{Brings, IsBrought, IsNamed, KeepsPayloadOf, is_bring_fault}
+use Rattle.archive_shelf.specs.Comparing.{IsRight}
+use Rattle.archive_shelf.specs.declared.fault.BringFault.{BringFault}
+use Rattle.archive_shelf.specs.declared.fault.BringFault.TheVariants as brings
+use Rattle.archive_shelf.specs.declared.fault.StoreFault.{StoreFault}
+use Rattle.archive_shelf.specs.declared.fault.StoreFault.TheVariants as stores
+use Rattle.archive_shelf.specs.declared.looked.Looked.{Looked}
+use Rattle.archive_volumes.specs.Choosing.{is_look_fault}
+use Rattle.archive_core.specs.Holdings.{Holdings, contents_of}
+use Rattle.archive_core.specs.Looking.{Looks}
+use Rattle.history_lock.specs.Seen.{Adds, All}
+use Rattle.vault.specs.Guarded.{Stands}
+use Rattle.vault.specs.History.{by_of, told_book, told_in, told_limits}
+use Rattle.vault.specs.Noting.{failing}
+use Rattle.vault.specs.Turns.{AddsFaultAlone, BringsIt, Compares}
+use Rattle.vault.specs.declared.noted.Noted.{Noted}
+use Rattle.vault.proofs.HistoryLaws.{begun_append, limits_append, told_append}
+
+-- ---- what a fault adds
+
+adds_fault : (by : ℕ) (failed : Bool) → AddsFaultAlone failed (failing by failed)
+adds_fault by true = refl
+adds_fault by false = refl
+
+all_failing : (by : ℕ) (failed : Bool) → All (λ (n : Noted). n.by ≡ by) (failing by failed)
+all_failing by true = (refl, tt)
+all_failing by false = tt
+
+module _ {D : Type 0} (by : ℕ) (history : List Noted) (was is : Holdings D) (stands : Stands history was) (book_is : is.book ≡ was.book)
+    (limits_is : is.limits ≡ was.limits) where
+  to : is.book ≡ told_book history
+  to = book_is ∙ stands.book
+
+  limits_to : is.limits ≡ told_limits history
+  limits_to = limits_is ∙ stands.limits
+
+  told_then : (failed : Bool) → told_book (history ++ failing by failed) ≡ told_book history
+  told_then true = told_append history (failing by true) stands.begun
+  told_then false = told_append history (failing by false) stands.begun
+
+  pub read_stands : (failed : Bool) → Stands (history ++ failing by failed) is
+  read_stands failed = record {
+    begun = begun_append history (failing by failed) stands.begun;
+    book = to ∙ sym (told_then failed);
+    limits = limits_to ∙ sym (limits_append history (failing by failed) stands.begun);
+  }
+
+  brings_told : (tells : Bool) (number : ℕ) (result : Result Brought BringFault) → Brings (contents_of tells is) number result
+      → Brings (told_in tells history) number result
+  brings_told tells number (Ok brought) h = (
+    subst (λ (b : Book). number < length (captures b)) to h.0,
+    h.1,
+    subst (λ (b : Book). IsNamed b number brought) to h.2,
+    λ told. (subst (λ (b : Book). IsBrought b number brought) to (h.3 told).0, λ entry has same. absurd (omega (arith, has.1))),
+  )
+  brings_told tells number (Err (brings.NoSuch count)) h =
+      (h.0 ∙ ap (λ (b : Book). length (captures b)) to, h.1, λ entry has. absurd (omega (arith, has.1)))
+  brings_told tells number (Err brings.DiskFault) h = subst (λ (b : Book). number < length (captures b)) to h
+  brings_told tells number (Err (brings.Damaged at kept found)) h = (
+    subst (λ (b : Book). number < length (captures b)) to h.0,
+    h.1,
+    subst (λ (b : Book). KeepsPayloadOf b number at) to h.2,
+    h.3,
+  )
+  brings_told tells number (Err brings.Memory) h = tt
+
+  looks_told : (tells : Bool) (payload : List ℕ) (result : Result Looked StoreFault) → Looks (contents_of tells is) payload result
+      → Looks (told_in tells history) payload result
+  looks_told tells payload (Ok looked) h = (
+    subst (λ (l : Limits). length (captures (told_book history)) < l.captures) limits_to
+        (subst (λ (b : Book). length (captures b) < is.limits.captures) to h.0),
+    subst (λ (b : Book). IsRight tells b payload looked) to h.1,
+    h.2 ∙ ap (λ (b : Book). length (captures b)) to,
+  )
+  looks_told tells payload (Err (stores.Full count limit)) h = (
+    subst (λ (l : Limits). l.captures ≤ length (captures (told_book history))) limits_to
+        (subst (λ (b : Book). is.limits.captures ≤ length (captures b)) to h.0),
+    h.1 ∙ ap (λ (b : Book). length (captures b)) to,
+    h.2 ∙ ap (λ (l : Limits). l.captures) limits_to,
+  )
+  looks_told tells payload (Err stores.DiskFault) h =
+      subst (λ (l : Limits). length (captures (told_book history)) < l.captures) limits_to
+      (subst (λ (b : Book). length (captures b) < is.limits.captures) to h)
+  looks_told tells payload (Err (stores.Damaged at kept found)) h = (
+    subst (λ (l : Limits). length (captures (told_book history)) < l.captures) limits_to
+        (subst (λ (b : Book). length (captures b) < is.limits.captures) to h.0),
+    subst (λ (b : Book). at < length (captures b)) to h.1,
+    h.2,
+  )
+  looks_told tells payload (Err stores.Memory) h = tt
+
+  sound_then : (tells failed : Bool) → (IsTrue tells → IsSound is.book) → IsTrue tells → IsSound (told_book (history ++ failing by failed))
+  sound_then tells failed sound told = subst IsSound (to ∙ sym (told_then failed)) (sound told)
+
+  -- a turn that brought a capture, or failed to
+  pub all_brought : (tells : Bool) (number : ℕ) (result : Result Brought BringFault) (after : List Noted)
+      → Brings (contents_of tells is) number result → (IsTrue tells → IsSound is.book) → after ≡ history ++ failing by (is_bring_fault result)
+      → Stands after is × Adds by_of by history after (λ added. BringsIt tells number history added result)
+  all_brought tells number result after brought sound joined = (
+    subst (λ (l : List Noted). Stands l is) (sym joined) (read_stands (is_bring_fault result)),
+    record {
+      added = failing by (is_bring_fault result);
+      is_before_and_added = joined;
+      of_pass = all_failing by (is_bring_fault result);
+      done = record {
+        brings = brings_told tells number result brought;
+        adds = adds_fault by (is_bring_fault result);
+        sound = sound_then tells (is_bring_fault result) sound;
+      };
+    },
+  )
+
+  -- a turn that looked for a payload, or failed to
+  pub all_compared : (tells : Bool) (payload : List ℕ) (result : Result Looked StoreFault) (after : List Noted)
+      → Looks (contents_of tells is) payload result → (IsTrue tells → IsSound is.book) → after ≡ history ++ failing by (is_look_fault result)
+      → Stands after is × Adds by_of by history after (λ added. Compares tells payload history added result)
+  all_compared tells payload result after looked sound joined = (
+    subst (λ (l : List Noted). Stands l is) (sym joined) (read_stands (is_look_fault result)),
+    record {
+      added = failing by (is_look_fault result);
+      is_before_and_added = joined;
+      of_pass = all_failing by (is_look_fault result);
+      done = record {
+        looks = looks_told tells payload result looked;
+        adds = adds_fault by (is_look_fault result);
+        sound = sound_then tells (is_look_fault result) sound;
+      };
+    },
+  )

@@ -1,0 +1,39 @@
+-- A capture was stored, or not.
+use Rattle.std.proofs.Common.{List, sym, subst}
+use Rattle.capture.specs.declared.book.Book.{Book}
+use Rattle.archive_shelf.specs.Comparing.{IsRight}
+use Rattle.history_lock.specs.Seen.{Adds}
+use Rattle.vault.specs.Guarded.{Guarded}
+use Rattle.vault.specs.History.{by_of, told_book}
+use Rattle.vault.specs.Noting.{Notes}
+use Rattle.vault.specs.Turns.{Commits}
+use Rattle.vault.specs.declared.noted.Noted.{Noted}
+use Rattle.vault.proofs.CommitLaws.{all_committed}
+use Rattle.vault.proofs.NotingLaws.{noting_from, values}
+use Rattle.vault.proofs.keeping.Keeping.commit.Goals as goal
+
+pub stored-answer-requires-clause-right : goal.stored-answer-requires-clause-right
+stored-answer-requires-clause-right g c = λ payload has.
+    subst (λ (b : Book). IsRight g.D.Disk.tells b payload c.args.looked) (sym c.self.invariant.book)
+    (subst (λ (kept : Guarded _). IsRight g.D.Disk.tells (told_book kept.history) payload c.args.looked) (sym c.self.view_is)
+    (c.requires.right payload has))
+
+pub invariant_of-self-2 : goal.invariant_of-self-2
+invariant_of-self-2 g c =
+    (all_committed g.D.Disk c.args.by c.args.taken.now (values c.self.inside.history.items) (values c.note_store.new.history.items)
+    c.self.inside.archive c.stored-answer.new.archive c.stored-answer.result.0 c.stored-answer.result.1 c.self.invariant
+    c.stored-answer.ensures.stores c.stored-answer.ensures.began c.stored-answer.ensures.shows.consistent.sound
+    (noting_from c.self.inside.history.items c.reserve.new.self.items (values c.note_store.new.history.items)
+    (λ (added : List Noted). Notes c.args.by c.args.taken.now c.stored-answer.result.1 c.stored-answer.result.0 added)
+    c.reserve.ensures.items c.note_store.ensures)).0
+
+pub returns : goal.returns
+returns g c =
+    subst (λ (kept : Guarded _). Adds by_of c.args.by kept.history (values c.note_store.new.history.items)
+    (λ added. Commits g.D.Disk.tells c.args.taken.now kept.history added c.stored-answer.result.0)) c.self.view_is
+    (all_committed g.D.Disk c.args.by c.args.taken.now (values c.self.inside.history.items) (values c.note_store.new.history.items)
+    c.self.inside.archive c.stored-answer.new.archive c.stored-answer.result.0 c.stored-answer.result.1 c.self.invariant
+    c.stored-answer.ensures.stores c.stored-answer.ensures.began c.stored-answer.ensures.shows.consistent.sound
+    (noting_from c.self.inside.history.items c.reserve.new.self.items (values c.note_store.new.history.items)
+    (λ (added : List Noted). Notes c.args.by c.args.taken.now c.stored-answer.result.1 c.stored-answer.result.0 added)
+    c.reserve.ensures.items c.note_store.ensures)).1

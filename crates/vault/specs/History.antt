@@ -1,0 +1,71 @@
+-- The history of a vault: the archive as it was given, and what the turns of its passes added. It tells one book.
+use Rattle.std.specs.Prelude.{◌≡◌, ℕ, Bool, List, [], ◌∷◌}
+use Rattle.capture.specs.declared.book.Book.{Book}
+use Rattle.capture.specs.declared.limits.Limits.{Limits}
+use Rattle.archive_shelf.specs.Contents.{Contents}
+use Rattle.archive_shelf.specs.Storing.{as_stored, empty_book, with_capture, with_volume}
+use Rattle.archive_volumes.specs.Held.{book_of}
+use Rattle.vault.specs.declared.noted.Kind.{Kind}
+use Rattle.vault.specs.declared.noted.Kind.TheVariants.{Opened, Began, Stored, Failed}
+use Rattle.vault.specs.declared.noted.Noted.{Noted}
+
+-- the number of the pass that added the entry
+abbrev pub by_of : Noted → ℕ
+by_of noted = noted.by
+
+-- ---- the book
+
+-- the book after an entry that isn't the first
+abbrev pub after_kind : Book → Kind → Book
+after_kind book (Opened held limits) = book
+after_kind book (Began at) = with_volume book at
+after_kind book (Stored taken same) = with_capture book (as_stored taken.value same)
+after_kind book Failed = book
+
+-- the book after these entries
+abbrev pub book_after : Book → List Noted → Book
+book_after book [] = book
+book_after book (noted ∷ others) = book_after (after_kind book noted.kind) others
+
+-- the book that the archive had when it was given
+abbrev pub opened_book : Kind → Book
+opened_book (Opened held limits) = book_of held.value
+opened_book (Began at) = empty_book []
+opened_book (Stored taken same) = empty_book []
+opened_book Failed = empty_book []
+
+-- the book that the history tells
+abbrev pub told_book : List Noted → Book
+told_book [] = empty_book []
+told_book (noted ∷ others) = book_after (opened_book noted.kind) others
+
+-- ---- the limits
+
+abbrev pub limits_by : Kind → Limits
+limits_by (Opened held limits) = limits
+limits_by (Began at) = record { volume_bytes = 0; captures = 0 }
+limits_by (Stored taken same) = record { volume_bytes = 0; captures = 0 }
+limits_by Failed = record { volume_bytes = 0; captures = 0 }
+
+-- the limits of the archive
+abbrev pub told_limits : List Noted → Limits
+told_limits [] = record { volume_bytes = 0; captures = 0 }
+told_limits (noted ∷ others) = limits_by noted.kind
+
+-- ---- what is told of a history
+
+-- it has a first entry
+abbrev pub IsBegun : List Noted → Type 0
+IsBegun [] = ⊥
+IsBegun (noted ∷ others) = Unit {0}
+
+-- what an archive of this history tells, but for what is shown by date
+abbrev pub told_in : Bool → List Noted → Contents
+told_in tells history =
+    record { tells = tells; seen = told_book history; shown = []; mine = []; limits = told_limits history }
+
+-- the history of an archive with this book and these limits, to which no turn has added anything
+abbrev pub IsOpening : Book → Limits → List Noted → Type 0
+IsOpening book limits [] = ⊥
+IsOpening book limits (noted ∷ []) = (noted.by ≡ 0) × (opened_book noted.kind ≡ book) × (limits_by noted.kind ≡ limits)
+IsOpening book limits (noted ∷ next ∷ others) = ⊥

@@ -1,0 +1,6 @@
+pub mod History
+pub mod Turns
+pub mod Noting
+pub mod Guarded
+pub mod Passes
+pub mod Own

@@ -1,0 +1,21 @@
+-- The passes of a vault.
+use Rattle.std.specs.Prelude.{◌≡◌, ℕ, List}
+use Rattle.capture.specs.declared.book.Book.{Book}
+use Rattle.capture.specs.declared.limits.Limits.{Limits}
+use Rattle.history_lock.specs.Known.{Known, LockId, newcomer}
+use Rattle.history_lock.specs.Seen.{Shows}
+use Rattle.vault.specs.History.{IsBegun, IsOpening, by_of, told_book, told_limits}
+use Rattle.vault.specs.declared.noted.Noted.{Noted}
+
+-- the pass with this number as it is made: it has seen that the archive was given, with this book and these limits
+pub record IsMade (lock : LockId) (passes number : ℕ) (book : Book) (limits : Limits) (pass : Known Noted) : Type 0 where
+  pub is : pass ≡ newcomer lock passes number pass.seen
+  pub opens : IsOpening book limits pass.seen
+
+-- what is left when a vault is closed: the book and the limits of some history that the pass had seen the beginning of
+pub record IsLeft (pass : Known Noted) (book : Book) (limits : Limits) : Type 0 where
+  pub history : List Noted
+  pub shows : Shows by_of pass.passes pass.numbers pass.seen history
+  pub begun : IsBegun history
+  pub book_is : book ≡ told_book history
+  pub limits_are : limits ≡ told_limits history

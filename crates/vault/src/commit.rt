@@ -1,0 +1,99 @@
+//! The committing turn of a store.
+ghost use Rattle.std.specs.Prelude.{◌≡◌, ◌≢◌, MatchBool, true, length};
+ghost use Rattle.warc_text.specs.Fits.{Fits};
+ghost use Rattle.archive_shelf.specs.Told.{ShowsItsBook};
+ghost use Rattle.archive_core.specs.Holdings.{contents_of};
+ghost use Rattle.archive_core.specs.Looking.{IsDigestOf, IsRightOf};
+ghost use Rattle.archive_core.specs.Stores.{Stores};
+ghost use Rattle.archive_core.specs.Told.{told_of};
+ghost use Rattle.history_lock.specs.Seen.{Adds};
+ghost use Rattle.vault.specs.History.{by_of, told_in};
+ghost use Rattle.vault.specs.Turns.{Commits};
+
+use crate::keeping::Keeping;
+use crate::noting::note_store;
+use archive_core::Archive;
+use archive_shelf::{Looked, Receipt, StoreFault};
+use capture::{Digest, Taken};
+use disk_model::Disk;
+use history_lock::Work;
+use std::alloc::Global;
+
+/// A capture that is to be stored, whose payload was looked for before: as far as `looked` says, or not at all.
+pub(crate) struct Commit<'t> {
+    pub(crate) alloc: Global,
+    pub(crate) taken: &'t Taken,
+    /// The digest of its payload.
+    pub(crate) digest: Digest,
+    pub(crate) looked: Looked,
+}
+
+impl<'t, D: Disk> Work<Keeping<D>> for Commit<'t> {
+    ghost use Rattle.warc_text.specs.Fits.{Fits};
+    ghost use Rattle.archive_core.specs.Looking.{IsDigestOf, IsRightOf};
+    ghost use Rattle.vault.specs.History.{told_in};
+    ghost use Rattle.vault.specs.Turns.{Commits};
+
+    type Reply = Result<Receipt, StoreFault>;
+
+    ghost ready = { λ work found. Fits work.taken.now × IsDigestOf work.taken.now work.digest × IsRightOf (told_in D.tells found) work.taken.now work.looked };
+
+    ghost does = { λ work by found added reply. Commits D.tells work.taken.now found added reply };
+
+    fn act(self, by: u32, value: &mut Keeping<D>) -> Result<Receipt, StoreFault> {
+        let Commit {
+            alloc,
+            taken,
+            digest,
+            looked,
+        } = self;
+        value.commit(by, alloc, taken, &digest, looked)
+    }
+}
+
+/// Stores a capture, and says whether a volume was begun for it.
+fn stored<D: Disk>(
+    archive: &mut Archive<D>,
+    alloc: Global,
+    taken: &Taken,
+    digest: &Digest,
+    looked: Looked,
+) -> (Result<Receipt, StoreFault>, bool)
+    requires fits { Fits taken.now }
+    requires digest { IsDigestOf taken.now digest.now }
+    requires right { IsRightOf (contents_of D.tells archive.old) taken.now looked }
+    ensures stores { Stores D.Disk archive.old archive.new taken.now result.0 }
+    ensures began { MatchBool result.1 (length archive.new.book.volumes ≢ length archive.old.book.volumes) (length archive.new.book.volumes ≡ length archive.old.book.volumes) }
+    ensures shows { ShowsItsBook true (told_of D.Disk archive.new) }
+{
+    let before = archive.counts().volumes;
+    let answer = archive.store_after(alloc, taken, digest, looked);
+    let began = archive.counts().volumes != before;
+    archive.shows_its_book();
+    (answer, began)
+}
+
+impl<D: Disk> Keeping<D> {
+    /// Stores a capture for the pass of this number. Room in the history is made first, so want of memory leaves all as it was.
+    pub(crate) fn commit(
+        &mut self,
+        by: u32,
+        alloc: Global,
+        taken: &Taken,
+        digest: &Digest,
+        looked: Looked,
+    ) -> Result<Receipt, StoreFault>
+        requires fits { Fits taken.now }
+        requires digest { IsDigestOf taken.now digest.now }
+        requires right { IsRightOf (told_in D.tells self.old.history) taken.now looked }
+        ensures { Adds by_of by self.old.history self.new.history (λ added. Commits D.tells taken.now self.old.history added result) }
+    {
+        self.archive.shows_its_book();
+        if self.history.reserve(2).is_err() {
+            return Err(StoreFault::Memory);
+        }
+        let (answer, began) = stored(&mut self.archive, alloc, taken, digest, looked);
+        note_store(&mut self.history, by, taken, began, &answer);
+        answer
+    }
+}

@@ -1,0 +1,85 @@
+//! A turn that looks for the payload of a capture which is to be stored.
+ghost use Rattle.std.specs.Prelude.{◌≡◌};
+ghost use Rattle.sha1.specs.Sha1.{sha1};
+ghost use Rattle.history_lock.specs.Seen.{Adds};
+ghost use Rattle.archive_volumes.specs.Choosing.{is_look_fault};
+ghost use Rattle.vault.specs.History.{by_of};
+ghost use Rattle.vault.specs.Turns.{Compares};
+
+use crate::keeping::Keeping;
+use crate::noting::note_fault;
+use archive_shelf::{Looked, StoreFault};
+use capture::Digest;
+use disk_model::Disk;
+use history_lock::Work;
+use std::alloc::Global;
+
+/// A payload that is looked for among all captures, byte for byte. Nothing is stored.
+pub(crate) struct Compare<'p> {
+    pub(crate) alloc: Global,
+    pub(crate) payload: &'p [u8],
+    pub(crate) digest: Digest,
+}
+
+impl<'p, D: Disk> Work<Keeping<D>> for Compare<'p> {
+    ghost use Rattle.std.specs.Prelude.{◌≡◌};
+    ghost use Rattle.sha1.specs.Sha1.{sha1};
+    ghost use Rattle.vault.specs.Turns.{Compares};
+
+    type Reply = Result<Looked, StoreFault>;
+
+    ghost ready = { λ work found. work.digest ≡ sha1 work.payload.now };
+
+    ghost does = { λ work by found added reply. Compares D.tells work.payload.now found added reply };
+
+    fn act(self, by: u32, value: &mut Keeping<D>) -> Result<Looked, StoreFault> {
+        let Compare {
+            alloc,
+            payload,
+            digest,
+        } = self;
+        value.compare(by, alloc, payload, &digest)
+    }
+}
+
+impl<D: Disk> Keeping<D> {
+    /// Looks for a payload for the pass of this number. Room in the history is made first.
+    pub(crate) fn compare(
+        &mut self,
+        by: u32,
+        alloc: Global,
+        payload: &[u8],
+        digest: &Digest,
+    ) -> Result<Looked, StoreFault>
+        requires { digest.now ≡ sha1 payload.now }
+        ensures { Adds by_of by self.old.history self.new.history (λ added. Compares D.tells payload.now self.old.history added result) }
+    {
+        self.archive.shows_its_book();
+        if self.history.reserve(1).is_err() {
+            return Err(StoreFault::Memory);
+        }
+        let answer = self.archive.compare(alloc, payload, digest, Looked::none());
+        self.archive.shows_its_book();
+        note_fault(&mut self.history, by, is_disk_fault(&answer));
+        answer
+    }
+}
+
+/// Whether the disk failed.
+fn is_disk_fault(answer: &Result<Looked, StoreFault>) -> bool
+    ensures { result ≡ is_look_fault answer.now }
+{
+    match answer {
+        Ok(_) => false,
+        Err(StoreFault::DiskFault) => true,
+        Err(StoreFault::Full { count: _, limit: _ }) => false,
+        Err(
+            StoreFault::Damaged {
+                number: _,
+                kept: _,
+                found: _,
+            },
+        ) => false,
+        Err(StoreFault::Memory) => false,
+    }
+}

@@ -1,0 +1,24 @@
+//! The entries of a vault's history, of which only clauses know.
+use archive_volumes::Held;
+use capture::{Limits, Taken};
+use std::snapshot::Snapshot;
+
+/// What an entry of the history tells.
+#[derive(Drop)]
+pub enum Kind {
+    /// The archive was given to the vault, with this book and these limits. It is the first entry.
+    Opened(Snapshot<Held>, Limits),
+    /// A volume was begun, at this time in milliseconds since 1970.
+    Began(u64),
+    /// A capture was stored, which refers to the one with this number, if to any.
+    Stored(Snapshot<Taken>, Option<u32>),
+    /// The disk failed.
+    Failed,
+}
+
+/// An entry of the history, with the number of the pass that added it, or 0 where it was there before the passes.
+#[derive(Drop)]
+pub struct Noted {
+    pub by: u32,
+    pub kind: Kind,
+}
