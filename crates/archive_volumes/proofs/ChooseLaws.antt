@@ -9,6 +9,7 @@ use Rattle.std.proofs.lemmas.Slice.Eq.{bytes_eq-Decides}
 use Rattle.sha1.specs.Sha1.{sha1}
 use Rattle.capture.specs.BodyLaws.{CapturesHaveOnePayload, WiresHaveOnePayload}
 use Rattle.capture.specs.Captures.{captures, is_cut, IsPayloadBy, IsPayloadOf}
+use Rattle.capture.specs.Payload.{IsPayload}
 use Rattle.capture.specs.Soundness.{IsSoundBy}
 use Rattle.capture.specs.declared.book.Book.{Book}
 use Rattle.capture.specs.declared.captured.Kept.{Kept}
@@ -421,6 +422,14 @@ module _ (book : Book) (spots : List Spot) (are : AreSpotsOf book spots) (number
     own_by (forms.Same first) e = absurd (false≢true e)
     own_by forms.Cut e = refl
 
+    not_cut_by : (form : Form) → is_whole form ≡ true → is_cut_form form ≡ false
+    not_cut_by forms.Whole e = refl
+    not_cut_by (forms.Same first) e = absurd (false≢true e)
+    not_cut_by forms.Cut e = absurd (false≢true e)
+
+    pub its_whole : is_cut_form spot.form ≡ false
+    its_whole = not_cut_by spot.form its_form
+
     pub its_kept : (texts : List (List ℕ)) → ArePlaced texts book spots → IsKept texts book number spot
     its_kept texts placed = record {
       is = its_spot;
@@ -445,11 +454,11 @@ ok_weaker : {T E : Type 0} (r : Result T E) (P Q : T → Type 0) → ((x : T) �
 ok_weaker (Ok x) P Q f p = f x p
 ok_weaker (Err e) P Q f p = tt
 
-as_is : (cut : Bool) (framing : Framing) (wire : List ℕ) → is_plain framing ≡ true → HoldsPayload cut framing wire (Some wire)
-as_is cut Empty wire e = refl
-as_is cut (Length n) wire e = refl
-as_is cut Chunked wire e = absurd (false≢true e)
-as_is cut ToEnd wire e = refl
+plain_payload : (framing : Framing) (wire payload : List ℕ) → is_plain framing ≡ true → payload ≡ wire → IsPayload false framing wire payload
+plain_payload Empty wire payload e is = is
+plain_payload (Length n) wire payload e is = is
+plain_payload Chunked wire payload e is = absurd (false≢true e)
+plain_payload ToEnd wire payload e is = is
 
 is_chunked : (framing : Framing) → is_plain framing ≡ false → framing ≡ Chunked
 is_chunked Empty e = absurd (false≢true (sym e))
@@ -457,41 +466,43 @@ is_chunked (Length n) e = absurd (false≢true (sym e))
 is_chunked Chunked e = refl
 is_chunked ToEnd e = absurd (false≢true (sym e))
 
-module _ (wires : WiresHaveOnePayload) (one : CapturesHaveOnePayload) (texts : List (List ℕ)) (book : Book) (number : ℕ) (spot : Spot)
-    (kept : IsKept texts book number spot) (head : List ℕ) (is : head ≡ head_in texts spot) (later : List (List ℕ)) (stay : later ≡ texts)
-    (payload : List ℕ) (r : Result Compared ReadFault) where
-  -- the wire is the payload as it stands
-  pub wire_right : (framing : Framing) → TellsFraming spot.method head (Some framing) → is_plain framing ≡ true
-      → IfOk r (Compares spot.digest (wire_in later spot) payload) → IfOk r (ComparesWith book number payload)
-  wire_right framing tells plain compared =
-      let there : TellsFraming spot.method (head_in texts spot) (Some framing) = subst (λ (h : List ℕ). TellsFraming spot.method h (Some framing)) is tells in
-      let same : wire_in texts spot ≡ kept.placed.payload =
-      same_Some (wire_in texts spot) kept.placed.payload (found_is wires texts book number spot kept framing there (Some (wire_in texts spot))
-      (as_is (is_cut_form spot.form) framing (wire_in texts spot) plain)) in
-      ok_weaker r (Compares spot.digest (wire_in texts spot) payload) (ComparesWith book number payload)
-      (λ c so. compares_right one texts book number spot kept (wire_in texts spot) payload same c so)
-      (subst (λ (t : List (List ℕ)). IfOk r (Compares spot.digest (wire_in t spot) payload)) stay compared)
+-- a wire that is framed alike has the same payload
+framed_alike : (framing other : Framing) (wire payload : List ℕ) → is_plain framing ≡ is_plain other → IsPayload false other wire payload
+    → IsPayload false framing wire payload
+framed_alike framing Empty wire payload e is = plain_payload framing wire payload e is
+framed_alike framing (Length n) wire payload e is = plain_payload framing wire payload e is
+framed_alike framing Chunked wire payload e is = subst (λ (f : Framing). IsPayload false f wire payload) (sym (is_chunked framing e)) is
+framed_alike framing ToEnd wire payload e is = plain_payload framing wire payload e is
 
-  -- the payload is the data of a chunked wire
-  pub data_right : (framing : Framing) → TellsFraming spot.method head (Some framing) → is_plain framing ≡ false
-      → ((bytes : List ℕ) → ((found : Option (List ℕ)) → HoldsPayload (is_cut_form spot.form) Chunked (wire_in later spot) found → found ≡ Some bytes)
+module _ (wires : WiresHaveOnePayload) (texts : List (List ℕ)) (book : Book) (number : ℕ) (spot : Spot) (kept : IsKept texts book number spot)
+    (head : List ℕ) (is : head ≡ head_in texts spot) (later : List (List ℕ)) (stay : later ≡ texts) (payload : List ℕ) where
+  -- it keeps the very wire of the payload
+  pub same_right : is_cut_form spot.form ≡ false → (framing other : Framing) → TellsFraming spot.method head (Some framing)
+      → (wire : List ℕ) → (is_plain framing ≡ is_plain other) × (wire_in later spot ≡ wire) → IsPayload false other wire payload
+      → IsPayloadOf book number payload
+  same_right whole framing other tells wire same decoded =
+      let there : TellsFraming spot.method (head_in texts spot) (Some framing) = subst (λ (h : List ℕ). TellsFraming spot.method h (Some framing)) is tells in
+      let wires_are : wire ≡ wire_in texts spot = sym same.1 ∙ ap (λ (t : List (List ℕ)). wire_in t spot) stay in
+      let own : IsPayload (is_cut_form spot.form) framing (wire_in texts spot) payload =
+      subst (λ (b : Bool). IsPayload b framing (wire_in texts spot) payload) (sym whole)
+      (subst (λ (w : List ℕ). IsPayload false framing w payload) wires_are (framed_alike framing other wire payload same.0 decoded)) in
+      subst (λ (p : List ℕ). IsPayloadOf book number p)
+      (sym (same_Some payload kept.placed.payload (found_is wires texts book number spot kept framing there (Some payload) own))) kept.placed.has
+
+  -- its wire was read and decoded
+  pub data_right : CapturesHaveOnePayload → (r : Result Compared ReadFault) (framing : Framing) → TellsFraming spot.method head (Some framing)
+      → ((bytes : List ℕ) → ((found : Option (List ℕ)) → HoldsPayload (is_cut_form spot.form) framing (wire_in later spot) found → found ≡ Some bytes)
       → IfOk r (Compares spot.digest bytes payload))
       → IfOk r (ComparesWith book number payload)
-  data_right framing tells plain compared =
-      let there : TellsFraming spot.method (head_in texts spot) (Some Chunked) =
-      subst (λ (f : Framing). TellsFraming spot.method (head_in texts spot) (Some f)) (is_chunked framing plain)
-      (subst (λ (h : List ℕ). TellsFraming spot.method h (Some framing)) is tells) in
+  data_right one r framing tells compared =
+      let there : TellsFraming spot.method (head_in texts spot) (Some framing) = subst (λ (h : List ℕ). TellsFraming spot.method h (Some framing)) is tells in
       ok_weaker r (Compares spot.digest kept.placed.payload payload) (ComparesWith book number payload)
       (λ c so. compares_right one texts book number spot kept kept.placed.payload payload refl c so)
-      (compared kept.placed.payload (λ found holds. found_is wires texts book number spot kept Chunked there found
-      (subst (λ (t : List (List ℕ)). HoldsPayload (is_cut_form spot.form) Chunked (wire_in t spot) found) stay holds)))
+      (compared kept.placed.payload (λ found holds. found_is wires texts book number spot kept framing there found
+      (subst (λ (t : List (List ℕ)). HoldsPayload (is_cut_form spot.form) framing (wire_in t spot) found) stay holds)))
 
 -- ---- no bytes
 
 pub no_bytes : (xs : List ℕ) → (length xs == 0) ≡ true → xs ≡ []
 no_bytes [] e = refl
 no_bytes (x ∷ xs) e = absurd (omega (arith, eqb-true (length (x ∷ xs)) 0 e))
-
-pub some_bytes : (xs : List ℕ) → (length xs == 0) ≡ false → xs ≢ []
-some_bytes [] e = λ is. false≢true (sym e)
-some_bytes (x ∷ xs) e = λ is. omega (arith, ap length is)

@@ -16,6 +16,7 @@ pub mod PieceLaws
 pub mod Places
 pub mod RoomLaws
 pub mod SinceLaws
+mod SliceLaws
 pub mod SpotLaws
 pub mod StatusLaws
 pub mod StoreLaws

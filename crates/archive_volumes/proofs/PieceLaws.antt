@@ -1,12 +1,11 @@
--- A comparison in pieces: how what came so far compares.
-use Rattle.std.proofs.Common.{◌≡◌, ◌≢◌, ℕ, zero, suc, ◌+◌, ◌-◌, ◌≤◌, Bool, true, false, ◌&&◌, List, [], ◌∷◌, ◌++◌, length, take, drop, refl, sym, ap, subst, ◌∙◌, arith}
+-- A comparison in pieces: that what came so far is alike.
+use Rattle.std.proofs.Common.{◌≡◌, ℕ, zero, suc, ◌+◌, ◌-◌, ◌≤◌, Bool, true, false, List, [], ◌∷◌, ◌++◌, length, take, drop, refl, sym, ap, ◌∙◌, arith}
+use Rattle.std.specs.Prelude.{not}
 use Rattle.std.specs.Str.{bytes_eq}
 use Rattle.std.proofs.Math.Seq.{drop-nil, take-add}
 use Rattle.std.proofs.lemmas.Bool.{false≢true}
 use Rattle.std.proofs.lemmas.List.{drop-take, length-drop, length-take-le, take_all}
 use Rattle.std.proofs.lemmas.Slice.Eq.{bytes_eq-Decides}
-use Rattle.sha1.specs.Sha1.{Holds}
-use Rattle.sha1.specs.declared.Sha1.{Sha1}
 use Rattle.archive_volumes.specs.Spots.{HasPlace, part, text_at, wire_in}
 use Rattle.archive_volumes.specs.declared.spot.Spot.{Spot}
 
@@ -53,46 +52,24 @@ piece_is text at long done many le =
 
 -- ---- what came so far
 
--- so many bytes of a text came: the digest holds them, and they are those of the payload, or the text isn't the payload
-pub record Came (text payload : List ℕ) (done : ℕ) (same : Bool) (hasher : Sha1) : Type 0 where
-  pub held : Holds hasher (take done text)
-  pub alike : same ≡ true → take done text ≡ take done payload
-  pub unlike : same ≡ false → text ≢ payload
-
-pub came_none : (text payload : List ℕ) (hasher : Sha1) → Holds hasher [] → Came text payload 0 true hasher
-came_none text payload hasher held = record { held = held; alike = λ e. refl; unlike = λ e. absurd (false≢true (sym e)) }
-
-still_true : (same other : Bool) → (same && other) ≡ true → (same ≡ true) × (other ≡ true)
-still_true true true e = (refl, refl)
-still_true true false e = absurd (false≢true e)
-still_true false other e = absurd (false≢true e)
-
-pub came_more : (text payload : List ℕ) (done many : ℕ) (same : Bool) (was now : Sha1) (piece next : List ℕ)
-    → Came text payload done same was → piece ≡ take many (drop done text) → next ≡ take many (drop done payload)
-    → ((m : List ℕ) → Holds was m → Holds now (m ++ piece)) → Came text payload (done + many) (same && bytes_eq piece next) now
-came_more text payload done many same was now piece next came piece_at next_at goes = record {
-  held = subst (Holds now) (ap (λ (p : List ℕ). take done text ++ p) piece_at ∙ sym (take-add done many text)) (goes (take done text) came.held);
-  alike = λ e.
-      let both = still_true same (bytes_eq piece next) e in
-      take-add done many text
-      ∙ ap (λ (p : List ℕ). take done text ++ p) (sym piece_at ∙ (bytes_eq-Decides piece next).0 both.1 ∙ next_at)
-      ∙ ap (λ (f : List ℕ). f ++ take many (drop done payload)) (came.alike both.0)
-      ∙ sym (take-add done many payload);
-  unlike = unlike_by same (bytes_eq piece next) refl refl;
-}
-  where
-    unlike_by : (s other : Bool) → same ≡ s → bytes_eq piece next ≡ other → (same && bytes_eq piece next) ≡ false → text ≢ payload
-    unlike_by false other is d e = came.unlike is
-    unlike_by true false is d e = λ equal.
-        false≢true (sym d ∙ (bytes_eq-Decides piece next).1 (piece_at ∙ ap (λ (t : List ℕ). take many (drop done t)) equal ∙ sym next_at))
-    unlike_by true true is d e = absurd (false≢true (sym e ∙ ap (λ (b : Bool). b && bytes_eq piece next) is ∙ d))
+-- a piece more is alike
+pub alike_more : (text bytes piece : List ℕ) (done many : ℕ) → take done text ≡ take done bytes → piece ≡ take many (drop done text)
+    → piece ≡ take many (drop done bytes) → take (done + many) text ≡ take (done + many) bytes
+alike_more text bytes piece done many so_far of_text of_bytes =
+    take-add done many text
+    ∙ ap (λ (p : List ℕ). take done text ++ p) (sym of_text ∙ of_bytes)
+    ∙ ap (λ (f : List ℕ). f ++ take many (drop done bytes)) so_far
+    ∙ sym (take-add done many bytes)
 
 -- all came
-module _ (text payload : List ℕ) (done : ℕ) (same : Bool) (hasher : Sha1) (came : Came text payload done same hasher)
-    (long : length text ≡ length payload) (all : length payload ≤ done) where
-  pub all_same : same ≡ true → text ≡ payload
-  all_same e =
-      sym (take_all done text (omega (arith, long, all))) ∙ came.alike e ∙ take_all done payload all
+pub all_alike : (text bytes : List ℕ) (done : ℕ) → length text ≡ length bytes → length bytes ≤ done → take done text ≡ take done bytes → text ≡ bytes
+all_alike text bytes done long all so_far =
+    sym (take_all done text (omega (arith, long, all))) ∙ so_far ∙ take_all done bytes all
 
-  pub all_held : Holds hasher text
-  all_held = subst (Holds hasher) (take_all done text (omega (arith, long, all))) came.held
+-- a piece isn't another one
+pub equal_by : (xs ys : List ℕ) (other : Bool) → other ≡ not (bytes_eq xs ys) → other ≡ false → xs ≡ ys
+equal_by xs ys other is none = (bytes_eq-Decides xs ys).0 (flipped (bytes_eq xs ys) (sym is ∙ none))
+  where
+    flipped : (b : Bool) → not b ≡ false → b ≡ true
+    flipped true e = refl
+    flipped false e = absurd (false≢true (sym e))

@@ -31,11 +31,12 @@ NoneDamagedBelow from (Err stores.Memory) = ⊤
 
 -- ---- one capture
 
--- whatever the disk tells: what is damaged has another digest than the one that is kept
-abbrev pub IsComparison : List ℕ → Compared → Type 0
-IsComparison kept compares.Same = ⊤
-IsComparison kept compares.Other = ⊤
-IsComparison kept (compares.Damaged found) = found ≢ Some kept
+-- Whatever the disk tells: other bytes than the payload were read with the digest that is kept, and what is damaged has
+-- another one.
+abbrev pub IsComparison : List ℕ → List ℕ → Compared → Type 0
+IsComparison kept payload compares.Same = ⊤
+IsComparison kept payload compares.Other = (bytes : List ℕ) × (sha1 bytes ≡ kept) × (bytes ≢ payload)
+IsComparison kept payload (compares.Damaged found) = found ≢ Some kept
 
 -- how bytes that were read compare with a payload; where they are damaged their digest isn't the one that is kept
 abbrev pub Compares : List ℕ → List ℕ → List ℕ → Compared → Type 0

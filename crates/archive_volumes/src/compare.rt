@@ -1,15 +1,16 @@
 //! Which capture has a payload. Candidates are those with its digest; their payloads are compared as the disk has them.
-ghost use Rattle.std.specs.Prelude.{◌≡◌, ℕ, List, ◌+◌, ◌^◌, ◌<◌, ◌&&◌, Option, nat_le, filter, IsTrue, IfOk, Some, length};
+ghost use Rattle.std.specs.Prelude.{◌≡◌, ◌↔◌, ℕ, List, [], ◌+◌, ◌^◌, ◌<◌, Option, false, nat_le, filter, IsTrue, IfOk, Some, length};
 ghost use Rattle.std.specs.List.Sorted.{IsStrictlyIncreasing};
-ghost use Rattle.std.specs.Str.{bytes_eq};
 ghost use Rattle.sha1.specs.Sha1.{sha1};
+ghost use Rattle.capture.specs.Body.{IsWire};
+ghost use Rattle.capture.specs.Payload.{IsPayload};
 ghost use Rattle.revisit_table.specs.Table.{numbers_of};
 ghost use Rattle.warc_journal.specs.Journals.{disk_of, texts};
 ghost use Rattle.archive_shelf.specs.Answers.{CountsIf};
 ghost use Rattle.archive_shelf.specs.Comparing.{IsRight};
 ghost use Rattle.archive_volumes.specs.Bringing.{IsKept, OnlyReads, is_read_fault};
 ghost use Rattle.archive_volumes.specs.Choosing.{AreWhole, Asks, Chooses, Compares, ComparesWith, IsComparison, IsWholeAt, LooksOn, NoneDamagedBelow, is_look_fault};
-ghost use Rattle.archive_volumes.specs.Decoding.{HoldsPayload};
+ghost use Rattle.archive_volumes.specs.Decoding.{HoldsPayload, is_plain as spec_plain};
 ghost use Rattle.archive_volumes.specs.Held.{book_of};
 ghost use Rattle.archive_volumes.specs.Spots.{AreSpotsOf, ArePlaced, HasPlace, is_cut_form, whole_from, wire_in};
 ghost use Rattle.archive_volumes.specs.Volumes.{HoldsBook};
@@ -22,11 +23,11 @@ use archive_shelf::{Looked, StoreFault};
 use capture::{Bytes, Digest, Framing, captures_have_one_payload, wires_have_one_payload};
 use digest32::payload_digest;
 use disk_model::Disk;
-use sha1::Sha1;
+use message_body::Slices;
 use std::alloc::Global;
 use warc_journal::Place;
 
-/// How much of a payload is compared at once, in bytes.
+/// How much of a wire is read at once to be compared, in bytes.
 const PIECE_LEN: usize = 65_536;
 
 /// How the payload of a capture compares with another one.
@@ -40,10 +41,38 @@ pub(crate) enum Compared {
     Damaged(Option<Digest>),
 }
 
-/// How what was decoded compares with a payload.
-fn compare_found(kept: &Digest, found: Option<Bytes>, payload: &[u8]) -> Compared
-    ensures comparison { IsComparison kept.now result }
-    ensures compares { (bytes : List ℕ) → found ≡ Some bytes → Compares kept.now bytes payload.now result }
+/// Whether the payload of a whole wire has no bytes.
+fn has_no_bytes(framing: Framing, wire: &[u8]) -> bool
+    ensures { (payload : List ℕ) → IsPayload false framing wire.now payload → (IsTrue result ↔ (payload ≡ [])) }
+{
+    let mut slices = Slices::of(framing, wire);
+    let first = slices.next();
+    first.is_empty()
+}
+
+/// Whether the payload of a whole wire is these bytes.
+fn has_bytes(framing: Framing, wire: &[u8], bytes: &[u8]) -> bool
+    ensures { (payload : List ℕ) → IsPayload false framing wire.now payload → (IsTrue result ↔ (bytes.now ≡ payload)) }
+{
+    let mut slices = Slices::of(framing, wire);
+    let mut rest = bytes;
+    'walking: loop {
+        let slice = slices.next();
+        if slice.is_empty() {
+            return rest.is_empty();
+        }
+        match rest.strip_prefix(slice) {
+            Some(behind) => rest = behind,
+            None => return false,
+        }
+    }
+}
+
+/// How what was decoded compares with the payload of a whole wire.
+fn compare_found(kept: &Digest, found: Option<Bytes>, framing: Framing, wire: &[u8]) -> Compared
+    ensures comparison { (payload : List ℕ) → IsPayload false framing wire.now payload → IsComparison kept.now payload result }
+    ensures compares { (payload bytes : List ℕ) → IsPayload false framing wire.now payload → found ≡ Some bytes
+        → Compares kept.now bytes payload result }
 {
     match found {
         None => Compared::Damaged(None),
@@ -52,49 +81,31 @@ fn compare_found(kept: &Digest, found: Option<Bytes>, payload: &[u8]) -> Compare
             if digest != *kept {
                 return Compared::Damaged(Some(digest));
             }
-            if bytes.as_slice() == payload {
-                Compared::Same
-            } else {
-                Compared::Other
+            if has_bytes(framing, wire, bytes.as_slice()) {
+                return Compared::Same;
             }
+            Compared::Other
         }
     }
 }
 
-/// Whether what came before and a piece are the payload's.
-fn is_same_so_far(same: bool, piece: &[u8], next: &[u8]) -> bool
-    ensures { result ≡ (same && bytes_eq piece.now next.now) }
-{
-    same && piece == next
-}
-
 impl<D: Disk> Volumes<D> {
-    /// Compares a payload with a wire that is its capture's payload as it stands, in pieces. One of another length isn't
-    /// read.
-    fn compare_wire(
-        &mut self,
-        alloc: Global,
-        spot: &Spot,
-        payload: &[u8],
-    ) -> Result<Compared, ReadFault>
+    /// Whether the wire that is kept of a capture has these bytes. It is read in pieces, up to the first that differs.
+    fn keeps_bytes(&mut self, alloc: Global, spot: &Spot, bytes: &[u8]) -> Result<bool, ReadFault>
         requires holds { HoldsBook D.Disk self.old.journal (book_of self.old.held) }
         requires place { IsTrue D.tells → HasPlace (texts D.Disk self.old.journal) spot.now }
         requires ends { spot.now.head_at + spot.now.head_len + spot.now.wire_len < 2 ^ 62 }
-        ensures comparison { IfOk result (IsComparison spot.now.digest) }
-        ensures compares { IsTrue D.tells → IfOk result
-            (Compares spot.now.digest (wire_in (texts D.Disk self.old.journal) spot.now) payload.now) }
+        ensures keeps { IsTrue D.tells → IfOk result (λ same. IsTrue same → wire_in (texts D.Disk self.old.journal) spot.now ≡ bytes.now) }
         ensures reads { OnlyReads D.Disk self.old self.new }
         ensures faults { CountsIf (is_read_fault result) (D.faults (disk_of self.old.journal)) (D.faults (disk_of self.new.journal)) }
     {
         let wire = spot.wire_place();
-        if wire.len != payload.len() as u64 {
-            return Ok(Compared::Other);
+        if wire.len != bytes.len() as u64 {
+            return Ok(false);
         }
-        let mut hasher = Sha1::new();
-        let mut same = true;
         let mut done = 0;
-        'comparing: while done < payload.len() {
-            let (_, rest) = payload.split_at(done);
+        'comparing: while done < bytes.len() {
+            let (_, rest) = bytes.split_at(done);
             let (next, _) = rest.split_at(rest.len().min(PIECE_LEN));
             let place = Place {
                 volume: wire.volume,
@@ -102,90 +113,118 @@ impl<D: Disk> Volumes<D> {
                 len: next.len() as u64,
             };
             let piece = self.read_part(alloc, place)?;
-            hasher.update(piece.as_slice());
-            same = is_same_so_far(same, piece.as_slice(), next);
+            if piece.as_slice() != next {
+                return Ok(false);
+            }
             done += next.len();
         }
-        let digest = hasher.finalize();
-        if digest != spot.digest {
-            return Ok(Compared::Damaged(Some(digest)));
-        }
-        if same {
-            return Ok(Compared::Same);
-        }
-        Ok(Compared::Other)
+        Ok(true)
     }
 
-    /// Compares a payload with the data of a chunked wire, which is read whole.
-    fn compare_data(
+    /// Whether the wire that is kept of a capture, of this framing, is framed as another one is and has its bytes. Then
+    /// both have one payload.
+    fn keeps_wire(
         &mut self,
         alloc: Global,
         spot: &Spot,
-        payload: &[u8],
+        kept: Framing,
+        framing: Framing,
+        wire: &[u8],
+    ) -> Result<bool, ReadFault>
+        requires holds { HoldsBook D.Disk self.old.journal (book_of self.old.held) }
+        requires place { IsTrue D.tells → HasPlace (texts D.Disk self.old.journal) spot.now }
+        requires ends { spot.now.head_at + spot.now.head_len + spot.now.wire_len < 2 ^ 62 }
+        ensures keeps { IsTrue D.tells → IfOk result (λ same. IsTrue same → (spec_plain kept ≡ spec_plain framing)
+            × (wire_in (texts D.Disk self.old.journal) spot.now ≡ wire.now)) }
+        ensures reads { OnlyReads D.Disk self.old self.new }
+        ensures faults { CountsIf (is_read_fault result) (D.faults (disk_of self.old.journal)) (D.faults (disk_of self.new.journal)) }
+    {
+        let alike = is_plain(kept) == is_plain(framing);
+        if !alike {
+            return Ok(false);
+        }
+        self.keeps_bytes(alloc, spot, wire)
+    }
+
+    /// Compares the payload of a whole wire with that of a capture whose wire has this framing, which is read whole.
+    fn compare_read(
+        &mut self,
+        alloc: Global,
+        spot: &Spot,
+        kept: Framing,
+        framing: Framing,
+        wire: &[u8],
     ) -> Result<Compared, ReadFault>
         requires holds { HoldsBook D.Disk self.old.journal (book_of self.old.held) }
         requires place { IsTrue D.tells → HasPlace (texts D.Disk self.old.journal) spot.now }
         requires ends { spot.now.head_at + spot.now.head_len + spot.now.wire_len < 2 ^ 62 }
-        ensures comparison { IfOk result (IsComparison spot.now.digest) }
-        ensures compares { IsTrue D.tells → (bytes : List ℕ)
-            → ((found : Option (List ℕ)) → HoldsPayload (is_cut_form spot.now.form) Framing.Chunked
+        ensures comparison { (payload : List ℕ) → IsPayload false framing wire.now payload
+            → IfOk result (IsComparison spot.now.digest payload) }
+        ensures compares { IsTrue D.tells → (payload bytes : List ℕ) → IsPayload false framing wire.now payload
+            → ((found : Option (List ℕ)) → HoldsPayload (is_cut_form spot.now.form) kept
             (wire_in (texts D.Disk self.old.journal) spot.now) found → found ≡ Some bytes)
-            → IfOk result (Compares spot.now.digest bytes payload.now) }
+            → IfOk result (Compares spot.now.digest bytes payload) }
         ensures reads { OnlyReads D.Disk self.old self.new }
         ensures faults { CountsIf (is_read_fault result) (D.faults (disk_of self.old.journal)) (D.faults (disk_of self.new.journal)) }
     {
-        let found = self.read_payload(alloc, spot, Framing::Chunked)?;
-        Ok(compare_found(&spot.digest, found, payload))
+        let found = self.read_payload(alloc, spot, kept)?;
+        Ok(compare_found(&spot.digest, found, framing, wire))
     }
 
-    /// Compares a payload with that of a capture which keeps its wire.
+    /// Compares the payload of a whole wire with that of a capture which keeps its whole wire. Where both wires are one,
+    /// nothing is decoded.
     fn compare_with(
         &mut self,
         alloc: Global,
         spot: &Spot,
-        payload: &[u8],
+        framing: Framing,
+        wire: &[u8],
     ) -> Result<Compared, ReadFault>
         requires holds { HoldsBook D.Disk self.old.journal (book_of self.old.held) }
         requires place { IsTrue D.tells → HasPlace (texts D.Disk self.old.journal) spot.now }
         requires ends { spot.now.head_at + spot.now.head_len + spot.now.wire_len < 2 ^ 62 }
-        ensures comparison { IfOk result (IsComparison spot.now.digest) }
-        ensures compares { (number : ℕ) → IsTrue D.tells
+        requires whole { is_cut_form spot.now.form ≡ false }
+        ensures comparison { (payload : List ℕ) → IsPayload false framing wire.now payload
+            → IfOk result (IsComparison spot.now.digest payload) }
+        ensures compares { (payload : List ℕ) (number : ℕ) → IsPayload false framing wire.now payload → IsTrue D.tells
             → IsKept (texts D.Disk self.old.journal) (book_of self.old.held) number spot.now
-            → IfOk result (ComparesWith (book_of self.old.held) number payload.now) }
+            → IfOk result (ComparesWith (book_of self.old.held) number payload) }
         ensures reads { OnlyReads D.Disk self.old self.new }
         ensures faults { CountsIf (is_read_fault result) (D.faults (disk_of self.old.journal)) (D.faults (disk_of self.new.journal)) }
     {
         wires_have_one_payload();
         captures_have_one_payload();
         let head = self.read_part(alloc, spot.head_place())?;
-        let framing = match framing_behind(alloc, &spot.method, head.as_slice())? {
-            Some(framing) => framing,
+        let kept = match framing_behind(alloc, &spot.method, head.as_slice())? {
+            Some(kept) => kept,
             None => return Ok(Compared::Damaged(None)),
         };
-        if is_plain(framing) {
-            return self.compare_wire(alloc, spot, payload);
+        let same = self.keeps_wire(alloc, spot, kept, framing, wire)?;
+        if same {
+            return Ok(Compared::Same);
         }
-        self.compare_data(alloc, spot, payload)
+        self.compare_read(alloc, spot, kept, framing, wire)
     }
 
-    /// Whether a capture that keeps its whole wire has the payload.
+    /// Whether a capture that keeps its whole wire has the payload of a whole one.
     fn has_payload(
         &mut self,
         alloc: Global,
         spots: &[Spot],
         number: u32,
-        payload: &[u8],
+        framing: Framing,
+        wire: &[u8],
     ) -> Result<bool, StoreFault>
         requires holds { HoldsBook D.Disk self.old.journal (book_of self.old.held) }
         requires spots { AreSpotsOf (book_of self.old.held) spots.now }
         requires placed { IsTrue D.tells → ArePlaced (texts D.Disk self.old.journal) (book_of self.old.held) spots.now }
         requires whole { IsWholeAt spots.now number }
-        ensures asks { Asks D.tells (book_of self.old.held) number payload.now result }
+        ensures asks { (payload : List ℕ) → IsPayload false framing wire.now payload → Asks D.tells (book_of self.old.held) number payload result }
         ensures reads { OnlyReads D.Disk self.old self.new }
         ensures faults { CountsIf (is_look_fault result) (D.faults (disk_of self.old.journal)) (D.faults (disk_of self.new.journal)) }
     {
         let spot = &spots[number as usize];
-        let answer = self.compare_with(alloc, spot, payload)?;
+        let answer = self.compare_with(alloc, spot, framing, wire)?;
         match answer {
             Compared::Same => Ok(true),
             Compared::Other => Ok(false),
@@ -197,24 +236,26 @@ impl<D: Disk> Volumes<D> {
         }
     }
 
-    /// The first of these captures that has the payload. Each keeps its whole wire.
+    /// The first of these captures that has the payload of a whole wire. Each keeps its whole wire.
     pub(crate) fn choose(
         &mut self,
         alloc: Global,
         spots: &[Spot],
         candidates: &[u32],
-        payload: &[u8],
+        framing: Framing,
+        wire: &[u8],
     ) -> Result<Option<u32>, StoreFault>
         requires holds { HoldsBook D.Disk self.old.journal (book_of self.old.held) }
         requires spots { AreSpotsOf (book_of self.old.held) spots.now }
         requires placed { IsTrue D.tells → ArePlaced (texts D.Disk self.old.journal) (book_of self.old.held) spots.now }
         requires whole { AreWhole spots.now candidates.now }
-        ensures chooses { Chooses D.tells (book_of self.old.held) candidates.now payload.now result }
+        ensures chooses { (payload : List ℕ) → IsPayload false framing wire.now payload
+            → Chooses D.tells (book_of self.old.held) candidates.now payload result }
         ensures reads { OnlyReads D.Disk self.old self.new }
         ensures faults { CountsIf (is_look_fault result) (D.faults (disk_of self.old.journal)) (D.faults (disk_of self.new.journal)) }
     {
         for candidate in candidates {
-            let has = self.has_payload(alloc, spots, *candidate, payload)?;
+            let has = self.has_payload(alloc, spots, *candidate, framing, wire)?;
             if has {
                 return Ok(Some(*candidate));
             }
@@ -222,32 +263,35 @@ impl<D: Disk> Volumes<D> {
         Ok(None)
     }
 
-    /// Looks for a payload among all captures, of which the candidates are those that weren't looked at and have its
+    /// Looks for the payload of a whole wire among all captures, of which the candidates are those that weren't looked at and have its
     /// digest. An empty payload isn't looked for.
-    pub fn look_on(
+    pub fn look_on_wire(
         &mut self,
         alloc: Global,
         spots: &[Spot],
         candidates: &[u32],
-        payload: &[u8],
+        framing: Framing,
+        wire: &[u8],
         looked: Looked,
     ) -> Result<Looked, StoreFault>
         requires holds { HoldsBook D.Disk self.old.journal (book_of self.old.held) }
         requires spots { AreSpotsOf (book_of self.old.held) spots.now }
         requires placed { IsTrue D.tells → ArePlaced (texts D.Disk self.old.journal) (book_of self.old.held) spots.now }
         requires few { length spots.now < 2 ^ 32 }
-        requires candidates { candidates.now
-            ≡ filter (λ number. nat_le looked.upto number) (numbers_of (sha1 payload.now) (whole_from 0 spots.now)) }
+        requires wire { IsWire false framing wire.now }
+        requires candidates { (payload : List ℕ) → IsPayload false framing wire.now payload → candidates.now
+            ≡ filter (λ number. nat_le looked.upto number) (numbers_of (sha1 payload) (whole_from 0 spots.now)) }
         requires rising { IsStrictlyIncreasing candidates.now }
-        requires right { IsRight D.tells (book_of self.old.held) payload.now looked }
-        ensures looks { LooksOn D.tells (book_of self.old.held) payload.now result }
+        requires right { (payload : List ℕ) → IsPayload false framing wire.now payload → IsRight D.tells (book_of self.old.held) payload looked }
+        ensures looks { (payload : List ℕ) → IsPayload false framing wire.now payload → LooksOn D.tells (book_of self.old.held) payload result }
         ensures since { NoneDamagedBelow looked.upto result }
         ensures reads { OnlyReads D.Disk self.old self.new }
         ensures faults { CountsIf (is_look_fault result) (D.faults (disk_of self.old.journal)) (D.faults (disk_of self.new.journal)) }
     {
         captures_have_one_payload();
+        wires_have_one_payload();
         let upto = spots.len() as u32;
-        if payload.is_empty() {
+        if has_no_bytes(framing, wire) {
             return Ok(Looked { upto, same: None });
         }
         match looked.same {
@@ -256,7 +300,7 @@ impl<D: Disk> Volumes<D> {
                 same: Some(same),
             }),
             None => {
-                let same = self.choose(alloc, spots, candidates, payload)?;
+                let same = self.choose(alloc, spots, candidates, framing, wire)?;
                 Ok(Looked { upto, same })
             }
         }

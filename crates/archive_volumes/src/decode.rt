@@ -6,7 +6,7 @@ ghost use Rattle.archive_volumes.specs.Decoding.{HoldsPayload, IsHead, TellsFram
 
 use capture::{Bytes, Framing, Memory, Text};
 use http_head::{WireFault, read_head};
-use message_body::{PayloadFault, framing_of, payload_in as wire_payload};
+use message_body::{PayloadFault, framing_of, joined_in_place};
 use std::alloc::Global;
 
 /// Whether a request of this method asks for a head alone (RFC 9110, section 9.3.2).
@@ -57,8 +57,8 @@ pub(crate) fn is_plain(framing: Framing) -> bool
     }
 }
 
-/// The payload of a wire, whole or cut (RFC 9112, sections 6 and 7.1); none where it isn't a body of that framing. Only
-/// chunked bodies are copied.
+/// The payload of a wire, whole or cut (RFC 9112, sections 6 and 7.1), in the memory of that; none where it isn't a body
+/// of that framing.
 pub(crate) fn payload_in(
     alloc: Global,
     framing: Framing,
@@ -70,17 +70,17 @@ pub(crate) fn payload_in(
     match framing {
         Framing::Empty => Ok(Some(Bytes::of(wire))),
         Framing::Length(_) => Ok(Some(Bytes::of(wire))),
-        Framing::Chunked => data_of(alloc, wire.as_slice(), cut),
+        Framing::Chunked => data_of(alloc, wire, cut),
         Framing::ToEnd => Ok(Some(Bytes::of(wire))),
     }
 }
 
 /// The data of a chunked body, whole or cut.
-pub(crate) fn data_of(alloc: Global, wire: &[u8], cut: bool) -> Result<Option<Bytes>, Memory>
-    ensures { IfOk result (HoldsPayload cut Framing.Chunked wire.now) }
+fn data_of(alloc: Global, wire: Vec<u8>, cut: bool) -> Result<Option<Bytes>, Memory>
+    ensures { IfOk result (HoldsPayload cut Framing.Chunked wire.items) }
 {
-    match wire_payload(alloc, Framing::Chunked, wire, cut) {
-        Ok(payload) => Ok(Some(payload.into_bytes(alloc)?)),
+    match joined_in_place(alloc, wire, cut) {
+        Ok(payload) => Ok(Some(payload)),
         Err(PayloadFault::Malformed) => Ok(None),
         Err(PayloadFault::Memory) => Err(Memory),
     }

@@ -1,4 +1,4 @@
-use Rattle.std.proofs.Common.{false, Ok, get_or, refl, ap, subst, ◌∙◌}
+use Rattle.std.proofs.Common.{false, Ok, get_or, refl, ap, subst, ◌∙◌, arith}
 use Rattle.capture.specs.Captures.{IsPayloadOf}
 use Rattle.capture.specs.declared.book.Book.{Book}
 use Rattle.archive_volumes.proofs.BringLaws.{placed_on, reads_then, spots_on}
@@ -28,12 +28,17 @@ loop-candidate-preserved g c =
     let reads = c.loop-candidate.invariant.reads in
     let candidates = c.args.candidates.now in
     let index = c.loop-candidate.candidate-index in
-    let payload = c.args.payload.now in
-    let asks : Asks g.D.Disk.tells (book_of c.loop-candidate.self.held) (get_or candidates index 0) payload (Ok false) =
-    subst (λ b. Asks g.D.Disk.tells (book_of c.loop-candidate.self.held) (get_or candidates index 0) payload (Ok b)) c.if-has.false c.in_ok-has.ensures.asks in
     record {
       reads = reads_then g.D.Disk c.args.self.now c.loop-candidate.self c.has_payload.new.self reads c.has_payload.ensures.reads;
       faults = c.in_ok-has.ensures.faults ∙ c.loop-candidate.invariant.faults;
-      none = λ told. none_more (book_of c.args.self.now.held) candidates index (get_or candidates index 0) payload refl (c.loop-candidate.invariant.none told)
+      none = λ payload is told.
+          let asks : Asks g.D.Disk.tells (book_of c.loop-candidate.self.held) (get_or candidates index 0) payload (Ok false) =
+          subst (λ b. Asks g.D.Disk.tells (book_of c.loop-candidate.self.held) (get_or candidates index 0) payload (Ok b)) c.if-has.false
+          (c.in_ok-has.ensures.asks payload is) in
+          none_more (book_of c.args.self.now.held) candidates index (get_or candidates index 0) payload refl (c.loop-candidate.invariant.none payload is told)
           (subst (λ (b : Book). ¬ (IsPayloadOf b (get_or candidates index 0) payload)) (ap book_of reads.held) (asks told));
     }
+
+pub returns-clause-chooses : goal.returns-clause-chooses
+returns-clause-chooses g c payload is told k less =
+    c.loop-candidate.invariant.none payload is told k (omega (arith, less, c.loop-candidate-test.false))

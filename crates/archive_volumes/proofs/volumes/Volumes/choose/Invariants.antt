@@ -1,5 +1,6 @@
 -- No candidate so far has the payload; the disk was only read, and no fault was met.
-use Rattle.std.proofs.Common.{◌≡◌, IsTrue}
+use Rattle.std.proofs.Common.{◌≡◌, ℕ, List, IsTrue, false}
+use Rattle.capture.specs.Payload.{IsPayload}
 use Rattle.warc_journal.specs.Journals.{disk_of}
 use Rattle.archive_volumes.specs.Bringing.{OnlyReads}
 use Rattle.archive_volumes.specs.Choosing.{NoneHas}
@@ -11,5 +12,6 @@ invariant-loop-candidate g l =
     record {
       reads : OnlyReads g.D.Disk l.fn.self l.self;
       faults : g.D.Disk.faults (disk_of l.self.journal) ≡ g.D.Disk.faults (disk_of l.fn.self.journal);
-      none : IsTrue g.D.Disk.tells → NoneHas (book_of l.fn.self.held) l.fn.candidates l.candidate-index l.fn.payload;
+      none : (payload : List ℕ) → IsPayload false l.fn.framing l.fn.wire payload → IsTrue g.D.Disk.tells
+          → NoneHas (book_of l.fn.self.held) l.fn.candidates l.candidate-index payload;
     }

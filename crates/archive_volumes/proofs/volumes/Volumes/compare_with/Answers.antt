@@ -1,47 +1,62 @@
-use Rattle.std.proofs.Common.{◌≡◌, List, ℕ, Option, Some, None, sym, subst, ◌∙◌}
+use Rattle.std.proofs.Common.{◌≡◌, List, ℕ, Option, Some, None, sym, subst}
 use Rattle.capture.specs.declared.framing.Framing.{Framing}
 use Rattle.warc_journal.specs.Journals.{texts}
 use Rattle.archive_volumes.proofs.BringLaws.{kept_tells, reads_then, texts_stay}
-use Rattle.archive_volumes.proofs.ChooseLaws.{data_right, wire_right}
+use Rattle.archive_volumes.proofs.ChooseLaws.{data_right, same_right}
+use Rattle.archive_volumes.specs.Bringing.{OnlyReads}
 use Rattle.archive_volumes.specs.Decoding.{TellsFraming}
 use Rattle.archive_volumes.specs.Held.{book_of}
-use Rattle.archive_volumes.specs.Spots.{head_in}
+use Rattle.archive_volumes.specs.Spots.{HasPlace, head_in}
 use Rattle.archive_volumes.proofs.volumes.Volumes.compare_with.Goals as goal
 
 pub returns-in-None-clause-compares : goal.returns-in-None-clause-compares
-returns-in-None-clause-compares g c number told kept =
+returns-in-None-clause-compares g c payload number is told kept =
     let spot = c.args.spot.now in
     let head : c.in_ok-head.head.items ≡ head_in (texts g.D.Disk c.args.self.now.journal) spot =
     (rw c.head_place.ensures at c.in_ok-head.ensures.bytes told) in
     let tells : TellsFraming spot.method c.in_ok-head.head.items None =
-    subst (λ (f : Option Framing). TellsFraming spot.method c.in_ok-head.head.items f) c.in-None.is (rw c.as_slice.ensures.value at c.in_ok-framing.ensures) in
+    subst (λ (f : Option Framing). TellsFraming spot.method c.in_ok-head.head.items f) c.in-None.is (rw c.as_slice.ensures.value at c.in_ok-kept.ensures) in
     kept_tells (texts g.D.Disk c.args.self.now.journal) (book_of c.args.self.now.held) number spot kept
     (subst (λ (h : List ℕ). TellsFraming spot.method h None) head tells)
 
-pub returns-then-is_plain-clause-compares : goal.returns-then-is_plain-clause-compares
-returns-then-is_plain-clause-compares g c number told kept =
-    let spot = c.args.spot.now in
-    let tells : TellsFraming spot.method c.in_ok-head.head.items (Some c.in-Some.framing) =
-    subst (λ (f : Option Framing). TellsFraming spot.method c.in_ok-head.head.items f) c.in-Some.is (rw c.as_slice.ensures.value at c.in_ok-framing.ensures) in
-    wire_right c.wires_have_one_payload.ensures.one c.captures_have_one_payload.ensures (texts g.D.Disk c.args.self.now.journal) (book_of c.args.self.now.held) number spot kept
-    c.in_ok-head.head.items (rw c.head_place.ensures at c.in_ok-head.ensures.bytes told) (texts g.D.Disk c.read_part.new.self.journal)
-    (texts_stay g.D.Disk c.args.self.now c.read_part.new.self c.read_part.ensures.reads told) c.args.payload.now c.compare_wire.result
-    c.in-Some.framing tells (sym c.is_plain.ensures ∙ c.if-is_plain.true) (c.compare_wire.ensures.compares told)
+pub returns-in_err-same-clause-reads : goal.returns-in_err-same-clause-reads
+returns-in_err-same-clause-reads g c =
+    reads_then g.D.Disk c.args.self.now c.read_part.new.self c.keeps_wire.new.self c.read_part.ensures.reads c.keeps_wire.ensures.reads
 
-pub returns-then-is_plain-clause-reads : goal.returns-then-is_plain-clause-reads
-returns-then-is_plain-clause-reads g c =
-    reads_then g.D.Disk c.args.self.now c.read_part.new.self c.compare_wire.new.self c.read_part.ensures.reads c.compare_wire.ensures.reads
+pub returns-then-same-clause-compares : goal.returns-then-same-clause-compares
+returns-then-same-clause-compares g c payload number is told kept =
+    let spot = c.args.spot.now in
+    let tells : TellsFraming spot.method c.in_ok-head.head.items (Some c.in-Some.kept) =
+    subst (λ (f : Option Framing). TellsFraming spot.method c.in_ok-head.head.items f) c.in-Some.is (rw c.as_slice.ensures.value at c.in_ok-kept.ensures) in
+    same_right c.wires_have_one_payload.ensures.one (texts g.D.Disk c.args.self.now.journal) (book_of c.args.self.now.held) number spot kept
+    c.in_ok-head.head.items (rw c.head_place.ensures at c.in_ok-head.ensures.bytes told) (texts g.D.Disk c.read_part.new.self.journal)
+    (texts_stay g.D.Disk c.args.self.now c.read_part.new.self c.read_part.ensures.reads told) payload
+    c.requires.whole c.in-Some.kept c.args.framing tells c.args.wire.now (c.in_ok-same.ensures.keeps told c.if-same.true) is
+
+pub returns-then-same-clause-reads : goal.returns-then-same-clause-reads
+returns-then-same-clause-reads g c =
+    reads_then g.D.Disk c.args.self.now c.read_part.new.self c.keeps_wire.new.self c.read_part.ensures.reads c.keeps_wire.ensures.reads
+
+pub compare_read-requires-clause-place : goal.compare_read-requires-clause-place
+compare_read-requires-clause-place g c told =
+    let reads : OnlyReads g.D.Disk c.args.self.now c.keeps_wire.new.self =
+    reads_then g.D.Disk c.args.self.now c.read_part.new.self c.keeps_wire.new.self c.read_part.ensures.reads c.keeps_wire.ensures.reads in
+    subst (λ (t : List (List ℕ)). HasPlace t c.args.spot.now) (sym (texts_stay g.D.Disk c.args.self.now c.keeps_wire.new.self reads told)) (c.requires.place told)
 
 pub returns-clause-compares : goal.returns-clause-compares
-returns-clause-compares g c number told kept =
+returns-clause-compares g c payload number is told kept =
     let spot = c.args.spot.now in
-    let tells : TellsFraming spot.method c.in_ok-head.head.items (Some c.in-Some.framing) =
-    subst (λ (f : Option Framing). TellsFraming spot.method c.in_ok-head.head.items f) c.in-Some.is (rw c.as_slice.ensures.value at c.in_ok-framing.ensures) in
-    data_right c.wires_have_one_payload.ensures.one c.captures_have_one_payload.ensures (texts g.D.Disk c.args.self.now.journal) (book_of c.args.self.now.held) number spot kept
-    c.in_ok-head.head.items (rw c.head_place.ensures at c.in_ok-head.ensures.bytes told) (texts g.D.Disk c.read_part.new.self.journal)
-    (texts_stay g.D.Disk c.args.self.now c.read_part.new.self c.read_part.ensures.reads told) c.args.payload.now c.compare_data.result
-    c.in-Some.framing tells (sym c.is_plain.ensures ∙ c.if-is_plain.false) (c.compare_data.ensures.compares told)
+    let reads : OnlyReads g.D.Disk c.args.self.now c.keeps_wire.new.self =
+    reads_then g.D.Disk c.args.self.now c.read_part.new.self c.keeps_wire.new.self c.read_part.ensures.reads c.keeps_wire.ensures.reads in
+    let tells : TellsFraming spot.method c.in_ok-head.head.items (Some c.in-Some.kept) =
+    subst (λ (f : Option Framing). TellsFraming spot.method c.in_ok-head.head.items f) c.in-Some.is (rw c.as_slice.ensures.value at c.in_ok-kept.ensures) in
+    data_right c.wires_have_one_payload.ensures.one (texts g.D.Disk c.args.self.now.journal) (book_of c.args.self.now.held) number spot kept
+    c.in_ok-head.head.items (rw c.head_place.ensures at c.in_ok-head.ensures.bytes told) (texts g.D.Disk c.keeps_wire.new.self.journal)
+    (texts_stay g.D.Disk c.args.self.now c.keeps_wire.new.self reads told) payload c.captures_have_one_payload.ensures c.compare_read.result
+    c.in-Some.kept tells (λ bytes only. c.compare_read.ensures.compares told payload bytes is only)
 
 pub returns-clause-reads : goal.returns-clause-reads
 returns-clause-reads g c =
-    reads_then g.D.Disk c.args.self.now c.read_part.new.self c.compare_data.new.self c.read_part.ensures.reads c.compare_data.ensures.reads
+    let reads : OnlyReads g.D.Disk c.args.self.now c.keeps_wire.new.self =
+    reads_then g.D.Disk c.args.self.now c.read_part.new.self c.keeps_wire.new.self c.read_part.ensures.reads c.keeps_wire.ensures.reads in
+    reads_then g.D.Disk c.args.self.now c.keeps_wire.new.self c.compare_read.new.self reads c.compare_read.ensures.reads

@@ -1,7 +1,7 @@
 use Rattle.std.proofs.Common.{IsTrue, refl, subst}
 use Rattle.warc_journal.specs.Journals.{texts}
 use Rattle.archive_volumes.proofs.BringLaws.{damaged, place_of}
-use Rattle.archive_volumes.proofs.ChooseLaws.{its_bound, its_kept, its_spot}
+use Rattle.archive_volumes.proofs.ChooseLaws.{its_bound, its_kept, its_spot, its_whole}
 use Rattle.archive_volumes.specs.Choosing.{ComparesWith, IsComparison}
 use Rattle.archive_volumes.specs.Held.{book_of}
 use Rattle.archive_volumes.specs.declared.compare.Compared.{Compared}
@@ -22,28 +22,32 @@ compare_with-requires-clause-ends g c =
     let its = its_spot (book_of c.args.self.now.held) c.args.spots.now c.requires.spots c.args.number c.requires.whole c.index-spots-number.result c.index-spots-number.is in
     its.ends
 
+pub compare_with-requires-clause-whole : goal.compare_with-requires-clause-whole
+compare_with-requires-clause-whole g c =
+    its_whole (book_of c.args.self.now.held) c.args.spots.now c.requires.spots c.args.number c.requires.whole c.index-spots-number.result c.index-spots-number.is
+
 pub returns-in-Same-clause-asks : goal.returns-in-Same-clause-asks
-returns-in-Same-clause-asks g c = λ told.
+returns-in-Same-clause-asks g c payload is told =
     let book = book_of c.args.self.now.held in
     let kept = its_kept book c.args.spots.now c.requires.spots c.args.number c.requires.whole c.index-spots-number.result c.index-spots-number.is
     (texts g.D.Disk c.args.self.now.journal) (c.requires.placed told) in
-    subst (λ (r : Compared). ComparesWith book c.args.number c.args.payload.now r) c.in-Same.is (c.in_ok-answer.ensures.compares c.args.number told kept)
+    subst (λ (r : Compared). ComparesWith book c.args.number payload r) c.in-Same.is (c.in_ok-answer.ensures.compares payload c.args.number is told kept)
 
 pub returns-in-Other-clause-asks : goal.returns-in-Other-clause-asks
-returns-in-Other-clause-asks g c = λ told.
+returns-in-Other-clause-asks g c payload is told =
     let book = book_of c.args.self.now.held in
     let kept = its_kept book c.args.spots.now c.requires.spots c.args.number c.requires.whole c.index-spots-number.result c.index-spots-number.is
     (texts g.D.Disk c.args.self.now.journal) (c.requires.placed told) in
-    subst (λ (r : Compared). ComparesWith book c.args.number c.args.payload.now r) c.in-Other.is (c.in_ok-answer.ensures.compares c.args.number told kept)
+    subst (λ (r : Compared). ComparesWith book c.args.number payload r) c.in-Other.is (c.in_ok-answer.ensures.compares payload c.args.number is told kept)
 
 pub returns-in-Damaged-clause-asks : goal.returns-in-Damaged-clause-asks
-returns-in-Damaged-clause-asks g c =
+returns-in-Damaged-clause-asks g c payload is =
     let book = book_of c.args.self.now.held in
     let never : IsTrue g.D.Disk.tells → ⊥ = λ told.
     let kept = its_kept book c.args.spots.now c.requires.spots c.args.number c.requires.whole c.index-spots-number.result c.index-spots-number.is
     (texts g.D.Disk c.args.self.now.journal) (c.requires.placed told) in
-    subst (λ (r : Compared). ComparesWith book c.args.number c.args.payload.now r) c.in-Damaged.is (c.in_ok-answer.ensures.compares c.args.number told kept) in (
+    subst (λ (r : Compared). ComparesWith book c.args.number payload r) c.in-Damaged.is (c.in_ok-answer.ensures.compares payload c.args.number is told kept) in (
       refl,
       damaged g.D.Disk.tells c.index-spots-number.result.digest c.in-Damaged.found never
-          (subst (λ (r : Compared). IsComparison c.index-spots-number.result.digest r) c.in-Damaged.is c.in_ok-answer.ensures.comparison),
+          (subst (λ (r : Compared). IsComparison c.index-spots-number.result.digest payload r) c.in-Damaged.is (c.in_ok-answer.ensures.comparison payload is)),
     )
