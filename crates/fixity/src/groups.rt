@@ -11,6 +11,7 @@ use crate::reading::read_bytes;
 use crate::run::{RunEnd, run_of};
 use disk_model::Disk;
 use std::alloc::Global;
+use std::thread::Threads;
 use uuid::Uuid;
 
 /// How many bytes are read at once, unless one group is longer: 128 MiB.
@@ -26,15 +27,18 @@ pub struct Found {
 }
 
 /// How far the groups of a volume stand behind its warcinfo, which ends at `start`: up to the last that is due, or to the first
-/// that doesn't stand.
-pub fn find_groups<D: Disk>(
+/// that doesn't stand. They are read by at most so many workers.
+pub fn find_groups<R: Threads + Sync, D: Disk>(
+    rt: &R,
     alloc: Global,
     disk: &mut D,
     due: Due,
     namespace: &Uuid,
     start: u64,
+    workers: u32,
 ) -> Result<Found, FixityFault>
     requires start { start ≤ due.len }
+    requires workers { 0 < workers }
     requires numbers { due.first + due.count < 2 ^ 32 }
     requires there { IsTrue D.tells → IsIn (D.reading disk.old) due }
     requires begins { IsTrue D.tells → StandsUpTo (volume_in due namespace.now) (file_in (D.reading disk.old) due) 0 start }
@@ -50,12 +54,14 @@ pub fn find_groups<D: Disk>(
         let bytes = read_bytes(alloc, disk, due, place, batch)?;
         let room = due.len - place;
         let run = run_of(
+            rt,
             alloc,
             bytes.as_slice(),
             room,
             namespace,
             due.first + groups,
             due.count - groups,
+            workers,
         )?;
         groups += run.groups;
         place += run.len;

@@ -8,12 +8,13 @@ mod groups;
 mod info;
 mod laws;
 mod next;
+mod pieces;
 mod reading;
 mod remainder;
 mod run;
 mod verdict;
 
-pub use check::check_volume_in_turn;
+pub use check::check_volume;
 pub use fault::FixityFault;
 pub use laws::volumes_have_one_verdict;
 pub use verdict::Verdict;

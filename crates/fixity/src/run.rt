@@ -1,10 +1,13 @@
 //! The groups that stand one behind the other in bytes that were read.
 ghost use Rattle.std.specs.Prelude.{◌≡◌, ◌+◌, ◌<◌, ◌≤◌, ◌^◌, ℕ, List, IfOk, length, take};
+ghost use Rattle.fixity.specs.steps.Pieces.{IsFront};
 ghost use Rattle.fixity.specs.steps.Runs.{IsRun, RunFits};
 
 use crate::next::{Next, next_of};
+use crate::pieces::{Front, front_by};
 use capture::Memory;
 use std::alloc::Global;
+use std::thread::Threads;
 use uuid::Uuid;
 
 /// Why no further group of a run is told.
@@ -29,24 +32,50 @@ pub struct Run {
     pub end: RunEnd,
 }
 
-/// The groups that stand in the bytes, from that with this number on and at most so many. `room` is how many bytes there are
-/// from the first of these on.
-pub fn run_of(
+/// The groups that stand in the bytes, from that with this number on and at most so many, read by at most so many workers. `room`
+/// is how many bytes there are from the first of these on.
+pub fn run_of<R: Threads + Sync>(
+    rt: &R,
     alloc: Global,
     bytes: &[u8],
     room: u64,
     namespace: &Uuid,
     number: u32,
     most: u32,
+    workers: u32,
 ) -> Result<Run, Memory>
     requires within { length bytes.now ≤ room }
     requires numbers { number + most < 2 ^ 32 }
+    requires workers { 0 < workers }
     ensures run { (rest : List ℕ) → length rest ≡ room → bytes.now ≡ take (length bytes.now) rest
         → IfOk result (IsRun namespace.now number most rest) }
     ensures fits { IfOk result (RunFits (length bytes.now) room most) }
 {
-    let mut groups = 0;
-    let mut len = 0;
+    let front = front_by(rt, alloc, bytes, namespace, number, most, workers)?;
+    run_behind(alloc, bytes, room, namespace, number, most, front)
+}
+
+/// The same groups, of which those at the front were read. What the workers didn't read as a group is read here, one behind the
+/// other, so that it is known why there are no more.
+fn run_behind(
+    alloc: Global,
+    bytes: &[u8],
+    room: u64,
+    namespace: &Uuid,
+    number: u32,
+    most: u32,
+    front: Front,
+) -> Result<Run, Memory>
+    requires within { length bytes.now ≤ room }
+    requires numbers { number + most < 2 ^ 32 }
+    requires front { IsFront namespace.now number bytes.now front }
+    requires few { front.groups ≤ most }
+    ensures run { (rest : List ℕ) → length rest ≡ room → bytes.now ≡ take (length bytes.now) rest
+        → IfOk result (IsRun namespace.now number most rest) }
+    ensures fits { IfOk result (RunFits (length bytes.now) room most) }
+{
+    let mut groups = front.groups;
+    let mut len = front.len as u64;
     'groups: while groups < most {
         let (_, behind) = bytes.split_at(len as usize);
         let next = next_of(alloc, behind, room - len, namespace, number + groups)?;

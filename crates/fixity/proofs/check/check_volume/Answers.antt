@@ -6,7 +6,7 @@ use Rattle.disk_model.specs.declared.kind.Kind.TheVariants.{Warc}
 use Rattle.fixity.specs.Verdicts.{IsSoundRest, StandsUpTo, volume_of}
 use Rattle.fixity.specs.steps.Nexts.{IsInfoEnd}
 use Rattle.fixity.specs.steps.Runs.{IsFarthest}
-use Rattle.fixity.proofs.check.check_volume_in_turn.Goals as goal
+use Rattle.fixity.proofs.check.check_volume.Goals as goal
 
 pub returns-in_default-clause-verdict : goal.returns-in_default-clause-verdict
 returns-in_default-clause-verdict g c = λ told.

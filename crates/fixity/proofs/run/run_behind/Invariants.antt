@@ -1,6 +1,6 @@
 use Rattle.std.specs.Prelude.{◌≡◌, ℕ, ◌-◌, ◌≤◌, List, length, take}
 use Rattle.fixity.specs.steps.Runs.{RunsTo}
-use Rattle.fixity.proofs.run.run_of.Given as goal
+use Rattle.fixity.proofs.run.run_behind.Given as goal
 
 abbrev pub invariant-groups : goal.invariant-groups
 invariant-groups l = record {

@@ -2,8 +2,9 @@ use Rattle.std.proofs.Common.{◌+◌, ◌-◌, ◌≤◌, drop, length, ap, sub
 use Rattle.std.proofs.lemmas.List.{length-drop}
 use Rattle.fixity.specs.steps.Nexts.{Fits, IsNextGroup}
 use Rattle.fixity.proofs.Judging.{is_behind}
+use Rattle.fixity.proofs.PieceLaws.{no_run, runs_in_all}
 use Rattle.fixity.proofs.RunLaws.{none_stands, run_goes_on}
-use Rattle.fixity.proofs.run.run_of.Goals as goal
+use Rattle.fixity.proofs.run.run_behind.Goals as goal
 
 pub groups-preserved : goal.groups-preserved
 groups-preserved c = record {
@@ -32,3 +33,11 @@ returns-in-Missing-clause-run c = λ rest long same.
       stands = c.groups.invariant.runs rest long same;
       ends = (c.groups-test.true, none_stands c.args.namespace.now number rest len (subst (λ x. IsNextGroup c.args.namespace.now number (drop len rest) x) c.in-Missing.is told));
     }
+
+pub groups-init : goal.groups-init
+groups-init c = record {
+  few = c.requires.few;
+  inside = c.requires.front.inside;
+  runs = λ rest long same. runs_in_all c.args.namespace.now c.args.number c.args.bytes.now rest c.args.front.groups c.args.front.len same c.requires.front.stands;
+  first = λ none. no_run c.args.namespace.now c.args.number c.args.bytes.now c.args.front.groups c.args.front.len none c.requires.front.stands;
+}
