@@ -1,6 +1,7 @@
 pub mod AfterLaws
 pub mod ArchiveLaws
 pub mod CompareLaws
+mod DigestLaws
 pub mod EnterLaws
 pub mod ExitLaws
 pub mod FaultLaws

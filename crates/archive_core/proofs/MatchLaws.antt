@@ -21,7 +21,7 @@ use Rattle.archive_shelf.specs.declared.fault.StoreFault.TheVariants as stores
 use Rattle.archive_shelf.specs.declared.looked.Looked.{Looked}
 use Rattle.archive_volumes.specs.Choosing.{LooksOn}
 use Rattle.archive_volumes.specs.Decoding.{TellsFraming}
-use Rattle.archive_core.specs.Matching.{FindsAmongAll}
+use Rattle.archive_core.specs.Matching.{FindsAmongAll, IsFramedBy}
 use Rattle.archive_core.specs.Looking.{IsDigestOf, IsRightOf, LooksFor, RefersTo}
 use Rattle.archive_volumes.proofs.DecodeLaws.{one_framing}
 use Rattle.archive_core.proofs.PayloadLaws.{HasOne, has_one, one_payload}
@@ -48,7 +48,7 @@ module _ (whole : BodiesHaveAPayload) (cut_short : CutWiresHaveAPayload) (taken 
       one_framing (asks_for_head taken.method) taken.head there.has.framing framing (there.has.parsed, there.has.whole, there.has.framed) tells
 
   -- its wire is one of that framing
-  pub has_wire : IsWire taken.cut framing taken.wire
+  has_wire : IsWire taken.cut framing taken.wire
   has_wire = subst (λ (f : Framing). IsWire taken.cut f taken.wire) same there.has.wire_is
 
   -- what is decoded by that framing is its payload
@@ -62,9 +62,30 @@ module _ (whole : BodiesHaveAPayload) (cut_short : CutWiresHaveAPayload) (taken 
     decoded = subst (λ (f : Framing). IsPayload taken.cut f taken.wire payload) (sym same) is;
   }
 
-  pub payload_answer : {E : Type 0} (r : Result (List ℕ) E) → IfOk r (λ payload. IsPayload taken.cut framing taken.wire payload) → IfOk r (λ payload. Has taken payload)
-  payload_answer (Ok payload) is = has_decoded payload is
-  payload_answer (Err fault) is = tt
+  -- and its payload is what is decoded so
+  needs_framing : (payload : List ℕ) → Has taken payload → IsPayload taken.cut framing taken.wire payload
+  needs_framing payload has =
+      let its : has.framing ≡ framing =
+      one_framing (asks_for_head taken.method) taken.head has.framing framing (has.parsed, has.whole, has.framed) tells in
+      subst (λ (f : Framing). IsPayload taken.cut f taken.wire payload) its has.decoded
+
+  pub framed_by : IsFramedBy taken framing
+  framed_by = record { wire = has_wire; gives = has_decoded; needs = needs_framing }
+
+-- a whole one, by its wire
+module _ (taken : Taken) (framing : Framing) (framed : IsFramedBy taken framing) (cut : taken.cut ≡ false) (wire : List ℕ) (same : wire ≡ taken.wire) where
+  pub wire_whole : IsWire false framing wire
+  wire_whole = subst (λ (w : List ℕ). IsWire false framing w) (sym same) (subst (λ (b : Bool). IsWire b framing taken.wire) cut framed.wire)
+
+  pub its_payload : (payload : List ℕ) → IsPayload false framing wire payload → Has taken payload
+  its_payload payload is =
+      framed.gives payload (subst (λ (b : Bool). IsPayload b framing taken.wire payload) (sym cut)
+      (subst (λ (w : List ℕ). IsPayload false framing w payload) same is))
+
+  pub its_decoded : (payload : List ℕ) → Has taken payload → IsPayload false framing wire payload
+  its_decoded payload has =
+      subst (λ (w : List ℕ). IsPayload false framing w payload) (sym same)
+      (subst (λ (b : Bool). IsPayload b framing taken.wire payload) cut (framed.needs payload has))
 
 -- the digest of its payload
 pub digest_by : WiresHaveOnePayload → (taken : Taken) (digest payload : List ℕ) → Has taken payload → digest ≡ sha1 payload → IsDigestOf taken digest

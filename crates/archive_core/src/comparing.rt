@@ -1,5 +1,5 @@
 //! How a payload is compared with those of the captures, and which earlier capture a new one refers to.
-ghost use Rattle.std.specs.Prelude.{◌≡◌, IsTrue, OnOk, IfOk, length};
+ghost use Rattle.std.specs.Prelude.{◌≡◌, ℕ, Bool, List, false, IsTrue, OnOk, IfOk, length};
 ghost use Rattle.sha1.specs.Sha1.{sha1};
 ghost use Rattle.warc_journal.specs.Journals.{disk_of};
 ghost use Rattle.warc_text.specs.Sound.{IsSound};
@@ -12,36 +12,46 @@ ghost use Rattle.capture.specs.Body.{IsWire};
 ghost use Rattle.capture.specs.Captures.{captures, HasPayload};
 ghost use Rattle.capture.specs.Payload.{IsPayload};
 ghost use Rattle.warc_text.specs.Fits.{Fits};
-ghost use Rattle.archive_core.specs.Matching.{FindsAmongAll};
+ghost use Rattle.archive_core.specs.Matching.{FindsAmongAll, IsFramedBy};
 
 use crate::Archive;
 use archive_shelf::{Looked, StoreFault};
 use archive_volumes::framing_behind;
 use capture::{Digest, Framing, Memory, Taken, wires_have_one_payload};
 use disk_model::Disk;
-use message_body::{Payload, PayloadFault, payload_in};
+use message_body::{Payload, PayloadFault, Slices, payload_in};
+use sha1::Sha1;
 use std::alloc::Global;
 
 impl<D: Disk> Archive<D> {
-    /// Looks for a payload among all captures that weren't looked at before, byte for byte, as the disk has them.
+    /// Looks for the payload of a whole wire among all captures that weren't looked at before, byte for byte, as the disk has
+    /// them.
     pub(crate) fn look_on(
         &mut self,
         alloc: Global,
-        payload: &[u8],
+        framing: Framing,
+        wire: &[u8],
         digest: &Digest,
         looked: Looked,
     ) -> Result<Looked, StoreFault>
-        requires digest { digest.now ≡ sha1 payload.now }
-        requires right { IsRight D.tells self.old.book payload.now looked }
-        ensures looks { LooksOn D.tells self.new.book payload.now result }
+        requires wire { IsWire false framing wire.now }
+        requires digest { (payload : List ℕ) → IsPayload false framing wire.now payload → digest.now ≡ sha1 payload }
+        requires right { (payload : List ℕ) → IsPayload false framing wire.now payload → IsRight D.tells self.old.book payload looked }
+        ensures looks { (payload : List ℕ) → IsPayload false framing wire.now payload → LooksOn D.tells self.new.book payload result }
         ensures since { NoneDamagedBelow looked.upto result }
         ensures only_looks { OnlyLooks D.Disk self.old self.new }
         ensures faults { CountsIf (is_look_fault result) (D.faults (disk_of self.old.journal)) (D.faults (disk_of self.new.journal)) }
         ensures sound { IsTrue D.tells → IsSound self.new.book }
     {
         let candidates = self.table.candidates_from(digest, looked.upto);
-        self.volumes
-            .look_on(alloc, self.spots.as_slice(), candidates, payload, looked)
+        self.volumes.look_on_wire(
+            alloc,
+            self.spots.as_slice(),
+            candidates,
+            framing,
+            wire,
+            looked,
+        )
     }
 
     /// Looks for a payload that may be stored later, by `store_after`, among all captures that weren't looked at before.
@@ -62,7 +72,19 @@ impl<D: Disk> Archive<D> {
         ensures sound { OnOk result (IsTrue D.tells → IsSound self.new.book) }
     {
         self.check_room()?;
-        self.look_on(alloc, payload, digest, looked)
+        self.look_on(alloc, Framing::ToEnd, payload, digest, looked)
+    }
+}
+
+/// The framing of a capture that was taken: by that its wire is decoded to its payload.
+pub(crate) fn framing_of_taken(alloc: Global, taken: &Taken) -> Result<Framing, Memory>
+    requires fits { Fits taken.now }
+    ensures { IfOk result (IsFramedBy taken.now) }
+{
+    wires_have_one_payload();
+    match framing_behind(alloc, &taken.method, taken.head.as_slice())? {
+        Some(framing) => Ok(framing),
+        None => unreachable!(),
     }
 }
 
@@ -71,17 +93,14 @@ pub fn payload_of_taken<'t>(alloc: Global, taken: &'t Taken) -> Result<Payload<'
     requires fits { Fits taken.now }
     ensures { IfOk result (λ payload. HasPayload taken.now.cut taken.now.method taken.now.head taken.now.wire payload) }
 {
-    wires_have_one_payload();
-    match framing_behind(alloc, &taken.method, taken.head.as_slice())? {
-        Some(framing) => payload_by(alloc, framing, taken),
-        None => unreachable!(),
-    }
+    let framing = framing_of_taken(alloc, taken)?;
+    payload_by(alloc, framing, taken)
 }
 
 /// The payload of a capture's wire, which is a body of this framing, whole or cut.
 fn payload_by<'t>(alloc: Global, framing: Framing, taken: &'t Taken) -> Result<Payload<'t>, Memory>
-    requires wire { IsWire taken.now.cut framing taken.now.wire }
-    ensures { IfOk result (λ payload. IsPayload taken.now.cut framing taken.now.wire payload) }
+    requires framed { IsFramedBy taken.now framing }
+    ensures { IfOk result (λ payload. HasPayload taken.now.cut taken.now.method taken.now.head taken.now.wire payload) }
 {
     match payload_in(alloc, framing, taken.wire.as_slice(), taken.cut) {
         Ok(payload) => Ok(payload),
@@ -90,40 +109,57 @@ fn payload_by<'t>(alloc: Global, framing: Framing, taken: &'t Taken) -> Result<P
     }
 }
 
+/// The digest of a wire's payload, whole or cut, of which nothing is joined.
+pub(crate) fn digest_of_wire(framing: Framing, wire: &[u8]) -> Digest
+    ensures { (cut : Bool) (payload : List ℕ) → IsPayload cut framing wire.now payload → result ≡ sha1 payload }
+{
+    let mut slices = Slices::of(framing, wire);
+    let mut hasher = Sha1::new();
+    'walking: loop {
+        let slice = slices.next();
+        if slice.is_empty() {
+            return hasher.finalize();
+        }
+        hasher.update(slice);
+    }
+}
+
 impl<D: Disk> Archive<D> {
-    /// The first of all captures that has this payload; those that weren't looked at before are read.
+    /// The first of all captures that has the payload of this whole wire; those that weren't looked at before are read.
     fn same_with(
         &mut self,
         alloc: Global,
-        payload: &[u8],
+        framing: Framing,
+        wire: &[u8],
         digest: &Digest,
         looked: Looked,
     ) -> Result<Option<u32>, StoreFault>
-        requires digest { digest.now ≡ sha1 payload.now }
-        requires right { IsRight D.tells self.old.book payload.now looked }
-        ensures finds { FindsAmongAll D.tells self.new.book payload.now result }
+        requires wire { IsWire false framing wire.now }
+        requires digest { (payload : List ℕ) → IsPayload false framing wire.now payload → digest.now ≡ sha1 payload }
+        requires right { (payload : List ℕ) → IsPayload false framing wire.now payload → IsRight D.tells self.old.book payload looked }
+        ensures finds { (payload : List ℕ) → IsPayload false framing wire.now payload → FindsAmongAll D.tells self.new.book payload result }
         ensures since { NoneDamagedBelow looked.upto result }
         ensures looks { OnlyLooks D.Disk self.old self.new }
         ensures faults { CountsIf (is_look_fault result) (D.faults (disk_of self.old.journal)) (D.faults (disk_of self.new.journal)) }
     {
-        let all = self.look_on(alloc, payload, digest, looked)?;
+        let all = self.look_on(alloc, framing, wire, digest, looked)?;
         Ok(all.same)
     }
 
-    /// The capture that a new one with this payload refers to: the first that has it, if there is one. One that was cut refers
-    /// to nothing.
+    /// The capture that a new one of this framing refers to: the first that has its payload, if there is one. One that was
+    /// cut refers to nothing.
     pub(crate) fn same_by(
         &mut self,
         alloc: Global,
         taken: &Taken,
-        payload: &[u8],
+        framing: Framing,
         digest: &Digest,
         looked: Looked,
     ) -> Result<Option<u32>, StoreFault>
         requires fits { Fits taken.now }
-        requires payload { HasPayload taken.now.cut taken.now.method taken.now.head taken.now.wire payload.now }
-        requires digest { digest.now ≡ sha1 payload.now }
-        requires right { IsRight D.tells self.old.book payload.now looked }
+        requires framed { IsFramedBy taken.now framing }
+        requires digest { IsDigestOf taken.now digest.now }
+        requires right { IsRightOf (contents_of D.tells self.old) taken.now looked }
         ensures refers { LooksFor (contents_of D.tells self.new) taken.now result }
         ensures looks { OnlyLooks D.Disk self.old self.new }
         ensures faults { CountsIf (is_look_fault result) (D.faults (disk_of self.old.journal)) (D.faults (disk_of self.new.journal)) }
@@ -132,7 +168,7 @@ impl<D: Disk> Archive<D> {
         if taken.cut {
             return Ok(None);
         }
-        self.same_with(alloc, payload, digest, looked)
+        self.same_with(alloc, framing, taken.wire.as_slice(), digest, looked)
     }
 
     /// The capture that a new one refers to: the first with its payload, if there is one. One that was cut refers to
@@ -161,7 +197,7 @@ impl<D: Disk> Archive<D> {
         if looked.upto == count {
             return Ok(looked.same);
         }
-        let payload = payload_of_taken(alloc, taken)?;
-        self.same_with(alloc, payload.as_slice(), digest, looked)
+        let framing = framing_of_taken(alloc, taken)?;
+        self.same_with(alloc, framing, taken.wire.as_slice(), digest, looked)
     }
 }

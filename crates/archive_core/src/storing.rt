@@ -9,7 +9,7 @@ ghost use Rattle.archive_core.specs.Looking.{IsDigestOf, IsRightOf, RefersTo};
 ghost use Rattle.archive_core.specs.Stores.{Stores};
 
 use crate::Archive;
-use crate::comparing::payload_of_taken;
+use crate::comparing::{digest_of_wire, framing_of_taken};
 use crate::index::enter;
 use archive_shelf::{
     Looked, Receipt, StoreFault, entries_gain_what_is_stored, storing_keeps_soundness,
@@ -17,7 +17,6 @@ use archive_shelf::{
 };
 use archive_volumes::{entry_for, reserve_kept};
 use capture::{Digest, Taken, growth_keeps_captures, wires_have_one_payload};
-use digest32::payload_digest;
 use disk_model::Disk;
 use std::alloc::Global;
 use surt_key::accepted_targets_have_keys;
@@ -133,11 +132,9 @@ impl<D: Disk> Archive<D> {
     {
         self.check_room()?;
         wires_have_one_payload();
-        let payload = payload_of_taken(alloc, taken)?;
-        let bytes = payload.as_slice();
-        let digest = payload_digest(bytes);
-        let same = self.same_by(alloc, taken, bytes, &digest, Looked::none())?;
-        drop(payload);
+        let framing = framing_of_taken(alloc, taken)?;
+        let digest = digest_of_wire(framing, taken.wire.as_slice());
+        let same = self.same_by(alloc, taken, framing, &digest, Looked::none())?;
         self.store_compared(alloc, taken, &digest, same)
     }
 }

@@ -1,27 +1,4 @@
-use Rattle.std.proofs.Common.{Option, Some, None, subst}
-use Rattle.capture.specs.declared.framing.Framing.{Framing}
-use Rattle.archive_volumes.specs.Decoding.{TellsFraming}
-use Rattle.archive_core.proofs.MatchLaws.{has_wire, payload_answer, tells_one}
 use Rattle.archive_core.proofs.comparing.payload_of_taken.Goals as goal
 
-pub unreachable-requires : goal.unreachable-requires
-unreachable-requires c =
-    let taken = c.args.taken.now in
-    let tells : TellsFraming taken.method taken.head None =
-    subst (λ (f : Option Framing). TellsFraming taken.method taken.head f) c.in-None.is (rw c.as_slice.ensures at c.in_ok-framing.ensures) in
-    tells_one c.wires_have_one_payload.ensures.whole c.wires_have_one_payload.ensures.cut taken c.requires.fits tells
-
 pub payload_by-requires : goal.payload_by-requires
-payload_by-requires c =
-    let taken = c.args.taken.now in
-    let tells : TellsFraming taken.method taken.head (Some c.in-Some.framing) =
-    subst (λ (f : Option Framing). TellsFraming taken.method taken.head f) c.in-Some.is (rw c.as_slice.ensures at c.in_ok-framing.ensures) in
-    record { wire = has_wire c.wires_have_one_payload.ensures.whole c.wires_have_one_payload.ensures.cut taken c.requires.fits c.in-Some.framing tells }
-
-pub returns : goal.returns
-returns c =
-    let taken = c.args.taken.now in
-    let tells : TellsFraming taken.method taken.head (Some c.in-Some.framing) =
-    subst (λ (f : Option Framing). TellsFraming taken.method taken.head f) c.in-Some.is (rw c.as_slice.ensures at c.in_ok-framing.ensures) in
-    payload_answer c.wires_have_one_payload.ensures.whole c.wires_have_one_payload.ensures.cut taken c.requires.fits c.in-Some.framing tells
-    c.payload_by.result c.payload_by.ensures
+payload_by-requires c = record { framed = c.in_ok-framing.ensures }

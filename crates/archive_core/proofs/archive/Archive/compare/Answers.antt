@@ -1,5 +1,7 @@
 -- It is full, or all captures were looked at.
-use Rattle.std.specs.Prelude.{IsTrue}
+use Rattle.std.proofs.Common.{◌∙◌, List, ℕ, IsTrue, ap, refl, subst, sym}
+use Rattle.sha1.specs.Sha1.{sha1}
+use Rattle.archive_shelf.specs.Comparing.{IsRight}
 use Rattle.warc_text.specs.Sound.{IsSound}
 use Rattle.archive_core.specs.Holdings.{contents_of}
 use Rattle.archive_core.proofs.ArchiveLaws.{on_each_ok}
@@ -20,7 +22,7 @@ returns-in_err-check_room-clause-faults g c =
 pub returns-clause-looks : goal.returns-clause-looks
 returns-clause-looks g c =
     looks_after g.D.Disk c.args.self.now c.look_on.new.self c.args.payload.now c.look_on.result c.look_on.ensures.only_looks c.in_ok-check_room.ensures
-    c.look_on.ensures.looks
+    (c.look_on.ensures.looks c.args.payload.now refl)
 
 pub returns-in_err-check_room-clause-sound : goal.returns-in_err-check_room-clause-sound
 returns-in_err-check_room-clause-sound g c =
@@ -33,3 +35,10 @@ pub returns-in_err-check_room-clause-since : goal.returns-in_err-check_room-clau
 returns-in_err-check_room-clause-since g c =
     full_since _ (contents_of g.D.Disk.tells c.args.self.now) c.args.looked.upto c.in_err-check_room.field-0.0 c.from_residual.result c.from_residual.ensures.1
     c.in_err-check_room.ensures
+
+pub look_on-requires-clause-digest : goal.look_on-requires-clause-digest
+look_on-requires-clause-digest g c payload is = c.requires.digest ∙ ap sha1 (sym is)
+
+pub look_on-requires-clause-right : goal.look_on-requires-clause-right
+look_on-requires-clause-right g c payload is =
+    subst (λ (p : List ℕ). IsRight g.D.Disk.tells c.args.self.now.book p c.args.looked) (sym is) c.requires.right

@@ -1,9 +1,34 @@
 -- An archive stays one while its disk is read.
-use Rattle.std.proofs.Common.{refl}
+use Rattle.std.proofs.Common.{List, ℕ, refl, sym, ap, subst, ◌∙◌}
+use Rattle.std.specs.Prelude.{filter, nat_le}
+use Rattle.sha1.specs.Sha1.{sha1}
+use Rattle.capture.specs.declared.book.Book.{Book}
+use Rattle.revisit_table.specs.Table.{numbers_of}
+use Rattle.archive_shelf.specs.Comparing.{IsRight}
+use Rattle.archive_volumes.specs.Choosing.{LooksOn}
+use Rattle.archive_volumes.specs.Held.{book_of}
+use Rattle.archive_volumes.specs.Spots.{whole_from}
+use Rattle.archive_core.specs.Holdings.{Holdings}
 use Rattle.archive_core.specs.View.{holdings_of}
 use Rattle.archive_core.proofs.ReadLaws as laws
 use Rattle.archive_core.proofs.archive.Archive.look_on.Goals as goal
 
 pub invariant_of-self : goal.invariant_of-self
 invariant_of-self g c =
-    laws.reads_archive g.D.Disk (holdings_of c.self.inside) c.self.inside.volumes c.look_on.new.self refl refl c.look_on.ensures.reads c.self.invariant
+    laws.reads_archive g.D.Disk (holdings_of c.self.inside) c.self.inside.volumes c.look_on_wire.new.self refl refl c.look_on_wire.ensures.reads c.self.invariant
+
+pub look_on_wire-requires-clause-candidates : goal.look_on_wire-requires-clause-candidates
+look_on_wire-requires-clause-candidates g c payload is =
+    let upto = c.args.looked.upto in
+    c.candidates_from-candidates.ensures.numbers
+    ∙ ap (λ (d : List ℕ). filter (λ number. nat_le upto number) (numbers_of d c.self.inside.table.kept)) (c.requires.digest payload is)
+    ∙ ap (λ kept. filter (λ number. nat_le upto number) (numbers_of (sha1 payload) kept)) c.self.invariant.table
+    ∙ ap (λ spots. filter (λ number. nat_le upto number) (numbers_of (sha1 payload) (whole_from 0 spots))) (sym c.as_slice.ensures.value)
+
+pub look_on_wire-requires-clause-right : goal.look_on_wire-requires-clause-right
+look_on_wire-requires-clause-right g c payload is =
+    subst (λ (held : Holdings _). IsRight g.D.Disk.tells held.book payload c.args.looked) (sym c.self.view_is) (c.requires.right payload is)
+
+pub returns-clause-looks : goal.returns-clause-looks
+returns-clause-looks g c payload is =
+    subst (λ (b : Book). LooksOn g.D.Disk.tells b payload c.look_on_wire.result) (sym (ap book_of c.look_on_wire.ensures.reads.held)) (c.look_on_wire.ensures.looks payload is)

@@ -1,11 +1,11 @@
 -- It is full, or there is no memory, or a fault was met while the disk was read, or a store follows.
-use Rattle.std.proofs.Common.{refl, sym, subst}
+use Rattle.std.proofs.Common.{ℕ, List, refl, sym, subst}
+use Rattle.capture.specs.Payload.{IsPayload}
 use Rattle.archive_shelf.specs.Answers.{IsNotFull}
 use Rattle.archive_core.specs.Holdings.{Holdings, contents_of}
 use Rattle.archive_core.proofs.AfterLaws.{fault_exit, full_exit, stores_after}
 use Rattle.archive_volumes.proofs.ChangeLaws.{DiskLaws}
 use Rattle.archive_core.proofs.ExitLaws.{memory_exit}
-use Rattle.archive_core.proofs.MatchLaws.{Has, digest_by}
 use Rattle.archive_core.proofs.archive.Archive.store_new.Given.{Over}
 use Rattle.archive_core.proofs.archive.Archive.store_new.Goals as goal
 
@@ -18,16 +18,19 @@ returns-in_err-check_room g c =
     full_exit g.D.Disk (disk_laws g) c.args.self.now c.args.taken.now c.in_err-check_room.field-0.0 c.from_residual.result c.from_residual.ensures.1
     c.in_err-check_room.ensures
 
-pub returns-in_err-payload : goal.returns-in_err-payload
-returns-in_err-payload g c =
-    memory_exit g.D.Disk c.args.self.now c.args.self.now refl refl refl refl refl c.args.taken.now c.from_residual-in_err-payload.result
-    c.from_residual-in_err-payload.ensures.1
+pub returns-in_err-framing : goal.returns-in_err-framing
+returns-in_err-framing g c =
+    memory_exit g.D.Disk c.args.self.now c.args.self.now refl refl refl refl refl c.args.taken.now c.from_residual-in_err-framing.result
+    c.from_residual-in_err-framing.ensures.1
 
-pub same_by-requires-clause-payload : goal.same_by-requires-clause-payload
-same_by-requires-clause-payload g c = subst (Has c.args.taken.now) (sym c.as_slice-bytes.ensures) c.in_ok-payload.ensures
+pub same_by-requires-clause-digest : goal.same_by-requires-clause-digest
+same_by-requires-clause-digest g c payload has =
+    let taken = c.args.taken.now in
+    c.digest_of_wire-digest.ensures taken.cut payload
+    (subst (λ (w : List ℕ). IsPayload taken.cut c.in_ok-framing.framing w payload) (sym c.as_slice.ensures) (c.in_ok-framing.ensures.needs payload has))
 
 pub same_by-requires-clause-right : goal.same_by-requires-clause-right
-same_by-requires-clause-right g c = c.none.ensures.right g.D.Disk.tells c.args.self.now.book c.as_slice-bytes.result.now
+same_by-requires-clause-right g c payload has = c.none.ensures.right g.D.Disk.tells c.args.self.now.book payload
 
 pub returns-in_err-same : goal.returns-in_err-same
 returns-in_err-same g c =
@@ -40,9 +43,10 @@ store_compared-requires-clause-not_full g c =
     subst (λ (held : Holdings _). IsNotFull (contents_of g.D.Disk.tells held) held.book) (sym c.in_ok-same.ensures.looks.others) c.in_ok-check_room.ensures
 
 pub store_compared-requires-clause-digest : goal.store_compared-requires-clause-digest
-store_compared-requires-clause-digest g c =
-    digest_by c.wires_have_one_payload.ensures.one c.args.taken.now c.payload_digest-digest.result c.as_slice-bytes.result.now (subst (Has c.args.taken.now) (sym c.as_slice-bytes.ensures) c.in_ok-payload.ensures)
-    c.payload_digest-digest.ensures
+store_compared-requires-clause-digest g c payload has =
+    let taken = c.args.taken.now in
+    c.digest_of_wire-digest.ensures taken.cut payload
+    (subst (λ (w : List ℕ). IsPayload taken.cut c.in_ok-framing.framing w payload) (sym c.as_slice.ensures) (c.in_ok-framing.ensures.needs payload has))
 
 pub returns : goal.returns
 returns g c =
