@@ -1,8 +1,13 @@
 -- A run over a disk that is ready isn't refused.
-use Rattle.std.proofs.Common.{◌≡◌, ◌⊎◌, ℕ, ◌<◌, ◌≤◌, Bool, IsTrue, List, [], length, Option, Some, None, refl, sym, ap, ◌∙◌, inl, inr, ⊎_elim, arith}
+use Rattle.std.proofs.Common.{◌≡◌, ◌⊎◌, ℕ, ◌<◌, ◌≤◌, Bool, true, true≢false, IsTrue, List, [], length, Option, Some, None, Result, Ok, Err, refl, sym, ap, subst, ◌∙◌, inl, inr, ⊎_elim, arith}
 use Rattle.std.proofs.lemmas.Bool.{cases_lt}
 use Rattle.archive_opening.specs.Opening.{CountsFault, HoldsOther, IsDamageIn, IsOtherIn}
+use Rattle.archive_core.specs.Told.{told_on}
+use Rattle.archive_shelf.proofs.CallLaws.{stored_tells}
+use Rattle.archive_shelf.specs.Answers.{CountsIf, IsDamaged}
 use Rattle.archive_shelf.specs.Contents.{Contents}
+use Rattle.archive_shelf.specs.declared.fault.StoreFault.{StoreFault}
+use Rattle.archive_shelf.specs.declared.fault.StoreFault.TheVariants as stores
 use Rattle.archive_shelf.specs.Openings.{ImageStandsFor}
 use Rattle.archive_shelf.specs.declared.fault.ReopenFault.{ReopenFault}
 use Rattle.archive_shelf.specs.declared.fault.ReopenFault.TheVariants as faults
@@ -11,13 +16,17 @@ use Rattle.capture.specs.declared.book.Book.{Book}
 use Rattle.disk_model.specs.Image.{Image}
 use Rattle.outside.specs.declared.sink.Sink.{Ghosts as Sinks}
 use Rattle.proxy_run.proofs.NextLaws.{all_next, ready_next}
-use Rattle.proxy_run.specs.Complete.{CapturesComeBack, ChecksAreAnswered, EndsBadly, IsReady, IsSteady, NoFaults, PipesAreAnswered, PipesLeaveReady, ServesBadly}
+use Rattle.proxy_run.specs.Complete.{CapturesComeBack, ChecksAreAnswered, EndsBadly, ImportsAreAnswered, ImportsBadly, ImportsLeaveReady, IsFullBefore, IsNotTaken, IsReady, IsSteady, NoFaults, PipesAreAnswered, PipesLeaveReady, ServesBadly}
+use Rattle.proxy_run.specs.Imports.{IsTellable, Tells, status_after}
+use Rattle.proxy_run.specs.Keeping.{EndsBy, Keeps, is_denied}
 use Rattle.proxy_run.specs.Objects.{Kinds, Objects}
 use Rattle.proxy_run.specs.Pipes.{HasServed, HasServedNone, Pipes, Refuses}
 use Rattle.proxy_run.specs.Printing.{LacksMemory, Prints}
-use Rattle.proxy_run.specs.Runs.{HasChecked}
+use Rattle.proxy_run.specs.Runs.{HasChecked, HasTakenIn}
 use Rattle.proxy_run.specs.Serving.{IsReason, status_of}
 use Rattle.proxy_run.specs.Texts.{IsFaultText}
+use Rattle.proxy_run.specs.declared.input.InputFault.{InputFault}
+use Rattle.proxy_run.specs.declared.input.InputFault.TheVariants as input_fault
 use Rattle.proxy_run.specs.declared.status.Status.{Status}
 use Rattle.proxy_run.specs.declared.status.Status.TheVariants.{Done, Words, Archive, Outside, Memory}
 use Rattle.session.specs.declared.served.Served.{Served}
@@ -139,6 +148,69 @@ module _ {D G L P N M C O : Type 0} (kinds : Kinds D G L P N M C O) where
   pub pipes_answered : FilesStandForOneBook → FilesStandForNoVolume → PipesAreAnswered kinds
   pipes_answered one no_volume namespace was is status told clients origins ready steady runs =
       pipe_answered one no_volume namespace was is status told clients origins ready steady runs
+
+  -- ---- `import`
+
+  damage_is_untold : (told : Bool) (kept : List ℕ) (found : Option (List ℕ)) → IsTrue told → IsDamaged told kept found → ⊥
+  damage_is_untold told kept found tells damaged = true≢false (sym tells ∙ damaged.untold)
+
+  read_answered : (namespace : List ℕ) (was is : Objects D G N C O) (status : Status) (taken : HasTakenIn kinds namespace was is status) → IsTrue kinds.disks.tells
+      → NoFaults kinds was is → (file : List ℕ) → taken.imported.input ≡ Ok file → (refused : Option StoreFault) → taken.imported.imported.refused ≡ refused
+      → IsTellable refused → (text : List ℕ) → Prints kinds.sinks (status_after refused) text was.out is.out status
+      → (status ≡ Done) ⊎ (status ≡ Memory) ⊎ ImportsBadly kinds namespace was is status
+  read_answered namespace was is status taken told steady file whole None none tellable text printed =
+      one_more (printed_or_lacked kinds.sinks Done text was.out is.out status steady.out (inl printed))
+  read_answered namespace was is status taken told steady file whole (Some (stores.Full count limit)) full tellable text printed =
+      inr (inr (record { taken = taken; badly = subst (λ i. IsNotTaken i taken.imported.imported.refused) (sym whole) (inr (subst IsFullBefore (sym full) tt)) }))
+  read_answered namespace was is status taken told steady file whole (Some stores.DiskFault) fault tellable text printed =
+      absurd (not_risen (kinds.disks.faults was.disk) (kinds.disks.faults is.disk) steady.disk
+      (subst (λ r. CountsIf (is_denied r) (kinds.disks.faults was.disk) (kinds.disks.faults is.disk)) fault taken.imported.imported.keeps.faults).1)
+  read_answered namespace was is status taken told steady file whole (Some (stores.Damaged number kept found)) fault tellable text printed =
+      absurd (undamaged (subst (λ r. EndsBy true r k.rest k.reached taken.imported.after) fault k.ends))
+    where
+      k : Keeps true taken.imported.imported.takens taken.imported.imported.stored taken.imported.imported.refused (told_on kinds.disks was.disk taken.imported.before) (told_on kinds.disks is.disk taken.imported.after)
+      k = taken.imported.imported.keeps
+
+      undamaged : EndsBy true (Some (stores.Damaged number kept found)) k.rest k.reached taken.imported.after → ⊥
+      undamaged ends =
+          damage_is_untold k.reached.tells kept found
+          (subst IsTrue (sym taken.imported.opened.same_tells ∙ sym k.goes_on.same_tells ∙ stored_tells true ends.0 k.reached taken.imported.after (Err (stores.Damaged number kept found)) ends.3) told)
+          ends.3.3
+  read_answered namespace was is status taken told steady file whole (Some stores.Memory) fault tellable text printed = absurd tellable
+
+  taken_answered : (namespace : List ℕ) (was is : Objects D G N C O) (status : Status) (taken : HasTakenIn kinds namespace was is status) → IsTrue kinds.disks.tells
+      → NoFaults kinds was is → (input : Result (List ℕ) InputFault) → taken.imported.input ≡ input
+      → Tells kinds.sinks taken.imported.imported.takens taken.imported.imported.stored taken.imported.imported.refused was.out is.out status input
+      → (status ≡ Done) ⊎ (status ≡ Memory) ⊎ ImportsBadly kinds namespace was is status
+  taken_answered namespace was is status taken told steady (Ok file) whole (inl read) =
+      read_answered namespace was is status taken told steady file whole taken.imported.imported.refused refl read.tellable _ read.told
+  taken_answered namespace was is status taken told steady (Ok file) whole (inr (inl none)) =
+      inr (inr (record { taken = taken; badly = subst (λ i. IsNotTaken i taken.imported.imported.refused) (sym whole) (inl (none.at, none.none)) }))
+  taken_answered namespace was is status taken told steady (Ok file) whole (inr (inr breaks)) = inr (inl breaks.lacks.status_is)
+  taken_answered namespace was is status taken told steady (Err input_fault.TooLong) same tells =
+      inr (inr (record { taken = taken; badly = subst (λ i. IsNotTaken i taken.imported.imported.refused) (sym same) tt }))
+  taken_answered namespace was is status taken told steady (Err input_fault.Failed) same tells =
+      inr (inr (record { taken = taken; badly = subst (λ i. IsNotTaken i taken.imported.imported.refused) (sym same) tt }))
+  taken_answered namespace was is status taken told steady (Err input_fault.Memory) same tells = inr (inl tells.1.status_is)
+
+  import_answered : FilesStandForOneBook → FilesStandForNoVolume → (namespace : List ℕ) (was is : Objects D G N C O) (status : Status) → IsTrue kinds.disks.tells
+      → IsReady (Some namespace) (kinds.disks.reading was.disk) → NoFaults kinds was is
+      → HasTakenIn kinds namespace was is status ⊎ Refuses kinds (Some namespace) was is status
+      → (status ≡ Done) ⊎ (status ≡ Memory) ⊎ ImportsBadly kinds namespace was is status
+  import_answered one no_volume namespace was is status told ready steady (inl taken) =
+      taken_answered namespace was is status taken told steady taken.imported.input refl taken.imported.imported.told
+  import_answered one no_volume namespace was is status told ready steady (inr refuses) =
+      inr (inl (refused_for_memory (Some namespace) was is status told ready
+      (λ other holds. not_other one no_volume namespace (kinds.disks.reading was.disk) other ready holds) steady refuses))
+
+  pub imports_answered : FilesStandForOneBook → FilesStandForNoVolume → ImportsAreAnswered kinds
+  imports_answered one no_volume namespace was is status told ready steady runs = import_answered one no_volume namespace was is status told ready steady runs
+
+  pub imports_leave_ready : ImportsLeaveReady kinds
+  imports_leave_ready namespace was is status taken told ids image now =
+      let i = taken.imported in
+      let x = i.near told image now in
+      ready_next namespace image i.after.seen x.0 (i.imported.keeps.goes_on.grows.namespace ∙ i.opened.in_namespace) ids x.2 x.1
 
   pub pipes_leave_ready : PipesLeaveReady kinds
   pipes_leave_ready namespace was is status piped told ids image now =

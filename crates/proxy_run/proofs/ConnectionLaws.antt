@@ -52,10 +52,10 @@ served_over disks laws given clock_tells told now was is status same faults one 
 
 -- ---- what is left
 
-ids_differ : (book : Book) → HasIds book → IdsDifferIn book
+pub ids_differ : (book : Book) → HasIds book → IdsDifferIn book
 ids_differ book ids m n less less₂ e = ids m n (omega (arith, less)) (omega (arith, less₂)) e
 
-only_one : {x y : Book} → SameBook x y ⊎ (None ≡ Some x) → SameBook x y
+pub only_one : {x y : Book} → SameBook x y ⊎ (None ≡ Some x) → SameBook x y
 only_one (inl same) = same
 only_one (inr other) = absurd (false≢true (ap is_some other))
 

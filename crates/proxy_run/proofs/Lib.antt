@@ -2,8 +2,12 @@ mod CompleteLaws
 mod ConnectionLaws
 mod FileNames
 mod HostTexts
+mod ImportLaws
+mod InputLaws
+mod KeepingLaws
 mod NextLaws
 mod OpeningLaws
 mod PipeLaws
 mod RunLaws
+mod TakingLaws
 mod WordsLemmas

@@ -1,6 +1,7 @@
 -- What a run leaves, by what its words ask for.
 use Rattle.std.proofs.Common.{◌≡◌, ◌⊎◌, ℕ, List, Option, Some, None, refl, sym, ap, subst, ◌∙◌, inl, inr}
 use Rattle.proxy_run.specs.Checks.{IsCounted}
+use Rattle.proxy_run.specs.Imports.{Imports, ends_of}
 use Rattle.proxy_run.specs.Objects.{Kinds, Objects, objects_of}
 use Rattle.proxy_run.specs.Opening.{IsNotOpened}
 use Rattle.proxy_run.specs.Pipes.{Pipes, Refuses}
@@ -11,7 +12,7 @@ use Rattle.proxy_run.specs.Words.{asked_of}
 use Rattle.proxy_run.specs.declared.status.Status.{Status}
 use Rattle.proxy_run.specs.declared.status.Status.TheVariants.{Words}
 use Rattle.proxy_run.specs.declared.words.Command.{Command}
-use Rattle.proxy_run.specs.declared.words.Command.TheVariants.{Check, Pipe}
+use Rattle.proxy_run.specs.declared.words.Command.TheVariants.{Check, Import, Pipe}
 
 module _ {D G L P N M C O : Type 0} (kinds : Kinds D G L P N M C O) (found : Option Command) where
   pub runs_none : (was : Objects D G N C O) (out : O) (status : Status) → found ≡ None → Prints kinds.sinks Words usage was.out out status
@@ -50,3 +51,22 @@ module _ {D G L P N M C O : Type 0} (kinds : Kinds D G L P N M C O) (found : Opt
       (subst (λ m. Runs kinds (Some command) (objects_of disk_was gate_was m out_was) (objects_of disk_is gate_is first_is out_is) status) same_was
       (subst (λ m. Runs kinds (Some command) (objects_of disk_was gate_was member_was out_was) (objects_of disk_is gate_is m out_is) status) same_is
       (piped command (objects_of disk_was gate_was member_was out_was) (objects_of disk_is gate_is member_is out_is) status result namespace is_pipe)))
+
+  taken_in : (namespace : List ℕ) (was : Objects D G N C O) (disk : D) (gate : G) (out : O) (status : Status)
+      → Imports kinds.disks kinds.gates kinds.sinks kinds.clients_tell (Some namespace) (ends_of was.disk was.gate was.out) (ends_of disk gate out) status
+      ⊎ (IsNotOpened kinds.disks kinds.sinks (Some namespace) was.disk disk was.out out status × (gate ≡ was.gate))
+      → Runs kinds (Some (Import namespace)) was (record was { disk = disk; gate = gate; out = out }) status
+  taken_in namespace was disk gate out status (inl imports) = inl (record { imported = imports; untouched = refl })
+  taken_in namespace was disk gate out status (inr (refused, same)) =
+      inr (record { refused = refused; untouched = ap (λ (g : G). record was { disk = disk; gate = g; out = out }) same })
+
+  pub runs_import : (command : Command) (namespace : List ℕ) (was : Objects D G N C O) (disk : D) (gate : G) (out : O) (status : Status)
+      → found ≡ Some command → command ≡ Import namespace
+      → Imports kinds.disks kinds.gates kinds.sinks kinds.clients_tell (asked_of command) (ends_of was.disk was.gate was.out) (ends_of disk gate out) status
+      ⊎ (IsNotOpened kinds.disks kinds.sinks (asked_of command) was.disk disk was.out out status × (gate ≡ was.gate))
+      → Runs kinds found was (record was { disk = disk; gate = gate; out = out }) status
+  runs_import command namespace was disk gate out status is_command is_import result =
+      subst (λ f. Runs kinds f was (record was { disk = disk; gate = gate; out = out }) status) (sym (is_command ∙ ap (λ (c : Command). Some c) is_import))
+      (taken_in namespace was disk gate out status
+      (subst (λ c. Imports kinds.disks kinds.gates kinds.sinks kinds.clients_tell (asked_of c) (ends_of was.disk was.gate was.out) (ends_of disk gate out) status
+      ⊎ (IsNotOpened kinds.disks kinds.sinks (asked_of c) was.disk disk was.out out status × (gate ≡ was.gate))) is_import result))

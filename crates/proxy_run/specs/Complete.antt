@@ -1,20 +1,25 @@
 -- When a run isn't refused, and what the next one finds.
-use Rattle.std.specs.Prelude.{◌≡◌, ◌⊎◌, ℕ, ◌-◌, ◌^◌, ◌<◌, ◌≤◌, List, [], ◌++◌, length, IsTrue, Option, Some, None, ⊤}
+use Rattle.std.specs.Prelude.{◌≡◌, ◌⊎◌, ℕ, ◌-◌, ◌^◌, ◌<◌, ◌≤◌, List, [], ◌++◌, length, IsTrue, Option, Some, None, Result, Ok, Err, ⊤}
 use Rattle.archive_opening.specs.Opening.{IsIn}
 use Rattle.archive_shelf.specs.Contents.{Contents}
 use Rattle.archive_shelf.specs.Openings.{HasIds, ImageStandsFor}
+use Rattle.archive_shelf.specs.declared.fault.StoreFault.{StoreFault}
+use Rattle.archive_shelf.specs.declared.fault.StoreFault.TheVariants as stores
 use Rattle.capture.specs.Captures.{captures}
 use Rattle.capture.specs.declared.book.Book.{Book}
 use Rattle.capture.specs.declared.captured.Stored.{Stored}
 use Rattle.disk_model.specs.Image.{Image}
 use Rattle.proxy_run.specs.Objects.{Kinds, Objects}
 use Rattle.proxy_run.specs.Pipes.{HasServed, Pipes}
-use Rattle.proxy_run.specs.Runs.{Runs}
+use Rattle.proxy_run.specs.Runs.{HasTakenIn, Runs}
+use Rattle.proxy_run.specs.declared.input.InputFault.{InputFault}
+use Rattle.proxy_run.specs.declared.input.InputFault.TheVariants as input_fault
 use Rattle.proxy_run.specs.declared.status.Status.{Status}
 use Rattle.proxy_run.specs.declared.status.Status.TheVariants.{Done, Memory}
-use Rattle.proxy_run.specs.declared.words.Command.TheVariants.{Check, Pipe}
+use Rattle.proxy_run.specs.declared.words.Command.TheVariants.{Check, Import, Pipe}
 use Rattle.session.specs.declared.served.Served.{Served}
 use Rattle.session.specs.declared.served.Served.TheVariants as served
+use Rattle.warc_reader.specs.Records.{HasNoRecordAt}
 use Rattle.warc_text.specs.StandsFor.{IdsDifferIn}
 
 -- The image stands for a sound book, the ids of whose responses differ, and which opens in the namespace that is asked for: it has
@@ -44,6 +49,21 @@ EndsBadly served.ClientEndedEarly = ⊤
 EndsBadly (served.ClientRefused refusal) = ⊥
 EndsBadly served.WantOfMemory = ⊥
 
+-- an archive was full before all captures were stored
+abbrev pub IsFullBefore : Option StoreFault → Type 0
+IsFullBefore None = ⊥
+IsFullBefore (Some (stores.Full count limit)) = ⊤
+IsFullBefore (Some stores.DiskFault) = ⊥
+IsFullBefore (Some (stores.Damaged number kept found)) = ⊥
+IsFullBefore (Some stores.Memory) = ⊥
+
+-- an input that isn't taken whole: it was too long or broke off, it is no file of records, or the archive was full
+abbrev pub IsNotTaken : Result (List ℕ) InputFault → Option StoreFault → Type 0
+IsNotTaken (Ok file) refused = ((at : ℕ) × HasNoRecordAt file at) ⊎ IsFullBefore refused
+IsNotTaken (Err input_fault.TooLong) refused = ⊤
+IsNotTaken (Err input_fault.Failed) refused = ⊤
+IsNotTaken (Err input_fault.Memory) refused = ⊥
+
 module _ {D G L P N M C O : Type 0} (kinds : Kinds D G L P N M C O) where
   -- neither the disk, nor the gate, nor the output failed
   pub record NoFaults (was is : Objects D G N C O) : Type 0 where
@@ -70,6 +90,25 @@ module _ {D G L P N M C O : Type 0} (kinds : Kinds D G L P N M C O) where
       (namespace : List ℕ) (was is : Objects D G N C O) (status : Status) → IsTrue kinds.disks.tells → IsTrue kinds.clients_tell
       → IsTrue kinds.origins_tell → IsReady (Some namespace) (kinds.disks.reading was.disk) → NoFaults was is
       → Runs kinds (Some (Pipe namespace)) was is status → (status ≡ Done) ⊎ (status ≡ Memory) ⊎ ServesBadly was is status
+
+  -- an import took not all
+  pub record ImportsBadly (namespace : List ℕ) (was is : Objects D G N C O) (status : Status) : Type 0 where
+    pub taken : HasTakenIn kinds namespace was is status
+    pub badly : IsNotTaken taken.imported.input taken.imported.imported.refused
+
+  -- And so `import` goes well, unless its input isn't taken whole.
+  abbrev pub ImportsAreAnswered : Type 0
+  ImportsAreAnswered =
+      (namespace : List ℕ) (was is : Objects D G N C O) (status : Status) → IsTrue kinds.disks.tells
+      → IsReady (Some namespace) (kinds.disks.reading was.disk) → NoFaults was is → Runs kinds (Some (Import namespace)) was is status
+      → (status ≡ Done) ⊎ (status ≡ Memory) ⊎ ImportsBadly namespace was is status
+
+  -- Each image that `import` may leave, and so what a read gives, is ready for the next run, where the ids differ.
+  abbrev pub ImportsLeaveReady : Type 0
+  ImportsLeaveReady =
+      (namespace : List ℕ) (was is : Objects D G N C O) (status : Status) (taken : HasTakenIn kinds namespace was is status)
+      → IsTrue kinds.disks.tells → HasIds taken.imported.after.seen → (image : Image) → kinds.disks.images is.disk image
+      → IsReady (Some namespace) image
 
   -- Each image that `pipe` may leave, and so what a read gives, is ready for the next run, where the ids differ.
   abbrev pub PipesLeaveReady : Type 0

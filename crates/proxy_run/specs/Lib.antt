@@ -1,11 +1,15 @@
 pub mod Base
 pub mod Checks
 pub mod Complete
+pub mod Imports
+pub mod Inputs
+pub mod Keeping
 pub mod Objects
 pub mod Opening
 pub mod Pipes
 pub mod Printing
 pub mod Runs
 pub mod Serving
+pub mod steps
 pub mod Texts
 pub mod Words

@@ -1,6 +1,7 @@
 -- What a run leaves, by what its words ask for.
-use Rattle.std.specs.Prelude.{◌≡◌, ◌⊎◌, Option, Some, None}
+use Rattle.std.specs.Prelude.{◌≡◌, ◌⊎◌, ℕ, List, Option, Some, None}
 use Rattle.proxy_run.specs.Checks.{IsCounted}
+use Rattle.proxy_run.specs.Imports.{Imports, ends_of}
 use Rattle.proxy_run.specs.Objects.{Kinds, Objects}
 use Rattle.proxy_run.specs.Pipes.{Pipes, Refuses}
 use Rattle.proxy_run.specs.Printing.{Prints}
@@ -8,7 +9,7 @@ use Rattle.proxy_run.specs.Texts.{usage}
 use Rattle.proxy_run.specs.declared.status.Status.{Status}
 use Rattle.proxy_run.specs.declared.status.Status.TheVariants as status
 use Rattle.proxy_run.specs.declared.words.Command.{Command}
-use Rattle.proxy_run.specs.declared.words.Command.TheVariants.{Check, Pipe}
+use Rattle.proxy_run.specs.declared.words.Command.TheVariants.{Check, Import, Pipe}
 
 module _ {D G L P N M C O : Type 0} (kinds : Kinds D G L P N M C O) where
   -- the words ask for nothing: the usage was printed, and nothing else was touched
@@ -21,8 +22,15 @@ module _ {D G L P N M C O : Type 0} (kinds : Kinds D G L P N M C O) where
     pub counted : IsCounted kinds.disks kinds.sinks was.disk is.disk was.out is.out result
     pub untouched : is ≡ record was { disk = is.disk; out = is.out }
 
+  -- the archive took the gate's first connection in; the crew wasn't touched
+  pub record HasTakenIn (namespace : List ℕ) (was is : Objects D G N C O) (result : Status) : Type 0 where
+    pub imported : Imports kinds.disks kinds.gates kinds.sinks kinds.clients_tell (Some namespace) (ends_of was.disk was.gate was.out)
+        (ends_of is.disk is.gate is.out) result
+    pub untouched : is.member ≡ was.member
+
   -- by what the words ask for
   abbrev pub Runs : Option Command → Objects D G N C O → Objects D G N C O → Status → Type 0
   Runs None was is result = Misspells was is result
   Runs (Some (Pipe namespace)) was is result = Pipes kinds (Some namespace) was is result ⊎ Refuses kinds (Some namespace) was is result
+  Runs (Some (Import namespace)) was is result = HasTakenIn namespace was is result ⊎ Refuses kinds (Some namespace) was is result
   Runs (Some Check) was is result = HasChecked was is result ⊎ Refuses kinds None was is result

@@ -1,17 +1,25 @@
 -- What is printed.
-use Rattle.std.specs.Prelude.{◌≡◌, ℕ, List, [], ◌∷◌, ◌++◌, codes, decimal}
+use Rattle.std.specs.Prelude.{◌≡◌, ℕ, List, [], ◌∷◌, ◌++◌, codes, decimal, length, Option, Some, None}
+use Rattle.std.specs.List.{flat_map}
 use Rattle.httparse.specs.Ascii.{line_feed}
 use Rattle.archive_shelf.specs.declared.counts.Counts.{Counts}
 use Rattle.archive_shelf.specs.declared.fault.ReopenFault.{ReopenFault}
 use Rattle.archive_shelf.specs.declared.fault.ReopenFault.TheVariants as faults
+use Rattle.archive_shelf.specs.declared.fault.StoreFault.{StoreFault}
+use Rattle.archive_shelf.specs.declared.fault.StoreFault.TheVariants as stores
 use Rattle.cdxj_line.specs.Lines.{six_digits}
 use Rattle.disk_model.specs.declared.kind.Kind.{Kind}
 use Rattle.disk_model.specs.declared.kind.Kind.TheVariants.{Warc, Cdxj}
 use Rattle.uuid.specs.Text.{hyphenated_text, lower}
+use Rattle.warc_reader.specs.declared.import.Outcome.{Outcome}
+use Rattle.warc_reader.specs.declared.import.Outcome.TheVariants as outcome
+use Rattle.warc_reader.specs.declared.import.Reason.{Reason}
+use Rattle.warc_reader.specs.declared.import.Reason.TheVariants.{Revisit, ContentType, Target, Date, Message}
+use Rattle.warc_reader.specs.declared.import.Skipped.{Skipped}
 
 -- the forms of the command line
 abbrev pub usage : List ℕ
-usage = codes "usage: memproxy pipe NS, serve NS BASE WORKERS, check, trial COUNT NUMBER\n"
+usage = codes "usage: memproxy pipe NS, serve NS BASE WORKERS, check, trial COUNT NUMBER, import NS, verify WORKERS, follow NS BASE\n"
 
 -- how much an archive holds
 unfoldable pub counts_text : Counts → List ℕ
@@ -42,3 +50,58 @@ IsFaultText (faults.Damaged kind file place) text = text ≡ damage_text kind fi
 IsFaultText (faults.OtherNamespace other) text = text ≡ other_text other
 IsFaultText faults.DiskFault text = text ≡ codes "disk fault\n"
 IsFaultText faults.Memory text = ⊥
+
+-- ---- an import
+
+-- an input that is longer than one may be
+abbrev pub too_long : List ℕ
+too_long = codes "input too long\n"
+
+-- the place in an input at which no record stands
+unfoldable pub damaged_input : ℕ → List ℕ
+damaged_input at = codes "damaged input " ++ decimal at ++ (line_feed ∷ [])
+
+-- why a record gives no capture
+abbrev pub reason_text : Reason → List ℕ
+reason_text Revisit = codes "revisit"
+reason_text ContentType = codes "content-type"
+reason_text Target = codes "target"
+reason_text Date = codes "date"
+reason_text Message = codes "message"
+
+-- a record that was skipped: its place, and why
+unfoldable pub skip_line : Skipped → List ℕ
+skip_line skipped = codes "skipped " ++ decimal skipped.at ++ codes " " ++ reason_text skipped.reason ++ (line_feed ∷ [])
+
+-- the skip of an outcome, if it is one
+abbrev pub skip_in : Outcome → List Skipped
+skip_in (outcome.Taken taken) = []
+skip_in (outcome.Skipped skipped) = skipped ∷ []
+skip_in outcome.PassedOver = []
+
+-- the skips among outcomes, in order
+abbrev pub skips_in : List Outcome → List Skipped
+skips_in outcomes = flat_map skip_in outcomes
+
+-- how many captures were stored, and how many records skipped
+unfoldable pub summary_line : (stored skipped : ℕ) → List ℕ
+summary_line stored skipped = codes "imported " ++ decimal stored ++ codes " skipped " ++ decimal skipped ++ (line_feed ∷ [])
+
+unfoldable pub full_line : (count limit : ℕ) → List ℕ
+full_line count limit = codes "full " ++ decimal count ++ codes " " ++ decimal limit ++ (line_feed ∷ [])
+
+unfoldable pub damaged_capture : ℕ → List ℕ
+damaged_capture number = codes "damaged capture " ++ decimal number ++ (line_feed ∷ [])
+
+-- why a capture was refused, if one was. Of want of memory nothing is told.
+abbrev pub refusal_line : Option StoreFault → List ℕ
+refusal_line None = []
+refusal_line (Some (stores.Full count limit)) = full_line count limit
+refusal_line (Some stores.DiskFault) = codes "disk fault\n"
+refusal_line (Some (stores.Damaged number kept found)) = damaged_capture number
+refusal_line (Some stores.Memory) = []
+
+-- the skips, in order; how many captures were stored; and why no more were
+abbrev pub import_text : List Outcome → ℕ → Option StoreFault → List ℕ
+import_text outcomes stored refused =
+    flat_map skip_line (skips_in outcomes) ++ (summary_line stored (length (skips_in outcomes)) ++ refusal_line refused)

@@ -4,7 +4,7 @@ use Rattle.std.specs.Borrow.{Bor}
 use Rattle.std.specs.Str.{bytes_eq}
 use Rattle.uuid.specs.Text.{parsed, hyphenated_text, lower}
 use Rattle.proxy_run.specs.declared.words.Command.{Command}
-use Rattle.proxy_run.specs.declared.words.Command.TheVariants.{Check, Pipe}
+use Rattle.proxy_run.specs.declared.words.Command.TheVariants.{Check, Import, Pipe}
 
 -- the texts of words
 abbrev pub texts : List (Bor (List ℕ)) → List (List ℕ)
@@ -19,6 +19,11 @@ abbrev pub is_pipe : List (List ℕ) → Bool
 is_pipe [] = false
 is_pipe (word ∷ words) = bytes_eq word (codes "pipe")
 
+-- the first word is `import`
+abbrev pub is_import : List (List ℕ) → Bool
+is_import [] = false
+is_import (word ∷ words) = bytes_eq word (codes "import")
+
 -- what one word asks for
 abbrev pub command_of_one : List ℕ → Option Command
 command_of_one name = if bytes_eq name (codes "check") then Some Check else None
@@ -26,9 +31,10 @@ command_of_one name = if bytes_eq name (codes "check") then Some Check else None
 -- what two words ask for
 abbrev pub command_of_two : List ℕ → List ℕ → Option Command
 command_of_two name namespace =
-    if bytes_eq name (codes "pipe") then option_map (λ u. Pipe u) (namespace_of namespace) else None
+    if bytes_eq name (codes "pipe") then option_map (λ u. Pipe u) (namespace_of namespace)
+    else (if bytes_eq name (codes "import") then option_map (λ u. Import u) (namespace_of namespace) else None)
 
--- what the words ask for: `check` alone, or `pipe` and a namespace
+-- what the words ask for: `check` alone, or `pipe` or `import` and a namespace
 abbrev pub command_of : List (List ℕ) → Option Command
 command_of [] = None
 command_of (name ∷ []) = command_of_one name
@@ -38,4 +44,5 @@ command_of (name ∷ namespace ∷ other ∷ words) = None
 -- the namespace in which a command opens the archive, if it names one
 abbrev pub asked_of : Command → Option (List ℕ)
 asked_of Check = None
+asked_of (Import namespace) = Some namespace
 asked_of (Pipe namespace) = Some namespace

@@ -1,5 +1,5 @@
 //! What runs promise to those who build on them.
-ghost use Rattle.proxy_run.specs.Complete.{CapturesComeBack, ChecksAreAnswered, PipesAreAnswered, PipesLeaveReady};
+ghost use Rattle.proxy_run.specs.Complete.{CapturesComeBack, ChecksAreAnswered, ImportsAreAnswered, ImportsLeaveReady, PipesAreAnswered, PipesLeaveReady};
 ghost use Rattle.proxy_run.specs.Objects.{kinds_of};
 
 use disk_model::Disk;
@@ -7,11 +7,14 @@ use outside::{Clock, Dialer, Gate, Sink};
 use warc_text::files_stand_for_one_book;
 
 /// Where no count of faults rises, over a disk that stands for a sound book in the namespace that is asked for, `check` prints how
-/// much there is, and `pipe` goes well unless its client's link fails or ends inside a message: or memory ran out. Each image that
-/// `pipe` may leave stands for such a book again, which holds all captures of the last one in order, and one more at most.
+/// much there is, `pipe` goes well unless its client's link fails or ends inside a message, and `import` unless its input isn't a whole file of
+/// records or the archive gets full: or memory ran out. Each image that they may leave is ready for the next run, and each that
+/// `pipe` may leave stands for a book that holds all captures of the last one in order, and one more at most.
 pub fn ready_archives_are_served<D: Disk, G: Gate, N: Dialer, C: Clock, O: Sink>()
     ensures checks { ChecksAreAnswered (kinds_of D.Disk G.Gate N.Dialer C.Clock O.Sink G.Link.tells N.Link.tells) }
     ensures pipes { PipesAreAnswered (kinds_of D.Disk G.Gate N.Dialer C.Clock O.Sink G.Link.tells N.Link.tells) }
+    ensures imports { ImportsAreAnswered (kinds_of D.Disk G.Gate N.Dialer C.Clock O.Sink G.Link.tells N.Link.tells) }
+    ensures goes_on { ImportsLeaveReady (kinds_of D.Disk G.Gate N.Dialer C.Clock O.Sink G.Link.tells N.Link.tells) }
     ensures again { PipesLeaveReady (kinds_of D.Disk G.Gate N.Dialer C.Clock O.Sink G.Link.tells N.Link.tells) }
     ensures back { CapturesComeBack (kinds_of D.Disk G.Gate N.Dialer C.Clock O.Sink G.Link.tells N.Link.tells) }
 {

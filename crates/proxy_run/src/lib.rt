@@ -3,6 +3,8 @@
 
 mod base;
 mod checking;
+mod importing;
+mod input;
 mod laws;
 mod opening;
 mod piping;
@@ -10,10 +12,12 @@ mod printing;
 mod running;
 mod serving;
 mod status;
+mod taking;
+mod tally;
 mod texts;
 mod words;
 
 pub use laws::ready_archives_are_served;
 pub use running::{CREW, Crew, Ran, run};
 pub use status::Status;
-pub use words::{is_pipe, site_of};
+pub use words::{is_import, is_pipe, site_of};

@@ -5,6 +5,7 @@ ghost use Rattle.proxy_run.specs.Runs.{Runs};
 ghost use Rattle.proxy_run.specs.Words.{command_of, texts};
 
 use crate::checking::check;
+use crate::importing::import;
 use crate::piping::pipe;
 use crate::printing::print_as;
 use crate::status::Status;
@@ -19,7 +20,8 @@ use std::thread::Threads;
 /// How many members a crew has.
 pub const CREW: usize = 16;
 
-const USAGE: &[u8] = b"usage: memproxy pipe NS, serve NS BASE WORKERS, check, trial COUNT NUMBER\n";
+const USAGE: &[u8] =
+    b"usage: memproxy pipe NS, serve NS BASE WORKERS, check, trial COUNT NUMBER, import NS, verify WORKERS, follow NS BASE\n";
 
 /// Dialers, each with a clock of its own. `pipe` uses the first.
 #[derive(Debug, Drop)]
@@ -36,7 +38,8 @@ pub struct Ran<D> {
 
 /// Does what the words say. `pipe NS` opens the archive on the disk, serves the gate's first connection over it with the first
 /// member's dialer and clock, and hangs it up; NS is the archive's namespace, a UUID in lower case with hyphens. What the client is
-/// given of an origin stands on the disk first. `check` opens the archive and prints how much it holds. All other words print the
+/// given of an origin stands on the disk first. `import NS` opens the archive, reads the gate's first connection to its end, and stores
+/// the captures of the WARC file that it gave. `check` opens the archive and prints how much it holds. All other words print the
 /// usage.
 ///
 /// Nothing is required of the disk. What is claimed of an archive is claimed of the book for which the disk stands, and each disk that
@@ -76,6 +79,7 @@ where
     };
     match command {
         Command::Check => check(alloc, disk, out),
+        Command::Import(_) => import(alloc, command, disk, gate, out),
         Command::Pipe(_) => {
             let member = &mut crew.members[0];
             pipe(alloc, command, disk, gate, member, out)

@@ -76,7 +76,7 @@ fn serve_link<S: Shelf, G: Gate, N: Dialer, C: Clock>(
 }
 
 /// Hangs a connection up, so that what was heard on it stands in the gate's log.
-fn hang_up<G: Gate>(gate: &mut G, link: G::Link)
+pub fn hang_up<G: Gate>(gate: &mut G, link: G::Link)
     requires { IsTrue G.Link.tells → 0 < (G.connections gate.old).out }
     ensures logs { IsTrue G.Link.tells
         → G.connections gate.new ≡ one_hung_up (G.connections gate.old) (heard_of (G.Link.traffic link) (G.Link.faults link)) }

@@ -15,6 +15,8 @@ use uuid::Uuid;
 pub enum Command {
     /// Say how much the archive holds.
     Check,
+    /// Take the captures of a WARC file into an archive of this namespace.
+    Import(Uuid),
     /// Serve one connection, with an archive of this namespace.
     Pipe(Uuid),
 }
@@ -47,11 +49,17 @@ fn command_of_two(name: &str, namespace: &str) -> Option<Command>
     ensures value { result ≡ spec.command_of_two name.now namespace.now }
     ensures uuid { IfSome result (λ command. IfSome (spec.asked_of command) IsUuid) }
 {
-    if name != "pipe" {
+    if name == "pipe" {
+        return match namespace_of(namespace) {
+            Some(namespace) => Some(Command::Pipe(namespace)),
+            None => None,
+        };
+    }
+    if name != "import" {
         return None;
     }
     match namespace_of(namespace) {
-        Some(namespace) => Some(Command::Pipe(namespace)),
+        Some(namespace) => Some(Command::Import(namespace)),
         None => None,
     }
 }
@@ -62,6 +70,7 @@ pub fn asked_of(command: Command) -> Option<Uuid>
 {
     match command {
         Command::Check => None,
+        Command::Import(namespace) => Some(namespace),
         Command::Pipe(namespace) => Some(namespace),
     }
 }
@@ -72,6 +81,16 @@ pub fn is_pipe(words: &[&str]) -> bool
 {
     match words.first() {
         Some(word) => *word == "pipe",
+        None => false,
+    }
+}
+
+/// Whether the one client is at the standard streams and the program prints on standard output: where the first word is `import`.
+pub fn is_import(words: &[&str]) -> bool
+    ensures { result ≡ spec.is_import (texts words.now) }
+{
+    match words.first() {
+        Some(word) => *word == "import",
         None => false,
     }
 }

@@ -4,7 +4,7 @@ use Rattle.std.specs.Prelude.{get_or}
 use Rattle.std.proofs.lemmas.List.{get_or-set_same}
 use Rattle.proxy_run.specs.Objects.{kinds_of, objects_of}
 use Rattle.proxy_run.proofs.PipeLaws.{first_any}
-use Rattle.proxy_run.proofs.RunLaws.{runs_check, runs_none, runs_pipe}
+use Rattle.proxy_run.proofs.RunLaws.{runs_check, runs_import, runs_none, runs_pipe}
 use Rattle.proxy_run.proofs.running.run.Goals as goal
 
 pub returns-in_default-clause-runs : goal.returns-in_default-clause-runs
@@ -18,6 +18,15 @@ returns-in-Check-clause-runs g c any =
     runs_check (kinds_of g.D.Disk g.G.Gate g.N.Dialer g.C.Clock g.O.Sink g.G.Link.Link.tells g.N.Link.Link.tells) _ c.in-Some.command
     (objects_of c.args.disk c.args.gate.now (get_or c.args.crew.now.members.items 0 any) c.args.out.now) c.check.result.disk c.check.new.out c.check.result.status
     (sym c.command_of.ensures.value ∙ c.in-Some.is) c.in-Check.is c.check.ensures
+
+pub import-requires : goal.import-requires
+import-requires g c = record { uuid = c.in-Some.ensures.uuid }
+
+pub returns-in-Import-clause-runs : goal.returns-in-Import-clause-runs
+returns-in-Import-clause-runs g c any =
+    runs_import (kinds_of g.D.Disk g.G.Gate g.N.Dialer g.C.Clock g.O.Sink g.G.Link.Link.tells g.N.Link.Link.tells) _ c.in-Some.command c.in-Import.field-0
+    (objects_of c.args.disk c.args.gate.now (get_or c.args.crew.now.members.items 0 any) c.args.out.now) c.import.result.disk c.import.new.gate c.import.new.out
+    c.import.result.status (sym c.command_of.ensures.value ∙ c.in-Some.is) c.in-Import.is c.import.ensures
 
 pub pipe-requires : goal.pipe-requires
 pipe-requires g c = record { uuid = c.in-Some.ensures.uuid }
