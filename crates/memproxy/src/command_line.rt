@@ -1,12 +1,13 @@
 //! The words of the command line.
 ghost use Rattle.std.specs.Prelude.{◌≡◌, IfOk, map, string_bytes};
 ghost use Rattle.memproxy.specs.Locks as spec;
-ghost use Rattle.proxy_run.specs.Words.{is_pipe};
+ghost use Rattle.memproxy.specs.Streams.{has_client_at_streams, prints_on_error};
 ghost use Rattle.real_outside.specs.Ends.{is_streams};
+ghost use Rattle.real_outside.specs.Sinks.{is_error};
 
 use capture::Memory;
-use proxy_run::{is_pipe, site_of};
-use real_outside::{Ends, Lock};
+use proxy_run::{is_import, is_pipe, site_of};
+use real_outside::{Ends, Lock, RealSink, StandardStreams};
 use std::alloc::Global;
 use std::env;
 use std::io::ErrorKind;
@@ -40,12 +41,31 @@ pub(crate) fn texts_of(alloc: Global, words: &[String]) -> Result<Vec<&str>, Mem
 
 /// Where the words have the program meet its clients and its origins.
 pub(crate) fn ends_of(alloc: Global, words: &[&str]) -> Result<Ends, Memory>
-    ensures { IfOk result (λ ends. is_streams ends ≡ is_pipe (map (λ word. word.now) words.now)) }
+    ensures { IfOk result (λ ends. is_streams ends ≡ has_client_at_streams (map (λ word. word.now) words.now)) }
 {
     if is_pipe(words) {
         return Ok(Ends::Streams);
     }
+    if is_import(words) {
+        return Ok(Ends::Streams);
+    }
     Ok(Ends::Network(site_of(alloc, words)?))
+}
+
+/// Where the words have the program print. Beside a client at the standard streams it was made to print on standard error; an import
+/// writes nothing to its client, and prints on standard output.
+pub(crate) fn out_of<R: StandardStreams>(rt: R, words: &[&str], made: RealSink<R>) -> RealSink<R>
+where
+    R: Drop,
+    ensures { is_error result ≡ prints_on_error (is_error made) (map (λ word. word.now) words.now) }
+{
+    if is_import(words) {
+        return RealSink::Output {
+            system: rt,
+            faults: 0,
+        };
+    }
+    made
 }
 
 /// How the words have the program hold its archive: `check` only reads it, all else may write.

@@ -6,7 +6,7 @@ mod status;
 #[cfg(test)]
 mod tests;
 
-use command_line::{ends_of, lock_of, texts_of, words_of};
+use command_line::{ends_of, lock_of, out_of, texts_of, words_of};
 use proxy_run::{CREW, Crew, Status, run};
 use real_outside::{Made, hold_standard_descriptors, make};
 use status::{ended, exit_code};
@@ -34,8 +34,9 @@ fn main(rt: HostRuntime) -> ExitCode {
         disk,
         mut gate,
         members,
-        mut out,
+        out,
     } = made;
+    let mut out = out_of(rt, texts.as_slice(), out);
     let mut crew = Crew { members };
     ended(run(
         &rt,
