@@ -35,6 +35,14 @@ impl Bytes {
         self.list.as_slice()
     }
 
+    /// The list that was these bytes. Takes no memory.
+    pub fn into_vec(self) -> Vec<u8>
+        ensures { result.items ≡ self }
+    {
+        let Bytes { list } = self;
+        list
+    }
+
     /// The same bytes in memory of their own.
     pub fn copy(&self) -> Result<Bytes, Memory>
         ensures { IfOk result (λ b. b ≡ self.now) }
