@@ -1,13 +1,22 @@
 -- A chunk's data behind the data before them, in the memory of the wire.
-use Rattle.std.proofs.Common.{◌≡◌, ℕ, ◌+◌, ◌-◌, ◌≤◌, List, ◌++◌, length, take, drop, sym, ap, subst, ◌∙◌, arith, length-drop}
+use Rattle.std.proofs.Common.{◌≡◌, ℕ, ◌+◌, ◌-◌, ◌≤◌, true, List, ◌++◌, length, take, drop, sym, ap, subst, ◌∙◌, arith, length-drop, append_assoc, append-nil, inl, inr}
 use Rattle.std.specs.List.{copy_within}
 use Rattle.std.proofs.lemmas.List.{drop-drop}
 use Rattle.std.proofs.lemmas.List.Edits.{take-paste, drop-paste}
 use Rattle.httparse.specs.Spans.{span_bytes}
 use Rattle.httparse.specs.declared.spans.Span.{Span}
+use Rattle.capture.specs.Head.{section_len}
 use Rattle.capture.specs.Payload.{IsCutJoined}
-use Rattle.message_body.specs.steps.Splits.{HoldsChunk, HoldsCut}
-use Rattle.message_body.proofs.DecodeLaws.{Decodes, cut_at_end, decodes_further}
+use Rattle.capture.specs.declared.framing.Framing.TheVariants.{Chunked}
+use Rattle.capture.proofs.PayloadLaws.{one_payload}
+use Rattle.http_head.specs.Sections.{IsSection}
+use Rattle.message_body.specs.Slices.{IsLeft}
+use Rattle.message_body.specs.steps.Decoding.{IsGathered, IsTrailerSeen}
+use Rattle.message_body.specs.steps.Splits.{HasNoBody, HasNoCut, HoldsChunk, HoldsCut, HoldsLast}
+use Rattle.message_body.specs.declared.decode.TrailerSeen.TheVariants.{Wrong}
+use Rattle.message_body.specs.declared.in_place.Gathered.TheVariants.{Last}
+use Rattle.message_body.proofs.DecodeLaws.{Decodes, cut_at_end, cut_at_last, cut_is_no_body, decodes_further, neither_at_last, whole_at_last}
+use Rattle.message_body.proofs.SliceLaws.{goes_on_behind, none_left_at_last}
 
 same_len : (at start end : ℕ) → start ≤ end → (at + end) - (at + start) ≡ end - start
 same_len at start end ordered = omega (arith, ordered)
@@ -38,9 +47,31 @@ moved_behind bytes len at span before ordered fits =
     ∙ ap (drop m) (drop-paste bytes len moved n (omega (arith, before, ordered, fits)) (enough bytes at span.start span.end ordered fits))
     ∙ drop-drop m (len + n) bytes ∙ ap (λ k. drop k bytes) (sym e)
 
+-- What a payload is behind the data before, and its rest's data.
+pub record LeftBehind (payload before rest : List ℕ) : Type 0 where
+  pub behind : List ℕ
+  pub splits : payload ≡ before ++ behind
+  pub is : IsLeft true rest behind
+
+-- Each payload of the wire begins with these data, and the rest has the others.
+abbrev pub Leaves : List ℕ → List ℕ → List ℕ → Type 0
+Leaves wire before rest = (payload : List ℕ) → IsLeft true wire payload → LeftBehind payload before rest
+
+leaves_further : (wire before rest : List ℕ) (d : Span) → Leaves wire before rest → HoldsChunk rest d
+    → Leaves wire (before ++ span_bytes rest d) (drop (d.end + 2) rest)
+leaves_further wire before rest d leaves holds = λ payload is.
+    let so_far = leaves payload is in
+    let goes = goes_on_behind rest d so_far.behind holds so_far.is in
+    record {
+      behind = goes.rest;
+      splits = so_far.splits ∙ ap (λ s. before ++ s) goes.splits ∙ sym (append_assoc before (span_bytes rest d) goes.rest);
+      is = goes.is;
+    }
+
 -- What was moved to the front, and what is left.
 pub record GoesOn (wire bytes : List ℕ) (len at : ℕ) : Type 0 where
   pub decodes : Decodes wire (take len bytes) (drop at bytes)
+  pub leaves : Leaves wire (take len bytes) (drop at bytes)
   pub before : len ≤ at
   pub within : at ≤ length bytes
 
@@ -59,6 +90,9 @@ chunk_goes_on wire bytes moved rest len at span goes rest_is holds front behind 
       decodes = subst (λ r. Decodes wire (take (len + (span.end - span.start)) moved) r) left
           (subst (λ p. Decodes wire p (drop (span.end + 2) (drop at bytes))) (sym front)
           (decodes_further wire (take len bytes) (drop at bytes) span goes.decodes there));
+      leaves = subst (λ r. Leaves wire (take (len + (span.end - span.start)) moved) r) left
+          (subst (λ p. Leaves wire p (drop (span.end + 2) (drop at bytes))) (sym front)
+          (leaves_further wire (take len bytes) (drop at bytes) span goes.leaves there));
       before = omega (arith, goes.before);
       within = omega (arith, goes.within, there.fits, length-drop at bytes, long);
     }
@@ -75,6 +109,33 @@ cut_is_gathered wire bytes moved rest len at span goes rest_is holds front =
 pub span_fits : (bytes rest : List ℕ) (at end : ℕ) → rest ≡ drop at bytes → at ≤ length bytes → end ≤ length rest → at + end ≤ length bytes
 span_fits bytes rest at end is within fits = omega (arith, within, fits, ap length is, length-drop at bytes)
 
--- what is left decodes so
-pub so_far : (wire bytes rest : List ℕ) (len at : ℕ) → GoesOn wire bytes len at → rest ≡ drop at bytes → Decodes wire (take len bytes) rest
-so_far wire bytes rest len at goes is = subst (λ r. Decodes wire (take len bytes) r) (sym is) goes.decodes
+-- the line of size 0 stands in front
+pub last_is_gathered : (wire bytes rest : List ℕ) (len at start : ℕ) → GoesOn wire bytes len at → rest ≡ drop at bytes → HoldsLast rest start
+    → IsGathered wire bytes (Last len (at + start))
+last_is_gathered wire bytes rest len at start goes rest_is holds =
+    let there : HoldsLast (drop at bytes) start = subst (λ r. HoldsLast r start) rest_is holds in
+    let behind : drop start (drop at bytes) ≡ drop (at + start) bytes = drop-drop start at bytes in (
+      record {
+        known = λ payload is.
+            let left = goes.leaves payload is in
+            sym (append-nil (take len bytes)) ∙ ap (λ s. take len bytes ++ s) (sym (none_left_at_last (drop at bytes) start left.behind there left.is)) ∙ sym left.splits;
+        whole = λ is. whole_at_last wire (take len bytes) (drop at bytes) start goes.decodes there (subst IsSection (sym behind) is);
+        open_yet = λ none. cut_at_last wire (take len bytes) (drop at bytes) start goes.decodes there (ap section_len behind ∙ none);
+        neither = λ seen.
+            let is = subst (λ s. IsTrailerSeen s Wrong) (sym behind) seen in
+            neither_at_last wire (take len bytes) (drop at bytes) start goes.decodes there is.0 is.1;
+      },
+      omega (arith, goes.within, there.fits, length-drop at bytes),
+    )
+
+-- nothing of a chunked body stands in front
+pub nothing_is_gathered : (wire bytes rest : List ℕ) (len at : ℕ) → GoesOn wire bytes len at → rest ≡ drop at bytes → HasNoBody rest → HasNoCut rest
+    → HasNoBody wire × HasNoCut wire
+nothing_is_gathered wire bytes rest len at goes rest_is no_body no_cut =
+    (goes.decodes.no_body (subst HasNoBody rest_is no_body), goes.decodes.no_cut (subst HasNoCut rest_is no_cut))
+
+-- ---- a wire that is known
+
+pub known_cut : (wire payload come : List ℕ) → IsLeft true wire payload → IsCutJoined wire come → come ≡ payload
+known_cut wire payload come (inl is) cut = absurd (cut_is_no_body wire come cut (is.0, is.1, is.2))
+known_cut wire payload come (inr is) cut = one_payload true Chunked wire come payload cut is

@@ -1,8 +1,9 @@
 //! Joins the data of a chunked body in the memory that the body has.
-ghost use Rattle.std.specs.Prelude.{◌≡◌, ◌+◌, ◌-◌, ◌≤◌, ◌++◌, IfOk, IsErrOf, length, take, drop};
+ghost use Rattle.std.specs.Prelude.{◌≡◌, ◌+◌, ◌-◌, ◌≤◌, ◌++◌, ℕ, Bool, true, List, IfOk, IsErrOf, length, take, drop};
 ghost use Rattle.httparse.specs.Spans.{span_bytes};
 ghost use Rattle.capture.specs.Body.{IsBody, IsCutWire, IsWire};
 ghost use Rattle.capture.specs.Payload.{IsCutJoined, IsJoined, IsPayload};
+ghost use Rattle.message_body.specs.Slices.{IsLeft};
 ghost use Rattle.message_body.specs.steps.Decoding.{IsDecoded, IsGathered};
 
 use crate::decode::{Decoded, TrailerSeen, trailer_of};
@@ -16,12 +17,37 @@ use std::alloc::Global;
 /// What a text was whose data were moved to its front.
 #[derive(Clone, Copy, Debug, PartialEq, Eq)]
 pub enum Gathered {
-    /// A whole chunked body with so many bytes of data.
-    Whole(usize),
+    /// So many bytes of data, up to a line of size 0, which ends at this place.
+    Last(usize, usize),
     /// A chunked body that was cut, of which so many bytes of data came.
     Cut(usize),
-    /// Neither.
-    Neither,
+    /// No chunked body, whole or cut.
+    Nothing,
+}
+
+/// The payload of a wire that is known to be one, whole or cut (RFC 9112, section 7.1), in the memory that the wire had.
+/// Takes no memory.
+pub fn payload_in_place(framing: Framing, wire: Bytes) -> Bytes
+    ensures { (cut : Bool) (payload : List ℕ) → IsPayload cut framing wire payload → result ≡ payload }
+{
+    match framing {
+        Framing::Empty => wire,
+        Framing::Length(_) => wire,
+        Framing::Chunked => data_in_place(wire.into_vec()),
+        Framing::ToEnd => wire,
+    }
+}
+
+/// The data of a chunked body that is known to be one, whole or cut.
+fn data_in_place(wire: Vec<u8>) -> Bytes
+    ensures { (payload : List ℕ) → IsLeft true wire.items payload → result ≡ payload }
+{
+    let mut bytes = wire;
+    match gather(bytes.as_mut_slice()) {
+        Gathered::Last(len, _) => front_of(bytes, len),
+        Gathered::Cut(len) => front_of(bytes, len),
+        Gathered::Nothing => Bytes::of(bytes),
+    }
 }
 
 /// The data of a chunked wire, whole or cut (RFC 9112, section 7.1), in the memory that the wire had. Malformed: it isn't a
@@ -66,15 +92,22 @@ fn cut_in_place(alloc: Global, wire: Vec<u8>) -> Result<Bytes, PayloadFault>
     }
 }
 
-/// What a text is, as `decode` says it. It has no limits.
+/// What a text is, as `decode` says it. It has no limits. Only a trailer section takes memory.
 fn decode_in_place(alloc: Global, wire: Vec<u8>) -> Result<Decoded, Memory>
     ensures { IfOk result (IsDecoded wire.items) }
 {
     let mut bytes = wire;
-    match gather(alloc, bytes.as_mut_slice())? {
-        Gathered::Whole(len) => Ok(Decoded::Whole(front_of(bytes, len))),
+    match gather(bytes.as_mut_slice()) {
+        Gathered::Last(len, end) => {
+            let (_, trailer) = bytes.as_slice().split_at(end);
+            match trailer_of(alloc, trailer)? {
+                TrailerSeen::Whole => Ok(Decoded::Whole(front_of(bytes, len))),
+                TrailerSeen::Open => Ok(Decoded::Cut(front_of(bytes, len))),
+                TrailerSeen::Wrong => Ok(Decoded::Neither),
+            }
+        }
         Gathered::Cut(len) => Ok(Decoded::Cut(front_of(bytes, len))),
-        Gathered::Neither => Ok(Decoded::Neither),
+        Gathered::Nothing => Ok(Decoded::Neither),
     }
 }
 
@@ -87,10 +120,9 @@ fn front_of(bytes: Vec<u8>, len: usize) -> Bytes
     Bytes::of(front)
 }
 
-/// Moves the data of the chunks that the text is to its front (RFC 9112, section 7.1.3). Only a trailer section takes
-/// memory.
-fn gather(alloc: Global, bytes: &mut [u8]) -> Result<Gathered, Memory>
-    ensures gathered { IfOk result (IsGathered bytes.old bytes.new) }
+/// Moves the data of the chunks that the text is to its front (RFC 9112, section 7.1.3).
+fn gather(bytes: &mut [u8]) -> Gathered
+    ensures gathered { IsGathered bytes.old bytes.new result }
     ensures len { length bytes.new ≡ length bytes.old }
 {
     let mut len = 0;
@@ -103,19 +135,12 @@ fn gather(alloc: Global, bytes: &mut [u8]) -> Result<Gathered, Memory>
                 len += span.end - span.start;
                 at += span.end + 2;
             }
-            Split::Last(start) => {
-                let (_, trailer) = rest.split_at(start);
-                match trailer_of(alloc, trailer)? {
-                    TrailerSeen::Whole => return Ok(Gathered::Whole(len)),
-                    TrailerSeen::Open => return Ok(Gathered::Cut(len)),
-                    TrailerSeen::Wrong => return Ok(Gathered::Neither),
-                }
-            }
+            Split::Last(start) => return Gathered::Last(len, at + start),
             Split::Cut(span) => {
                 move_forward(bytes, len, at, span);
-                return Ok(Gathered::Cut(len + (span.end - span.start)));
+                return Gathered::Cut(len + (span.end - span.start));
             }
-            Split::Nothing => return Ok(Gathered::Neither),
+            Split::Nothing => return Gathered::Nothing,
         }
     }
 }

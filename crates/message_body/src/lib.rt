@@ -28,7 +28,7 @@ mod trailer;
 
 pub use fed::{BodyFed, BodyProgress};
 pub use framing::{framing_of, request_framing_of};
-pub use in_place::joined_in_place;
+pub use in_place::{joined_in_place, payload_in_place};
 pub use laws::{heads_tell_framings, held_bodies_are_bodies};
 pub use lent::Payload;
 pub use members::split_member;
