@@ -1,5 +1,5 @@
 -- What is known of a request when it is to be answered.
-use Rattle.std.proofs.Common.{◌≡◌, [], Ok, subst}
+use Rattle.std.proofs.Common.{◌≡◌, Ok, subst}
 use Rattle.capture.specs.declared.site.Site.{Site}
 use Rattle.exchange.specs.Aim.{HasShortHost}
 use Rattle.exchange.specs.Storing.{IsForOrigin}

@@ -56,11 +56,10 @@ FailsBy fetch_fault.OriginTooLong answers_head closes result = Refuses OriginToo
 FailsBy fetch_fault.TooManyInterim answers_head closes result = Refuses TooManyInterim answers_head closes result
 FailsBy fetch_fault.Memory answers_head closes result = IsErr result
 
--- what is written behind the text that is ready, by where it is kept
+-- what is written behind the text that is ready, by the payload of the response
 abbrev pub body_of : Rest → List ℕ → Option (List ℕ)
-body_of rests.Nothing wire = None
-body_of rests.Wire wire = Some wire
-body_of (rests.Joined payload) wire = Some payload
+body_of rests.Nothing payload = None
+body_of rests.Payload payload = Some payload
 
 -- The answer passes the response on, with the payload of its wire. One that was cut closes the connection.
 pub record PassesOn (received : Received) (answers_head closes : Bool) (answer : Given) : Type 0 where
@@ -69,9 +68,9 @@ pub record PassesOn (received : Received) (answers_head closes : Bool) (answer :
   pub text_is : answer.text ≡ answered received payload answers_head (received.cut || closes)
   pub closes_is : answer.closes ≡ (received.cut || closes)
 
--- the answer that is ready, once the wire is free to be written
+-- the answer that is ready, by the payload of the response
 abbrev pub given_of : Ready → List ℕ → Given
-given_of ready wire = record { text = with_body ready.text (body_of ready.rest wire); closes = ready.closes }
+given_of ready payload = record { text = with_body ready.text (body_of ready.rest payload); closes = ready.closes }
 
 -- the answer to a request whose capture wasn't stored, by the reason
 abbrev pub TurnsDown : StoreFault → Bool → Bool → Result Given Memory → Type 0

@@ -1,7 +1,8 @@
 //! Answers requests to origins: the exchange is stored, durably, before its response is passed on.
-ghost use Rattle.std.specs.Prelude.{◌≡◌, ◌≤◌, [], length, IfOk, IsTrue};
+ghost use Rattle.std.specs.Prelude.{◌≡◌, ◌≤◌, ℕ, List, [], length, IfOk, IsTrue};
 ghost use Rattle.archive_shelf.specs.Told.{GoesOn};
 ghost use Rattle.capture.specs.Methods.{asks_for_head as method_asks};
+ghost use Rattle.capture.specs.Payload.{IsPayload};
 ghost use Rattle.capture.specs.declared.limits.TheConstants.{BODY_LIMIT};
 ghost use Rattle.capture.specs.declared.site.Site.{Site};
 ghost use Rattle.http_wire.specs.Messages.{IsOneResponse};
@@ -238,7 +239,8 @@ fn keep<S: Shelf>(
     closes: bool,
 ) -> Result<Answer, Memory>
     requires { Fits taken }
-    ensures { Keeps S.alone taken (given_of ready taken.wire) answers_head closes result (S.told shelf.old) (S.told shelf.new) }
+    ensures { (payload : List ℕ) → IsPayload taken.cut ready.framing taken.wire payload
+        → Keeps S.alone taken (given_of ready payload) answers_head closes result (S.told shelf.old) (S.told shelf.new) }
 {
     match shelf.store(alloc, &taken) {
         Ok(_receipt) => {

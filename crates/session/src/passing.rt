@@ -1,14 +1,15 @@
 //! The answer that passes a response on, as it is ready before the exchange is stored.
-ghost use Rattle.std.specs.Prelude.{◌≡◌, ◌++◌, ◌||◌, ℕ, Bool, List, length, IfOk, Some};
+ghost use Rattle.std.specs.Prelude.{◌≡◌, ◌++◌, ◌||◌, ℕ, Bool, List, length, IfOk, OnOk};
 ghost use Rattle.capture.specs.Payload.{IsPayload};
 ghost use Rattle.exchange.specs.Texts.{answered_head};
 ghost use Rattle.http_wire.specs.Messages.{IsOneResponse};
-ghost use Rattle.session.specs.Exchanging.{PassesOn, body_of, given_of};
+ghost use Rattle.session.specs.Exchanging.{PassesOn, given_of};
 
 use crate::answer::Answer;
 use capture::{Bytes, Framing, Memory, put_all};
 use exchange::put_client_head;
-use http_wire::{Payload, PayloadFault, Received, payload_in};
+use http_wire::Received;
+use message_body::{Slices, payload_in_place};
 use std::alloc::Global;
 
 /// A payload of so many bytes at most is copied behind its head, so that both are written at once.
@@ -24,36 +25,41 @@ pub struct Ready {
     pub text: Bytes,
     /// What is written behind that.
     pub rest: Rest,
+    /// The framing of the response's wire.
+    pub framing: Framing,
     /// Whether the connection closes behind it.
     pub closes: bool,
 }
 
 /// What is written behind the text that is ready.
-#[derive(Debug, Drop)]
+#[derive(Clone, Copy, Debug, PartialEq, Eq)]
 pub enum Rest {
     /// Nothing.
     Nothing,
-    /// The wire, which is the payload as it stands.
-    Wire,
-    /// The payload of a chunked wire.
-    Joined(Bytes),
+    /// The payload, which is made in the memory of the wire.
+    Payload,
 }
 
 impl Ready {
     /// The answer, once the exchange was stored and its wire isn't needed any more. Takes no memory.
     pub fn given(self, wire: Bytes) -> Answer
-        ensures { result ≡ given_of self wire }
+        ensures { (cut : Bool) (payload : List ℕ) → IsPayload cut self.framing wire payload → result ≡ given_of self payload }
     {
-        let Ready { text, rest, closes } = self;
+        let Ready {
+            text,
+            rest,
+            framing,
+            closes,
+        } = self;
         match rest {
             Rest::Nothing => Answer::of(text, closes),
-            Rest::Wire => Answer::with_body(text, wire, closes),
-            Rest::Joined(payload) => Answer::with_body(text, payload, closes),
+            Rest::Payload => Answer::with_body(text, payload_in_place(framing, wire), closes),
         }
     }
 }
 
-/// The answer that passes a response on, whole or cut. One that was cut closes the connection.
+/// The answer that passes a response on, whole or cut. One that was cut closes the connection. A long payload takes no memory
+/// beside its wire.
 pub fn passed_on(
     alloc: Global,
     received: &Received,
@@ -61,17 +67,29 @@ pub fn passed_on(
     closes: bool,
 ) -> Result<Ready, Memory>
     requires { IsOneResponse answers_head received.now }
-    ensures { IfOk result (λ ready. PassesOn received.now answers_head closes (given_of ready received.now.wire)) }
+    ensures framing { IfOk result (λ ready. ready.framing ≡ received.now.framing) }
+    ensures passes { (payload : List ℕ) → IsPayload received.now.cut received.now.framing received.now.wire payload
+        → IfOk result (λ ready. PassesOn received.now answers_head closes (given_of ready payload)) }
 {
+    let framing = received.framing;
     let wire = received.wire.as_slice();
-    let payload = match payload_in(alloc, received.framing, wire, received.cut) {
-        Ok(payload) => payload,
-        // What was received is a wire of its framing.
-        Err(PayloadFault::Malformed) => unreachable!(),
-        Err(PayloadFault::Memory) => return Err(Memory),
-    };
+    let len = payload_len(framing, wire);
     let closes = closes_behind(received.cut, closes);
-    ready_with(alloc, received, payload, answers_head, closes)
+    let text = head_of(alloc, received, len, answers_head, closes)?;
+    if len <= SHORT {
+        return Ok(Ready {
+            text: with_payload(text, framing, wire)?,
+            rest: Rest::Nothing,
+            framing,
+            closes,
+        });
+    }
+    Ok(Ready {
+        text: Bytes::of(text),
+        rest: Rest::Payload,
+        framing,
+        closes,
+    })
 }
 
 /// Whether the connection closes behind a response, which was cut or not.
@@ -81,46 +99,59 @@ fn closes_behind(cut: bool, closes: bool) -> bool
     cut || closes
 }
 
-/// The answer that passes a response on, which has this payload.
-fn ready_with(
+/// The head of the answer that passes a response on, whose payload is so long.
+fn head_of(
     alloc: Global,
     received: &Received,
-    payload: Payload,
+    len: usize,
     answers_head: bool,
     closes: bool,
-) -> Result<Ready, Memory>
-    requires response { IsOneResponse answers_head received.now }
-    requires payload { IsPayload received.now.cut received.now.framing received.now.wire payload }
-    ensures { IfOk result (λ ready. given_of ready received.now.wire
-        ≡ record { text = answered_head received.now (length payload.entry) answers_head closes ++ payload.entry; closes = closes }) }
+) -> Result<Vec<u8>, Memory>
+    requires { IsOneResponse answers_head received.now }
+    ensures { IfOk result (λ text. text.items ≡ answered_head received.now len answers_head closes) }
 {
-    let len = payload.as_slice().len();
     let capacity = received.head.text.as_slice().len().saturating_add(ADDED);
     let mut text = Vec::with_capacity(alloc, capacity)?;
     put_client_head(alloc, &mut text, received, len as u64, answers_head, closes)?;
-    if len <= SHORT {
-        put_all(&mut text, payload.as_slice())?;
-        return Ok(Ready {
-            text: Bytes::of(text),
-            rest: Rest::Nothing,
-            closes,
-        });
-    }
-    Ok(Ready {
-        text: Bytes::of(text),
-        rest: rest_of(alloc, received.framing, payload)?,
-        closes,
-    })
+    Ok(text)
 }
 
-/// What is written behind the head of a response with this payload.
-fn rest_of(alloc: Global, framing: Framing, payload: Payload) -> Result<Rest, Memory>
-    ensures { (cut : Bool) (wire : List ℕ) → IsPayload cut framing wire payload.entry → IfOk result (λ rest. body_of rest wire ≡ Some payload.entry) }
+/// How long the payload of a wire is, whole or cut.
+fn payload_len(framing: Framing, wire: &[u8]) -> usize
+    ensures { (cut : Bool) (payload : List ℕ) → IsPayload cut framing wire.now payload → result ≡ length payload }
 {
-    match framing {
-        Framing::Empty => Ok(Rest::Wire),
-        Framing::Length(_) => Ok(Rest::Wire),
-        Framing::Chunked => Ok(Rest::Joined(payload.into_bytes(alloc)?)),
-        Framing::ToEnd => Ok(Rest::Wire),
+    let mut slices = Slices::of(framing, wire);
+    // The check knows by this call how far the sum goes.
+    let most = slices.rest.len();
+    let mut len = 0;
+    'counting: loop {
+        let slice = slices.next();
+        if slice.is_empty() {
+            return len;
+        }
+        len += slice.len();
+    }
+}
+
+/// The text, and behind it the payload of a wire, whole or cut.
+fn with_payload(text: Vec<u8>, framing: Framing, wire: &[u8]) -> Result<Bytes, Memory>
+    ensures { (cut : Bool) (payload : List ℕ) → IsPayload cut framing wire.now payload → IfOk result (λ bytes. bytes ≡ text.items ++ payload) }
+{
+    let mut text = text;
+    put_payload(&mut text, framing, wire)?;
+    Ok(Bytes::of(text))
+}
+
+/// Puts the payload of a wire, whole or cut, at the end.
+fn put_payload(out: &mut Vec<u8>, framing: Framing, wire: &[u8]) -> Result<(), Memory>
+    ensures { (cut : Bool) (payload : List ℕ) → IsPayload cut framing wire.now payload → OnOk result (out.new.items ≡ out.old.items ++ payload) }
+{
+    let mut slices = Slices::of(framing, wire);
+    'putting: loop {
+        let slice = slices.next();
+        if slice.is_empty() {
+            return Ok(());
+        }
+        put_all(out, slice)?;
     }
 }
