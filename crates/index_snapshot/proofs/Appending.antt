@@ -1,21 +1,26 @@
--- A place is added behind all that was appended.
-use Rattle.std.proofs.Common.{◌≡◌, List, [], ◌∷◌, ◌++◌, length, fold, refl, sym, ap, subst, ◌∙◌}
-use Rattle.std.specs.Prelude.{IfSome}
+-- An item is added behind all that was appended.
+use Rattle.std.proofs.Common.{◌≡◌, List, [], ◌∷◌, ◌++◌, fold, refl, sym, ap, subst, ◌∙◌}
+use Rattle.std.specs.Prelude.{option_to_list}
 use Rattle.std.proofs.lemmas.List.{append-nil}
-use Rattle.index_snapshot.specs.Edges.{Edge, with_place}
-use Rattle.index_snapshot.specs.Places.{HasPlaces}
+use Rattle.cdxj_index.specs.Facts.{Facts}
+use Rattle.index_snapshot.specs.Edges.{Edge, with_item}
+use Rattle.index_snapshot.specs.Entries.{IsNew, absorbed, entries_in}
+use Rattle.index_snapshot.specs.Listings.{IsOf}
 use Rattle.index_snapshot.specs.Publishing.{IsAt, State, applied}
 use Rattle.index_snapshot.specs.declared.listing.Addition.{Addition}
-use Rattle.index_snapshot.proofs.Placing.{absorbed_has}
+use Rattle.index_snapshot.proofs.Bringing.{absorbed_has}
 
-fold_behind : (s : State) (ops : List Addition) (op : Addition) → fold applied s (ops ++ op ∷ []) ≡ applied (fold applied s ops) op
+fold_behind : {E : Type 0} (s : State E) (ops : List (Addition E)) (op : Addition E) → fold applied s (ops ++ op ∷ []) ≡ applied (fold applied s ops) op
 fold_behind s [] op = refl
 fold_behind s (o ∷ ops) op = fold_behind (applied s o) ops op
 
 -- what the copies lack gives the longer list, where it gave the list before
-pub appended : (s : State) (old new : List Addition) (full longer : Edge) (op : Addition) → IsAt (fold applied s (old ++ [])) full → new ≡ old ++ op ∷ [] → longer ≡ with_place full op.place → op.note ≡ longer
-    → IfSome op.place (λ e. e.number ≡ length full.places) → IsAt (fold applied s new) longer
-appended s old new full longer op was more grown note next =
-    let before : IsAt (fold applied s old) full = subst (λ ops. IsAt (fold applied s ops) full) (append-nil old) was in
-    let has : HasPlaces (applied (fold applied s old) op).0 longer.places = subst (λ (e : Edge). HasPlaces (applied (fold applied s old) op).0 e.places) (sym grown) (absorbed_has (fold applied s old).0 full.places op.place before.0 next) in
-    subst (λ t. IsAt t longer) (sym (ap (fold applied s) more ∙ fold_behind s old op)) (has, note)
+pub appended : {E : Type 0} (brings : E → List Facts) (Fits : List E → Type 0) (s : State E) (old new : List (Addition E)) (full longer : Edge E) (op : Addition E) (item : E)
+    → IsAt brings Fits (fold applied s (old ++ [])) full → new ≡ old ++ op ∷ [] → longer ≡ with_item full item → op.note ≡ longer
+    → brings item ≡ option_to_list op.place → IsNew (entries_in brings full.items) op.place → Fits (full.items ++ item ∷ [])
+    → IsAt brings Fits (fold applied s new) longer
+appended brings Fits s old new full longer op item was more grown note brought next fits =
+    let before : IsAt brings Fits (fold applied s old) full = subst (λ ops. IsAt brings Fits (fold applied s ops) full) (append-nil old) was in
+    let has : IsOf brings Fits (absorbed (fold applied s old).0 op.place) (full.items ++ item ∷ []) = record { has = absorbed_has brings (fold applied s old).0 full.items item op.place before.0.has brought next; fits = fits } in
+    let all : IsOf brings Fits (absorbed (fold applied s old).0 op.place) longer.items = subst (λ (e : Edge _). IsOf brings Fits (absorbed (fold applied s old).0 op.place) e.items) (sym grown) has in
+    subst (λ t. IsAt brings Fits t longer) (sym (ap (fold applied s) more ∙ fold_behind s old op)) (all, note)

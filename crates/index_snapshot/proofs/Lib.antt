@@ -2,5 +2,5 @@ pub mod Beginnings
 pub mod Adding
 pub mod Appending
 pub mod Outcomes
-pub mod Placing
+pub mod Bringing
 pub mod Rules

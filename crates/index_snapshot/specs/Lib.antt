@@ -1,4 +1,4 @@
-pub mod Places
+pub mod Entries
 pub mod Edges
 pub mod Listings
 pub mod Publishing

@@ -3,7 +3,7 @@ use Rattle.index_snapshot.proofs.Adding.{adds_moves}
 use Rattle.index_snapshot.proofs.note.Note.after.Goals as goal
 
 pub compare_exchange-found-requires : goal.compare_exchange-found-requires
-compare_exchange-found-requires c =
+compare_exchange-found-requires g c =
     let h = c.requires in
     let offer = c.plain-offer.ensures in
     let pen = c.no_pen-pen.ensures in
@@ -13,5 +13,5 @@ compare_exchange-found-requires c =
       ap (λ s. s.book) again ∙ (of ∙ sym (ap (λ w. w.book) h)),
       pen.0 ∙ (ap (λ s. s.book) again ∙ (of ∙ sym (ap (λ w. w.book) h))),
       offer.0,
-      rw (ap (λ w. w.key) h, pen.1, offer.1, offer.3) (adds_moves c.again-seen.result.log c.args.place.now c.self.inside.len (ap (λ s. length s.log) again ∙ sym c.self.invariant)),
+      rw (ap (λ w. w.key) h, pen.1, offer.1, offer.3) (adds_moves c.again-seen.result.log c.args.item.now c.self.inside.len (ap (λ s. length s.log) again ∙ sym c.self.invariant)),
     )
