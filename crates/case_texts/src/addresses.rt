@@ -32,12 +32,21 @@ fn form_text(alloc: Global, form: &Form) -> Result<Vec<u8>, Memory> {
         }
         Form::Gate { url } => put_url(told(alloc, b"gate")?, url),
         Form::Map { url } => put_url(told(alloc, b"map")?, url),
-        Form::Number(number_of) => {
-            let mut out = told(alloc, b"number ")?;
-            put_all(&mut out, number(alloc, u64::from(*number_of))?.as_slice())?;
+        Form::Query { text } => {
+            let mut out = told(alloc, b"query ")?;
+            put_all(&mut out, text.as_slice())?;
             Ok(out)
         }
+        Form::Number(number_of) => numbered(alloc, b"number ", *number_of),
+        Form::Ship(number_of) => numbered(alloc, b"ship ", *number_of),
     }
+}
+
+/// The word, and a number behind it.
+fn numbered(alloc: Global, word: &[u8], number_of: u32) -> Result<Vec<u8>, Memory> {
+    let mut out = told(alloc, word)?;
+    put_all(&mut out, number(alloc, u64::from(number_of))?.as_slice())?;
+    Ok(out)
 }
 
 /// Puts what is said of a memento before its url.
@@ -85,7 +94,7 @@ fn address_of(alloc: Global, form: &Form) -> Result<Vec<u8>, Memory>
     told(alloc, address.as_slice())
 }
 
-/// Whether the form's time has a text in so many digits, which holds of each form that is read.
+/// Whether the form's time has a text in so many digits, which holds of each form that is read, and its query is of ASCII.
 fn can_be_put(form: &Form) -> bool
     ensures { IsTrue result → CanBePut form.now }
 {
@@ -93,6 +102,8 @@ fn can_be_put(form: &Form) -> bool
         Form::Memento { time, digits, .. } => *time <= LATEST && ends_with_a_unit(*digits),
         Form::Gate { .. } => true,
         Form::Map { .. } => true,
+        Form::Query { text } => text.as_slice().is_ascii(),
         Form::Number(_) => true,
+        Form::Ship(_) => true,
     }
 }

@@ -9,7 +9,7 @@ use Rattle.std.specs.Cmp.Lexicographic.{pointwise}
 use Rattle.std.specs.List.{All, list_all}
 use Rattle.std.specs.Str.{IsAscii}
 use Rattle.time_text.specs.Bytes.{IsDigit}
-use Rattle.replay_url.specs.Forms.{gate_address, map_address, memento_address, number_address, raw_text}
+use Rattle.replay_url.specs.Forms.{gate_address, map_address, memento_address, number_address, piece_address, query_address, raw_text}
 
 both : (a b : Bool) → (a && b) ≡ true → (a ≡ true) × (b ≡ true)
 both true b e = (refl, e)
@@ -64,4 +64,16 @@ pub number_is_ascii : (base : List ℕ) (number : ℕ) → number < 2 ^ 64 → I
 unfolding number_address
 number_is_ascii base number h b =
     let front = codes "/web/rec/" in
+    IsAscii-append (base ++ front) (decimal number) (IsAscii-append base front b (ascii_of_all front refl)) (IsAscii-decimal number h)
+
+pub query_is_ascii : (base text : List ℕ) → IsAscii base → IsAscii text → IsAscii (query_address base text)
+unfolding query_address
+query_is_ascii base text b u =
+    let front = codes "/web/cdx?" in
+    IsAscii-append (base ++ front) text (IsAscii-append base front b (ascii_of_all front refl)) u
+
+pub piece_is_ascii : (base : List ℕ) (number : ℕ) → number < 2 ^ 64 → IsAscii base → IsAscii (piece_address base number)
+unfolding piece_address
+piece_is_ascii base number h b =
+    let front = codes "/web/ship/" in
     IsAscii-append (base ++ front) (decimal number) (IsAscii-append base front b (ascii_of_all front refl)) (IsAscii-decimal number h)

@@ -9,8 +9,8 @@ use Rattle.replay_url.specs.Address.{Parts}
 use Rattle.replay_url.specs.Forms.{CanBePut, FormAt, IsForm, IsUrl, address_text, memento_digits}
 use Rattle.replay_url.specs.ReadBack.{IsTold, StandsAlone}
 use Rattle.replay_url.specs.declared.form.Form.{Form}
-use Rattle.replay_url.specs.declared.form.Form.TheVariants.{Memento, Gate, Map, Number}
-use Rattle.replay_url.proofs.ReadBackLemmas.{are_digits, digits_counted, digits_some, gate_parts, map_parts, memento_parts, number_parts}
+use Rattle.replay_url.specs.declared.form.Form.TheVariants.{Memento, Gate, Map, Query, Number, Ship}
+use Rattle.replay_url.proofs.ReadBackLemmas.{are_digits, digits_counted, digits_some, gate_parts, map_parts, memento_parts, number_parts, piece_parts, query_parts}
 
 its_url : (url : List ℕ) → StandsAlone url → IsUrl url url
 its_url url alone = record { value = sym (cond-true (has_scheme url) url (codes "http://" ++ url) alone.schemed); keyed = alone.keyed }
@@ -26,5 +26,9 @@ read_back digits (Gate url) can told =
     subst (λ (p : Parts). FormAt p (Gate url)) (sym (gate_parts url told.schemed)) (its_url url told)
 read_back digits (Map url) can told =
     subst (λ (p : Parts). FormAt p (Map url)) (sym (map_parts url)) (its_url url told)
+read_back digits (Query text) can told =
+    subst (λ (p : Parts). FormAt p (Query text)) (sym (query_parts text)) refl
 read_back digits (Number number) can told =
     subst (λ (p : Parts). FormAt p (Number number)) (sym (number_parts number)) (record { fits = told; digits = refl })
+read_back digits (Ship number) can told =
+    subst (λ (p : Parts). FormAt p (Ship number)) (sym (piece_parts number)) (record { fits = told; digits = refl })

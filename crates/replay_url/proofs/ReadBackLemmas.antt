@@ -11,9 +11,9 @@ use Rattle.std.specs.Str.{bytes_eq, str_eq_ignore_ascii_case, str_to_ascii_lower
 use Rattle.time_text.specs.Bytes.{IsDigit}
 use Rattle.time_text.specs.Reading.{lengths}
 use Rattle.time_text.specs.Texts.{all_digits}
-use Rattle.replay_url.specs.Address.{Numbered, Mapped, Timed, Open, behind_digits, behind_web, digits_first, parts_at}
+use Rattle.replay_url.specs.Address.{Numbered, Shipped, Mapped, Queried, Timed, Open, behind_digits, behind_web, digits_first, parts_at}
 use Rattle.surt_key.specs.Addresses.{has_scheme}
-use Rattle.replay_url.specs.Forms.{gate_address, map_address, memento_address, memento_digits, number_address, raw_text}
+use Rattle.replay_url.specs.Forms.{gate_address, map_address, memento_address, memento_digits, number_address, piece_address, query_address, raw_text}
 
 -- a byte that is `h` in lower case
 abbrev pub IsH : ℕ → Type 0
@@ -35,6 +35,12 @@ no_r c h = ne_eqb 114 c (λ e. false≢true (ap (λ b. eqb (to_ascii_lowercase b
 no_t : (c : ℕ) → IsH c → eqb 116 c ≡ false
 no_t c h = ne_eqb 116 c (λ e. false≢true (ap (λ b. eqb (to_ascii_lowercase b) 104) e ∙ h))
 
+no_s : (c : ℕ) → IsH c → eqb 115 c ≡ false
+no_s c h = ne_eqb 115 c (λ e. false≢true (ap (λ b. eqb (to_ascii_lowercase b) 104) e ∙ h))
+
+no_c : (c : ℕ) → IsH c → eqb 99 c ≡ false
+no_c c h = ne_eqb 99 c (λ e. false≢true (ap (λ b. eqb (to_ascii_lowercase b) 104) e ∙ h))
+
 no_low : (c : ℕ) → IsH c → c < 65 → ⊥
 no_low c h low =
     let lowered : to_ascii_lowercase c ≡ c = cond-true (ltb c 65) c _ (lt-ltb c 65 low) in
@@ -48,14 +54,15 @@ no_digit c h =
       | false ↦ λ e. refl
     ] refl
 
-open_at : (c : ℕ) (text : List ℕ) → eqb 114 c ≡ false → eqb 116 c ≡ false → is_ascii_digit c ≡ false → behind_web (c ∷ text) ≡ Open (c ∷ text)
-open_at c text r t digit = rw (r, t, digit) refl
+open_at : (c : ℕ) (text : List ℕ) → eqb 114 c ≡ false → eqb 115 c ≡ false → eqb 116 c ≡ false → eqb 99 c ≡ false → is_ascii_digit c ≡ false
+    → behind_web (c ∷ text) ≡ Open (c ∷ text)
+open_at c text r s t q digit = rw (r, s, t, q, digit) refl
 
 url_is_open : (url : List ℕ) → has_scheme url ≡ true → behind_web url ≡ Open url
 url_is_open [] h = absurd (false≢true h)
 url_is_open (c ∷ url) h =
     let begins = scheme_begins c url h in
-    open_at c url (no_r c begins) (no_t c begins) (no_digit c begins)
+    open_at c url (no_r c begins) (no_s c begins) (no_t c begins) (no_c c begins) (no_digit c begins)
 
 pub gate_parts : (url : List ℕ) → has_scheme url ≡ true → parts_at (gate_address [] url) ≡ Open url
 unfolding parts_at gate_address
@@ -68,6 +75,14 @@ map_parts url = refl
 pub number_parts : (number : ℕ) → parts_at (number_address [] number) ≡ Numbered (decimal number)
 unfolding parts_at number_address
 number_parts number = refl
+
+pub query_parts : (text : List ℕ) → parts_at (query_address [] text) ≡ Queried text
+unfolding parts_at query_address
+query_parts text = refl
+
+pub piece_parts : (number : ℕ) → parts_at (piece_address [] number) ≡ Shipped (decimal number)
+unfolding parts_at piece_address
+piece_parts number = refl
 
 -- each byte is a digit
 abbrev pub AreDigits : List ℕ → Type 0
@@ -94,6 +109,12 @@ digit_no_r b h = ne_eqb 114 b (λ e. false≢true (ap is_ascii_digit e ∙ h))
 digit_no_t : (b : ℕ) → is_ascii_digit b ≡ true → eqb 116 b ≡ false
 digit_no_t b h = ne_eqb 116 b (λ e. false≢true (ap is_ascii_digit e ∙ h))
 
+digit_no_s : (b : ℕ) → is_ascii_digit b ≡ true → eqb 115 b ≡ false
+digit_no_s b h = ne_eqb 115 b (λ e. false≢true (ap is_ascii_digit e ∙ h))
+
+digit_no_c : (b : ℕ) → is_ascii_digit b ≡ true → eqb 99 b ≡ false
+digit_no_c b h = ne_eqb 99 b (λ e. false≢true (ap is_ascii_digit e ∙ h))
+
 -- what stands behind the digits of a memento
 abbrev pub behind_time : Bool → List ℕ → List ℕ
 behind_time raw url = raw_text raw ++ (codes "/" ++ url)
@@ -107,7 +128,7 @@ timed_parts digits url whole true = refl
 timed_parts digits url whole false = refl
 
 digits_come_first : (b : ℕ) (text : List ℕ) → is_ascii_digit b ≡ true → behind_web (b ∷ text) ≡ digits_first (prefix_len is_ascii_digit (b ∷ text)) (b ∷ text)
-digits_come_first b text digit = rw (digit_no_r b digit, digit_no_t b digit) refl
+digits_come_first b text digit = rw (digit_no_r b digit, digit_no_s b digit, digit_no_t b digit, digit_no_c b digit) refl
 
 pub memento_parts : (digits url : List ℕ) (raw : Bool) → AreDigits digits → 1 ≤ length digits → parts_at (memento_address [] digits raw url) ≡ Timed digits raw url
 unfolding parts_at memento_address

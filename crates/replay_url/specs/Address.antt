@@ -3,13 +3,16 @@ use Rattle.std.specs.Prelude.{ℕ, zero, suc, Bool, true, false, ◌&&◌, ◌==
 use Rattle.std.specs.Char.{is_ascii_digit, is_ascii_lowercase}
 use Rattle.std.specs.List.{prefix_len, starts_with}
 use Rattle.replay_url.specs.declared.address.Address.{Address}
-use Rattle.replay_url.specs.declared.address.Address.TheVariants.{ANumber, AMap, AMemento, AModified, AGate, AnotherPath}
+use Rattle.replay_url.specs.declared.address.Address.TheVariants.{ANumber, AShip, AMap, AQuery, AMemento, AModified, AGate, AnotherPath}
 
--- an address by its parts: what stands behind `rec/`; the URL behind `timemap/link/`; digits, whether `id_` follows
--- them, and the URL behind them; digits with another modifier; any other URL; or an address outside `/web/`
+-- an address by its parts: what stands behind `rec/`, or behind `ship/`; the URL behind `timemap/link/`; what stands behind
+-- `cdx?`; digits, whether `id_` follows them, and the URL behind them; digits with another modifier; any other URL; or an address
+-- outside `/web/`
 pub data Parts : Type 0 where
   Numbered : List ℕ → Parts
+  Shipped : List ℕ → Parts
   Mapped : List ℕ → Parts
+  Queried : List ℕ → Parts
   Timed : List ℕ → Bool → List ℕ → Parts
   Modified : Parts
   Open : List ℕ → Parts
@@ -18,7 +21,9 @@ pub data Parts : Type 0 where
 -- the parts that an address shows
 abbrev pub parts_of : Address → Parts
 parts_of (ANumber text) = Numbered text.now
+parts_of (AShip text) = Shipped text.now
 parts_of (AMap url) = Mapped url.now
+parts_of (AQuery text) = Queried text.now
 parts_of (AMemento digits raw url) = Timed digits.now raw url.now
 parts_of AModified = Modified
 parts_of (AGate url) = Open url.now
@@ -58,8 +63,10 @@ digits_first (suc n) text = behind_digits (take (suc n) text) (drop (suc n) text
 abbrev pub behind_web : List ℕ → Parts
 behind_web text =
     if begins_with (codes "rec/") text then Numbered (drop 4 text)
+    else (if begins_with (codes "ship/") text then Shipped (drop 5 text)
     else (if begins_with (codes "timemap/link/") text then Mapped (drop 13 text)
-    else digits_first (prefix_len is_ascii_digit text) text)
+    else (if begins_with (codes "cdx?") text then Queried (drop 4 text)
+    else digits_first (prefix_len is_ascii_digit text) text)))
 
 unfoldable pub parts_at : List ℕ → Parts
 parts_at target = if begins_with (codes "/web/") target then behind_web (drop 5 target) else Outside

@@ -1,5 +1,5 @@
 -- The forms of the archive's addresses.
-use Rattle.std.specs.Prelude.{◌≡◌, ℕ, ◌^◌, ◌<◌, Bool, List, [], ◌++◌, length, take, codes, decimal, None, IsSome, Contains, ⊤, if◌then◌else◌}
+use Rattle.std.specs.Prelude.{◌≡◌, ℕ, ◌^◌, ◌<◌, Bool, List, [], ◌++◌, length, take, codes, decimal, None, IsSome, IsAscii, Contains, ⊤, if◌then◌else◌}
 use Rattle.time_text.specs.Texts.{InRange, all_digits}
 use Rattle.time_text.specs.Reading.{IsEarliest, Names, lengths}
 use Rattle.surt_key.specs.Addresses.{url_of}
@@ -7,8 +7,8 @@ use Rattle.surt_key.specs.Key.{key_of}
 use Rattle.replay_url.specs.declared.fault.FormFault.{FormFault}
 use Rattle.replay_url.specs.declared.fault.FormFault.TheVariants.{NotAForm, BadTime, Memory}
 use Rattle.replay_url.specs.declared.form.Form.{Form}
-use Rattle.replay_url.specs.declared.form.Form.TheVariants.{Memento, Gate, Map, Number}
-use Rattle.replay_url.specs.Address.{Parts, Numbered, Mapped, Timed, Modified, Open, Outside, parts_at}
+use Rattle.replay_url.specs.declared.form.Form.TheVariants.{Memento, Gate, Map, Query, Number, Ship}
+use Rattle.replay_url.specs.Address.{Parts, Numbered, Shipped, Mapped, Queried, Timed, Modified, Open, Outside, parts_at}
 
 -- the URL of an address, which has a key
 pub record IsUrl (text url : List ℕ) : Type 0 where
@@ -34,11 +34,15 @@ pub record IsNumber (text : List ℕ) (number : ℕ) : Type 0 where
 -- the form of an address
 abbrev pub FormAt : Parts → Form → Type 0
 FormAt (Numbered text) (Number number) = IsNumber text number
+FormAt (Shipped text) (Ship number) = IsNumber text number
 FormAt (Mapped text) (Map url) = IsUrl text url
+FormAt (Queried text) (Query asked) = asked ≡ text
 FormAt (Timed digits is_raw text) (Memento time count raw url) = IsMemento digits is_raw text time count raw url
 FormAt (Open text) (Gate url) = IsUrl text url
 FormAt (Numbered text) _ = ⊥
+FormAt (Shipped text) _ = ⊥
 FormAt (Mapped text) _ = ⊥
+FormAt (Queried text) _ = ⊥
 FormAt (Timed digits is_raw text) _ = ⊥
 FormAt Modified form = ⊥
 FormAt (Open text) _ = ⊥
@@ -47,10 +51,12 @@ FormAt Outside form = ⊥
 abbrev pub IsForm : List ℕ → Form → Type 0
 IsForm target form = FormAt (parts_at target) form
 
--- an address that has no form; one with digits that name no time is another fault
+-- an address that has no form; one with digits that name no time is another fault, and what a query says isn't looked at
 abbrev pub NoFormAt : Parts → Type 0
 NoFormAt (Numbered text) = (number : ℕ) → IsNumber text number → ⊥
+NoFormAt (Shipped text) = (number : ℕ) → IsNumber text number → ⊥
 NoFormAt (Mapped text) = IsNoUrl text
+NoFormAt (Queried text) = ⊥
 NoFormAt (Timed digits raw text) = (time : ℕ) × IsEarliest digits time × IsNoUrl text
 NoFormAt Modified = ⊤
 NoFormAt (Open text) = IsNoUrl text
@@ -76,12 +82,14 @@ IsUrlFault text NotAForm = IsNoUrl text
 IsUrlFault text BadTime = ⊥
 IsUrlFault text Memory = ⊤
 
--- a memento's time has a text in so many digits
+-- a memento's time has a text in so many digits, and a query is of ASCII
 abbrev pub CanBePut : Form → Type 0
 CanBePut (Memento time digits raw url) = InRange time × Contains lengths digits
 CanBePut (Gate url) = ⊤
 CanBePut (Map url) = ⊤
+CanBePut (Query text) = IsAscii text
 CanBePut (Number number) = ⊤
+CanBePut (Ship number) = ⊤
 
 -- a memento's time in so many digits, smaller units dropped
 abbrev pub memento_digits : ℕ → ℕ → List ℕ
@@ -102,13 +110,23 @@ gate_address base url = base ++ codes "/web/" ++ url
 unfoldable pub map_address : List ℕ → List ℕ → List ℕ
 map_address base url = base ++ codes "/web/timemap/link/" ++ url
 
+-- the address of a query
+unfoldable pub query_address : List ℕ → List ℕ → List ℕ
+query_address base text = base ++ codes "/web/cdx?" ++ text
+
 -- the address of a capture by its number
 unfoldable pub number_address : List ℕ → ℕ → List ℕ
 number_address base number = base ++ codes "/web/rec/" ++ decimal number
+
+-- the address of a capture's piece
+unfoldable pub piece_address : List ℕ → ℕ → List ℕ
+piece_address base number = base ++ codes "/web/ship/" ++ decimal number
 
 -- the whole address of a form, behind the site's base
 abbrev pub address_text : List ℕ → Form → List ℕ
 address_text base (Memento time digits raw url) = memento_address base (memento_digits time digits) raw url
 address_text base (Gate url) = gate_address base url
 address_text base (Map url) = map_address base url
+address_text base (Query text) = query_address base text
 address_text base (Number number) = number_address base number
+address_text base (Ship number) = piece_address base number

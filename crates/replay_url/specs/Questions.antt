@@ -1,7 +1,7 @@
 -- What a form asks for.
 use Rattle.std.specs.Prelude.{ℕ, Bool, true, false, ◌&&◌, ◌||◌, ◌==◌, List, Option, Some, None, is_none}
 use Rattle.replay_url.specs.declared.form.Form.{Form}
-use Rattle.replay_url.specs.declared.form.Form.TheVariants.{Memento, Gate, Map, Number}
+use Rattle.replay_url.specs.declared.form.Form.TheVariants.{Memento, Gate, Map, Query, Number, Ship}
 
 -- a time that an address names, and how many digits name it
 pub record NamedTime : Type 0 where
@@ -15,11 +15,14 @@ pub record Nearest : Type 0 where
   pub named : Option NamedTime
   pub raw : Bool
 
--- the capture nearest to a time; all captures of a URL; or the capture of a number
+-- the capture nearest to a time; all captures of a URL; those that meet a query; the capture of a number; or its piece, as another
+-- archive takes it
 pub data Question : Type 0 where
   ForNearest : (sought : Nearest) → Question
   ForAll : (url : List ℕ) → Question
+  ForQuery : (text : List ℕ) → Question
   ForNumber : (number : ℕ) → Question
+  ForPiece : (number : ℕ) → Question
 
 -- by a memento's address
 abbrev pub by_memento : ℕ → ℕ → Bool → List ℕ → Nearest
@@ -34,13 +37,17 @@ abbrev pub question_of : Form → Question
 question_of (Memento time digits raw url) = ForNearest (by_memento time digits raw url)
 question_of (Gate url) = ForNearest (by_gate url)
 question_of (Map url) = ForAll url
+question_of (Query text) = ForQuery text
 question_of (Number number) = ForNumber number
+question_of (Ship number) = ForPiece number
 
 -- the URL whose captures are asked for
 abbrev pub asked_url : Question → Option (List ℕ)
 asked_url (ForNearest sought) = Some sought.url
 asked_url (ForAll url) = Some url
+asked_url (ForQuery text) = None
 asked_url (ForNumber number) = None
+asked_url (ForPiece number) = None
 
 -- the capture is asked for by a gate
 abbrev pub is_by_gate : Nearest → Bool
@@ -51,6 +58,8 @@ abbrev pub is_as_received : Question → Bool
 is_as_received (ForNearest sought) = sought.raw
 is_as_received (ForNumber number) = true
 is_as_received (ForAll url) = false
+is_as_received (ForQuery text) = false
+is_as_received (ForPiece number) = false
 
 -- the address names just this date, by all its digits
 abbrev pub names_date : Option NamedTime → ℕ → Bool

@@ -9,8 +9,12 @@ ghost use Rattle.replay_url.specs.Address.{parts_of, parts_at};
 pub enum Address<'a> {
     /// What stands behind `rec/`.
     ANumber(&'a [u8]),
+    /// What stands behind `ship/`.
+    AShip(&'a [u8]),
     /// The URL behind `timemap/link/`.
     AMap(&'a [u8]),
+    /// What stands behind `cdx?`.
+    AQuery(&'a [u8]),
     /// Digits, whether `id_` follows them, and the URL behind the slash.
     AMemento {
         digits: &'a [u8],
@@ -42,8 +46,14 @@ fn behind_web(text: &[u8]) -> Address<'_>
     if let Some(number) = behind(text, b"rec/") {
         return Address::ANumber(number);
     }
+    if let Some(number) = behind(text, b"ship/") {
+        return Address::AShip(number);
+    }
     if let Some(url) = behind(text, b"timemap/link/") {
         return Address::AMap(url);
+    }
+    if let Some(query) = behind(text, b"cdx?") {
+        return Address::AQuery(query);
     }
     digits_first(text)
 }

@@ -2,7 +2,7 @@
 ghost use Rattle.std.specs.Prelude.{◌≡◌};
 ghost use Rattle.replay_url.specs.Keyed.{form_of};
 
-use capture::Text;
+use capture::{Bytes, Text};
 use surt_key::KeyedUrl;
 
 /// What an address asks for.
@@ -29,8 +29,15 @@ pub enum Form {
         /// The URL, with its scheme.
         url: Text,
     },
+    /// The entries of the index that meet a query.
+    Query {
+        /// What stands behind `cdx?`.
+        text: Bytes,
+    },
     /// The capture of this number.
     Number(u32),
+    /// The piece of the capture of this number, as another archive takes it.
+    Ship(u32),
 }
 
 /// A form with the look-up key of its URL, so that who answers it needn't make the key again.
@@ -57,8 +64,15 @@ pub enum KeyedForm {
         /// The URL, with its scheme and its key.
         of: KeyedUrl,
     },
+    /// As `Form::Query`.
+    Query {
+        /// What stands behind `cdx?`.
+        text: Bytes,
+    },
     /// As `Form::Number`.
     Number(u32),
+    /// As `Form::Ship`.
+    Ship(u32),
 }
 
 impl KeyedForm {
@@ -84,7 +98,9 @@ impl KeyedForm {
             KeyedForm::Map { of } => Form::Map {
                 url: without_key(of),
             },
+            KeyedForm::Query { text } => Form::Query { text },
             KeyedForm::Number(number) => Form::Number(number),
+            KeyedForm::Ship(number) => Form::Ship(number),
         }
     }
 }

@@ -2,7 +2,7 @@
 ghost use Rattle.std.specs.Prelude.{◌≡◌, ◌++◌, Contains, IfOk, OnOk, IsAscii};
 ghost use Rattle.time_text.specs.Reading.{lengths};
 ghost use Rattle.time_text.specs.Texts.{InRange};
-ghost use Rattle.replay_url.specs.Forms.{CanBePut, address_text, gate_address, map_address, memento_address, memento_digits, number_address, raw_text};
+ghost use Rattle.replay_url.specs.Forms.{CanBePut, address_text, gate_address, map_address, memento_address, memento_digits, number_address, piece_address, query_address, raw_text};
 
 use crate::Form;
 use capture::{Memory, Site, Text, put_all, put_number};
@@ -39,7 +39,9 @@ fn put_address(out: &mut Vec<u8>, site: &Site, form: &Form) -> Result<(), Memory
         } => put_at_time(out, site, *time, *digits, *raw, url.as_slice()),
         Form::Gate { url } => put_gate(out, site, url.as_slice()),
         Form::Map { url } => put_map(out, site, url.as_slice()),
+        Form::Query { text } => put_query(out, site, text.as_slice()),
         Form::Number(number) => put_of_number(out, site, *number),
+        Form::Ship(number) => put_piece(out, site, *number),
     }
 }
 
@@ -109,6 +111,24 @@ fn put_of_number(out: &mut Vec<u8>, site: &Site, number: u32) -> Result<(), Memo
 {
     put_all(out, site.base.as_slice())?;
     put_all(out, b"/web/rec/")?;
+    put_number(out, u64::from(number))
+}
+
+#[tactic(auto, unfolding(crate::specs::Forms::query_address))]
+fn put_query(out: &mut Vec<u8>, site: &Site, text: &[u8]) -> Result<(), Memory>
+    ensures { OnOk result (out.new.items ≡ out.old.items ++ query_address site.now.base text.now) }
+{
+    put_all(out, site.base.as_slice())?;
+    put_all(out, b"/web/cdx?")?;
+    put_all(out, text)
+}
+
+#[tactic(auto, unfolding(crate::specs::Forms::piece_address))]
+fn put_piece(out: &mut Vec<u8>, site: &Site, number: u32) -> Result<(), Memory>
+    ensures { OnOk result (out.new.items ≡ out.old.items ++ piece_address site.now.base number) }
+{
+    put_all(out, site.base.as_slice())?;
+    put_all(out, b"/web/ship/")?;
     put_number(out, u64::from(number))
 }
 

@@ -7,14 +7,15 @@ ghost use Rattle.replay_url.specs.Keyed.{HasKey, HasKeys, form_of};
 use crate::address::{Address, address_at};
 use crate::number::read_number;
 use crate::{Form, FormFault, KeyedForm};
+use capture::Bytes;
 use std::alloc::Global;
 use surt_key::{KeyFault, KeyedUrl, key_of_address};
 use time_text::read_time;
 
 /// What an address of the archive's site asks for.
 ///
-/// Behind `/web/` stand: `rec/` and a number; `timemap/link/` and a URL; 4, 6, 8, 10, 12, 14 or 17 digits with or
-/// without `id_`, a slash and a URL; or a URL. A URL without a scheme gets `http://` before it. An address is read from
+/// Behind `/web/` stand: `rec/` or `ship/`, and a number; `timemap/link/` and a URL; `cdx?` and a query, which isn't read; 4, 6, 8,
+/// 10, 12, 14 or 17 digits with or without `id_`, a slash and a URL; or a URL. A URL without a scheme gets `http://` before it. An address is read from
 /// left to right: `BadTime` where such digits name no time, and `NotAForm` for every other address, as where digits
 /// have another modifier or no key is made of the URL.
 pub fn read_form(alloc: Global, target: &[u8]) -> Result<Form, FormFault>
@@ -38,10 +39,17 @@ pub fn read_keyed_form(alloc: Global, target: &[u8]) -> Result<KeyedForm, FormFa
             Some(number) => Ok(KeyedForm::Number(number)),
             None => Err(FormFault::NotAForm),
         },
+        Address::AShip(text) => match read_number(text) {
+            Some(number) => Ok(KeyedForm::Ship(number)),
+            None => Err(FormFault::NotAForm),
+        },
         Address::AMap(text) => {
             let of = url_at(alloc, text)?;
             Ok(KeyedForm::Map { of })
         }
+        Address::AQuery(text) => Ok(KeyedForm::Query {
+            text: Bytes::of(Vec::from_slice(alloc, text)?),
+        }),
         Address::AMemento { digits, raw, url } => memento(alloc, digits, raw, url),
         Address::AModified => Err(FormFault::NotAForm),
         Address::AGate(text) => {

@@ -4,16 +4,18 @@ use Rattle.std.specs.Prelude.{IsSome}
 use Rattle.capture.specs.Captures.{captures}
 use Rattle.capture.specs.declared.refusal.Refusal.{Refusal}
 use Rattle.capture.specs.declared.refusal.Refusal.TheVariants.{Malformed, TargetRefused, BadTime, BadAcceptDatetime, BadQuery, NotAForm, NoCapture, NoSuch, MethodRefused, BodyTooLong, HeadTooLong, ClockRange, ConnectRefused, SecureRefused, CodingRefused, DialFault, OriginFault, OriginEnded, OriginMalformed, OriginTooLong, TooManyInterim, Full, DiskFault, Damaged}
-use Rattle.replay_url.specs.Address.{Parts, Numbered, Mapped, Timed, Modified, Open, Outside, parts_at}
+use Rattle.replay_url.specs.Address.{Parts, Numbered, Shipped, Mapped, Queried, Timed, Modified, Open, Outside, parts_at}
 use Rattle.replay_url.specs.Forms.{FormAt, NoFormAt, BadTimeAt, IsForm, IsUrl, IsNoUrl}
-use Rattle.replay_url.specs.Questions.{Question, ForNearest, ForAll, ForNumber, asked_url, question_of}
+use Rattle.replay_url.specs.Questions.{Question, ForNearest, ForAll, ForQuery, ForNumber, ForPiece, asked_url, question_of}
 use Rattle.replay_url.specs.declared.form.Form.{Form}
-use Rattle.replay_url.specs.declared.form.Form.TheVariants.{Memento, Gate, Map, Number}
+use Rattle.replay_url.specs.declared.form.Form.TheVariants.{Memento, Gate, Map, Query, Number, Ship}
+use Rattle.cdx_query.specs.Reading.{IsQuery}
+use Rattle.cdx_query.specs.declared.query.Query.{Query as CdxQuery}
 use Rattle.surt_key.specs.Key.{key_of}
 use Rattle.replay_url.proofs.OneForm.{one_form}
 use Rattle.session.specs.Complete.{IsFaultless, HasShown, HasWanted, IsAnswer, CapturesThatAreThereAreReplayed}
 use Rattle.session.specs.Rounds.{Outcome, Visited, IsDecided, is_disk_fault, disk_fault}
-use Rattle.session.specs.SiteAnswers.{SiteRequest, SiteReply, Refuses, Redirects, Replays, Lists, LacksSiteReply, Asks, FindsNone, IsGateTime, NamesNoTime, IsDated, IsRejected, IsSiteReplyBy, date_field, serves_method}
+use Rattle.session.specs.SiteAnswers.{SiteRequest, SiteReply, Refuses, Redirects, Replays, Lists, Finds, Ships, HasNoMore, LacksSiteReply, Asks, FindsNone, IsGateTime, NamesNoTime, IsDated, IsPast, IsRejected, IsSiteReplyBy, date_field, serves_method}
 use Rattle.session.specs.Traces.{Terms, View, Traces, CountsMet}
 use Rattle.session.proofs.CompleteLaws.{rose_not, told_not_untold}
 
@@ -26,20 +28,40 @@ has_key text url h none = let bad : ⊥ = some_isnt (key_of url) h.keyed (ap key
 
 formed : {P : Type 0} (parts : Parts) (form : Form) → FormAt parts form → NoFormAt parts → P
 formed (Numbered text) (Number n) h none = absurd (none n h)
+formed (Shipped text) (Ship n) h none = absurd (none n h)
 formed (Mapped text) (Map url) h none = has_key text url h none
+formed (Queried text) (Query asked) h none = absurd none
 formed (Timed digits is_raw text) (Memento time count raw url) h none = has_key text url h.of_url none.2
 formed (Open text) (Gate url) h none = has_key text url h none
+formed (Numbered text) (Ship n) h none = absurd h
 formed (Numbered text) (Map url) h none = absurd h
+formed (Numbered text) (Query asked) h none = absurd h
 formed (Numbered text) (Gate url) h none = absurd h
 formed (Numbered text) (Memento t c r url) h none = absurd h
+formed (Shipped text) (Number n) h none = absurd h
+formed (Shipped text) (Map url) h none = absurd h
+formed (Shipped text) (Query asked) h none = absurd h
+formed (Shipped text) (Gate url) h none = absurd h
+formed (Shipped text) (Memento t c r url) h none = absurd h
 formed (Mapped text) (Number n) h none = absurd h
+formed (Mapped text) (Ship n) h none = absurd h
+formed (Mapped text) (Query asked) h none = absurd h
 formed (Mapped text) (Gate url) h none = absurd h
 formed (Mapped text) (Memento t c r url) h none = absurd h
+formed (Queried text) (Number n) h none = absurd h
+formed (Queried text) (Ship n) h none = absurd h
+formed (Queried text) (Map url) h none = absurd h
+formed (Queried text) (Gate url) h none = absurd h
+formed (Queried text) (Memento t c r url) h none = absurd h
 formed (Timed digits is_raw text) (Number n) h none = absurd h
+formed (Timed digits is_raw text) (Ship n) h none = absurd h
 formed (Timed digits is_raw text) (Map url) h none = absurd h
+formed (Timed digits is_raw text) (Query asked) h none = absurd h
 formed (Timed digits is_raw text) (Gate url) h none = absurd h
 formed (Open text) (Number n) h none = absurd h
+formed (Open text) (Ship n) h none = absurd h
 formed (Open text) (Map url) h none = absurd h
+formed (Open text) (Query asked) h none = absurd h
 formed (Open text) (Memento t c r url) h none = absurd h
 formed Modified form h none = absurd h
 formed Outside form h none = absurd h
@@ -47,10 +69,14 @@ formed Outside form h none = absurd h
 timed : {P : Type 0} (parts : Parts) (form : Form) → FormAt parts form → BadTimeAt parts → P
 timed (Timed digits is_raw text) (Memento time count raw url) h bad = absurd (bad time h.timed.named)
 timed (Timed digits is_raw text) (Number n) h bad = absurd h
+timed (Timed digits is_raw text) (Ship n) h bad = absurd h
 timed (Timed digits is_raw text) (Map url) h bad = absurd h
+timed (Timed digits is_raw text) (Query asked) h bad = absurd h
 timed (Timed digits is_raw text) (Gate url) h bad = absurd h
 timed (Numbered text) form h bad = absurd bad
+timed (Shipped text) form h bad = absurd bad
 timed (Mapped text) form h bad = absurd bad
+timed (Queried text) form h bad = absurd bad
 timed (Open text) form h bad = absurd bad
 timed Modified form h bad = absurd bad
 timed Outside form h bad = absurd bad
@@ -71,13 +97,26 @@ dated q form url asks gate none =
     let is : IsDated (question_of (Gate url)) (date_field q) = subst (λ (f : Form). IsDated (question_of f) (date_field q)) same asks.dated in
     gate_dated (date_field q) is.0 is.1 none
 
-numbered : {P : Type 0} (q : SiteRequest) (view : View) (form : Form) (number count : ℕ) → Asks q form → HasWanted view (question_of form) → Asks q (Number number)
-    → count ≡ length (captures view.book) → count ≤ number → P
-numbered q view form number count asks wanted other count_is past =
+numbered : {P : Type 0} (q : SiteRequest) (view : View) (form : Form) (number count : ℕ) → Asks q form → HasWanted view (question_of form)
+    → IsPast q number count → count ≡ length (captures view.book) → P
+numbered q view form number count asks wanted (inl (other, past)) count_is =
     let same : form ≡ Number number = one_form (parts_at q.address) form (Number number) asks.is other.is in
     let below : number < length (captures view.book) = subst (λ (f : Form). HasWanted view (question_of f)) same wanted in
     let bad : ⊥ = omega (arith, below, count_is, past) in
     absurd bad
+numbered q view form number count asks wanted (inr (other, past)) count_is =
+    let same : form ≡ Ship number = one_form (parts_at q.address) form (Ship number) asks.is other.is in
+    let below : number ≤ length (captures view.book) = subst (λ (f : Form). HasWanted view (question_of f)) same wanted in
+    let bad : ⊥ = omega (arith, below, count_is, past) in
+    absurd bad
+
+-- a text that is a query
+queried : {P : Type 0} (q : SiteRequest) (view : View) (form : Form) (text : List ℕ) → Asks q form → HasWanted view (question_of form) → Asks q (Query text)
+    → ((query : CdxQuery) → ¬ (IsQuery text query)) → P
+queried q view form text asks wanted other none =
+    let same : form ≡ Query text = one_form (parts_at q.address) form (Query text) asks.is other.is in
+    let is : HasWanted view (ForQuery text) = subst (λ (f : Form). HasWanted view (question_of f)) same wanted in
+    absurd (none is.0 is.1)
 
 found : {P : Type 0} (q : SiteRequest) (view : View) (form : Form) → Asks q form → HasWanted view (question_of form) → FindsNone q view → P
 found q view form asks wanted h =
@@ -89,7 +128,9 @@ found q view form asks wanted h =
       by_question : {P : Type 0} (asked : Question) → HasWanted view asked → asked_url asked ≡ Some h.url → P
       by_question (ForNearest sought) there e = shown sought.url there e
       by_question (ForAll url) there e = shown url there e
+      by_question (ForQuery text) there e = let bad : ⊥ = cc in absurd bad
       by_question (ForNumber number) there e = let bad : ⊥ = cc in absurd bad
+      by_question (ForPiece number) there e = let bad : ⊥ = cc in absurd bad
 
 no_rejection : {P : Type 0} (terms : Terms) (q : SiteRequest) (refusal : Refusal) (traces : Traces) (form : Form) → IsTrue terms.tells → IsFaultless traces
     → CountsMet (is_disk_fault refusal) traces.before.disk_faults traces.after.disk_faults
@@ -98,7 +139,8 @@ no_rejection terms q MethodRefused traces form tells whole disk asks wanted h = 
 no_rejection terms q NotAForm traces form tells whole disk asks wanted h = formed (parts_at q.address) form asks.is h.1
 no_rejection terms q BadTime traces form tells whole disk asks wanted h = timed (parts_at q.address) form asks.is h.1
 no_rejection terms q BadAcceptDatetime traces form tells whole disk asks wanted h = dated q form h.1.0 asks h.1.1 h.2
-no_rejection terms q (NoSuch number count) traces form tells whole disk asks wanted h = numbered q traces.before form number count asks wanted h.0 h.1 h.2
+no_rejection terms q BadQuery traces form tells whole disk asks wanted h = queried q traces.before form h.0 asks wanted h.1 h.2
+no_rejection terms q (NoSuch number count) traces form tells whole disk asks wanted h = numbered q traces.before form number count asks wanted h.0 h.1
 no_rejection terms q NoCapture traces form tells whole disk asks wanted h = found q traces.before form asks wanted h
 no_rejection terms q DiskFault traces form tells whole disk asks wanted h = rose_not _ _ disk.rose whole.disk whole.disk_counts
 no_rejection terms q (Damaged at kept lost) traces form tells whole disk asks wanted h = told_not_untold terms.tells tells h.4.untold
@@ -112,7 +154,6 @@ no_rejection terms q TooManyInterim traces form tells whole disk asks wanted h =
 no_rejection terms q (Full count limit) traces form tells whole disk asks wanted h = absurd h
 no_rejection terms q Malformed traces form tells whole disk asks wanted h = absurd h
 no_rejection terms q TargetRefused traces form tells whole disk asks wanted h = absurd h
-no_rejection terms q BadQuery traces form tells whole disk asks wanted h = absurd h
 no_rejection terms q BodyTooLong traces form tells whole disk asks wanted h = absurd h
 no_rejection terms q HeadTooLong traces form tells whole disk asks wanted h = absurd h
 no_rejection terms q ConnectRefused traces form tells whole disk asks wanted h = absurd h
@@ -127,6 +168,9 @@ answers terms q (Refuses refusal) lacked traces form tells whole disk asks wante
 answers terms q (Redirects other entry) lacked traces form tells whole disk asks wanted h = inr tt
 answers terms q (Replays other brought) lacked traces form tells whole disk asks wanted h = inr tt
 answers terms q (Lists url entries) lacked traces form tells whole disk asks wanted h = inr tt
+answers terms q (Finds query found) lacked traces form tells whole disk asks wanted h = inr tt
+answers terms q (Ships number piece) lacked traces form tells whole disk asks wanted h = inr tt
+answers terms q (HasNoMore number) lacked traces form tells whole disk asks wanted h = inr tt
 answers terms q LacksSiteReply lacked traces form tells whole disk asks wanted h = inl h
 
 pub replayed : CapturesThatAreThereAreReplayed

@@ -1,5 +1,5 @@
 -- What is found by its date, and what an address says of it.
-use Rattle.std.proofs.Common.{◌≡◌, ℕ, Bool, Ok, Err, sym, ◌∙◌}
+use Rattle.std.proofs.Common.{◌≡◌, ℕ, Bool, Ok, Err, refl, sym, ◌∙◌}
 use Rattle.archive_shelf.specs.Answers.{Brings}
 use Rattle.archive_shelf.specs.Contents.{Contents, LeadsShown}
 use Rattle.archive_shelf.specs.declared.fault.BringFault.TheVariants as brings
@@ -30,6 +30,7 @@ pub found_replayed : (terms : Terms) (alone : Bool) (q : SiteRequest) (sought : 
 found_replayed terms alone q sought number faults disk brought mid is h later (there, replayable, named, known) same = record {
   number = number;
   wants = record { wanted = h; there = there };
+  capture = refl;
   replayable = replayable;
   named = named;
   brought_is = λ tells. (known (rw same tells)).0;

@@ -1,6 +1,7 @@
 -- What a look at the entries that are shown makes of a round, and what is found by them.
 use Rattle.std.proofs.Common.{◌≡◌, ℕ, Bool, true, false, ◌==◌, IsTrue, List, [], ◌∷◌, length, Option, Some, Result, Ok, Err, refl, sym, ◌∙◌, ap, subst, arith}
-use Rattle.std.specs.Prelude.{◌≢◌, IfOk, OnOk, Contains, bytes_eq}
+use Rattle.std.specs.Prelude.{◌≢◌, IfOk, OnOk, Contains, bytes_eq, nat_eq}
+use Rattle.std.specs.List.{starts_with}
 use Rattle.std.proofs.lemmas.Bool.{eqb-true, false≢true}
 use Rattle.std.proofs.lemmas.List.Elements.{Contains-append_left}
 use Rattle.std.proofs.lemmas.Slice.Eq.{bytes_eq-Decides}
@@ -11,12 +12,15 @@ use Rattle.archive_shelf.specs.Queries.{ArePicked, IsFound}
 use Rattle.archive_shelf.specs.Told.{KnowsBook, LooksOn, ReadsOn, Told}
 use Rattle.capture.specs.declared.book.Book.{Book}
 use Rattle.capture.specs.declared.memory.Memory.{Memory}
+use Rattle.cdx_query.specs.Answers.{AreStarting, IsAnswer}
+use Rattle.cdx_query.specs.Picking.{start_of}
+use Rattle.cdx_query.specs.declared.query.Query.{Query}
 use Rattle.cdxj_index.specs.Facts.{Facts}
 use Rattle.cdxj_index.specs.Queries.{HasNone}
 use Rattle.surt_key.specs.Key.{key_of}
 use Rattle.session.specs.Answering.{AnswersVisit}
 use Rattle.session.specs.Connection.{Setting, terms_at}
-use Rattle.session.specs.Looking.{FindsNearest, FindsAll}
+use Rattle.session.specs.Looking.{FindsNearest, FindsAll, FindsAnswer}
 use Rattle.session.specs.Rounds.{Visited, disk_fault}
 use Rattle.session.specs.SiteAnswers.{SiteRequest, SiteReply, LacksSiteReply, IsSiteReplyBy, IsSiteText}
 use Rattle.session.specs.Givens.{Given}
@@ -116,3 +120,20 @@ empty_list (entry ∷ found) n b counted e t =
 pub some_list : (found : List Facts) (n : ℕ) (b : Bool) → n ≡ length found → b ≡ (n == 0) → b ≡ false → found ≢ []
 some_list found n b counted e f none =
     let test : (n == 0) ≡ true = ap (λ k. k == 0) (counted ∙ ap (λ (l : List Facts). length l) none) in false≢true (sym f ∙ e ∙ test)
+
+-- ---- queries
+
+-- what an index is looked up by
+starting : (start : List ℕ) (shown found : List Facts) → ArePicked (λ e. starts_with nat_eq e.key start) shown found → AreStarting start shown found
+starting start shown found h = record { in_order = h.in_order; from = h.from; all = h.all }
+
+-- the answer to a query
+pub answer_found : (alone : Bool) (now : Contents) (query : Query) (entries : List Facts) (result : Result (List ℕ) Memory)
+    → ArePicked (λ e. starts_with nat_eq e.key query.start) now.shown entries → KnowsBook alone now
+    → ((shown : List Facts) → query.start ≡ start_of query.kind query.key → AreStarting query.start shown entries → IfOk result (IsAnswer query shown))
+    → query.start ≡ start_of query.kind query.key → IfOk result (λ text. FindsAnswer alone now query text)
+answer_found alone now query entries (Ok text) picked knows answers start = record {
+  answers = answers now.shown start (starting query.start now.shown entries picked);
+  knows = knows;
+}
+answer_found alone now query entries (Err memory) picked knows answers start = tt

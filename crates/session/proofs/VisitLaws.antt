@@ -6,6 +6,7 @@ use Rattle.archive_shelf.proofs.CallLaws.{reads_itself, shown_itself}
 use Rattle.archive_shelf.specs.Answers.{Brings, CountsIf, IsDamaged}
 use Rattle.archive_shelf.specs.Contents.{Contents, LeadsShown, Shows}
 use Rattle.archive_shelf.specs.Openings.{IsEarlier}
+use Rattle.archive_shelf.specs.Pieces.{GivesPiece}
 use Rattle.archive_shelf.specs.Told.{ReadsOn, Told}
 use Rattle.capture.specs.Faults.{Rose}
 use Rattle.capture.specs.declared.refusal.Refusal.{Refusal}
@@ -16,12 +17,12 @@ use Rattle.outside.specs.Records.{Links}
 use Rattle.outside.specs.declared.dialer.Transcript.{Transcript}
 use Rattle.outside.specs.declared.gate.Heard.{Heard}
 use Rattle.replay_url.specs.Questions.{ForNumber}
-use Rattle.replay_url.specs.declared.form.Form.TheVariants.{Number}
+use Rattle.replay_url.specs.declared.form.Form.TheVariants.{Number, Ship}
 use Rattle.session.specs.Answering.{Incoming, MakesRound, IsAnswered, Answers, AnswersVisit}
 use Rattle.session.specs.Connection.{Setting, terms_at}
 use Rattle.session.specs.Requests.{IsAsked, IsInterim, closes_after}
 use Rattle.session.specs.Rounds.{Round, Visited, IsRound, disk_fault}
-use Rattle.session.specs.SiteAnswers.{SiteRequest, SiteReply, Refuses, LacksSiteReply, Asks, IsReplayed, IsSiteReplyBy, IsSiteText, answers_head, is_of_shown}
+use Rattle.session.specs.SiteAnswers.{SiteRequest, SiteReply, Refuses, LacksSiteReply, Asks, IsReplayed, IsShipped, IsSiteReplyBy, IsSiteText, answers_head, is_of_shown}
 use Rattle.session.specs.Traces.{Terms, View, CountsMet}
 use Rattle.capture.specs.declared.captured.Brought.{Brought}
 use Rattle.capture.specs.declared.memory.Memory.{Memory}
@@ -237,10 +238,21 @@ pub number_replayed : (terms : Terms) (q : SiteRequest) (number : ℕ) (brought 
 number_replayed terms q number brought is faults disk asks (there, replayable, named, known) same = record {
   number = number;
   wants = record { wanted = (asks, refl); there = there };
+  capture = refl;
   replayable = replayable;
   named = named;
   brought_is = λ tells. (known (rw same tells)).0;
   as_shown = λ tells. tt;
+}
+
+-- a piece is shipped
+pub piece_shipped : (terms : Terms) (q : SiteRequest) (number : ℕ) (piece : List ℕ) (is : Contents) (faults disk : ℕ) → Asks q (Ship number)
+    → GivesPiece is number (Ok piece) → is.tells ≡ terms.tells
+    → IsShipped terms q (record { book = is.seen; shown = is.shown; dialer_faults = faults; disk_faults = disk }) number piece
+piece_shipped terms q number piece is faults disk asks (there, some, known) same = record {
+  wants = record { wanted = (asks, refl); there = there };
+  some = some;
+  piece_is = λ tells. known (rw same tells);
 }
 
 -- a request that is answered by what was brought

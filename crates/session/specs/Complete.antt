@@ -1,10 +1,12 @@
 -- Which requests are answered. Where no object failed, a lawful round of such a request has its answer, or memory ran out.
-use Rattle.std.specs.Prelude.{◌≡◌, ◌⊎◌, ℕ, ◌-◌, ◌^◌, ◌<◌, false, IsTrue, List, length, Contains, Option, Some, ⊤}
+use Rattle.std.specs.Prelude.{◌≡◌, ◌⊎◌, ℕ, ◌-◌, ◌^◌, ◌<◌, ◌≤◌, false, IsTrue, List, length, Contains, Option, Some, ⊤}
 use Rattle.capture.specs.Captures.{captures}
 use Rattle.capture.specs.Final.{Arrived, IsArrival}
 use Rattle.capture.specs.First.{Message}
 use Rattle.capture.specs.declared.refusal.Refusal.{Refusal}
 use Rattle.capture.specs.declared.site.Site.{Site}
+use Rattle.cdx_query.specs.Reading.{IsQuery}
+use Rattle.cdx_query.specs.declared.query.Query.{Query}
 use Rattle.cdxj_index.specs.Queries.{HasNone}
 use Rattle.exchange.specs.Texts.{answered}
 use Rattle.exchange.specs.declared.aim.Aim.{Aim}
@@ -12,12 +14,12 @@ use Rattle.http_head.specs.declared.head.Received.{Received}
 use Rattle.http_head.specs.declared.head.RequestHead.{RequestHead}
 use Rattle.http_head.specs.declared.head.RequestMessage.{RequestMessage}
 use Rattle.outside.specs.declared.dialer.Transcript.{Transcript}
-use Rattle.replay_url.specs.Questions.{Question, ForNearest, ForAll, ForNumber, question_of}
+use Rattle.replay_url.specs.Questions.{Question, ForNearest, ForAll, ForQuery, ForNumber, ForPiece, question_of}
 use Rattle.replay_url.specs.declared.form.Form.{Form}
 use Rattle.session.specs.Exchanges.{Exchange, Reply, Passes, IsPassedOn, answers_head}
 use Rattle.session.specs.Requests.{IsAsked, IsRefused}
 use Rattle.session.specs.Rounds.{Round, Exchanged, Visited, IsRound, closes_exchange}
-use Rattle.session.specs.SiteAnswers.{SiteRequest, SiteReply, Refuses, Redirects, Replays, Lists, LacksSiteReply, Asks}
+use Rattle.session.specs.SiteAnswers.{SiteRequest, SiteReply, Refuses, Redirects, Replays, Lists, Finds, Ships, HasNoMore, LacksSiteReply, Asks}
 use Rattle.session.specs.Traces.{Terms, View, Traces}
 use Rattle.surt_key.specs.Key.{key_of}
 use Rattle.time_text.specs.Texts.{InRange}
@@ -62,18 +64,24 @@ WholeResponsesArePassedOn =
 abbrev pub HasShown : View → List ℕ → Type 0
 HasShown view url = (key : List ℕ) → key_of url ≡ Some key → ¬ (HasNone view.shown key)
 
--- the book has a capture of the number, or one of the URL's key is shown
+-- the book has a capture of the number, or one of the URL's key is shown; the text is a query; or the piece is one of the book's, or
+-- the next
 abbrev pub HasWanted : View → Question → Type 0
 HasWanted view (ForNumber number) = number < length (captures view.book)
 HasWanted view (ForNearest sought) = HasShown view sought.url
 HasWanted view (ForAll url) = HasShown view url
+HasWanted view (ForQuery text) = (query : Query) × IsQuery text query
+HasWanted view (ForPiece number) = number ≤ length (captures view.book)
 
--- a redirect, a capture or a list
+-- a redirect, a capture, a list, what a query finds, a piece, or that there is none as yet
 abbrev pub IsAnswer : SiteReply → Type 0
 IsAnswer (Refuses refusal) = ⊥
 IsAnswer (Redirects sought entry) = ⊤
 IsAnswer (Replays question brought) = ⊤
 IsAnswer (Lists url entries) = ⊤
+IsAnswer (Finds query found) = ⊤
+IsAnswer (Ships number piece) = ⊤
+IsAnswer (HasNoMore number) = ⊤
 IsAnswer LacksSiteReply = ⊥
 
 abbrev pub CapturesThatAreThereAreReplayed : Type 0

@@ -1,28 +1,34 @@
 -- A request to the archive's own site, and how it is answered (RFC 7089, sections 2 to 5). Refusals come in this order: for the
--- method, for the address, for the date that is asked for, for want of a capture, for the disk.
-use Rattle.std.specs.Prelude.{◌≡◌, ◌≢◌, ℕ, ◌<◌, ◌≤◌, Bool, true, false, ◌||◌, List, [], ◌∷◌, ◌++◌, length, map, codes, bytes_eq, Option, Some, None, IsTrue, ⊤, slice_get}
+-- method, for the address, for the date or the query that is asked for, for want of a capture, for the disk.
+use Rattle.std.specs.Prelude.{◌≡◌, ◌≢◌, ◌⊎◌, ℕ, ◌<◌, ◌≤◌, Bool, true, false, ◌||◌, List, [], ◌++◌, length, map, codes, bytes_eq, Option, Some, None, IsTrue, ⊤, slice_get}
 use Rattle.archive_shelf.specs.Answers.{IsBrought, IsDamaged, IsNamed, IsReplayable, KeepsPayloadOf}
+use Rattle.archive_shelf.specs.Pieces.{IsPiece, IsSomePiece}
 use Rattle.archive_shelf.specs.Queries.{ArePicked}
 use Rattle.capture.specs.Captures.{captures}
 use Rattle.capture.specs.Fields.{values_of}
 use Rattle.capture.specs.Methods.{asks_for_head}
 use Rattle.capture.specs.declared.captured.Brought.{Brought}
 use Rattle.capture.specs.declared.refusal.Refusal.{Refusal}
-use Rattle.capture.specs.declared.refusal.Refusal.TheVariants.{MethodRefused, NotAForm, BadTime, BadAcceptDatetime, NoSuch, NoCapture, DiskFault, Damaged}
+use Rattle.capture.specs.declared.refusal.Refusal.TheVariants.{MethodRefused, NotAForm, BadTime, BadAcceptDatetime, BadQuery, NoSuch, NoCapture, DiskFault, Damaged}
+use Rattle.cdx_query.specs.Answers.{IsAnswer, media_type_of}
+use Rattle.cdx_query.specs.Reading.{IsQuery}
+use Rattle.cdx_query.specs.declared.query.Query.{Query}
 use Rattle.cdxj_index.specs.Facts.{Facts}
 use Rattle.cdxj_index.specs.OfBook.{IsEntryOf}
 use Rattle.cdxj_index.specs.Queries.{HasNone, IsNearest}
 use Rattle.exchange.specs.Refusals.{refusal_text, memory_text}
-use Rattle.head_lines.specs.Lines.{own_status_line, type_line, head_end, body_unless}
+use Rattle.head_lines.specs.Lines.{own_status_line, status_line, type_line, head_end, body_unless, close_line_where}
 use Rattle.head_lines.specs.declared.status.Status.TheVariants as status
+use Rattle.httparse.specs.Ascii.{crlf_bytes}
 use Rattle.http_head.specs.Heads.{named_value}
 use Rattle.http_head.specs.declared.head.RequestMessage.{RequestMessage}
 use Rattle.replay_answer.specs.Mementos.{IsMemento}
 use Rattle.replay_url.specs.Forms.{IsForm, IsFault}
-use Rattle.replay_url.specs.Questions.{NamedTime, Nearest, Question, ForNearest, ForAll, ForNumber, asked_url, is_as_received, is_by_gate, names_date, question_of}
+use Rattle.replay_url.specs.Questions.{NamedTime, Nearest, Question, ForNearest, ForAll, ForQuery, ForNumber, ForPiece, asked_url, is_as_received, is_by_gate, names_date, question_of}
 use Rattle.replay_url.specs.declared.fault.FormFault.TheVariants as form_fault
 use Rattle.replay_url.specs.declared.form.Form.{Form}
-use Rattle.replay_url.specs.declared.form.Form.TheVariants.{Gate, Map, Number}
+use Rattle.replay_url.specs.declared.form.Form.TheVariants.{Gate, Map, Number, Ship}
+use Rattle.replay_url.specs.declared.form.Form.TheVariants.{Query as Queried}
 use Rattle.surt_key.specs.Key.{key_of}
 use Rattle.time_text.specs.Blanks.{trim_blanks}
 use Rattle.time_text.specs.Reading.{IsHttpDate}
@@ -36,13 +42,17 @@ pub record SiteRequest : Type 0 where
   pub message : RequestMessage
   pub address : List ℕ
 
--- How it is answered: by a refusal; by a redirect to the capture of an entry; by a capture; by the list of a URL's captures; or not,
--- for want of memory.
+-- How it is answered: by a refusal; by a redirect to the capture of an entry; by a capture; by the list of a URL's captures; by the
+-- text of the entries that meet a query; by the piece of a capture, or with nothing, where the next piece is still to come; or not, for
+-- want of memory.
 pub data SiteReply : Type 0 where
   Refuses : (refusal : Refusal) → SiteReply
   Redirects : (sought : Nearest) (entry : Facts) → SiteReply
   Replays : (question : Question) (brought : Brought) → SiteReply
   Lists : (url : List ℕ) (entries : List Facts) → SiteReply
+  Finds : (query : Query) (found : List ℕ) → SiteReply
+  Ships : (number : ℕ) (piece : List ℕ) → SiteReply
+  HasNoMore : (number : ℕ) → SiteReply
   LacksSiteReply : SiteReply
 
 -- whether the answer is one to HEAD
@@ -78,13 +88,21 @@ IsSoughtTime None field time = IsGateTime field time
 abbrev pub IsDated : Question → Option (List ℕ) → Type 0
 IsDated (ForNearest sought) field = (time : ℕ) × IsSoughtTime sought.named field time
 IsDated (ForAll url) field = ⊤
+IsDated (ForQuery text) field = ⊤
 IsDated (ForNumber number) field = ⊤
+IsDated (ForPiece number) field = ⊤
 
 -- the request asks for this form
 pub record Asks (q : SiteRequest) (form : Form) : Type 0 where
   pub served : serves_method q.message.head.method ≡ true
   pub is : IsForm q.address form
   pub dated : IsDated (question_of form) (date_field q)
+
+-- the request asks this query
+pub record AsksQuery (q : SiteRequest) (query : Query) : Type 0 where
+  pub text : List ℕ
+  pub asks : Asks q (Queried text)
+  pub is : IsQuery text query
 
 -- the capture nearest to the time that is asked for, by what is shown
 pub record Reaches (q : SiteRequest) (shown : List Facts) (sought : Nearest) (entry : Facts) : Type 0 where
@@ -104,13 +122,15 @@ pub record ReachesJust (q : SiteRequest) (shown : List Facts) (sought : Nearest)
   pub named : names_date sought.named entry.date ≡ true
   pub number_is : number ≡ entry.number
 
--- the number of the capture that is to be brought: it is asked for, or it is that of the date that is
+-- the number of the capture that is to be brought, or whose piece is: it is asked for, or it is that of the date that is
 abbrev pub IsWanted : SiteRequest → List Facts → Question → ℕ → Type 0
 IsWanted q shown (ForNumber asked) number = Asks q (Number asked) × (number ≡ asked)
 IsWanted q shown (ForNearest sought) number = ReachesJust q shown sought number
+IsWanted q shown (ForPiece asked) number = Asks q (Ship asked) × (number ≡ asked)
 IsWanted q shown (ForAll url) number = ⊥
+IsWanted q shown (ForQuery text) number = ⊥
 
--- a capture that is to be brought, which the book has
+-- a capture that is to be brought, or whose piece is, which the book has
 pub record Wants (q : SiteRequest) (view : View) (question : Question) (number : ℕ) : Type 0 where
   pub wanted : IsWanted q view.shown question number
   pub there : number < length (captures view.book)
@@ -125,6 +145,15 @@ pub record FindsNone (q : SiteRequest) (view : View) : Type 0 where
   pub keyed : key_of url ≡ Some key
   pub none : HasNone view.shown key
 
+-- the number of a capture, or of a piece, that is asked for, of a book with so many captures. The next piece is still to come.
+abbrev pub IsPast : SiteRequest → ℕ → ℕ → Type 0
+IsPast q number count = (Asks q (Number number) × (count ≤ number)) ⊎ (Asks q (Ship number) × (count < number))
+
+-- the damaged capture: the one whose piece is asked for, or the one that keeps the payload
+abbrev pub IsDamagedIn : View → Question → ℕ → ℕ → Type 0
+IsDamagedIn view (ForPiece asked) number at = at ≡ number
+IsDamagedIn view other number at = KeepsPayloadOf view.book number at
+
 -- ---- the replies
 
 -- why the site refuses
@@ -134,25 +163,34 @@ IsRejected terms q NotAForm view = (serves_method q.message.head.method ≡ true
 IsRejected terms q BadTime view = (serves_method q.message.head.method ≡ true) × IsFault q.address form_fault.BadTime
 IsRejected terms q BadAcceptDatetime view =
     (serves_method q.message.head.method ≡ true) × ((url : List ℕ) × IsForm q.address (Gate url)) × NamesNoTime (date_field q)
-IsRejected terms q (NoSuch number count) view =
-    Asks q (Number number) × (count ≡ length (captures view.book)) × (count ≤ number)
+IsRejected terms q BadQuery view = (text : List ℕ) × Asks q (Queried text) × ((query : Query) → ¬ (IsQuery text query))
+IsRejected terms q (NoSuch number count) view = IsPast q number count × (count ≡ length (captures view.book))
 IsRejected terms q NoCapture view = FindsNone q view
 IsRejected terms q DiskFault view = (question : Question) × (number : ℕ) × Wants q view question number
 IsRejected terms q (Damaged at kept found) view =
-    (question : Question) × (number : ℕ) × Wants q view question number × KeepsPayloadOf view.book number at × IsDamaged terms.tells kept found
+    (question : Question) × (number : ℕ) × Wants q view question number × IsDamagedIn view question number at × IsDamaged terms.tells kept found
 IsRejected terms q other view = ⊥
 
--- the capture that was found by date is the one that the book has
+-- the capture that was found by date is the one that the book has; a piece isn't replayed
 abbrev pub IsAsShown : View → Question → ℕ → Type 0
 IsAsShown view (ForNearest sought) number =
     (entry : Facts) × (entry.number ≡ number) × (names_date sought.named entry.date ≡ true) × IsEntryOf view.book number entry
 IsAsShown view (ForNumber asked) number = ⊤
 IsAsShown view (ForAll url) number = ⊤
+IsAsShown view (ForQuery text) number = ⊤
+IsAsShown view (ForPiece asked) number = ⊤
+
+-- a capture is asked for, and no piece of one
+abbrev pub asks_for_capture : Question → Bool
+asks_for_capture (ForNearest sought) = true
+asks_for_capture (ForNumber number) = true
+asks_for_capture other = false
 
 -- the capture that was wanted is replayed
 pub record IsReplayed (terms : Terms) (q : SiteRequest) (view : View) (question : Question) (brought : Brought) : Type 0 where
   pub number : ℕ
   pub wants : Wants q view question number
+  pub capture : asks_for_capture question ≡ true
   pub replayable : IsReplayable brought
   pub named : IsNamed view.book number brought
   pub brought_is : IsTrue terms.tells → IsBrought view.book number brought
@@ -166,6 +204,22 @@ pub record AreListed (q : SiteRequest) (view : View) (url : List ℕ) (entries :
   pub picked : ArePicked (λ e. bytes_eq key e.key) view.shown entries
   pub some : entries ≢ []
 
+-- the query is answered from all entries that are shown
+pub record IsFoundBy (q : SiteRequest) (view : View) (query : Query) (found : List ℕ) : Type 0 where
+  pub asks : AsksQuery q query
+  pub answers : IsAnswer query view.shown found
+
+-- the piece of the capture with this number is shipped
+pub record IsShipped (terms : Terms) (q : SiteRequest) (view : View) (number : ℕ) (piece : List ℕ) : Type 0 where
+  pub wants : Wants q view (ForPiece number) number
+  pub some : IsSomePiece view.book number piece
+  pub piece_is : IsTrue terms.tells → IsPiece view.book number piece
+
+-- the piece that is asked for is the next one, which is still to come
+pub record IsNext (q : SiteRequest) (view : View) (number : ℕ) : Type 0 where
+  pub asks : Asks q (Ship number)
+  pub next : number ≡ length (captures view.book)
+
 -- a redirect leads to the capture that is nearest, unless the address names its date
 pub record IsRedirected (q : SiteRequest) (view : View) (sought : Nearest) (entry : Facts) : Type 0 where
   pub reaches : Reaches q view.shown sought entry
@@ -177,6 +231,9 @@ IsSiteReplyBy terms q lacked (Refuses refusal) view = IsRejected terms q refusal
 IsSiteReplyBy terms q lacked (Redirects sought entry) view = IsRedirected q view sought entry
 IsSiteReplyBy terms q lacked (Replays question brought) view = IsReplayed terms q view question brought
 IsSiteReplyBy terms q lacked (Lists url entries) view = AreListed q view url entries
+IsSiteReplyBy terms q lacked (Finds query found) view = IsFoundBy q view query found
+IsSiteReplyBy terms q lacked (Ships number piece) view = IsShipped terms q view number piece
+IsSiteReplyBy terms q lacked (HasNoMore number) view = IsNext q view number
 IsSiteReplyBy terms q lacked LacksSiteReply view = IsTrue lacked
 
 -- neither clock nor origin is asked, and nothing is stored
@@ -192,20 +249,34 @@ is_of_shown (Redirects sought entry) = true
 is_of_shown (Replays (ForNearest sought) brought) = true
 is_of_shown (Replays other brought) = false
 is_of_shown (Lists url entries) = true
+is_of_shown (Finds query found) = true
+is_of_shown (Ships number piece) = false
+is_of_shown (HasNoMore number) = false
 is_of_shown LacksSiteReply = false
 
 -- ---- the texts
 
--- the status line of a list, and its type (RFC 6690, section 7.3)
-unfoldable pub list_start : List ℕ
-list_start = own_status_line status.Ok ++ type_line (codes "application/link-format")
+-- the status line of what is found, and its type
+unfoldable pub found_start : List ℕ → List ℕ
+found_start media_type = own_status_line status.Ok ++ type_line media_type
 
--- the list of a URL's captures, as an answer (RFC 7089, section 5)
-unfoldable pub list_text : List ℕ → Bool → Bool → List ℕ
-list_text body answers_head closes =
-    list_start
+-- a body of this type, as an answer
+unfoldable pub found_text : List ℕ → List ℕ → Bool → Bool → List ℕ
+found_text media_type body answers_head closes =
+    found_start media_type
     ++ head_end (length body) closes
     ++ body_unless answers_head body
+
+-- the type of a list of links (RFC 6690, section 7.3), and of pieces
+abbrev pub link_format : List ℕ
+link_format = codes "application/link-format"
+
+abbrev pub warc_format : List ℕ
+warc_format = codes "application/warc"
+
+-- the answer that there is nothing as yet (RFC 9110, section 15.3.5)
+unfoldable pub nothing_text : Bool → List ℕ
+nothing_text closes = status_line 204 (codes "No Content") ++ close_line_where closes ++ crlf_bytes
 
 -- the text of a reply
 abbrev pub IsSiteText : Terms → SiteRequest → SiteReply → Bool → List ℕ → Type 0
@@ -215,5 +286,8 @@ IsSiteText terms q (Redirects sought entry) closes text =
 IsSiteText terms q (Replays question brought) closes text =
     IsMemento terms.site.base brought (is_as_received question) (answers_head q) closes text
 IsSiteText terms q (Lists url entries) closes text =
-    text ≡ list_text (timemap_text terms.site.base url entries) (answers_head q) closes
+    text ≡ found_text link_format (timemap_text terms.site.base url entries) (answers_head q) closes
+IsSiteText terms q (Finds query found) closes text = text ≡ found_text (media_type_of query.json) found (answers_head q) closes
+IsSiteText terms q (Ships number piece) closes text = text ≡ found_text warc_format piece (answers_head q) closes
+IsSiteText terms q (HasNoMore number) closes text = text ≡ nothing_text closes
 IsSiteText terms q LacksSiteReply closes text = text ≡ memory_text

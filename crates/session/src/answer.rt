@@ -1,14 +1,17 @@
 //! An answer.
-ghost use Rattle.std.specs.Prelude.{◌≡◌, IsTrue, MatchResult, OnOk, Some};
+ghost use Rattle.std.specs.Prelude.{◌≡◌, ◌++◌, IfOk, IsTrue, MatchResult, OnOk, Some};
 ghost use Rattle.capture.specs.Faults.{CountsFaults};
 ghost use Rattle.outside.specs.Gate.{heard_of};
 ghost use Rattle.session.specs.Givens.{with_body};
 ghost use Rattle.session.specs.Wire.{Breaks, Writes};
 
 use crate::saying::{say, say_both};
-use capture::{Bytes, Failed};
+use capture::{Bytes, Failed, Memory, put_all};
 use outside::Link;
 use std::marker::Model;
+
+/// A body of so many bytes at most is copied behind its head, so that both are written at once.
+pub const SHORT: usize = 65_536;
 
 /// The answer to a request. A long body isn't copied behind its head: both are written one after the other. A contract sees one
 /// text.
@@ -51,6 +54,18 @@ impl Answer {
             body: Some(body),
             closes,
         }
+    }
+
+    /// The answer with this head and a body behind it, which is copied where it is short.
+    pub fn behind(head: Vec<u8>, body: Bytes, closes: bool) -> Result<Answer, Memory>
+        ensures { IfOk result (λ answer. answer ≡ record { text = head.items ++ body; closes = closes }) }
+    {
+        let mut head = head;
+        if body.as_slice().len() <= SHORT {
+            put_all(&mut head, body.as_slice())?;
+            return Ok(Answer::of(Bytes::of(head), closes));
+        }
+        Ok(Answer::with_body(Bytes::of(head), body, closes))
     }
 
     /// Whether the connection closes behind it.

@@ -33,7 +33,7 @@ pub fn stored_captures_have_their_payload()
 }
 
 /// Where no count of faults rises and the disk is told, a whole response that came with room for its capture is passed on, and a
-/// capture that is there, or one that is shown, is answered with: or memory ran out. Bytes that are a request which goes somewhere
+/// capture that is there, or one that is shown, is answered with, and so are queries and pieces: or memory ran out. Bytes that are a request which goes somewhere
 /// aren't refused for themselves.
 pub fn requests_are_answered()
     ensures origins { WholeResponsesArePassedOn }

@@ -4,6 +4,8 @@
 mod answer;
 mod answering;
 mod exchanging;
+mod finding;
+mod found;
 mod heads;
 mod laws;
 mod listing;
@@ -15,6 +17,7 @@ mod saying;
 mod seeking;
 mod served;
 mod serving;
+mod shipping;
 mod visit;
 mod visiting;
 

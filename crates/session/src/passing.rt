@@ -5,15 +5,12 @@ ghost use Rattle.exchange.specs.Texts.{answered_head};
 ghost use Rattle.http_wire.specs.Messages.{IsOneResponse};
 ghost use Rattle.session.specs.Exchanging.{PassesOn, given_of};
 
-use crate::answer::Answer;
+use crate::answer::{Answer, SHORT};
 use capture::{Bytes, Framing, Memory, put_all};
 use exchange::put_client_head;
 use http_wire::Received;
 use message_body::{Slices, payload_in_place};
 use std::alloc::Global;
-
-/// A payload of so many bytes at most is copied behind its head, so that both are written at once.
-const SHORT: usize = 65_536;
 
 /// More than what the proxy adds to a head.
 const ADDED: usize = 256;

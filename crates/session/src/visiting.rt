@@ -7,11 +7,13 @@ ghost use Rattle.session.specs.Answering.{AnswersVisit};
 ghost use Rattle.session.specs.SiteAnswers as spec;
 
 use crate::answer::Answer;
+use crate::finding::visit_query;
 use crate::heads::asks_for_head;
 use crate::listing::visit_map;
 use crate::refusing::refused;
 use crate::replaying::replay_number;
 use crate::seeking::{visit_gate, visit_memento};
+use crate::shipping::ship;
 use crate::visit::{Sought, Visit};
 use archive_shelf::Shelf;
 use capture::{Memory, Refusal};
@@ -80,5 +82,7 @@ fn visit_form<S: Shelf>(
         ),
         KeyedForm::Gate { of } => visit_gate(alloc, shelf, visit, of),
         KeyedForm::Map { of } => visit_map(alloc, shelf, visit, of),
+        KeyedForm::Query { text } => visit_query(alloc, shelf, visit, text.as_slice()),
+        KeyedForm::Ship(number) => ship(alloc, shelf, visit, *number),
     }
 }

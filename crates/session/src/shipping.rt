@@ -1,0 +1,68 @@
+//! Pieces of captures, as another archive takes them.
+ghost use Rattle.std.specs.Prelude.{◌≡◌, Bool, IfOk};
+ghost use Rattle.archive_shelf.specs.Told.{GoesOn};
+ghost use Rattle.replay_url.specs.declared.form.Form.TheVariants.{Ship as TheShip};
+ghost use Rattle.session.specs.Answering.{AnswersVisit};
+ghost use Rattle.session.specs.SiteAnswers.{Asks};
+
+use crate::answer::Answer;
+use crate::found::{found, nothing};
+use crate::heads::asks_for_head;
+use crate::refusing::refused;
+use crate::visit::Visit;
+use archive_shelf::{BringFault, Shelf};
+use capture::{Memory, Refusal};
+use std::alloc::Global;
+
+/// Answers with the piece of the capture of a number, or with nothing where it is that of the next capture.
+pub fn ship<S: Shelf>(
+    alloc: Global,
+    shelf: &mut S,
+    visit: Visit,
+    number: u32,
+) -> Result<Answer, Memory>
+    requires asks { Asks (record { message = visit.message.now; address = visit.address.now }) (TheShip number) }
+    ensures answers { (clock_tells : Bool) → AnswersVisit S.alone (record { site = visit.entry.site.now; clock_tells = clock_tells })
+        (record { message = visit.entry.message.now; address = visit.entry.address.now }) visit.entry.closes result (S.told shelf.old) (S.told shelf.new) }
+    ensures closes { IfOk result (λ answer. answer.closes ≡ visit.entry.closes) }
+    ensures goes_on { GoesOn S.alone (S.told shelf.old) (S.told shelf.new) }
+{
+    let answers_head = asks_for_head(&visit.message.head);
+    match shelf.piece(alloc, number) {
+        Ok(piece) => found(alloc, visit, b"application/warc", piece),
+        Err(BringFault::NoSuch { count }) => {
+            if number == count {
+                return nothing(alloc, visit.closes);
+            }
+            refused(
+                alloc,
+                Refusal::NoSuch { number, count },
+                answers_head,
+                visit.closes,
+            )
+        }
+        Err(BringFault::DiskFault) => refused(
+            alloc,
+            Refusal::DiskFault,
+            answers_head,
+            visit.closes,
+        ),
+        Err(
+            BringFault::Damaged {
+                number: at,
+                kept,
+                found,
+            },
+        ) => refused(
+            alloc,
+            Refusal::Damaged {
+                number: at,
+                kept,
+                found,
+            },
+            answers_head,
+            visit.closes,
+        ),
+        Err(BringFault::Memory) => Err(Memory),
+    }
+}
