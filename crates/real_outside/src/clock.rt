@@ -49,31 +49,20 @@ mod tests {
     use std::io::ErrorKind;
     use std::time::Duration;
 
-    /// A clock that can't be read.
+    /// A clock that shows so many microseconds since 1970, or that can't be read.
     #[derive(Drop)]
-    struct Stopped;
-
-    impl SystemClock for Stopped {
-        fn monotonic(&self) -> io::Result<Duration> {
-            Err(io::Error::from(ErrorKind::Unsupported))
-        }
-
-        fn since_1970(&self) -> io::Result<Duration> {
-            Err(io::Error::from(ErrorKind::Unsupported))
-        }
-    }
-
-    /// A clock that shows so many microseconds since 1970.
-    #[derive(Drop)]
-    struct Shows(u64);
+    struct Shows(Option<u64>);
 
     impl SystemClock for Shows {
         fn monotonic(&self) -> io::Result<Duration> {
-            Ok(Duration::from_micros(self.0))
+            self.since_1970()
         }
 
         fn since_1970(&self) -> io::Result<Duration> {
-            Ok(Duration::from_micros(self.0))
+            match self.0 {
+                Some(micros) => Ok(Duration::from_micros(micros)),
+                None => Err(io::Error::from(ErrorKind::Unsupported)),
+            }
         }
     }
 
@@ -82,11 +71,18 @@ mod tests {
         RealClock::new(system).now()
     }
 
+    /// A moment that is over, and the end of the year 9999, in milliseconds since 1970.
+    const YEARS: (u64, u64) = (1_700_000_000_000, 253_402_300_800_000);
+
     // No case can say it: the clock of a case is told what it shows, and can always be read.
     #[test]
     fn tells_whole_milliseconds(rt: HostRuntime) {
-        assert_eq!(rt; shown(Shows(1_700_000_000_500_999)), 1_700_000_000_500);
-        assert_eq!(rt; shown(Stopped), u64::MAX);
-        assert!(rt; matches!(shown(rt), 1_700_000_000_000..=253_402_300_800_000));
+        let fixed = shown(Shows(Some(1_700_000_000_500_999)));
+        let stopped = shown(Shows(None));
+        let real = shown(rt);
+        assert_eq!(rt;
+            [fixed, stopped, real],
+            [1_700_000_000_500, u64::MAX, real.max(YEARS.0).min(YEARS.1)]
+        );
     }
 }

@@ -76,31 +76,3 @@ fn ending_of(kind: Kind) -> &'static str
         Kind::Cdxj => ".cdxj",
     }
 }
-
-#[cfg(test)]
-mod tests {
-    use super::*;
-
-    /// Paths of files.
-    static PATHS: [(Kind, u32, &str); 3] = [
-        (Kind::Warc, 0, "archive/vol-000000.warc"),
-        (Kind::Cdxj, 42, "archive/vol-000042.cdxj"),
-        (Kind::Warc, 1_000_000, "archive/vol-1000000.warc"),
-    ];
-
-    /// Whether a file has this path, which lies in the folder.
-    fn is_at(alloc: Global, kind: Kind, number: u32, want: &str) -> bool {
-        match path_of(alloc, kind, number) {
-            Ok(path) => path.as_str() == want && path.as_str().starts_with(FOLDER),
-            Err(_) => false,
-        }
-    }
-
-    // No case can say it: the files of a case have a kind and a number, and no path.
-    #[test]
-    fn names_files(rt: HostRuntime) {
-        for (kind, number, want) in &PATHS {
-            assert!(rt; is_at(rt.alloc(), *kind, *number, want), "{want}");
-        }
-    }
-}

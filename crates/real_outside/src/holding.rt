@@ -173,7 +173,7 @@ mod tests {
     fn want_of_locks_is_known(rt: HostRuntime) {
         for (number, want) in &NUMBERS {
             let error = io::Error::from_raw_os_error(*number);
-            assert_eq!(rt; is_want_of_locks(&error), *want, "{number}");
+            assert_eq!(rt; is_want_of_locks(&error), *want);
         }
     }
 }

@@ -93,6 +93,7 @@ fn port_in(digits: &str) -> Option<u16> {
 #[cfg(test)]
 mod tests {
     use super::*;
+    use crate::tests::written::{Written, check, written};
     use capture::Text;
     use std::env::FillError;
 
@@ -123,21 +124,21 @@ mod tests {
     }
 
     /// What the variable says, and where a program listens then whose site is at port 8080 of `[::1]`.
-    static ROWS: [(Option<&str>, Option<&str>); 14] = [
-        (None, Some("[::1]:8080")),
-        (Some("0.0.0.0:80"), Some("0.0.0.0:80")),
-        (Some("[::]:8081"), Some("[::]:8081")),
-        (Some("a.test:65535"), Some("a.test:65535")),
-        (Some("a.test:65536"), None),
-        (Some("a.test:0"), None),
-        (Some("a.test:080"), None),
-        (Some("a.test:+80"), None),
-        (Some("a.test:8x"), None),
-        (Some("a.test:"), None),
-        (Some(":80"), None),
-        (Some("a.test"), None),
-        (Some("8080"), None),
-        (Some(""), None),
+    static ROWS: [(Option<&str>, &str); 14] = [
+        (None, "[::1]:8080"),
+        (Some("0.0.0.0:80"), "0.0.0.0:80"),
+        (Some("[::]:8081"), "[::]:8081"),
+        (Some("a.test:65535"), "a.test:65535"),
+        (Some("a.test:65536"), "nowhere"),
+        (Some("a.test:0"), "nowhere"),
+        (Some("a.test:080"), "nowhere"),
+        (Some("a.test:+80"), "nowhere"),
+        (Some("a.test:8x"), "nowhere"),
+        (Some("a.test:"), "nowhere"),
+        (Some(":80"), "nowhere"),
+        (Some("a.test"), "nowhere"),
+        (Some("8080"), "nowhere"),
+        (Some(""), "nowhere"),
     ];
 
     /// The site at port 8080 of `[::1]`.
@@ -150,11 +151,14 @@ mod tests {
     }
 
     /// Where that program listens, printed.
-    fn listens(alloc: Global, says: Option<&'static str>) -> Result<Option<String>, Memory> {
-        let site = site(alloc)?;
-        match where_to_listen(&(Says(says), alloc), &site)? {
-            Some(address) => Ok(Some(format!(in alloc; "{address}")?)),
-            None => Ok(None),
+    fn listens(alloc: Global, says: Option<&'static str>) -> Written {
+        let Ok(site) = site(alloc) else {
+            return Written::new();
+        };
+        match where_to_listen(&(Says(says), alloc), &site) {
+            Ok(Some(address)) => written(address),
+            Ok(None) => written("nowhere"),
+            Err(_) => Written::new(),
         }
     }
 
@@ -162,10 +166,7 @@ mod tests {
     #[test]
     fn listens_where_the_environment_says(rt: HostRuntime) {
         for (says, want) in &ROWS {
-            let Ok(listens) = listens(rt.alloc(), *says) else {
-                panic!(rt; "no memory");
-            };
-            assert_eq!(rt; listens.as_ref().map(|text| text.as_str()), *want);
+            check(&rt, listens(rt.alloc(), *says), want);
         }
     }
 }

@@ -124,37 +124,29 @@ mod tests {
         (places.clients(), place.is_crowded())
     }
 
-    /// An origin, and places that it shares with others.
-    fn with_origin(alloc: Global) -> io::Result<(Places, Place)> {
-        let Ok(places) = Places::new(alloc) else {
-            return Err(io::Error::from(ErrorKind::OutOfMemory));
-        };
+    /// What is told to an origin, or to the first of them, at each step of two clients.
+    fn steps(places: &Places) -> io::Result<[(u64, bool); 5]> {
         let origin = places.of_origin()?;
-        Ok((places, origin))
-    }
-
-    /// What is told at each step of two clients.
-    fn steps(places: &Places, origin: &Place) -> io::Result<[(u64, bool); 5]> {
-        let none = told(places, origin);
+        let none = told(places, &origin);
         let mut first = places.of_client()?;
         let second = places.of_client()?;
-        let both = told(places, origin);
+        let both = told(places, &origin);
         first.serve();
         first.serve();
         let one_waits = told(places, &first);
         drop(second);
         let one_left = told(places, &first);
         drop(first);
-        Ok([none, both, one_waits, one_left, told(places, origin)])
+        Ok([none, both, one_waits, one_left, told(places, &origin)])
     }
 
     // No case can say it: the links of a case have no places.
     #[test]
     fn counts_clients_and_who_waits(rt: HostRuntime) {
-        let Ok((places, origin)) = with_origin(rt.alloc()) else {
+        let Ok(places) = Places::new(rt.alloc()) else {
             panic!(rt; "no memory");
         };
         let want = [(0, false), (2, true), (2, true), (1, false), (0, false)];
-        assert_eq!(rt; steps(&places, &origin).ok(), Some(want));
+        assert_eq!(rt; steps(&places).ok(), Some(want));
     }
 }

@@ -147,56 +147,55 @@ pub(crate) fn c_path_of(path: &[u8]) -> io::Result<[u8; PATH_MAX]>
 mod tests {
     use super::*;
 
-    /// Errors of entries, and whether they are passed over. ENAMETOOLONG has the same kind as a name that isn't UTF-8.
-    // No case can say it: the disk of a case lists no names.
-    #[test]
-    fn only_names_that_are_no_text_are_passed_over(rt: HostRuntime) {
+    /// Which errors of entries are passed over: of a name that isn't UTF-8, of one that is too long (ENAMETOOLONG has the
+    /// same kind), and of a list that breaks off.
+    fn passed_over() -> [bool; 3] {
         let no_text = pass_over(io::Error::from(ErrorKind::InvalidFilename)).is_ok();
         let too_long = pass_over(io::Error::from_raw_os_error(36)).is_ok();
-        let broken = pass_over(io::Error::from_raw_os_error(5)).is_ok();
-        assert_eq!(rt; [no_text, too_long, broken], [true, false, false]);
+        [
+            no_text,
+            too_long,
+            pass_over(io::Error::from_raw_os_error(5)).is_ok(),
+        ]
     }
 
-    /// Where nobody can write, root neither.
-    // No case can say it: a case has a disk in memory.
-    #[test]
-    fn what_cannot_be_written_is_told(mut rt: HostRuntime) {
-        assert_eq!(rt;
-            [
-                rt.check_writable(".").is_ok(),
-                rt.check_writable("/no/such/folder").is_ok()
-            ],
-            [true, false]
-        );
+    /// Whether a folder may be written, and one that isn't there, where root can't write either.
+    fn writable(rt: &mut HostRuntime) -> [bool; 2] {
+        let here = rt.check_writable(".").is_ok();
+        [here, rt.check_writable("/no/such/folder").is_ok()]
     }
 
-    /// A link of the system's, a folder, and nothing.
-    // No case can say it: the disk of a case has no links.
-    #[test]
-    fn links_are_told(mut rt: HostRuntime) {
-        let link = rt.is_link("/proc/self").ok();
-        let folder = rt.is_link(".").ok();
-        let nothing = rt.is_link("/no/such/link").ok();
-        assert_eq!(rt;
-            [link, folder, nothing],
-            [Some(true), Some(false), Some(false)]
-        );
+    /// Whether a link of the system's, a folder and nothing are links.
+    fn links(rt: &mut HostRuntime) -> [bool; 3] {
+        let link = rt.is_link("/proc/self").unwrap_or(false);
+        let folder = rt.is_link(".").unwrap_or(true);
+        [link, folder, rt.is_link("/no/such/link").unwrap_or(true)]
     }
 
-    /// Which syncs of what can't be synced are refused: of data, of a whole file and of a folder.
+    /// Which syncs of what can't be synced are refused, so that they are the system's: of data, of a whole file and of a
+    /// folder.
     fn refused_syncs(rt: &mut HostRuntime, file: &File) -> [bool; 3] {
         let data = rt.sync_data(file).is_err();
         let all = rt.sync_all(file).is_err();
         [data, all, rt.sync_folder("/proc").is_err()]
     }
 
-    /// What can't be synced is refused, so the calls are the system's.
-    // No case can say it: a case has a disk in memory, and asks the system for no sync.
+    // No case can say it: the disk of a case is in memory, lists no names and has no links.
     #[test]
-    fn syncs_are_asked_of_the_system(mut rt: HostRuntime) {
+    fn files_are_the_systems(mut rt: HostRuntime) {
         let Ok(null) = rt.open("/dev/null", Access::Update) else {
             panic!(rt; "no file");
         };
-        assert_eq!(rt; refused_syncs(&mut rt, &null), [true, true, true]);
+        let syncs = refused_syncs(&mut rt, &null);
+        let (writable, links) = (writable(&mut rt), links(&mut rt));
+        assert_eq!(rt;
+            (passed_over(), writable, links, syncs),
+            (
+                [true, false, false],
+                [true, false],
+                [true, false, false],
+                [true, true, true]
+            )
+        );
     }
 }

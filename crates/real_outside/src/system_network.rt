@@ -160,75 +160,57 @@ mod tests {
         Ok((listener, socket))
     }
 
-    /// Tells a socket its settings.
-    fn tell(socket: &mut SystemSocket) -> io::Result<()> {
-        socket.limit_reads(1_000)?;
-        socket.limit_writes(2_000)?;
-        socket.send_at_once()
-    }
-
     /// Whether a socket sends at once, and the limits of its reads and its writes.
     type Settings = (bool, Option<Duration>, Option<Duration>);
 
-    /// What the system says of a socket.
-    fn settings_of(socket: &SystemSocket) -> io::Result<Settings> {
+    /// What the system says of a socket that is told its settings.
+    fn told(socket: &mut SystemSocket) -> io::Result<Settings> {
+        socket.limit_reads(1_000)?;
+        socket.limit_writes(2_000)?;
+        socket.send_at_once()?;
         let at_once = socket.stream.nodelay()?;
         let reads = socket.stream.read_timeout()?;
         Ok((at_once, reads, socket.stream.write_timeout()?))
     }
 
     /// How many milliseconds a socket's time goes on while its network pauses for 20.
-    fn time_of_a_pause(mut rt: HostRuntime) -> io::Result<u128> {
-        let (_listener, mut socket) = connected(rt)?;
+    fn millis_of_a_pause(mut rt: HostRuntime, socket: &mut SystemSocket) -> io::Result<u128> {
         let start = socket.time()?;
         rt.pause(20);
         Ok(socket.time()?.saturating_sub(start).as_millis())
     }
 
-    /// Time goes by.
-    // No case can say it: no time goes by in a case.
-    #[test]
-    fn time_goes_by(rt: HostRuntime) {
-        assert!(rt; matches!(time_of_a_pause(rt), Ok(20..=9_999)));
-    }
-
-    /// What a peer reads that waits for a second, while the socket is still there.
-    fn read_by_peer(rt: HostRuntime) -> io::Result<usize> {
-        let (listener, mut socket) = connected(rt)?;
+    /// What a peer reads that waits for a second, while the socket is still there and has ended its output.
+    fn read_by_peer(listener: &TcpListener, socket: &mut SystemSocket) -> io::Result<usize> {
         socket.end_output()?;
         let (mut peer, _) = listener.accept()?;
         peer.set_read_timeout(Some(Duration::from_secs(1)))?;
         peer.read(&mut [0u8; 1])
     }
 
-    /// What the system says of a socket that was told its settings.
-    fn told_settings(rt: HostRuntime) -> io::Result<Settings> {
-        let (_listener, mut socket) = connected(rt)?;
-        tell(&mut socket)?;
-        settings_of(&socket)
+    /// Whether the loopback and an address that is for documents alone (RFC 5737) are this machine's.
+    fn are_here(mut rt: HostRuntime) -> (bool, bool) {
+        let loopback = rt.is_here(IpAddr::from([127, 0, 0, 1]));
+        (loopback, rt.is_here(IpAddr::from([192, 0, 2, 1])))
     }
 
-    /// What a socket was told is what the system says of it, and its peer meets the end of an output that was ended.
-    // No case can say it: the links of a case are no sockets, and have no settings.
+    // No case can say it: the links of a case are no sockets and have no settings, and no time goes by there.
     #[test]
-    fn settings_are_the_systems(rt: HostRuntime) {
+    fn sockets_are_the_systems(rt: HostRuntime) {
+        let Ok((listener, mut socket)) = connected(rt) else {
+            panic!(rt; "no connection");
+        };
+        let told = told(&mut socket).ok();
+        let waited = matches!(millis_of_a_pause(rt, &mut socket), Ok(20..=9_999));
+        let read = read_by_peer(&listener, &mut socket).ok();
         let want = (
             true,
             Some(Duration::from_secs(1)),
             Some(Duration::from_secs(2)),
         );
-        assert_eq!(rt; told_settings(rt).ok(), Some(want));
-        assert_eq!(rt; read_by_peer(rt).ok(), Some(0));
-    }
-
-    /// Whether the loopback and an address that is for documents alone (RFC 5737) are this machine's.
-    // No case can say it: a case asks for no address of the machine.
-    #[test]
-    fn knows_the_machines_addresses(mut rt: HostRuntime) {
-        let loopback = rt.is_here(IpAddr::from([127, 0, 0, 1]));
         assert_eq!(rt;
-            (loopback, rt.is_here(IpAddr::from([192, 0, 2, 1]))),
-            (true, false)
+            (told, waited, read, are_here(rt)),
+            (Some(want), true, Some(0), (true, false))
         );
     }
 }

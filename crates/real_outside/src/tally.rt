@@ -100,20 +100,22 @@ mod tests {
         ),
     ];
 
-    /// How many Warc files these names are.
-    fn total_of(alloc: Global, names: &[&str]) -> Result<Option<u32>, AllocError> {
+    /// How many Warc files these names are. Where memory is wanting it is more than any row has.
+    fn total_of(alloc: Global, names: &[&str]) -> Option<u32> {
         let mut tally = Tally::new(alloc, Kind::Warc);
         for name in names {
-            tally.add(name)?;
+            if tally.add(name).is_err() {
+                return Some(u32::MAX);
+            }
         }
-        Ok(tally.total())
+        tally.total()
     }
 
     // No case can say it: the disk of a case counts its files, and lists no names.
     #[test]
     fn counts_names_in_any_order(rt: HostRuntime) {
         for (names, want) in &FOLDERS {
-            assert_eq!(rt; total_of(rt.alloc(), names), Ok(*want), "{names:?}");
+            assert_eq!(rt; total_of(rt.alloc(), names), *want);
         }
     }
 }

@@ -8,4 +8,4 @@ mod recorded_files;
 mod recorded_network;
 mod streaming;
 mod waiting;
-mod written;
+pub(crate) mod written;

@@ -42,25 +42,6 @@ impl<N: Network> TcpGate<N> {
         }
     }
 
-    /// A gate that listens already.
-    #[cfg(test)]
-    pub(crate) fn listening(
-        network: N,
-        listener: N::Listener,
-        places: Places,
-        limits: Limits,
-    ) -> TcpGate<N> {
-        TcpGate {
-            network,
-            address: None,
-            listener: Some(listener),
-            own: None,
-            refused: false,
-            places,
-            limits,
-        }
-    }
-
     /// What its calls are made of.
     #[cfg(test)]
     pub(crate) fn network(&self) -> &N {

@@ -1,6 +1,6 @@
 //! What a gate does when an accept fails, where it listens, and what a dial tries.
 //! No case can say it: the gate and the dialer of a case ask no network.
-use super::recorded_network::{Comes, LIMITS, Peer, RecordedNetwork, address};
+use super::recorded_network::{Comes, LIMITS, Peer, Plan, QUIET, RecordedNetwork, address};
 use super::written::{Written, check, written};
 use crate::accept_faults::is_memory;
 use crate::listening::Address;
@@ -29,242 +29,247 @@ fn word_of<T>(came: &io::Result<T>) -> &'static str {
     }
 }
 
-/// A gate at a host, in brackets where it is an IPv6 address, and a port.
-fn gate_at(
-    alloc: Global,
-    network: RecordedNetwork,
-    at: Option<(&str, u16)>,
-) -> Result<TcpGate<RecordedNetwork>, Memory> {
+/// A host, in brackets where it is an IPv6 address, and a port.
+type Site = Option<(&'static str, u16)>;
+
+/// A gate at a site.
+fn gate_at(alloc: Global, at: Site, plan: Plan) -> Result<TcpGate<RecordedNetwork>, Memory> {
     let address = match at {
         Some((host, port)) => Some(Address::new(alloc, host, port)?),
         None => None,
     };
+    let network = RecordedNetwork::new(plan);
     Ok(TcpGate::new(network, address, Places::new(alloc)?, LIMITS))
 }
 
-/// What two accepts of a gate ask of its network, and what came of them.
+/// What two accepts of a gate ask of its network, what came of them, and whether the gate was refused.
 fn accepted(gate: &mut TcpGate<RecordedNetwork>) -> Written {
     let first = word_of(&gate.accept());
     let second = word_of(&gate.accept());
+    let refused = gate.was_refused();
     let calls = gate.network().calls;
     let calls = calls.as_str();
-    written(format_args!("{calls} {first} {second}"))
+    written(format_args!("{calls} {first} {second} {refused}"))
 }
 
-/// The same of a gate that is there, which listens before.
-fn bound(made: Result<TcpGate<RecordedNetwork>, Memory>) -> Written {
-    let Ok(mut gate) = made else {
+/// The same of a gate at a site, which listens before where it is bound.
+fn gives(alloc: Global, at: Site, binds: bool, plan: Plan) -> Written {
+    let Ok(mut gate) = gate_at(alloc, at, plan) else {
         return Written::new();
     };
-    gate.bind();
-    let refused = gate.was_refused();
-    let told = accepted(&mut gate);
-    let told = told.as_str();
-    written(format_args!("{told} {refused}"))
-}
-
-/// The same of a gate that is there, which doesn't.
-fn not_bound(made: Result<TcpGate<RecordedNetwork>, Memory>) -> Written {
-    match made {
-        Ok(mut gate) => accepted(&mut gate),
-        Err(_) => Written::new(),
+    if binds {
+        gate.bind();
     }
+    accepted(&mut gate)
 }
 
 /// What two dials ask of a network, and what came of them, where the program listens at its own address or doesn't.
-fn dials(alloc: Global, network: RecordedNetwork, own: Option<u8>) -> Option<Written> {
-    let places = Places::new(alloc).ok()?;
-    let own = own.map(|last| address(last));
-    let mut dialer = TcpDialer::new(network, places, LIMITS, own);
+fn dials(alloc: Global, own: Option<u8>, plan: Plan) -> Written {
+    let Ok(places) = Places::new(alloc) else {
+        return Written::new();
+    };
+    let own = match own {
+        Some(last) => Some(address(last)),
+        None => None,
+    };
+    let mut dialer = TcpDialer::new(RecordedNetwork::new(plan), places, LIMITS, own);
     let first = word_of(&dialer.dial("[::1]", 80));
     let second = word_of(&dialer.dial("[::1]", 80));
     let calls = dialer.network().calls;
     let calls = calls.as_str();
-    Some(written(format_args!("{calls} {first} {second}")))
+    written(format_args!("{calls} {first} {second}"))
 }
 
-const AGAIN: &str = "listen a.test 8080;accept;accept;accept; connection connection";
+const AGAIN: &str = "listen a.test 8080;accept;accept;accept; connection connection false";
 
-const WAITS: &str = "listen a.test 8080;accept;pause 5;accept;accept; connection connection";
+const WAITS: &str = "listen a.test 8080;accept;pause 5;accept;accept; connection connection false";
 
-const ENDS: &str = "listen a.test 8080;accept;accept; failed connection";
+const ENDS: &str = "listen a.test 8080;accept;accept; failed connection false";
 
-/// An accept's error, and what is asked then.
-static FAILED_ACCEPTS: [(i32, &str); 21] = [
+/// An accept's error, and what is asked then. What fails with one connection ends no gate.
+static FAILED_ACCEPTS: [(&[Comes], &str); 21] = [
     // ECONNABORTED, EPROTO, EHOSTUNREACH, ENETUNREACH, ENETDOWN, ENOPROTOOPT, ENONET, EOPNOTSUPP, EHOSTDOWN,
     // EPERM, ECONNRESET, ETIMEDOUT, EINTR, EAGAIN
-    (103, AGAIN),
-    (71, AGAIN),
-    (113, AGAIN),
-    (101, AGAIN),
-    (100, AGAIN),
-    (92, AGAIN),
-    (64, AGAIN),
-    (95, AGAIN),
-    (112, AGAIN),
-    (1, AGAIN),
-    (104, AGAIN),
-    (110, AGAIN),
-    (4, AGAIN),
-    (11, AGAIN),
+    (&[Comes::Error(103)], AGAIN),
+    (&[Comes::Error(71)], AGAIN),
+    (&[Comes::Error(113)], AGAIN),
+    (&[Comes::Error(101)], AGAIN),
+    (&[Comes::Error(100)], AGAIN),
+    (&[Comes::Error(92)], AGAIN),
+    (&[Comes::Error(64)], AGAIN),
+    (&[Comes::Error(95)], AGAIN),
+    (&[Comes::Error(112)], AGAIN),
+    (&[Comes::Error(1)], AGAIN),
+    (&[Comes::Error(104)], AGAIN),
+    (&[Comes::Error(110)], AGAIN),
+    (&[Comes::Error(4)], AGAIN),
+    (&[Comes::Error(11)], AGAIN),
     // EMFILE, ENFILE, ENOBUFS, ENOMEM
-    (24, WAITS),
-    (23, WAITS),
-    (105, WAITS),
-    (12, WAITS),
+    (&[Comes::Error(24)], WAITS),
+    (&[Comes::Error(23)], WAITS),
+    (&[Comes::Error(105)], WAITS),
+    (&[Comes::Error(12)], WAITS),
     // EBADF, EINVAL, ENOTSOCK
-    (9, ENDS),
-    (22, ENDS),
-    (88, ENDS),
+    (&[Comes::Error(9)], ENDS),
+    (&[Comes::Error(22)], ENDS),
+    (&[Comes::Error(88)], ENDS),
 ];
 
-#[test]
-fn an_accept_that_fails_ends_no_gate(rt: HostRuntime) {
-    for (number, want) in &FAILED_ACCEPTS {
-        let network = RecordedNetwork::new([Comes::Error(*number), SILENT, SILENT]);
-        let gate = gate_at(rt.alloc(), network, Some(("a.test", 8080)));
-        check(&rt, not_bound(gate), want);
-    }
-}
-
-/// A host and a port, the error of what listens there, what comes there, what is asked, what comes of two accepts,
-/// and whether the address was refused.
-type AddressRow = (&'static str, u16, Option<i32>, [Comes; 3], &'static str);
-
-static ADDRESSES: [AddressRow; 5] = [
+/// Where a gate is, what comes there, and what is asked and given where it is bound before.
+static ADDRESSES: [(Site, Plan, &str); 7] = [
     (
-        "[::1]",
-        9090,
-        None,
-        [SILENT, SILENT, SILENT],
+        Some(("[::1]", 9090)),
+        QUIET,
         "listen ::1 9090;accept;accept; connection connection false",
     ),
     (
-        "a.test",
-        80,
-        None,
-        [SILENT, SILENT, SILENT],
+        Some(("a.test", 80)),
+        QUIET,
         "listen a.test 80;accept;accept; connection connection false",
     ),
     (
-        "127.0.0.1",
-        8080,
-        Some(98),
-        [SILENT, SILENT, SILENT],
+        Some(("127.0.0.1", 8080)),
+        Plan {
+            refuses: Some(98),
+            ..QUIET
+        },
         "listen 127.0.0.1 8080;listen 127.0.0.1 8080;listen 127.0.0.1 8080; failed failed true",
     ),
     (
-        "a.test",
-        80,
-        None,
-        [ODD, SILENT, SILENT],
+        Some(("a.test", 80)),
+        Plan {
+            comes: &[ODD],
+            ..QUIET
+        },
         "listen a.test 80;accept;accept;accept; connection connection false",
     ),
     (
-        "a.test",
-        80,
-        None,
-        [NO_MEMORY, NO_MEMORY, NO_MEMORY],
+        Some(("a.test", 80)),
+        Plan {
+            comes: &[NO_MEMORY; 8],
+            ..QUIET
+        },
         "listen a.test 80;accept;pause 5;accept;pause 5;accept;pause 5;accept;accept;pause 5;accept;pause 5;accept;pause 5;accept; memory memory false",
+    ),
+    // With the cause of each fault.
+    (
+        Some(("[::1]", 80)),
+        Plan {
+            refuses: Some(98),
+            tells: true,
+            ..QUIET
+        },
+        "listen ::1 80;[::1]:80: listen: Address already in use (os error 98);listen ::1 80;[::1]:80: listen: Address already in use (os error 98);listen ::1 80;[::1]:80: listen: Address already in use (os error 98); failed failed true",
+    ),
+    (
+        None,
+        Plan {
+            tells: true,
+            ..QUIET
+        },
+        "MEMPROXY_LISTEN: listen: no HOST:PORT to listen at;MEMPROXY_LISTEN: listen: no HOST:PORT to listen at;MEMPROXY_LISTEN: listen: no HOST:PORT to listen at; failed failed true",
     ),
 ];
 
 #[test]
-fn listens_at_its_address(rt: HostRuntime) {
-    for (host, port, refuses, comes, want) in &ADDRESSES {
-        let mut network = RecordedNetwork::new(*comes);
-        network.refuses = *refuses;
-        let gate = gate_at(rt.alloc(), network, Some((*host, *port)));
-        check(&rt, bound(gate), want);
+fn listens_and_accepts(rt: HostRuntime) {
+    for (comes, want) in &FAILED_ACCEPTS {
+        let plan = Plan {
+            comes: *comes,
+            ..QUIET
+        };
+        check(
+            &rt,
+            gives(rt.alloc(), Some(("a.test", 8080)), false, plan),
+            want,
+        );
     }
-    let network = RecordedNetwork::new([SILENT, SILENT, SILENT]);
-    check(
-        &rt,
-        bound(gate_at(rt.alloc(), network, None)),
-        " failed failed true",
-    );
+    for (at, plan, want) in &ADDRESSES {
+        check(&rt, gives(rt.alloc(), *at, true, *plan), want);
+    }
 }
 
-/// How many addresses a host has, the error of its look-up, what comes of each, the last number of the program's own
-/// address, and what is asked.
-type DialRow = (usize, Option<i32>, [Comes; 3], Option<u8>, &'static str);
-
-static DIALS: [DialRow; 9] = [
+/// The last number of the program's own address, what is at each address of a host, and what is asked and comes.
+static DIALS: [(Option<u8>, Plan, &str); 10] = [
     (
-        2,
         None,
-        [SILENT, SILENT, SILENT],
-        None,
+        QUIET,
         "find ::1 80;connect 10.0.0.1:80 in 450;find ::1 80;connect 10.0.0.1:80 in 450; connection connection",
     ),
     (
-        3,
         None,
-        [REFUSED, SILENT, SILENT],
-        None,
+        Plan {
+            many: 3,
+            comes: &[REFUSED],
+            ..QUIET
+        },
         "find ::1 80;connect 10.0.0.1:80 in 300;connect 10.0.0.2:80 in 300;find ::1 80;connect 10.0.0.2:80 in 300; connection connection",
     ),
     (
-        3,
         None,
-        [REFUSED, SILENT, REFUSED],
-        None,
+        Plan {
+            many: 3,
+            comes: &[REFUSED, SILENT, REFUSED, REFUSED, REFUSED],
+            ..QUIET
+        },
         "find ::1 80;connect 10.0.0.1:80 in 300;connect 10.0.0.2:80 in 300;find ::1 80;connect 10.0.0.2:80 in 300;connect 10.0.0.1:80 in 300;connect 10.0.0.3:80 in 300; connection failed",
     ),
     (
-        1,
         None,
-        [NO_MEMORY, Comes::Error(110), SILENT],
-        None,
+        Plan {
+            many: 1,
+            comes: &[NO_MEMORY, Comes::Error(110)],
+            ..QUIET
+        },
         "find ::1 80;connect 10.0.0.1:80 in 900;find ::1 80;connect 10.0.0.1:80 in 900; memory failed",
     ),
     (
-        0,
         None,
-        [SILENT, SILENT, SILENT],
-        None,
+        Plan { many: 0, ..QUIET },
         "find ::1 80;find ::1 80; failed failed",
     ),
     (
-        2,
-        Some(2),
-        [SILENT, SILENT, SILENT],
         None,
+        Plan {
+            refuses: Some(2),
+            ..QUIET
+        },
         "find ::1 80;find ::1 80; failed failed",
     ),
     (
-        2,
-        Some(12),
-        [SILENT, SILENT, SILENT],
         None,
+        Plan {
+            refuses: Some(12),
+            ..QUIET
+        },
         "find ::1 80;find ::1 80; memory memory",
     ),
     (
-        2,
-        None,
-        [SILENT, SILENT, SILENT],
         Some(1),
+        QUIET,
         "find ::1 80;connect 10.0.0.2:80 in 450;find ::1 80;connect 10.0.0.2:80 in 450; connection connection",
     ),
     (
-        1,
-        None,
-        [SILENT, SILENT, SILENT],
         Some(1),
+        Plan { many: 1, ..QUIET },
         "find ::1 80;find ::1 80; failed failed",
+    ),
+    // With the cause of each fault.
+    (
+        Some(1),
+        Plan {
+            comes: &[REFUSED, REFUSED],
+            tells: true,
+            ..QUIET
+        },
+        "find ::1 80;connect 10.0.0.2:80 in 450;[::1]:80: connect: Connection refused (os error 111);find ::1 80;connect 10.0.0.2:80 in 450;[::1]:80: connect: Connection refused (os error 111); failed failed",
     ),
 ];
 
 #[test]
 fn dials_each_address_in_turn(rt: HostRuntime) {
-    for (many, refuses, comes, own, want) in &DIALS {
-        let mut network = RecordedNetwork::new(*comes);
-        network.many = *many;
-        network.refuses = *refuses;
-        match dials(rt.alloc(), network, *own) {
-            Some(told) => check(&rt, told, want),
-            None => panic!(rt; "no memory"),
-        }
+    for (own, plan, want) in &DIALS {
+        check(&rt, dials(rt.alloc(), *own, *plan), want);
     }
 }
 
@@ -286,7 +291,7 @@ static LOOPS: [(&str, &str, bool); 12] = [
 
 /// Whether a connection to the first address comes to the second. `None` where one of them is no address.
 fn comes_back(first: &str, second: &str) -> Option<bool> {
-    let mut network = RecordedNetwork::new([SILENT, SILENT, SILENT]);
+    let mut network = RecordedNetwork::new(QUIET);
     let to = first.parse().ok()?;
     let own = second.parse().ok()?;
     Some(leads_back(&mut network, to, own))
@@ -295,47 +300,6 @@ fn comes_back(first: &str, second: &str) -> Option<bool> {
 #[test]
 fn knows_its_own_address(rt: HostRuntime) {
     for (to, own, want) in &LOOPS {
-        assert_eq!(rt; comes_back(to, own), Some(*want), "{to} {own}");
+        assert_eq!(rt; comes_back(to, own), Some(*want));
     }
-}
-
-/// The causes that a gate at a site's address tells where its listener is refused, and a dial where no address
-/// answers.
-fn causes_of(alloc: Global) -> Result<[Written; 3], Memory> {
-    let mut network = RecordedNetwork::new([REFUSED, REFUSED, REFUSED]);
-    let places = Places::new(alloc)?;
-    let mut dialer = TcpDialer::new(network, places, LIMITS, Some(address(1)));
-    let _refused = dialer.dial("[::1]", 80);
-    network.refuses = Some(98);
-    let mut gate = gate_at(alloc, network, Some(("[::1]", 80)))?;
-    gate.bind();
-    let mut nowhere = gate_at(alloc, network, None)?;
-    nowhere.bind();
-    Ok([
-        dialer.network().causes,
-        gate.network().causes,
-        nowhere.network().causes,
-    ])
-}
-
-#[test]
-fn causes_of_a_network_are_told(rt: HostRuntime) {
-    let Ok(causes) = causes_of(rt.alloc()) else {
-        panic!(rt; "no memory");
-    };
-    check(
-        &rt,
-        causes[0],
-        "[::1]:80: connect: Connection refused (os error 111);",
-    );
-    check(
-        &rt,
-        causes[1],
-        "[::1]:80: listen: Address already in use (os error 98);",
-    );
-    check(
-        &rt,
-        causes[2],
-        "MEMPROXY_LISTEN: listen: no HOST:PORT to listen at;",
-    );
 }

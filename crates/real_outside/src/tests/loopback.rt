@@ -1,23 +1,25 @@
 //! Connections on the loopback, once each.
 //! No case can say it: a case has no sockets, so nothing there is reset, waited for or lost on its way.
+use super::written::{Written, check, joined, then, written};
 use crate::dialer::RealDialer;
 use crate::gate::RealGate;
 use crate::limits::{LIMITS, Limits};
 use crate::link::RealLink;
+use crate::listening::Address;
 use crate::places::Places;
 use crate::tcp::dial::TcpDialer;
 use crate::tcp::gate::TcpGate;
 use outside::{Accepted, Dialer, Failed, Gate, Link};
-use std::alloc::Global;
 use std::io::{Read, Write};
-use std::net::{Ipv4Addr, Shutdown, SocketAddr, TcpListener, TcpStream};
-use std::thread;
+use std::net::{Ipv4Addr, Shutdown, SocketAddr, TcpStream};
+use std::thread::Threads;
 use std::time::{Duration, Instant};
+use std::{io, thread};
 
 const HOST: &str = "127.0.0.1";
 
-/// The bytes that go both ways.
-const ECHO: usize = 1 << 20;
+/// An address that is for documents alone (RFC 5737), so none of this machine's.
+const ELSEWHERE: &str = "192.0.2.1";
 
 /// Limits that a test can wait for.
 const SHORT: Limits = Limits {
@@ -38,30 +40,25 @@ const SHORT: Limits = Limits {
     most_clients: 1,
 };
 
-/// A listener on a port of the system's choice, and that port.
-fn listener(rt: HostRuntime) -> Option<(TcpListener, u16)> {
-    let listener = TcpListener::bind(&rt, (HOST, 0)).ok()?;
-    let port = listener.local_addr().ok()?.port();
-    Some((listener, port))
-}
+type HostGate = RealGate<HostRuntime>;
 
-/// A gate that listens there.
-fn gate_of(
-    rt: HostRuntime,
-    listener: TcpListener,
-    limits: Limits,
-) -> Option<RealGate<HostRuntime>> {
+type HostLink = RealLink<HostRuntime>;
+
+/// A gate at a port of the system's choice, which listens where it can.
+fn gate_at(rt: HostRuntime, host: &str, limits: Limits) -> Option<HostGate> {
+    let address = Address::new(rt.alloc(), host, 0).ok()?;
     let places = Places::new(rt.alloc()).ok()?;
-    Some(RealGate::Tcp {
-        gate: TcpGate::listening(rt, listener, places, limits),
-        faults: 0,
-    })
+    let mut gate = TcpGate::new(rt, Some(address), places, limits);
+    gate.bind();
+    Some(RealGate::Tcp { gate, faults: 0 })
 }
 
-/// A gate that listens, and its port.
-fn gate_on(rt: HostRuntime, limits: Limits) -> Option<(RealGate<HostRuntime>, u16)> {
-    let (listener, port) = listener(rt)?;
-    Some((gate_of(rt, listener, limits)?, port))
+/// The port at which a gate listens, or 0.
+fn port_of(gate: &HostGate) -> u16 {
+    match gate.own_address() {
+        Some(address) => address.port(),
+        None => 0,
+    }
 }
 
 /// A dialer with these limits.
@@ -74,7 +71,7 @@ fn dialer_on(rt: HostRuntime, limits: Limits) -> Option<RealDialer<HostRuntime>>
 }
 
 /// The next connection of a gate.
-fn accepted(gate: &mut RealGate<HostRuntime>) -> Option<RealLink<HostRuntime>> {
+fn accepted(gate: &mut HostGate) -> Option<HostLink> {
     match gate.accept() {
         Accepted::Connection(link) => Some(link),
         Accepted::Closed => None,
@@ -83,477 +80,463 @@ fn accepted(gate: &mut RealGate<HostRuntime>) -> Option<RealLink<HostRuntime>> {
     }
 }
 
-/// Writes all, and answers whether that succeeded.
-fn write_all<L: Link>(link: &mut L, bytes: &[u8]) -> bool {
-    let mut rest = bytes;
-    for _ in 0..bytes.len() {
-        if rest.is_empty() {
-            return true;
-        }
-        let Ok(n) = link.write(rest) else {
-            return false;
-        };
-        match rest.get(n..) {
-            Some(behind) => rest = behind,
-            None => return false,
-        }
-    }
-    rest.is_empty()
-}
+/// A piece of what goes both ways.
+const PIECE: usize = 32 * 251;
 
-/// Reads so many bytes, or fewer where the end comes.
-fn read_all<L: Link>(alloc: Global, link: &mut L, many: usize) -> Option<Vec<u8>> {
-    let mut bytes = Vec::with_capacity(alloc, many).ok()?;
-    let mut piece = [0u8; 8_192];
-    for _ in 0..many {
-        if bytes.len() >= many {
-            return Some(bytes);
-        }
-        let n = link.read(&mut piece).ok()?;
-        if n == 0 {
-            return Some(bytes);
-        }
-        bytes.extend_from_slice(piece.get(..n)?).ok()?;
-    }
-    Some(bytes)
-}
+/// How many bytes go both ways: a megabyte and some.
+const MANY: usize = 131 * PIECE;
 
-/// So many bytes, of which none is its neighbour's.
-fn pattern(alloc: Global, many: usize) -> Option<Vec<u8>> {
-    let mut bytes = vec![in alloc; 0; many].ok()?;
+/// Bytes of which none is one of the 250 behind it.
+fn pattern() -> [u8; PIECE] {
+    let mut bytes = [0u8; PIECE];
     for (i, byte) in bytes.iter_mut().enumerate() {
         *byte = (i % 251) as u8;
     }
-    Some(bytes)
+    bytes
 }
 
-/// Whether bytes that are sent come back, and then the end.
-fn comes_back<L: Link>(alloc: Global, link: &mut L, bytes: &[u8]) -> bool {
-    let sent = write_all(link, bytes);
-    let same = match read_all(alloc, link, ECHO) {
-        Some(back) => back.as_slice() == bytes,
-        None => false,
-    };
-    let ends = link.read(&mut [0u8; 1]) == Ok(0);
-    sent && same && ends
+/// Sends so many bytes, and answers how many were taken.
+fn sends(link: &mut HostLink) -> usize {
+    let bytes = pattern();
+    let mut at = 0usize;
+    for _ in 0..MANY {
+        if at >= MANY {
+            break;
+        }
+        let Some(rest) = bytes.get(at % PIECE..) else {
+            break;
+        };
+        if rest.is_empty() {
+            break;
+        }
+        let Ok(n) = link.write(rest) else {
+            break;
+        };
+        at = at.saturating_add(n);
+    }
+    at
 }
 
-/// Sends bytes to a port, and answers whether the same came back and then the end.
-fn asks_for_echo(rt: HostRuntime, port: u16) -> bool {
-    let Some(bytes) = pattern(rt.alloc(), ECHO) else {
-        return false;
-    };
+/// Reads so many bytes, and answers how many came as they were sent.
+fn takes(link: &mut HostLink) -> usize {
+    let bytes = pattern();
+    let mut into = [0u8; PIECE];
+    let mut at = 0usize;
+    for _ in 0..MANY {
+        if at >= MANY {
+            break;
+        }
+        let Some(rest) = bytes.get(at % PIECE..) else {
+            break;
+        };
+        let Some(room) = into.get_mut(..rest.len()) else {
+            break;
+        };
+        let n = link.read(room).unwrap_or(0);
+        let came = room.get(..n).unwrap_or(&[]);
+        if came.is_empty() || !rest.starts_with(came) {
+            break;
+        }
+        at = at.saturating_add(n);
+    }
+    at
+}
+
+/// Sends to a port and takes what comes, and answers how many bytes went both ways and what is read then.
+fn asks(rt: HostRuntime, port: u16) -> Written {
     let Some(mut dialer) = dialer_on(rt, LIMITS) else {
-        return false;
+        return Written::new();
     };
     let Ok(mut link) = dialer.dial(HOST, port) else {
-        return false;
+        return Written::new();
     };
-    let same = comes_back(rt.alloc(), &mut link, bytes.as_slice());
+    let (sent, taken) = (sends(&mut link), takes(&mut link));
+    let told = written(format_args!("{sent};{taken};"));
+    let told = then(told, link.read(&mut [0u8; 1]));
     dialer.hang_up(link);
-    same
+    told
 }
 
-/// Whether a megabyte came on a link and was given back.
-fn goes_back<L: Link>(alloc: Global, link: &mut L) -> bool {
-    match read_all(alloc, link, ECHO) {
-        Some(bytes) => bytes.len() == ECHO && write_all(link, bytes.as_slice()),
-        None => false,
-    }
-}
-
-/// Gives the next connection back what came on it.
-fn gives_echo(rt: HostRuntime, listener: TcpListener) -> bool {
-    let Some(mut gate) = gate_of(rt, listener, LIMITS) else {
-        return false;
-    };
+/// Takes what comes on the next connection and sends as much, and answers how many bytes went both ways.
+fn gives(mut gate: HostGate) -> Written {
     let Some(mut link) = accepted(&mut gate) else {
-        return false;
+        return Written::new();
     };
-    let given = goes_back(rt.alloc(), &mut link);
-    gate.hang_up(RealGate::<HostRuntime>::end(link));
-    given
+    let (taken, sent) = (takes(&mut link), sends(&mut link));
+    HostGate::end(link);
+    written(format_args!("{taken};{sent};"))
 }
 
-#[test]
-fn echoes_a_megabyte(rt: HostRuntime) {
-    let Some((listener, port)) = listener(rt) else {
-        panic!(rt; "no listener");
+/// What both ends of a connection tell.
+fn goes_both_ways<T: Threads>(threads: &T, rt: HostRuntime) -> Written {
+    let Some(gate) = gate_at(rt, HOST, LIMITS) else {
+        return Written::new();
     };
-    let both = thread::join(
-        &rt,
-        move || gives_echo(rt, listener),
-        move || asks_for_echo(rt, port),
-    );
-    assert_eq!(rt; both, (true, true));
+    let port = port_of(&gate);
+    let (first, second) = thread::join(threads, move || gives(gate), move || asks(rt, port));
+    joined(first, second.as_str())
 }
 
 /// A connection that a client made to a gate.
 #[derive(Drop)]
 struct Met {
-    gate: RealGate<HostRuntime>,
-    client: TcpStream,
-    link: RealLink<HostRuntime>,
+    gate: HostGate,
+    client: Option<TcpStream>,
+    link: Option<HostLink>,
 }
 
-/// A client's connection to a port.
-fn client_of(rt: HostRuntime, port: u16) -> Option<TcpStream> {
-    TcpStream::connect(&rt, (HOST, port)).ok()
-}
-
-/// Sends all that a client says.
-fn says(client: &mut TcpStream, bytes: &[u8]) -> bool {
-    client.write_all(bytes).is_ok() && client.shutdown(Shutdown::Write).is_ok()
+/// A client's connection to a gate.
+fn client_of(rt: HostRuntime, gate: &HostGate) -> Option<TcpStream> {
+    TcpStream::connect(&rt, (HOST, port_of(gate))).ok()
 }
 
 /// A connection on which nothing was said yet, with these limits.
 fn meet(rt: HostRuntime, limits: Limits) -> Option<Met> {
-    let (mut gate, port) = gate_on(rt, limits)?;
-    let client = client_of(rt, port)?;
-    let link = accepted(&mut gate)?;
+    let mut gate = gate_at(rt, HOST, limits)?;
+    let client = client_of(rt, &gate);
+    let link = Some(accepted(&mut gate)?);
     Some(Met { gate, client, link })
 }
 
-/// How many bytes two reads of a client give.
-fn two_reads(client: &mut TcpStream) -> [Option<usize>; 2] {
-    let mut into = [0u8; 16];
-    let first = client.read(&mut into).ok();
-    [first, client.read(&mut into).ok()]
+/// What a client or the end of the gate does on their connection.
+#[derive(Clone, Copy)]
+enum Step {
+    /// The client sends this.
+    Says(&'static [u8]),
+    /// The client sends more than is read.
+    Floods,
+    /// The client ends its output.
+    Ends,
+    /// The client reads up to 16 bytes.
+    Hears,
+    /// The client closes its connection.
+    Goes,
+    /// The link reads up to 16 bytes.
+    Reads,
+    /// The link writes this.
+    Writes(&'static [u8]),
+    /// The link writes until a call fails, or so often that it never will.
+    Fills,
+    /// The link is told that a next request is awaited.
+    Awaits,
+    /// The link tells whether it has failed: 1 where it has.
+    Tells,
+    /// The link is hung up.
+    HangsUp,
 }
 
-/// What so many calls of a link answered.
-type Calls<const N: usize> = [Result<usize, Failed>; N];
+use Step::{Awaits, Ends, Fills, Floods, Goes, HangsUp, Hears, Reads, Says, Tells, Writes};
 
-/// Reads what a client asked and its end, answers, and reads once more.
-fn served(link: &mut RealLink<HostRuntime>) -> Calls<4> {
-    let mut into = [0u8; 16];
-    let asked = link.read(&mut into);
-    let end = link.read(&mut into);
-    let answered = link.write(b"answer");
-    [asked, end, answered, link.read(&mut into)]
+/// An answer of the system as a link's.
+fn passed(answer: io::Result<usize>) -> Result<usize, Failed> {
+    match answer {
+        Ok(n) => Ok(n),
+        Err(_) => Err(Failed),
+    }
 }
 
-#[test]
-fn answers_a_client_that_ended(rt: HostRuntime) {
-    let Some(
-        Met {
-            mut gate,
-            mut client,
-            mut link,
+/// Takes a step of a client.
+fn of_client(client: &mut TcpStream, step: Step) -> Result<usize, Failed> {
+    match step {
+        Says(bytes) => passed(client.write(bytes)),
+        Floods => passed(client.write(&[b'x'; 100_000])),
+        Hears => passed(client.read(&mut [0u8; 16])),
+        Ends => match client.shutdown(Shutdown::Write) {
+            Ok(()) => Ok(0),
+            Err(_) => Err(Failed),
         },
-    ) = meet(rt, LIMITS)
-    else {
-        panic!(rt; "no connection");
-    };
-    let said = says(&mut client, b"ask");
-    let calls = served(&mut link);
-    let failed = link.has_failed();
-    gate.hang_up(RealGate::<HostRuntime>::end(link));
-    assert_eq!(rt;
-        (said, calls, failed, two_reads(&mut client)),
-        (
-            true,
-            [Ok(3), Ok(0), Ok(6), Ok(0)],
-            false,
-            [Some(6), Some(0)]
-        )
-    );
+        _ => Err(Failed),
+    }
 }
 
-/// Writes to a client that closes its connection, and reads twice.
-fn reset(met: Met) -> (Calls<3>, bool) {
-    let Met {
-        gate: _gate,
-        client,
-        mut link,
-    } = met;
-    let mut into = [0u8; 16];
-    let written = link.write(b"unread");
-    drop(client);
-    let first = link.read(&mut into);
-    let second = link.read(&mut into);
-    ([written, first, second], link.has_failed())
-}
-
-#[test]
-fn a_reset_is_no_end(rt: HostRuntime) {
-    let Some(met) = meet(rt, LIMITS) else {
-        panic!(rt; "no connection");
-    };
-    assert_eq!(rt; reset(met), ([Ok(6), Err(Failed), Err(Failed)], true));
-}
-
-#[test]
-fn an_answer_arrives_before_what_nobody_read(rt: HostRuntime) {
-    let Some(
-        Met {
-            mut gate,
-            mut client,
-            mut link,
-        },
-    ) = meet(rt, LIMITS)
-    else {
-        panic!(rt; "no connection");
-    };
-    let said = says(&mut client, &[b'x'; 100_000]);
-    let answered = link.write(b"refused");
-    gate.hang_up(RealGate::<HostRuntime>::end(link));
-    assert_eq!(rt;
-        (said, answered, two_reads(&mut client)),
-        (true, Ok(7), [Some(7), Some(0)])
-    );
-}
-
-/// Writes until the peer takes no more, and answers whether that was a failure.
-fn fills<L: Link>(link: &mut L) -> bool {
+/// Writes until a call fails, or so often that it never will.
+fn fills(link: &mut HostLink) -> Result<usize, Failed> {
     for _ in 0..10_000 {
-        if link.write(&[b'x'; 8_192]).is_err() {
-            return true;
+        link.write(&[b'x'; 8_192])?;
+    }
+    Ok(0)
+}
+
+/// Writes what isn't empty.
+fn writes(link: &mut HostLink, bytes: &[u8]) -> Result<usize, Failed> {
+    if bytes.is_empty() {
+        return Err(Failed);
+    }
+    link.write(bytes)
+}
+
+/// Takes a step of a link.
+fn of_link(link: &mut HostLink, step: Step) -> Result<usize, Failed> {
+    match step {
+        Reads => link.read(&mut [0u8; 16]),
+        Writes(bytes) => writes(link, bytes),
+        Fills => fills(link),
+        Awaits => {
+            link.await_request();
+            Ok(0)
+        }
+        Tells => Ok(usize::from(link.has_failed())),
+        _ => Err(Failed),
+    }
+}
+
+/// Ends a connection.
+fn end(link: HostLink) -> Result<usize, Failed> {
+    HostGate::end(link);
+    Ok(0)
+}
+
+/// Takes one step.
+fn take(met: &mut Met, step: Step) -> Result<usize, Failed> {
+    match step {
+        Goes => {
+            met.client = None;
+            Ok(0)
+        }
+        HangsUp => match met.link.take() {
+            Some(link) => end(link),
+            None => Err(Failed),
+        },
+        Says(_) | Floods | Ends | Hears => match &mut met.client {
+            Some(client) => of_client(client, step),
+            None => Err(Failed),
+        },
+        _ => match &mut met.link {
+            Some(link) => of_link(link, step),
+            None => Err(Failed),
+        },
+    }
+}
+
+/// What the steps answer on a connection with these limits, and whether all that took less than 4 seconds.
+fn told_of(rt: HostRuntime, limits: Limits, steps: &[Step]) -> Written {
+    let Some(mut met) = meet(rt, limits) else {
+        return Written::new();
+    };
+    let start = Instant::now(&rt);
+    let mut told = Written::new();
+    for step in steps {
+        told = then(told, take(&mut met, *step));
+    }
+    let in_time = is_within(rt, start, 4);
+    let told = told.as_str();
+    written(format_args!("{told} {in_time}"))
+}
+
+/// What is done, and what is told then. A client that ended its output is answered; one that closes its connection
+/// before it reads isn't one that ended; an answer arrives before what nobody read; and a client that says nothing, takes
+/// nothing or sends no next request is left.
+static SCENES: [(Limits, &[Step], &str); 5] = [
+    (
+        LIMITS,
+        &[
+            Says(b"ask"),
+            Ends,
+            Reads,
+            Reads,
+            Writes(b"answer"),
+            Reads,
+            Tells,
+            HangsUp,
+            Hears,
+            Hears,
+        ],
+        "3;0;3;0;6;0;0;0;6;0; true",
+    ),
+    (
+        LIMITS,
+        &[Writes(b"unread"), Goes, Reads, Reads, Tells],
+        "6;0;failed;failed;1; true",
+    ),
+    (
+        LIMITS,
+        &[Floods, Ends, Writes(b"refused"), HangsUp, Hears, Hears],
+        "100000;0;7;0;7;0; true",
+    ),
+    (SHORT, &[Reads, Fills], "failed;failed; true"),
+    (
+        SHORT,
+        &[Says(b"x"), Reads, Awaits, Reads],
+        "1;1;0;failed; true",
+    ),
+];
+
+/// Whether so many seconds haven't gone by since a start.
+fn is_within(rt: HostRuntime, start: io::Result<Instant>, seconds: u64) -> bool {
+    let Ok(start) = start else {
+        return false;
+    };
+    match start.elapsed(&rt) {
+        Ok(gone) => gone < Duration::from_secs(seconds),
+        Err(_) => false,
+    }
+}
+
+/// A gate that doesn't answer is an origin that says nothing.
+fn leaves_a_silent_origin(rt: HostRuntime) -> Written {
+    let Some(gate) = gate_at(rt, HOST, SHORT) else {
+        return Written::new();
+    };
+    let Some(mut dialer) = dialer_on(rt, SHORT) else {
+        return Written::new();
+    };
+    match dialer.dial(HOST, port_of(&gate)) {
+        Ok(mut link) => then(Written::new(), link.read(&mut [0u8; 16])),
+        Err(_) => Written::new(),
+    }
+}
+
+/// Makes one more client of a port, which sends this byte, and answers whether that was taken.
+fn joins(rt: HostRuntime, port: u16, byte: u8, clients: &mut Vec<TcpStream>) -> bool {
+    let address = SocketAddr::from((Ipv4Addr::LOCALHOST, port));
+    match TcpStream::connect_timeout(&rt, &address, Duration::from_millis(200)) {
+        Ok(mut client) => client.write(&[byte]).is_ok() && clients.push(client).is_ok(),
+        Err(_) => false,
+    }
+}
+
+/// So many clients of a port, or as many as are taken.
+fn clients(rt: HostRuntime, port: u16, many: u8) -> Vec<TcpStream> {
+    let mut clients = Vec::new(rt.alloc());
+    for byte in 0..many {
+        if !joins(rt, port, byte, &mut clients) {
+            break;
         }
     }
-    false
+    clients
 }
 
-/// Whether a read from an origin fails that says nothing.
-fn is_silent_origin_left(rt: HostRuntime) -> Option<bool> {
-    let (_listener, port) = listener(rt)?;
-    let mut dialer = dialer_on(rt, SHORT)?;
-    match dialer.dial(HOST, port) {
-        Ok(mut link) => Some(link.read(&mut [0u8; 16]).is_err()),
+/// The byte that comes on the next connection.
+fn byte_of_next(gate: &mut HostGate) -> Option<u8> {
+    let mut link = accepted(gate)?;
+    let mut into = [0u8; 1];
+    match link.read(&mut into) {
+        Ok(1) => Some(into[0]),
+        Ok(_) => None,
         Err(_) => None,
     }
 }
 
-/// Whether a read from a client fails that says nothing, and writes fail at last that it doesn't read.
-fn is_silent_client_left(met: &mut Met) -> bool {
-    met.link.read(&mut [0u8; 16]).is_err() && fills(&mut met.link)
-}
-
-/// Whether the byte is read that a client sends, and no more is waited for than an idle connection is, once the link is
-/// told that a next request is awaited.
-fn gives_way(rt: HostRuntime, met: &mut Met) -> Option<bool> {
-    let mut into = [0u8; 16];
-    met.client.write_all(b"x").ok()?;
-    let came = met.link.read(&mut into) == Ok(1);
-    met.link.await_request();
-    let start = Instant::now(&rt).ok()?;
-    let failed = met.link.read(&mut into).is_err();
-    let in_time = start.elapsed(&rt).ok()? < Duration::from_secs(3);
-    Some(came && failed && in_time)
-}
-
-/// Whether a silent client is left.
-fn leaves_a_silent_client(rt: HostRuntime) -> bool {
-    match meet(rt, SHORT) {
-        Some(mut met) => is_silent_client_left(&mut met),
-        None => false,
-    }
-}
-
-/// Whether an idle client is left in time.
-fn leaves_an_idle_client(rt: HostRuntime) -> bool {
-    match meet(rt, SHORT) {
-        Some(mut met) => gives_way(rt, &mut met) == Some(true),
-        None => false,
-    }
-}
-
-#[test]
-fn nobody_is_waited_for_without_a_limit(rt: HostRuntime) {
-    assert_eq!(rt; is_silent_origin_left(rt), Some(true));
-    assert!(rt; leaves_a_silent_client(rt));
-    assert!(rt; leaves_an_idle_client(rt));
-}
-
-/// How many connections come at once.
-const CLIENTS: u8 = 64;
-
-/// Connections of so many clients, of which each sends one byte.
-fn clients(rt: HostRuntime, port: u16) -> Option<Vec<TcpStream>> {
-    let mut clients = Vec::new(rt.alloc());
-    for byte in 0..CLIENTS {
-        let mut client = client_of(rt, port)?;
-        client.write_all(&[byte]).ok()?;
-        clients.push(client).ok()?;
-    }
-    Some(clients)
-}
-
-/// The byte that comes on the next connection.
-fn byte_of_next(gate: &mut RealGate<HostRuntime>) -> Option<u8> {
-    let mut link = accepted(gate)?;
-    let mut into = [0u8; 1];
-    let n = link.read(&mut into).ok()?;
-    if n == 1 { Some(into[0]) } else { None }
-}
-
-/// How many connections come in the order in which they were made.
-fn in_turn(gate: &mut RealGate<HostRuntime>) -> u8 {
-    for byte in 0..CLIENTS {
+/// How many of so many connections come in the order in which they were made.
+fn in_turn(gate: &mut HostGate, many: u8) -> u8 {
+    for byte in 0..many {
         if byte_of_next(gate) != Some(byte) {
             return byte;
         }
     }
-    CLIENTS
+    many
 }
 
-/// How many clients connected, and how many of them came in turn.
-fn came(rt: HostRuntime) -> Option<(usize, u8)> {
-    let (mut gate, port) = gate_on(rt, LIMITS)?;
-    let clients = clients(rt, port)?;
-    Some((clients.len(), in_turn(&mut gate)))
-}
-
-#[test]
-fn accepts_what_came_at_once_in_turn(rt: HostRuntime) {
-    assert_eq!(rt; came(rt), Some((64, 64)));
-}
-
-/// A port of the system's choice at which nobody listens any more.
-fn closed_port(rt: HostRuntime) -> Option<u16> {
-    let (_listener, port) = listener(rt)?;
-    Some(port)
+/// How many of 64 clients that come at once are taken, and how many come in turn.
+fn accepts_what_came_at_once(rt: HostRuntime) -> Written {
+    let Some(mut gate) = gate_at(rt, HOST, LIMITS) else {
+        return Written::new();
+    };
+    let clients = clients(rt, port_of(&gate), 64);
+    let (taken, came) = (clients.len(), in_turn(&mut gate, 64));
+    written(format_args!("{taken};{came};"))
 }
 
 /// Whether a dial to a port fails within so many seconds, and is counted.
-fn is_counted(rt: HostRuntime, port: u16, limits: Limits, seconds: u64) -> Option<bool> {
-    let start = Instant::now(&rt).ok()?;
-    let mut dialer = dialer_on(rt, limits)?;
-    let refused = dialer.dial(HOST, port).is_err();
-    let in_time = start.elapsed(&rt).ok()? < Duration::from_secs(seconds);
-    let counted = matches!(dialer, RealDialer::Tcp { faults: 1, .. });
-    Some(refused && in_time && counted)
-}
-
-#[test]
-fn counts_faults_of_a_dialer(rt: HostRuntime) {
-    let Some(port) = closed_port(rt) else {
-        panic!(rt; "no port");
+fn fails_in_time(rt: HostRuntime, port: u16, limits: Limits, seconds: u64) -> Written {
+    let Some(mut dialer) = dialer_on(rt, limits) else {
+        return Written::new();
     };
-    assert_eq!(rt; is_counted(rt, port, LIMITS, 15), Some(true));
+    let start = Instant::now(&rt);
+    let refused = dialer.dial(HOST, port).is_err();
+    let in_time = is_within(rt, start, seconds);
+    let counted = matches!(dialer, RealDialer::Tcp { faults: 1, .. });
+    written(format_args!("{refused};{in_time};{counted};"))
 }
 
-/// More connections than a listener's backlog holds.
-const BACKLOG: u8 = 200;
-
-/// Connections to a port until one isn't taken.
-fn fill(rt: HostRuntime, port: u16) -> Option<Vec<TcpStream>> {
-    let mut clients = Vec::new(rt.alloc());
-    let address = SocketAddr::from((Ipv4Addr::LOCALHOST, port));
-    for _ in 0..BACKLOG {
-        match TcpStream::connect_timeout(&rt, &address, Duration::from_millis(200)) {
-            Ok(client) => clients.push(client).ok()?,
-            Err(_) => break,
+/// A dial to a port at which nobody listens any more.
+fn is_refused_by_nobody(rt: HostRuntime) -> Written {
+    match gate_at(rt, HOST, LIMITS) {
+        Some(gate) => {
+            let port = port_of(&gate);
+            drop(gate);
+            fails_in_time(rt, port, LIMITS, 15)
         }
+        None => Written::new(),
     }
-    Some(clients)
 }
 
-/// Whether a dial to a listener whose backlog is full fails within its limit.
-fn gives_up(rt: HostRuntime) -> Option<bool> {
-    let (_listener, port) = listener(rt)?;
-    let _clients = fill(rt, port)?;
-    is_counted(rt, port, SHORT, 5)
+/// A dial to a listener whose backlog is full.
+fn gives_up(rt: HostRuntime) -> Written {
+    let Some(gate) = gate_at(rt, HOST, LIMITS) else {
+        return Written::new();
+    };
+    let port = port_of(&gate);
+    let _clients = clients(rt, port, 200);
+    fails_in_time(rt, port, SHORT, 5)
 }
 
-#[test]
-fn a_connect_has_its_limit(rt: HostRuntime) {
-    assert_eq!(rt; gives_up(rt), Some(true));
-}
-
-/// A gate of one place, which is taken, and two clients.
-#[derive(Drop)]
-struct OnePlace {
-    gate: RealGate<HostRuntime>,
-    link: RealLink<HostRuntime>,
-    _first: TcpStream,
-    _second: TcpStream,
-}
-
-/// Such a gate.
-fn one_taken(rt: HostRuntime) -> Option<OnePlace> {
-    let (mut gate, port) = gate_on(rt, SHORT)?;
-    let first = client_of(rt, port)?;
-    let second = client_of(rt, port)?;
-    let link = accepted(&mut gate)?;
-    Some(OnePlace {
-        gate,
-        link,
-        _first: first,
-        _second: second,
-    })
-}
-
-/// How many milliseconds after a start a gate gives a connection.
-fn millis_to_accept(
-    rt: HostRuntime,
-    start: Instant,
-    mut gate: RealGate<HostRuntime>,
-) -> Option<u128> {
-    let _link = accepted(&mut gate)?;
-    Some(start.elapsed(&rt).ok()?.as_millis())
+/// Whether a gate gives a connection a tenth of a second after a start or later, and within a minute.
+fn accepts_later(rt: HostRuntime, start: io::Result<Instant>, mut gate: HostGate) -> bool {
+    let came = accepted(&mut gate).is_some();
+    let Ok(start) = start else {
+        return false;
+    };
+    match start.elapsed(&rt) {
+        Ok(gone) => came && matches!(gone.as_millis(), 100..=59_999),
+        Err(_) => false,
+    }
 }
 
 /// Ends a connection after a tenth of a second.
-fn end_later(rt: HostRuntime, link: RealLink<HostRuntime>) {
+fn ends_later(rt: HostRuntime, link: Option<HostLink>) {
     thread::sleep(&rt, Duration::from_millis(100));
-    RealGate::<HostRuntime>::end(link);
+    if let Some(link) = link {
+        HostGate::end(link);
+    }
 }
 
-#[test]
-fn a_gate_has_so_many_places(rt: HostRuntime) {
-    let Some(
-        OnePlace {
-            gate,
-            link,
-            _first,
-            _second,
-        },
-    ) = one_taken(rt)
-    else {
-        panic!(rt; "no connection");
+/// The one place of a gate is taken, and a second client waits for it.
+fn waits_for_a_place<T: Threads>(threads: &T, rt: HostRuntime) -> Written {
+    let Some(Met { gate, client, link }) = meet(rt, SHORT) else {
+        return Written::new();
     };
-    let Ok(start) = Instant::now(&rt) else {
-        panic!(rt; "no time");
-    };
-    let (waited, ()) = thread::join(
-        &rt,
-        move || millis_to_accept(rt, start, gate),
-        move || end_later(rt, link),
+    let second = client_of(rt, &gate);
+    let start = Instant::now(&rt);
+    let (later, ()) = thread::join(
+        threads,
+        move || accepts_later(rt, start, gate),
+        move || ends_later(rt, link),
     );
-    assert!(rt; matches!(waited, Some(100..=59_999)));
+    drop(client);
+    drop(second);
+    written(later)
 }
 
-/// A gate that listens nowhere.
-fn gate_without_address(rt: HostRuntime) -> Option<RealGate<HostRuntime>> {
-    let places = Places::new(rt.alloc()).ok()?;
-    Some(RealGate::Tcp {
-        gate: TcpGate::new(rt, None, places, LIMITS),
-        faults: 0,
-    })
-}
-
-#[test]
-fn counts_faults_of_a_gate(rt: HostRuntime) {
-    let Some(mut gate) = gate_without_address(rt) else {
-        panic!(rt; "no memory");
+/// A gate that can't listen fails, and counts that.
+fn counts_faults_of_a_gate(rt: HostRuntime) -> Written {
+    let Some(mut gate) = gate_at(rt, ELSEWHERE, LIMITS) else {
+        return Written::new();
     };
+    let refused = gate.was_refused();
     let failed = matches!(gate.accept(), Accepted::Failed);
-    assert!(rt; failed && matches!(gate, RealGate::Tcp { faults: 1, .. }));
-}
-
-/// Whether a gate is closed.
-fn is_closed(gate: &mut RealGate<HostRuntime>) -> bool {
-    matches!(gate.accept(), Accepted::Closed)
+    let counted = matches!(gate, RealGate::Tcp { faults: 1, .. });
+    written(format_args!("{refused};{failed};{counted};"))
 }
 
 #[test]
-fn gives_the_streams_once(rt: HostRuntime) {
-    let mut gate = RealGate::Once { system: Some(rt) };
-    let Some(link) = accepted(&mut gate) else {
-        panic!(rt; "no connection");
-    };
-    let before = is_closed(&mut gate);
-    gate.hang_up(RealGate::<HostRuntime>::end(link));
-    assert_eq!(rt; (before, is_closed(&mut gate)), (true, true));
+fn clients_are_served_and_left(rt: HostRuntime) {
+    for (limits, steps, want) in &SCENES {
+        check(&rt, told_of(rt, *limits, steps), want);
+    }
+    check(&rt, waits_for_a_place(&rt, rt), "true");
+    check(
+        &rt,
+        goes_both_ways(&rt, rt),
+        "1052192;1052192;1052192;1052192;0;",
+    );
+    check(&rt, accepts_what_came_at_once(rt), "64;64;");
+    check(&rt, counts_faults_of_a_gate(rt), "true;true;true;");
+}
+
+#[test]
+fn origins_are_dialed_and_left(rt: HostRuntime) {
+    check(&rt, leaves_a_silent_origin(rt), "failed;");
+    check(&rt, is_refused_by_nobody(rt), "true;true;true;");
+    check(&rt, gives_up(rt), "true;true;true;");
 }

@@ -9,55 +9,76 @@ use std::fmt::Display;
 use std::io;
 use std::io::ErrorKind;
 
-/// Writes each call down as a word, behind the words before, and gives a file's path as its handle.
+/// What a file system of records holds, and which of its calls are written down and which fail.
 #[derive(Clone, Copy)]
-pub(crate) struct RecordedFiles {
-    pub(crate) calls: Written,
-    /// The causes of faults that it was told.
-    pub(crate) causes: Written,
-    made: usize,
-    /// The first call that is written down.
-    pub(crate) from: usize,
-    /// From which call on paths lead to other files.
-    pub(crate) moved_from: usize,
-    /// Whether the folder's path is a link.
-    pub(crate) linked: bool,
-    /// Which calls fail, counted from 0, and how.
-    pub(crate) fails: [(usize, ErrorKind); 2],
+pub(crate) struct Plan {
     /// The names in each folder.
     pub(crate) names: [&'static str; 3],
     /// The length of each file.
     pub(crate) len: u64,
     /// The most bytes that one read or write takes.
     pub(crate) most: usize,
+    /// Which calls fail, counted from 0, and how.
+    pub(crate) fails: [(usize, ErrorKind); 2],
+    /// From which call on paths lead to other files.
+    pub(crate) moved_from: usize,
+    /// Whether the folder's path is a link.
+    pub(crate) linked: bool,
+    /// The first call that is written down.
+    pub(crate) from: usize,
+    /// Whether the causes of faults are written down too.
+    pub(crate) tells: bool,
+}
+
+/// No call that fails.
+pub(crate) const NEVER: (usize, ErrorKind) = (usize::MAX, ErrorKind::Other);
+
+/// A folder without files.
+pub(crate) const NO_VOLUME: Plan = Plan {
+    names: ["", "", ""],
+    len: 0,
+    most: usize::MAX,
+    fails: [NEVER, NEVER],
+    moved_from: usize::MAX,
+    linked: false,
+    from: 0,
+    tells: false,
+};
+
+/// A folder of two volumes of three bytes.
+pub(crate) const TWO_VOLUMES: Plan = Plan {
+    names: ["vol-000001.warc", "notes", "vol-000000.warc"],
+    len: 3,
+    ..NO_VOLUME
+};
+
+/// Writes each call down as a word, behind the words before, and gives a file's path as its handle.
+#[derive(Clone, Copy)]
+pub(crate) struct RecordedFiles {
+    pub(crate) calls: Written,
+    made: usize,
+    plan: Plan,
 }
 
 impl RecordedFiles {
-    /// A folder with these names, whose files have this length.
-    pub(crate) fn new(names: [&'static str; 3], len: u64) -> RecordedFiles {
+    /// A file system of which nothing was asked yet.
+    pub(crate) fn new(plan: Plan) -> RecordedFiles {
         RecordedFiles {
             calls: Written::new(),
-            causes: Written::new(),
             made: 0,
-            from: 0,
-            moved_from: usize::MAX,
-            linked: false,
-            fails: [(usize::MAX, ErrorKind::Other); 2],
-            names,
-            len,
-            most: usize::MAX,
+            plan,
         }
     }
 
     /// Writes a call down, and answers whether it fails.
     fn call(&mut self, call: &str, of: &str) -> io::Result<()> {
         let number = self.made;
-        if number >= self.from {
+        if number >= self.plan.from {
             let call = called(call, of);
             self.calls = joined(joined(self.calls, call.as_str()), ";");
         }
         self.made = self.made.saturating_add(1);
-        for (call, kind) in &self.fails {
+        for (call, kind) in &self.plan.fails {
             if *call == number {
                 return Err(io::Error::from(*kind));
             }
@@ -89,8 +110,10 @@ fn identity_of(name: &str, device: u64) -> Identity {
 
 impl Causes for RecordedFiles {
     fn tell<D: Display + Drop>(&mut self, what: D, call: &str, error: &io::Error) {
-        let line = cause(what, call, error);
-        self.causes = joined(self.causes, line.as_str());
+        if self.plan.tells {
+            let line = cause(what, call, error);
+            self.calls = joined(self.calls, line.as_str());
+        }
     }
 }
 
@@ -109,7 +132,7 @@ impl FileSystem for RecordedFiles {
 
     fn list(&mut self, path: &str, tally: &mut Tally) -> io::Result<()> {
         self.call("list", path)?;
-        for name in &self.names {
+        for name in &self.plan.names {
             tally.add(name)?;
         }
         Ok(())
@@ -143,29 +166,29 @@ impl FileSystem for RecordedFiles {
         self.call("look at", name)?;
         Ok(Found {
             identity: identity_of(name, 0),
-            len: self.len,
+            len: self.plan.len,
         })
     }
 
     fn identity_at(&mut self, path: &str) -> io::Result<Identity> {
-        let moved = u64::from(self.made >= self.moved_from);
+        let moved = u64::from(self.made >= self.plan.moved_from);
         self.call("look for", path)?;
         Ok(identity_of(name_of(path), moved))
     }
 
     fn is_link(&mut self, path: &str) -> io::Result<bool> {
         self.call("is a link", path)?;
-        Ok(self.linked)
+        Ok(self.plan.linked)
     }
 
     fn read_at(&mut self, file: &Written, into: &mut [u8], at: u64) -> io::Result<usize> {
-        let n = into.len().min(self.most);
+        let n = into.len().min(self.plan.most);
         self.call(at_place("read", n, at).as_str(), file.as_str())?;
         Ok(n)
     }
 
     fn write_at(&mut self, file: &Written, piece: &[u8], at: u64) -> io::Result<usize> {
-        let n = piece.len().min(self.most);
+        let n = piece.len().min(self.plan.most);
         self.call(at_place("write", n, at).as_str(), file.as_str())?;
         Ok(n)
     }

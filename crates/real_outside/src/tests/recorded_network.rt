@@ -58,7 +58,7 @@ pub(crate) enum Peer {
 #[derive(Clone, Copy)]
 pub(crate) struct RecordedSocket {
     pub(crate) calls: Written,
-    /// The causes of faults that it was told.
+    /// The causes of faults that it was told, a space before each.
     pub(crate) causes: Written,
     pub(crate) peer: Peer,
     pub(crate) millis: u64,
@@ -136,7 +136,7 @@ impl Write for RecordedSocket {
 impl Causes for RecordedSocket {
     fn tell<D: Display + Drop>(&mut self, what: D, call: &str, error: &io::Error) {
         let line = cause(what, call, error);
-        self.causes = joined(self.causes, line.as_str());
+        self.causes = joined(joined(self.causes, " "), line.as_str());
     }
 }
 
@@ -192,36 +192,48 @@ pub(crate) fn address(last: u8) -> SocketAddr {
     SocketAddr::from(([10, 0, 0, last], 80))
 }
 
-/// Gives three things in turn, and then the last again.
+/// What a network gives and answers.
 #[derive(Clone, Copy)]
-pub(crate) struct RecordedNetwork {
-    pub(crate) calls: Written,
-    /// The causes of faults that it was told.
-    pub(crate) causes: Written,
-    comes: [Comes; 3],
-    given: usize,
+pub(crate) struct Plan {
+    /// What comes of accepts or connects in turn. Then silent peers come.
+    pub(crate) comes: &'static [Comes],
     /// How many addresses each host has.
     pub(crate) many: usize,
     /// The error of a call that listens or looks a host up.
     pub(crate) refuses: Option<i32>,
+    /// How many milliseconds it has to pause until its output takes three bytes at once. Before, it takes nothing yet.
+    pub(crate) takes_after: u64,
+    /// Whether the causes of faults are written down too.
+    pub(crate) tells: bool,
+}
+
+/// Hosts have two addresses, and a silent peer is at each.
+pub(crate) const QUIET: Plan = Plan {
+    comes: &[],
+    many: 2,
+    refuses: None,
+    takes_after: 20,
+    tells: false,
+};
+
+/// Writes each call down, and answers as planned.
+#[derive(Clone, Copy)]
+pub(crate) struct RecordedNetwork {
+    pub(crate) calls: Written,
+    given: usize,
     /// How many milliseconds it paused in all.
     paused: u64,
-    /// Behind how many its output takes three bytes at once. Before, it takes nothing yet.
-    pub(crate) takes_after: u64,
+    plan: Plan,
 }
 
 impl RecordedNetwork {
-    /// A network that gives these things.
-    pub(crate) fn new(comes: [Comes; 3]) -> RecordedNetwork {
+    /// A network of which nothing was asked yet.
+    pub(crate) fn new(plan: Plan) -> RecordedNetwork {
         RecordedNetwork {
             calls: Written::new(),
-            causes: Written::new(),
-            comes,
             given: 0,
-            many: 2,
-            refuses: None,
             paused: 0,
-            takes_after: 0,
+            plan,
         }
     }
 
@@ -232,9 +244,9 @@ impl RecordedNetwork {
 
     /// What comes next.
     fn next(&mut self) -> io::Result<RecordedSocket> {
-        let comes = match self.comes.get(self.given) {
+        let comes = match self.plan.comes.get(self.given) {
             Some(comes) => *comes,
-            None => self.comes[2],
+            None => Comes::Connection(Peer::Silent),
         };
         self.given = self.given.saturating_add(1);
         match comes {
@@ -246,8 +258,10 @@ impl RecordedNetwork {
 
 impl Causes for RecordedNetwork {
     fn tell<D: Display + Drop>(&mut self, what: D, call: &str, error: &io::Error) {
-        let line = cause(what, call, error);
-        self.causes = joined(self.causes, line.as_str());
+        if self.plan.tells {
+            let line = cause(what, call, error);
+            self.calls = joined(self.calls, line.as_str());
+        }
     }
 }
 
@@ -258,7 +272,7 @@ impl Network for RecordedNetwork {
 
     fn listen(&mut self, host: &str, port: u16) -> io::Result<()> {
         self.call(numbered(called("listen", host).as_str(), u64::from(port)).as_str());
-        match self.refuses {
+        match self.plan.refuses {
             Some(number) => Err(Error::from_raw_os_error(number)),
             None => Ok(()),
         }
@@ -279,10 +293,10 @@ impl Network for RecordedNetwork {
 
     fn find(&mut self, host: &str, port: u16, found: &mut [SocketAddr]) -> io::Result<usize> {
         self.call(numbered(called("find", host).as_str(), u64::from(port)).as_str());
-        if let Some(number) = self.refuses {
+        if let Some(number) = self.plan.refuses {
             return Err(Error::from_raw_os_error(number));
         }
-        let many = found.len().min(self.many);
+        let many = found.len().min(self.plan.many);
         for (place, last) in found.iter_mut().zip(1..=LAST) {
             *place = address(last);
         }
@@ -304,12 +318,12 @@ impl Network for RecordedNetwork {
 
 /// What is printed is dropped.
 impl Print for RecordedNetwork {
-    fn print<D: Display + Drop>(&self, value: D) -> io::Result<()> {
-        self.write_all(written(value).as_str().as_bytes())
+    fn print<D: Display + Drop>(&self, _value: D) -> io::Result<()> {
+        Ok(())
     }
 
-    fn println<D: Display + Drop>(&self, value: D) -> io::Result<()> {
-        self.print(value)
+    fn println<D: Display + Drop>(&self, _value: D) -> io::Result<()> {
+        Ok(())
     }
 
     fn write_all(&self, _bytes: &[u8]) -> io::Result<()> {
@@ -317,7 +331,7 @@ impl Print for RecordedNetwork {
     }
 
     fn write_some(&self, bytes: &[u8]) -> io::Result<usize> {
-        if self.paused < self.takes_after {
+        if self.paused < self.plan.takes_after {
             return Err(Error::from(ErrorKind::WouldBlock));
         }
         Ok(bytes.len().min(3))

@@ -1,7 +1,7 @@
 //! How long links wait, and what a connection still reads when it ends.
 //! No case can say it: the links of a case hold all their bytes, and no time goes by.
 use super::recorded_network::{LIMITS, Peer, RecordedSocket};
-use super::written::{Written, check, joined, written};
+use super::written::{Written, check, then, written};
 use crate::limits;
 use crate::limits::Limits;
 use crate::places::{Place, Places};
@@ -37,36 +37,13 @@ fn take(link: &mut TcpLink<RecordedSocket>, step: Step) -> io::Result<usize> {
     }
 }
 
-/// The word for an answer.
-fn word_of(answer: io::Result<usize>) -> Written {
-    match answer {
-        Ok(n) => written(format_args!("{n};")),
-        Err(_) => written("failed;"),
-    }
-}
-
 /// What the steps answered.
 fn answers_of(link: &mut TcpLink<RecordedSocket>, steps: &[Step]) -> Written {
     let mut answers = Written::new();
     for step in steps {
-        let word = word_of(take(link, *step));
-        answers = joined(answers, word.as_str());
+        answers = then(answers, take(link, *step));
     }
     answers
-}
-
-/// Three texts in one.
-fn told(calls: &Written, answers: &Written, millis: u64) -> Written {
-    let calls = calls.as_str();
-    let answers = answers.as_str();
-    written(format_args!("{calls} {answers} {millis}"))
-}
-
-/// What was called of the socket, what the steps answered, and how many milliseconds went by.
-fn told_of(link: &mut TcpLink<RecordedSocket>, steps: &[Step]) -> Written {
-    let answers = answers_of(link, steps);
-    let socket = link.socket();
-    told(&socket.calls, &answers, socket.millis)
 }
 
 /// Who is at the other end of a connection.
@@ -128,22 +105,18 @@ fn connection(
     Ok(Beside { link, _other })
 }
 
-/// The causes that are told on the connection of a row.
-fn causes(alloc: Global, row: &Row) -> Option<Written> {
-    let (who, crowded, peer, steps, _) = row;
-    let mut beside = connection(alloc, *who, *crowded, *peer, &LIMITS).ok()?;
-    let _answers = answers_of(&mut beside.link, steps);
-    Some(beside.link.socket().causes)
-}
-
-/// What is called and answered on the connection of a row.
+/// What is called of the socket of a row, what the steps answer, how many milliseconds go by, and the causes that are told.
 fn waited(alloc: Global, row: &Row) -> Option<Written> {
     let (who, crowded, peer, steps, _) = row;
     let mut beside = connection(alloc, *who, *crowded, *peer, &LIMITS).ok()?;
-    Some(told_of(&mut beside.link, steps))
+    let answers = answers_of(&mut beside.link, steps);
+    let socket = beside.link.socket();
+    let (calls, causes, millis) = (socket.calls, socket.causes, socket.millis);
+    let (calls, answers, causes) = (calls.as_str(), answers.as_str(), causes.as_str());
+    Some(written(format_args!("{calls} {answers} {millis}{causes}")))
 }
 
-static ROWS: [Row; 24] = [
+static ROWS: [Row; 26] = [
     (
         Client,
         false,
@@ -170,7 +143,7 @@ static ROWS: [Row; 24] = [
         false,
         Peer::SendsOnce(10),
         &[Read, Answer, Read],
-        "at once;out 2000;in 100;read;write;in 5000;read; 10;19;failed; 5000",
+        "at once;out 2000;in 100;read;write;in 5000;read; 10;19;failed; 5000 10.0.0.7:80: read: timed out;",
     ),
     (
         Client,
@@ -191,7 +164,7 @@ static ROWS: [Row; 24] = [
         true,
         Peer::Trickles(10),
         &[Read, Read, Read, Read],
-        "at once;out 2000;in 100;read;in 5000;read;read;in 2030;read; 10;10;10;failed; 8030",
+        "at once;out 2000;in 100;read;in 5000;read;read;in 2030;read; 10;10;10;failed; 8030 10.0.0.7:80: read: timed out;",
     ),
     (
         Client,
@@ -275,21 +248,21 @@ static ROWS: [Row; 24] = [
         false,
         Peer::Silent,
         &[Answer, Read],
-        "at once;out 2000;write;in 3000;read; 19;failed; 3000",
+        "at once;out 2000;write;in 3000;read; 19;failed; 3000 10.0.0.7:80: read: timed out;",
     ),
     (
         Origin,
         false,
         Peer::SendsOnce(10),
         &[Read, Read],
-        "at once;out 2000;in 3000;read;read; 10;failed; 3000",
+        "at once;out 2000;in 3000;read;read; 10;failed; 3000 10.0.0.7:80: read: timed out;",
     ),
     (
         Origin,
         false,
         Peer::Trickles(10),
         &[Read, Read, Read],
-        "at once;out 2000;in 3000;read;read;in 1020;read; 10;10;failed; 4020",
+        "at once;out 2000;in 3000;read;read;in 1020;read; 10;10;failed; 4020 10.0.0.7:80: read: timed out;",
     ),
     (
         Origin,
@@ -303,14 +276,28 @@ static ROWS: [Row; 24] = [
         true,
         Peer::Trickles(10),
         &[Read, Read],
-        "at once;out 2000;in 2500;read;in 2510;read; 10;failed; 2510",
+        "at once;out 2000;in 2500;read;in 2510;read; 10;failed; 2510 10.0.0.7:80: read: timed out;",
     ),
     (
         Origin,
         false,
         Peer::TakesNothing,
         &[Answer, Read],
-        "at once;out 2000;write;in 3000;read; failed;failed; 5000",
+        "at once;out 2000;write;in 3000;read; failed;failed; 5000 10.0.0.7:80: write: timed out; 10.0.0.7:80: read: timed out;",
+    ),
+    (
+        Client,
+        false,
+        Peer::SendsOnce(10),
+        &[Read, Read, Read],
+        "at once;out 2000;in 100;read;in 5000;read; 10;failed;failed; 5000 10.0.0.7:80: read: timed out;",
+    ),
+    (
+        Origin,
+        false,
+        Peer::Reset,
+        &[Read],
+        "at once;out 2000;in 3000;read; failed; 0 10.0.0.7:80: read: connection reset;",
     ),
 ];
 
@@ -385,48 +372,5 @@ fn lasts(alloc: Global, row: &Lasting) -> Option<u64> {
 fn nobody_holds_a_worker_for_long(rt: HostRuntime) {
     for row in &LASTING {
         assert_eq!(rt; lasts(rt.alloc(), row), Some(row.5));
-    }
-}
-
-/// The same, with the causes that are told in place of the calls.
-static CAUSES: [Row; 5] = [
-    (Client, false, Peer::Silent, &[Read, Read], ""),
-    (
-        Client,
-        false,
-        Peer::SendsOnce(10),
-        &[Read, Read, Read],
-        "10.0.0.7:80: read: timed out;",
-    ),
-    (
-        Client,
-        false,
-        Peer::SendsOnce(10),
-        &[Read, Answer, Await, Read],
-        "",
-    ),
-    (
-        Origin,
-        false,
-        Peer::TakesNothing,
-        &[Answer, Read],
-        "10.0.0.7:80: write: timed out;10.0.0.7:80: read: timed out;",
-    ),
-    (
-        Origin,
-        false,
-        Peer::Reset,
-        &[Read],
-        "10.0.0.7:80: read: connection reset;",
-    ),
-];
-
-#[test]
-fn a_fault_within_a_message_is_told(rt: HostRuntime) {
-    for row in &CAUSES {
-        match causes(rt.alloc(), row) {
-            Some(told) => check(&rt, told, row.4),
-            None => panic!(rt; "no memory"),
-        }
     }
 }

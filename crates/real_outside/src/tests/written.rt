@@ -29,6 +29,19 @@ pub(crate) fn numbered(call: &str, number: u64) -> Written {
     written(format_args!("{call} {number}"))
 }
 
+/// The word for an answer, and behind it a semicolon.
+pub(crate) fn answered<E: Drop>(answer: Result<usize, E>) -> Written {
+    match answer {
+        Ok(n) => written(format_args!("{n};")),
+        Err(_) => written("failed;"),
+    }
+}
+
+/// What was written before, and behind it the word for an answer.
+pub(crate) fn then<E: Drop>(before: Written, answer: Result<usize, E>) -> Written {
+    joined(before, answered(answer).as_str())
+}
+
 /// A cause of a fault, as it is told.
 pub(crate) fn cause<D: Display + Drop>(what: D, call: &str, error: &io::Error) -> Written {
     written(format_args!("{what}: {call}: {error};"))
