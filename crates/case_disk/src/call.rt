@@ -21,6 +21,8 @@ pub enum Call<'a> {
     ReadCheckpoint(u32),
     /// The checkpoint of a volume is written, which has this text.
     WriteCheckpoint(u32, &'a [u8]),
+    /// A volume is checked.
+    Verify(Due<'a>),
     /// The counts of the disk are told.
     Counts,
     /// So many further calls pass, and each behind them fails.
@@ -29,6 +31,20 @@ pub enum Call<'a> {
     HalfMake,
     /// The disk stops by a choice, or by the case's own.
     Stop(Option<u32>),
+}
+
+/// What is due in a volume that is checked.
+#[derive(Clone, Copy)]
+pub struct Due<'a> {
+    /// How many workers read it.
+    pub workers: u32,
+    pub volume: u32,
+    /// The number of its first capture, and how many it has.
+    pub first: u32,
+    pub count: u32,
+    pub last: bool,
+    /// The namespace, as an id is written.
+    pub namespace: &'a [u8],
 }
 
 impl<'a> Call<'a> {
@@ -43,6 +59,8 @@ impl<'a> Call<'a> {
             "stop" => stop_in(text),
             "read-checkpoint" => Some(Call::ReadCheckpoint(small_in(text)?)),
             "write-checkpoint" => checkpoint_in(text),
+            "verify" => Some(Call::Verify(due_in(text, false)?)),
+            "verify-last" => Some(Call::Verify(due_in(text, true)?)),
             _ => call_of_file(name, text),
         }
     }
@@ -52,6 +70,22 @@ impl<'a> Call<'a> {
 fn checkpoint_in<'a>(text: &'a [u8]) -> Option<Call<'a>> {
     let (volume, rest) = split_front(text)?;
     Some(Call::WriteCheckpoint(small_in(volume)?, rest))
+}
+
+/// What is due in a volume, the last one or another: the text is `WORKERS VOLUME FIRST COUNT NAMESPACE`.
+fn due_in<'a>(text: &'a [u8], last: bool) -> Option<Due<'a>> {
+    let (workers, rest) = split_front(text)?;
+    let (volume, rest) = split_front(rest)?;
+    let (first, rest) = split_front(rest)?;
+    let (count, namespace) = split_front(rest)?;
+    Some(Due {
+        workers: small_in(workers)?,
+        volume: small_in(volume)?,
+        first: small_in(first)?,
+        count: small_in(count)?,
+        last,
+        namespace,
+    })
 }
 
 /// A call of a file, or a file that is put.

@@ -5,14 +5,16 @@ use crate::disk::{DiskSetting, behind_volumes, set};
 use crate::outcome::Outcome;
 use crate::reaching::Absent;
 use crate::told::Told;
-use crate::{checkpoints, looked};
+use crate::{checkpoints, looked, verdicts};
 use capture::Memory;
 use disk_model::{Kind, MemoryDisk};
 use std::alloc::Global;
+use std::thread::Threads;
 
 /// What each call tells, and the files that a stop by this choice leaves behind them. A step `stop` without a number stops by it
 /// too. `None` where a step is none, or the disk could not be stopped.
-pub fn outcome_of_calls(
+pub fn outcome_of_calls<R: Threads + Sync>(
+    rt: &R,
     alloc: Global,
     setting: DiskSetting,
     steps: &[Deed],
@@ -24,7 +26,7 @@ pub fn outcome_of_calls(
         if !step.is_due(&outcome) {
             continue;
         }
-        disk = match done(alloc, &mut outcome, disk, step, choice)? {
+        disk = match done(rt, alloc, &mut outcome, disk, step, choice)? {
             Some(disk) => disk,
             None => return Ok(None),
         };
@@ -48,7 +50,8 @@ fn standing(alloc: Global, setting: DiskSetting) -> Result<MemoryDisk, Memory> {
 }
 
 /// Does a step, and tells what it answers. `None` where it is none.
-fn done(
+fn done<R: Threads + Sync>(
+    rt: &R,
     alloc: Global,
     outcome: &mut Outcome,
     disk: MemoryDisk,
@@ -61,7 +64,7 @@ fn done(
         Some(Call::Stop(named)) => stopped(disk, named.unwrap_or(choice)),
         Some(call) => {
             let mut disk = disk;
-            told(alloc, &mut disk, call)?.put(alloc, outcome)?;
+            told(rt, alloc, &mut disk, call)?.put(alloc, outcome)?;
             Ok(Some(disk))
         }
         None => Ok(None),
@@ -69,7 +72,12 @@ fn done(
 }
 
 /// Makes a call, and says what it tells.
-fn told(alloc: Global, disk: &mut MemoryDisk, call: Call) -> Result<Told, Memory> {
+fn told<R: Threads + Sync>(
+    rt: &R,
+    alloc: Global,
+    disk: &mut MemoryDisk,
+    call: Call,
+) -> Result<Told, Memory> {
     match call {
         Call::Files(kind) => Ok(looked::files(disk, kind)),
         Call::Create(kind) => Ok(looked::create(disk, kind)),
@@ -82,6 +90,7 @@ fn told(alloc: Global, disk: &mut MemoryDisk, call: Call) -> Result<Told, Memory
         Call::WriteEach(kind, file, at, bytes) => Ok(write_each(disk, kind, file, at, bytes)),
         Call::ReadCheckpoint(volume) => checkpoints::read(alloc, disk, volume),
         Call::WriteCheckpoint(volume, text) => checkpoints::write(alloc, disk, volume, text),
+        Call::Verify(due) => verdicts::verify(rt, alloc, disk, due),
         Call::Counts => looked::counts(alloc, disk),
         Call::Fuse(_) => Ok(Told::Nothing),
         Call::HalfMake => Ok(Told::Nothing),

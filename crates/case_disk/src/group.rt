@@ -122,7 +122,7 @@ fn asked_in(text: &[u8]) -> Option<Asked> {
 }
 
 /// A namespace, as an id is written.
-fn namespace_in(text: &[u8]) -> Option<Uuid> {
+pub fn namespace_in(text: &[u8]) -> Option<Uuid> {
     let text = std::str::from_utf8(text).ok()?;
     Uuid::parse_str(text).ok()
 }

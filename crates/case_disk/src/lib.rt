@@ -13,6 +13,7 @@ mod opening;
 mod outcome;
 mod reaching;
 mod told;
+mod verdicts;
 
 pub use calls::outcome_of_calls;
 pub use deed::Deed;

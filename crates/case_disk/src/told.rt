@@ -10,6 +10,10 @@ pub enum Told {
     Done,
     Number(u64),
     Bytes(Vec<u8>),
+    /// A volume is sound, and so long.
+    Sound(u64),
+    /// It is damaged at this place.
+    Damaged(u64),
     /// The call failed.
     DiskFault,
     /// The call wasn't made, since the file or the range isn't there.
@@ -27,6 +31,8 @@ impl Told {
             Told::Done => outcome.put_answer(alloc, b"done"),
             Told::Number(number) => put_count(alloc, outcome, *number),
             Told::Bytes(bytes) => outcome.put_answer(alloc, bytes.as_slice()),
+            Told::Sound(bytes) => put_verdict(alloc, outcome, "sound", *bytes),
+            Told::Damaged(place) => put_verdict(alloc, outcome, "damaged", *place),
             Told::DiskFault => outcome.put_answer(alloc, b"DiskFault"),
             Told::Absent(Absent::File) => outcome.put_answer(alloc, b"NoFile"),
             Told::Absent(Absent::Range) => outcome.put_answer(alloc, b"NoRange"),
@@ -41,4 +47,15 @@ fn put_count(alloc: Global, outcome: &mut Outcome, number: u64) -> Result<(), Me
     let mut digits = Vec::new(alloc);
     put_number(&mut digits, number)?;
     outcome.put_answer(alloc, digits.as_slice())
+}
+
+/// Puts a line `answer` with what was found of a volume.
+fn put_verdict(
+    alloc: Global,
+    outcome: &mut Outcome,
+    found: &str,
+    number: u64,
+) -> Result<(), Memory> {
+    let text = format!(in alloc; "{found} {number}")?;
+    outcome.put_answer(alloc, text.as_bytes())
 }

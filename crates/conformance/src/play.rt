@@ -142,13 +142,18 @@ where
     match &script.first.played {
         Played::Program if script.goes_on() => outcome_of_runs(rt, alloc, script, turn),
         Played::Program => Ok(None),
-        _ if script.further.is_empty() => outcome_of_one(alloc, &script.first, turn),
+        _ if script.further.is_empty() => outcome_of_one(rt, alloc, &script.first, turn),
         _ => Ok(None),
     }
 }
 
 /// What anything but a run gives, and the files that the stop of this turn leaves behind it.
-fn outcome_of_one(alloc: Global, setting: &Setting, turn: u32) -> Result<Option<Outcome>, Memory> {
+fn outcome_of_one<R: Threads + Sync>(
+    rt: &R,
+    alloc: Global,
+    setting: &Setting,
+    turn: u32,
+) -> Result<Option<Outcome>, Memory> {
     let stop = setting.stops.at(turn);
     match &setting.played {
         Played::Program => Ok(None),
@@ -159,7 +164,7 @@ fn outcome_of_one(alloc: Global, setting: &Setting, turn: u32) -> Result<Option<
         Played::Altered(change) => stored_altered(alloc, setting, *change),
         Played::Opening(skip) => opened(alloc, setting, stop, *skip),
         Played::Files => worked(alloc, setting, stop),
-        Played::Disk => outcome_of_calls(alloc, setting.disk(), setting.deeds.as_slice(), stop),
+        Played::Disk => outcome_of_calls(rt, alloc, setting.disk(), setting.deeds.as_slice(), stop),
     }
 }
 
