@@ -34,7 +34,7 @@ pub struct Unserved<A, W> {
 }
 
 /// A post for each worker, in their order.
-fn make_posts<W: Worker<K> + Drop, K, J: Naming>(
+fn make_posts<W: Worker<K>, K, J: Naming>(
     queue: &Queue<K, J>,
     workers: Vec<W>,
     all: &mut Share<K, J>,
@@ -53,10 +53,11 @@ fn make_posts<W: Worker<K> + Drop, K, J: Naming>(
     'making: while let Some(worker) = rest.next() {
         posts.push_reserved(Post::new(worker, queue.cut(all)));
     }
+    rest.destroy_empty();
 }
 
 /// The workers, in the order of their posts, and their shares.
-fn gather<W: Worker<K> + Drop, K, J: Naming>(
+fn gather<W: Worker<K>, K, J: Naming>(
     queue: &Queue<K, J>,
     posts: Vec<Post<W, K, J>>,
     all: &mut Share<K, J>,
@@ -75,6 +76,7 @@ fn gather<W: Worker<K> + Drop, K, J: Naming>(
         queue.merge(all, share);
         workers.push_reserved(worker);
     }
+    rest.destroy_empty();
 }
 
 /// All workers serve, each in a thread of its own where threads can be made.
@@ -140,8 +142,8 @@ fn both<
 
 /// Serves under a name of the ledger.
 fn serve_under<
-    A: Acceptor<K> + Send + Drop,
-    W: Worker<K> + Send + Drop,
+    A: Acceptor<K> + Send,
+    W: Worker<K> + Send,
     K: Send + Drop,
     J: Naming + Send + Sync,
     R: Threads + Wait + Sync,
@@ -162,6 +164,7 @@ fn serve_under<
         return Err(Unserved { acceptor, workers });
     };
     let Ok(mut ended) = Vec::with_capacity(alloc, count) else {
+        posts.destroy_empty();
         return Err(Unserved { acceptor, workers });
     };
     let (queue, mut all) = unnamed.named::<J>();
@@ -192,8 +195,8 @@ fn serve_under<
 ///
 /// Where no thread can be made, all is accepted first, and the first worker then serves it.
 pub fn serve_beside<
-    A: Acceptor<K> + Send + Drop,
-    W: Worker<K> + Send + Drop,
+    A: Acceptor<K> + Send,
+    W: Worker<K> + Send,
     K: Send + Drop,
     R: Threads + Wait + Sync,
 >(rt: &R, alloc: Global, acceptor: A, workers: Vec<W>) -> Result<Served<A, W, K>, Unserved<A, W>>
