@@ -1,5 +1,7 @@
 -- The exchanges of a load, by their numbers.
-use Rattle.std.specs.Prelude.{ℕ, zero, suc, ◌+◌, ◌-◌, ◌*◌, ◌%◌, ◌==◌, if◌then◌else◌, List, [], ◌++◌, replicate, codes, decimal}
+use Rattle.std.specs.Prelude.{ℕ, zero, suc, ◌+◌, ◌-◌, ◌*◌, ◌%◌, ◌==◌, if◌then◌else◌, false, List, [], ◌++◌, replicate, codes, decimal}
+use Rattle.capture.specs.declared.captured.Brought.{Brought}
+use Rattle.capture.specs.declared.captured.Taken.{Taken}
 
 -- the exchange whose payload this one has: itself, or for each fourth the third before it
 abbrev pub page_of : ℕ → ℕ
@@ -45,3 +47,39 @@ head_text len = head_front ++ decimal len ++ codes "\r\n\r\n"
 -- what the origin of an exchange sends
 abbrev pub origin_text : ℕ → ℕ → List ℕ
 origin_text seed number = head_text (payload_len seed number) ++ payload seed number
+
+-- ---- what a recording proxy makes of an exchange
+
+-- what stands behind the host in what it sends to the origin (RFC 9110, section 7.6.3; RFC 9112, section 9.6)
+unfoldable pub forwarded_end : List ℕ
+forwarded_end = codes "\r\nVia: 1.1 memproxy\r\nConnection: close\r\n\r\n"
+
+-- what stands before the version there (RFC 9112, section 3.2.1)
+unfoldable pub forwarded_begin : ℕ → List ℕ
+forwarded_begin number = codes "GET /p" ++ decimal number
+
+-- what it sends to the origin
+unfoldable pub forwarded_text : ℕ → List ℕ
+forwarded_text number = forwarded_begin number ++ codes " HTTP/1.1\r\nHost: " ++ host_text number ++ forwarded_end
+
+-- what it stores
+abbrev pub taken_of : (seed number : ℕ) → Taken
+taken_of seed number = record {
+  method = codes "GET";
+  uri = uri_text number;
+  date = date number;
+  request = forwarded_text number;
+  head = head_text (payload_len seed number);
+  wire = payload seed number;
+  cut = false;
+}
+
+-- what it brings back
+abbrev pub brought_of : (seed number : ℕ) → Brought
+brought_of seed number = record {
+  method = codes "GET";
+  uri = uri_text number;
+  date = date number;
+  head = head_text (payload_len seed number);
+  payload = payload seed number;
+}

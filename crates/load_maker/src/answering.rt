@@ -34,7 +34,7 @@ pub fn payload(alloc: Global, seed: u64, number: u32) -> Result<Bytes, Memory>
 }
 
 /// How long the payload of an exchange is, in bytes: below 2,049.
-fn payload_len(seed: u64, number: u32) -> usize
+pub(crate) fn payload_len(seed: u64, number: u32) -> usize
     ensures { result ≡ load.payload_len seed number }
 {
     let page = page_of(number);
@@ -43,7 +43,7 @@ fn payload_len(seed: u64, number: u32) -> usize
 
 /// Puts the head of a response with a payload of so many bytes.
 #[tactic(auto, unfolding(crate::specs::Load::head_text))]
-fn put_head(out: &mut Vec<u8>, len: u64) -> Result<(), Memory>
+pub(crate) fn put_head(out: &mut Vec<u8>, len: u64) -> Result<(), Memory>
     ensures { OnOk result (out.new.items ≡ out.old.items ++ load.head_text len) }
 {
     put_front(out)?;
@@ -63,7 +63,7 @@ fn put_front(out: &mut Vec<u8>) -> Result<(), Memory>
 }
 
 /// Puts the payload of an exchange.
-fn put_payload(out: &mut Vec<u8>, seed: u64, number: u32) -> Result<(), Memory>
+pub(crate) fn put_payload(out: &mut Vec<u8>, seed: u64, number: u32) -> Result<(), Memory>
     ensures { OnOk result (out.new.items ≡ out.old.items ++ load.payload seed number) }
 {
     let letter = b'a' + (page_of(number) % 26) as u8;

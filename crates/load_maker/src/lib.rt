@@ -7,8 +7,10 @@
 
 mod answering;
 mod asking;
+mod checking;
 mod exchange;
 
 pub use answering::{origin, payload};
 pub use asking::{client, uri};
+pub use checking::{CheckFault, check_brought, check_taken};
 pub use exchange::date;

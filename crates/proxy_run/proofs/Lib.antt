@@ -10,4 +10,5 @@ mod OpeningLaws
 mod PipeLaws
 mod RunLaws
 mod TakingLaws
+mod TrialLaws
 mod WordsLemmas

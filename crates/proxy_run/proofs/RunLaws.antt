@@ -8,11 +8,12 @@ use Rattle.proxy_run.specs.Pipes.{Pipes, Refuses}
 use Rattle.proxy_run.specs.Printing.{Prints}
 use Rattle.proxy_run.specs.Runs.{Runs}
 use Rattle.proxy_run.specs.Texts.{usage}
+use Rattle.proxy_run.specs.Trials.{Tries}
 use Rattle.proxy_run.specs.Words.{asked_of}
 use Rattle.proxy_run.specs.declared.status.Status.{Status}
 use Rattle.proxy_run.specs.declared.status.Status.TheVariants.{Words}
 use Rattle.proxy_run.specs.declared.words.Command.{Command}
-use Rattle.proxy_run.specs.declared.words.Command.TheVariants.{Check, Import, Pipe}
+use Rattle.proxy_run.specs.declared.words.Command.TheVariants.{Check, Import, Pipe, Trial}
 
 module _ {D G L P N M C O : Type 0} (kinds : Kinds D G L P N M C O) (found : Option Command) where
   pub runs_none : (was : Objects D G N C O) (out : O) (status : Status) → found ≡ None → Prints kinds.sinks Words usage was.out out status
@@ -32,6 +33,19 @@ module _ {D G L P N M C O : Type 0} (kinds : Kinds D G L P N M C O) (found : Opt
   runs_check command was disk out status is_command is_check result =
       subst (λ f. Runs kinds f was (record was { disk = disk; out = out }) status) (sym (is_command ∙ ap (λ (c : Command). Some c) is_check))
       (checked was disk out status result)
+
+  tried_in : (count seed : ℕ) (was : Objects D G N C O) (disk : D) (out : O) (status : Status) → Tries kinds.sinks count seed was.out out status
+      → disk ≡ was.disk → Runs kinds (Some (Trial count seed)) was (record was { disk = disk; out = out }) status
+  tried_in count seed was disk out status tries same =
+      subst (λ d. Runs kinds (Some (Trial count seed)) was (record was { disk = d; out = out }) status) (sym same)
+      (record { tried = tries; untouched = refl })
+
+  pub runs_trial : (command : Command) (count seed : ℕ) (was : Objects D G N C O) (disk : D) (out : O) (status : Status) → found ≡ Some command
+      → command ≡ Trial count seed → Tries kinds.sinks count seed was.out out status → disk ≡ was.disk
+      → Runs kinds found was (record was { disk = disk; out = out }) status
+  runs_trial command count seed was disk out status is_command is_trial tries same =
+      subst (λ f. Runs kinds f was (record was { disk = disk; out = out }) status) (sym (is_command ∙ ap (λ (c : Command). Some c) is_trial))
+      (tried_in count seed was disk out status tries same)
 
   piped : (command : Command) (was is : Objects D G N C O) (status : Status)
       → Pipes kinds (asked_of command) was is status ⊎ Refuses kinds (asked_of command) was is status

@@ -12,4 +12,5 @@ pub mod Runs
 pub mod Serving
 pub mod steps
 pub mod Texts
+pub mod Trials
 pub mod Words

@@ -6,10 +6,11 @@ use Rattle.proxy_run.specs.Objects.{Kinds, Objects}
 use Rattle.proxy_run.specs.Pipes.{Pipes, Refuses}
 use Rattle.proxy_run.specs.Printing.{Prints}
 use Rattle.proxy_run.specs.Texts.{usage}
+use Rattle.proxy_run.specs.Trials.{Tries}
 use Rattle.proxy_run.specs.declared.status.Status.{Status}
 use Rattle.proxy_run.specs.declared.status.Status.TheVariants as status
 use Rattle.proxy_run.specs.declared.words.Command.{Command}
-use Rattle.proxy_run.specs.declared.words.Command.TheVariants.{Check, Import, Pipe}
+use Rattle.proxy_run.specs.declared.words.Command.TheVariants.{Check, Import, Pipe, Trial}
 
 module _ {D G L P N M C O : Type 0} (kinds : Kinds D G L P N M C O) where
   -- the words ask for nothing: the usage was printed, and nothing else was touched
@@ -28,9 +29,15 @@ module _ {D G L P N M C O : Type 0} (kinds : Kinds D G L P N M C O) where
         (ends_of is.disk is.gate is.out) result
     pub untouched : is.member ≡ was.member
 
+  -- a trial was made in memory; neither disk, nor gate, nor crew was touched
+  pub record HasTried (count seed : ℕ) (was is : Objects D G N C O) (result : Status) : Type 0 where
+    pub tried : Tries kinds.sinks count seed was.out is.out result
+    pub untouched : is ≡ record was { out = is.out }
+
   -- by what the words ask for
   abbrev pub Runs : Option Command → Objects D G N C O → Objects D G N C O → Status → Type 0
   Runs None was is result = Misspells was is result
   Runs (Some (Pipe namespace)) was is result = Pipes kinds (Some namespace) was is result ⊎ Refuses kinds (Some namespace) was is result
   Runs (Some (Import namespace)) was is result = HasTakenIn namespace was is result ⊎ Refuses kinds (Some namespace) was is result
   Runs (Some Check) was is result = HasChecked was is result ⊎ Refuses kinds None was is result
+  Runs (Some (Trial count seed)) was is result = HasTried count seed was is result

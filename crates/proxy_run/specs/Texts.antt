@@ -21,11 +21,20 @@ use Rattle.warc_reader.specs.declared.import.Skipped.{Skipped}
 abbrev pub usage : List ℕ
 usage = codes "usage: memproxy pipe NS, serve NS BASE WORKERS, check, trial COUNT NUMBER, import NS, verify WORKERS, follow NS BASE\n"
 
+-- how many captures, revisits and volumes there are
+unfoldable pub counts_front : Counts → List ℕ
+counts_front counts =
+    codes "captures " ++ decimal counts.captures ++ codes " revisits " ++ decimal counts.revisits ++ codes " volumes "
+    ++ decimal counts.volumes
+
 -- how much an archive holds
 unfoldable pub counts_text : Counts → List ℕ
-counts_text counts =
-    codes "captures " ++ decimal counts.captures ++ codes " revisits " ++ decimal counts.revisits ++ codes " volumes "
-    ++ decimal counts.volumes ++ (line_feed ∷ [])
+counts_text counts = counts_front counts ++ (line_feed ∷ [])
+
+-- how much an archive holds, with the bytes of its volumes, and how many captures were brought back
+unfoldable pub trial_text : Counts → (bytes replayed : ℕ) → List ℕ
+trial_text counts bytes replayed =
+    counts_front counts ++ codes " bytes " ++ decimal bytes ++ codes " replayed " ++ decimal replayed ++ (line_feed ∷ [])
 
 -- the ending of a kind of files
 unfoldable pub ending_of : Kind → List ℕ

@@ -1,10 +1,11 @@
 -- The words of the command line.
-use Rattle.std.specs.Prelude.{ℕ, Bool, false, List, [], ◌∷◌, codes, map, Option, Some, None, option_and_then, option_map, if◌then◌else◌}
+use Rattle.std.specs.Prelude.{ℕ, ◌-◌, ◌^◌, Bool, false, ◌&&◌, nat_le, List, [], ◌∷◌, codes, decimal, map, Option, Some, None, option_and_then, option_map, if◌then◌else◌}
 use Rattle.std.specs.Borrow.{Bor}
 use Rattle.std.specs.Str.{bytes_eq}
+use Rattle.std.specs.Str.Parse.{digits_value}
 use Rattle.uuid.specs.Text.{parsed, hyphenated_text, lower}
 use Rattle.proxy_run.specs.declared.words.Command.{Command}
-use Rattle.proxy_run.specs.declared.words.Command.TheVariants.{Check, Import, Pipe}
+use Rattle.proxy_run.specs.declared.words.Command.TheVariants.{Check, Import, Pipe, Trial}
 
 -- the texts of words
 abbrev pub texts : List (Bor (List ℕ)) → List (List ℕ)
@@ -13,6 +14,11 @@ texts words = map (λ word. word.now) words
 -- the UUID that is written so in lower case with hyphens
 abbrev pub namespace_of : List ℕ → Option (List ℕ)
 namespace_of text = option_and_then (λ u. if bytes_eq (hyphenated_text lower u) text then Some u else None) (parsed text)
+
+-- the number that is written so in decimal, without a sign or leading zeros, up to a greatest one
+abbrev pub number_of : (most : ℕ) → List ℕ → Option ℕ
+number_of most text =
+    if bytes_eq (decimal (digits_value 10 text)) text && nat_le (digits_value 10 text) most then Some (digits_value 10 text) else None
 
 -- the first word is `pipe`
 abbrev pub is_pipe : List (List ℕ) → Bool
@@ -34,15 +40,28 @@ command_of_two name namespace =
     if bytes_eq name (codes "pipe") then option_map (λ u. Pipe u) (namespace_of namespace)
     else (if bytes_eq name (codes "import") then option_map (λ u. Import u) (namespace_of namespace) else None)
 
--- what the words ask for: `check` alone, or `pipe` or `import` and a namespace
+-- how many exchanges a trial has: one or more
+abbrev pub count_of : List ℕ → Option ℕ
+count_of text = option_and_then (λ n. if nat_le 1 n then Some n else None) (number_of 20000 text)
+
+-- what three words ask for
+abbrev pub command_of_three : (name count seed : List ℕ) → Option Command
+command_of_three name count seed =
+    if bytes_eq name (codes "trial")
+    then option_and_then (λ n. option_map (λ s. Trial n s) (number_of (2 ^ 64 - 1) seed)) (count_of count)
+    else None
+
+-- what the words ask for: `check` alone, `pipe` or `import` and a namespace, or `trial`, a count and a number
 abbrev pub command_of : List (List ℕ) → Option Command
 command_of [] = None
 command_of (name ∷ []) = command_of_one name
 command_of (name ∷ namespace ∷ []) = command_of_two name namespace
-command_of (name ∷ namespace ∷ other ∷ words) = None
+command_of (name ∷ count ∷ seed ∷ []) = command_of_three name count seed
+command_of (name ∷ count ∷ seed ∷ other ∷ words) = None
 
 -- the namespace in which a command opens the archive, if it names one
 abbrev pub asked_of : Command → Option (List ℕ)
 asked_of Check = None
 asked_of (Import namespace) = Some namespace
 asked_of (Pipe namespace) = Some namespace
+asked_of (Trial count seed) = None

@@ -15,6 +15,7 @@ mod status;
 mod taking;
 mod tally;
 mod texts;
+mod trying;
 mod words;
 
 pub use laws::ready_archives_are_served;

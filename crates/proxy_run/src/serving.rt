@@ -98,7 +98,7 @@ fn status_of(served: Served) -> Status
 }
 
 /// The site of the archive that `pipe` serves.
-fn site_of_pipe(alloc: Global) -> Result<Site, Memory>
+pub fn site_of_pipe(alloc: Global) -> Result<Site, Memory>
     ensures { IfOk result (λ site. site ≡ pipe_site) }
 {
     Ok(Site {

@@ -1,5 +1,5 @@
 //! What is printed of an archive.
-ghost use Rattle.std.specs.Prelude.{◌≡◌, IfOk, codes, string_bytes};
+ghost use Rattle.std.specs.Prelude.{◌≡◌, ◌++◌, IfOk, OnOk, codes, string_bytes};
 ghost use Rattle.proxy_run.specs.Texts as spec;
 
 use archive_shelf::{Counts, ReopenFault};
@@ -14,14 +14,42 @@ pub fn counts_text(alloc: Global, counts: &Counts) -> Result<Vec<u8>, Memory>
     ensures { IfOk result (λ text. text.items ≡ spec.counts_text counts.now) }
 {
     let mut text = Vec::new(alloc);
-    put_all(&mut text, b"captures ")?;
-    put_number(&mut text, u64::from(counts.captures))?;
-    put_all(&mut text, b" revisits ")?;
-    put_number(&mut text, u64::from(counts.revisits))?;
-    put_all(&mut text, b" volumes ")?;
-    put_number(&mut text, u64::from(counts.volumes))?;
+    put_counts(&mut text, counts)?;
     put_all(&mut text, b"\n")?;
     Ok(text)
+}
+
+/// How much an archive holds, and how many captures were brought back.
+#[tactic(auto, unfolding(crate::specs::Texts::trial_text))]
+pub fn trial_text(
+    alloc: Global,
+    counts: &Counts,
+    bytes: u64,
+    replayed: u32,
+) -> Result<Vec<u8>, Memory>
+    ensures { IfOk result (λ text. text.items ≡ spec.trial_text counts.now bytes replayed) }
+{
+    let mut text = Vec::new(alloc);
+    put_counts(&mut text, counts)?;
+    put_all(&mut text, b" bytes ")?;
+    put_number(&mut text, bytes)?;
+    put_all(&mut text, b" replayed ")?;
+    put_number(&mut text, u64::from(replayed))?;
+    put_all(&mut text, b"\n")?;
+    Ok(text)
+}
+
+/// Puts how many captures, revisits and volumes there are.
+#[tactic(auto, unfolding(crate::specs::Texts::counts_front))]
+fn put_counts(text: &mut Vec<u8>, counts: &Counts) -> Result<(), Memory>
+    ensures { OnOk result (text.new.items ≡ text.old.items ++ spec.counts_front counts.now) }
+{
+    put_all(text, b"captures ")?;
+    put_number(text, u64::from(counts.captures))?;
+    put_all(text, b" revisits ")?;
+    put_number(text, u64::from(counts.revisits))?;
+    put_all(text, b" volumes ")?;
+    put_number(text, u64::from(counts.volumes))
 }
 
 /// Why an archive isn't opened. There is no memory for it where want of memory is why.

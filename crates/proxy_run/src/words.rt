@@ -1,5 +1,5 @@
 //! The words of the command line.
-ghost use Rattle.std.specs.Prelude.{◌≡◌, IfOk, IfSome};
+ghost use Rattle.std.specs.Prelude.{◌≡◌, ◌≤◌, IfOk, IfSome};
 ghost use Rattle.proxy_run.specs.Base.{IsSiteAmong};
 ghost use Rattle.proxy_run.specs.Words as spec;
 ghost use Rattle.proxy_run.specs.Words.{texts};
@@ -7,8 +7,12 @@ ghost use Rattle.warc_text.specs.Ids.{IsUuid};
 
 use crate::base::site_of_base;
 use capture::{Memory, Site};
+use itoa::Buffer;
 use std::alloc::Global;
 use uuid::Uuid;
+
+/// The greatest number of exchanges that a trial may have.
+const MOST: u64 = 20_000;
 
 /// What the words ask for.
 #[derive(Clone, Copy, Debug, PartialEq, Eq)]
@@ -19,6 +23,8 @@ pub enum Command {
     Import(Uuid),
     /// Serve one connection, with an archive of this namespace.
     Pipe(Uuid),
+    /// Store so many exchanges of the load with this number.
+    Trial(u32, u64),
 }
 
 /// What the words ask for, where they ask for something.
@@ -29,10 +35,13 @@ pub fn command_of(words: &[&str]) -> Option<Command>
     if words.len() == 1 {
         return command_of_one(words[0]);
     }
-    if words.len() != 2 {
+    if words.len() == 2 {
+        return command_of_two(words[0], words[1]);
+    }
+    if words.len() != 3 {
         return None;
     }
-    command_of_two(words[0], words[1])
+    command_of_three(words[0], words[1], words[2])
 }
 
 fn command_of_one(name: &str) -> Option<Command>
@@ -64,6 +73,22 @@ fn command_of_two(name: &str, namespace: &str) -> Option<Command>
     }
 }
 
+fn command_of_three(name: &str, count: &str, seed: &str) -> Option<Command>
+    ensures value { result ≡ spec.command_of_three name.now count.now seed.now }
+    ensures uuid { IfSome result (λ command. IfSome (spec.asked_of command) IsUuid) }
+{
+    if name != "trial" {
+        return None;
+    }
+    match count_of(count) {
+        Some(count) => match number_of(seed, u64::MAX) {
+            Some(seed) => Some(Command::Trial(count, seed)),
+            None => None,
+        },
+        None => None,
+    }
+}
+
 /// The namespace in which a command opens the archive, if it names one.
 pub fn asked_of(command: Command) -> Option<Uuid>
     ensures { result ≡ spec.asked_of command }
@@ -72,6 +97,7 @@ pub fn asked_of(command: Command) -> Option<Uuid>
         Command::Check => None,
         Command::Import(namespace) => Some(namespace),
         Command::Pipe(namespace) => Some(namespace),
+        Command::Trial(_, _) => None,
     }
 }
 
@@ -118,6 +144,41 @@ fn namespace_of(text: &str) -> Option<Uuid>
             } else {
                 None
             }
+        }
+        Err(_) => None,
+    }
+}
+
+/// How many exchanges a trial has, as it is written in decimal.
+fn count_of(text: &str) -> Option<u32>
+    ensures { result ≡ spec.count_of text.now }
+{
+    match number_of(text, MOST) {
+        Some(count) => {
+            if count >= 1 {
+                return Some(count as u32);
+            }
+            None
+        }
+        None => None,
+    }
+}
+
+/// The number that is written so in decimal, without a sign or leading zeros.
+fn number_of(text: &str, most: u64) -> Option<u64>
+    ensures value { result ≡ spec.number_of most text.now }
+    ensures within { IfSome result (λ number. number ≤ most) }
+{
+    match text.parse::<u64>() {
+        Ok(number) => {
+            if number > most {
+                return None;
+            }
+            let mut buffer = Buffer::new();
+            if buffer.format(number) == text {
+                return Some(number);
+            }
+            None
         }
         Err(_) => None,
     }

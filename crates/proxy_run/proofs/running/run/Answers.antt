@@ -4,7 +4,7 @@ use Rattle.std.specs.Prelude.{get_or}
 use Rattle.std.proofs.lemmas.List.{get_or-set_same}
 use Rattle.proxy_run.specs.Objects.{kinds_of, objects_of}
 use Rattle.proxy_run.proofs.PipeLaws.{first_any}
-use Rattle.proxy_run.proofs.RunLaws.{runs_check, runs_import, runs_none, runs_pipe}
+use Rattle.proxy_run.proofs.RunLaws.{runs_check, runs_import, runs_none, runs_pipe, runs_trial}
 use Rattle.proxy_run.proofs.running.run.Goals as goal
 
 pub returns-in_default-clause-runs : goal.returns-in_default-clause-runs
@@ -38,3 +38,9 @@ returns-in-Pipe-clause-runs g c any =
     (sym c.command_of.ensures.value ∙ c.in-Some.is) c.in-Pipe.is
     (c.index_mut-member.ensures.value ∙ first_any c.args.crew.now.members.items _ any (omega (arith, c.requires)))
     (sym (get_or-set_same c.args.crew.now.members.items 0 c.pipe.new.member any (omega (arith, c.requires)))) c.pipe.ensures
+
+pub returns-in-Trial-clause-runs : goal.returns-in-Trial-clause-runs
+returns-in-Trial-clause-runs g c any =
+    runs_trial (kinds_of g.D.Disk g.G.Gate g.N.Dialer g.C.Clock g.O.Sink g.G.Link.Link.tells g.N.Link.Link.tells) _ c.in-Some.command _ _
+    (objects_of c.args.disk c.args.gate.now (get_or c.args.crew.now.members.items 0 any) c.args.out.now) c.trial.result.disk c.trial.new.out
+    c.trial.result.status (sym c.command_of.ensures.value ∙ c.in-Some.is) c.in-Trial.is c.trial.ensures.tries c.trial.ensures.same_disk
