@@ -73,7 +73,7 @@ module _ {D : Type 0} (d : Ghosts D) (was is : Holdings D) (journal_is : is.jour
   memory_archive archive spots_are kept revisits_are =
       let count : length (captures is.book) ≡ length (captures was.book) = ap (λ (b : Book). length (captures b)) book_is in
       record {
-        holds = subst (λ (b : Book). HoldsBook d is.journal b) (sym book_is) (subst (λ (j : Journal D). HoldsBook d j was.book) (sym journal_is) archive.holds);
+        holds = subst (λ (b : Book). HoldsBook d d.tells is.journal b) (sym book_is) (subst (λ (j : Journal D). HoldsBook d d.tells j was.book) (sym journal_is) archive.holds);
         measured = subst (λ (b : Book). IsMeasured is.journal b) (sym book_is) (subst (λ (j : Journal D). IsMeasured j was.book) (sym journal_is) archive.measured);
         counted = record {
           few = omega (arith, count, archive.counted.few);
@@ -287,7 +287,7 @@ module _ {D : Type 0} (d : Ghosts D) (basis : StoringBasis) (was : Holdings D) (
   some : 0 < length room.volumes
   some = room_some was.limits.volume_bytes book (last_len now.journal) (length ready.group) ready.prepared u.ready_is.decided
 
-  pub commit_ready : CanCommit d now ready
+  pub commit_ready : CanCommit d d.tells now ready
   commit_ready =
       can_commit d now was.limits.volume_bytes incoming u.payload ready u.ready_is u.is.holds u.is.measured u.fits u.refers u.digested u.has u.finds
       basis.committed basis.groups basis.sound u.is.counted.limits.volume_bytes (omega (arith, u.not_full, u.is.counted.limits.captures))
@@ -379,7 +379,7 @@ module _ {D : Type 0} (d : Ghosts D) (basis : StoringBasis) (was : Holdings D) (
         (enters h (subst (λ (s : Stored). IsResponseHeadText s.head h) (sym u.ready_is.stored) parsed))))
 
     module _ (laws : DiskLaws d) (journal : Journal D) (after : Book) (table : Table) (index : List Facts) (spots : List Spot)
-        (holds : HoldsBook d journal after) (measured : IsMeasured journal after) (table_is : table.kept ≡ whole_from 0 spots)
+        (holds : HoldsBook d d.tells journal after) (measured : IsMeasured journal after) (table_is : table.kept ≡ whole_from 0 spots)
         (spots_are : AreSpotsOf after spots) (placed : IsTrue d.tells → ArePlaced (texts d journal) after spots)
         (others : IsTrue d.tells → cdxj_files (d.reading (disk_of journal)) ≡ cdxj_files (d.reading (disk_of now.journal))) where
       -- ---- refused by the disk

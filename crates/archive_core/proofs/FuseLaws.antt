@@ -13,7 +13,7 @@ fused held calls = record held { journal = fused_journal held.journal calls }
 
 pub fused_is : (held : Holdings MemoryDisk) (calls : ℕ) → IsArchive ghosts held → IsArchive ghosts (fused held calls)
 fused_is held calls is = record {
-  holds = record { in_step = is.holds.in_step; texts_are = is.holds.texts_are; sound = is.holds.sound; near = is.holds.near };
+  holds = record { tells = is.holds.tells; in_step = is.holds.in_step; texts_are = is.holds.texts_are; sound = is.holds.sound; near = is.holds.near };
   measured = record { count = is.measured.count; filled = is.measured.filled; ends = is.measured.ends; begins = is.measured.begins };
   counted = record { few = is.counted.few; revisits = is.counted.revisits; found = is.counted.found; below = is.counted.below; limits = is.counted.limits };
   spots = is.spots;

@@ -39,7 +39,7 @@ module _ {D : Type 0} (d : Ghosts D) (held : Holdings D) (old new : Volumes D)
   -- it stays an archive
   pub reads_archive : IsArchive d held → IsArchive d (record held { journal = new.journal; book = book_of new.held })
   reads_archive is = record {
-    holds = reads.holds (subst (λ (b : Book). HoldsBook d old.journal b) book_is (subst (λ (j : Journal D). HoldsBook d j held.book) journal_is is.holds));
+    holds = reads.holds d.tells (subst (λ (b : Book). HoldsBook d d.tells old.journal b) book_is (subst (λ (j : Journal D). HoldsBook d d.tells j held.book) journal_is is.holds));
     measured = reads.measured (subst (λ (b : Book). IsMeasured old.journal b) book_is (subst (λ (j : Journal D). IsMeasured j held.book) journal_is is.measured));
     counted = record {
       few = omega (arith, is.counted.few, ap (λ (b : Book). length (captures b)) same_book);

@@ -18,6 +18,7 @@ use Rattle.warc_text.specs.StandsFor.{GroupsAreCommitted, commit_byte}
 use Rattle.archive_shelf.specs.Comparing.{CanRefer, RefersBy}
 use Rattle.archive_shelf.specs.Gaining.{CapturesAddTheirGroup, StoringKeepsSoundness}
 use Rattle.archive_shelf.specs.Storing.{as_stored, new_volume, with_capture}
+use Rattle.archive_volumes.proofs.BringLaws.{place_of}
 use Rattle.archive_volumes.proofs.GroupPlaces.{in_last_volume}
 use Rattle.archive_volumes.proofs.KeepLaws.{spot_is, spot_placed}
 use Rattle.archive_volumes.proofs.RoomLaws.{last_long, texts_count}
@@ -25,7 +26,7 @@ use Rattle.archive_volumes.proofs.WayLaws.{group_in_room, room_captures, room_ga
 use Rattle.archive_volumes.specs.Grouping.{IsGroupFor, block_of}
 use Rattle.archive_volumes.specs.Held.{book_of, stored_in}
 use Rattle.archive_volumes.specs.Ready.{CanCommit, Incoming, IsReady}
-use Rattle.archive_volumes.specs.Spots.{IsInVolume, IsPlaced, IsSpotOf, spot_of, text_at}
+use Rattle.archive_volumes.specs.Spots.{HasPlace, IsInVolume, IsPlaced, IsSpotOf, spot_of, text_at}
 use Rattle.archive_volumes.specs.Writing.{IsDecided, end_with, texts_with, with_prepared}
 use Rattle.archive_volumes.specs.Volumes.{HoldsBook, IsMeasured}
 use Rattle.archive_volumes.specs.declared.room.Prepared.{Prepared}
@@ -55,7 +56,7 @@ with_count book all None count = count
 with_count book all (Some p) count = omega (arith, count, length_push all p.info, length-append book.volumes (new_volume p.shadow.born ∷ []))
 
 -- the last of them ends there
-pub with_end : {D : Type 0} (d : Ghosts D) (now : Volumes D) (book : Book) (prepared : Option Prepared) (told : IsTrue d.tells) → HoldsBook d now.journal book
+pub with_end : {D : Type 0} (d : Ghosts D) (now : Volumes D) (book : Book) (prepared : Option Prepared) (told : IsTrue d.tells) → HoldsBook d d.tells now.journal book
     → 0 < length (with_prepared book prepared).volumes
     → length (text_at (texts_with (texts d now.journal) prepared) (length (texts_with (texts d now.journal) prepared) - 1)) ≡ end_with now prepared
 with_end d now book None told holds some =
@@ -69,7 +70,7 @@ with_end d now book (Some p) told holds some =
     ap length (get_or_push all p.info [] (length (all ++ p.info ∷ []) - 1) (omega (arith, length_push all p.info)))
 
 module _ {D : Type 0} (d : Ghosts D) (now : Volumes D) (limit : ℕ) (incoming : Incoming) (payload : List ℕ) (ready : Ready)
-    (is : IsReady now now limit incoming payload ready) (holds : HoldsBook d now.journal (book_of now.held))
+    (is : IsReady now now limit incoming payload ready) (holds : HoldsBook d d.tells now.journal (book_of now.held))
     (measured : IsMeasured now.journal (book_of now.held)) (fits : Fits incoming.taken)
     (refers : CanRefer incoming.taken.cut (book_of now.held) incoming.same) (digested : incoming.digest ≡ sha1 payload)
     (has : HasPayload incoming.taken.cut incoming.taken.method incoming.taken.head incoming.taken.wire payload)
@@ -111,7 +112,7 @@ module _ {D : Type 0} (d : Ghosts D) (now : Volumes D) (limit : ℕ) (incoming :
       (group_in_room d now.journal book incoming.taken payload incoming.same ready.group told holds has (finds told) is.group ready.prepared some))))
 
   pub can_commit : GroupsAreCommitted → CapturesAddTheirGroup → StoringKeepsSoundness → limit < 2 ^ 62 → length (captures (book_of now.held)) + 1 < 2 ^ 32 - 1
-      → CanCommit d now ready
+      → CanCommit d d.tells now ready
   can_commit committed add keep small few = record {
     room = is.room;
     kept = is.kept;
@@ -130,6 +131,10 @@ module _ {D : Type 0} (d : Ghosts D) (now : Volumes D) (limit : ℕ) (incoming :
     sound = λ told. subst (λ (s : Stored). IsSound (with_capture room s)) (sym is.stored)
         (sound_after d now.journal book incoming.taken payload incoming.same ready.group told holds has (finds told) is.group add keep measured.count limit
         ready.prepared is.born is.decided fits small few);
+    within = λ told. subst (λ (s : Stored). HasPlace (with_more (texts_with (texts d now.journal) ready.prepared) ready.group)
+        (spot_of s ready.digest (length room.volumes - 1) (end_with now ready.prepared) (end_with now ready.prepared + ready.layout.head_at))) (sym is.stored)
+        (place_of (with_more (texts_with (texts d now.journal) ready.prepared) ready.group) (with_capture room stored) (length (captures book))
+        (spot_of stored ready.digest (length room.volumes - 1) (end_with now ready.prepared) (end_with now ready.prepared + ready.layout.head_at)) (placed add told));
     placed = λ told. subst (λ (s : Stored). IsPlaced (with_more (texts_with (texts d now.journal) ready.prepared) ready.group) (with_capture room s)
         (length (captures book)) (spot_of s ready.digest (length room.volumes - 1) (end_with now ready.prepared)
         (end_with now ready.prepared + ready.layout.head_at))) (sym is.stored)

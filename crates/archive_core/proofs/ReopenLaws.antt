@@ -102,10 +102,11 @@ AreParts d journal book spots table lengths entries =
     IsInStepWith book spots table lengths × AreSpotsOf book spots × AreEntries book entries × (IsTrue d.tells → ArePlaced (texts d journal) book spots)
 
 -- the parts of what was opened, as they are taken out
-pub parts_of : {D : Type 0} (d : Ghosts D) (opened : Opened D) → IsUsable d opened → (journal : Journal D) (book : Book) (spots : List Spot) (table : Table) (entries : List Facts)
+pub parts_of : {D : Type 0} (d : Ghosts D) (opened : Opened D) → IsUsable d d.tells opened
+    → AreEntries (book_of opened.gathered.held) opened.gathered.entries.items → (journal : Journal D) (book : Book) (spots : List Spot) (table : Table) (entries : List Facts)
     → journal ≡ opened.journal → book ≡ book_of opened.gathered.held → spots ≡ opened.gathered.spots.items → table ≡ opened.gathered.table
     → entries ≡ opened.gathered.entries.items → AreParts d journal book spots table opened.gathered.lengths.items entries
-parts_of d opened is journal book spots table entries ej eb es et ee =
+parts_of d opened is entries_are journal book spots table entries ej eb es et ee =
     let g = opened.gathered in
     let ls = g.lengths.items in
     subst (λ (x : Journal _). AreParts d x book spots table ls entries) (sym ej)
@@ -113,7 +114,7 @@ parts_of d opened is journal book spots table entries ej eb es et ee =
     (subst (λ (x : List Spot). AreParts d opened.journal (book_of g.held) x table ls entries) (sym es)
     (subst (λ (x : Table). AreParts d opened.journal (book_of g.held) g.spots.items x ls entries) (sym et)
     (subst (λ (x : List Facts). AreParts d opened.journal (book_of g.held) g.spots.items g.table ls x) (sym ee)
-    (is.steady, is.spots, is.entries, is.placed)))))
+    (is.steady, is.spots, entries_are, is.placed)))))
 
 module _ {D : Type 0} (d : Ghosts D) (journal : Journal D) (book : Book) (spots : List Spot) (table : Table) (lengths : List ℕ)
     (entries index : List Facts) (parts : AreParts d journal book spots table lengths entries) (same : IsPermutation entries index) (is : IsIndex index) where
@@ -123,7 +124,7 @@ module _ {D : Type 0} (d : Ghosts D) (journal : Journal D) (book : Book) (spots 
   pub shown_sorted : AreEntries book (numbered index)
   shown_sorted = entries_shown book index is known
 
-  pub made_archive : (limits : Limits) (found revisits : ℕ) → HoldsBook d journal book → IsMeasured journal book
+  pub made_archive : (limits : Limits) (found revisits : ℕ) → HoldsBook d d.tells journal book → IsMeasured journal book
       → AreLimits limits → found ≡ length spots → revisits ≡ count_by same_spot spots
       → IsArchive d (record {
         journal = journal;
@@ -181,10 +182,10 @@ none_mine n m same = let none : m - n ≡ 0 = omega (arith, same) in ap (numbers
 
 module _ {D : Type 0} (d : Ghosts D) (laws : DiskLaws d) (disk : D) (asked : Option (List ℕ)) (limits : Limits) where
   -- each image that is left stands for the book that was opened
-  only_by : (opened : Opened D) → IsUsable d opened → IsTrue d.tells → (image : Image) → d.images (disk_of opened.journal) image
+  only_by : (opened : Opened D) → IsUsable d d.tells opened → IsTrue d.tells → (image : Image) → d.images (disk_of opened.journal) image
       → ImageStandsFor image (book_of opened.gathered.held)
   only_by opened is told image left =
-      stands (book_of opened.gathered.held) (texts d opened.journal) image (is.texts_are told) is.sound (is.left told image left)
+      stands (book_of opened.gathered.held) (texts d opened.journal) image (is.texts_are told) (is.sound told) (is.left told image left)
 
   module _ (opened : Opened D) (is : IsOpened d disk asked opened) where
     module _ (held : Holdings D) (made : IsMadeOf opened limits held) where
@@ -197,10 +198,10 @@ module _ {D : Type 0} (d : Ghosts D) (laws : DiskLaws d) (disk : D) (asked : Opt
 
       reopened_as : IsReopened d disk asked limits held
       reopened_as = record {
-        sound = subst IsSound (sym made.book_is) is.usable.sound;
+        sound = subst IsSound (sym made.book_is) is.sound;
         stands = λ told. subst (StandsFor (warc_files (d.reading disk))) (sym made.book_is) (is.stands told);
         one = λ told book sound ids for. one_of (d.reading disk) held.book book
-            (record { for = subst (StandsFor (warc_files (d.reading disk))) (sym made.book_is) (is.stands told); sound = subst IsSound (sym made.book_is) is.usable.sound })
+            (record { for = subst (StandsFor (warc_files (d.reading disk))) (sym made.book_is) (is.stands told); sound = subst IsSound (sym made.book_is) is.sound })
             (record { for = for; sound = sound }) ids;
         in_namespace = subst (IsIn asked) (sym made.book_is) is.in_namespace;
         shown = made.shown;

@@ -77,7 +77,7 @@ texts_stay was = record { count = omega arith; rest = λ k. []; each = λ k less
 
 -- an archive stays one where its volumes go on and no capture is gained
 pub stays_archive : {D : Type 0} (d : Ghosts D) → EntriesStayAll → (was : Holdings D) (journal : Journal D) (book : Book)
-    → IsArchive d was → HoldsBook d journal book → IsMeasured journal book → captures book ≡ captures was.book → Grows was.book book
+    → IsArchive d was → HoldsBook d d.tells journal book → IsMeasured journal book → captures book ≡ captures was.book → Grows was.book book
     → (IsTrue d.tells → GoOn (texts d was.journal) (texts d journal))
     → IsArchive d (record was { journal = journal; book = book })
 stays_archive d entries_stay was journal book is holds measured same grows on = record {
@@ -171,7 +171,7 @@ module _ {D : Type 0} (d : Ghosts D) (was : Holdings D) (now : ℕ) where
       refused = may_be_refused (Err rolls.DiskFault) (is_filled was.book.volumes) filled;
     }
 
-    pub begun_archive : EntriesStayAll → IsArchive d was → HoldsBook d journal book → IsMeasured journal book
+    pub begun_archive : EntriesStayAll → IsArchive d was → HoldsBook d d.tells journal book → IsMeasured journal book
         → book ≡ with_volume was.book now → (info : List ℕ) → (IsTrue d.tells → texts d journal ≡ texts d was.journal ++ info ∷ [])
         → IsArchive d (record was { journal = journal; book = book })
     begun_archive entries_stay is holds measured with_it info goes_on =
@@ -180,7 +180,7 @@ module _ {D : Type 0} (d : Ghosts D) (was : Holdings D) (now : ℕ) where
         (subst (λ (b : Book). Grows was.book b) (sym with_it) (volume_grows was.book now))
         (λ told. subst (λ (after : List (List ℕ)). GoOn (texts d was.journal) after) (sym (goes_on told)) (texts_go_on (texts d was.journal) info))
 
-    pub refused_archive : EntriesStayAll → Grows was.book was.book → IsArchive d was → HoldsBook d journal book → IsMeasured journal book
+    pub refused_archive : EntriesStayAll → Grows was.book was.book → IsArchive d was → HoldsBook d d.tells journal book → IsMeasured journal book
         → book ≡ was.book → (IsTrue d.tells → texts d journal ≡ texts d was.journal)
         → IsArchive d (record was { journal = journal; book = book })
     refused_archive entries_stay itself is holds measured same stays =

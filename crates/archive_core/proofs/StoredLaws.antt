@@ -34,7 +34,7 @@ revisits_more all stored =
     ∙ one_more (is_revisit stored.kept) (count_by (λ (s : Stored). is_revisit s.kept) all)
 
 module _ {D : Type 0} (d : Ghosts D) (was : Holdings D) (is : IsArchive d was) (journal : Journal D) (now : Book) (table : Table)
-    (holds : HoldsBook d journal now) (measured : IsMeasured journal now) where
+    (holds : HoldsBook d d.tells journal now) (measured : IsMeasured journal now) where
   -- a book with the same captures is held: nothing was stored, but a volume may have been begun
   pub archive_left : (index : List Facts) (spots : List Spot) → captures now ≡ captures was.book → index ≡ was.index
       → table.kept ≡ whole_from 0 spots → AreSpotsOf now spots

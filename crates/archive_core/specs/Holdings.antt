@@ -46,7 +46,7 @@ pub record IsCounted {D : Type 0} (held : Holdings D) : Type 0 where
 -- What holds of an archive at each call: of every disk what doesn't speak of bytes, and where the disk tells what it holds, that
 -- the captures stand in the volumes where it says, and that the index is that of the book.
 pub record IsArchive {D : Type 0} (d : Ghosts D) (held : Holdings D) : Type 0 where
-  pub holds : HoldsBook d held.journal held.book
+  pub holds : HoldsBook d d.tells held.journal held.book
   pub measured : IsMeasured held.journal held.book
   pub counted : IsCounted held
   pub spots : AreSpotsOf held.book held.spots

@@ -21,6 +21,7 @@ use capture::{Digest, Framing, Memory, Taken, wires_have_one_payload};
 use disk_model::Disk;
 use message_body::{Payload, PayloadFault, Slices, payload_in};
 use sha1::Sha1;
+use shown::Shown;
 use std::alloc::Global;
 
 impl<D: Disk> Archive<D> {
@@ -44,7 +45,9 @@ impl<D: Disk> Archive<D> {
         ensures sound { IsTrue D.tells → IsSound self.new.book }
     {
         let candidates = self.table.candidates_from(digest, looked.upto);
+        let told = Shown::told_by(&self.found);
         self.volumes.look_on_wire(
+            &told,
             alloc,
             self.spots.as_slice(),
             candidates,

@@ -10,6 +10,7 @@ use crate::Archive;
 use archive_shelf::BringFault;
 use capture::Bytes;
 use disk_model::Disk;
+use shown::Shown;
 use std::alloc::Global;
 
 impl<D: Disk> Archive<D> {
@@ -24,6 +25,8 @@ impl<D: Disk> Archive<D> {
         if number >= count {
             return Err(BringFault::NoSuch { count });
         }
-        self.volumes.piece(alloc, self.spots.as_slice(), number)
+        let told = Shown::told_by(&self.found);
+        self.volumes
+            .piece(&told, alloc, self.spots.as_slice(), number)
     }
 }

@@ -1,11 +1,13 @@
 //! Opening an archive over a disk.
 ghost use Rattle.std.specs.Prelude.{◌≡◌, IfErr, IfOk, IfSome, count_by};
+ghost use Rattle.cdxj_index.specs.OfBook.{AreEntries};
 ghost use Rattle.warc_journal.specs.Journals.{disk_of};
 ghost use Rattle.warc_text.specs.Ids.{IsUuid};
 ghost use Rattle.archive_shelf.specs.declared.fault.ReopenFault.TheVariants.{Memory as IsMemory};
 ghost use Rattle.archive_opening.specs.Gathering.{IsUsable};
 ghost use Rattle.archive_core.specs.Holdings.{AreLimits};
 ghost use Rattle.archive_core.specs.Reopening.{IsMadeOf, IsNotOpened, IsReopened};
+ghost use Rattle.archive_volumes.specs.Held.{book_of};
 ghost use Rattle.archive_volumes.specs.Spots.{is_same_form};
 
 use crate::Archive;
@@ -15,6 +17,7 @@ use archive_shelf::{Depth, ReopenFault};
 use archive_volumes::{Spot, Volumes};
 use capture::{Limits, Memory};
 use disk_model::Disk;
+use shown::Shown;
 use std::alloc::Global;
 use uuid::Uuid;
 
@@ -51,7 +54,8 @@ fn archive_of<D: Disk>(
     limits: Limits,
 ) -> Result<Archive<D>, (ReopenFault, D)>
     requires limits { AreLimits limits }
-    requires usable { IsUsable D.Disk opened }
+    requires usable { IsUsable D.Disk D.tells opened }
+    requires entries { AreEntries (book_of opened.gathered.held) opened.gathered.entries.items }
     ensures made { IfOk result (IsMadeOf opened limits) }
     ensures memory { IfErr result (λ refused. refused ≡ (IsMemory, disk_of opened.journal)) }
 {
@@ -63,8 +67,9 @@ fn archive_of<D: Disk>(
     };
     let found = spots.len() as u32;
     let revisits = revisits_among(spots.as_slice()) as u32;
+    let told = Shown::told_by(&found);
     Ok(Archive {
-        volumes: Volumes::over(journal, held),
+        volumes: Volumes::over(journal, held, &told),
         index,
         table,
         spots,

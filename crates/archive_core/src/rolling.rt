@@ -5,6 +5,7 @@ ghost use Rattle.archive_core.specs.Rolling.{Rolls};
 use crate::Archive;
 use archive_shelf::{RollFault, entries_gain_what_is_stored, leading_books_grow};
 use disk_model::Disk;
+use shown::Shown;
 use std::alloc::Global;
 
 impl<D: Disk> Archive<D> {
@@ -19,7 +20,8 @@ impl<D: Disk> Archive<D> {
             return Ok(());
         }
         let prepared = self.volumes.prepare(alloc, now)?;
-        self.volumes.begin(prepared)?;
+        let told = Shown::told_by(&self.found);
+        self.volumes.begin(&told, prepared)?;
         Ok(())
     }
 }

@@ -13,6 +13,7 @@ use crate::Archive;
 use archive_shelf::{BringFault, Receipt, Shelf, StoreFault};
 use capture::{Brought, Bytes, Taken};
 use disk_model::Disk;
+use shown::Shown;
 use std::alloc::Global;
 
 impl<D: Disk> Archive<D> {
@@ -32,7 +33,9 @@ impl<D: Disk> Archive<D> {
         if number >= count {
             return Err(BringFault::NoSuch { count });
         }
-        self.volumes.bring(alloc, self.spots.as_slice(), number)
+        let told = Shown::told_by(&self.found);
+        self.volumes
+            .bring(&told, alloc, self.spots.as_slice(), number)
     }
 
     /// What holds of an archive at each call. A trait's method has no clause of its own that says it.

@@ -18,6 +18,7 @@ use archive_shelf::{
 use archive_volumes::{entry_for, reserve_kept};
 use capture::{Digest, Taken, growth_keeps_captures, wires_have_one_payload};
 use disk_model::Disk;
+use shown::Shown;
 use std::alloc::Global;
 use surt_key::accepted_targets_have_keys;
 use warc_text::texts_are_committed;
@@ -72,7 +73,11 @@ impl<D: Disk> Archive<D> {
         let at = self.volumes.record_at(&ready, number);
         let entry = entry_for(alloc, &ready, taken.head.as_slice(), at)?;
         enter(alloc, &mut self.index, entry)?;
-        match self.volumes.commit(&mut self.spots, &mut self.table, ready) {
+        let told = Shown::told_by(&self.found);
+        match self
+            .volumes
+            .commit(&told, &mut self.spots, &mut self.table, ready)
+        {
             Ok(()) => {
                 self.revisits += revisits_in(same);
                 Ok(Receipt {

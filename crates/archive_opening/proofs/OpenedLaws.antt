@@ -29,7 +29,8 @@ use Rattle.archive_opening.specs.Gathering.{HasAll, IsGathered, IsOpened, IsStea
 use Rattle.archive_volumes.specs.Held.{book_of}
 use Rattle.archive_opening.specs.Opening.{IsCause, IsDamageIn, IsIn, IsOther, IsOtherIn, IsReadRefusal}
 use Rattle.archive_opening.specs.Reading.{IsRead}
-use Rattle.archive_volumes.specs.Spots.{ArePlaced}
+use Rattle.archive_volumes.proofs.BringLaws.{within_of}
+use Rattle.archive_volumes.specs.Spots.{ArePlaced, AreWithin}
 use Rattle.archive_volumes.specs.Volumes.{IsMeasured}
 use Rattle.archive_opening.specs.declared.gathered.Gathered.{Gathered}
 use Rattle.archive_opening.specs.declared.opening.Opened.{Opened}
@@ -93,16 +94,20 @@ module _ {D : Type 0} (d : Ghosts D) (s : Scanning D) (g : Gathered) (all : HasA
       → IsOpened d (disk_of s) asked (record { journal = journal; gathered = other })
   opened_by asked other gathered steady in_it in_step left = record {
     usable = record {
-      sound = gathered.read.sound;
-      in_step = in_step;
-      texts_are = λ told. subst (AreVolumeTexts (book_of other.held)) (sym (texts_same told)) gathered.read.are;
-      left = λ told. subst (λ (x : D). Leaves (d.images x) (λ image. Hold (texts_of d journal) (warc_files image))) (sym disk_is) (left told);
       measured = measured (book_of other.held) gathered.read;
       steady = steady;
       spots = gathered.spots_are;
+      in_step = in_step;
+      left = λ told. subst (λ (x : D). Leaves (d.images x) (λ image. Hold (texts_of d journal) (warc_files image))) (sym disk_is) (left told);
+      within = λ told. subst (λ (t : List (List ℕ)). AreWithin t other.spots.items) (sym (texts_same told))
+          (within_of all.follows.texts (book_of other.held) other.spots.items gathered.placed);
+      tells = λ told. told;
+      sound = λ told. gathered.read.sound;
+      texts_are = λ told. subst (AreVolumeTexts (book_of other.held)) (sym (texts_same told)) gathered.read.are;
       placed = λ told. subst (λ (t : List (List ℕ)). ArePlaced t (book_of other.held) other.spots.items) (sym (texts_same told)) gathered.placed;
-      entries = gathered.entries_are;
     };
+    sound = gathered.read.sound;
+    entries = gathered.entries_are;
     stands = λ told. record { texts = all.follows.texts; are = gathered.read.are; held = all.held told };
     in_namespace = in_it;
     rests = λ told. rests_itself d (disk_of s) (disk_of_journal journal) disk_is;
@@ -115,6 +120,8 @@ pub opened_on : {D : Type 0} (d : Ghosts D) (disk mid : D) (asked : Option (List
     → d.faults mid ≡ d.faults disk → IsOpened d mid asked opened → IsOpened d disk asked opened
 opened_on d disk mid asked opened rests steady_count is = record {
   usable = is.usable;
+  sound = is.sound;
+  entries = is.entries;
   stands = λ told. subst (λ (i : Image). StandsFor (warc_files i) (book_of opened.gathered.held)) (rests told).read (is.stands told);
   in_namespace = is.in_namespace;
   rests = λ told. rests_on d disk mid (disk_of_journal opened.journal) (rests told) (is.rests told);

@@ -32,7 +32,7 @@ use Rattle.archive_volumes.specs.Held.{book_of}
 use Rattle.archive_opening.specs.Noting.{IsGroupAt, IsSomeGroup}
 use Rattle.archive_opening.specs.Opening.{IsDeadEnd, IsIn}
 use Rattle.archive_opening.specs.Reading.{IsRead}
-use Rattle.archive_volumes.specs.Spots.{ArePlaced, AreSpotsOf, spot_of, whole_from}
+use Rattle.archive_volumes.specs.Spots.{ArePlaced, AreSpotsOf, AreWithin, spot_of, whole_from}
 use Rattle.archive_opening.specs.declared.gathered.Gathered.{Gathered}
 use Rattle.archive_volumes.specs.Volumes.{IsMeasured}
 use Rattle.archive_opening.specs.declared.noting.Noted.{Noted}
@@ -152,21 +152,28 @@ abbrev pub ReadsOn : {D : Type 0} → Ghosts D → Scanning D → Scanning D →
 ReadsOn d old new g true = Follows d new g × IsSteady g × (left new < left old)
 ReadsOn d old new g false = HasAll d new g × ((position_of new).stage ≡ Done) × IsSteady g
 
--- An archive can be made of what was opened: the journal goes on with the volumes of a sound book, and what was gathered tells of it.
-pub record IsUsable {D : Type 0} (d : Ghosts D) (opened : Opened D) : Type 0 where
-  pub sound : IsSound (book_of opened.gathered.held)
-  pub in_step : IsTrue d.tells → IsInStep d opened.journal
-  pub texts_are : IsTrue d.tells → AreVolumeTexts (book_of opened.gathered.held) (texts_of d opened.journal)
-  pub left : IsTrue d.tells → Leaves (d.images (disk_of_journal opened.journal)) (λ image. Hold (texts_of d opened.journal) (warc_files image))
+-- An archive can be made of what was opened.
+pub record IsUsable {D : Type 0} (d : Ghosts D) (told : Bool) (opened : Opened D) : Type 0 where
+  -- whatever the disk tells, what was gathered is of one book
   pub measured : IsMeasured opened.journal (book_of opened.gathered.held)
   pub steady : IsSteady opened.gathered
   pub spots : AreSpotsOf (book_of opened.gathered.held) opened.gathered.spots.items
-  pub placed : IsTrue d.tells → ArePlaced (texts_of d opened.journal) (book_of opened.gathered.held) opened.gathered.spots.items
-  pub entries : AreEntries (book_of opened.gathered.held) opened.gathered.entries.items
+  -- where the disk tells, each image holds the texts as far as the journal says, and what is read of each capture is within them
+  pub in_step : IsTrue d.tells → IsInStep d opened.journal
+  pub left : IsTrue d.tells → Leaves (d.images (disk_of_journal opened.journal)) (λ image. Hold (texts_of d opened.journal) (warc_files image))
+  pub within : IsTrue d.tells → AreWithin (texts_of d opened.journal) opened.gathered.spots.items
+  -- where the book is told, which is only of a disk that tells, it is sound and the texts are those of it
+  pub tells : IsTrue told → IsTrue d.tells
+  pub sound : IsTrue told → IsSound (book_of opened.gathered.held)
+  pub texts_are : IsTrue told → AreVolumeTexts (book_of opened.gathered.held) (texts_of d opened.journal)
+  pub placed : IsTrue told → ArePlaced (texts_of d opened.journal) (book_of opened.gathered.held) opened.gathered.spots.items
 
--- Volumes were opened: the disk holds their book, where it tells, and nothing else may be left of it than before.
+-- Volumes were opened, each of which was read: their book is sound and its entries were gathered. The disk holds it, where that tells, and
+-- nothing else may be left of it than before.
 pub record IsOpened {D : Type 0} (d : Ghosts D) (disk : D) (asked : Option (List ℕ)) (opened : Opened D) : Type 0 where
-  pub usable : IsUsable d opened
+  pub usable : IsUsable d d.tells opened
+  pub sound : IsSound (book_of opened.gathered.held)
+  pub entries : AreEntries (book_of opened.gathered.held) opened.gathered.entries.items
   pub stands : IsTrue d.tells → StandsFor (warc_files (d.reading disk)) (book_of opened.gathered.held)
   pub in_namespace : IsIn asked (book_of opened.gathered.held)
   pub rests : IsTrue d.tells → Rests d disk (disk_of_journal opened.journal)

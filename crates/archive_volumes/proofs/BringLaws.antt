@@ -28,10 +28,11 @@ use Rattle.warc_text.specs.Sound.{IsSound}
 use Rattle.archive_shelf.specs.Answers.{IsBrought, IsDamaged, IsNamed, IsReplayable, KeepsPayloadOf}
 use Rattle.archive_shelf.specs.Comparing.{KeepsWire}
 use Rattle.archive_volumes.proofs.DecodeLaws.{one_framing}
+use Rattle.archive_volumes.proofs.GroupPlaces.{ends_in_text}
 use Rattle.archive_volumes.specs.Bringing.{AreOf, IsKept, IsReadRight, OnlyReads, brought_of, checked_by}
 use Rattle.archive_volumes.specs.Decoding.{HoldsPayload, IsHead, TellsFraming}
 use Rattle.archive_volumes.specs.Held.{book_of}
-use Rattle.archive_volumes.specs.Spots.{ArePlaced, AreSpotsOf, HasPlace, IsPlaced, IsSpotOf, RefersBack, form_of, head_in, is_cut_form, is_same_form, text_at, wire_in}
+use Rattle.archive_volumes.specs.Spots.{ArePlaced, AreSpotsOf, AreWithin, HasPlace, IsPlaced, IsSpotOf, RefersBack, form_of, head_in, is_cut_form, is_same_form, text_at, wire_in}
 use Rattle.archive_volumes.specs.Volumes.{IsQuiet}
 use Rattle.archive_volumes.specs.declared.payload.ReadBack.TheVariants as back
 use Rattle.archive_volumes.specs.declared.spot.Form.{Form}
@@ -57,7 +58,8 @@ reads_then d old mid new first second = record {
   held = second.held ∙ first.held;
   extent = second.extent ∙ first.extent;
   reading = λ told. second.reading told ∙ first.reading told;
-  holds = λ holds. second.holds (first.holds holds);
+  in_step = λ in_step. second.in_step (first.in_step in_step);
+  holds = λ told holds. second.holds told (first.holds told holds);
   measured = λ measured. second.measured (first.measured measured);
   quiet = quiet_then d (disk_of old.journal) (disk_of mid.journal) (disk_of new.journal) first.quiet second.quiet;
 }
@@ -72,7 +74,15 @@ texts_stay d old new reads told =
 -- ---- a capture that keeps its wire
 
 pub place_of : (texts : List (List ℕ)) (book : Book) (number : ℕ) (spot : Spot) → IsPlaced texts book number spot → HasPlace texts spot
-place_of texts book number spot placed = record { there = placed.there; within = placed.within }
+place_of texts book number spot placed = record {
+  there = placed.there;
+  begins = omega (arith, ends_in_text book number spot.at (text_at texts spot.volume) placed.group);
+  within = placed.within;
+}
+
+-- where the book is known all are within the texts
+pub within_of : (texts : List (List ℕ)) (book : Book) (spots : List Spot) → ArePlaced texts book spots → AreWithin texts spots
+within_of texts book spots are = record { each = λ number spot at. place_of texts book number spot (are.each number spot at) }
 
 -- the capture by its place is the one by its number
 stored_is : (texts : List (List ℕ)) (book : Book) (number : ℕ) (spot : Spot) (kept : IsKept texts book number spot) → kept.placed.has.stored ≡ kept.is.stored
@@ -166,6 +176,9 @@ module _ (book : Book) (spots : List Spot) (number : ℕ) (spot : Spot) (below :
 
   pub place_at : (texts : List (List ℕ)) → ArePlaced texts book spots → IsPlaced texts book number spot
   place_at texts are = are.each number spot (at_index spots number spot below at)
+
+  pub within_at : (texts : List (List ℕ)) → AreWithin texts spots → HasPlace texts spot
+  within_at texts are = are.each number spot (at_index spots number spot below at)
 
 module _ (book : Book) (number : ℕ) (spot : Spot) (is : IsSpotOf book number spot) where
   -- of the same payload as an earlier capture, which keeps its wire
@@ -261,6 +274,10 @@ damaged tells kept found never other = record { untold = untold tells never; oth
 pub spots_on : {D : Type 0} (d : Ghosts D) (old new : Volumes D) → OnlyReads d old new → (spots : List Spot)
     → AreSpotsOf (book_of old.held) spots → AreSpotsOf (book_of new.held) spots
 spots_on d old new reads spots are = subst (λ (b : Book). AreSpotsOf b spots) (sym (ap book_of reads.held)) are
+
+pub within_on : {D : Type 0} (d : Ghosts D) (old new : Volumes D) → OnlyReads d old new → IsTrue d.tells → (spots : List Spot)
+    → AreWithin (texts d old.journal) spots → AreWithin (texts d new.journal) spots
+within_on d old new reads told spots are = subst (λ (t : List (List ℕ)). AreWithin t spots) (sym (texts_stay d old new reads told)) are
 
 pub placed_on : {D : Type 0} (d : Ghosts D) (old new : Volumes D) → OnlyReads d old new → IsTrue d.tells → (spots : List Spot)
     → ArePlaced (texts d old.journal) (book_of old.held) spots → ArePlaced (texts d new.journal) (book_of new.held) spots

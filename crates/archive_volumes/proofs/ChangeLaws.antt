@@ -17,7 +17,7 @@ use Rattle.warc_text.specs.Sound.{IsSound}
 use Rattle.warc_text.specs.StandsFor.{IdsDifferIn}
 use Rattle.warc_text.specs.declared.id.IdKind.TheVariants.{Response}
 use Rattle.archive_shelf.specs.Openings.{HasIds, ImageStandsFor, IsState, Keeps, KeepsCheckpoints, Moves, SameBook, StaysCovered}
-use Rattle.archive_volumes.specs.Volumes.{IsQuiet, IsStep, LeavesJust, Makes, OpensNear, crash_of}
+use Rattle.archive_volumes.specs.Volumes.{IsQuiet, IsStep, LeavesJust, Makes, OpensNear, crash_of, muted}
 
 -- ---- a book by what stands for it
 
@@ -65,6 +65,10 @@ pub record DiskLaws {D : Type 0} (d : Ghosts D) : Type 0 where
   pub earlier : (disk : D) (t s : ℕ) (image : Image) → t ≤ s → d.images_since disk s image → d.images_since disk t image
   pub now_counts : (disk : D) (t : ℕ) (image : Image) → t ≤ d.moment disk → d.images disk image → d.images_since disk t image
   pub now_only : (disk : D) (image : Image) → d.images_since disk (d.moment disk) image → d.images disk image
+
+-- it is asked as well of the disk of which this is told
+pub laws_muted : {D : Type 0} (d : Ghosts D) (told : Bool) → DiskLaws d → DiskLaws (muted told d)
+laws_muted d told laws = record { earlier = laws.earlier; now_counts = laws.now_counts; now_only = laws.now_only }
 
 module _ {D : Type 0} (d : Ghosts D) (laws : DiskLaws d) where
   -- what may be opened now, an image now stands for

@@ -1,5 +1,5 @@
 -- Which volume a capture stands in, and where its group begins there.
-use Rattle.std.proofs.Common.{◌≡◌, ℕ, suc, ◌+◌, ◌-◌, ◌<◌, ◌≤◌, IsTrue, List, [], ◌∷◌, ◌++◌, length, get_or, Option, Some, None, refl, sym, ap, subst, ◌∙◌, ⊎_elim, arith, append_assoc, length-append}
+use Rattle.std.proofs.Common.{◌≡◌, ℕ, ◌+◌, ◌-◌, ◌<◌, ◌≤◌, Bool, IsTrue, List, [], ◌∷◌, ◌++◌, length, get_or, Option, Some, None, sym, ap, ◌∙◌, ⊎_elim, arith, append_assoc, length-append}
 use Rattle.std.specs.Prelude.{slice_get}
 use Rattle.std.proofs.lemmas.Bool.{cases_lt}
 use Rattle.std.proofs.lemmas.List.{get_or_past}
@@ -103,12 +103,13 @@ each_ends old new number at bound text group grow is ends g =
 -- ---- the place of a new group
 
 -- it begins where the text of its volume ended, which was the last one or is new
-pub begins_behind : {D : Type 0} (d : Ghosts D) (now : Volumes D) (prepared : Option Prepared) → IsTrue d.tells → HoldsBook d now.journal (book_of now.held)
+pub begins_behind : {D : Type 0} (d : Ghosts D) (now : Volumes D) (prepared : Option Prepared) {known : Bool} → IsTrue known
+    → HoldsBook d known now.journal (book_of now.held)
     → 0 < length (with_prepared (book_of now.held) prepared).volumes
     → length (text_at (texts d now.journal) (length (with_prepared (book_of now.held) prepared).volumes - 1)) ≤ end_with now prepared
 begins_behind d now None told holds some =
     let all : List (List ℕ) = texts d now.journal in
-    let step = holds.in_step told in
+    let step = holds.in_step (holds.tells told) in
     let count = texts_count d now.journal step in
     let are = (holds.texts_are told).count in
     omega (

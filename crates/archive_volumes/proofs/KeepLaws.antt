@@ -29,9 +29,9 @@ use Rattle.archive_volumes.proofs.GroupPlaces.{begins_behind, has_volume}
 use Rattle.archive_volumes.proofs.WayLaws.{room_captures}
 use Rattle.archive_volumes.specs.Held.{book_of, stored_in}
 use Rattle.archive_volumes.specs.Ready.{CanCommit, book_with, spot_in}
-use Rattle.archive_volumes.proofs.SpotLaws.{GoOn, placed_at, placed_stay, placed_with, spots_stay, spots_with}
+use Rattle.archive_volumes.proofs.SpotLaws.{GoOn, placed_at, placed_stay, placed_with, spots_stay, spots_with, within_stay, within_with}
 use Rattle.archive_volumes.specs.Grouping.{StandsAt, block_of}
-use Rattle.archive_volumes.specs.Spots.{ArePlaced, AreSpotsOf, HasGroupAt, HasOwnDigest, IsInVolume, IsPlaced, IsSpotOf, RefersBack, form_of, spot_of, text_at}
+use Rattle.archive_volumes.specs.Spots.{ArePlaced, AreSpotsOf, AreWithin, HasGroupAt, HasOwnDigest, IsInVolume, IsPlaced, IsSpotOf, RefersBack, form_of, spot_of, text_at}
 use Rattle.archive_volumes.specs.Volumes.{HoldsBook}
 use Rattle.archive_volumes.specs.Writing.{texts_with, with_prepared}
 use Rattle.archive_volumes.specs.declared.group.Layout.{Layout}
@@ -218,7 +218,7 @@ ready_grows book (Some p) stored =
     growth_goes_on book (with_prepared book (Some p)) (with_capture (with_prepared book (Some p)) stored) (volume_grows book p.shadow.born)
     (capture_grows (with_prepared book (Some p)) stored)
 
-module _ {D : Type 0} (d : Ghosts D) (before : Volumes D) (ready : Ready) (can : CanCommit d before ready) where
+module _ {D : Type 0} (d : Ghosts D) (told : Bool) (before : Volumes D) (ready : Ready) (can : CanCommit d told before ready) where
   pub kept_spots : (now : Book) (spots items : List Spot) (spot : Spot) → AreSpotsOf (book_of before.held) spots → now ≡ book_with before ready
       → items ≡ spots ++ spot ∷ [] → spot ≡ spot_in before ready → AreSpotsOf now items
   kept_spots now spots items spot are is all is_spot =
@@ -227,11 +227,20 @@ module _ {D : Type 0} (d : Ghosts D) (before : Volumes D) (ready : Ready) (can :
       (spots_with (book_of before.held) (book_with before ready) (stored_in ready.stored) can.gains (ready_grows (book_of before.held) ready.prepared (stored_in ready.stored)) spots
       (spot_in before ready) are can.spot))
 
-  pub kept_placed : IsTrue d.tells → HoldsBook d before.journal (book_of before.held) → (texts_now : List (List ℕ)) (now : Book) (spots items : List Spot) (spot : Spot)
+  pub kept_within : IsTrue d.tells → (texts_now : List (List ℕ)) (spots items : List Spot) (spot : Spot) → AreWithin (texts d before.journal) spots
+      → texts_now ≡ with_more (texts_with (texts d before.journal) ready.prepared) ready.group
+      → items ≡ spots ++ spot ∷ [] → spot ≡ spot_in before ready → AreWithin texts_now items
+  kept_within tells texts_now spots items spot within is_texts all is_spot =
+      subst (AreWithin texts_now) (sym (all ∙ ap (λ (s : Spot). spots ++ s ∷ []) is_spot))
+      (subst (λ (t : List (List ℕ)). AreWithin t (spots ++ spot_in before ready ∷ [])) (sym is_texts)
+      (within_with (texts d before.journal) (with_more (texts_with (texts d before.journal) ready.prepared) ready.group)
+      (texts_go_more (texts d before.journal) ready.prepared ready.group) spots (spot_in before ready) within (can.within tells)))
+
+  pub kept_placed : IsTrue told → HoldsBook d told before.journal (book_of before.held) → (texts_now : List (List ℕ)) (now : Book) (spots items : List Spot) (spot : Spot)
       → AreSpotsOf (book_of before.held) spots
       → ArePlaced (texts d before.journal) (book_of before.held) spots → texts_now ≡ with_more (texts_with (texts d before.journal) ready.prepared) ready.group
       → now ≡ book_with before ready → items ≡ spots ++ spot ∷ [] → spot ≡ spot_in before ready → ArePlaced texts_now now items
-  kept_placed told holds texts_now now spots items spot are placed is_texts is all is_spot =
+  kept_placed so holds texts_now now spots items spot are placed is_texts is all is_spot =
       let all_texts : List (List ℕ) = with_more (texts_with (texts d before.journal) ready.prepared) ready.group in
       subst (ArePlaced texts_now now) (sym (all ∙ ap (λ (s : Spot). spots ++ s ∷ []) is_spot))
       (subst (λ (b : Book). ArePlaced texts_now b (spots ++ spot_in before ready ∷ [])) (sym is)
@@ -239,8 +248,8 @@ module _ {D : Type 0} (d : Ghosts D) (before : Volumes D) (ready : Ready) (can :
       (placed_with (texts d before.journal) all_texts (texts_go_more (texts d before.journal) ready.prepared ready.group)
       (book_of before.held) (book_with before ready) ((stored_in ready.stored) ∷ []) can.gains (ready_grows (book_of before.held) ready.prepared (stored_in ready.stored))
       spots (spot_in before ready) placed
-      (subst (λ (n : ℕ). IsPlaced all_texts (book_with before ready) n (spot_in before ready)) (sym are.count) (can.placed told))
-      (begins_behind d before ready.prepared told holds
+      (subst (λ (n : ℕ). IsPlaced all_texts (book_with before ready) n (spot_in before ready)) (sym are.count) (can.placed so))
+      (begins_behind d before ready.prepared so holds
       (has_volume (with_prepared (book_of before.held) ready.prepared) (stored_in ready.stored) (length (captures (book_of before.held))) can.spot.inside)))))
 
 -- ---- where it is refused
@@ -261,6 +270,10 @@ grows_left book now (Some p) (inr is) = subst (Grows book) (sym is) (volume_grow
 pub spots_left : (book now : Book) (prepared : Option Prepared) (spots : List Spot) → (now ≡ book) ⊎ (now ≡ with_prepared book prepared)
     → AreSpotsOf book spots → AreSpotsOf now spots
 spots_left book now prepared spots left are = spots_stay book now (captures_left book now prepared left) (grows_left book now prepared left) spots are
+
+pub within_left : (prepared : Option Prepared) (was texts_now : List (List ℕ)) (spots : List Spot)
+    → (texts_now ≡ was) ⊎ (texts_now ≡ texts_with was prepared) → AreWithin was spots → AreWithin texts_now spots
+within_left prepared was texts_now spots goes are = within_stay was texts_now (texts_left was texts_now prepared goes) spots are
 
 pub placed_left : (book now : Book) (prepared : Option Prepared) (was texts_now : List (List ℕ)) (spots : List Spot)
     → (now ≡ book) ⊎ (now ≡ with_prepared book prepared) → (texts_now ≡ was) ⊎ (texts_now ≡ texts_with was prepared)

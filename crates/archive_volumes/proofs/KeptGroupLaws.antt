@@ -1,5 +1,5 @@
 -- The group of a capture, as it is read by its place.
-use Rattle.std.proofs.Common.{◌≡◌, ◌≢◌, ◌⊎◌, ℕ, suc, ◌+◌, ◌-◌, ◌^◌, ◌<◌, ◌≤◌, false, IsTrue, List, [], ◌∷◌, ◌++◌, length, get_or, Some, Result, Ok, Err, inl, inr, refl, sym, ap, subst, ◌∙◌, ⊎_elim, arith, append-nil, length-append, take}
+use Rattle.std.proofs.Common.{◌≡◌, ◌⊎◌, ℕ, suc, ◌+◌, ◌-◌, ◌^◌, ◌<◌, ◌≤◌, false, List, [], ◌∷◌, ◌++◌, length, Some, refl, sym, ap, subst, ◌∙◌, ⊎_elim, arith, append-nil, length-append, take}
 use Rattle.std.specs.Prelude.{drop, slice_get}
 use Rattle.std.proofs.lemmas.Option.{same_Some}
 use Rattle.std.proofs.Math.Seq.{drop-append-add, take-append-add}
@@ -21,32 +21,45 @@ use Rattle.warc_text.specs.StandsFor.{commit_byte}
 use Rattle.volume_scan.proofs.FoundGroups.{group_found, group_is_found}
 use Rattle.volume_scan.proofs.FoundTexts.{found_writable}
 use Rattle.archive_volumes.proofs.GroupPlaces.{each_ends, ends_in_text}
-use Rattle.archive_volumes.specs.KeptGroups.{EndsGroup, IsFirstIn, IsFrontOf, IsGroupOf, IsKeptGroup, IsNextAt}
-use Rattle.archive_volumes.specs.Spots.{ArePlaced, HasGroupAt, part, text_at}
+use Rattle.archive_volumes.specs.KeptGroups.{EndsGroup, EndsWithin, IsFirstIn, IsFrontOf, IsGroupOf, IsKeptGroup, IsNextAt}
+use Rattle.archive_volumes.specs.Spots.{ArePlaced, AreWithin, HasGroupAt, part, text_at}
 use Rattle.archive_volumes.specs.declared.kept_group.KeptGroup.{KeptGroup}
 use Rattle.archive_volumes.specs.declared.kept_group.KeptGroup.TheVariants as kept
 use Rattle.archive_volumes.specs.declared.spot.Spot.{Spot}
 
 -- ---- where a group ends
 
-module _ (texts : List (List ℕ)) (book : Book) (spots : List Spot) (number : ℕ) (placed : ArePlaced texts book spots) (spot : Spot)
-    (here : slice_get spots number ≡ Some spot) where
-  at_of : (k : ℕ) (other : Spot) → slice_get spots k ≡ Some other → HasGroupAt book k (text_at texts other.volume) other.at
-  at_of k other at = (placed.each k other at).group
-
-  pub ends_at_next : (end : ℕ) → IsNextAt spots number spot.volume end → EndsGroup texts book spots number end
-  ends_at_next end behind =
+module _ (texts : List (List ℕ)) (spots : List Spot) (number : ℕ) (spot : Spot) (here : slice_get spots number ≡ Some spot) where
+  pub within_next : AreWithin texts spots → (end : ℕ) → IsNextAt spots number spot.volume end → EndsWithin texts spots number end
+  within_next are end behind =
       let next : Spot = behind.next in
-      let own : HasGroupAt book (suc number) (text_at texts next.volume) next.at = at_of (suc number) next behind.placed in
       record {
         within = λ other at.
             let same : spot ≡ other = same_Some spot other (sym here ∙ at) in
             omega (
               arith,
               behind.is,
-              ends_in_text book (suc number) next.at (text_at texts next.volume) own,
+              (are.each (suc number) next behind.placed).begins,
               ap (λ (k : ℕ). length (text_at texts k)) (behind.same ∙ ap (λ (s : Spot). s.volume) same),
             );
+      }
+
+  pub within_text : (end : ℕ) → end ≡ length (text_at texts spot.volume) → EndsWithin texts spots number end
+  within_text end is = record {
+    within = λ other at.
+        let same : spot ≡ other = same_Some spot other (sym here ∙ at) in
+        omega (arith, is, ap (λ (s : Spot). length (text_at texts s.volume)) same);
+  }
+
+module _ (texts : List (List ℕ)) (book : Book) (spots : List Spot) (number : ℕ) (placed : ArePlaced texts book spots) (spot : Spot)
+    (here : slice_get spots number ≡ Some spot) where
+  at_of : (k : ℕ) (other : Spot) → slice_get spots k ≡ Some other → HasGroupAt book k (text_at texts other.volume) other.at
+  at_of k other at = (placed.each k other at).group
+
+  pub ends_at_next : (end : ℕ) → IsNextAt spots number spot.volume end → EndsGroup book spots number end
+  ends_at_next end behind =
+      let next : Spot = behind.next in
+      record {
         reaches = λ other group at g.
             let same : spot ≡ other = same_Some spot other (sym here ∙ at) in
             omega (
@@ -56,11 +69,8 @@ module _ (texts : List (List ℕ)) (book : Book) (spots : List Spot) (number : �
             );
       }
 
-  pub ends_at_text : (end : ℕ) → end ≡ length (text_at texts spot.volume) → EndsGroup texts book spots number end
+  pub ends_at_text : (end : ℕ) → end ≡ length (text_at texts spot.volume) → EndsGroup book spots number end
   ends_at_text end is = record {
-    within = λ other at.
-        let same : spot ≡ other = same_Some spot other (sym here ∙ at) in
-        omega (arith, is, ap (λ (s : Spot). length (text_at texts s.volume)) same);
     reaches = λ other group at g.
         let same : spot ≡ other = same_Some spot other (sym here ∙ at) in
         let text : List ℕ = text_at texts other.volume in
@@ -147,27 +157,29 @@ module _ (book : Book) (sound : IsSound book) (number : ℕ) (group : List ℕ) 
   kept_by (kept.Right bytes outline) front = same_as bytes outline front
   kept_by kept.Damaged none = none found (record { text = group; rest = rest; composed = composed; is = found_is })
 
+-- what is read stands in the text
+module _ (texts : List (List ℕ)) (spots : List Spot) (number : ℕ) (are : AreWithin texts spots) (spot : Spot)
+    (here : slice_get spots number ≡ Some spot) where
+  pub there : spot.volume < length texts
+  there = (are.each number spot here).there
+
+  pub within : (end : ℕ) → EndsWithin texts spots number end → spot.at + (end - spot.at) ≤ length (text_at texts spot.volume)
+  within end ends = omega (arith, ends.within spot here, (are.each number spot here).begins)
+
 module _ (book : Book) (texts : List (List ℕ)) (spots : List Spot) (number : ℕ) (placed : ArePlaced texts book spots) (spot : Spot)
-    (here : slice_get spots number ≡ Some spot) (end : ℕ) (ends : EndsGroup texts book spots number end) where
+    (here : slice_get spots number ≡ Some spot) (end : ℕ) (ends : EndsGroup book spots number end) where
   own_group : HasGroupAt book number (text_at texts spot.volume) spot.at
   own_group = (placed.each number spot here).group
 
   reach : spot.at + length own_group.group ≤ end
   reach = ends.reaches spot own_group.group here own_group.is
 
-  -- what is read stands in the text
-  pub there : spot.volume < length texts
-  there = (placed.each number spot here).there
-
-  pub within : spot.at + (end - spot.at) ≤ length (text_at texts spot.volume)
-  within = omega (arith, ends.within spot here, reach)
-
   -- what is read from its place on is the capture's group
   pub read_is : IsSound book → AreVolumeTexts book texts → (result : KeptGroup)
       → IsFirstIn book.namespace number (part (text_at texts spot.volume) spot.at (end - spot.at)) result → IsKeptGroup book number result
   read_is sound are result first =
       let text : List ℕ = text_at texts spot.volume in
-      let short : length text < 2 ^ 62 = sound.short_texts spot.volume text (are.each spot.volume there) in
+      let short : length text < 2 ^ 62 = sound.short_texts spot.volume text (are.each spot.volume (placed.each number spot here).there) in
       let ended : spot.at + length own_group.group ≤ length text = ends_in_text book number spot.at text own_group in
       kept_by book sound number own_group.group own_group.is (omega (arith, ended, short)) (part text spot.at (end - spot.at))
       (take (end - spot.at - length own_group.group) own_group.rest)

@@ -1,5 +1,5 @@
 -- When a capture needs a new volume.
-use Rattle.std.proofs.Common.{◌≡◌, ◌⊎◌, ℕ, zero, suc, ◌+◌, ◌-◌, ◌<◌, ◌≤◌, true, false, IsTrue, not, nat_eq, List, [], ◌∷◌, ◌++◌, length, take, get_or, Some, refl, sym, ap, subst, ◌∙◌, inl, inr, ⊎_elim, arith, length-append}
+use Rattle.std.proofs.Common.{◌≡◌, ◌⊎◌, ℕ, zero, suc, ◌+◌, ◌-◌, ◌<◌, ◌≤◌, Bool, true, false, IsTrue, not, nat_eq, List, [], ◌∷◌, ◌++◌, length, take, get_or, Some, refl, sym, ap, subst, ◌∙◌, inl, inr, ⊎_elim, arith, length-append}
 use Rattle.std.specs.Prelude.{slice_get, slice_index_or}
 use Rattle.std.proofs.Math.Dec.{eqb-suc-zero}
 use Rattle.std.proofs.lemmas.Bool.{cases_lt, false≢true}
@@ -108,8 +108,8 @@ texts_count d journal step =
 
 -- ---- the book with room
 
-module _ {D : Type 0} (d : Ghosts D) (journal : Journal D) (book : Book) (stored : Stored) (group : List ℕ) (told : IsTrue d.tells)
-    (holds : HoldsBook d journal book) (count : volumes journal ≡ length book.volumes) (some : 0 < length book.volumes)
+module _ {D : Type 0} (d : Ghosts D) (journal : Journal D) (book : Book) (stored : Stored) (group : List ℕ) {known : Bool} (told : IsTrue known)
+    (holds : HoldsBook d known journal book) (count : volumes journal ≡ length book.volumes) (some : 0 < length book.volumes)
     (add : CapturesAddTheirGroup) (is_group : IsGroupText (with_capture book stored) (length (captures book)) group) where
   abbrev last : HasLast book
   last = record {
@@ -143,7 +143,7 @@ module _ {D : Type 0} (d : Ghosts D) (journal : Journal D) (book : Book) (stored
   text_long =
       let at : get_or all (length all - 1) [] ≡ get_or all (volumes journal - 1) [] = ap (λ (n : ℕ). get_or all (n - 1) []) (all_count ∙ sym count) in
       length-append (get_or all (length all - 1) []) group
-      ∙ omega (arith, ap length at, last_long d journal (holds.in_step told) (omega (arith, some, count)))
+      ∙ omega (arith, ap length at, last_long d journal (holds.in_step (holds.tells told)) (omega (arith, some, count)))
 
   is_last_of : is_filled book.volumes ≡ not (nat_eq (length last.volume.captures) 0)
   is_last_of = last_is book.volumes last.number last.volume last.is_last last.placed

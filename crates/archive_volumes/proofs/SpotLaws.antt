@@ -12,7 +12,7 @@ use Rattle.capture.specs.declared.captured.Stored.{Stored}
 use Rattle.archive_shelf.proofs.ComparingLaws.{payload_later, placed_later}
 use Rattle.archive_volumes.proofs.GroupPlaces.{each_ends, ends_in_text, group_at_later, in_volume_later}
 use Rattle.warc_text.specs.Books.{IsGroupText}
-use Rattle.archive_volumes.specs.Spots.{AreSpotsOf, ArePlaced, HasGroupAt, IsPlaced, IsSpotOf, RefersBack, is_whole, part, spot_of, text_at, whole_from}
+use Rattle.archive_volumes.specs.Spots.{AreSpotsOf, ArePlaced, AreWithin, HasGroupAt, HasPlace, IsPlaced, IsSpotOf, RefersBack, is_whole, part, spot_of, text_at, whole_from}
 use Rattle.archive_volumes.specs.declared.spot.Form.{Form}
 use Rattle.archive_volumes.specs.declared.spot.Form.TheVariants as forms
 use Rattle.archive_volumes.specs.declared.spot.Spot.{Spot}
@@ -119,6 +119,28 @@ part_stays text more at long within =
     let rest : length (drop at text) ≡ length text - at = length-drop at text in
     ap (take long) (drop-append-le at text more (omega (arith, within)))
     ∙ take-append-le long (drop at text) more (omega (arith, within, rest))
+
+-- what is within a text is within one that goes on from it
+module _ (was now : List (List ℕ)) (on : GoOn was now) where
+  place_within : (spot : Spot) → HasPlace was spot → HasPlace now spot
+  place_within spot is =
+      let text : List ℕ = text_at was spot.volume in
+      let more : text_at now spot.volume ≡ text ++ on.rest spot.volume = on.each spot.volume is.there in
+      record {
+        there = omega (arith, is.there, on.count);
+        begins = omega (arith, is.begins, ap length more, length-append text (on.rest spot.volume));
+        within = omega (arith, is.within, ap length more, length-append text (on.rest spot.volume));
+      }
+
+  pub within_stay : (spots : List Spot) → AreWithin was spots → AreWithin now spots
+  within_stay spots are = record { each = λ number spot at. place_within spot (are.each number spot at) }
+
+  pub within_with : (spots : List Spot) (spot : Spot) → AreWithin was spots → HasPlace now spot → AreWithin now (spots ++ spot ∷ [])
+  within_with spots spot are is = record { each = λ number other at. by number other (stands_in spots spot number other at) }
+    where
+      by : (number : ℕ) (other : Spot) → Stands spots spot number other → HasPlace now other
+      by number other (before at) = place_within other (are.each number other at)
+      by number other (behind last same) = subst (HasPlace now) (sym same) is
 
 module _ (was now : List (List ℕ)) (on : GoOn was now) (old new : Book) (added : List Stored) (gains : captures new ≡ captures old ++ added) (grow : Grows old new) where
   pub place_stays : (number : ℕ) (spot : Spot) → IsPlaced was old number spot → IsPlaced now new number spot

@@ -1,5 +1,5 @@
 -- The book that the volumes hold after a change of them, and after a refusal.
-use Rattle.std.proofs.Common.{◌≡◌, ℕ, ◌+◌, ◌^◌, ◌<◌, ◌≤◌, IsTrue, List, [], ◌∷◌, ◌++◌, length, map, get_or, Option, Some, None, option_to_list, Result, Ok, Err, IsErr, refl, sym, ap, subst, ◌∙◌, inl, inr, arith, length-append}
+use Rattle.std.proofs.Common.{◌≡◌, ℕ, ◌+◌, ◌^◌, ◌<◌, ◌≤◌, Bool, IsTrue, List, [], ◌∷◌, ◌++◌, length, map, get_or, Option, Some, None, option_to_list, Result, Ok, Err, IsErr, refl, sym, ap, subst, ◌∙◌, inl, inr, arith, length-append}
 use Rattle.std.specs.Prelude.{slice_get, IsSome}
 use Rattle.std.proofs.lemmas.Bool.{false≢true}
 use Rattle.std.proofs.lemmas.Option.{same_Some, slice_get-get_or}
@@ -23,9 +23,9 @@ use Rattle.archive_shelf.proofs.GainingTexts.{last_placed, same_length}
 use Rattle.archive_shelf.proofs.StoringLaws.{captures_more, captures_stay, capture_grows, kept_before}
 use Rattle.archive_shelf.specs.Gaining.{AreFilled, CapturesAddTheirGroup, VolumesAddTheirText, VolumesKeepSoundness}
 use Rattle.archive_shelf.specs.Storing.{add_to_last, new_volume, with_capture, with_volume}
-use Rattle.archive_volumes.proofs.ChangeLaws.{DiskLaws, makes, near_made, near_refused, near_stays, refused_on, stands}
+use Rattle.archive_volumes.proofs.ChangeLaws.{DiskLaws, laws_muted, makes, near_made, near_refused, near_stays, refused_on, stands}
 use Rattle.archive_volumes.specs.Held.{book_of, volume_of}
-use Rattle.archive_volumes.specs.Volumes.{HoldsBook, IsMeasured, IsStep, Makes}
+use Rattle.archive_volumes.specs.Volumes.{HoldsBook, IsMeasured, IsStep, Makes, muted}
 use Rattle.archive_volumes.specs.declared.held.Held.{Held}
 use Rattle.archive_volumes.specs.declared.held.Shadow.{Shadow}
 
@@ -50,77 +50,97 @@ step_capture book stored some = record {
 -- ---- the book that is held
 
 -- where each image holds the texts of a sound book
-pub holds_found : {D : Type 0} (d : Ghosts D) (journal : Journal D) (book : Book) → (IsTrue d.tells → IsInStep d journal)
-    → (IsTrue d.tells → AreVolumeTexts book (texts d journal)) → (IsTrue d.tells → IsSound book)
-    → (IsTrue d.tells → (image : Image) → d.images journal.disk image → Hold (texts d journal) (warc_files image)) → HoldsBook d journal book
-holds_found d journal book in_step are sound held = record {
+pub holds_found : {D : Type 0} (d : Ghosts D) (told : Bool) (journal : Journal D) (book : Book) → (IsTrue told → IsTrue d.tells)
+    → (IsTrue d.tells → IsInStep d journal) → (IsTrue told → AreVolumeTexts book (texts d journal)) → (IsTrue told → IsSound book)
+    → (IsTrue d.tells → (image : Image) → d.images journal.disk image → Hold (texts d journal) (warc_files image)) → HoldsBook d told journal book
+holds_found d told journal book tells in_step are sound held = record {
+  tells = tells;
   in_step = in_step;
   texts_are = are;
   sound = sound;
-  near = λ told image now.
-      (book, stands book (texts d journal) image (are told) (sound told) (held told image now), record { room = book; roomy = inl (inl refl); is = inl (inl refl) });
+  near = λ so image now.
+      (book, stands book (texts d journal) image (are so) (sound so) (held (tells so) image now), record { room = book; roomy = inl (inl refl); is = inl (inl refl) });
+}
+
+-- what a call changes of the texts is said as well of the disk of which this is told
+changes_muted : {D T E : Type 0} (d : Ghosts D) (told : Bool) (old new : Journal D) (after : List (List ℕ)) (result : Result T E)
+    → Changes d old new after result → Changes (muted told d) old new after result
+changes_muted d told old new after result change = record {
+  leaves = change.leaves;
+  added = change.added;
+  only = change.only;
+  stays = change.stays;
+  refused = change.refused;
+  others = change.others;
 }
 
 -- a change from one book to another, by the texts after it
-pub record IsChange {D : Type 0} (d : Ghosts D) (old : Journal D) (before after : Book) (texts_after : List (List ℕ)) : Type 0 where
-  pub holds : HoldsBook d old before
-  pub will_be : IsTrue d.tells → AreVolumeTexts after texts_after
-  pub sound : IsTrue d.tells → IsSound after
+pub record IsChange {D : Type 0} (d : Ghosts D) (told : Bool) (old : Journal D) (before after : Book) (texts_after : List (List ℕ)) : Type 0 where
+  pub holds : HoldsBook d told old before
+  pub will_be : IsTrue told → AreVolumeTexts after texts_after
+  pub sound : IsTrue told → IsSound after
   pub step : IsStep before after
 
-module _ {D : Type 0} (d : Ghosts D) (laws : DiskLaws d) (old new : Journal D) (before after : Book) (texts_after : List (List ℕ))
-    (is : IsChange d old before after texts_after) where
+module _ {D : Type 0} (d : Ghosts D) (laws : DiskLaws d) (told : Bool) (old new : Journal D) (before after : Book) (texts_after : List (List ℕ))
+    (is : IsChange d told old before after texts_after) where
+  told_change : {T E : Type 0} (result : Result T E) → (IsTrue d.tells → Changes d old new texts_after result)
+      → IsTrue told → Changes (muted told d) old new texts_after result
+  told_change result change so = changes_muted d told old new texts_after result (change (is.holds.tells so))
+
   pub holds_made : {T E : Type 0} (value : T) → (IsTrue d.tells → Changes {E = E} d old new texts_after (Ok value)) → (IsTrue d.tells → IsInStep d new)
-      → HoldsBook d new after
+      → HoldsBook d told new after
   holds_made value change in_step = record {
+    tells = is.holds.tells;
     in_step = in_step;
-    texts_are = λ told. subst (AreVolumeTexts after) (sym (change told).added) (is.will_be told);
+    texts_are = λ so. subst (AreVolumeTexts after) (sym (change (is.holds.tells so)).added) (is.will_be so);
     sound = is.sound;
-    near = λ told. near_made d laws old.disk new.disk after texts_after (is.will_be told) (is.sound told) (change told).only;
+    near = λ so. near_made d laws old.disk new.disk after texts_after (is.will_be so) (is.sound so) (change (is.holds.tells so)).only;
   }
 
   pub holds_refused : {T E : Type 0} (fault : E) → (IsTrue d.tells → Changes {T = T} d old new texts_after (Err fault)) → (IsTrue d.tells → IsInStep d new)
-      → HoldsBook d new before
+      → HoldsBook d told new before
   holds_refused {T} fault change in_step =
       let failure : Result T _ = Err fault in
       record {
+        tells = is.holds.tells;
         in_step = in_step;
-        texts_are = λ told. subst (AreVolumeTexts before) (sym (change told).stays) (is.holds.texts_are told);
+        texts_are = λ so. subst (AreVolumeTexts before) (sym (change (is.holds.tells so)).stays) (is.holds.texts_are so);
         sound = is.holds.sound;
-        near = λ told. near_refused d laws old new before after texts_after failure change is.holds.texts_are is.will_be is.holds.sound is.sound is.step told (is.holds.near told);
+        near = λ so. near_refused (muted told d) (laws_muted d told laws) old new before after texts_after failure (told_change failure change)
+            is.holds.texts_are is.will_be is.holds.sound is.sound is.step so (is.holds.near so);
       }
 
   pub makes_by : {T E : Type 0} (result : Result T E) → (IsTrue d.tells → Changes d old new texts_after result)
-      → Makes d old.disk new.disk before after result
+      → Makes (muted told d) old.disk new.disk before after result
   makes_by result change =
-      makes d laws old new before after texts_after result change is.holds.texts_are is.will_be is.holds.sound is.sound is.step
+      makes (muted told d) (laws_muted d told laws) old new before after texts_after result (told_change result change) is.holds.texts_are is.will_be is.holds.sound is.sound is.step
 
   pub makes_refused : {T E S F : Type 0} (fault : E) (answer : Result S F) → (IsTrue d.tells → Changes {T = T} d old new texts_after (Err fault))
-      → IsErr answer → Makes d old.disk new.disk before after answer
+      → IsErr answer → Makes (muted told d) old.disk new.disk before after answer
   makes_refused {T} fault answer change failed =
       let failure : Result T _ = Err fault in
-      refused_on d old.disk new.disk before after failure answer refl failed (makes_by failure change)
+      refused_on (muted told d) old.disk new.disk before after failure answer refl failed (makes_by failure change)
 
 -- a volume with this text is begun
-pub volume_change : {D : Type 0} (d : Ghosts D) (old : Journal D) (book : Book) (born : ℕ) (text : List ℕ)
-    → VolumesAddTheirText → VolumesKeepSoundness → HoldsBook d old book → AreFilled book → InRange born
+pub volume_change : {D : Type 0} (d : Ghosts D) (told : Bool) (old : Journal D) (book : Book) (born : ℕ) (text : List ℕ)
+    → VolumesAddTheirText → VolumesKeepSoundness → HoldsBook d told old book → AreFilled book → InRange born
     → text ≡ info_text book.namespace (length book.volumes) born
-    → IsChange d old book (with_volume book born) (texts d old ++ text ∷ [])
-volume_change d old book born text add keep holds filled in_range info = record {
+    → IsChange d told old book (with_volume book born) (texts d old ++ text ∷ [])
+volume_change d told old book born text add keep holds filled in_range info = record {
   holds = holds;
-  will_be = λ told. subst (λ (t : List ℕ). AreVolumeTexts (with_volume book born) (texts d old ++ t ∷ [])) (sym info) (add book born (texts d old) (holds.texts_are told));
-  sound = λ told. keep book born (holds.sound told) filled in_range;
+  will_be = λ so. subst (λ (t : List ℕ). AreVolumeTexts (with_volume book born) (texts d old ++ t ∷ [])) (sym info) (add book born (texts d old) (holds.texts_are so));
+  sound = λ so. keep book born (holds.sound so) filled in_range;
   step = step_volume book born;
 }
 
 -- a capture with this group is added
-pub capture_change : {D : Type 0} (d : Ghosts D) (old : Journal D) (book : Book) (stored : Stored) (group : List ℕ)
-    → CapturesAddTheirGroup → HoldsBook d old book → 0 < length book.volumes
-    → (IsTrue d.tells → IsGroupText (with_capture book stored) (length (captures book)) group) → (IsTrue d.tells → IsSound (with_capture book stored))
-    → IsChange d old book (with_capture book stored) (with_more (texts d old) group)
-capture_change d old book stored group add holds some is_group sound = record {
+pub capture_change : {D : Type 0} (d : Ghosts D) (told : Bool) (old : Journal D) (book : Book) (stored : Stored) (group : List ℕ)
+    → CapturesAddTheirGroup → HoldsBook d told old book → 0 < length book.volumes
+    → (IsTrue told → IsGroupText (with_capture book stored) (length (captures book)) group) → (IsTrue told → IsSound (with_capture book stored))
+    → IsChange d told old book (with_capture book stored) (with_more (texts d old) group)
+capture_change d told old book stored group add holds some is_group sound = record {
   holds = holds;
-  will_be = λ told. add book stored (texts d old) group some (holds.texts_are told) (is_group told);
+  will_be = λ so. add book stored (texts d old) group some (holds.texts_are so) (is_group so);
   sound = sound;
   step = step_capture book stored some;
 }
@@ -131,13 +151,14 @@ texts_rest d old new rests same =
     ap (λ (e : Extent). texts_in e (warc_files (d.reading new.disk))) same
     ∙ ap (λ (i : Image). texts_in old.extent (warc_files i)) rests.read
 
-pub holds_rest : {D : Type 0} (d : Ghosts D) (laws : DiskLaws d) (old new : Journal D) (book : Book) → (IsTrue d.tells → Rests d old.disk new.disk)
-    → new.extent ≡ old.extent → (IsTrue d.tells → IsInStep d new) → HoldsBook d old book → HoldsBook d new book
-holds_rest d laws old new book rests same in_step holds = record {
+pub holds_rest : {D : Type 0} (d : Ghosts D) (laws : DiskLaws d) (told : Bool) (old new : Journal D) (book : Book) → (IsTrue d.tells → Rests d old.disk new.disk)
+    → new.extent ≡ old.extent → (IsTrue d.tells → IsInStep d new) → HoldsBook d told old book → HoldsBook d told new book
+holds_rest d laws told old new book rests same in_step holds = record {
+  tells = holds.tells;
   in_step = in_step;
-  texts_are = λ told. subst (AreVolumeTexts book) (sym (texts_rest d old new (rests told) same)) (holds.texts_are told);
+  texts_are = λ so. subst (AreVolumeTexts book) (sym (texts_rest d old new (rests (holds.tells so)) same)) (holds.texts_are so);
   sound = holds.sound;
-  near = λ told. near_stays d laws old.disk new.disk book (rests told) (holds.near told);
+  near = λ so. near_stays d laws old.disk new.disk book (rests (holds.tells so)) (holds.near so);
 }
 
 -- ---- its measures

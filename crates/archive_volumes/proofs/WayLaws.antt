@@ -1,5 +1,5 @@
 -- How a book takes a capture, by what is found, by the room that is made and by its group.
-use Rattle.std.proofs.Common.{◌≡◌, ℕ, ◌+◌, ◌-◌, ◌^◌, ◌<◌, true, IsTrue, List, [], ◌∷◌, ◌++◌, length, Option, Some, None, refl, sym, ap, subst, ◌∙◌, inl, inr, ⊎_elim, arith, length-append}
+use Rattle.std.proofs.Common.{◌≡◌, ℕ, ◌+◌, ◌-◌, ◌^◌, ◌<◌, Bool, true, IsTrue, List, [], ◌∷◌, ◌++◌, length, Option, Some, None, refl, sym, ap, subst, ◌∙◌, inl, inr, ⊎_elim, arith, length-append}
 use Rattle.std.specs.Prelude.{IfSome}
 use Rattle.std.proofs.lemmas.Bool.{false≢true}
 use Rattle.capture.specs.Captures.{captures, HasPayload}
@@ -26,7 +26,7 @@ use Rattle.archive_volumes.proofs.TakenGroup.{IsGroupWith, group_by}
 use Rattle.archive_volumes.specs.Grouping.{IsGroupFor}
 use Rattle.archive_volumes.specs.Held.{is_filled}
 use Rattle.archive_volumes.specs.Writing.{IsDecided, IsWay, with_prepared}
-use Rattle.archive_volumes.specs.Volumes.{HoldsBook}
+use Rattle.archive_volumes.specs.Volumes.{HoldsBook, muted}
 use Rattle.archive_volumes.specs.declared.room.Prepared.{Prepared}
 
 some_filled : (volumes : List Volume) → is_filled volumes ≡ true → 0 < length volumes
@@ -67,7 +67,7 @@ needed_by d limit book taken born after way_is = by way_is.storing.roomy
     by (inr needs) = (way_is.storing.same, way_is.storing.refers, needs.0)
 
 module _ {D : Type 0} (d : Ghosts D) (journal : Journal D) (book : Book) (taken : Taken) (payload : List ℕ) (same : Option ℕ) (group : List ℕ)
-    (told : IsTrue d.tells) (holds : HoldsBook d journal book) (has : HasPayload taken.cut taken.method taken.head taken.wire payload)
+    {known : Bool} (told : IsTrue known) (holds : HoldsBook d known journal book) (has : HasPayload taken.cut taken.method taken.head taken.wire payload)
     (refers : RefersBy taken.cut book payload same) (is : IsGroupFor book taken payload same group) where
   abbrev stored : Stored
   stored = as_stored taken same
@@ -111,7 +111,7 @@ module _ {D : Type 0} (d : Ghosts D) (journal : Journal D) (book : Book) (taken 
   -- the book takes the capture so
   pub way : CapturesAddTheirGroup → volumes journal ≡ length book.volumes → (limit : ℕ) (prepared : Option Prepared)
       → IfSome prepared (λ (p : Prepared). p.shadow.born ≡ taken.date) → IsDecided limit book (last_len journal) (length group) prepared
-      → IsWay d limit book taken (with_prepared book prepared) (with_capture (with_prepared book prepared) (as_stored taken same))
+      → IsWay (muted known d) limit book taken (with_prepared book prepared) (with_capture (with_prepared book prepared) (as_stored taken same))
   way add count limit prepared born decided = record {
     told = told;
     storing = record {

@@ -6,7 +6,7 @@ use Rattle.capture.specs.Captures.{IsPayloadOf}
 use Rattle.capture.specs.declared.book.Book.{Book}
 use Rattle.capture.specs.declared.captured.Brought.{Brought}
 use Rattle.disk_model.specs.declared.disk.Disk.{Ghosts}
-use Rattle.warc_journal.specs.Journals.{disk_of, extent_of}
+use Rattle.warc_journal.specs.Journals.{IsInStep, disk_of, extent_of}
 use Rattle.archive_shelf.specs.Answers.{IsBrought, IsDamaged, IsNamed, IsReplayable, KeepsPayloadOf}
 use Rattle.archive_shelf.specs.declared.fault.BringFault.{BringFault}
 use Rattle.archive_shelf.specs.declared.fault.BringFault.TheVariants as brings
@@ -28,7 +28,8 @@ pub record OnlyReads {D : Type 0} (d : Ghosts D) (old new : Volumes D) : Type 0 
   pub held : new.held ≡ old.held
   pub extent : extent_of new.journal ≡ extent_of old.journal
   pub reading : IsTrue d.tells → d.reading (disk_of new.journal) ≡ d.reading (disk_of old.journal)
-  pub holds : HoldsBook d old.journal (book_of old.held) → HoldsBook d new.journal (book_of new.held)
+  pub in_step : (IsTrue d.tells → IsInStep d old.journal) → IsTrue d.tells → IsInStep d new.journal
+  pub holds : (told : Bool) → HoldsBook d told old.journal (book_of old.held) → HoldsBook d told new.journal (book_of new.held)
   pub measured : IsMeasured old.journal (book_of old.held) → IsMeasured new.journal (book_of new.held)
   pub quiet : IsQuiet d (disk_of old.journal) (disk_of new.journal)
 

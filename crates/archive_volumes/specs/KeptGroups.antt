@@ -24,9 +24,12 @@ pub record IsNextAt (spots : List Spot) (number volume at : ℕ) : Type 0 where
   pub same : next.volume ≡ volume
   pub is : at ≡ next.at
 
--- the group of the capture with this number ends there or before, which is in its volume's text
-pub record EndsGroup (texts : List (List ℕ)) (book : Book) (spots : List Spot) (number end : ℕ) : Type 0 where
+-- it is a place in the text of the volume in which the capture with this number stands
+pub record EndsWithin (texts : List (List ℕ)) (spots : List Spot) (number end : ℕ) : Type 0 where
   pub within : (spot : Spot) → slice_get spots number ≡ Some spot → end ≤ length (text_at texts spot.volume)
+
+-- the group of the capture with this number ends there or before
+pub record EndsGroup (book : Book) (spots : List Spot) (number end : ℕ) : Type 0 where
   pub reaches : (spot : Spot) (group : List ℕ) → slice_get spots number ≡ Some spot → IsGroupText book number group
       → spot.at + length group ≤ end
 
@@ -52,7 +55,7 @@ abbrev pub IsSomeGroup : List ℕ → ℕ → KeptGroup → Type 0
 IsSomeGroup namespace number (kept.Right bytes outline) = IsTold namespace number bytes outline
 IsSomeGroup namespace number kept.Damaged = ⊤
 
--- where the disk tells: it is that of the book's capture, whose payload has the digest that the group tells
+-- where the book is told: it is that of the book's capture, whose payload has the digest that the group tells
 pub record IsGroupOf (book : Book) (number : ℕ) (bytes : List ℕ) (outline : Outline) : Type 0 where
   pub is : IsGroupText book number bytes
   pub digest : outline.digest ≡ sha1 is.payload

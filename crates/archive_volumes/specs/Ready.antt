@@ -1,5 +1,5 @@
 -- A capture that is ready to be written.
-use Rattle.std.specs.Prelude.{◌≡◌, ℕ, ◌+◌, ◌-◌, ◌^◌, ◌<◌, IsTrue, List, [], ◌∷◌, ◌++◌, length, IfSome, Option}
+use Rattle.std.specs.Prelude.{◌≡◌, ℕ, ◌+◌, ◌-◌, ◌^◌, ◌<◌, Bool, IsTrue, List, [], ◌∷◌, ◌++◌, length, IfSome, Option}
 use Rattle.capture.specs.Captures.{captures}
 use Rattle.capture.specs.Tails.{IsCommitted}
 use Rattle.capture.specs.declared.book.Book.{Book}
@@ -13,7 +13,7 @@ use Rattle.warc_text.specs.StandsFor.{commit_byte}
 use Rattle.archive_shelf.specs.Storing.{as_stored, with_capture}
 use Rattle.archive_volumes.specs.Grouping.{IsGroupFor, StandsAt}
 use Rattle.archive_volumes.specs.Held.{book_of, stored_in}
-use Rattle.archive_volumes.specs.Spots.{IsPlaced, IsSpotOf, spot_of}
+use Rattle.archive_volumes.specs.Spots.{HasPlace, IsPlaced, IsSpotOf, spot_of}
 use Rattle.archive_volumes.specs.Writing.{HasRoomFor, IsDecided, end_with, texts_with, with_prepared}
 use Rattle.archive_volumes.specs.declared.entry.RecordAt.{RecordAt}
 use Rattle.archive_volumes.specs.declared.ready.Ready.{Ready}
@@ -55,16 +55,17 @@ spot_in volumes_now ready =
     (end_with volumes_now ready.prepared + ready.layout.head_at)
 
 -- the capture can be written into these volumes, and kept
-pub record CanCommit {D : Type 0} (d : Ghosts D) (volumes_now : Volumes D) (ready : Ready) : Type 0 where
+pub record CanCommit {D : Type 0} (d : Ghosts D) (told : Bool) (volumes_now : Volumes D) (ready : Ready) : Type 0 where
   pub room : HasRoomFor volumes_now ready.prepared
   pub kept : ready.spot ≡ spot_of (stored_in ready.stored) ready.digest 0 0 0
   pub committed : IsCommitted commit_byte ready.group
   pub fits : end_with volumes_now ready.prepared + length ready.group < 2 ^ 62
   pub gains : captures (book_with volumes_now ready) ≡ captures (book_of volumes_now.held) ++ (stored_in ready.stored) ∷ []
   pub spot : IsSpotOf (book_with volumes_now ready) (length (captures (book_of volumes_now.held))) (spot_in volumes_now ready)
-  pub group : IsTrue d.tells → IsGroupText (book_with volumes_now ready) (length (captures (room_of volumes_now ready))) ready.group
-  pub sound : IsTrue d.tells → IsSound (book_with volumes_now ready)
-  pub placed : IsTrue d.tells → IsPlaced (with_more (texts_with (texts d volumes_now.journal) ready.prepared) ready.group)
+  pub group : IsTrue told → IsGroupText (book_with volumes_now ready) (length (captures (room_of volumes_now ready))) ready.group
+  pub sound : IsTrue told → IsSound (book_with volumes_now ready)
+  pub within : IsTrue d.tells → HasPlace (with_more (texts_with (texts d volumes_now.journal) ready.prepared) ready.group) (spot_in volumes_now ready)
+  pub placed : IsTrue told → IsPlaced (with_more (texts_with (texts d volumes_now.journal) ready.prepared) ready.group)
       (book_with volumes_now ready) (length (captures (book_of volumes_now.held))) (spot_in volumes_now ready)
 
 -- where its first record is to stand

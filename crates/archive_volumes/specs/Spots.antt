@@ -103,7 +103,7 @@ pub record HasGroupAt (book : Book) (number : ℕ) (text : List ℕ) (at : ℕ) 
   pub composed : text ≡ front ++ (group ++ rest)
   pub behind : at ≡ length front
 
--- Where the disk tells: the group, the head and the wire of the capture stand there, and this is the digest of its payload.
+-- Where the book is told: the group, the head and the wire of the capture stand there, and this is the digest of its payload.
 pub record IsPlaced (texts : List (List ℕ)) (book : Book) (number : ℕ) (spot : Spot) : Type 0 where
   pub payload : List ℕ
   pub has : IsPayloadOf book number payload
@@ -114,9 +114,10 @@ pub record IsPlaced (texts : List (List ℕ)) (book : Book) (number : ℕ) (spot
   pub head : part (text_at texts spot.volume) spot.head_at spot.head_len ≡ has.stored.head
   pub wire : part (text_at texts spot.volume) (spot.head_at + spot.head_len) spot.wire_len ≡ kept_wire has.stored.kept
 
--- where the disk tells: head and wire are within the text of their volume
+-- where the disk tells: the group begins within the text of its volume, and head and wire are within it
 pub record HasPlace (texts : List (List ℕ)) (spot : Spot) : Type 0 where
   pub there : spot.volume < length texts
+  pub begins : spot.at ≤ length (text_at texts spot.volume)
   pub within : spot.head_at + spot.head_len + spot.wire_len ≤ length (text_at texts spot.volume)
 
 -- the bytes of the head and of the wire
@@ -133,7 +134,11 @@ pub record AreSpotsOf (book : Book) (spots : List Spot) : Type 0 where
   pub count : length spots ≡ length (captures book)
   pub each : (number : ℕ) (spot : Spot) → slice_get spots number ≡ Some spot → IsSpotOf book number spot
 
--- where the disk tells: each stands where it says, and ends before the next one of its volume begins
+-- where the disk tells, whether the book is known or not: what is read of each is within the text of its volume
+pub record AreWithin (texts : List (List ℕ)) (spots : List Spot) : Type 0 where
+  pub each : (number : ℕ) (spot : Spot) → slice_get spots number ≡ Some spot → HasPlace texts spot
+
+-- where the book is told: each stands where it says, and ends before the next one of its volume begins
 pub record ArePlaced (texts : List (List ℕ)) (book : Book) (spots : List Spot) : Type 0 where
   pub each : (number : ℕ) (spot : Spot) → slice_get spots number ≡ Some spot → IsPlaced texts book number spot
   pub apart : (number : ℕ) (spot next : Spot) (group : List ℕ) → slice_get spots number ≡ Some spot → slice_get spots (suc number) ≡ Some next

@@ -1,5 +1,5 @@
 -- The volumes on a disk, the book that they hold, and what a change of them may leave.
-use Rattle.std.specs.Prelude.{◌≡◌, ◌⊎◌, ℕ, ◌+◌, ◌^◌, ◌<◌, ◌≤◌, IsTrue, if◌then◌else◌, [], length, slice_get, OnErr, OnOk, Result, Some, None}
+use Rattle.std.specs.Prelude.{◌≡◌, ◌⊎◌, ℕ, ◌+◌, ◌^◌, ◌<◌, ◌≤◌, Bool, IsTrue, if◌then◌else◌, [], length, slice_get, OnErr, OnOk, Result, Some, None}
 use Rattle.capture.specs.Captures.{captures}
 use Rattle.capture.specs.declared.book.Book.{Book}
 use Rattle.capture.specs.declared.book.Volume.{Volume}
@@ -21,12 +21,14 @@ use Rattle.archive_volumes.specs.declared.room.Prepared.{Prepared}
 abbrev pub OpensNear : {D : Type 0} → Ghosts D → D → Book → Type 0
 OpensNear d disk book = (image : Image) → d.images disk image → (x : Book) × ImageStandsFor image x × IsNext book x
 
--- where the disk tells what it holds, the volumes are those of a sound book, and each image is next to it
-pub record HoldsBook {D : Type 0} (d : Ghosts D) (journal : Journal D) (book : Book) : Type 0 where
+-- The volumes are those of a sound book, and each image is next to it, where that is told: only of a disk that tells what it holds. Of each
+-- disk that tells, the texts reach as far as the journal says.
+pub record HoldsBook {D : Type 0} (d : Ghosts D) (told : Bool) (journal : Journal D) (book : Book) : Type 0 where
+  pub tells : IsTrue told → IsTrue d.tells
   pub in_step : IsTrue d.tells → IsInStep d journal
-  pub texts_are : IsTrue d.tells → AreVolumeTexts book (texts d journal)
-  pub sound : IsTrue d.tells → IsSound book
-  pub near : IsTrue d.tells → OpensNear d journal.disk book
+  pub texts_are : IsTrue told → AreVolumeTexts book (texts d journal)
+  pub sound : IsTrue told → IsSound book
+  pub near : IsTrue told → OpensNear d journal.disk book
 
 -- whatever the disk tells: how many volumes there are, that each but the last holds a capture, and where the last one ends
 pub record IsMeasured {D : Type 0} (journal : Journal D) (book : Book) : Type 0 where
@@ -45,6 +47,11 @@ pub record IsPrepared (book : Book) (prepared : Prepared) : Type 0 where
   pub short : length prepared.info ≤ 512
 
 -- ---- what may be opened
+
+-- The disk, of which is told what the book has where it says so. A change from one book to another is said of it, and so is what may be opened
+-- then: where the book isn't known, nothing.
+abbrev pub muted : {D : Type 0} → Bool → Ghosts D → Ghosts D
+muted told d = record d { tells = told }
 
 -- what a crash may leave of a disk that tells; of another disk nothing may be opened, and time stands still
 abbrev pub crash_of : {D : Type 0} → Ghosts D → D → CrashStates

@@ -5,14 +5,14 @@ ghost use Rattle.sha1.specs.Sha1.{sha1};
 ghost use Rattle.capture.specs.Body.{IsWire};
 ghost use Rattle.capture.specs.Payload.{IsPayload};
 ghost use Rattle.revisit_table.specs.Table.{numbers_of};
-ghost use Rattle.warc_journal.specs.Journals.{disk_of, texts};
+ghost use Rattle.warc_journal.specs.Journals.{IsInStep, disk_of, texts};
 ghost use Rattle.archive_shelf.specs.Answers.{CountsIf};
 ghost use Rattle.archive_shelf.specs.Comparing.{IsRight};
 ghost use Rattle.archive_volumes.specs.Bringing.{IsKept, OnlyReads, is_read_fault};
 ghost use Rattle.archive_volumes.specs.Choosing.{AreWhole, Asks, Chooses, Compares, ComparesWith, IsComparison, IsWholeAt, LooksOn, NoneDamagedBelow, is_look_fault};
 ghost use Rattle.archive_volumes.specs.Decoding.{HoldsPayload, is_plain as spec_plain};
 ghost use Rattle.archive_volumes.specs.Held.{book_of};
-ghost use Rattle.archive_volumes.specs.Spots.{AreSpotsOf, ArePlaced, HasPlace, is_cut_form, whole_from, wire_in};
+ghost use Rattle.archive_volumes.specs.Spots.{AreSpotsOf, ArePlaced, AreWithin, HasPlace, is_cut_form, whole_from, wire_in};
 ghost use Rattle.archive_volumes.specs.Volumes.{HoldsBook};
 
 use crate::decode::{framing_behind, is_plain};
@@ -24,6 +24,7 @@ use capture::{Bytes, Digest, Framing, captures_have_one_payload, wires_have_one_
 use digest32::payload_digest;
 use disk_model::Disk;
 use message_body::Slices;
+use shown::Shown;
 use std::alloc::Global;
 use warc_journal::Place;
 
@@ -92,7 +93,7 @@ fn compare_found(kept: &Digest, found: Option<Bytes>, framing: Framing, wire: &[
 impl<D: Disk> Volumes<D> {
     /// Whether the wire that is kept of a capture has these bytes. It is read in pieces, up to the first that differs.
     fn keeps_bytes(&mut self, alloc: Global, spot: &Spot, bytes: &[u8]) -> Result<bool, ReadFault>
-        requires holds { HoldsBook D.Disk self.old.journal (book_of self.old.held) }
+        requires in_step { IsTrue D.tells → IsInStep D.Disk self.old.journal }
         requires place { IsTrue D.tells → HasPlace (texts D.Disk self.old.journal) spot.now }
         requires ends { spot.now.head_at + spot.now.head_len + spot.now.wire_len < 2 ^ 62 }
         ensures keeps { IsTrue D.tells → IfOk result (λ same. IsTrue same → wire_in (texts D.Disk self.old.journal) spot.now ≡ bytes.now) }
@@ -131,7 +132,7 @@ impl<D: Disk> Volumes<D> {
         framing: Framing,
         wire: &[u8],
     ) -> Result<bool, ReadFault>
-        requires holds { HoldsBook D.Disk self.old.journal (book_of self.old.held) }
+        requires in_step { IsTrue D.tells → IsInStep D.Disk self.old.journal }
         requires place { IsTrue D.tells → HasPlace (texts D.Disk self.old.journal) spot.now }
         requires ends { spot.now.head_at + spot.now.head_len + spot.now.wire_len < 2 ^ 62 }
         ensures keeps { IsTrue D.tells → IfOk result (λ same. IsTrue same → (spec_plain kept ≡ spec_plain framing)
@@ -155,7 +156,7 @@ impl<D: Disk> Volumes<D> {
         framing: Framing,
         wire: &[u8],
     ) -> Result<Compared, ReadFault>
-        requires holds { HoldsBook D.Disk self.old.journal (book_of self.old.held) }
+        requires in_step { IsTrue D.tells → IsInStep D.Disk self.old.journal }
         requires place { IsTrue D.tells → HasPlace (texts D.Disk self.old.journal) spot.now }
         requires ends { spot.now.head_at + spot.now.head_len + spot.now.wire_len < 2 ^ 62 }
         ensures comparison { (payload : List ℕ) → IsPayload false framing wire.now payload
@@ -180,7 +181,7 @@ impl<D: Disk> Volumes<D> {
         framing: Framing,
         wire: &[u8],
     ) -> Result<Compared, ReadFault>
-        requires holds { HoldsBook D.Disk self.old.journal (book_of self.old.held) }
+        requires in_step { IsTrue D.tells → IsInStep D.Disk self.old.journal }
         requires place { IsTrue D.tells → HasPlace (texts D.Disk self.old.journal) spot.now }
         requires ends { spot.now.head_at + spot.now.head_len + spot.now.wire_len < 2 ^ 62 }
         requires whole { is_cut_form spot.now.form ≡ false }
@@ -209,20 +210,23 @@ impl<D: Disk> Volumes<D> {
     /// Whether a capture that keeps its whole wire has the payload of a whole one.
     fn has_payload(
         &mut self,
+        told: &Shown<bool>,
         alloc: Global,
         spots: &[Spot],
         number: u32,
         framing: Framing,
         wire: &[u8],
     ) -> Result<bool, StoreFault>
-        requires holds { HoldsBook D.Disk self.old.journal (book_of self.old.held) }
+        requires holds { HoldsBook D.Disk told.now.value self.old.journal (book_of self.old.held) }
         requires spots { AreSpotsOf (book_of self.old.held) spots.now }
-        requires placed { IsTrue D.tells → ArePlaced (texts D.Disk self.old.journal) (book_of self.old.held) spots.now }
+        requires within { IsTrue D.tells → AreWithin (texts D.Disk self.old.journal) spots.now }
+        requires placed { IsTrue told.now.value → ArePlaced (texts D.Disk self.old.journal) (book_of self.old.held) spots.now }
         requires whole { IsWholeAt spots.now number }
-        ensures asks { (payload : List ℕ) → IsPayload false framing wire.now payload → Asks D.tells (book_of self.old.held) number payload result }
+        ensures asks { (payload : List ℕ) → IsPayload false framing wire.now payload → Asks told.now.value (book_of self.old.held) number payload result }
         ensures reads { OnlyReads D.Disk self.old self.new }
         ensures faults { CountsIf (is_look_fault result) (D.faults (disk_of self.old.journal)) (D.faults (disk_of self.new.journal)) }
     {
+        let _ = told;
         let spot = &spots[number as usize];
         let answer = self.compare_with(alloc, spot, framing, wire)?;
         match answer {
@@ -239,23 +243,25 @@ impl<D: Disk> Volumes<D> {
     /// The first of these captures that has the payload of a whole wire. Each keeps its whole wire.
     pub(crate) fn choose(
         &mut self,
+        told: &Shown<bool>,
         alloc: Global,
         spots: &[Spot],
         candidates: &[u32],
         framing: Framing,
         wire: &[u8],
     ) -> Result<Option<u32>, StoreFault>
-        requires holds { HoldsBook D.Disk self.old.journal (book_of self.old.held) }
+        requires holds { HoldsBook D.Disk told.now.value self.old.journal (book_of self.old.held) }
         requires spots { AreSpotsOf (book_of self.old.held) spots.now }
-        requires placed { IsTrue D.tells → ArePlaced (texts D.Disk self.old.journal) (book_of self.old.held) spots.now }
+        requires within { IsTrue D.tells → AreWithin (texts D.Disk self.old.journal) spots.now }
+        requires placed { IsTrue told.now.value → ArePlaced (texts D.Disk self.old.journal) (book_of self.old.held) spots.now }
         requires whole { AreWhole spots.now candidates.now }
         ensures chooses { (payload : List ℕ) → IsPayload false framing wire.now payload
-            → Chooses D.tells (book_of self.old.held) candidates.now payload result }
+            → Chooses told.now.value (book_of self.old.held) candidates.now payload result }
         ensures reads { OnlyReads D.Disk self.old self.new }
         ensures faults { CountsIf (is_look_fault result) (D.faults (disk_of self.old.journal)) (D.faults (disk_of self.new.journal)) }
     {
         for candidate in candidates {
-            let has = self.has_payload(alloc, spots, *candidate, framing, wire)?;
+            let has = self.has_payload(told, alloc, spots, *candidate, framing, wire)?;
             if has {
                 return Ok(Some(*candidate));
             }
@@ -267,6 +273,7 @@ impl<D: Disk> Volumes<D> {
     /// digest. An empty payload isn't looked for.
     pub fn look_on_wire(
         &mut self,
+        told: &Shown<bool>,
         alloc: Global,
         spots: &[Spot],
         candidates: &[u32],
@@ -274,16 +281,17 @@ impl<D: Disk> Volumes<D> {
         wire: &[u8],
         looked: Looked,
     ) -> Result<Looked, StoreFault>
-        requires holds { HoldsBook D.Disk self.old.journal (book_of self.old.held) }
+        requires holds { HoldsBook D.Disk told.now.value self.old.journal (book_of self.old.held) }
         requires spots { AreSpotsOf (book_of self.old.held) spots.now }
-        requires placed { IsTrue D.tells → ArePlaced (texts D.Disk self.old.journal) (book_of self.old.held) spots.now }
+        requires within { IsTrue D.tells → AreWithin (texts D.Disk self.old.journal) spots.now }
+        requires placed { IsTrue told.now.value → ArePlaced (texts D.Disk self.old.journal) (book_of self.old.held) spots.now }
         requires few { length spots.now < 2 ^ 32 }
         requires wire { IsWire false framing wire.now }
         requires candidates { (payload : List ℕ) → IsPayload false framing wire.now payload → candidates.now
             ≡ filter (λ number. nat_le looked.upto number) (numbers_of (sha1 payload) (whole_from 0 spots.now)) }
         requires rising { IsStrictlyIncreasing candidates.now }
-        requires right { (payload : List ℕ) → IsPayload false framing wire.now payload → IsRight D.tells (book_of self.old.held) payload looked }
-        ensures looks { (payload : List ℕ) → IsPayload false framing wire.now payload → LooksOn D.tells (book_of self.old.held) payload result }
+        requires right { (payload : List ℕ) → IsPayload false framing wire.now payload → IsRight told.now.value (book_of self.old.held) payload looked }
+        ensures looks { (payload : List ℕ) → IsPayload false framing wire.now payload → LooksOn told.now.value (book_of self.old.held) payload result }
         ensures since { NoneDamagedBelow looked.upto result }
         ensures reads { OnlyReads D.Disk self.old self.new }
         ensures faults { CountsIf (is_look_fault result) (D.faults (disk_of self.old.journal)) (D.faults (disk_of self.new.journal)) }
@@ -300,7 +308,7 @@ impl<D: Disk> Volumes<D> {
                 same: Some(same),
             }),
             None => {
-                let same = self.choose(alloc, spots, candidates, framing, wire)?;
+                let same = self.choose(told, alloc, spots, candidates, framing, wire)?;
                 Ok(Looked { upto, same })
             }
         }

@@ -1,13 +1,13 @@
 //! The group of a capture that is kept, as the disk has it.
 ghost use Rattle.std.specs.Prelude.{◌≡◌, ◌+◌, ◌<◌, ℕ, List, IfOk, IfSome, IsTrue, Some, length, slice_get};
 ghost use Rattle.capture.specs.Faults.{CountsFaults};
-ghost use Rattle.warc_journal.specs.Journals.{disk_of, texts, volumes};
+ghost use Rattle.warc_journal.specs.Journals.{IsInStep, disk_of, texts, volumes};
 ghost use Rattle.warc_scan.specs.Outlines.{BeginsWithOutline};
 ghost use Rattle.archive_shelf.specs.Answers.{CountsIf};
 ghost use Rattle.archive_volumes.specs.Bringing.{OnlyReads, is_read_fault};
 ghost use Rattle.archive_volumes.specs.Held.{book_of};
-ghost use Rattle.archive_volumes.specs.KeptGroups.{EndsGroup, IsFirstIn, IsKeptGroup, IsNextAt, IsSomeGroup};
-ghost use Rattle.archive_volumes.specs.Spots.{AreSpotsOf, ArePlaced, text_at};
+ghost use Rattle.archive_volumes.specs.KeptGroups.{EndsGroup, EndsWithin, IsFirstIn, IsKeptGroup, IsNextAt, IsSomeGroup};
+ghost use Rattle.archive_volumes.specs.Spots.{AreSpotsOf, ArePlaced, AreWithin, text_at};
 ghost use Rattle.archive_volumes.specs.Volumes.{HoldsBook, IsMeasured};
 ghost use Rattle.archive_volumes.specs.declared.spot.Spot.{Spot};
 
@@ -16,6 +16,7 @@ use crate::spot::Spot;
 use crate::volumes::Volumes;
 use capture::{Bytes, Memory};
 use disk_model::Disk;
+use shown::Shown;
 use std::alloc::Global;
 use uuid::Uuid;
 use warc_journal::{DiskFault, Place};
@@ -90,7 +91,7 @@ fn next_at(spots: &[Spot], number: u32, volume: u32) -> Option<u64>
 impl<D: Disk> Volumes<D> {
     /// The length of the file of a volume, which isn't the last one.
     fn sealed_len(&mut self, volume: u32) -> Result<u64, DiskFault>
-        requires holds { HoldsBook D.Disk self.old.journal (book_of self.old.held) }
+        requires in_step { IsTrue D.tells → IsInStep D.Disk self.old.journal }
         requires there { volume + 1 < volumes self.old.journal }
         ensures len { IsTrue D.tells → IfOk result (λ len. len ≡ length (text_at (texts D.Disk self.old.journal) volume)) }
         ensures reads { OnlyReads D.Disk self.old self.new }
@@ -101,7 +102,7 @@ impl<D: Disk> Volumes<D> {
 
     /// The length of a volume's text in bytes.
     fn text_len(&mut self, volume: u32) -> Result<u64, ReadFault>
-        requires holds { HoldsBook D.Disk self.old.journal (book_of self.old.held) }
+        requires in_step { IsTrue D.tells → IsInStep D.Disk self.old.journal }
         requires there { volume < volumes self.old.journal }
         ensures len { IsTrue D.tells → IfOk result (λ len. len ≡ length (text_at (texts D.Disk self.old.journal) volume)) }
         ensures reads { OnlyReads D.Disk self.old self.new }
@@ -116,16 +117,24 @@ impl<D: Disk> Volumes<D> {
     }
 
     /// Where the group of a capture may end: where the next one of its volume begins, or the volume's text ends.
-    fn group_end(&mut self, spots: &[Spot], number: u32) -> Result<u64, ReadFault>
-        requires holds { HoldsBook D.Disk self.old.journal (book_of self.old.held) }
+    fn group_end(
+        &mut self,
+        told: &Shown<bool>,
+        spots: &[Spot],
+        number: u32,
+    ) -> Result<u64, ReadFault>
+        requires holds { HoldsBook D.Disk told.now.value self.old.journal (book_of self.old.held) }
         requires measured { IsMeasured self.old.journal (book_of self.old.held) }
         requires below { number < length spots.now }
         requires spots { AreSpotsOf (book_of self.old.held) spots.now }
-        requires placed { IsTrue D.tells → ArePlaced (texts D.Disk self.old.journal) (book_of self.old.held) spots.now }
-        ensures end { IsTrue D.tells → IfOk result (EndsGroup (texts D.Disk self.old.journal) (book_of self.old.held) spots.now number) }
+        requires within { IsTrue D.tells → AreWithin (texts D.Disk self.old.journal) spots.now }
+        requires placed { IsTrue told.now.value → ArePlaced (texts D.Disk self.old.journal) (book_of self.old.held) spots.now }
+        ensures within { IsTrue D.tells → IfOk result (EndsWithin (texts D.Disk self.old.journal) spots.now number) }
+        ensures end { IsTrue told.now.value → IfOk result (EndsGroup (book_of self.old.held) spots.now number) }
         ensures reads { OnlyReads D.Disk self.old self.new }
         ensures faults { CountsIf (is_read_fault result) (D.faults (disk_of self.old.journal)) (D.faults (disk_of self.new.journal)) }
     {
+        let _ = told;
         let volume = volume_at(spots, number as usize);
         match next_at(spots, number, volume) {
             Some(at) => Ok(at),
@@ -137,22 +146,24 @@ impl<D: Disk> Volumes<D> {
     /// another one is.
     pub fn read_group(
         &mut self,
+        told: &Shown<bool>,
         alloc: Global,
         spots: &[Spot],
         number: u32,
     ) -> Result<KeptGroup, ReadFault>
-        requires holds { HoldsBook D.Disk self.old.journal (book_of self.old.held) }
+        requires holds { HoldsBook D.Disk told.now.value self.old.journal (book_of self.old.held) }
         requires measured { IsMeasured self.old.journal (book_of self.old.held) }
         requires below { number < length spots.now }
         requires spots { AreSpotsOf (book_of self.old.held) spots.now }
-        requires placed { IsTrue D.tells → ArePlaced (texts D.Disk self.old.journal) (book_of self.old.held) spots.now }
+        requires within { IsTrue D.tells → AreWithin (texts D.Disk self.old.journal) spots.now }
+        requires placed { IsTrue told.now.value → ArePlaced (texts D.Disk self.old.journal) (book_of self.old.held) spots.now }
         ensures some { IfOk result (IsSomeGroup (book_of self.old.held).namespace number) }
-        ensures exact { IsTrue D.tells → IfOk result (IsKeptGroup (book_of self.old.held) number) }
+        ensures exact { IsTrue told.now.value → IfOk result (IsKeptGroup (book_of self.old.held) number) }
         ensures reads { OnlyReads D.Disk self.old self.new }
         ensures faults { CountsIf (is_read_fault result) (D.faults (disk_of self.old.journal)) (D.faults (disk_of self.new.journal)) }
     {
         let spot = &spots[number as usize];
-        let end = self.group_end(spots, number)?;
+        let end = self.group_end(told, spots, number)?;
         let place = Place {
             volume: spot.volume,
             at: spot.at,

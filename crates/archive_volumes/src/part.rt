@@ -1,11 +1,10 @@
 //! Parts of the volumes' texts.
 ghost use Rattle.std.specs.Prelude.{◌≡◌, ◌+◌, ◌≤◌, ◌<◌, IsTrue, IfOk, length};
-ghost use Rattle.warc_journal.specs.Journals.{disk_of, texts};
+ghost use Rattle.warc_journal.specs.Journals.{IsInStep, disk_of, texts};
 ghost use Rattle.archive_shelf.specs.Answers.{CountsIf};
 ghost use Rattle.archive_volumes.specs.Bringing.{OnlyReads, bring_fault_of, is_read_fault, store_fault_of};
 ghost use Rattle.archive_volumes.specs.Held.{book_of};
 ghost use Rattle.archive_volumes.specs.Spots.{part, text_at};
-ghost use Rattle.archive_volumes.specs.Volumes.{HoldsBook};
 
 use crate::volumes::Volumes;
 use archive_shelf::{BringFault, StoreFault};
@@ -78,7 +77,7 @@ impl From<ReadFault> for StoreFault {
 impl<D: Disk> Volumes<D> {
     /// The bytes that stand at a place of the volumes' texts.
     pub(crate) fn read_part(&mut self, alloc: Global, place: Place) -> Result<Vec<u8>, ReadFault>
-        requires holds { HoldsBook D.Disk self.old.journal (book_of self.old.held) }
+        requires in_step { IsTrue D.tells → IsInStep D.Disk self.old.journal }
         requires there { IsTrue D.tells → place.volume < length (texts D.Disk self.old.journal) }
         requires within { IsTrue D.tells → place.at + place.len ≤ length (text_at (texts D.Disk self.old.journal) place.volume) }
         ensures bytes { IsTrue D.tells → IfOk result (λ bytes. bytes.items

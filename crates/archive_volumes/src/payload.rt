@@ -1,12 +1,11 @@
 //! The payload of a capture that keeps its wire, as the disk has it.
 ghost use Rattle.std.specs.Prelude.{◌≡◌, ℕ, ◌+◌, ◌^◌, ◌<◌, IsTrue, IfOk};
-ghost use Rattle.warc_journal.specs.Journals.{disk_of, texts};
+ghost use Rattle.warc_journal.specs.Journals.{IsInStep, disk_of, texts};
 ghost use Rattle.archive_shelf.specs.Answers.{CountsIf};
 ghost use Rattle.archive_volumes.specs.Bringing.{IsChecked, IsKept, IsReadRight, OnlyReads, checked_by, is_read_fault};
 ghost use Rattle.archive_volumes.specs.Decoding.{HoldsPayload};
 ghost use Rattle.archive_volumes.specs.Held.{book_of};
 ghost use Rattle.archive_volumes.specs.Spots.{HasPlace, is_cut_form, wire_in};
-ghost use Rattle.archive_volumes.specs.Volumes.{HoldsBook};
 
 use crate::decode::{framing_behind, payload_in};
 use crate::part::ReadFault;
@@ -51,7 +50,7 @@ impl<D: Disk> Volumes<D> {
         spot: &Spot,
         framing: Framing,
     ) -> Result<Option<Bytes>, ReadFault>
-        requires holds { HoldsBook D.Disk self.old.journal (book_of self.old.held) }
+        requires in_step { IsTrue D.tells → IsInStep D.Disk self.old.journal }
         requires place { IsTrue D.tells → HasPlace (texts D.Disk self.old.journal) spot.now }
         requires ends { spot.now.head_at + spot.now.head_len + spot.now.wire_len < 2 ^ 62 }
         ensures payload { IsTrue D.tells → IfOk result
@@ -65,7 +64,7 @@ impl<D: Disk> Volumes<D> {
 
     /// A capture that keeps its wire: its head, and its payload, whose digest is compared with the one that is kept.
     pub(crate) fn read_back(&mut self, alloc: Global, spot: &Spot) -> Result<ReadBack, ReadFault>
-        requires holds { HoldsBook D.Disk self.old.journal (book_of self.old.held) }
+        requires in_step { IsTrue D.tells → IsInStep D.Disk self.old.journal }
         requires place { IsTrue D.tells → HasPlace (texts D.Disk self.old.journal) spot.now }
         requires ends { spot.now.head_at + spot.now.head_len + spot.now.wire_len < 2 ^ 62 }
         ensures checked { IfOk result (IsChecked spot.now.digest) }

@@ -7,7 +7,7 @@ ghost use Rattle.archive_shelf.specs.Pieces.{IsFirstOf, is_piece_fault};
 ghost use Rattle.archive_volumes.specs.Bringing.{OnlyReads};
 ghost use Rattle.archive_volumes.specs.Held.{book_of};
 ghost use Rattle.archive_volumes.specs.KeptGroups.{GivesPieceFrom, HasFront};
-ghost use Rattle.archive_volumes.specs.Spots.{AreSpotsOf, ArePlaced};
+ghost use Rattle.archive_volumes.specs.Spots.{AreSpotsOf, ArePlaced, AreWithin};
 ghost use Rattle.archive_volumes.specs.Volumes.{HoldsBook, IsMeasured};
 ghost use Rattle.archive_volumes.specs.declared.spot.Spot.{Spot};
 ghost use Rattle.capture.specs.declared.book.Book.{Book};
@@ -18,6 +18,7 @@ use crate::volumes::Volumes;
 use archive_shelf::BringFault;
 use capture::{Bytes, Memory};
 use disk_model::Disk;
+use shown::Shown;
 use std::alloc::Global;
 use warc_text::{info_len, put_info};
 
@@ -61,18 +62,25 @@ impl<D: Disk> Volumes<D> {
     }
 
     /// The piece of the capture with this number, of those whose spots these are.
-    pub fn piece(&mut self, alloc: Global, spots: &[Spot], number: u32) -> Result<Bytes, BringFault>
-        requires holds { HoldsBook D.Disk self.old.journal (book_of self.old.held) }
+    pub fn piece(
+        &mut self,
+        told: &Shown<bool>,
+        alloc: Global,
+        spots: &[Spot],
+        number: u32,
+    ) -> Result<Bytes, BringFault>
+        requires holds { HoldsBook D.Disk told.now.value self.old.journal (book_of self.old.held) }
         requires measured { IsMeasured self.old.journal (book_of self.old.held) }
         requires below { number < length spots.now }
         requires spots { AreSpotsOf (book_of self.old.held) spots.now }
-        requires placed { IsTrue D.tells → ArePlaced (texts D.Disk self.old.journal) (book_of self.old.held) spots.now }
-        ensures gives { GivesPieceFrom D.tells (book_of self.old.held) number result }
+        requires within { IsTrue D.tells → AreWithin (texts D.Disk self.old.journal) spots.now }
+        requires placed { IsTrue told.now.value → ArePlaced (texts D.Disk self.old.journal) (book_of self.old.held) spots.now }
+        ensures gives { GivesPieceFrom told.now.value (book_of self.old.held) number result }
         ensures digests { PieceGoesByDigest (book_of self.old.held) number result }
         ensures reads { OnlyReads D.Disk self.old self.new }
         ensures faults { CountsIf (is_piece_fault result) (D.faults (disk_of self.old.journal)) (D.faults (disk_of self.new.journal)) }
     {
-        let read = self.read_group(alloc, spots, number)?;
+        let read = self.read_group(told, alloc, spots, number)?;
         let kept = spots[number as usize].digest;
         match read {
             KeptGroup::Right { bytes, outline } => {

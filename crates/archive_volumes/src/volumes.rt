@@ -1,5 +1,5 @@
 //! The volumes on the disk, and the book that they hold.
-ghost use Rattle.std.specs.Prelude.{◌≡◌, ◌+◌, ◌-◌, ◌^◌, ◌<◌, ◌≤◌, [], ◌∷◌, ◌++◌, IsTrue, IfOk, IfSome, OnOk, is_ok, if◌then◌else◌, length, slice_index_or, take, drop};
+ghost use Rattle.std.specs.Prelude.{◌≡◌, ◌+◌, ◌-◌, ◌^◌, ◌<◌, ◌≤◌, [], ◌∷◌, ◌++◌, IsTrue, IfOk, IfSome, OnOk, is_ok, if◌then◌else◌, length, slice_index_or, take, drop, Bool};
 ghost use Rattle.capture.specs.Captures.{captures};
 ghost use Rattle.capture.specs.Faults.{CountsFaults};
 ghost use Rattle.capture.specs.Tails.{IsCommitted};
@@ -14,7 +14,7 @@ ghost use Rattle.warc_text.specs.StandsFor.{commit_byte};
 ghost use Rattle.archive_shelf.specs.Gaining.{AreFilled};
 ghost use Rattle.archive_shelf.specs.Storing.{with_capture, with_volume};
 ghost use Rattle.archive_volumes.specs.Held.{HasSpace, TakesCapture, TakesVolume, book_of, stored_in};
-ghost use Rattle.archive_volumes.specs.Volumes.{HoldsBook, IsMeasured, IsPrepared, IsQuiet, Makes};
+ghost use Rattle.archive_volumes.specs.Volumes.{HoldsBook, IsMeasured, IsPrepared, IsQuiet, Makes, muted};
 
 use crate::held::Held;
 use crate::room::Prepared;
@@ -22,6 +22,7 @@ use crate::stored_ghost::StoredGhost;
 use archive_shelf::{storing_keeps_soundness, texts_go_on_behind};
 use capture::{Bytes, Memory};
 use disk_model::Disk;
+use shown::Shown;
 use std::alloc::Global;
 use warc_journal::{DiskFault, Journal, Place};
 use warc_text::{info_len, put_info, texts_are_committed};
@@ -34,18 +35,20 @@ pub struct Volumes<D: Disk> {
 }
 
 impl<D: Disk> Volumes<D> {
-    /// The volumes that were found on a disk, whose texts are those of a sound book.
-    pub fn over(journal: Journal<D>, held: Held) -> Volumes<D>
+    /// The volumes that were found on a disk. Where this is told, their texts are those of a sound book.
+    pub fn over(journal: Journal<D>, held: Held, told: &Shown<bool>) -> Volumes<D>
+        requires tells { IsTrue told.now.value → IsTrue D.tells }
         requires in_step { IsTrue D.tells → IsInStep D.Disk journal }
-        requires texts_are { IsTrue D.tells → AreVolumeTexts (book_of held) (texts D.Disk journal) }
-        requires sound { IsTrue D.tells → IsSound (book_of held) }
+        requires texts_are { IsTrue told.now.value → AreVolumeTexts (book_of held) (texts D.Disk journal) }
+        requires sound { IsTrue told.now.value → IsSound (book_of held) }
         requires left { IsTrue D.tells → Leaves (D.images (disk_of journal))
             (λ image. Hold (texts D.Disk journal) (warc_files image)) }
         requires measured { IsMeasured journal (book_of held) }
         ensures value { result ≡ record { journal = journal; held = held } }
-        ensures holds { HoldsBook D.Disk result.journal (book_of result.held) }
+        ensures holds { HoldsBook D.Disk told.now.value result.journal (book_of result.held) }
         ensures measured { IsMeasured result.journal (book_of result.held) }
     {
+        let _ = told;
         Volumes { journal, held }
     }
 
@@ -80,10 +83,10 @@ impl<D: Disk> Volumes<D> {
     }
 
     /// Begins the volume that was prepared, in the room that is there. Refused, the book is as before.
-    pub fn begin(&mut self, prepared: Prepared) -> Result<(), DiskFault>
+    pub fn begin(&mut self, told: &Shown<bool>, prepared: Prepared) -> Result<(), DiskFault>
         requires prepared { IsPrepared (book_of self.old.held) prepared }
         requires space { TakesVolume self.old.held }
-        requires holds { HoldsBook D.Disk self.old.journal (book_of self.old.held) }
+        requires holds { HoldsBook D.Disk told.now.value self.old.journal (book_of self.old.held) }
         requires measured { IsMeasured self.old.journal (book_of self.old.held) }
         requires filled { AreFilled (book_of self.old.held) }
         requires number { volumes self.old.journal < 2 ^ 32 - 1 }
@@ -91,7 +94,7 @@ impl<D: Disk> Volumes<D> {
         ensures book { book_of self.new.held ≡ (if is_ok result
             then with_volume (book_of self.old.held) prepared.shadow.born else book_of self.old.held) }
         ensures space { OnOk result (TakesCapture self.new.held) }
-        ensures holds { HoldsBook D.Disk self.new.journal (book_of self.new.held) }
+        ensures holds { HoldsBook D.Disk told.now.value self.new.journal (book_of self.new.held) }
         ensures measured { IsMeasured self.new.journal (book_of self.new.held) }
         ensures last_len { last_len self.new.journal
             ≡ (if is_ok result then length prepared.info else last_len self.old.journal) }
@@ -99,10 +102,11 @@ impl<D: Disk> Volumes<D> {
             ≡ (if is_ok result then texts D.Disk self.old.journal ++ prepared.info ∷ [] else texts D.Disk self.old.journal) }
         ensures others { IsTrue D.tells
             → cdxj_files (D.reading (disk_of self.new.journal)) ≡ cdxj_files (D.reading (disk_of self.old.journal)) }
-        ensures makes { Makes D.Disk (disk_of self.old.journal) (disk_of self.new.journal)
+        ensures makes { Makes (muted told.now.value D.Disk) (disk_of self.old.journal) (disk_of self.new.journal)
             (book_of self.old.held) (with_volume (book_of self.old.held) prepared.shadow.born) result }
         ensures faults { CountsFaults (D.faults (disk_of self.old.journal)) (D.faults (disk_of self.new.journal)) result }
     {
+        let _ = told;
         texts_are_committed();
         texts_go_on_behind();
         storing_keeps_soundness();
@@ -113,18 +117,23 @@ impl<D: Disk> Volumes<D> {
     }
 
     /// Adds a capture with its group to the last volume, in the room that is there. Refused, the book is as before.
-    pub(crate) fn add(&mut self, stored: StoredGhost, group: &[u8]) -> Result<Place, DiskFault>
+    pub(crate) fn add(
+        &mut self,
+        told: &Shown<bool>,
+        stored: StoredGhost,
+        group: &[u8],
+    ) -> Result<Place, DiskFault>
         requires space { TakesCapture self.old.held }
-        requires holds { HoldsBook D.Disk self.old.journal (book_of self.old.held) }
+        requires holds { HoldsBook D.Disk told.now.value self.old.journal (book_of self.old.held) }
         requires measured { IsMeasured self.old.journal (book_of self.old.held) }
         requires committed { IsCommitted commit_byte group.now }
-        requires group { IsTrue D.tells → IsGroupText (with_capture (book_of self.old.held) (stored_in stored))
+        requires group { IsTrue told.now.value → IsGroupText (with_capture (book_of self.old.held) (stored_in stored))
             (length (captures (book_of self.old.held))) group.now }
-        requires sound { IsTrue D.tells → IsSound (with_capture (book_of self.old.held) (stored_in stored)) }
+        requires sound { IsTrue told.now.value → IsSound (with_capture (book_of self.old.held) (stored_in stored)) }
         requires fits { last_len self.old.journal + length group.now < 2 ^ 62 }
         ensures book { book_of self.new.held ≡ (if is_ok result
             then with_capture (book_of self.old.held) (stored_in stored) else book_of self.old.held) }
-        ensures holds { HoldsBook D.Disk self.new.journal (book_of self.new.held) }
+        ensures holds { HoldsBook D.Disk told.now.value self.new.journal (book_of self.new.held) }
         ensures measured { IsMeasured self.new.journal (book_of self.new.held) }
         ensures last_len { last_len self.new.journal
             ≡ (if is_ok result then last_len self.old.journal + length group.now else last_len self.old.journal) }
@@ -134,10 +143,11 @@ impl<D: Disk> Volumes<D> {
             ≡ record { volume = volumes self.old.journal - 1; at = last_len self.old.journal; len = length group.now }) }
         ensures others { IsTrue D.tells
             → cdxj_files (D.reading (disk_of self.new.journal)) ≡ cdxj_files (D.reading (disk_of self.old.journal)) }
-        ensures makes { Makes D.Disk (disk_of self.old.journal) (disk_of self.new.journal)
+        ensures makes { Makes (muted told.now.value D.Disk) (disk_of self.old.journal) (disk_of self.new.journal)
             (book_of self.old.held) (with_capture (book_of self.old.held) (stored_in stored)) result }
         ensures faults { CountsFaults (D.faults (disk_of self.old.journal)) (D.faults (disk_of self.new.journal)) result }
     {
+        let _ = told;
         texts_go_on_behind();
         let place = self.journal.append(group)?;
         self.held.add_ghost(stored);
@@ -147,7 +157,7 @@ impl<D: Disk> Volumes<D> {
     /// Fills `into` with the bytes of a volume's text from an offset on. What a call that fails leaves in `into` isn't
     /// said.
     pub(crate) fn read(&mut self, volume: u32, at: u64, into: &mut [u8]) -> Result<(), DiskFault>
-        requires holds { HoldsBook D.Disk self.old.journal (book_of self.old.held) }
+        requires in_step { IsTrue D.tells → IsInStep D.Disk self.old.journal }
         requires there { IsTrue D.tells → volume < volumes self.old.journal }
         requires in_range { IsTrue D.tells → at + length into.old
             ≤ length (slice_index_or (texts D.Disk self.old.journal) volume []) }
@@ -157,7 +167,9 @@ impl<D: Disk> Volumes<D> {
         ensures extent { extent_of self.new.journal ≡ extent_of self.old.journal }
         ensures reading { IsTrue D.tells → D.reading (disk_of self.new.journal) ≡ D.reading (disk_of self.old.journal) }
         ensures texts { IsTrue D.tells → texts D.Disk self.new.journal ≡ texts D.Disk self.old.journal }
-        ensures holds { HoldsBook D.Disk self.new.journal (book_of self.new.held) }
+        ensures in_step { IsTrue D.tells → IsInStep D.Disk self.new.journal }
+        ensures holds { (told : Bool) → HoldsBook D.Disk told self.old.journal (book_of self.old.held)
+            → HoldsBook D.Disk told self.new.journal (book_of self.new.held) }
         ensures measured { IsMeasured self.old.journal (book_of self.old.held)
             → IsMeasured self.new.journal (book_of self.new.held) }
         ensures quiet { IsQuiet D.Disk (disk_of self.old.journal) (disk_of self.new.journal) }

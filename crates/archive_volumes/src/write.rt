@@ -12,10 +12,10 @@ ghost use Rattle.warc_text.specs.StandsFor.{commit_byte};
 ghost use Rattle.archive_shelf.specs.Storing.{with_capture};
 ghost use Rattle.archive_volumes.specs.Held.{book_of, stored_in};
 ghost use Rattle.archive_volumes.specs.Writing.{HasRoomFor, Writes, end_with, texts_with, with_prepared};
-ghost use Rattle.archive_volumes.specs.Volumes.{HoldsBook, IsMeasured};
+ghost use Rattle.archive_volumes.specs.Volumes.{HoldsBook, IsMeasured, muted};
 ghost use Rattle.std.specs.Vec.{vec_capacity};
 ghost use Rattle.archive_volumes.specs.Ready.{CanCommit};
-ghost use Rattle.archive_volumes.specs.Spots.{AreSpotsOf, ArePlaced, whole_from};
+ghost use Rattle.archive_volumes.specs.Spots.{AreSpotsOf, ArePlaced, AreWithin, whole_from};
 
 use crate::ready::Ready;
 use crate::room::Prepared;
@@ -24,6 +24,7 @@ use crate::stored_ghost::StoredGhost;
 use crate::volumes::Volumes;
 use disk_model::Disk;
 use revisit_table::Digests;
+use shown::Shown;
 use warc_journal::{DiskFault, Place};
 
 impl<D: Disk> Volumes<D> {
@@ -31,23 +32,24 @@ impl<D: Disk> Volumes<D> {
     /// Takes no memory. Refused, the book is as before, or it has that volume.
     pub(crate) fn write(
         &mut self,
+        told: &Shown<bool>,
         prepared: Option<Prepared>,
         stored: StoredGhost,
         group: &[u8],
     ) -> Result<Place, DiskFault>
         requires room { HasRoomFor self.old prepared }
-        requires holds { HoldsBook D.Disk self.old.journal (book_of self.old.held) }
+        requires holds { HoldsBook D.Disk told.now.value self.old.journal (book_of self.old.held) }
         requires measured { IsMeasured self.old.journal (book_of self.old.held) }
         requires committed { IsCommitted commit_byte group.now }
-        requires group { IsTrue D.tells → IsGroupText (with_capture (with_prepared (book_of self.old.held) prepared) (stored_in stored))
+        requires group { IsTrue told.now.value → IsGroupText (with_capture (with_prepared (book_of self.old.held) prepared) (stored_in stored))
             (length (captures (with_prepared (book_of self.old.held) prepared))) group.now }
-        requires sound { IsTrue D.tells → IsSound (with_capture (with_prepared (book_of self.old.held) prepared) (stored_in stored)) }
+        requires sound { IsTrue told.now.value → IsSound (with_capture (with_prepared (book_of self.old.held) prepared) (stored_in stored)) }
         requires fits { end_with self.old prepared + length group.now < 2 ^ 62 }
         ensures stored { OnOk result (book_of self.new.held
             ≡ with_capture (with_prepared (book_of self.old.held) prepared) (stored_in stored)) }
         ensures left { OnErr result ((book_of self.new.held ≡ book_of self.old.held)
             ⊎ (book_of self.new.held ≡ with_prepared (book_of self.old.held) prepared)) }
-        ensures holds { HoldsBook D.Disk self.new.journal (book_of self.new.held) }
+        ensures holds { HoldsBook D.Disk told.now.value self.new.journal (book_of self.new.held) }
         ensures measured { IsMeasured self.new.journal (book_of self.new.held) }
         ensures place { IfOk result (λ place. place ≡ record {
           volume = length (with_prepared (book_of self.old.held) prepared).volumes - 1;
@@ -61,17 +63,17 @@ impl<D: Disk> Volumes<D> {
             ⊎ (texts D.Disk self.new.journal ≡ texts_with (texts D.Disk self.old.journal) prepared)) }
         ensures others { IsTrue D.tells
             → cdxj_files (D.reading (disk_of self.new.journal)) ≡ cdxj_files (D.reading (disk_of self.old.journal)) }
-        ensures writes { Writes D.Disk (disk_of self.old.journal) (disk_of self.new.journal) (book_of self.old.held)
+        ensures writes { Writes (muted told.now.value D.Disk) (disk_of self.old.journal) (disk_of self.new.journal) (book_of self.old.held)
             (with_prepared (book_of self.old.held) prepared)
             (with_capture (with_prepared (book_of self.old.held) prepared) (stored_in stored)) (book_of self.new.held) result }
         ensures faults { CountsFaults (D.faults (disk_of self.old.journal)) (D.faults (disk_of self.new.journal)) result }
     {
         match prepared {
             Some(prepared) => {
-                self.begin(prepared)?;
-                self.add(stored, group)
+                self.begin(told, prepared)?;
+                self.add(told, stored, group)
             }
-            None => self.add(stored, group),
+            None => self.add(told, stored, group),
         }
     }
 }
@@ -81,15 +83,17 @@ impl<D: Disk> Volumes<D> {
     /// book is as before, or it has the volume that was prepared.
     pub fn commit(
         &mut self,
+        told: &Shown<bool>,
         spots: &mut Vec<Spot>,
         table: &mut Digests,
         ready: Ready,
     ) -> Result<(), DiskFault>
-        requires ready { CanCommit D.Disk self.old ready }
-        requires holds { HoldsBook D.Disk self.old.journal (book_of self.old.held) }
+        requires ready { CanCommit D.Disk told.now.value self.old ready }
+        requires holds { HoldsBook D.Disk told.now.value self.old.journal (book_of self.old.held) }
         requires measured { IsMeasured self.old.journal (book_of self.old.held) }
         requires spots { AreSpotsOf (book_of self.old.held) spots.old.items }
-        requires placed { IsTrue D.tells → ArePlaced (texts D.Disk self.old.journal) (book_of self.old.held) spots.old.items }
+        requires within { IsTrue D.tells → AreWithin (texts D.Disk self.old.journal) spots.old.items }
+        requires placed { IsTrue told.now.value → ArePlaced (texts D.Disk self.old.journal) (book_of self.old.held) spots.old.items }
         requires table { table.old.kept ≡ whole_from 0 spots.old.items }
         requires space { vec_len spots.old < vec_capacity spots.old }
         requires reserved { table.old.reserved ≡ Some ready.digest }
@@ -98,15 +102,16 @@ impl<D: Disk> Volumes<D> {
             ≡ with_capture (with_prepared (book_of self.old.held) ready.prepared) (stored_in ready.stored)) }
         ensures left { OnErr result ((book_of self.new.held ≡ book_of self.old.held)
             ⊎ (book_of self.new.held ≡ with_prepared (book_of self.old.held) ready.prepared)) }
-        ensures holds { HoldsBook D.Disk self.new.journal (book_of self.new.held) }
+        ensures holds { HoldsBook D.Disk told.now.value self.new.journal (book_of self.new.held) }
         ensures measured { IsMeasured self.new.journal (book_of self.new.held) }
         ensures last_len { OnOk result (last_len self.new.journal ≡ end_with self.old ready.prepared + length ready.group) }
         ensures spots { AreSpotsOf (book_of self.new.held) spots.new.items }
-        ensures placed { IsTrue D.tells → ArePlaced (texts D.Disk self.new.journal) (book_of self.new.held) spots.new.items }
+        ensures within { IsTrue D.tells → AreWithin (texts D.Disk self.new.journal) spots.new.items }
+        ensures placed { IsTrue told.now.value → ArePlaced (texts D.Disk self.new.journal) (book_of self.new.held) spots.new.items }
         ensures table { table.new.kept ≡ whole_from 0 spots.new.items }
         ensures others { IsTrue D.tells
             → cdxj_files (D.reading (disk_of self.new.journal)) ≡ cdxj_files (D.reading (disk_of self.old.journal)) }
-        ensures writes { Writes D.Disk (disk_of self.old.journal) (disk_of self.new.journal) (book_of self.old.held)
+        ensures writes { Writes (muted told.now.value D.Disk) (disk_of self.old.journal) (disk_of self.new.journal) (book_of self.old.held)
             (with_prepared (book_of self.old.held) ready.prepared)
             (with_capture (with_prepared (book_of self.old.held) ready.prepared) (stored_in ready.stored)) (book_of self.new.held) result }
         ensures faults { CountsFaults (D.faults (disk_of self.old.journal)) (D.faults (disk_of self.new.journal)) result }
@@ -119,7 +124,7 @@ impl<D: Disk> Volumes<D> {
             layout,
             prepared,
         } = ready;
-        let place = self.write(prepared, stored, group.as_slice())?;
+        let place = self.write(told, prepared, stored, group.as_slice())?;
         let spot = spot.standing(place.volume, place.at, place.at + layout.head_at);
         keep(spots, table, spot);
         Ok(())

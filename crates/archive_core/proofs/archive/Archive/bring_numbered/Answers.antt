@@ -1,4 +1,4 @@
-use Rattle.std.proofs.Common.{rules, ◌≡◌, ◌<◌, ◌≤◌, refl, sym, subst, ◌∙◌, arith}
+use Rattle.std.proofs.Common.{rules, ◌≡◌, ◌<◌, ◌≤◌, refl, sym, subst, ◌∙◌, arith, Bool}
 use Rattle.std.specs.Prelude.{length}
 use Rattle.capture.specs.Captures.{captures}
 use Rattle.capture.specs.declared.book.Book.{Book}
@@ -6,6 +6,10 @@ use Rattle.archive_shelf.specs.Answers.{NamesKeeper}
 use Rattle.archive_shelf.specs.Digests.{GoesByDigest}
 use Rattle.archive_volumes.specs.Bringing.{BringsFrom}
 use Rattle.archive_volumes.specs.Held.{book_of}
+use Rattle.warc_journal.specs.Journals.{texts}
+use Rattle.archive_volumes.specs.Spots.{ArePlaced, AreWithin}
+use Rattle.archive_volumes.proofs.BringLaws.{within_of}
+use Rattle.archive_volumes.specs.Volumes.{HoldsBook}
 use Rattle.archive_core.specs.Holdings.{Holdings, IsArchive}
 use Rattle.archive_core.specs.View.{holdings_of}
 use Rattle.archive_core.proofs.ReadLaws as laws
@@ -20,6 +24,20 @@ returns-then-number-count-clause-brings g c =
     let above : length (captures c.args.self.now.book) ≤ c.args.number = omega (arith, count, c.if-number-count.true) in
     (count, c.if-number-count.true, laws.none_shown g.D.Disk c.args.self.now c.args.number is above)
 
+pub bring-requires-clause-holds : goal.bring-requires-clause-holds
+bring-requires-clause-holds g c =
+    subst (λ (t : Bool). HoldsBook g.D.Disk t c.self.inside.volumes.journal (book_of c.self.inside.volumes.held)) (sym c.told_by-told.ensures) c.self.invariant.holds
+
+pub bring-requires-clause-placed : goal.bring-requires-clause-placed
+bring-requires-clause-placed g c told =
+    subst (ArePlaced (texts g.D.Disk c.self.inside.volumes.journal) (book_of c.self.inside.volumes.held)) (sym c.as_slice.ensures.value)
+    (c.self.invariant.placed (sym c.told_by-told.ensures ∙ told))
+
+pub bring-requires-clause-within : goal.bring-requires-clause-within
+bring-requires-clause-within g c told =
+    subst (AreWithin (texts g.D.Disk c.self.inside.volumes.journal)) (sym c.as_slice.ensures.value)
+    (within_of (texts g.D.Disk c.self.inside.volumes.journal) (book_of c.self.inside.volumes.held) c.self.inside.spots.items (c.self.invariant.placed told))
+
 pub invariant_of-self : goal.invariant_of-self
 invariant_of-self g c =
     laws.reads_archive g.D.Disk (holdings_of c.self.inside) c.self.inside.volumes c.bring.new.self refl refl c.bring.ensures.reads c.self.invariant
@@ -32,7 +50,8 @@ returns-clause-brings g c =
     c.args.number c.bring.result
     (laws.reads_archive g.D.Disk (holdings_of c.self.inside) c.self.inside.volumes c.bring.new.self refl refl c.bring.ensures.reads c.self.invariant)
     (subst (λ (b : Book). c.args.number < length (captures b)) (sym same) (omega (arith, many, c.self.invariant.spots.count, c.if-number-count.false)))
-    (subst (λ (b : Book). BringsFrom g.D.Disk.tells b c.args.number c.bring.result) (sym same) c.bring.ensures.brings)
+    (subst (λ (b : Book). BringsFrom g.D.Disk.tells b c.args.number c.bring.result) (sym same)
+    (subst (λ (t : Bool). BringsFrom t (book_of c.self.inside.volumes.held) c.args.number c.bring.result) c.told_by-told.ensures c.bring.ensures.brings))
 
 pub returns-clause-names : goal.returns-clause-names
 returns-clause-names g c =

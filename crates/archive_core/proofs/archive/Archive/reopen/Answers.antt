@@ -10,6 +10,9 @@ disk_laws g = record { earlier = g.met.D.Disk.earlier; now_counts = g.met.D.Disk
 pub archive_of-requires-clause-usable : goal.archive_of-requires-clause-usable
 archive_of-requires-clause-usable g c = c.in-Ok.ensures.opened.usable
 
+pub archive_of-requires-clause-entries : goal.archive_of-requires-clause-entries
+archive_of-requires-clause-entries g c = c.in-Ok.ensures.opened.entries
+
 pub returns-in-Ok-clause-reopened : goal.returns-in-Ok-clause-reopened
 returns-in-Ok-clause-reopened g c =
     reopened g.D.Disk (disk_laws g) c.args.disk c.args.namespace c.args.limits c.in-Ok.opened c.in-Ok.ensures.opened c.archive_of.result c.archive_of.ensures.made

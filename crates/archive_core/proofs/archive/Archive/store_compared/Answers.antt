@@ -1,4 +1,4 @@
-use Rattle.std.proofs.Common.{rules, ◌≡◌, ◌+◌, ℕ, List, length, Some, Ok, Err, refl, sym, ap, subst, ◌∙◌, arith}
+use Rattle.std.proofs.Common.{rules, Bool, ◌≡◌, ◌+◌, ℕ, List, length, Some, Ok, Err, refl, sym, ap, subst, ◌∙◌, arith}
 use Rattle.std.specs.Prelude.{is_some}
 use Rattle.capture.specs.Captures.{captures}
 use Rattle.capture.specs.Message.{IsResponseHeadText}
@@ -8,7 +8,7 @@ use Rattle.cdxj_index.specs.Facts.{Facts}
 use Rattle.httparse.specs.Grammar.{ResponseHead}
 use Rattle.cdxj_index.specs.Order.{without}
 use Rattle.time_text.specs.Texts.{InRange}
-use Rattle.warc_journal.specs.Journals.{texts}
+use Rattle.warc_journal.specs.Journals.{disk_of, texts}
 use Rattle.archive_shelf.specs.Answers.{IsNotFull}
 use Rattle.archive_shelf.specs.declared.fault.StoreFault.TheVariants as stores
 use Rattle.archive_shelf.specs.declared.receipt.Receipt.{Receipt}
@@ -16,11 +16,15 @@ use Rattle.archive_volumes.specs.Entries.{EntersAs, entered}
 use Rattle.archive_volumes.specs.Held.{book_of, stored_in}
 use Rattle.archive_core.specs.Holdings.{Holdings, contents_of}
 use Rattle.archive_core.specs.Looking.{RefersTo}
-use Rattle.archive_volumes.specs.Spots.{ArePlaced, AreSpotsOf, whole_from}
-use Rattle.archive_volumes.specs.Ready.{incoming_of}
+use Rattle.archive_volumes.specs.Spots.{ArePlaced, AreSpotsOf, AreWithin, whole_from}
+use Rattle.archive_volumes.specs.Ready.{CanCommit, incoming_of}
 use Rattle.archive_core.specs.Stores.{Stores}
+use Rattle.archive_shelf.specs.Storing.{with_capture}
+use Rattle.archive_volumes.specs.Volumes.{HoldsBook, muted}
+use Rattle.archive_volumes.specs.Writing.{Writes, with_prepared}
 use Rattle.archive_core.specs.View.{holdings_of}
 use Rattle.archive_volumes.specs.declared.spot.Spot.{Spot}
+use Rattle.archive_volumes.proofs.BringLaws.{within_of}
 use Rattle.archive_volumes.proofs.ChangeLaws.{DiskLaws}
 use Rattle.archive_core.proofs.ExitLaws as laws
 use Rattle.archive_core.proofs.PayloadLaws.{has_one}
@@ -156,7 +160,8 @@ commit-requires-clause-ready g c =
     let u = laws.under_way g.D.Disk c.storing_has_a_basis.ensures c.args.self.now was c.self.inside.volumes now (incoming_of c.args.taken.now c.args.digest.now c.args.same) ready c.self.view_is
     refl refl c.self.invariant c.requires.fits c.requires.not_full c.requires.digest c.requires.refers c.make_ready.ensures.journal
     c.make_ready.ensures.book c.in_ok-ready.ensures.ready in
-    laws.commit_ready g.D.Disk c.storing_has_a_basis.ensures was now (incoming_of c.args.taken.now c.args.digest.now c.args.same) ready u
+    subst (λ (t : Bool). CanCommit g.D.Disk t now ready) (sym c.told_by-told.ensures)
+    (laws.commit_ready g.D.Disk c.storing_has_a_basis.ensures was now (incoming_of c.args.taken.now c.args.digest.now c.args.same) ready u)
 
 pub commit-requires-clause-holds : goal.commit-requires-clause-holds
 commit-requires-clause-holds g c =
@@ -166,7 +171,7 @@ commit-requires-clause-holds g c =
     let u = laws.under_way g.D.Disk c.storing_has_a_basis.ensures c.args.self.now was c.self.inside.volumes now (incoming_of c.args.taken.now c.args.digest.now c.args.same) ready c.self.view_is
     refl refl c.self.invariant c.requires.fits c.requires.not_full c.requires.digest c.requires.refers c.make_ready.ensures.journal
     c.make_ready.ensures.book c.in_ok-ready.ensures.ready in
-    u.is.holds
+    subst (λ (t : Bool). HoldsBook g.D.Disk t now.journal (book_of now.held)) (sym c.told_by-told.ensures) u.is.holds
 
 pub commit-requires-clause-measured : goal.commit-requires-clause-measured
 commit-requires-clause-measured g c =
@@ -188,6 +193,17 @@ commit-requires-clause-spots g c =
     c.make_ready.ensures.book c.in_ok-ready.ensures.ready in
     subst (λ (l : List Spot). AreSpotsOf (book_of now.held) l) (sym c.reserve_kept.ensures.spots) u.is.spots
 
+pub commit-requires-clause-within : goal.commit-requires-clause-within
+commit-requires-clause-within g c told =
+    let was : Holdings _ = holdings_of c.self.inside in
+    let now = c.make_ready.new.self in
+    let ready = c.in_ok-ready.ready in
+    let u = laws.under_way g.D.Disk c.storing_has_a_basis.ensures c.args.self.now was c.self.inside.volumes now (incoming_of c.args.taken.now c.args.digest.now c.args.same) ready c.self.view_is
+    refl refl c.self.invariant c.requires.fits c.requires.not_full c.requires.digest c.requires.refers c.make_ready.ensures.journal
+    c.make_ready.ensures.book c.in_ok-ready.ensures.ready in
+    subst (AreWithin (texts g.D.Disk now.journal)) (sym c.reserve_kept.ensures.spots)
+    (within_of (texts g.D.Disk now.journal) (book_of now.held) was.spots (u.is.placed told))
+
 pub commit-requires-clause-placed : goal.commit-requires-clause-placed
 commit-requires-clause-placed g c told =
     let was : Holdings _ = holdings_of c.self.inside in
@@ -196,7 +212,8 @@ commit-requires-clause-placed g c told =
     let u = laws.under_way g.D.Disk c.storing_has_a_basis.ensures c.args.self.now was c.self.inside.volumes now (incoming_of c.args.taken.now c.args.digest.now c.args.same) ready c.self.view_is
     refl refl c.self.invariant c.requires.fits c.requires.not_full c.requires.digest c.requires.refers c.make_ready.ensures.journal
     c.make_ready.ensures.book c.in_ok-ready.ensures.ready in
-    subst (λ (l : List Spot). ArePlaced (texts g.D.Disk now.journal) (book_of now.held) l) (sym c.reserve_kept.ensures.spots) (u.is.placed told)
+    subst (λ (l : List Spot). ArePlaced (texts g.D.Disk now.journal) (book_of now.held) l) (sym c.reserve_kept.ensures.spots)
+    (u.is.placed (sym c.told_by-told.ensures ∙ told))
 
 pub commit-requires-clause-table : goal.commit-requires-clause-table
 commit-requires-clause-table g c =
@@ -293,11 +310,12 @@ invariant_of-self-in-Err g c =
     laws.refused_archive g.D.Disk c.storing_has_a_basis.ensures was now (incoming_of c.args.taken.now c.args.digest.now c.args.same) ready u c.record_at-at.result c.len-number.result
     c.record_at-at.ensures number c.in_ok-entry.entry enters (disk_laws g)
     c.commit.new.self.journal (book_of c.commit.new.self.held) c.commit.new.table c.take_back.new.self c.commit.new.spots.items
-    c.commit.ensures.holds c.commit.ensures.measured c.commit.ensures.table c.commit.ensures.spots c.commit.ensures.placed c.commit.ensures.others
+    (subst (λ (t : Bool). HoldsBook g.D.Disk t c.commit.new.self.journal (book_of c.commit.new.self.held)) c.told_by-told.ensures c.commit.ensures.holds)
+    c.commit.ensures.measured c.commit.ensures.table c.commit.ensures.spots (λ told. c.commit.ensures.placed (c.told_by-told.ensures ∙ told)) c.commit.ensures.others
     c.in-Err.ensures.left back
 
-pub returns-in-Err-clause-stores : goal.returns-in-Err-clause-stores
-returns-in-Err-clause-stores g c =
+pub returns-clause-stores : goal.returns-clause-stores
+returns-clause-stores g c =
     let was : Holdings _ = holdings_of c.self.inside in
     let now = c.make_ready.new.self in
     let ready = c.in_ok-ready.ready in
@@ -328,8 +346,13 @@ returns-in-Err-clause-stores g c =
     (laws.refused_stores g.D.Disk c.storing_has_a_basis.ensures was now (incoming_of c.args.taken.now c.args.digest.now c.args.same) ready u c.record_at-at.result c.len-number.result
     c.record_at-at.ensures number c.in_ok-entry.entry enters (disk_laws g)
     c.commit.new.self.journal (book_of c.commit.new.self.held) c.commit.new.table c.take_back.new.self c.commit.new.spots.items
-    c.commit.ensures.holds c.commit.ensures.measured c.commit.ensures.table c.commit.ensures.spots c.commit.ensures.placed c.commit.ensures.others
-    c.in-Err.ensures.left back c.in-Err.field-0 c.in-Err.ensures.writes c.in-Err.ensures.faults)
+    (subst (λ (t : Bool). HoldsBook g.D.Disk t c.commit.new.self.journal (book_of c.commit.new.self.held)) c.told_by-told.ensures c.commit.ensures.holds)
+    c.commit.ensures.measured c.commit.ensures.table c.commit.ensures.spots (λ told. c.commit.ensures.placed (c.told_by-told.ensures ∙ told)) c.commit.ensures.others
+    c.in-Err.ensures.left back c.in-Err.field-0
+    (subst (λ (t : Bool). Writes (muted t g.D.Disk) (disk_of now.journal) (disk_of c.commit.new.self.journal) (book_of now.held)
+    (with_prepared (book_of now.held) ready.prepared) (with_capture (with_prepared (book_of now.held) ready.prepared) (stored_in ready.stored))
+    (book_of c.commit.new.self.held) (Err c.in-Err.field-0)) c.told_by-told.ensures c.in-Err.ensures.writes)
+    c.in-Err.ensures.faults)
 
 pub overflow_add-self : goal.overflow_add-self
 overflow_add-self g c =
@@ -359,7 +382,8 @@ invariant_of-self-in-Ok g c =
     laws.stored_archive g.D.Disk c.storing_has_a_basis.ensures was now (incoming_of c.args.taken.now c.args.digest.now c.args.same) ready u c.record_at-at.result c.len-number.result
     c.record_at-at.ensures number c.in_ok-entry.entry enters (disk_laws g)
     c.commit.new.self.journal (book_of c.commit.new.self.held) c.commit.new.table c.enter.new.index c.commit.new.spots.items
-    c.commit.ensures.holds c.commit.ensures.measured c.commit.ensures.table c.commit.ensures.spots c.commit.ensures.placed c.commit.ensures.others
+    (subst (λ (t : Bool). HoldsBook g.D.Disk t c.commit.new.self.journal (book_of c.commit.new.self.held)) c.told_by-told.ensures c.commit.ensures.holds)
+    c.commit.ensures.measured c.commit.ensures.table c.commit.ensures.spots (λ told. c.commit.ensures.placed (c.told_by-told.ensures ∙ told)) c.commit.ensures.others
     (c.self.inside.revisits + c.revisits_in.result) c.in-Ok.ensures.stored c.in_ok-enter.ensures.entered c.enter.ensures.indexed more
 
 pub returns-in-Ok-clause-stores : goal.returns-in-Ok-clause-stores
@@ -393,9 +417,14 @@ returns-in-Ok-clause-stores g c =
     (laws.stored_stores g.D.Disk c.storing_has_a_basis.ensures was now (incoming_of c.args.taken.now c.args.digest.now c.args.same) ready u c.record_at-at.result c.len-number.result
     c.record_at-at.ensures number c.in_ok-entry.entry enters (disk_laws g)
     c.commit.new.self.journal (book_of c.commit.new.self.held) c.commit.new.table c.enter.new.index c.commit.new.spots.items
-    c.commit.ensures.holds c.commit.ensures.measured c.commit.ensures.table c.commit.ensures.spots c.commit.ensures.placed c.commit.ensures.others
+    (subst (λ (t : Bool). HoldsBook g.D.Disk t c.commit.new.self.journal (book_of c.commit.new.self.held)) c.told_by-told.ensures c.commit.ensures.holds)
+    c.commit.ensures.measured c.commit.ensures.table c.commit.ensures.spots (λ told. c.commit.ensures.placed (c.told_by-told.ensures ∙ told)) c.commit.ensures.others
     (c.self.inside.revisits + c.revisits_in.result) c.in-Ok.ensures.stored c.in_ok-enter.ensures.entered
-    c.in-Ok.field-0 c.in-Ok.ensures.writes c.in-Ok.ensures.faults c.in-Ok.ensures.last_len receipt number refl)
+    c.in-Ok.field-0
+    (subst (λ (t : Bool). Writes (muted t g.D.Disk) (disk_of now.journal) (disk_of c.commit.new.self.journal) (book_of now.held)
+    (with_prepared (book_of now.held) ready.prepared) (with_capture (with_prepared (book_of now.held) ready.prepared) (stored_in ready.stored))
+    (book_of c.commit.new.self.held) (Ok c.in-Ok.field-0)) c.told_by-told.ensures c.in-Ok.ensures.writes)
+    c.in-Ok.ensures.faults c.in-Ok.ensures.last_len receipt number refl)
 
 pub returns-in_err-reserve_kept-clause-unread : goal.returns-in_err-reserve_kept-clause-unread
 returns-in_err-reserve_kept-clause-unread g c number = memory_since _ number c.from_residual.result c.from_residual.ensures.1

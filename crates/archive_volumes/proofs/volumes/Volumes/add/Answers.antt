@@ -14,39 +14,39 @@ use Rattle.archive_volumes.proofs.volumes.Volumes.add.Goals as goal
 disk_laws : (g : Over) → DiskLaws g.D.Disk
 disk_laws g = record { earlier = g.met.D.Disk.earlier; now_counts = g.met.D.Disk.now_counts; now_only = g.met.D.Disk.now_only }
 
-refused : (g : Over) (c : goal.After-drop-stored-in_err-place-6 g) → IsChange g.D.Disk c.args.self.now.journal (book_of c.args.self.now.held)
+refused : (g : Over) (c : goal.After-drop-stored-in_err-place-6 g) → IsChange g.D.Disk c.args.told.now.value c.args.self.now.journal (book_of c.args.self.now.held)
     (with_capture (book_of c.args.self.now.held) (stored_in c.args.stored))
     (with_more (texts g.D.Disk c.args.self.now.journal) c.args.group.now)
 refused g c =
-    capture_change g.D.Disk c.args.self.now.journal (book_of c.args.self.now.held) (stored_in c.args.stored) c.args.group.now
+    capture_change g.D.Disk c.args.told.now.value c.args.self.now.journal (book_of c.args.self.now.held) (stored_in c.args.stored) c.args.group.now
     c.texts_go_on_behind.ensures.captures c.requires.holds (held_some c.args.self.now.held c.requires.space.0) c.requires.group c.requires.sound
 
 pub returns-in_err-place-clause-holds : goal.returns-in_err-place-clause-holds
 returns-in_err-place-clause-holds g c =
     let before : Book = book_of c.args.self.now.held in
-    holds_refused g.D.Disk (disk_laws g) c.args.self.now.journal c.append.new.self before (with_capture before (stored_in c.args.stored))
+    holds_refused g.D.Disk (disk_laws g) c.args.told.now.value c.args.self.now.journal c.append.new.self before (with_capture before (stored_in c.args.stored))
     (with_more (texts g.D.Disk c.args.self.now.journal) c.args.group.now) (refused g c)
     c.in_err-place.field-0.0 c.in_err-place.ensures.change c.append.ensures.in_step
 
 pub returns-in_err-place-clause-makes : goal.returns-in_err-place-clause-makes
 returns-in_err-place-clause-makes g c =
     let before : Book = book_of c.args.self.now.held in
-    makes_refused g.D.Disk (disk_laws g) c.args.self.now.journal c.append.new.self before (with_capture before (stored_in c.args.stored))
+    makes_refused g.D.Disk (disk_laws g) c.args.told.now.value c.args.self.now.journal c.append.new.self before (with_capture before (stored_in c.args.stored))
     (with_more (texts g.D.Disk c.args.self.now.journal) c.args.group.now) (refused g c)
     c.in_err-place.field-0.0 c.from_residual.result c.in_err-place.ensures.change c.from_residual.ensures.0
 
-made : (g : Over) (c : goal.After-add_ghost g) → IsChange g.D.Disk c.args.self.now.journal (book_of c.args.self.now.held)
+made : (g : Over) (c : goal.After-add_ghost g) → IsChange g.D.Disk c.args.told.now.value c.args.self.now.journal (book_of c.args.self.now.held)
     (with_capture (book_of c.args.self.now.held) (stored_in c.args.stored))
     (with_more (texts g.D.Disk c.args.self.now.journal) c.args.group.now)
 made g c =
-    capture_change g.D.Disk c.args.self.now.journal (book_of c.args.self.now.held) (stored_in c.args.stored) c.args.group.now
+    capture_change g.D.Disk c.args.told.now.value c.args.self.now.journal (book_of c.args.self.now.held) (stored_in c.args.stored) c.args.group.now
     c.texts_go_on_behind.ensures.captures c.requires.holds (held_some c.args.self.now.held c.requires.space.0) c.requires.group c.requires.sound
 
 pub returns-clause-holds : goal.returns-clause-holds
 returns-clause-holds g c =
     let before : Book = book_of c.args.self.now.held in
-    subst (HoldsBook g.D.Disk c.append.new.self) (sym c.add_ghost.ensures.book)
-    (holds_made g.D.Disk (disk_laws g) c.args.self.now.journal c.append.new.self before (with_capture before (stored_in c.args.stored))
+    subst (HoldsBook g.D.Disk c.args.told.now.value c.append.new.self) (sym c.add_ghost.ensures.book)
+    (holds_made g.D.Disk (disk_laws g) c.args.told.now.value c.args.self.now.journal c.append.new.self before (with_capture before (stored_in c.args.stored))
     (with_more (texts g.D.Disk c.args.self.now.journal) c.args.group.now) (made g c)
     c.in_ok-place.place c.in_ok-place.ensures.change c.append.ensures.in_step)
 
@@ -59,5 +59,5 @@ returns-clause-measured g c =
 pub returns-clause-makes : goal.returns-clause-makes
 returns-clause-makes g c =
     let before : Book = book_of c.args.self.now.held in
-    makes_by g.D.Disk (disk_laws g) c.args.self.now.journal c.append.new.self before (with_capture before (stored_in c.args.stored))
+    makes_by g.D.Disk (disk_laws g) c.args.told.now.value c.args.self.now.journal c.append.new.self before (with_capture before (stored_in c.args.stored))
     (with_more (texts g.D.Disk c.args.self.now.journal) c.args.group.now) (made g c) (Ok c.in_ok-place.place) c.in_ok-place.ensures.change

@@ -13,43 +13,43 @@ use Rattle.archive_volumes.proofs.volumes.Volumes.begin.Goals as goal
 disk_laws : (g : Over) → DiskLaws g.D.Disk
 disk_laws g = record { earlier = g.met.D.Disk.earlier; now_counts = g.met.D.Disk.now_counts; now_only = g.met.D.Disk.now_only }
 
-refused : (g : Over) (c : goal.After-drop-shadow g) → IsChange g.D.Disk c.args.self.now.journal (book_of c.args.self.now.held)
+refused : (g : Over) (c : goal.After-drop-shadow g) → IsChange g.D.Disk c.args.told.now.value c.args.self.now.journal (book_of c.args.self.now.held)
     (with_volume (book_of c.args.self.now.held) c.args.prepared.shadow.born)
     (texts g.D.Disk c.args.self.now.journal ++ c.as_slice.result.now ∷ [])
 refused g c =
     let given : c.as_slice.result.now ≡ c.args.prepared.info = search rules in
-    volume_change g.D.Disk c.args.self.now.journal (book_of c.args.self.now.held) c.args.prepared.shadow.born c.as_slice.result.now
+    volume_change g.D.Disk c.args.told.now.value c.args.self.now.journal (book_of c.args.self.now.held) c.args.prepared.shadow.born c.as_slice.result.now
     c.texts_go_on_behind.ensures.volumes c.storing_keeps_soundness.ensures.volumes c.requires.holds c.requires.filled c.requires.born
     (given ∙ c.requires.prepared.info)
 
 pub returns-in_err-roll-clause-holds : goal.returns-in_err-roll-clause-holds
 returns-in_err-roll-clause-holds g c =
     let before : Book = book_of c.args.self.now.held in
-    holds_refused g.D.Disk (disk_laws g) c.args.self.now.journal c.roll.new.self before (with_volume before c.args.prepared.shadow.born)
+    holds_refused g.D.Disk (disk_laws g) c.args.told.now.value c.args.self.now.journal c.roll.new.self before (with_volume before c.args.prepared.shadow.born)
     (texts g.D.Disk c.args.self.now.journal ++ c.as_slice.result.now ∷ []) (refused g c)
     c.in_err-roll.field-0.0 c.in_err-roll.ensures.change c.roll.ensures.in_step
 
 pub returns-in_err-roll-clause-makes : goal.returns-in_err-roll-clause-makes
 returns-in_err-roll-clause-makes g c =
     let before : Book = book_of c.args.self.now.held in
-    makes_refused g.D.Disk (disk_laws g) c.args.self.now.journal c.roll.new.self before (with_volume before c.args.prepared.shadow.born)
+    makes_refused g.D.Disk (disk_laws g) c.args.told.now.value c.args.self.now.journal c.roll.new.self before (with_volume before c.args.prepared.shadow.born)
     (texts g.D.Disk c.args.self.now.journal ++ c.as_slice.result.now ∷ []) (refused g c)
     c.in_err-roll.field-0.0 c.from_residual.result c.in_err-roll.ensures.change c.from_residual.ensures.0
 
-made : (g : Over) (c : goal.After-drop-info-inside-2 g) → IsChange g.D.Disk c.args.self.now.journal (book_of c.args.self.now.held)
+made : (g : Over) (c : goal.After-drop-info-inside-2 g) → IsChange g.D.Disk c.args.told.now.value c.args.self.now.journal (book_of c.args.self.now.held)
     (with_volume (book_of c.args.self.now.held) c.args.prepared.shadow.born)
     (texts g.D.Disk c.args.self.now.journal ++ c.as_slice.result.now ∷ [])
 made g c =
     let given : c.as_slice.result.now ≡ c.args.prepared.info = search rules in
-    volume_change g.D.Disk c.args.self.now.journal (book_of c.args.self.now.held) c.args.prepared.shadow.born c.as_slice.result.now
+    volume_change g.D.Disk c.args.told.now.value c.args.self.now.journal (book_of c.args.self.now.held) c.args.prepared.shadow.born c.as_slice.result.now
     c.texts_go_on_behind.ensures.volumes c.storing_keeps_soundness.ensures.volumes c.requires.holds c.requires.filled c.requires.born
     (given ∙ c.requires.prepared.info)
 
 pub returns-clause-holds : goal.returns-clause-holds
 returns-clause-holds g c =
     let before : Book = book_of c.args.self.now.held in
-    subst (HoldsBook g.D.Disk c.roll.new.self) (sym c.add_volume.ensures.book)
-    (holds_made g.D.Disk (disk_laws g) c.args.self.now.journal c.roll.new.self before (with_volume before c.args.prepared.shadow.born)
+    subst (HoldsBook g.D.Disk c.args.told.now.value c.roll.new.self) (sym c.add_volume.ensures.book)
+    (holds_made g.D.Disk (disk_laws g) c.args.told.now.value c.args.self.now.journal c.roll.new.self before (with_volume before c.args.prepared.shadow.born)
     (texts g.D.Disk c.args.self.now.journal ++ c.as_slice.result.now ∷ []) (made g c)
     c.in_ok-roll.field-0 c.in_ok-roll.ensures.change c.roll.ensures.in_step)
 
@@ -64,5 +64,5 @@ returns-clause-measured g c =
 pub returns-clause-makes : goal.returns-clause-makes
 returns-clause-makes g c =
     let before : Book = book_of c.args.self.now.held in
-    makes_by g.D.Disk (disk_laws g) c.args.self.now.journal c.roll.new.self before (with_volume before c.args.prepared.shadow.born)
+    makes_by g.D.Disk (disk_laws g) c.args.told.now.value c.args.self.now.journal c.roll.new.self before (with_volume before c.args.prepared.shadow.born)
     (texts g.D.Disk c.args.self.now.journal ++ c.as_slice.result.now ∷ []) (made g c) (Ok tt) c.in_ok-roll.ensures.change

@@ -1,6 +1,6 @@
 use Rattle.std.proofs.Common.{ap, arith}
 use Rattle.warc_journal.specs.Journals.{texts}
-use Rattle.archive_volumes.proofs.BringLaws.{place_at, refers_to, spot_at}
+use Rattle.archive_volumes.proofs.BringLaws.{place_at, refers_to, spot_at, within_at}
 use Rattle.archive_volumes.proofs.DigestLaws.{own_digests, own_names, same_digests, same_names}
 use Rattle.archive_volumes.specs.Held.{book_of}
 use Rattle.archive_volumes.specs.Spots.{is_same_form}
@@ -10,6 +10,11 @@ pub bring_own-requires-clause-spot : goal.bring_own-requires-clause-spot
 bring_own-requires-clause-spot g c =
     spot_at (book_of c.args.self.now.held) c.args.spots.now c.args.number c.index-spots-number.result c.requires.below c.index-spots-number.is c.requires.spots
 
+pub bring_own-requires-clause-place : goal.bring_own-requires-clause-place
+bring_own-requires-clause-place g c tells =
+    within_at (book_of c.args.self.now.held) c.args.spots.now c.args.number c.index-spots-number.result c.requires.below c.index-spots-number.is
+    (texts g.D.Disk c.args.self.now.journal) (c.requires.within tells)
+
 pub bring_own-requires-clause-placed : goal.bring_own-requires-clause-placed
 bring_own-requires-clause-placed g c told =
     place_at (book_of c.args.self.now.held) c.args.spots.now c.args.number c.index-spots-number.result c.requires.below c.index-spots-number.is
@@ -18,6 +23,11 @@ bring_own-requires-clause-placed g c told =
 pub bring_own-requires-in-Cut-clause-spot : goal.bring_own-requires-in-Cut-clause-spot
 bring_own-requires-in-Cut-clause-spot g c =
     spot_at (book_of c.args.self.now.held) c.args.spots.now c.args.number c.index-spots-number.result c.requires.below c.index-spots-number.is c.requires.spots
+
+pub bring_own-requires-in-Cut-clause-place : goal.bring_own-requires-in-Cut-clause-place
+bring_own-requires-in-Cut-clause-place g c tells =
+    within_at (book_of c.args.self.now.held) c.args.spots.now c.args.number c.index-spots-number.result c.requires.below c.index-spots-number.is
+    (texts g.D.Disk c.args.self.now.journal) (c.requires.within tells)
 
 pub bring_own-requires-in-Cut-clause-placed : goal.bring_own-requires-in-Cut-clause-placed
 bring_own-requires-in-Cut-clause-placed g c told =
@@ -34,6 +44,11 @@ pub bring_same-requires-clause-spot : goal.bring_same-requires-clause-spot
 bring_same-requires-clause-spot g c =
     spot_at (book_of c.args.self.now.held) c.args.spots.now c.args.number c.index-spots-number.result c.requires.below c.index-spots-number.is c.requires.spots
 
+pub bring_same-requires-clause-place : goal.bring_same-requires-clause-place
+bring_same-requires-clause-place g c tells =
+    within_at (book_of c.args.self.now.held) c.args.spots.now c.args.number c.index-spots-number.result c.requires.below c.index-spots-number.is
+    (texts g.D.Disk c.args.self.now.journal) (c.requires.within tells)
+
 pub bring_same-requires-clause-placed : goal.bring_same-requires-clause-placed
 bring_same-requires-clause-placed g c told =
     place_at (book_of c.args.self.now.held) c.args.spots.now c.args.number c.index-spots-number.result c.requires.below c.index-spots-number.is
@@ -45,6 +60,13 @@ bring_same-requires-clause-keeper g c =
     let refers = refers_to (book_of c.args.self.now.held) c.args.number c.index-spots-number.result its c.in-Same.first c.in-Same.is in
     spot_at (book_of c.args.self.now.held) c.args.spots.now c.in-Same.first c.index-spots-first.result (omega (arith, refers.0, c.requires.below))
     c.index-spots-first.is c.requires.spots
+
+pub bring_same-requires-clause-keeper_place : goal.bring_same-requires-clause-keeper_place
+bring_same-requires-clause-keeper_place g c tells =
+    let its = spot_at (book_of c.args.self.now.held) c.args.spots.now c.args.number c.index-spots-number.result c.requires.below c.index-spots-number.is c.requires.spots in
+    let refers = refers_to (book_of c.args.self.now.held) c.args.number c.index-spots-number.result its c.in-Same.first c.in-Same.is in
+    within_at (book_of c.args.self.now.held) c.args.spots.now c.in-Same.first c.index-spots-first.result (omega (arith, refers.0, c.requires.below))
+    c.index-spots-first.is (texts g.D.Disk c.args.self.now.journal) (c.requires.within tells)
 
 pub bring_same-requires-clause-kept : goal.bring_same-requires-clause-kept
 bring_same-requires-clause-kept g c told =

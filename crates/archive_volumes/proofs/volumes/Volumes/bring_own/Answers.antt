@@ -12,10 +12,10 @@ returns-in_ok-brought-in-Right-clause-brings g c =
     let spot = c.args.spot.now in
     let book = book_of c.args.self.now.held in
     let checked : IsChecked spot.digest c.in_ok-read.read = c.in_ok-read.ensures.checked in
-    let right : IsTrue g.D.Disk.tells → AreOf book c.args.number c.in-Right.head c.in-Right.payload = λ told. subst (λ (r : ReadBack). IsReadRight book c.args.number r) c.in-Right.is
-    (c.in_ok-read.ensures.right c.args.number told
+    let right : IsTrue c.args.told.now.value → AreOf book c.args.number c.in-Right.head c.in-Right.payload = λ told. subst (λ (r : ReadBack). IsReadRight book c.args.number r) c.in-Right.is
+    (c.in_ok-read.ensures.right c.args.number (c.requires.holds.tells told)
     (record { is = c.requires.spot; placed = c.requires.placed told; own = c.requires.own })) in
-    subst (λ (b : Brought). BringsFrom g.D.Disk.tells book c.args.number (Ok b)) (sym c.in_ok-brought-in-Right.ensures) (
+    subst (λ (b : Brought). BringsFrom c.args.told.now.value book c.args.number (Ok b)) (sym c.in_ok-brought-in-Right.ensures) (
       replayable book c.args.number spot c.requires.spot c.in-Right.head c.in-Right.payload
           (subst (λ (r : ReadBack). IsChecked spot.digest r) c.in-Right.is checked).0,
       named book c.args.number spot c.requires.spot c.in-Right.head c.in-Right.payload,
@@ -31,11 +31,11 @@ returns-in_ok-brought-in-Right-clause-digest g c =
 pub returns-in-Damaged-clause-brings : goal.returns-in-Damaged-clause-brings
 returns-in-Damaged-clause-brings g c =
     let spot = c.args.spot.now in
-    let never : IsTrue g.D.Disk.tells → ⊥ = λ told. subst (λ (r : ReadBack). IsReadRight (book_of c.args.self.now.held) c.args.number r) c.in-Damaged.is
-    (c.in_ok-read.ensures.right c.args.number told
+    let never : IsTrue c.args.told.now.value → ⊥ = λ told. subst (λ (r : ReadBack). IsReadRight (book_of c.args.self.now.held) c.args.number r) c.in-Damaged.is
+    (c.in_ok-read.ensures.right c.args.number (c.requires.holds.tells told)
     (record { is = c.requires.spot; placed = c.requires.placed told; own = c.requires.own })) in (
       omega arith,
       inl refl,
-      damaged g.D.Disk.tells spot.digest c.in-Damaged.found never
+      damaged c.args.told.now.value spot.digest c.in-Damaged.found never
           (subst (λ (r : ReadBack). IsChecked spot.digest r) c.in-Damaged.is c.in_ok-read.ensures.checked),
     )

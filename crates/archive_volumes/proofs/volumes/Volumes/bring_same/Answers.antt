@@ -24,9 +24,9 @@ returns-then-not-branch-clause-brings g c =
     let is : IsHead c.as_slice.result.now false = subst (λ b. IsHead c.as_slice.result.now b) c.if-not-branch.true c.in_ok-is_response_head.ensures in (
       omega arith,
       inl refl,
-      damaged g.D.Disk.tells c.args.keeper.now.digest None
+      damaged c.args.told.now.value c.args.keeper.now.digest None
           (λ told. has_head book c.args.number spot c.requires.spot c.args.first c.requires.form (texts g.D.Disk c.args.self.now.journal) (c.requires.placed told)
-          c.in_ok-head.head.items (rw c.head_place.ensures at c.in_ok-head.ensures.bytes told) (c.requires.holds.sound told)
+          c.in_ok-head.head.items (rw c.head_place.ensures at c.in_ok-head.ensures.bytes (c.requires.holds.tells told)) (c.requires.holds.sound told)
           (subst (λ (h : List ℕ). IsHead h false) c.as_slice.ensures.value is))
           (no_digest c.args.keeper.now.digest),
     )
@@ -54,18 +54,18 @@ returns-in_ok-brought-in-Right-clause-brings g c =
     let is : IsHead c.as_slice.result.now true = subst (λ b. IsHead c.as_slice.result.now b) c.if-not-branch.false c.in_ok-is_response_head.ensures in
     let parsed : IsHead c.of.result true = subst (λ (h : List ℕ). IsHead h true) (c.as_slice.ensures.value ∙ sym c.of.ensures) is in
     let own = keeper_keeps book c.args.number spot c.requires.spot c.args.first c.requires.form c.args.keeper.now c.requires.keeper in
-    let right : IsTrue g.D.Disk.tells → AreOf book c.args.first c.in-Right.head c.in-Right.payload = λ told.
+    let right : IsTrue c.args.told.now.value → AreOf book c.args.first c.in-Right.head c.in-Right.payload = λ told.
     subst (λ (b : Book). IsReadRight b c.args.first (back.Right c.in-Right.head c.in-Right.payload)) (ap book_of c.read_part.ensures.reads.held)
     (subst (λ (r : ReadBack). IsReadRight (book_of c.read_part.new.self.held) c.args.first r) c.in-Right.is
-    (c.in_ok-read.ensures.right c.args.first told
-    (kept_on g.D.Disk c.args.self.now c.read_part.new.self c.read_part.ensures.reads told c.args.first c.args.keeper.now
+    (c.in_ok-read.ensures.right c.args.first (c.requires.holds.tells told)
+    (kept_on g.D.Disk c.args.self.now c.read_part.new.self c.read_part.ensures.reads (c.requires.holds.tells told) c.args.first c.args.keeper.now
     (record { is = c.requires.keeper; placed = c.requires.kept told; own = own })))) in
-    subst (λ (b : Brought). BringsFrom g.D.Disk.tells book c.args.number (Ok b)) (sym c.in_ok-brought-in-Right.ensures) (
+    subst (λ (b : Brought). BringsFrom c.args.told.now.value book c.args.number (Ok b)) (sym c.in_ok-brought-in-Right.ensures) (
       replayable book c.args.number spot c.requires.spot c.of.result c.in-Right.payload parsed,
       named book c.args.number spot c.requires.spot c.of.result c.in-Right.payload,
       λ told. same_brought book c.args.number spot c.requires.spot c.args.first c.requires.form
           (texts g.D.Disk c.args.self.now.journal) (c.requires.placed told)
-          c.of.result (c.of.ensures ∙ (rw c.head_place.ensures at c.in_ok-head.ensures.bytes told))
+          c.of.result (c.of.ensures ∙ (rw c.head_place.ensures at c.in_ok-head.ensures.bytes (c.requires.holds.tells told)))
           c.in-Right.payload c.in-Right.head (right told),
     )
 
@@ -74,14 +74,14 @@ returns-in-Damaged-clause-brings g c =
     let book = book_of c.args.self.now.held in
     let refers = refers_to book c.args.number c.args.spot.now c.requires.spot c.args.first c.requires.form in
     let own = keeper_keeps book c.args.number c.args.spot.now c.requires.spot c.args.first c.requires.form c.args.keeper.now c.requires.keeper in
-    let never : IsTrue g.D.Disk.tells → ⊥ = λ told.
+    let never : IsTrue c.args.told.now.value → ⊥ = λ told.
     subst (λ (r : ReadBack). IsReadRight (book_of c.read_part.new.self.held) c.args.first r) c.in-Damaged.is
-    (c.in_ok-read.ensures.right c.args.first told
-    (kept_on g.D.Disk c.args.self.now c.read_part.new.self c.read_part.ensures.reads told c.args.first c.args.keeper.now
+    (c.in_ok-read.ensures.right c.args.first (c.requires.holds.tells told)
+    (kept_on g.D.Disk c.args.self.now c.read_part.new.self c.read_part.ensures.reads (c.requires.holds.tells told) c.args.first c.args.keeper.now
     (record { is = c.requires.keeper; placed = c.requires.kept told; own = own }))) in (
       omega (arith, refers.0),
       keeps_payload book c.args.number c.args.spot.now c.requires.spot c.args.first c.requires.form,
-      damaged g.D.Disk.tells c.args.keeper.now.digest c.in-Damaged.found
+      damaged c.args.told.now.value c.args.keeper.now.digest c.in-Damaged.found
           never
           (subst (λ (r : ReadBack). IsChecked c.args.keeper.now.digest r) c.in-Damaged.is c.in_ok-read.ensures.checked),
     )

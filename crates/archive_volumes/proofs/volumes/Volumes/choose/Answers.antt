@@ -1,7 +1,7 @@
 use Rattle.std.proofs.Common.{false, Ok, get_or, refl, ap, subst, ◌∙◌, arith}
 use Rattle.capture.specs.Captures.{IsPayloadOf}
 use Rattle.capture.specs.declared.book.Book.{Book}
-use Rattle.archive_volumes.proofs.BringLaws.{placed_on, reads_then, spots_on}
+use Rattle.archive_volumes.proofs.BringLaws.{placed_on, reads_then, spots_on, within_on}
 use Rattle.archive_volumes.proofs.ChooseLaws.{none_more}
 use Rattle.archive_volumes.specs.Choosing.{Asks}
 use Rattle.archive_volumes.specs.Held.{book_of}
@@ -11,9 +11,16 @@ pub has_payload-requires-clause-spots : goal.has_payload-requires-clause-spots
 has_payload-requires-clause-spots g c =
     spots_on g.D.Disk c.args.self.now c.loop-candidate.self c.loop-candidate.invariant.reads c.args.spots.now c.requires.spots
 
+pub has_payload-requires-clause-holds : goal.has_payload-requires-clause-holds
+has_payload-requires-clause-holds g c = c.loop-candidate.invariant.reads.holds c.args.told.now.value c.requires.holds
+
+pub has_payload-requires-clause-within : goal.has_payload-requires-clause-within
+has_payload-requires-clause-within g c tells =
+    within_on g.D.Disk c.args.self.now c.loop-candidate.self c.loop-candidate.invariant.reads tells c.args.spots.now (c.requires.within tells)
+
 pub has_payload-requires-clause-placed : goal.has_payload-requires-clause-placed
 has_payload-requires-clause-placed g c told =
-    placed_on g.D.Disk c.args.self.now c.loop-candidate.self c.loop-candidate.invariant.reads told c.args.spots.now (c.requires.placed told)
+    placed_on g.D.Disk c.args.self.now c.loop-candidate.self c.loop-candidate.invariant.reads (c.requires.holds.tells told) c.args.spots.now (c.requires.placed told)
 
 pub returns-in_err-has-clause-reads : goal.returns-in_err-has-clause-reads
 returns-in_err-has-clause-reads g c =
@@ -32,8 +39,8 @@ loop-candidate-preserved g c =
       reads = reads_then g.D.Disk c.args.self.now c.loop-candidate.self c.has_payload.new.self reads c.has_payload.ensures.reads;
       faults = c.in_ok-has.ensures.faults ∙ c.loop-candidate.invariant.faults;
       none = λ payload is told.
-          let asks : Asks g.D.Disk.tells (book_of c.loop-candidate.self.held) (get_or candidates index 0) payload (Ok false) =
-          subst (λ b. Asks g.D.Disk.tells (book_of c.loop-candidate.self.held) (get_or candidates index 0) payload (Ok b)) c.if-has.false
+          let asks : Asks c.args.told.now.value (book_of c.loop-candidate.self.held) (get_or candidates index 0) payload (Ok false) =
+          subst (λ b. Asks c.args.told.now.value (book_of c.loop-candidate.self.held) (get_or candidates index 0) payload (Ok b)) c.if-has.false
           (c.in_ok-has.ensures.asks payload is) in
           none_more (book_of c.args.self.now.held) candidates index (get_or candidates index 0) payload refl (c.loop-candidate.invariant.none payload is told)
           (subst (λ (b : Book). ¬ (IsPayloadOf b (get_or candidates index 0) payload)) (ap book_of reads.held) (asks told));

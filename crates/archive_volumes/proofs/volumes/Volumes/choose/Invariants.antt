@@ -12,6 +12,6 @@ invariant-loop-candidate g l =
     record {
       reads : OnlyReads g.D.Disk l.fn.self l.self;
       faults : g.D.Disk.faults (disk_of l.self.journal) ≡ g.D.Disk.faults (disk_of l.fn.self.journal);
-      none : (payload : List ℕ) → IsPayload false l.fn.framing l.fn.wire payload → IsTrue g.D.Disk.tells
+      none : (payload : List ℕ) → IsPayload false l.fn.framing l.fn.wire payload → IsTrue l.fn.told.value
           → NoneHas (book_of l.fn.self.held) l.fn.candidates l.candidate-index payload;
     }

@@ -5,10 +5,11 @@ use Rattle.warc_journal.specs.declared.place.Place.{Place}
 use Rattle.archive_volumes.specs.Held.{book_of, stored_in}
 use Rattle.archive_volumes.specs.Ready.{book_with, room_of, spot_in}
 use Rattle.archive_volumes.specs.Spots.{spot_of}
+use Rattle.archive_volumes.specs.Volumes.{muted}
 use Rattle.archive_volumes.specs.Writing.{texts_with}
 use Rattle.archive_volumes.specs.declared.spot.Spot.{Spot}
-use Rattle.archive_volumes.proofs.ChangeLaws.{DiskLaws}
-use Rattle.archive_volumes.proofs.KeepLaws.{kept_placed, kept_spots, placed_left, spots_left}
+use Rattle.archive_volumes.proofs.ChangeLaws.{DiskLaws, laws_muted}
+use Rattle.archive_volumes.proofs.KeepLaws.{kept_placed, kept_spots, kept_within, placed_left, spots_left, within_left}
 use Rattle.archive_volumes.proofs.StoreLaws.{writes_refused}
 use Rattle.archive_volumes.proofs.volumes.Volumes.commit.Given.{Over}
 use Rattle.archive_volumes.proofs.volumes.Volumes.commit.Goals as goal
@@ -22,14 +23,20 @@ returns-in_err-place-clause-spots g c =
     spots_left (book_of c.args.self.now.held) (book_of c.write.new.self.held) c.args.ready.prepared c.args.spots.now.items
     c.in_err-place.ensures.left c.requires.spots
 
+pub returns-in_err-place-clause-within : goal.returns-in_err-place-clause-within
+returns-in_err-place-clause-within g c tells =
+    within_left c.args.ready.prepared (texts g.D.Disk c.args.self.now.journal) (texts g.D.Disk c.write.new.self.journal) c.args.spots.now.items
+    (c.in_err-place.ensures.texts_left tells) (c.requires.within tells)
+
 pub returns-in_err-place-clause-placed : goal.returns-in_err-place-clause-placed
 returns-in_err-place-clause-placed g c told =
+    let tells = c.requires.holds.tells told in
     placed_left (book_of c.args.self.now.held) (book_of c.write.new.self.held) c.args.ready.prepared (texts g.D.Disk c.args.self.now.journal)
-    (texts g.D.Disk c.write.new.self.journal) c.args.spots.now.items c.in_err-place.ensures.left (c.in_err-place.ensures.texts_left told) (c.requires.placed told)
+    (texts g.D.Disk c.write.new.self.journal) c.args.spots.now.items c.in_err-place.ensures.left (c.in_err-place.ensures.texts_left tells) (c.requires.placed told)
 
 pub returns-in_err-place-clause-writes : goal.returns-in_err-place-clause-writes
 returns-in_err-place-clause-writes g c =
-    writes_refused g.D.Disk (disk_laws g) (disk_of c.args.self.now.journal) (disk_of c.write.new.self.journal) (book_of c.args.self.now.held)
+    writes_refused (muted c.args.told.now.value g.D.Disk) (laws_muted g.D.Disk c.args.told.now.value (disk_laws g)) (disk_of c.args.self.now.journal) (disk_of c.write.new.self.journal) (book_of c.args.self.now.held)
     (room_of c.args.self.now c.args.ready) (book_with c.args.self.now c.args.ready) (book_of c.write.new.self.held) c.in_err-place.field-0.0
     c.from_residual.result c.from_residual.ensures.0 c.in_err-place.ensures.writes
 
@@ -39,8 +46,20 @@ returns-clause-spots g c =
     c.standing-spot.ensures
     ∙ ap (λ (s : Spot). record s { volume = c.in_ok-place.place.volume; at = c.in_ok-place.place.at; head_at = c.in_ok-place.place.at + c.args.ready.layout.head_at }) c.requires.ready.kept
     ∙ ap (λ (p : Place). spot_of (stored_in c.args.ready.stored) c.args.ready.digest p.volume p.at (p.at + c.args.ready.layout.head_at)) c.in_ok-place.ensures.place in
-    kept_spots g.D.Disk c.args.self.now c.args.ready c.requires.ready (book_of c.write.new.self.held) c.args.spots.now.items c.keep.new.spots.items c.standing-spot.result
+    kept_spots g.D.Disk c.args.told.now.value c.args.self.now c.args.ready c.requires.ready (book_of c.write.new.self.held) c.args.spots.now.items c.keep.new.spots.items c.standing-spot.result
     c.requires.spots c.in_ok-place.ensures.stored c.keep.ensures.spots is_spot
+
+pub returns-clause-within : goal.returns-clause-within
+returns-clause-within g c tells =
+    let is_spot : c.standing-spot.result ≡ spot_in c.args.self.now c.args.ready =
+    c.standing-spot.ensures
+    ∙ ap (λ (s : Spot). record s { volume = c.in_ok-place.place.volume; at = c.in_ok-place.place.at; head_at = c.in_ok-place.place.at + c.args.ready.layout.head_at }) c.requires.ready.kept
+    ∙ ap (λ (p : Place). spot_of (stored_in c.args.ready.stored) c.args.ready.digest p.volume p.at (p.at + c.args.ready.layout.head_at)) c.in_ok-place.ensures.place in
+    let given : c.as_slice.result.now ≡ c.args.ready.group = search rules in
+    let all : List (List ℕ) = texts_with (texts g.D.Disk c.args.self.now.journal) c.args.ready.prepared in
+    kept_within g.D.Disk c.args.told.now.value c.args.self.now c.args.ready c.requires.ready tells (texts g.D.Disk c.write.new.self.journal)
+    c.args.spots.now.items c.keep.new.spots.items c.standing-spot.result (c.requires.within tells)
+    (c.in_ok-place.ensures.text tells ∙ ap (λ (t : List ℕ). with_more all t) given) c.keep.ensures.spots is_spot
 
 pub returns-clause-placed : goal.returns-clause-placed
 returns-clause-placed g c told =
@@ -50,7 +69,7 @@ returns-clause-placed g c told =
     ∙ ap (λ (p : Place). spot_of (stored_in c.args.ready.stored) c.args.ready.digest p.volume p.at (p.at + c.args.ready.layout.head_at)) c.in_ok-place.ensures.place in
     let given : c.as_slice.result.now ≡ c.args.ready.group = search rules in
     let all : List (List ℕ) = texts_with (texts g.D.Disk c.args.self.now.journal) c.args.ready.prepared in
-    kept_placed g.D.Disk c.args.self.now c.args.ready c.requires.ready told c.requires.holds (texts g.D.Disk c.write.new.self.journal) (book_of c.write.new.self.held)
+    kept_placed g.D.Disk c.args.told.now.value c.args.self.now c.args.ready c.requires.ready told c.requires.holds (texts g.D.Disk c.write.new.self.journal) (book_of c.write.new.self.held)
     c.args.spots.now.items c.keep.new.spots.items c.standing-spot.result c.requires.spots (c.requires.placed told)
-    (c.in_ok-place.ensures.text told ∙ ap (λ (t : List ℕ). with_more all t) given)
+    (c.in_ok-place.ensures.text (c.requires.holds.tells told) ∙ ap (λ (t : List ℕ). with_more all t) given)
     c.in_ok-place.ensures.stored c.keep.ensures.spots is_spot

@@ -1,6 +1,6 @@
 use Rattle.std.proofs.Common.{IsTrue, refl, subst}
 use Rattle.warc_journal.specs.Journals.{texts}
-use Rattle.archive_volumes.proofs.BringLaws.{damaged, place_of}
+use Rattle.archive_volumes.proofs.BringLaws.{damaged, within_at}
 use Rattle.archive_volumes.proofs.ChooseLaws.{its_bound, its_kept, its_spot, its_whole}
 use Rattle.archive_volumes.specs.Choosing.{ComparesWith, IsComparison}
 use Rattle.archive_volumes.specs.Held.{book_of}
@@ -11,11 +11,11 @@ pub bounds-spots-number : goal.bounds-spots-number
 bounds-spots-number g c = its_bound (book_of c.args.self.now.held) c.args.spots.now c.requires.spots c.args.number c.requires.whole
 
 pub compare_with-requires-clause-place : goal.compare_with-requires-clause-place
-compare_with-requires-clause-place g c told =
+compare_with-requires-clause-place g c tells =
     let book = book_of c.args.self.now.held in
-    let kept = its_kept book c.args.spots.now c.requires.spots c.args.number c.requires.whole c.index-spots-number.result c.index-spots-number.is
-    (texts g.D.Disk c.args.self.now.journal) (c.requires.placed told) in
-    place_of (texts g.D.Disk c.args.self.now.journal) book c.args.number c.index-spots-number.result kept.placed
+    within_at book c.args.spots.now c.args.number c.index-spots-number.result
+    (its_bound book c.args.spots.now c.requires.spots c.args.number c.requires.whole) c.index-spots-number.is
+    (texts g.D.Disk c.args.self.now.journal) (c.requires.within tells)
 
 pub compare_with-requires-clause-ends : goal.compare_with-requires-clause-ends
 compare_with-requires-clause-ends g c =
@@ -31,23 +31,23 @@ returns-in-Same-clause-asks g c payload is told =
     let book = book_of c.args.self.now.held in
     let kept = its_kept book c.args.spots.now c.requires.spots c.args.number c.requires.whole c.index-spots-number.result c.index-spots-number.is
     (texts g.D.Disk c.args.self.now.journal) (c.requires.placed told) in
-    subst (λ (r : Compared). ComparesWith book c.args.number payload r) c.in-Same.is (c.in_ok-answer.ensures.compares payload c.args.number is told kept)
+    subst (λ (r : Compared). ComparesWith book c.args.number payload r) c.in-Same.is (c.in_ok-answer.ensures.compares payload c.args.number is (c.requires.holds.tells told) kept)
 
 pub returns-in-Other-clause-asks : goal.returns-in-Other-clause-asks
 returns-in-Other-clause-asks g c payload is told =
     let book = book_of c.args.self.now.held in
     let kept = its_kept book c.args.spots.now c.requires.spots c.args.number c.requires.whole c.index-spots-number.result c.index-spots-number.is
     (texts g.D.Disk c.args.self.now.journal) (c.requires.placed told) in
-    subst (λ (r : Compared). ComparesWith book c.args.number payload r) c.in-Other.is (c.in_ok-answer.ensures.compares payload c.args.number is told kept)
+    subst (λ (r : Compared). ComparesWith book c.args.number payload r) c.in-Other.is (c.in_ok-answer.ensures.compares payload c.args.number is (c.requires.holds.tells told) kept)
 
 pub returns-in-Damaged-clause-asks : goal.returns-in-Damaged-clause-asks
 returns-in-Damaged-clause-asks g c payload is =
     let book = book_of c.args.self.now.held in
-    let never : IsTrue g.D.Disk.tells → ⊥ = λ told.
+    let never : IsTrue c.args.told.now.value → ⊥ = λ told.
     let kept = its_kept book c.args.spots.now c.requires.spots c.args.number c.requires.whole c.index-spots-number.result c.index-spots-number.is
     (texts g.D.Disk c.args.self.now.journal) (c.requires.placed told) in
-    subst (λ (r : Compared). ComparesWith book c.args.number payload r) c.in-Damaged.is (c.in_ok-answer.ensures.compares payload c.args.number is told kept) in (
+    subst (λ (r : Compared). ComparesWith book c.args.number payload r) c.in-Damaged.is (c.in_ok-answer.ensures.compares payload c.args.number is (c.requires.holds.tells told) kept) in (
       refl,
-      damaged g.D.Disk.tells c.index-spots-number.result.digest c.in-Damaged.found never
+      damaged c.args.told.now.value c.index-spots-number.result.digest c.in-Damaged.found never
           (subst (λ (r : Compared). IsComparison c.index-spots-number.result.digest payload r) c.in-Damaged.is (c.in_ok-answer.ensures.comparison payload is)),
     )

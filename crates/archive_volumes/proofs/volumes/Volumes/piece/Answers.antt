@@ -17,27 +17,27 @@ use Rattle.archive_volumes.proofs.volumes.Volumes.piece.Goals as goal
 pub returns-then-ne-clause-gives : goal.returns-then-ne-clause-gives
 returns-then-ne-clause-gives g c =
     let book = book_of c.args.self.now.held in
-    let is : IsTrue g.D.Disk.tells → IsGroupOf book c.args.number c.in-Right.bytes c.in-Right.outline = λ told.
+    let is : IsTrue c.args.told.now.value → IsGroupOf book c.args.number c.in-Right.bytes c.in-Right.outline = λ told.
     subst (λ (k : KeptGroup). IsKeptGroup book c.args.number k) c.in-Right.is (c.in_ok-read.ensures.exact told) in
     let spot = c.index-spots-number.result in
     let other : c.in-Right.outline.digest ≢ spot.digest = search rules in
-    subst (λ (kept : Spot). GivesPieceFrom g.D.Disk.tells book c.args.number (Err (brings.Damaged c.args.number kept.digest (Some c.in-Right.outline.digest))))
+    subst (λ (kept : Spot). GivesPieceFrom c.args.told.now.value book c.args.number (Err (brings.Damaged c.args.number kept.digest (Some c.in-Right.outline.digest))))
     c.index-spots-number.is
-    (other_digest g.D.Disk.tells book c.args.number (texts g.D.Disk c.args.self.now.journal) spot c.in-Right.bytes c.in-Right.outline is
+    (other_digest c.args.told.now.value book c.args.number (texts g.D.Disk c.args.self.now.journal) spot c.in-Right.bytes c.in-Right.outline is
     (λ told. place_at book c.args.spots.now c.args.number spot c.requires.below c.index-spots-number.is (texts g.D.Disk c.args.self.now.journal) (c.requires.placed told))
     other)
 
 pub returns-in_ok-piece-in-Right-clause-gives : goal.returns-in_ok-piece-in-Right-clause-gives
 returns-in_ok-piece-in-Right-clause-gives g c =
     let book = book_of c.args.self.now.held in
-    let is : IsTrue g.D.Disk.tells → IsGroupOf book c.args.number c.in-Right.bytes c.in-Right.outline = λ told.
+    let is : IsTrue c.args.told.now.value → IsGroupOf book c.args.number c.in-Right.bytes c.in-Right.outline = λ told.
     subst (λ (k : KeptGroup). IsKeptGroup book c.args.number k) c.in-Right.is (c.in_ok-read.ensures.exact told) in
     let told : IsTold book.namespace c.args.number c.in-Right.bytes c.in-Right.outline =
     subst (λ (k : KeptGroup). IsSomeGroup book.namespace c.args.number k) c.in-Right.is c.in_ok-read.ensures.some in
     let front : HasFront book c.args.number c.in-Right.bytes c.in_ok-piece-in-Right.piece =
     subst (λ (b : Book). HasFront b c.args.number c.in-Right.bytes c.in_ok-piece-in-Right.piece) (ap book_of c.read_group.ensures.reads.held)
     c.in_ok-piece-in-Right.ensures in
-    piece_of g.D.Disk.tells book c.args.number c.in-Right.bytes c.in_ok-piece-in-Right.piece c.in-Right.outline told is front
+    piece_of c.args.told.now.value book c.args.number c.in-Right.bytes c.in_ok-piece-in-Right.piece c.in-Right.outline told is front
 
 pub returns-then-ne-clause-digests : goal.returns-then-ne-clause-digests
 returns-then-ne-clause-digests g c =

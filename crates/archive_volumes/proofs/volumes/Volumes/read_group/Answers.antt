@@ -1,4 +1,4 @@
-use Rattle.std.proofs.Common.{◌≡◌, ◌<◌, ◌+◌, ◌-◌, ◌≤◌, ℕ, IsTrue, List, Some, sym, ap, subst, ◌∙◌}
+use Rattle.std.proofs.Common.{◌≡◌, ◌<◌, ◌+◌, ◌-◌, ◌≤◌, ℕ, List, Some, sym, ap, subst, ◌∙◌}
 use Rattle.std.specs.Prelude.{length, slice_get}
 use Rattle.warc_journal.specs.Journals.{texts}
 use Rattle.archive_volumes.proofs.BringLaws.{reads_then, texts_stay}
@@ -11,23 +11,23 @@ use Rattle.archive_volumes.specs.declared.held.Held.{Held}
 use Rattle.archive_volumes.proofs.volumes.Volumes.read_group.Goals as goal
 
 pub read_part-requires-clause-there : goal.read_part-requires-clause-there
-read_part-requires-clause-there g c told =
+read_part-requires-clause-there g c tells =
     let old = c.args.self.now in
     let spot = c.index-spots-number.result in
     let here : slice_get c.args.spots.now c.args.number ≡ Some spot = got c.args.spots.now c.args.number spot c.requires.below c.index-spots-number.is in
-    let same = texts_stay g.D.Disk old c.group_end.new.self c.group_end.ensures.reads told in
+    let same = texts_stay g.D.Disk old c.group_end.new.self c.group_end.ensures.reads tells in
     subst (λ (all : List (List ℕ)). spot.volume < length all) (sym same)
-    (there (book_of old.held) (texts g.D.Disk old.journal) c.args.spots.now c.args.number (c.requires.placed told) spot here c.in_ok-end.end (c.in_ok-end.ensures.end told))
+    (there (texts g.D.Disk old.journal) c.args.spots.now c.args.number (c.requires.within tells) spot here)
 
 pub read_part-requires-clause-within : goal.read_part-requires-clause-within
-read_part-requires-clause-within g c told =
+read_part-requires-clause-within g c tells =
     let old = c.args.self.now in
     let spot = c.index-spots-number.result in
     let here : slice_get c.args.spots.now c.args.number ≡ Some spot = got c.args.spots.now c.args.number spot c.requires.below c.index-spots-number.is in
-    let same = texts_stay g.D.Disk old c.group_end.new.self c.group_end.ensures.reads told in
+    let same = texts_stay g.D.Disk old c.group_end.new.self c.group_end.ensures.reads tells in
     subst (λ (all : List (List ℕ)). spot.at + c.saturating_sub.result ≤ length (text_at all spot.volume)) (sym same)
     (subst (λ (long : ℕ). spot.at + long ≤ length (text_at (texts g.D.Disk old.journal) spot.volume)) (sym c.saturating_sub.ensures)
-    (within (book_of old.held) (texts g.D.Disk old.journal) c.args.spots.now c.args.number (c.requires.placed told) spot here c.in_ok-end.end (c.in_ok-end.ensures.end told)))
+    (within (texts g.D.Disk old.journal) c.args.spots.now c.args.number (c.requires.within tells) spot here c.in_ok-end.end (c.in_ok-end.ensures.within tells)))
 
 pub returns-clause-exact : goal.returns-clause-exact
 returns-clause-exact g c told =
@@ -36,9 +36,9 @@ returns-clause-exact g c told =
     let all = texts g.D.Disk old.journal in
     let here : slice_get c.args.spots.now c.args.number ≡ Some spot = got c.args.spots.now c.args.number spot c.requires.below c.index-spots-number.is in
     let held : c.read_part.new.self.held ≡ old.held = c.read_part.ensures.reads.held ∙ c.group_end.ensures.reads.held in
-    let same = texts_stay g.D.Disk old c.group_end.new.self c.group_end.ensures.reads told in
+    let same = texts_stay g.D.Disk old c.group_end.new.self c.group_end.ensures.reads (c.requires.holds.tells told) in
     let bytes : c.in_ok-bytes.bytes.items ≡ part (text_at all spot.volume) spot.at (c.in_ok-end.end - spot.at) =
-    c.in_ok-bytes.ensures.bytes told
+    c.in_ok-bytes.ensures.bytes (c.requires.holds.tells told)
     ∙ ap (λ (t : List (List ℕ)). part (text_at t spot.volume) spot.at c.saturating_sub.result) same
     ∙ ap (part (text_at all spot.volume) spot.at) c.saturating_sub.ensures in
     read_is (book_of old.held) all c.args.spots.now c.args.number (c.requires.placed told) spot here c.in_ok-end.end (c.in_ok-end.ensures.end told)

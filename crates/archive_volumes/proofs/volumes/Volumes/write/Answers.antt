@@ -4,9 +4,9 @@ use Rattle.warc_journal.specs.Journals.{disk_of}
 use Rattle.archive_shelf.specs.Storing.{with_capture, with_volume}
 use Rattle.archive_volumes.specs.Held.{book_of, stored_in}
 use Rattle.archive_volumes.specs.Writing.{Writes, with_prepared}
-use Rattle.archive_volumes.specs.Volumes.{Makes}
+use Rattle.archive_volumes.specs.Volumes.{Makes, muted}
 use Rattle.archive_volumes.specs.declared.room.Prepared.{Prepared}
-use Rattle.archive_volumes.proofs.ChangeLaws.{DiskLaws}
+use Rattle.archive_volumes.proofs.ChangeLaws.{DiskLaws, laws_muted}
 use Rattle.archive_volumes.proofs.StoreLaws.{stays_refused, writes_at, writes_behind, writes_none}
 use Rattle.archive_volumes.proofs.volumes.Volumes.write.Given.{Over}
 use Rattle.archive_volumes.proofs.volumes.Volumes.write.Goals as goal
@@ -21,10 +21,10 @@ returns-in_err-begin-in-Some-clause-writes g c =
     let old = disk_of c.args.self.now.journal in
     let new = disk_of c.begin.new.self.journal in
     let room : Book = with_volume book c.in-Some.prepared.shadow.born in
-    subst (λ (o : Option Prepared). Writes g.D.Disk old new book (with_prepared book o) (with_capture (with_prepared book o) (stored_in c.args.stored))
+    subst (λ (o : Option Prepared). Writes (muted c.args.told.now.value g.D.Disk) old new book (with_prepared book o) (with_capture (with_prepared book o) (stored_in c.args.stored))
     (book_of c.begin.new.self.held) c.from_residual.result) (sym c.in-Some.is)
-    (subst (λ (b : Book). Writes g.D.Disk old new book room (with_capture room (stored_in c.args.stored)) b c.from_residual.result) (sym c.in_err-begin-in-Some.ensures.book)
-    (writes_none g.D.Disk (disk_laws g) old new book room (with_capture room (stored_in c.args.stored)) c.in_err-begin-in-Some.field-0.0
+    (subst (λ (b : Book). Writes (muted c.args.told.now.value g.D.Disk) old new book room (with_capture room (stored_in c.args.stored)) b c.from_residual.result) (sym c.in_err-begin-in-Some.ensures.book)
+    (writes_none (muted c.args.told.now.value g.D.Disk) (laws_muted g.D.Disk c.args.told.now.value (disk_laws g)) old new book room (with_capture room (stored_in c.args.stored)) c.in_err-begin-in-Some.field-0.0
     c.from_residual.result c.from_residual.ensures.0 c.in_err-begin-in-Some.ensures.makes))
 
 pub returns-in_ok-begin-in-Some-clause-writes : goal.returns-in_ok-begin-in-Some-clause-writes
@@ -37,11 +37,11 @@ returns-in_ok-begin-in-Some-clause-writes g c =
     let after : Book = with_capture room (stored_in c.args.stored) in
     let now : Book = book_of c.add.new.self.held in
     let is_room : book_of c.begin.new.self.held ≡ room = c.in_ok-begin-in-Some.ensures.book in
-    subst (λ (o : Option Prepared). Writes g.D.Disk old new book (with_prepared book o) (with_capture (with_prepared book o) (stored_in c.args.stored))
+    subst (λ (o : Option Prepared). Writes (muted c.args.told.now.value g.D.Disk) old new book (with_prepared book o) (with_capture (with_prepared book o) (stored_in c.args.stored))
     now c.add.result) (sym c.in-Some.is)
-    (writes_behind g.D.Disk (disk_laws g) old mid new book after now c.in-Some.prepared.shadow.born c.in_ok-begin-in-Some.field-0 c.add.result
+    (writes_behind (muted c.args.told.now.value g.D.Disk) (laws_muted g.D.Disk c.args.told.now.value (disk_laws g)) old mid new book after now c.in-Some.prepared.shadow.born c.in_ok-begin-in-Some.field-0 c.add.result
     c.in_ok-begin-in-Some.ensures.makes
-    (subst (λ (b : Book). Makes g.D.Disk mid new b (with_capture b (stored_in c.args.stored)) c.add.result) is_room c.add.ensures.makes)
+    (subst (λ (b : Book). Makes (muted c.args.told.now.value g.D.Disk) mid new b (with_capture b (stored_in c.args.stored)) c.add.result) is_room c.add.ensures.makes)
     (subst (λ (b : Book). OnErr c.add.result (now ≡ b)) is_room
     (stays_refused c.add.result now (book_of c.begin.new.self.held) (with_capture (book_of c.begin.new.self.held) (stored_in c.args.stored)) c.add.ensures.book)))
 
@@ -51,7 +51,7 @@ returns-in-None-clause-writes g c =
     let old = disk_of c.args.self.now.journal in
     let new = disk_of c.add-in-None.new.self.journal in
     let now : Book = book_of c.add-in-None.new.self.held in
-    subst (λ (o : Option Prepared). Writes g.D.Disk old new book (with_prepared book o) (with_capture (with_prepared book o) (stored_in c.args.stored))
+    subst (λ (o : Option Prepared). Writes (muted c.args.told.now.value g.D.Disk) old new book (with_prepared book o) (with_capture (with_prepared book o) (stored_in c.args.stored))
     now c.add-in-None.result) (sym c.in-None.is)
-    (writes_at g.D.Disk (disk_laws g) old new book (with_capture book (stored_in c.args.stored)) now c.add-in-None.result c.add-in-None.ensures.makes
+    (writes_at (muted c.args.told.now.value g.D.Disk) (laws_muted g.D.Disk c.args.told.now.value (disk_laws g)) old new book (with_capture book (stored_in c.args.stored)) now c.add-in-None.result c.add-in-None.ensures.makes
     (stays_refused c.add-in-None.result now book (with_capture book (stored_in c.args.stored)) c.add-in-None.ensures.book))
