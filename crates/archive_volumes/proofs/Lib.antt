@@ -3,6 +3,7 @@ pub mod ChangeLaws
 pub mod ChooseLaws
 pub mod DecodeLaws
 pub mod DigestLaws
+mod EntryLaws
 pub mod FactsLaws
 mod GhostLaws
 pub mod GroupLaws

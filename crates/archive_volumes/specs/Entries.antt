@@ -17,6 +17,26 @@ pub record IsAskedOf (stored : Stored) (method uri : List ℕ) (date : ℕ) (rev
   pub date_is : stored.date ≡ date
   pub revisit_is : revisit ≡ is_same_form (form_of stored.kept)
 
+-- what an entry tells of a capture with this key and a head of these parts, whose record stands there
+abbrev pub told_facts : Stored → ResponseHead → RecordAt → List ℕ → Facts
+told_facts stored head at key = record {
+  key = key;
+  date = stored.date;
+  number = at.number;
+  uri = stored.uri;
+  mime = mime_by stored.kept (named_values head.fields);
+  status = status_code head;
+  digest = at.digest;
+  volume = at.volume;
+  offset = at.offset;
+  length = at.len;
+}
+
+-- an entry tells just that, or the target has no key
+abbrev pub IsToldAs : Stored → ResponseHead → RecordAt → Option Facts → Type 0
+IsToldAs stored head at (Some entry) = (key : List ℕ) × (key_of stored.uri ≡ Some key) × (entry ≡ told_facts stored head at key)
+IsToldAs stored head at None = key_of stored.uri ≡ None
+
 -- the entry tells of the capture, whose record stands there
 pub record IsEntryAt (stored : Stored) (head : ResponseHead) (at : RecordAt) (entry : Facts) : Type 0 where
   pub asked : stored.method ≡ codes "GET"

@@ -5,7 +5,7 @@ ghost use Rattle.cdxj_index.specs.OfBook.{mime_by};
 ghost use Rattle.http_head.specs.Heads.{HoldsResponseParts, named_value};
 ghost use Rattle.httparse.specs.Grammar as grammar;
 ghost use Rattle.time_text.specs.Texts.{InRange};
-ghost use Rattle.archive_volumes.specs.Entries.{EntersAs, IsAskedOf};
+ghost use Rattle.archive_volumes.specs.Entries.{EntersAs, IsAskedOf, IsToldAs};
 ghost use Rattle.capture.specs.Message.{IsResponseHeadText};
 ghost use Rattle.archive_volumes.specs.Held.{book_of, stored_in};
 ghost use Rattle.archive_volumes.specs.Ready.{record_in, room_of};
@@ -45,15 +45,15 @@ pub struct RecordAt {
 
 /// What an entry tells of a capture itself.
 #[derive(Clone, Copy, Debug)]
-struct Asked<'s> {
+pub struct Asked<'s> {
     /// The request's method.
-    method: &'s Text,
+    pub method: &'s Text,
     /// The target that the client sent, in absolute form.
-    uri: &'s Text,
+    pub uri: &'s Text,
     /// When it was fetched, in milliseconds since 1970.
-    date: u64,
+    pub date: u64,
     /// Whether another capture keeps its payload.
-    revisit: bool,
+    pub revisit: bool,
 }
 
 /// The entry of a capture; none where it isn't found by date, since it wasn't asked for by GET or its response is 304 (RFC
@@ -106,6 +106,21 @@ fn entry_by(
     if head.status == NOT_MODIFIED {
         return Ok(None);
     }
+    told_entry(alloc, asked, head, at)
+}
+
+/// The entry of a capture of which this is told, whether it is found by date or not; none where its target has no key.
+pub fn told_entry(
+    alloc: Global,
+    asked: &Asked,
+    head: &ResponseHead,
+    at: RecordAt,
+) -> Result<Option<Entry>, Memory>
+    requires date { InRange asked.now.date }
+    requires parsed { (text : List ℕ) × (h : grammar.ResponseHead) × HoldsResponseParts text h head.now }
+    ensures { (stored : Capture) (text : List ℕ) (h : grammar.ResponseHead) → IsAskedOf stored asked.now.method.now asked.now.uri.now asked.now.date asked.now.revisit
+        → HoldsResponseParts text h head.now → IfOk result (IsToldAs stored h at) }
+{
     let key = match key_of(alloc, asked.uri.as_slice()) {
         Ok(key) => key,
         Err(KeyFault::NotHttp) => return Ok(None),

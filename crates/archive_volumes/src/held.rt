@@ -55,7 +55,7 @@ impl Held {
     }
 
     /// When the volume with this number was begun.
-    pub(crate) fn born(&self, volume: u32) -> u64
+    pub fn born(&self, volume: u32) -> u64
         requires { volume < length (book_of self.now).volumes }
         ensures born { (v : Volume) → slice_get (book_of self.now).volumes volume ≡ Some v → result ≡ v.born }
         ensures in_range { InRange result }

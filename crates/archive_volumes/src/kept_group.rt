@@ -101,7 +101,7 @@ impl<D: Disk> Volumes<D> {
     }
 
     /// The length of a volume's text in bytes.
-    fn text_len(&mut self, volume: u32) -> Result<u64, ReadFault>
+    pub fn text_len(&mut self, volume: u32) -> Result<u64, ReadFault>
         requires in_step { IsTrue D.tells → IsInStep D.Disk self.old.journal }
         requires there { volume < volumes self.old.journal }
         ensures len { IsTrue D.tells → IfOk result (λ len. len ≡ length (text_at (texts D.Disk self.old.journal) volume)) }

@@ -20,7 +20,7 @@ mod volumes;
 mod write;
 
 pub use decode::{framing_behind, is_head};
-pub use entry::{RecordAt, entry_for, entry_of};
+pub use entry::{Asked, RecordAt, entry_for, entry_of, told_entry};
 pub use group::Layout;
 pub use held::{Held, Shadow};
 pub use kept_group::KeptGroup;

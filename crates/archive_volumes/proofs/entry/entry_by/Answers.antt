@@ -1,36 +1,7 @@
-use Rattle.std.proofs.Common.{rules, ◌≡◌, refl, sym, ap, ◌∙◌, arith}
-use Rattle.surt_key.specs.Key.{key_of}
-use Rattle.std.specs.Prelude.{Some}
-use Rattle.archive_volumes.proofs.StatusLaws.{status_to}
+use Rattle.std.proofs.Common.{rules, ◌∙◌}
+use Rattle.archive_volumes.proofs.EntryLaws.{enters}
 use Rattle.archive_volumes.proofs.entry.entry_by.Goals as goal
-
-pub invariant_of-result : goal.invariant_of-result
-invariant_of-result c =
-    let parsed = c.requires.parsed in
-    let uri : c.in_ok-copy.field-0 ≡ c.args.asked.now.uri.now = search rules in
-    let key : key_of c.args.asked.now.uri.now ≡ Some c.in-Ok.key = search rules in
-    record {
-      in_range = c.requires.date;
-      status_from = omega (arith, parsed.2.status, parsed.2.reads.status);
-      status_to = omega (arith, parsed.2.status, status_to parsed.0 parsed.1 parsed.2.reads);
-      keyed = ap key_of uri ∙ key;
-    }
 
 pub returns : goal.returns
 returns c = λ stored text h is of.
-    let uri : c.in_ok-copy.field-0 ≡ c.args.asked.now.uri.now = search rules in
-    let key : key_of c.args.asked.now.uri.now ≡ Some c.in-Ok.key = search rules in
-    record {
-      asked = is.method_is ∙ search rules;
-      told = λ e. absurd (search rules);
-      keyed = ap key_of is.uri_is ∙ key;
-      date = sym is.date_is;
-      number = refl;
-      uri = uri ∙ sym is.uri_is;
-      mime = c.in_ok-mime_of.ensures stored.kept text h is.revisit_is of;
-      status = of.status;
-      digest = refl;
-      volume = refl;
-      offset = refl;
-      len = refl;
-    }
+    enters stored h c.args.at c.told_entry.result (is.method_is ∙ search rules) (λ e. absurd (search rules)) (c.told_entry.ensures stored text h is of)
