@@ -1,0 +1,4 @@
+mod LineLaws
+mod LineOrder
+pub mod SortLaws
+mod WalkLaws

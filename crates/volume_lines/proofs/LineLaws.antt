@@ -1,0 +1,308 @@
+-- The line of a group of a book is that of its capture, and the next group begins where it ends.
+use Rattle.std.proofs.Common.{◌≡◌, ◌≢◌, ℕ, suc, ◌+◌, ◌<◌, ◌≤◌, Bool, List, [], ◌∷◌, ◌++◌, length, get_or, take, Option, Some, None, refl, sym, ap, subst, ◌∙◌, arith, append-nil, length-append}
+use Rattle.std.specs.Prelude.{is_some}
+use Rattle.std.proofs.lemmas.List.{get_or-take, length-take-le}
+use Rattle.std.proofs.lemmas.List.Folds.{length-flat_map-take}
+use Rattle.std.proofs.Math.Seq.{take-suc}
+use Rattle.std.proofs.lemmas.Grind.{flat_map-append}
+use Rattle.std.proofs.lemmas.List.Concat.{flat_map-cons}
+use Rattle.httparse.specs.Grammar.{ResponseHead}
+use Rattle.capture.specs.Captures.{first_number, is_cut, kept_wire, taken_back}
+use Rattle.capture.specs.Fields.{NamedValue, named_values}
+use Rattle.capture.specs.Message.{IsResponseHeadText}
+use Rattle.capture.specs.WellFormed.{RespondsTo}
+use Rattle.capture.specs.declared.book.Book.{Book}
+use Rattle.capture.specs.declared.captured.Kept.{Kept}
+use Rattle.capture.specs.declared.captured.Kept.TheVariants.{Wire, Same, Cut}
+use Rattle.capture.specs.declared.captured.Stored.{Stored}
+use Rattle.capture.specs.declared.captured.Taken.{Taken}
+use Rattle.capture.proofs.PayloadLaws.{captures_have_one}
+use Rattle.surt_key.specs.Key.{key_of}
+use Rattle.surt_key.specs.Targets.{TargetsHaveKeys}
+use Rattle.cdxj_line.specs.declared.line.Line.{Line}
+use Rattle.cdxj_index.specs.OfBook.{IsBefore, IsEntryOf, mime_by}
+use Rattle.cdxj_index.specs.Facts.{Facts}
+use Rattle.cdxj_index.specs.OfLine.{facts_of, line_at}
+use Rattle.warc_scan.specs.Groups.{IsAnswer, IsGroup, reference_in}
+use Rattle.warc_scan.specs.Outlines.{IsOutlineOf}
+use Rattle.warc_scan.specs.declared.group.Group.{Group}
+use Rattle.warc_scan.specs.declared.group.Revisited.{Revisited}
+use Rattle.warc_scan.specs.declared.outline.Outline.{Outline}
+use Rattle.warc_text.proofs.OneTextLaws.{one_group}
+use Rattle.warc_text.proofs.EqualLaws.{equal_groups_are_of_equal_captures}
+use Rattle.warc_text.specs.Books.{IsGroupText, IsVolumeText, RefersBy, joined}
+use Rattle.warc_text.specs.Growth.{NumbersHaveOneGroup}
+use Rattle.warc_text.specs.Groups.{AreOfEqualCaptures, AreOneCapture, HasMessages}
+use Rattle.warc_text.specs.Ids.{id_of}
+use Rattle.warc_text.specs.Records.{answer_text, info_text}
+use Rattle.warc_text.specs.References.{Reference, reference_of}
+use Rattle.warc_text.specs.Sound.{IsSound}
+use Rattle.warc_text.specs.declared.id.IdKind.TheVariants as ids
+use Rattle.warc_text.specs.declared.same_of.SameOf.{SameOf}
+use Rattle.volume_scan.proofs.FoundGroups.{as_found, group_found, group_is_found, kept_found, revisited_of}
+use Rattle.volume_scan.proofs.FoundTexts.{found_writable}
+use Rattle.archive_volumes.specs.Entries.{IsAskedOf, IsToldAs, told_facts}
+use Rattle.archive_volumes.specs.declared.entry.RecordAt.{RecordAt}
+use Rattle.archive_volumes.specs.Spots.{form_of, is_same_form}
+use Rattle.checkpoint.specs.OfVolume.{IsLineOf}
+use Rattle.volume_lines.specs.OfGroups.{GoesOnBy, IsLineAt, front_of, record_at}
+
+-- ---- whether a capture is a revisit
+
+-- what is kept goes with what is referred to
+abbrev Goes : Option Reference → Kept → Type 0
+Goes same (Wire wire) = same ≡ None
+Goes same (Same number) = same ≢ None
+Goes same (Cut wire) = same ≡ None
+
+some_isnt : (r : Reference) → Some r ≡ None → ⊥
+some_isnt r e = cc
+
+goes_by_answer : (method head digest : List ℕ) (same : Option Reference) (kept : Kept) → IsAnswer method head digest same kept → Goes same kept
+goes_by_answer method head digest same (Wire wire) is = is.0
+goes_by_answer method head digest same (Same number) is = λ none. some_isnt is.1.reference (sym is.1.refers ∙ none)
+goes_by_answer method head digest same (Cut wire) is = is.0
+
+goes_by_reference : (book : Book) (kept : Kept) (same : Option SameOf) → RefersBy book kept same → Goes (reference_of book.namespace same) (kept_found kept)
+goes_by_reference book (Wire wire) same is = ap (reference_of book.namespace) is
+goes_by_reference book (Same first) same is = λ none. cc
+goes_by_reference book (Cut wire) same is = ap (reference_of book.namespace) is
+
+one_taken : (a b : Stored) (same : Option Reference) (ka kb : Kept)
+    → AreOneCapture same (taken_back (record a { kept = ka })) (taken_back (record b { kept = kb })) → Goes same ka → Goes same kb
+    → taken_back (record a { kept = ka }) ≡ taken_back (record b { kept = kb })
+one_taken a b None ka kb is goes goes₂ = is
+one_taken a b (Some r) (Wire wire) kb is goes goes₂ = absurd (some_isnt r goes)
+one_taken a b (Some r) (Cut wire) kb is goes goes₂ = absurd (some_isnt r goes)
+one_taken a b (Some r) (Same n) (Wire wire) is goes goes₂ = absurd (some_isnt r goes₂)
+one_taken a b (Some r) (Same n) (Cut wire) is goes goes₂ = absurd (some_isnt r goes₂)
+one_taken a b (Some r) (Same n) (Same m) is goes goes₂ = is
+
+pub revisit_by : (same : Option Reference) (kept : Kept) → Goes same kept → is_some same ≡ is_same_form (form_of kept)
+revisit_by None (Wire wire) goes = refl
+revisit_by (Some r) (Wire wire) goes = absurd (some_isnt r goes)
+revisit_by None (Same n) goes = absurd (goes refl)
+revisit_by (Some r) (Same n) goes = refl
+revisit_by None (Cut wire) goes = refl
+revisit_by (Some r) (Cut wire) goes = absurd (some_isnt r goes)
+
+mime_same : (same : Option Reference) (a b : Kept) (fields : List NamedValue) → Goes same a → Goes same (kept_found b) → mime_by a fields ≡ mime_by b fields
+mime_same same (Wire v) (Wire w) fields goes goes₂ = refl
+mime_same same (Wire v) (Same n) fields goes goes₂ = absurd (goes₂ goes)
+mime_same same (Wire v) (Cut w) fields goes goes₂ = refl
+mime_same same (Same n) (Wire w) fields goes goes₂ = absurd (goes goes₂)
+mime_same same (Same n) (Same m) fields goes goes₂ = refl
+mime_same same (Same n) (Cut w) fields goes goes₂ = absurd (goes goes₂)
+mime_same same (Cut v) (Wire w) fields goes goes₂ = refl
+mime_same same (Cut v) (Same n) fields goes goes₂ = absurd (goes₂ goes)
+mime_same same (Cut v) (Cut w) fields goes goes₂ = refl
+
+-- what is found of a book's capture is that capture
+reference_found : (namespace : List ℕ) (same : Option SameOf) → reference_in (revisited_of namespace same) ≡ reference_of namespace same
+reference_found namespace None = refl
+reference_found namespace (Some s) = refl
+
+taken_by : (stored : Stored) (kept : Kept) → taken_back (record stored { kept = kept_found kept }) ≡ taken_back (record stored { kept = kept })
+taken_by stored (Wire wire) = refl
+taken_by stored (Same number) = refl
+taken_by stored (Cut wire) = refl
+
+taken_found : (stored : Stored) → taken_back (as_found stored) ≡ taken_back stored
+taken_found stored = taken_by stored stored.kept
+
+-- ---- the messages of a group
+
+responds_by : (method head digest : List ℕ) (same : Option Reference) (kept : Kept) → IsAnswer method head digest same kept
+    → same ≡ None → RespondsTo (is_cut kept) method head (kept_wire kept)
+responds_by method head digest same (Wire wire) is none = is.1.responds
+responds_by method head digest same (Same number) is none = absurd (some_isnt is.1.reference (sym is.1.refers ∙ none))
+responds_by method head digest same (Cut wire) is none = is.1.responds
+
+messages : (namespace : List ℕ) (number : ℕ) (text : List ℕ) (group : Group) → IsGroup namespace number text group
+    → HasMessages (taken_back group.stored) (reference_in group.same)
+messages namespace number text group is = record {
+  request = is.request;
+  response = responds_by group.stored.method group.stored.head group.digest (reference_in group.same) group.stored.kept is.answer;
+}
+
+-- ---- the group of a book's capture
+
+module _ (book : Book) (sound : IsSound book) (number : ℕ) (bytes : List ℕ) (g : IsGroupText book number bytes) (group : Group)
+    (is : IsGroup book.namespace number bytes group) where
+  abbrev found : Group
+  found = group_found book sound number bytes g is.short
+
+  found_is : IsGroup book.namespace number bytes found
+  found_is = group_is_found book sound number bytes g is.short
+
+  equal : AreOfEqualCaptures (taken_back group.stored) (taken_back found.stored) group.digest found.digest (reference_in group.same) (reference_in found.same)
+  equal = equal_groups_are_of_equal_captures book.namespace number (taken_back group.stored) (taken_back found.stored) group.digest found.digest
+      (reference_in group.same) (reference_in found.same) (found_writable book.namespace number bytes group is)
+      (found_writable book.namespace number bytes found found_is) (messages book.namespace number bytes group is)
+      (messages book.namespace number bytes found found_is) (sym is.composed ∙ found_is.composed)
+
+  refers : reference_in group.same ≡ reference_of book.namespace g.same
+  refers = equal.refers ∙ reference_found book.namespace g.same
+
+  goes : Goes (reference_in group.same) group.stored.kept
+  goes = goes_by_answer group.stored.method group.stored.head group.digest (reference_in group.same) group.stored.kept is.answer
+
+  goes_in_book : Goes (reference_in group.same) (kept_found g.stored.kept)
+  goes_in_book = subst (λ (s : Option Reference). Goes s (kept_found g.stored.kept)) (sym refers) (goes_by_reference book g.stored.kept g.same g.refers)
+
+  taken : taken_back group.stored ≡ taken_back g.stored
+  taken = one_taken group.stored g.stored (reference_in group.same) group.stored.kept (kept_found g.stored.kept) equal.captures goes goes_in_book
+      ∙ taken_found g.stored
+
+  abbrev Place : ℕ → ℕ → ℕ → List ℕ → Type 0
+  Place k at place before = (number ≡ first_number book k + place) × IsBefore book k place before × (at ≡ length before)
+
+  entry : (k at place : ℕ) (before : List ℕ) → Place k at place before → (head : ResponseHead) → IsResponseHeadText group.stored.head head
+      → (key : List ℕ) → key_of group.stored.uri ≡ Some key → IsEntryOf book number (told_facts group.stored head (record_at group k at) key)
+  entry k at place before there head parsed key keyed = record {
+    text = bytes;
+    group = g;
+    head = head;
+    parsed = subst (λ (h : List ℕ). IsResponseHeadText h head) (ap (λ (t : Taken). t.head) taken) parsed;
+    keyed = ap key_of (sym (ap (λ (t : Taken). t.uri) taken)) ∙ keyed;
+    date_is = ap (λ (t : Taken). t.date) taken;
+    number_is = is.number_is;
+    uri_is = ap (λ (t : Taken). t.uri) taken;
+    mime_is = mime_same (reference_in group.same) group.stored.kept g.stored.kept (named_values head.fields) goes goes_in_book;
+    status_is = refl;
+    digest_is = equal.payload_digest;
+    place = place;
+    before = before;
+    numbered = there.0;
+    behind = there.1;
+    offset_is = there.2;
+    length_is = is.places.first_len
+        ∙ (λ i. length (answer_text (id_of book.namespace ids.Response number) (taken i) (equal.payload_digest i) (refers i)));
+  }
+
+  pub line_is_of : (k at place : ℕ) (before : List ℕ) → Place k at place before → (line : Line) → IsLineAt group k at line → IsLineOf book number line
+  line_is_of k at place before there line at_line = record {
+    stored = g.stored;
+    placed = g.placed;
+    entry = subst (λ (l : Line). IsEntryOf book number (facts_of l)) (sym at_line.is)
+        (entry k at place before there at_line.head at_line.parsed at_line.key at_line.keyed);
+    method_is = ap (λ (l : Line). l.method) at_line.is ∙ ap (λ (t : Taken). t.method) taken;
+  }
+
+-- ---- where a volume's text has come to
+
+module _ {book : Book} {k : ℕ} {text : List ℕ} (is : IsVolumeText book k text) (place : ℕ) (within : place < length is.groups) where
+  abbrev own : List ℕ
+  own = get_or is.groups place []
+
+  before : IsBefore book k place (front_of is place)
+  before = record {
+    volume = is.volume;
+    groups = take place is.groups;
+    placed = is.placed;
+    within = omega (arith, within, is.count);
+    count = length-take-le place is.groups (omega (arith, within));
+    each = λ j less.
+        let below : j < place = omega (arith, less, length-take-le place is.groups (omega (arith, within))) in
+        subst (IsGroupText book (first_number book k + j)) (sym (get_or-take place is.groups j [] below)) (is.each j (omega (arith, below, within)));
+    composed = refl;
+  }
+
+  longer : length (front_of is (suc place)) ≡ length (front_of is place) + length own
+  longer =
+      let more : joined (take (suc place) is.groups) ≡ joined (take place is.groups) ++ own =
+      ap joined (take-suc is.groups place [] within) ∙ flat_map-append (λ (t : List ℕ). t) (take place is.groups) (own ∷ [])
+      ∙ ap (λ (t : List ℕ). joined (take place is.groups) ++ t) (flat_map-cons (λ (t : List ℕ). t) own [] ∙ append-nil own) in
+      omega (
+        arith,
+        length-append (info_text book.namespace k is.volume.born) (joined (take (suc place) is.groups)),
+        length-append (info_text book.namespace k is.volume.born) (joined (take place is.groups)),
+        ap length more,
+        length-append (joined (take place is.groups)) own,
+      )
+
+  fits : length (front_of is place) + length own ≤ length text
+  fits = omega (
+    arith,
+    ap length is.composed,
+    length-append (info_text book.namespace k is.volume.born) (joined is.groups),
+    length-append (info_text book.namespace k is.volume.born) (joined (take place is.groups)),
+    length-flat_map-take (λ (t : List ℕ). t) is.groups place [] within,
+  )
+
+-- ---- what is read of it
+
+-- a number has one group
+pub one : NumbersHaveOneGroup
+one = one_group captures_have_one
+
+-- where the group of a place was read, the line is its capture's, and the text has come to the next place
+pub goes_on : {book : Book} {k : ℕ} {text : List ℕ} (is : IsVolumeText book k text) → IsSound book → (place at number : ℕ)
+    → place < length is.groups → number ≡ first_number book k + place → at ≡ length (front_of is place)
+    → (bytes : List ℕ) → IsGroupText book number bytes → (group : Group) → IsGroup book.namespace number bytes group
+    → (line : Line) → IsLineAt group k at line → (len : ℕ) → len ≡ group.len → GoesOnBy is place line (at + len)
+goes_on {book} {k} is sound place at number within number_is here bytes g group found line at_line len len_is =
+    let own : IsGroupText book number (own is place within) =
+    subst (λ (n : ℕ). IsGroupText book n (get_or is.groups place [])) (sym number_is) (is.each place within) in
+    let same : bytes ≡ get_or is.groups place [] = (one book number bytes (get_or is.groups place []) g own).texts in
+    record {
+      line_is = subst (λ (n : ℕ). IsLineOf book n line) number_is
+          (line_is_of book sound number bytes g group found k at place (front_of is place) (number_is, before is place within, here) line at_line);
+      ends = omega (arith, here, len_is, found.places.len, ap length same, longer is place within);
+    }
+
+-- and its group ends with the text at the latest
+pub ends_within : {book : Book} {k : ℕ} {text : List ℕ} (is : IsVolumeText book k text) → (place at number : ℕ)
+    → place < length is.groups → number ≡ first_number book k + place → at ≡ length (front_of is place)
+    → (bytes : List ℕ) → IsGroupText book number bytes → at + length bytes ≤ length text
+ends_within {book} {k} is place at number within number_is here bytes g =
+    let own : IsGroupText book number (own is place within) =
+    subst (λ (n : ℕ). IsGroupText book n (get_or is.groups place [])) (sym number_is) (is.each place within) in
+    omega (arith, here, ap length (one book number bytes (get_or is.groups place []) g own).texts, fits is place within)
+
+-- the target of a group has a key
+pub has_key : TargetsHaveKeys → (namespace : List ℕ) (number : ℕ) (bytes : List ℕ) (group : Group) → IsGroup namespace number bytes group
+    → key_of group.stored.uri ≡ None → ⊥
+has_key keys namespace number bytes group is none = keys group.stored.uri is.target none
+
+-- ---- a line, by its entry
+
+-- this is told of the group's capture
+pub asked_of : (namespace : List ℕ) (number : ℕ) (bytes : List ℕ) (group : Group) → IsGroup namespace number bytes group
+    → (outline : Outline) → IsOutlineOf group outline → (revisit : Bool) → revisit ≡ is_some outline.same
+    → IsAskedOf group.stored outline.method outline.uri outline.date revisit
+asked_of namespace number bytes group is outline of revisit some = record {
+  method_is = sym of.method_is;
+  uri_is = sym of.uri_is;
+  date_is = sym of.date_is;
+  revisit_is = some ∙ ap is_some of.same_is ∙ some_in group.same
+      ∙ revisit_by (reference_in group.same) group.stored.kept
+      (goes_by_answer group.stored.method group.stored.head group.digest (reference_in group.same) group.stored.kept is.answer);
+}
+  where
+    some_in : (same : Option Revisited) → is_some same ≡ is_some (reference_in same)
+    some_in None = refl
+    some_in (Some r) = refl
+
+-- its record stands there
+pub record_of_outline : (group : Group) (outline : Outline) → IsOutlineOf group outline → (volume at : ℕ)
+    → record { number = outline.number; digest = outline.digest; volume = volume; offset = at; len = outline.first_len } ≡ record_at group volume at
+record_of_outline group outline of volume at i = record {
+  number = of.number_is i;
+  digest = of.digest_is i;
+  volume = volume;
+  offset = at;
+  len = of.first_len_is i;
+}
+
+-- the line of an entry that tells of the group's capture
+pub line_at_group : (group : Group) (volume at : ℕ) (head : ResponseHead) → IsResponseHeadText group.stored.head head → (method : List ℕ)
+    → method ≡ group.stored.method → (at_record : RecordAt) → at_record ≡ record_at group volume at → (told_of : Facts)
+    → IsToldAs group.stored head at_record (Some told_of) → (line : Line) → line ≡ line_at told_of method → IsLineAt group volume at line
+line_at_group group volume at head parsed method method_is at_record record_is told_of told line line_is = record {
+  head = head;
+  parsed = parsed;
+  key = told.0;
+  keyed = told.1;
+  is = line_is ∙ (λ i. line_at ((told.2 ∙ ap (λ (r : RecordAt). told_facts group.stored head r told.0) record_is) i) (method_is i));
+}
