@@ -4,3 +4,6 @@ pub mod CommitLaws
 pub mod ReadLaws
 pub mod StoreLaws
 pub mod OwnLaws
+pub mod Moving
+pub mod PassLaws
+pub mod FittingLaws

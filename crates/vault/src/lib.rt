@@ -8,6 +8,8 @@ mod keeping;
 mod laws;
 mod noted;
 mod noting;
+#[cfg(test)]
+mod tests;
 mod vault;
 
 pub use laws::own_entries_stay;

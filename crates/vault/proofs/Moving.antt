@@ -1,0 +1,33 @@
+-- What lies behind a vault's lock may move between threads where its disk may.
+use denote.RattleType.{RattleType}
+use denote.Param.Send.{IsSend, sendable}
+use Rattle.std.proofs.Crossing.{crosses}
+use Rattle.disk_model.specs.declared.disk.Disk.{Ghosts}
+use Rattle.cdxj_index.proofs.index.Index.TheSendSync as index
+use Rattle.revisit_table.proofs.digests.Digests.TheSendSync as digests
+use Rattle.warc_journal.proofs.journal.Journal.TheSendSync as journal
+use Rattle.archive_volumes.proofs.spot.Spot.TheSendSync as spot
+use Rattle.archive_volumes.specs.contracts.held.Held as held
+use Rattle.archive_volumes.specs.contracts.held.Shadow as shadow
+use Rattle.archive_volumes.specs.contracts.stored_ghost.StoredGhost as stored
+use Rattle.archive_volumes.specs.contracts.volumes.Volumes as volumes
+use Rattle.archive_core.specs.contracts.archive.Archive as archive
+use Rattle.vault.specs.contracts.keeping.Keeping as keeping
+
+pub stored_send : IsSend stored.the_row
+stored_send = search (sendable, crosses) depth 40
+
+pub shadow_send : IsSend shadow.the_row
+shadow_send = let a = stored_send in search (sendable, crosses) depth 40
+
+pub held_send : IsSend held.the_row
+held_send = let a = shadow_send in search (sendable, crosses) depth 40
+
+pub volumes_send : (D : RattleType) → IsSend D → IsSend (volumes.the_row D)
+volumes_send D s = let a = held_send in let j = journal.the_send D s in search (sendable, crosses) depth 40
+
+pub archive_send : (D : RattleType) (g : Ghosts D.Denot) → IsSend D → IsSend (archive.the_row D g)
+archive_send D g s = let a = volumes_send D s in let i = index.the_send in let t = digests.the_send in let p = spot.the_send in search (sendable, crosses) depth 40
+
+pub keeping_send : (D : RattleType) (g : Ghosts D.Denot) → IsSend D → IsSend (keeping.the_row D g)
+keeping_send D g s = let a = archive_send D g s in search (sendable, crosses) depth 40

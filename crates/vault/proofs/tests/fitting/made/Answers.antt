@@ -1,0 +1,9 @@
+use Rattle.std.proofs.Common.{sym, subst}
+use Rattle.warc_text.specs.Fits.{Fits}
+use Rattle.vault.proofs.FittingLaws.{fits_so}
+use Rattle.vault.proofs.tests.fitting.made.Goals as goal
+
+pub returns : goal.returns
+returns c = subst Fits (sym c.in_ok-taken.ensures)
+    (fits_so c.args.asked.now c.args.answered.now c.args.uri c.args.request.now c.args.head.now c.requires.request c.requires.response
+    c.requires.status c.requires.framing c.requires.accepted c.requires.short_uri c.requires.short_request c.requires.short_head)
