@@ -74,10 +74,11 @@ module _ (book : Book) (number : ℕ) (spot : Spot) (is : IsSpotOf book number s
     own_names (Err brings.Memory) by = tt
 
     pub own_digests : (result : Result Brought BringFault) → GoesByOwn number spot.digest result → GoesByDigest book number result
-    own_digests (Ok brought) by = subst (λ (d : List ℕ). HasDigestOf book number d) (sym by) has_own
+    own_digests (Ok brought) by = λ read. subst (λ (d : List ℕ). HasDigestOf book number d) (sym by) has_own
     own_digests (Err (brings.NoSuch count)) by = tt
     own_digests (Err brings.DiskFault) by = tt
-    own_digests (Err (brings.Damaged at kept found)) by = subst (λ (d : List ℕ). HasDigestOf book number d) (sym by.1) has_own
+    own_digests (Err (brings.Damaged at kept found)) by =
+        λ read. subst (λ (d : List ℕ). HasDigestOf book number d) (sym by.1) has_own
     own_digests (Err brings.Memory) by = tt
 
 module _ (book : Book) (number : ℕ) (spot : Spot) (is : IsSpotOf book number spot) where
@@ -128,10 +129,11 @@ module _ (book : Book) (number : ℕ) (spot : Spot) (is : IsSpotOf book number s
           }
 
       pub same_digests : (result : Result Brought BringFault) → GoesByKeeper number first keeper.digest result → GoesByDigest book number result
-      same_digests (Ok brought) by = subst (λ (d : List ℕ). HasDigestOf book number d) (sym by) has_same
+      same_digests (Ok brought) by = λ read. subst (λ (d : List ℕ). HasDigestOf book number d) (sym by) has_same
       same_digests (Err (brings.NoSuch count)) by = tt
       same_digests (Err brings.DiskFault) by = tt
-      same_digests (Err (brings.Damaged at kept found)) by = subst (λ (d : List ℕ). HasDigestOf book number d) (sym by.1) has_same
+      same_digests (Err (brings.Damaged at kept found)) by =
+          λ read. subst (λ (d : List ℕ). HasDigestOf book number d) (sym by.1) has_same
       same_digests (Err brings.Memory) by = tt
 
   -- ---- a piece

@@ -45,7 +45,7 @@ returns-then-ne-clause-digests g c =
     let spot = c.index-spots-number.result in
     let its = spot_at book c.args.spots.now c.args.number spot c.requires.below c.index-spots-number.is c.requires.spots in
     subst (λ (kept : Spot). PieceGoesByDigest book c.args.number (Err (brings.Damaged c.args.number kept.digest (Some c.in-Right.outline.digest))))
-    c.index-spots-number.is (keeper_digest book c.args.number spot its)
+    c.index-spots-number.is (λ asked. keeper_digest book c.args.number spot its)
 
 pub returns-in-Damaged-clause-digests : goal.returns-in-Damaged-clause-digests
 returns-in-Damaged-clause-digests g c =
@@ -53,7 +53,7 @@ returns-in-Damaged-clause-digests g c =
     let spot = c.index-spots-number.result in
     let its = spot_at book c.args.spots.now c.args.number spot c.requires.below c.index-spots-number.is c.requires.spots in
     subst (λ (kept : Spot). PieceGoesByDigest book c.args.number (Err (brings.Damaged c.args.number kept.digest None)))
-    c.index-spots-number.is (keeper_digest book c.args.number spot its)
+    c.index-spots-number.is (λ asked. keeper_digest book c.args.number spot its)
 
 pub returns-in_ok-piece-in-Right-clause-digests : goal.returns-in_ok-piece-in-Right-clause-digests
 returns-in_ok-piece-in-Right-clause-digests g c =
@@ -66,5 +66,5 @@ returns-in_ok-piece-in-Right-clause-digests g c =
     let front : HasFront book c.args.number c.in-Right.bytes c.in_ok-piece-in-Right.piece =
     subst (λ (b : Book). HasFront b c.args.number c.in-Right.bytes c.in_ok-piece-in-Right.piece) (ap book_of c.read_group.ensures.reads.held)
     c.in_ok-piece-in-Right.ensures in
-    piece_by_digest book c.args.number spot its c.in-Right.bytes c.in_ok-piece-in-Right.piece c.in-Right.outline told front
+    λ asked. piece_by_digest book c.args.number spot its c.in-Right.bytes c.in_ok-piece-in-Right.piece c.in-Right.outline told front
     (alike c.in-Right.outline.digest spot.digest c.ne.result c.ne.ensures c.if-ne.false)
