@@ -1,5 +1,5 @@
 -- What is shown of an archive, and an archive whose disk has a fuse.
-use Rattle.std.proofs.Common.{◌≡◌, ℕ, Bool, IsTrue, List, Option, Some, None, Result, Ok, Err, sym}
+use Rattle.std.proofs.Common.{◌≡◌, ℕ, IsTrue, List, Option, Some, None, Result, Ok, Err, sym}
 use Rattle.std.specs.Prelude.{Contains, IfNone, IfSome, OnOk}
 use Rattle.capture.specs.declared.book.Book.{Book}
 use Rattle.cdxj_index.proofs.Entries.{with_number-none, with_number-some}
@@ -26,7 +26,7 @@ entries_shown book index is of_book = record {
   };
 }
 
-pub shows_entries : {D : Type 0} (d : Ghosts D) (held : Holdings D) → IsArchive d held → IsTrue d.tells
+pub shows_entries : {D : Type 0} (d : Ghosts D) (held : Holdings D) → IsArchive d held → IsTrue held.told
     → AreEntries held.book (numbered held.index)
 shows_entries d held is told = entries_shown held.book held.index is.indexed (is.known told)
 
@@ -36,9 +36,9 @@ on_each_ok (Err error) P p = tt
 
 -- ---- the entry of a number
 
-module _ {D : Type 0} (tells : Bool) (held : Holdings D) (number : ℕ) where
+module _ {D : Type 0} (held : Holdings D) (number : ℕ) where
   pub entry_shown : (found : Option Facts) → found ≡ with_number number held.index
-      → IfSome found (λ entry. Contains (contents_of tells held).shown entry)
+      → IfSome found (λ entry. Contains (contents_of held).shown entry)
   entry_shown None is = tt
   entry_shown (Some entry) is =
       shown_all held.index entry (contains_from_among held.index entry (with_number-some number held.index entry (sym is)).0)
@@ -47,7 +47,7 @@ module _ {D : Type 0} (tells : Bool) (held : Holdings D) (number : ℕ) where
   entry_number None is = tt
   entry_number (Some entry) is = (with_number-some number held.index entry (sym is)).1
 
-  pub no_entry_shown : (found : Option Facts) → found ≡ with_number number held.index → IfNone found (ShowsNone (contents_of tells held) number)
+  pub no_entry_shown : (found : Option Facts) → found ≡ with_number number held.index → IfNone found (ShowsNone (contents_of held) number)
   no_entry_shown (Some entry) is = tt
   no_entry_shown None is = λ other shown same.
       with_number-none number held.index (sym is) other (among_from_contains held.index other (shown_from held.index other shown)) same

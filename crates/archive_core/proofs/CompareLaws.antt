@@ -49,10 +49,10 @@ looks_by now payload (Err stores.Memory) not_full looks = tt
 
 -- it wasn't full before the call that looked
 pub looks_after : {D : Type 0} (d : Ghosts D) (was is : Holdings D) (payload : List ℕ) (answer : Result Looked StoreFault) → OnlyLooks d was is
-    → IsNotFull (contents_of d.tells was) was.book → LooksOn d.tells is.book payload answer → Looks (contents_of d.tells is) payload answer
+    → IsNotFull (contents_of was) was.book → LooksOn is.told is.book payload answer → Looks (contents_of is) payload answer
 looks_after {D} d was is payload answer only not_full looks =
-    looks_by (contents_of d.tells is) payload answer
-    (subst (λ (held : Holdings D). IsNotFull (contents_of d.tells held) held.book) (sym only.others) not_full) looks
+    looks_by (contents_of is) payload answer
+    (subst (λ (held : Holdings D). IsNotFull (contents_of held) held.book) (sym only.others) not_full) looks
 
 -- nothing is promised of an answer that a `?` hands out
 pub on_no_ok : (fault : StoreFault) (answer : Result Looked StoreFault) (P : Type 0) → IsErrAnd answer (λ other. other ≡ fault) → OnOk answer P

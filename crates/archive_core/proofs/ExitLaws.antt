@@ -45,16 +45,17 @@ use Rattle.archive_core.specs.Holdings.{AreLimits, Holdings, IsArchive, contents
 use Rattle.archive_core.specs.Looking.{IsDigestOf, RefersTo}
 use Rattle.archive_volumes.specs.Ready.{CanCommit, Incoming, IsReady, record_in}
 use Rattle.archive_core.specs.Shown.{numbered, numbers_from}
-use Rattle.archive_volumes.specs.Spots.{ArePlaced, AreSpotsOf, text_at, whole_from}
+use Rattle.archive_volumes.specs.Spots.{ArePlaced, AreSpotsOf, AreWithin, text_at, whole_from}
 use Rattle.archive_core.specs.Stores.{FillsVolumes, Stores}
+use Rattle.archive_core.specs.Told.{told_of}
 use Rattle.archive_volumes.specs.Writing.{HasRoomFor, IsWay, TakesSo, Writes, end_with, texts_with, with_prepared}
-use Rattle.archive_volumes.specs.Volumes.{HoldsBook, IsMeasured, crash_of}
+use Rattle.archive_volumes.specs.Volumes.{HoldsBook, IsMeasured, crash_of, muted}
 use Rattle.archive_volumes.specs.declared.entry.RecordAt.{RecordAt}
 use Rattle.archive_volumes.specs.declared.room.Prepared.{Prepared}
 use Rattle.archive_volumes.specs.declared.ready.Ready.{Ready}
 use Rattle.archive_volumes.specs.declared.spot.Spot.{Spot}
 use Rattle.archive_volumes.specs.declared.volumes.Volumes.{Volumes}
-use Rattle.archive_volumes.proofs.ChangeLaws.{DiskLaws}
+use Rattle.archive_volumes.proofs.ChangeLaws.{DiskLaws, laws_muted}
 use Rattle.archive_core.proofs.EnterLaws.{TellsOfCapture, known_left, known_room, known_with, known_without, tells_of_new}
 use Rattle.archive_core.proofs.FillLaws.{fills_by}
 use Rattle.archive_core.proofs.PayloadLaws.{has_one, one_payload}
@@ -68,12 +69,14 @@ use Rattle.archive_volumes.proofs.WayLaws.{by_rule, group_with, needed_by, room_
 -- ---- without memory: all is as it was, but for what is reserved
 
 module _ {D : Type 0} (d : Ghosts D) (was is : Holdings D) (journal_is : is.journal ≡ was.journal) (book_is : is.book ≡ was.book)
-    (index_is : is.index ≡ was.index) (limits_is : is.limits ≡ was.limits) (found_is : is.found ≡ was.found) where
+    (index_is : is.index ≡ was.index) (limits_is : is.limits ≡ was.limits) (found_is : is.found ≡ was.found)
+    (told_is : is.told ≡ was.told) where
   pub memory_archive : IsArchive d was → is.spots ≡ was.spots → is.table.kept ≡ was.table.kept → is.revisits ≡ was.revisits → IsArchive d is
   memory_archive archive spots_are kept revisits_are =
       let count : length (captures is.book) ≡ length (captures was.book) = ap (λ (b : Book). length (captures b)) book_is in
       record {
-        holds = subst (λ (b : Book). HoldsBook d d.tells is.journal b) (sym book_is) (subst (λ (j : Journal D). HoldsBook d d.tells j was.book) (sym journal_is) archive.holds);
+        holds = subst (λ (t : Bool). HoldsBook d t is.journal is.book) (sym told_is) (subst (λ (b : Book). HoldsBook d was.told is.journal b) (sym book_is)
+            (subst (λ (j : Journal D). HoldsBook d was.told j was.book) (sym journal_is) archive.holds));
         measured = subst (λ (b : Book). IsMeasured is.journal b) (sym book_is) (subst (λ (j : Journal D). IsMeasured j was.book) (sym journal_is) archive.measured);
         counted = record {
           few = omega (arith, count, archive.counted.few);
@@ -86,11 +89,17 @@ module _ {D : Type 0} (d : Ghosts D) (was is : Holdings D) (journal_is : is.jour
         spots = subst (λ (l : List Spot). AreSpotsOf is.book l) (sym spots_are) (subst (λ (b : Book). AreSpotsOf b was.spots) (sym book_is) archive.spots);
         table = kept ∙ archive.table ∙ sym (ap (λ (l : List Spot). whole_from 0 l) spots_are);
         indexed = subst IsIndex (sym index_is) archive.indexed;
+        within = λ tells. subst (λ (l : List Spot). AreWithin (texts d is.journal) l) (sym spots_are)
+            (subst (λ (j : Journal D). AreWithin (texts d j) was.spots) (sym journal_is) (archive.within tells));
         placed = λ told. subst (λ (l : List Spot). ArePlaced (texts d is.journal) is.book l) (sym spots_are)
             (subst (λ (b : Book). ArePlaced (texts d is.journal) b was.spots) (sym book_is)
-            (subst (λ (j : Journal D). ArePlaced (texts d j) was.book was.spots) (sym journal_is) (archive.placed told)));
-        known = λ told. subst (λ (l : List Facts). AreOf is.book l) (sym index_is) (subst (λ (b : Book). AreOf b was.index) (sym book_is) (archive.known told));
+            (subst (λ (j : Journal D). ArePlaced (texts d j) was.book was.spots) (sym journal_is) (archive.placed (sym told_is ∙ told))));
+        known = λ told. subst (λ (l : List Facts). AreOf is.book l) (sym index_is) (subst (λ (b : Book). AreOf b was.index) (sym book_is) (archive.known (sym told_is ∙ told)));
       }
+
+  opened_by : (t : ℕ) (x : Book) → (told_of d is).crash.openings t x → (told_of d was).crash.openings t x
+  opened_by t x o = subst (λ (j : Journal D). (crash_of (muted was.told d) (disk_of j)).openings t x) journal_is
+      (subst (λ (b : Bool). (crash_of (muted b d) (disk_of is.journal)).openings t x) told_is o)
 
   memory_stores : (taken : Taken) → Stores d was is taken (Err stores.Memory)
   memory_stores taken = record {
@@ -99,7 +108,7 @@ module _ {D : Type 0} (d : Ghosts D) (was is : Holdings D) (journal_is : is.jour
         seen = book_is;
         shown = ap numbered index_is;
         others = λ i. record {
-          tells = d.tells;
+          tells = told_is i;
           seen = is.book;
           shown = numbered is.index;
           mine = numbers_from (found_is i) (length (captures (book_is i)) - found_is i);
@@ -110,13 +119,19 @@ module _ {D : Type 0} (d : Ghosts D) (was is : Holdings D) (journal_is : is.jour
       reading = λ alone told.
           ((λ none. ap (λ (j : Journal D). d.reading (disk_of j)) journal_is), ap (λ (j : Journal D). cdxj_files (d.reading (disk_of j))) journal_is);
       crash = record {
-        later = omega (arith, ap (λ (j : Journal D). (crash_of d (disk_of j)).moment) journal_is);
-        moves = λ ids t x le o. inl (subst (λ (j : Journal D). (crash_of d (disk_of j)).openings t x) journal_is o);
+        later = omega (
+          arith,
+          ap (λ (j : Journal D). (crash_of (muted was.told d) (disk_of j)).moment) journal_is,
+          ap (λ (b : Bool). (crash_of (muted b d) (disk_of is.journal)).moment) told_is,
+        );
+        moves = λ ids t x le o. inl (opened_by t x o);
         only = λ ids. tt;
         refused = λ alone told ids fault. absurd (false≢true fault);
-        quiet = λ none t x le o. inl (subst (λ (j : Journal D). (crash_of d (disk_of j)).openings t x) journal_is o);
-        covered = λ t le all. subst (λ (j : Journal D). (crash_of d (disk_of j)).covered t) (sym journal_is) all;
-        kept = λ files has. subst (λ (j : Journal D). (crash_of d (disk_of j)).checkpoints files) journal_is has;
+        quiet = λ none t x le o. inl (opened_by t x o);
+        covered = λ t le all. subst (λ (b : Bool). (crash_of (muted b d) (disk_of is.journal)).covered t) (sym told_is)
+            (subst (λ (j : Journal D). (crash_of (muted was.told d) (disk_of j)).covered t) (sym journal_is) all);
+        kept = λ files has. subst (λ (j : Journal D). (crash_of (muted was.told d) (disk_of j)).checkpoints files) journal_is
+            (subst (λ (b : Bool). (crash_of (muted b d) (disk_of is.journal)).checkpoints files) told_is has);
       };
     };
     just = tt;
@@ -146,13 +161,13 @@ pub record IsUnderWay {D : Type 0} (d : Ghosts D) (was : Holdings D) (now : Volu
   pub has : HasPayload incoming.taken.cut incoming.taken.method incoming.taken.head incoming.taken.wire payload
   pub digested : incoming.digest ≡ sha1 payload
   pub refers : CanRefer incoming.taken.cut (book_of now.held) incoming.same
-  pub finds : IsTrue d.tells → RefersBy incoming.taken.cut (book_of now.held) payload incoming.same
+  pub finds : IsTrue was.told → RefersBy incoming.taken.cut (book_of now.held) payload incoming.same
   pub ready_is : IsReady now now was.limits.volume_bytes incoming payload ready
 
 under_way_from : {D : Type 0} (d : Ghosts D) → StoringBasis → (was : Holdings D) (old now : Volumes D) (incoming : Incoming) (ready : Ready)
     → was.journal ≡ old.journal → was.book ≡ book_of old.held → IsArchive d was → Fits incoming.taken
-    → IsNotFull (contents_of d.tells was) was.book → IsDigestOf incoming.taken incoming.digest
-    → RefersTo (contents_of d.tells was) incoming.taken incoming.same
+    → IsNotFull (contents_of was) was.book → IsDigestOf incoming.taken incoming.digest
+    → RefersTo (contents_of was) incoming.taken incoming.same
     → now.journal ≡ old.journal → book_of now.held ≡ book_of old.held
     → ((payload : List ℕ) → incoming.digest ≡ sha1 payload → IsReady old now was.limits.volume_bytes incoming payload ready)
     → IsUnderWay d was now incoming ready
@@ -181,15 +196,15 @@ under_way_from {D} d basis was old now incoming ready old_journal old_book archi
 -- and the same by what clauses see of the archive
 pub under_way : {D : Type 0} (d : Ghosts D) → StoringBasis → (seen was : Holdings D) (old now : Volumes D) (incoming : Incoming) (ready : Ready)
     → was ≡ seen → was.journal ≡ old.journal → was.book ≡ book_of old.held → IsArchive d was → Fits incoming.taken
-    → IsNotFull (contents_of d.tells seen) seen.book → IsDigestOf incoming.taken incoming.digest
-    → RefersTo (contents_of d.tells seen) incoming.taken incoming.same
+    → IsNotFull (contents_of seen) seen.book → IsDigestOf incoming.taken incoming.digest
+    → RefersTo (contents_of seen) incoming.taken incoming.same
     → now.journal ≡ old.journal → book_of now.held ≡ book_of old.held
     → ((payload : List ℕ) → incoming.digest ≡ sha1 payload → IsReady old now was.limits.volume_bytes incoming payload ready)
     → IsUnderWay d was now incoming ready
 under_way {D} d basis seen was old now incoming ready seen_is old_journal old_book archive fits not_full digest refers =
     under_way_from d basis was old now incoming ready old_journal old_book archive fits
-    (subst (λ (held : Holdings D). IsNotFull (contents_of d.tells held) held.book) (sym seen_is) not_full) digest
-    (subst (λ (held : Holdings D). RefersTo (contents_of d.tells held) incoming.taken incoming.same) (sym seen_is) refers)
+    (subst (λ (held : Holdings D). IsNotFull (contents_of held) held.book) (sym seen_is) not_full) digest
+    (subst (λ (held : Holdings D). RefersTo (contents_of held) incoming.taken incoming.same) (sym seen_is) refers)
 
 -- the texts of the volumes with room
 texts_by : {D : Type 0} (now : Volumes D) (all : List (List ℕ)) (prepared : Option Prepared) → VolumesAddTheirText
@@ -282,14 +297,14 @@ module _ {D : Type 0} (d : Ghosts D) (basis : StoringBasis) (was : Holdings D) (
   number = length (captures book)
 
   abbrev before : Contents
-  before = contents_of d.tells (in_volumes was now)
+  before = contents_of (in_volumes was now)
 
   some : 0 < length room.volumes
   some = room_some was.limits.volume_bytes book (last_len now.journal) (length ready.group) ready.prepared u.ready_is.decided
 
-  pub commit_ready : CanCommit d d.tells now ready
+  pub commit_ready : CanCommit d was.told now ready
   commit_ready =
-      can_commit d now was.limits.volume_bytes incoming u.payload ready u.ready_is u.is.holds u.is.measured u.fits u.refers u.digested u.has u.finds
+      can_commit d was.told now was.limits.volume_bytes incoming u.payload ready u.ready_is u.is.holds u.is.measured u.fits u.refers u.digested u.has u.finds
       basis.committed basis.groups basis.sound u.is.counted.limits.volume_bytes (omega (arith, u.not_full, u.is.counted.limits.captures))
 
   below : (f : Facts) → Among was.index f → f.number < number
@@ -298,9 +313,9 @@ module _ {D : Type 0} (d : Ghosts D) (basis : StoringBasis) (was : Holdings D) (
   pub ready_head : IsResponseHeadText (stored_in ready.stored).head u.has.parsed
   ready_head = subst (λ (s : Stored). IsResponseHeadText s.head u.has.parsed) (sym u.ready_is.stored) u.has.whole
 
-  takes : TakesSo d was.limits.volume_bytes book incoming.taken room (with_capture room (stored_in ready.stored))
+  takes : TakesSo (muted was.told d) was.limits.volume_bytes book incoming.taken room (with_capture room (stored_in ready.stored))
   takes told =
-      subst (λ (s : Stored). IsWay d was.limits.volume_bytes book incoming.taken room (with_capture room s)) (sym u.ready_is.stored)
+      subst (λ (s : Stored). IsWay (muted was.told d) was.limits.volume_bytes book incoming.taken room (with_capture room s)) (sym u.ready_is.stored)
       (way d now.journal book incoming.taken u.payload incoming.same ready.group told u.is.holds u.has (u.finds told) u.ready_is.group
       basis.groups u.is.measured.count was.limits.volume_bytes ready.prepared u.ready_is.born u.ready_is.decided)
 
@@ -324,7 +339,7 @@ module _ {D : Type 0} (d : Ghosts D) (basis : StoringBasis) (was : Holdings D) (
 
     -- ---- the index with it is that of the book
 
-    tells_of : IsTrue d.tells → (e : Facts) → IsEntryAt stored u.has.parsed at e
+    tells_of : IsTrue was.told → (e : Facts) → IsEntryAt stored u.has.parsed at e
         → TellsOfCapture room stored u.has.parsed u.payload ready.group
         (text_at (texts_with (texts d now.journal) ready.prepared) (length (texts_with (texts d now.journal) ready.prepared) - 1)) e
     tells_of told e is =
@@ -346,12 +361,12 @@ module _ {D : Type 0} (d : Ghosts D) (basis : StoringBasis) (was : Holdings D) (
           volume_is = omega (arith, volume, some);
           ends = subst (λ (k : ℕ). IsVolumeText room k (text_at all (length all - 1))) last (all_are.each (length all - 1) (omega (arith, count, some)));
           offset_is = is.offset ∙ ap (λ (a : RecordAt). a.offset) at_is
-              ∙ sym (with_end d now book ready.prepared told u.is.holds some);
+              ∙ sym (with_end d now book ready.prepared (u.is.holds.in_step (u.is.holds.tells told)) u.is.measured.count some);
           digest_is = is.digest ∙ ap (λ (a : RecordAt). a.digest) at_is ∙ u.ready_is.digest ∙ u.digested;
           length_is = omega (arith, len, asked, u.ready_is.layout.record_len);
         }
 
-    tells_new : IsTrue d.tells → (e : Facts) → IsEntryAt stored u.has.parsed at e → TellsOfNew room stored e
+    tells_new : IsTrue was.told → (e : Facts) → IsEntryAt stored u.has.parsed at e → TellsOfNew room stored e
     tells_new told e is =
         tells_of_new room stored u.has.parsed u.payload ready.group
         (text_at (texts_with (texts d now.journal) ready.prepared) (length (texts_with (texts d now.journal) ready.prepared) - 1)) e
@@ -361,7 +376,7 @@ module _ {D : Type 0} (d : Ghosts D) (basis : StoringBasis) (was : Holdings D) (
         (with_capture room stored) (room_namespace book ready.prepared) (room_gains book ready.prepared stored some)))
         (tells_of told e is)
 
-    known_by : IsTrue d.tells → (e : Option Facts) → ((h : grammar.ResponseHead) → IsResponseHeadText stored.head h → EntersAs stored h at e)
+    known_by : IsTrue was.told → (e : Option Facts) → ((h : grammar.ResponseHead) → IsResponseHeadText stored.head h → EntersAs stored h at e)
         → AreOf (with_capture room stored) (entered e was.index)
     known_by told None enters_so =
         known_without basis.all room stored was.index some (known_room basis.stay basis.itself book ready.prepared was.index (u.is.known told))
@@ -372,16 +387,20 @@ module _ {D : Type 0} (d : Ghosts D) (basis : StoringBasis) (was : Holdings D) (
         (record { head = u.has.parsed; parsed = u.has.whole; asked = is.asked; told = is.told })
         (tells_new told e is)
 
-    known_after : IsTrue d.tells → AreOf (with_capture room (stored_in ready.stored)) (entered entry was.index)
+    known_after : IsTrue was.told → AreOf (with_capture room (stored_in ready.stored)) (entered entry was.index)
     known_after told =
         subst (λ (s : Stored). AreOf (with_capture room s) (entered entry was.index)) (sym u.ready_is.stored)
         (known_by told entry (λ h parsed. subst (λ (s : Stored). EntersAs s h at entry) u.ready_is.stored
         (enters h (subst (λ (s : Stored). IsResponseHeadText s.head h) (sym u.ready_is.stored) parsed))))
 
     module _ (laws : DiskLaws d) (journal : Journal D) (after : Book) (table : Table) (index : List Facts) (spots : List Spot)
-        (holds : HoldsBook d d.tells journal after) (measured : IsMeasured journal after) (table_is : table.kept ≡ whole_from 0 spots)
-        (spots_are : AreSpotsOf after spots) (placed : IsTrue d.tells → ArePlaced (texts d journal) after spots)
+        (holds : HoldsBook d was.told journal after) (measured : IsMeasured journal after) (table_is : table.kept ≡ whole_from 0 spots)
+        (spots_are : AreSpotsOf after spots) (within : IsTrue d.tells → AreWithin (texts d journal) spots)
+        (placed : IsTrue was.told → ArePlaced (texts d journal) after spots)
         (others : IsTrue d.tells → cdxj_files (d.reading (disk_of journal)) ≡ cdxj_files (d.reading (disk_of now.journal))) where
+      laws_told : DiskLaws (muted was.told d)
+      laws_told = laws_muted d was.told laws
+
       -- ---- refused by the disk
 
       module _ (left : (after ≡ book_of now.held) ⊎ (after ≡ with_prepared (book_of now.held) ready.prepared))
@@ -397,11 +416,11 @@ module _ {D : Type 0} (d : Ghosts D) (basis : StoringBasis) (was : Holdings D) (
 
         pub refused_archive : IsArchive d (record was { journal = journal; book = after; table = table; index = index; spots = spots })
         refused_archive =
-            archive_left d (in_volumes was now) u.is journal after table holds measured index spots captures_stay index_stays table_is spots_are placed
+            archive_left d (in_volumes was now) u.is journal after table holds measured index spots captures_stay index_stays table_is spots_are within placed
             (λ told. known_left basis.stay basis.itself book after ready.prepared was.index left (u.is.known told))
 
         pub refused_stores : {T E : Type 0} (fault : E)
-            → Writes {T = T} {E = E} d (disk_of now.journal) (disk_of journal) (book_of now.held) (with_prepared (book_of now.held) ready.prepared)
+            → Writes {T = T} {E = E} (muted was.told d) (disk_of now.journal) (disk_of journal) (book_of now.held) (with_prepared (book_of now.held) ready.prepared)
             (with_capture (with_prepared (book_of now.held) ready.prepared) (stored_in ready.stored)) after (Err fault)
             → CountsFaults {T = T} {E = E} (d.faults (disk_of now.journal)) (d.faults (disk_of journal)) (Err fault)
             → Stores d (in_volumes was now) (record was { journal = journal; book = after; table = table; index = index; spots = spots })
@@ -410,7 +429,7 @@ module _ {D : Type 0} (d : Ghosts D) (basis : StoringBasis) (was : Holdings D) (
             let is : Holdings D = record was { journal = journal; book = after; table = table; index = index; spots = spots } in
             let answer : Result T E = Err fault in
             let old : D = disk_of now.journal in
-            let quiet = quiet_itself d laws old in
+            let quiet = quiet_itself (muted was.told d) laws_told old in
             record {
               told = record {
                 leaves = record {
@@ -419,28 +438,28 @@ module _ {D : Type 0} (d : Ghosts D) (basis : StoringBasis) (was : Holdings D) (
                   not_full = u.not_full;
                   left = ⊎_elim
                       (λ (same : after ≡ book). inl same)
-                      (λ (more : after ≡ room). left_by d was.limits.volume_bytes book incoming.taken ready.prepared (with_capture room (stored_in ready.stored)) after u.ready_is.born takes more)
+                      (λ (more : after ≡ room). left_by (muted was.told d) was.limits.volume_bytes book incoming.taken ready.prepared (with_capture room (stored_in ready.stored)) after u.ready_is.born takes more)
                       left;
                   shown = ap numbered index_stays;
                   others = λ i. record {
-                    tells = d.tells;
+                    tells = was.told;
                     seen = after;
                     shown = numbered index;
                     mine = numbers_from was.found (length (captures_stay i) - was.found);
                     limits = was.limits;
                   };
                 };
-                reading = λ alone told. ((λ none. absurd none), others told);
+                reading = λ alone told. ((λ none. absurd none), others (u.is.holds.tells told));
                 faults = (counts.later, counts.rose);
                 crash = record {
-                  later = store_later d laws old old (disk_of journal) before (contents_of d.tells is) incoming.taken room (with_capture room (stored_in ready.stored)) answer takes quiet writes;
-                  moves = store_moves d laws old old (disk_of journal) before (contents_of d.tells is) incoming.taken room (with_capture room (stored_in ready.stored)) answer takes quiet writes;
+                  later = store_later (muted was.told d) laws_told old old (disk_of journal) before (contents_of is) incoming.taken room (with_capture room (stored_in ready.stored)) answer takes quiet writes;
+                  moves = store_moves (muted was.told d) laws_told old old (disk_of journal) before (contents_of is) incoming.taken room (with_capture room (stored_in ready.stored)) answer takes quiet writes;
                   only = λ ids. tt;
                   refused = λ alone told ids fault_is.
-                      store_refused d laws old old (disk_of journal) before (contents_of d.tells is) incoming.taken room (with_capture room (stored_in ready.stored)) answer takes quiet writes told ids;
+                      store_refused (muted was.told d) laws_told old old (disk_of journal) before (contents_of is) incoming.taken room (with_capture room (stored_in ready.stored)) answer takes quiet writes told ids;
                   quiet = λ none. absurd none;
-                  covered = store_covered d laws old old (disk_of journal) before (contents_of d.tells is) incoming.taken room (with_capture room (stored_in ready.stored)) answer takes quiet writes;
-                  kept = store_kept d laws old old (disk_of journal) before (contents_of d.tells is) incoming.taken room (with_capture room (stored_in ready.stored)) answer takes quiet writes;
+                  covered = store_covered (muted was.told d) laws_told old old (disk_of journal) before (contents_of is) incoming.taken room (with_capture room (stored_in ready.stored)) answer takes quiet writes;
+                  kept = store_kept (muted was.told d) laws_told old old (disk_of journal) before (contents_of is) incoming.taken room (with_capture room (stored_in ready.stored)) answer takes quiet writes;
                 };
               };
               just = tt;
@@ -465,13 +484,13 @@ module _ {D : Type 0} (d : Ghosts D) (basis : StoringBasis) (was : Holdings D) (
             (entered_by number entry was.index numbered_so))
             indexed
             (more ∙ ap (λ (k : ℕ). was.revisits + k) (revisit_by incoming.taken.cut book incoming.same incoming.taken.wire u.refers))
-            table_is spots_are placed
+            table_is spots_are within placed
             (λ told. subst (λ (b : Book). AreOf b index) (sym with_it)
             (subst (λ (l : List Facts). AreOf (with_capture room (stored_in ready.stored)) l) (sym index_is) (known_after told)))
 
         has_stored : (receipt : Receipt) → receipt.number ≡ number → receipt.same_as ≡ incoming.same
             → HasStored true incoming.taken before
-            (contents_of d.tells (record was { journal = journal; book = after; table = table; index = index; spots = spots; revisits = revisits })) receipt
+            (contents_of (record was { journal = journal; book = after; table = table; index = index; spots = spots; revisits = revisits })) receipt
         has_stored receipt number_is same_is =
             let count : length (captures after) ≡ number + 1 =
             omega (arith, ap (λ (l : List Stored). length l) gains, length-append (captures book) (stored ∷ [])) in
@@ -494,7 +513,7 @@ module _ {D : Type 0} (d : Ghosts D) (basis : StoringBasis) (was : Holdings D) (
                   (subst (λ (l : List Facts). (numbered l ≡ numbered was.index) ⊎ ((e : Facts) × (e.number ≡ number) × (numbered l ≡ numbered was.index ++ e ∷ []))) (sym index_is)
                   (shown_by number entry was.index numbered_so below));
               others = λ i. record {
-                tells = d.tells;
+                tells = was.told;
                 seen = after;
                 shown = numbered index;
                 mine = mine i;
@@ -503,7 +522,7 @@ module _ {D : Type 0} (d : Ghosts D) (basis : StoringBasis) (was : Holdings D) (
             }
 
         pub stored_stores : {T E : Type 0} (value : T)
-            → Writes {T = T} {E = E} d (disk_of now.journal) (disk_of journal) (book_of now.held) (with_prepared (book_of now.held) ready.prepared)
+            → Writes {T = T} {E = E} (muted was.told d) (disk_of now.journal) (disk_of journal) (book_of now.held) (with_prepared (book_of now.held) ready.prepared)
             (with_capture (with_prepared (book_of now.held) ready.prepared) (stored_in ready.stored)) after (Ok value)
             → CountsFaults {T = T} {E = E} (d.faults (disk_of now.journal)) (d.faults (disk_of journal)) (Ok value)
             → last_len journal ≡ end_with now ready.prepared + length ready.group
@@ -514,20 +533,20 @@ module _ {D : Type 0} (d : Ghosts D) (basis : StoringBasis) (was : Holdings D) (
             let is : Holdings D = record was { journal = journal; book = after; table = table; index = index; spots = spots; revisits = revisits } in
             let answer : Result T E = Ok value in
             let old : D = disk_of now.journal in
-            let quiet = quiet_itself d laws old in
+            let quiet = quiet_itself (muted was.told d) laws_told old in
             record {
               told = record {
                 leaves = has_stored receipt number_is same_is;
-                reading = λ alone told. ((λ none. absurd none), others told);
+                reading = λ alone told. ((λ none. absurd none), others (u.is.holds.tells told));
                 faults = counts.steady;
                 crash = record {
-                  later = store_later d laws old old (disk_of journal) before (contents_of d.tells is) incoming.taken room (with_capture room (stored_in ready.stored)) answer takes quiet writes;
-                  moves = store_moves d laws old old (disk_of journal) before (contents_of d.tells is) incoming.taken room (with_capture room (stored_in ready.stored)) answer takes quiet writes;
-                  only = λ ids. subst (λ (b : Book). IsState (crash_of d (disk_of journal)) b None) (sym with_it) (writes.only ids);
+                  later = store_later (muted was.told d) laws_told old old (disk_of journal) before (contents_of is) incoming.taken room (with_capture room (stored_in ready.stored)) answer takes quiet writes;
+                  moves = store_moves (muted was.told d) laws_told old old (disk_of journal) before (contents_of is) incoming.taken room (with_capture room (stored_in ready.stored)) answer takes quiet writes;
+                  only = λ ids. subst (λ (b : Book). IsState (crash_of (muted was.told d) (disk_of journal)) b None) (sym with_it) (writes.only ids);
                   refused = λ alone told ids fault. absurd (false≢true fault);
                   quiet = λ none. absurd none;
-                  covered = store_covered d laws old old (disk_of journal) before (contents_of d.tells is) incoming.taken room (with_capture room (stored_in ready.stored)) answer takes quiet writes;
-                  kept = store_kept d laws old old (disk_of journal) before (contents_of d.tells is) incoming.taken room (with_capture room (stored_in ready.stored)) answer takes quiet writes;
+                  covered = store_covered (muted was.told d) laws_told old old (disk_of journal) before (contents_of is) incoming.taken room (with_capture room (stored_in ready.stored)) answer takes quiet writes;
+                  kept = store_kept (muted was.told d) laws_told old old (disk_of journal) before (contents_of is) incoming.taken room (with_capture room (stored_in ready.stored)) answer takes quiet writes;
                 };
               };
               just = λ told image now. subst (HasJust image) (sym with_it) (writes.just told image now);

@@ -22,3 +22,4 @@ pub mod ShelfLaws
 pub mod ShownLaws
 pub mod SortLaws
 pub mod StoredLaws
+pub mod TellingLaws

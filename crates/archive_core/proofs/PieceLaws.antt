@@ -1,5 +1,5 @@
 -- What asking an archive for a piece answers, and how many volumes it has.
-use Rattle.std.proofs.Common.{◌≡◌, ℕ, suc, ◌+◌, ◌-◌, ◌^◌, ◌<◌, ◌≤◌, IsTrue, List, [], ◌∷◌, ◌++◌, length, Some, Result, Ok, Err, refl, arith, length-append}
+use Rattle.std.proofs.Common.{◌≡◌, ℕ, suc, ◌+◌, ◌-◌, ◌^◌, ◌<◌, ◌≤◌, List, [], ◌∷◌, length, Some, Result, Ok, Err, refl, arith, length-append}
 use Rattle.std.specs.Prelude.{slice_get}
 use Rattle.capture.specs.Captures.{captures, captures_in}
 use Rattle.capture.specs.declared.book.Book.{Book}
@@ -14,7 +14,7 @@ use Rattle.archive_volumes.specs.Volumes.{IsMeasured}
 use Rattle.archive_core.specs.Holdings.{Holdings, contents_of}
 
 pub gives_by : {D : Type 0} (d : Ghosts D) (held : Holdings D) (number : ℕ) (result : Result (List ℕ) BringFault) → number < length (captures held.book)
-    → GivesPieceFrom d.tells held.book number result → GivesPiece (contents_of d.tells held) number result
+    → GivesPieceFrom held.told held.book number result → GivesPiece (contents_of held) number result
 gives_by d held number (Ok bytes) less from = (less, from.0, from.1)
 gives_by d held number (Err (brings.NoSuch count)) less from = absurd from
 gives_by d held number (Err brings.DiskFault) less from = less

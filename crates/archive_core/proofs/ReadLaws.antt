@@ -20,10 +20,11 @@ use Rattle.archive_volumes.specs.Bringing.{BringsFrom, OnlyReads}
 use Rattle.archive_volumes.specs.Held.{book_of}
 use Rattle.archive_core.specs.Holdings.{Holdings, IsArchive, contents_of}
 use Rattle.archive_core.specs.Looking.{OnlyLooks}
-use Rattle.archive_volumes.specs.Spots.{ArePlaced, AreSpotsOf}
+use Rattle.archive_volumes.specs.Spots.{ArePlaced, AreSpotsOf, AreWithin}
 use Rattle.archive_volumes.specs.Volumes.{HoldsBook, IsMeasured, IsQuiet}
 use Rattle.archive_volumes.specs.declared.volumes.Volumes.{Volumes}
 use Rattle.archive_core.proofs.ShownLaws.{shown_from}
+use Rattle.archive_core.proofs.TellingLaws.{quiet_muted}
 
 module _ {D : Type 0} (d : Ghosts D) (held : Holdings D) (old new : Volumes D)
     (journal_is : held.journal ≡ old.journal) (book_is : held.book ≡ book_of old.held) (reads : OnlyReads d old new) where
@@ -36,10 +37,13 @@ module _ {D : Type 0} (d : Ghosts D) (held : Holdings D) (old new : Volumes D)
       ∙ ap (λ (image : Image). texts_in (extent_of old.journal) (warc_files image)) (reads.reading told)
       ∙ sym (ap (λ (j : Journal D). texts d j) journal_is)
 
+  same_reading : IsTrue d.tells → d.reading (disk_of new.journal) ≡ d.reading (disk_of held.journal)
+  same_reading told = reads.reading told ∙ sym (ap (λ (j : Journal D). d.reading (disk_of j)) journal_is)
+
   -- it stays an archive
   pub reads_archive : IsArchive d held → IsArchive d (record held { journal = new.journal; book = book_of new.held })
   reads_archive is = record {
-    holds = reads.holds d.tells (subst (λ (b : Book). HoldsBook d d.tells old.journal b) book_is (subst (λ (j : Journal D). HoldsBook d d.tells j held.book) journal_is is.holds));
+    holds = reads.holds held.told (subst (λ (b : Book). HoldsBook d held.told old.journal b) book_is (subst (λ (j : Journal D). HoldsBook d held.told j held.book) journal_is is.holds));
     measured = reads.measured (subst (λ (b : Book). IsMeasured old.journal b) book_is (subst (λ (j : Journal D). IsMeasured j held.book) journal_is is.measured));
     counted = record {
       few = omega (arith, is.counted.few, ap (λ (b : Book). length (captures b)) same_book);
@@ -51,37 +55,40 @@ module _ {D : Type 0} (d : Ghosts D) (held : Holdings D) (old new : Volumes D)
     spots = subst (λ (b : Book). AreSpotsOf b held.spots) (sym same_book) is.spots;
     table = is.table;
     indexed = is.indexed;
+    within = λ tells. subst (λ (all : List (List ℕ)). AreWithin all held.spots) (sym (same_texts tells)) (is.within tells);
     placed = λ told. subst (λ (b : Book). ArePlaced (texts d new.journal) b held.spots) (sym same_book)
-        (subst (λ (all : List (List ℕ)). ArePlaced all held.book held.spots) (sym (same_texts told)) (is.placed told));
+        (subst (λ (all : List (List ℕ)). ArePlaced all held.book held.spots) (sym (same_texts (is.holds.tells told))) (is.placed told));
     known = λ told. subst (λ (b : Book). AreOf b held.index) (sym same_book) (is.known told);
   }
 
-  pub looks : OnlyLooks d held (record held { journal = new.journal; book = book_of new.held })
-  looks = record {
+  pub looks : (IsTrue held.told → IsTrue d.tells) → OnlyLooks d held (record held { journal = new.journal; book = book_of new.held })
+  looks only = record {
     others = ap (λ (b : Book). record held { journal = new.journal; book = b }) same_book;
     ends = ap (λ (extent : Extent). extent.end) reads.extent ∙ sym (ap (λ (j : Journal D). last_len j) journal_is);
+    reading = same_reading;
     unwritten = record {
-      reading = λ alone told. reads.reading told ∙ sym (ap (λ (j : Journal D). d.reading (disk_of j)) journal_is);
-      crash = subst (λ (j : Journal D). IsQuiet d (disk_of j) (disk_of new.journal)) (sym journal_is) reads.quiet;
+      reading = λ alone told. same_reading (only told);
+      crash = quiet_muted d held.told only (disk_of held.journal) (disk_of new.journal)
+          (subst (λ (j : Journal D). IsQuiet d (disk_of j) (disk_of new.journal)) (sym journal_is) reads.quiet);
     };
   }
 
 -- an entry that is shown under a number is that of the book's capture
-pub agrees : {D : Type 0} (d : Ghosts D) (held : Holdings D) (number : ℕ) → IsArchive d held → IsTrue d.tells
-    → AgreesAt (contents_of d.tells held) number
+pub agrees : {D : Type 0} (d : Ghosts D) (held : Holdings D) (number : ℕ) → IsArchive d held → IsTrue held.told
+    → AgreesAt (contents_of held) number
 agrees d held number is told entry has same =
     subst (λ (n : ℕ). IsEntryOf held.book n entry) same ((is.known told).each entry (shown_from held.index entry has))
 
 -- and none is shown under one that no capture has
 pub none_shown : {D : Type 0} (d : Ghosts D) (held : Holdings D) (number : ℕ) → IsArchive d held → length (captures held.book) ≤ number
-    → ShowsNone (contents_of d.tells held) number
+    → ShowsNone (contents_of held) number
 none_shown d held number is above entry has same =
     omega (arith, is.counted.below entry (shown_from held.index entry has), above, same)
 
 -- what bringing a capture that is there answers
 pub brings_by : {D : Type 0} (d : Ghosts D) (held : Holdings D) (number : ℕ) (result : Result Brought BringFault) → IsArchive d held
-    → number < length (captures held.book) → BringsFrom d.tells held.book number result
-    → Brings (contents_of d.tells held) number result
+    → number < length (captures held.book) → BringsFrom held.told held.book number result
+    → Brings (contents_of held) number result
 brings_by d held number (Ok brought) is below answer =
     (below, answer.0, answer.1, λ told. (answer.2 told, agrees d held number is told))
 brings_by d held number (Err (brings.NoSuch count)) is below answer = absurd answer

@@ -30,15 +30,15 @@ use Rattle.archive_shelf.specs.declared.fault.ReopenFault.{ReopenFault}
 use Rattle.archive_shelf.specs.declared.fault.ReopenFault.TheVariants as faults
 use Rattle.archive_core.proofs.NamespaceLaws.{one_namespace}
 use Rattle.archive_core.proofs.ArchiveLaws.{entries_shown}
-use Rattle.archive_volumes.proofs.ChangeLaws.{DiskLaws, moment_told, now_image, one_of, quiet_by, stands}
+use Rattle.archive_volumes.proofs.ChangeLaws.{DiskLaws, laws_muted, moment_told, now_image, one_of, quiet_by, stands}
 use Rattle.archive_opening.specs.Gathering.{IsInStepWith, IsOpened, IsUsable}
 use Rattle.archive_volumes.specs.Held.{book_of}
 use Rattle.archive_core.specs.Holdings.{AreLimits, Holdings, IsArchive}
 use Rattle.archive_opening.specs.Opening.{CountsFault, HoldsOther, IsCause, IsDamageIn, IsIn, IsOtherIn}
 use Rattle.archive_core.specs.Reopening.{IsAskedFor, IsMadeOf, IsNotOpened, IsOutside, IsReopened}
 use Rattle.archive_core.specs.Shown.{numbered, numbers_from}
-use Rattle.archive_volumes.specs.Spots.{ArePlaced, AreSpotsOf, form_of, is_same_form}
-use Rattle.archive_volumes.specs.Volumes.{HoldsBook, IsMeasured}
+use Rattle.archive_volumes.specs.Spots.{ArePlaced, AreSpotsOf, AreWithin, form_of, is_same_form}
+use Rattle.archive_volumes.specs.Volumes.{HoldsBook, IsMeasured, muted}
 use Rattle.archive_opening.specs.declared.opening.Opened.{Opened}
 use Rattle.archive_volumes.specs.declared.spot.Spot.{Spot}
 
@@ -97,34 +97,35 @@ of_sorted book entries index are same =
 -- ---- the archive
 
 -- what is kept of a book
-abbrev pub AreParts : {D : Type 0} → Ghosts D → Journal D → Book → List Spot → Table → List ℕ → List Facts → Type 0
-AreParts d journal book spots table lengths entries =
-    IsInStepWith book spots table lengths × AreSpotsOf book spots × AreEntries book entries × (IsTrue d.tells → ArePlaced (texts d journal) book spots)
+abbrev pub AreParts : {D : Type 0} → Ghosts D → Bool → Journal D → Book → List Spot → Table → List ℕ → List Facts → Type 0
+AreParts d told journal book spots table lengths entries =
+    IsInStepWith book spots table lengths × AreSpotsOf book spots × AreEntries book entries × (IsTrue d.tells → AreWithin (texts d journal) spots)
+    × (IsTrue told → ArePlaced (texts d journal) book spots)
 
 -- the parts of what was opened, as they are taken out
-pub parts_of : {D : Type 0} (d : Ghosts D) (opened : Opened D) → IsUsable d d.tells opened
+pub parts_of : {D : Type 0} (d : Ghosts D) (told : Bool) (opened : Opened D) → IsUsable d told opened
     → AreEntries (book_of opened.gathered.held) opened.gathered.entries.items → (journal : Journal D) (book : Book) (spots : List Spot) (table : Table) (entries : List Facts)
     → journal ≡ opened.journal → book ≡ book_of opened.gathered.held → spots ≡ opened.gathered.spots.items → table ≡ opened.gathered.table
-    → entries ≡ opened.gathered.entries.items → AreParts d journal book spots table opened.gathered.lengths.items entries
-parts_of d opened is entries_are journal book spots table entries ej eb es et ee =
+    → entries ≡ opened.gathered.entries.items → AreParts d told journal book spots table opened.gathered.lengths.items entries
+parts_of d told opened is entries_are journal book spots table entries ej eb es et ee =
     let g = opened.gathered in
     let ls = g.lengths.items in
-    subst (λ (x : Journal _). AreParts d x book spots table ls entries) (sym ej)
-    (subst (λ (x : Book). AreParts d opened.journal x spots table ls entries) (sym eb)
-    (subst (λ (x : List Spot). AreParts d opened.journal (book_of g.held) x table ls entries) (sym es)
-    (subst (λ (x : Table). AreParts d opened.journal (book_of g.held) g.spots.items x ls entries) (sym et)
-    (subst (λ (x : List Facts). AreParts d opened.journal (book_of g.held) g.spots.items g.table ls x) (sym ee)
-    (is.steady, is.spots, entries_are, is.placed)))))
+    subst (λ (x : Journal _). AreParts d told x book spots table ls entries) (sym ej)
+    (subst (λ (x : Book). AreParts d told opened.journal x spots table ls entries) (sym eb)
+    (subst (λ (x : List Spot). AreParts d told opened.journal (book_of g.held) x table ls entries) (sym es)
+    (subst (λ (x : Table). AreParts d told opened.journal (book_of g.held) g.spots.items x ls entries) (sym et)
+    (subst (λ (x : List Facts). AreParts d told opened.journal (book_of g.held) g.spots.items g.table ls x) (sym ee)
+    (is.steady, is.spots, entries_are, is.within, is.placed)))))
 
-module _ {D : Type 0} (d : Ghosts D) (journal : Journal D) (book : Book) (spots : List Spot) (table : Table) (lengths : List ℕ)
-    (entries index : List Facts) (parts : AreParts d journal book spots table lengths entries) (same : IsPermutation entries index) (is : IsIndex index) where
+module _ {D : Type 0} (d : Ghosts D) (told : Bool) (journal : Journal D) (book : Book) (spots : List Spot) (table : Table) (lengths : List ℕ)
+    (entries index : List Facts) (parts : AreParts d told journal book spots table lengths entries) (same : IsPermutation entries index) (is : IsIndex index) where
   known : AreOf book index
   known = of_sorted book entries index parts.2.of_book same
 
   pub shown_sorted : AreEntries book (numbered index)
   shown_sorted = entries_shown book index is known
 
-  pub made_archive : (limits : Limits) (found revisits : ℕ) → HoldsBook d d.tells journal book → IsMeasured journal book
+  pub made_archive : (limits : Limits) (found revisits : ℕ) → HoldsBook d told journal book → IsMeasured journal book
       → AreLimits limits → found ≡ length spots → revisits ≡ count_by same_spot spots
       → IsArchive d (record {
         journal = journal;
@@ -135,6 +136,7 @@ module _ {D : Type 0} (d : Ghosts D) (journal : Journal D) (book : Book) (spots 
         limits = limits;
         found = found;
         revisits = revisits;
+        told = told;
       })
   made_archive limits found revisits holds measured are_limits found_is revisits_is = record {
     holds = holds;
@@ -149,8 +151,9 @@ module _ {D : Type 0} (d : Ghosts D) (journal : Journal D) (book : Book) (spots 
     spots = parts.1;
     table = parts.0.table_is;
     indexed = is;
-    placed = parts.3;
-    known = λ told. known;
+    within = parts.3;
+    placed = parts.4;
+    known = λ so. known;
   }
 
 -- ---- what isn't refused
@@ -188,7 +191,7 @@ module _ {D : Type 0} (d : Ghosts D) (laws : DiskLaws d) (disk : D) (asked : Opt
       stands (book_of opened.gathered.held) (texts d opened.journal) image (is.texts_are told) (is.sound told) (is.left told image left)
 
   module _ (opened : Opened D) (is : IsOpened d disk asked opened) where
-    module _ (held : Holdings D) (made : IsMadeOf opened limits held) where
+    module _ (held : Holdings D) (made : IsMadeOf opened limits d.tells held) where
       rests_to : IsTrue d.tells → Rests d disk (disk_of held.journal)
       rests_to told = subst (λ (j : Journal D). Rests d disk (disk_of j)) (sym made.journal_is) (is.rests told)
 
@@ -207,17 +210,18 @@ module _ {D : Type 0} (d : Ghosts D) (laws : DiskLaws d) (disk : D) (asked : Opt
         shown = made.shown;
         mine = none_mine held.found (length (captures held.book)) made.found;
         limits_are = made.limits_are;
+        told_is = made.told_is;
         rests = rests_to;
         quiet = quiet_by d laws disk (disk_of held.journal) rests_to;
         faults = ap (λ (j : Journal D). d.faults (disk_of j)) made.journal_is ∙ is.faults;
         only = for_book;
         covered = λ told image left. (
           held.book,
-          for_book told image (laws.now_only (disk_of held.journal) image
-              (subst (λ (t : ℕ). d.images_since (disk_of held.journal) t image) (moment_told d (disk_of held.journal) told) left)),
+          for_book (sym made.told_is ∙ told) image (laws.now_only (disk_of held.journal) image
+              (subst (λ (t : ℕ). d.images_since (disk_of held.journal) t image) (moment_told (muted held.told d) (disk_of held.journal) told) left)),
         );
         state = λ ids x o. inl (one_of o.image x held.book o.stands
-            (for_book o.told o.image (now_image d laws (disk_of held.journal) x o)) ids);
+            (for_book (sym made.told_is ∙ o.told) o.image (now_image (muted held.told d) (laws_muted d held.told laws) (disk_of held.journal) x o)) ids);
       }
 
     -- without memory the disk comes back as it was read
@@ -233,10 +237,10 @@ module _ {D : Type 0} (d : Ghosts D) (laws : DiskLaws d) (disk : D) (asked : Opt
     })
 
     module _ (result : Result (Holdings D) (ReopenFault × D)) where
-      pub reopened : IfOk result (IsMadeOf opened limits) → IfOk result (IsReopened d disk asked limits)
+      pub reopened : IfOk result (IsMadeOf opened limits d.tells) → IfOk result (IsReopened d disk asked limits)
       reopened made = by result made
         where
-          by : (r : Result (Holdings D) (ReopenFault × D)) → IfOk r (IsMadeOf opened limits) → IfOk r (IsReopened d disk asked limits)
+          by : (r : Result (Holdings D) (ReopenFault × D)) → IfOk r (IsMadeOf opened limits d.tells) → IfOk r (IsReopened d disk asked limits)
           by (Ok held) made = reopened_as held made
           by (Err refused) made = tt
 

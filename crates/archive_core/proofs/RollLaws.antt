@@ -21,8 +21,8 @@ use Rattle.archive_shelf.specs.declared.fault.RollFault.TheVariants as rolls
 use Rattle.archive_volumes.specs.Held.{is_filled}
 use Rattle.archive_core.specs.Holdings.{Holdings, IsArchive}
 use Rattle.archive_core.specs.Rolling.{MayBeRefused, Rolls, WritesNoVolume}
-use Rattle.archive_volumes.specs.Volumes.{HoldsBook, IsMeasured, Makes}
-use Rattle.archive_volumes.proofs.SpotLaws.{GoOn, placed_stay, spots_stay}
+use Rattle.archive_volumes.specs.Volumes.{HoldsBook, IsMeasured, Makes, muted}
+use Rattle.archive_volumes.proofs.SpotLaws.{GoOn, placed_stay, spots_stay, within_stay}
 
 -- ---- the volumes
 
@@ -77,7 +77,7 @@ texts_stay was = record { count = omega arith; rest = λ k. []; each = λ k less
 
 -- an archive stays one where its volumes go on and no capture is gained
 pub stays_archive : {D : Type 0} (d : Ghosts D) → EntriesStayAll → (was : Holdings D) (journal : Journal D) (book : Book)
-    → IsArchive d was → HoldsBook d d.tells journal book → IsMeasured journal book → captures book ≡ captures was.book → Grows was.book book
+    → IsArchive d was → HoldsBook d was.told journal book → IsMeasured journal book → captures book ≡ captures was.book → Grows was.book book
     → (IsTrue d.tells → GoOn (texts d was.journal) (texts d journal))
     → IsArchive d (record was { journal = journal; book = book })
 stays_archive d entries_stay was journal book is holds measured same grows on = record {
@@ -93,7 +93,8 @@ stays_archive d entries_stay was journal book is holds measured same grows on = 
   spots = spots_stay was.book book same grows was.spots is.spots;
   table = is.table;
   indexed = is.indexed;
-  placed = λ told. placed_stay (texts d was.journal) (texts d journal) (on told) was.book book []
+  within = λ tells. within_stay (texts d was.journal) (texts d journal) (on tells) was.spots (is.within tells);
+  placed = λ told. placed_stay (texts d was.journal) (texts d journal) (on (is.holds.tells told)) was.book book []
       (same ∙ sym (append-nil (captures was.book))) grows was.spots (is.placed told);
   known = λ told. entries_stay was.book book was.index grows same (is.known told);
 }
@@ -138,7 +139,7 @@ module _ {D : Type 0} (d : Ghosts D) (was : Holdings D) (now : ℕ) where
       (others : IsTrue d.tells → cdxj_files (d.reading (disk_of journal)) ≡ cdxj_files (d.reading (disk_of was.journal))) where
     -- a volume was begun
     pub rolls_ok : {T E : Type 0} (value : T) → book ≡ with_volume was.book now
-        → Makes {T = T} {E = E} d (disk_of was.journal) (disk_of journal) was.book (with_volume was.book now) (Ok value)
+        → Makes {T = T} {E = E} (muted was.told d) (disk_of was.journal) (disk_of journal) was.book (with_volume was.book now) (Ok value)
         → CountsFaults {T = T} {E = E} (d.faults (disk_of was.journal)) (d.faults (disk_of journal)) (Ok value)
         → last_len journal ≡ length (info_text was.book.namespace (length was.book.volumes) now)
         → Rolls {T = ⊤} d was (record was { journal = journal; book = book }) now (Ok tt)
@@ -156,7 +157,7 @@ module _ {D : Type 0} (d : Ghosts D) (was : Holdings D) (now : ℕ) where
 
     -- the disk refused it
     pub rolls_err : {T E : Type 0} (fault : E) → book ≡ was.book
-        → Makes {T = T} {E = E} d (disk_of was.journal) (disk_of journal) was.book (with_volume was.book now) (Err fault)
+        → Makes {T = T} {E = E} (muted was.told d) (disk_of was.journal) (disk_of journal) was.book (with_volume was.book now) (Err fault)
         → CountsFaults {T = T} {E = E} (d.faults (disk_of was.journal)) (d.faults (disk_of journal)) (Err fault)
         → last_len journal ≡ last_len was.journal
         → Rolls {T = ⊤} d was (record was { journal = journal; book = book }) now (Err rolls.DiskFault)
@@ -171,7 +172,7 @@ module _ {D : Type 0} (d : Ghosts D) (was : Holdings D) (now : ℕ) where
       refused = may_be_refused (Err rolls.DiskFault) (is_filled was.book.volumes) filled;
     }
 
-    pub begun_archive : EntriesStayAll → IsArchive d was → HoldsBook d d.tells journal book → IsMeasured journal book
+    pub begun_archive : EntriesStayAll → IsArchive d was → HoldsBook d was.told journal book → IsMeasured journal book
         → book ≡ with_volume was.book now → (info : List ℕ) → (IsTrue d.tells → texts d journal ≡ texts d was.journal ++ info ∷ [])
         → IsArchive d (record was { journal = journal; book = book })
     begun_archive entries_stay is holds measured with_it info goes_on =
@@ -180,7 +181,7 @@ module _ {D : Type 0} (d : Ghosts D) (was : Holdings D) (now : ℕ) where
         (subst (λ (b : Book). Grows was.book b) (sym with_it) (volume_grows was.book now))
         (λ told. subst (λ (after : List (List ℕ)). GoOn (texts d was.journal) after) (sym (goes_on told)) (texts_go_on (texts d was.journal) info))
 
-    pub refused_archive : EntriesStayAll → Grows was.book was.book → IsArchive d was → HoldsBook d d.tells journal book → IsMeasured journal book
+    pub refused_archive : EntriesStayAll → Grows was.book was.book → IsArchive d was → HoldsBook d was.told journal book → IsMeasured journal book
         → book ≡ was.book → (IsTrue d.tells → texts d journal ≡ texts d was.journal)
         → IsArchive d (record was { journal = journal; book = book })
     refused_archive entries_stay itself is holds measured same stays =

@@ -16,7 +16,7 @@ use Rattle.warc_journal.specs.declared.journal.Journal.{Journal}
 use Rattle.archive_shelf.proofs.EntryLaws.{contains_entry}
 use Rattle.archive_shelf.specs.Storing.{is_revisit}
 use Rattle.archive_core.specs.Holdings.{Holdings, IsArchive}
-use Rattle.archive_volumes.specs.Spots.{ArePlaced, AreSpotsOf, whole_from}
+use Rattle.archive_volumes.specs.Spots.{ArePlaced, AreSpotsOf, AreWithin, whole_from}
 use Rattle.archive_volumes.specs.Volumes.{HoldsBook, IsMeasured}
 use Rattle.archive_volumes.specs.declared.spot.Spot.{Spot}
 
@@ -34,13 +34,14 @@ revisits_more all stored =
     ∙ one_more (is_revisit stored.kept) (count_by (λ (s : Stored). is_revisit s.kept) all)
 
 module _ {D : Type 0} (d : Ghosts D) (was : Holdings D) (is : IsArchive d was) (journal : Journal D) (now : Book) (table : Table)
-    (holds : HoldsBook d d.tells journal now) (measured : IsMeasured journal now) where
+    (holds : HoldsBook d was.told journal now) (measured : IsMeasured journal now) where
   -- a book with the same captures is held: nothing was stored, but a volume may have been begun
   pub archive_left : (index : List Facts) (spots : List Spot) → captures now ≡ captures was.book → index ≡ was.index
       → table.kept ≡ whole_from 0 spots → AreSpotsOf now spots
-      → (IsTrue d.tells → ArePlaced (texts d journal) now spots) → (IsTrue d.tells → AreOf now was.index)
+      → (IsTrue d.tells → AreWithin (texts d journal) spots)
+      → (IsTrue was.told → ArePlaced (texts d journal) now spots) → (IsTrue was.told → AreOf now was.index)
       → IsArchive d (record was { journal = journal; book = now; table = table; index = index; spots = spots })
-  archive_left index spots same stays kept are placed known =
+  archive_left index spots same stays kept are within placed known =
       let count : length (captures now) ≡ length (captures was.book) = ap (λ (l : List Stored). length l) same in
       record {
         holds = holds;
@@ -55,6 +56,7 @@ module _ {D : Type 0} (d : Ghosts D) (was : Holdings D) (is : IsArchive d was) (
         spots = are;
         table = kept;
         indexed = subst IsIndex (sym stays) is.indexed;
+        within = within;
         placed = placed;
         known = λ told. subst (λ (l : List Facts). AreOf now l) (sym stays) (known told);
       }
@@ -65,9 +67,10 @@ module _ {D : Type 0} (d : Ghosts D) (was : Holdings D) (is : IsArchive d was) (
       → (index ≡ was.index) ⊎ ((entry : Facts) × (entry.number ≡ length (captures was.book)) × (index ≡ with_entry entry was.index))
       → IsIndex index → revisits ≡ was.revisits + (if is_revisit stored.kept then 1 else 0)
       → table.kept ≡ whole_from 0 spots → AreSpotsOf now spots
-      → (IsTrue d.tells → ArePlaced (texts d journal) now spots) → (IsTrue d.tells → AreOf now index)
+      → (IsTrue d.tells → AreWithin (texts d journal) spots)
+      → (IsTrue was.told → ArePlaced (texts d journal) now spots) → (IsTrue was.told → AreOf now index)
       → IsArchive d (record was { journal = journal; book = now; table = table; index = index; spots = spots; revisits = revisits })
-  archive_stored stored index spots revisits gains not_full entered indexed more kept are placed known =
+  archive_stored stored index spots revisits gains not_full entered indexed more kept are within placed known =
       let count : length (captures now) ≡ length (captures was.book) + 1 =
       ap (λ (l : List Stored). length l) gains ∙ length-append (captures was.book) (stored ∷ []) in
       record {
@@ -93,6 +96,7 @@ module _ {D : Type 0} (d : Ghosts D) (was : Holdings D) (is : IsArchive d was) (
         spots = are;
         table = kept;
         indexed = indexed;
+        within = within;
         placed = placed;
         known = known;
       }

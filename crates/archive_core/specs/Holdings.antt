@@ -14,12 +14,13 @@ use Rattle.warc_journal.specs.declared.journal.Journal.{Journal}
 use Rattle.archive_shelf.specs.Contents.{Contents}
 use Rattle.archive_shelf.specs.Storing.{is_revisit}
 use Rattle.archive_core.specs.Shown.{numbered, numbers_from}
-use Rattle.archive_volumes.specs.Spots.{ArePlaced, AreSpotsOf, whole_from}
+use Rattle.archive_volumes.specs.Spots.{ArePlaced, AreSpotsOf, AreWithin, whole_from}
 use Rattle.archive_volumes.specs.Volumes.{HoldsBook, IsMeasured}
 use Rattle.archive_volumes.specs.declared.spot.Spot.{Spot}
 
 -- What an archive holds: the journal of its volumes and their book, the index, the table of digests, what is kept of each
--- capture, its limits, how many captures it found when it was opened, and how many refer to another one.
+-- capture, its limits, how many captures it found when it was opened, how many refer to another one, and whether it is told what
+-- the book has.
 pub record Holdings (D : Type 0) : Type 0 where
   pub journal : Journal D
   pub book : Book
@@ -29,6 +30,7 @@ pub record Holdings (D : Type 0) : Type 0 where
   pub limits : Limits
   pub found : ℕ
   pub revisits : ℕ
+  pub told : Bool
 
 -- limits under which all numbers and lengths of an archive can be written down
 pub record AreLimits (limits : Limits) : Type 0 where
@@ -43,22 +45,24 @@ pub record IsCounted {D : Type 0} (held : Holdings D) : Type 0 where
   pub below : (entry : Facts) → Contains held.index entry → entry.number < length (captures held.book)
   pub limits : AreLimits held.limits
 
--- What holds of an archive at each call: of every disk what doesn't speak of bytes, and where the disk tells what it holds, that
--- the captures stand in the volumes where it says, and that the index is that of the book.
+-- What holds of an archive at each call: of every disk what doesn't speak of bytes; where the disk tells what it holds, that what is
+-- read of the captures is within the volumes; and where the book is told, which is only of a disk that tells, that they stand there
+-- where it says, and that the index is that of the book.
 pub record IsArchive {D : Type 0} (d : Ghosts D) (held : Holdings D) : Type 0 where
-  pub holds : HoldsBook d d.tells held.journal held.book
+  pub holds : HoldsBook d held.told held.journal held.book
   pub measured : IsMeasured held.journal held.book
   pub counted : IsCounted held
   pub spots : AreSpotsOf held.book held.spots
   pub table : held.table.kept ≡ whole_from 0 held.spots
   pub indexed : IsIndex held.index
-  pub placed : IsTrue d.tells → ArePlaced (texts d held.journal) held.book held.spots
-  pub known : IsTrue d.tells → AreOf held.book held.index
+  pub within : IsTrue d.tells → AreWithin (texts d held.journal) held.spots
+  pub placed : IsTrue held.told → ArePlaced (texts d held.journal) held.book held.spots
+  pub known : IsTrue held.told → AreOf held.book held.index
 
 -- what is told of an archive
-abbrev pub contents_of : {D : Type 0} → Bool → Holdings D → Contents
-contents_of tells held = record {
-  tells = tells;
+abbrev pub contents_of : {D : Type 0} → Holdings D → Contents
+contents_of held = record {
+  tells = held.told;
   seen = held.book;
   shown = numbered held.index;
   mine = numbers_from held.found (length (captures held.book) - held.found);

@@ -6,7 +6,7 @@ use Rattle.capture.specs.Growth.{Grows}
 use Rattle.capture.specs.Soundness.{HasSoundCaptures}
 use Rattle.capture.specs.declared.captured.Taken.{Taken}
 use Rattle.disk_model.specs.declared.disk.Disk.{Ghosts}
-use Rattle.warc_journal.specs.Journals.{last_len}
+use Rattle.warc_journal.specs.Journals.{disk_of, last_len}
 use Rattle.archive_shelf.specs.Answers.{IsDamaged, IsFull, IsNotFull}
 use Rattle.archive_shelf.specs.Comparing.{CanRefer, IsRight, IsSameAs}
 use Rattle.archive_shelf.specs.Contents.{Contents}
@@ -17,10 +17,12 @@ use Rattle.archive_shelf.specs.declared.looked.Looked.{Looked}
 use Rattle.archive_core.specs.Holdings.{Holdings}
 use Rattle.archive_core.specs.Told.{told_of}
 
--- All stays but the disk: that gives what it gave, and nothing more may be opened. The last volume ends where it ended.
+-- All stays but the disk: that gives what it gave, also where the book isn't told, and nothing more may be opened. The last volume
+-- ends where it ended.
 pub record OnlyLooks {D : Type 0} (d : Ghosts D) (was is : Holdings D) : Type 0 where
   pub others : is ≡ record was { journal = is.journal }
   pub ends : last_len is.journal ≡ last_len was.journal
+  pub reading : IsTrue d.tells → d.reading (disk_of is.journal) ≡ d.reading (disk_of was.journal)
   pub unwritten : WritesNothing true (told_of d was) (told_of d is)
 
 -- what looking for a payload answers: it is full exactly where the book is, and want of memory may be answered anywhere
@@ -44,7 +46,7 @@ abbrev pub IsRightOf : Contents → Taken → Looked → Type 0
 IsRightOf now taken looked =
     (payload : List ℕ) → HasPayload taken.cut taken.method taken.head taken.wire payload → IsRight now.tells now.seen payload looked
 
--- it may refer to this one, if to any, and where the disk tells it does
+-- it may refer to this one, if to any, and where the book is told it does
 pub record RefersTo (now : Contents) (taken : Taken) (same : Option ℕ) : Type 0 where
   pub can : CanRefer taken.cut now.seen same
   pub does : IsTrue now.tells → IsSameAs now.seen taken same

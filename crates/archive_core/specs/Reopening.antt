@@ -1,5 +1,5 @@
 -- What opening an archive gives, and what it leaves on the disk.
-use Rattle.std.specs.Prelude.{◌≡◌, IsTrue, List, ℕ, [], length, Option, Some, None, ⊤}
+use Rattle.std.specs.Prelude.{◌≡◌, Bool, IsTrue, List, ℕ, [], length, Option, Some, None, ⊤}
 use Rattle.capture.specs.Captures.{captures}
 use Rattle.capture.specs.declared.book.Book.{Book}
 use Rattle.capture.specs.declared.limits.Limits.{Limits}
@@ -17,8 +17,9 @@ use Rattle.archive_volumes.specs.Held.{book_of}
 use Rattle.archive_core.specs.Holdings.{Holdings, contents_of}
 use Rattle.archive_opening.specs.Opening.{CountsFault, IsCause, IsDamageIn, IsIn, IsOtherIn}
 use Rattle.archive_core.specs.Shown.{numbered}
+use Rattle.archive_core.specs.Told.{told_of}
 use Rattle.archive_opening.specs.declared.opening.Opened.{Opened}
-use Rattle.archive_volumes.specs.Volumes.{IsQuiet, crash_of}
+use Rattle.archive_volumes.specs.Volumes.{IsQuiet}
 
 -- An archive as it is opened on a disk.
 pub record IsReopened {D : Type 0} (d : Ghosts D) (disk : D) (asked : Option (List ℕ)) (limits : Limits) (held : Holdings D) : Type 0 where
@@ -30,26 +31,28 @@ pub record IsReopened {D : Type 0} (d : Ghosts D) (disk : D) (asked : Option (Li
   -- it has the namespace that is asked for; where none is, one without volumes has the UUID of zeros
   pub in_namespace : IsIn asked held.book
   -- exactly the book's entries are shown; no capture is its own yet; it has the limits that are given
-  pub shown : AreEntries held.book (contents_of d.tells held).shown
-  pub mine : (contents_of d.tells held).mine ≡ []
+  pub shown : AreEntries held.book (contents_of held).shown
+  pub mine : (contents_of held).mine ≡ []
   pub limits_are : held.limits ≡ limits
+  -- what the book has is told where the disk tells
+  pub told_is : held.told ≡ d.tells
   -- nothing was written: a read gives what it gave, and nothing more may be opened
   pub rests : IsTrue d.tells → Rests d disk (disk_of held.journal)
   pub quiet : IsQuiet d disk (disk_of held.journal)
   pub faults : d.faults (disk_of held.journal) ≡ d.faults disk
   -- each image that a crash leaves from now on stands for the book, and where its ids differ, for no other one
   pub only : IsTrue d.tells → Leaves (d.images (disk_of held.journal)) (λ image. ImageStandsFor image held.book)
-  pub covered : (crash_of d (disk_of held.journal)).covered (crash_of d (disk_of held.journal)).moment
-  pub state : IdsDifferIn held.book
-      → IsState (crash_of d (disk_of held.journal)) held.book None
+  pub covered : (told_of d held).crash.covered (told_of d held).crash.moment
+  pub state : IdsDifferIn held.book → IsState (told_of d held).crash held.book None
 
 -- An archive as it is made of what was opened, whatever the disk tells.
-pub record IsMadeOf {D : Type 0} (opened : Opened D) (limits : Limits) (held : Holdings D) : Type 0 where
+pub record IsMadeOf {D : Type 0} (opened : Opened D) (limits : Limits) (told : Bool) (held : Holdings D) : Type 0 where
   pub journal_is : held.journal ≡ opened.journal
   pub book_is : held.book ≡ book_of opened.gathered.held
   pub shown : AreEntries held.book (numbered held.index)
   pub found : held.found ≡ length (captures held.book)
   pub limits_are : held.limits ≡ limits
+  pub told_is : held.told ≡ told
 
 -- the cause isn't what the disk holds: the disk failed, or there was no memory
 abbrev pub IsOutside : ReopenFault → Type 0

@@ -11,7 +11,7 @@ use Rattle.archive_shelf.specs.declared.fault.RollFault.{RollFault}
 use Rattle.archive_shelf.specs.declared.fault.RollFault.TheVariants as rolls
 use Rattle.archive_volumes.specs.Held.{is_filled}
 use Rattle.archive_core.specs.Holdings.{Holdings}
-use Rattle.archive_volumes.specs.Volumes.{Makes}
+use Rattle.archive_volumes.specs.Volumes.{Makes, muted}
 
 abbrev pub is_roll_fault : {T : Type 0} → Result T RollFault → Bool
 is_roll_fault (Ok done) = false
@@ -41,7 +41,7 @@ pub record Rolls {D T : Type 0} (d : Ghosts D) (was is : Holdings D) (now : ℕ)
   pub ends : last_len is.journal ≡ (if is_ok result then rolled_end was.book now (last_len was.journal) else last_len was.journal)
   pub faults : CountsIf (is_roll_fault result) (d.faults (disk_of was.journal)) (d.faults (disk_of is.journal))
   pub makes : IsTrue (is_filled was.book.volumes)
-      → Makes d (disk_of was.journal) (disk_of is.journal) was.book (with_volume was.book now) result
+      → Makes (muted was.told d) (disk_of was.journal) (disk_of is.journal) was.book (with_volume was.book now) result
   pub checkpoints : IsTrue d.tells → cdxj_files (d.reading (disk_of is.journal)) ≡ cdxj_files (d.reading (disk_of was.journal))
   pub unwritten : WritesNoVolume (is_filled was.book.volumes) result → is ≡ was
   pub refused : MayBeRefused (is_filled was.book.volumes) result

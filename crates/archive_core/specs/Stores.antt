@@ -15,7 +15,7 @@ use Rattle.archive_shelf.specs.declared.receipt.Receipt.{Receipt}
 use Rattle.archive_core.specs.Holdings.{Holdings}
 use Rattle.archive_core.specs.Told.{told_of}
 use Rattle.archive_volumes.specs.Grouping.{IsGroupFor}
-use Rattle.archive_volumes.specs.Volumes.{LeavesJust}
+use Rattle.archive_volumes.specs.Volumes.{LeavesJust, muted}
 use Rattle.archive_volumes.specs.Writing.{IsNeeded}
 
 -- Whether a capture more may be stored: it is full exactly where there are as many as there may be.
@@ -43,6 +43,6 @@ pub record FillsVolumes {D : Type 0} (was is : Holdings D) (taken : Taken) (same
 -- a capture was stored, or refused
 pub record Stores {D : Type 0} (d : Ghosts D) (was is : Holdings D) (taken : Taken) (result : Result Receipt StoreFault) : Type 0 where
   pub told : StoresOn true taken (told_of d was) (told_of d is) result
-  -- once it is stored, the files of the volumes are just the texts of the book, in each image
-  pub just : OnOk result (LeavesJust d (disk_of is.journal) is.book)
+  -- once it is stored, the files of the volumes are just the texts of the book, in each image, where that is told
+  pub just : OnOk result (LeavesJust (muted is.told d) (disk_of is.journal) is.book)
   pub fills : IfOk result (λ receipt. FillsVolumes was is taken receipt.same_as)

@@ -13,4 +13,5 @@ holdings_of inside = record {
   limits = inside.limits;
   found = inside.found;
   revisits = inside.revisits;
+  told = inside.told.value;
 }

@@ -17,6 +17,7 @@ use capture::{Limits, Memory};
 use cdxj_index::{Entry, Index};
 use disk_model::{Disk, MemoryDisk};
 use revisit_table::Digests;
+use shown::Shown;
 use std::alloc::Global;
 use std::marker::Model;
 use surt_key::Key;
@@ -39,6 +40,8 @@ pub struct Archive<D: Disk> {
     pub(crate) found: u32,
     /// How many captures refer to an earlier one.
     pub(crate) revisits: u32,
+    /// Whether it is told what the book has.
+    pub(crate) told: Shown<bool>,
 }
 
 impl<D: Disk> Model for Archive<D> {
@@ -75,9 +78,9 @@ impl<D: Disk> Archive<D> {
     /// The entry that is shown under a number; none exactly where none is. Takes no memory.
     pub fn entry(&self, number: u32) -> Option<&Entry>
         ensures indexed { option_copied result ≡ with_number number self.now.index }
-        ensures shown { IfSome (option_copied result) (λ e. Contains (contents_of D.tells self.now).shown e) }
+        ensures shown { IfSome (option_copied result) (λ e. Contains (contents_of self.now).shown e) }
         ensures number { IfSome (option_copied result) (λ e. e.number ≡ number) }
-        ensures none { IfNone (option_copied result) (ShowsNone (contents_of D.tells self.now) number) }
+        ensures none { IfNone (option_copied result) (ShowsNone (contents_of self.now) number) }
     {
         self.index.at(number)
     }
@@ -112,7 +115,7 @@ impl<D: Disk> Archive<D> {
 
     /// Refuses a capture more where there are as many as there may be.
     pub(crate) fn check_room(&self) -> Result<(), StoreFault>
-        ensures { Admits (contents_of D.tells self.now) result }
+        ensures { Admits (contents_of self.now) result }
     {
         let count = self.spots.len() as u32;
         let limit = self.limits.captures;
@@ -122,11 +125,11 @@ impl<D: Disk> Archive<D> {
         Ok(())
     }
 
-    /// Gives the disk back. Where it tells what it holds, what a read gives and what a crash may leave stand for sound books,
-    /// the one that was seen last or one next to it.
+    /// Gives the disk back. Where the book is told, what a read gives and what a crash may leave stand for sound books, the one
+    /// that was seen last or one next to it.
     pub fn close(self) -> D
         ensures disk { result ≡ disk_of self.journal }
-        ensures near { IsTrue D.tells → OpensNear D.Disk result self.book }
+        ensures near { IsTrue self.told → OpensNear D.Disk result self.book }
     {
         self.volumes.journal.into_disk()
     }
@@ -149,6 +152,7 @@ impl Archive<MemoryDisk> {
             limits: self.limits,
             found: self.found,
             revisits: self.revisits,
+            told: self.told,
         }
     }
 }

@@ -21,7 +21,6 @@ use capture::{Digest, Framing, Memory, Taken, wires_have_one_payload};
 use disk_model::Disk;
 use message_body::{Payload, PayloadFault, Slices, payload_in};
 use sha1::Sha1;
-use shown::Shown;
 use std::alloc::Global;
 
 impl<D: Disk> Archive<D> {
@@ -37,17 +36,16 @@ impl<D: Disk> Archive<D> {
     ) -> Result<Looked, StoreFault>
         requires wire { IsWire false framing wire.now }
         requires digest { (payload : List ℕ) → IsPayload false framing wire.now payload → digest.now ≡ sha1 payload }
-        requires right { (payload : List ℕ) → IsPayload false framing wire.now payload → IsRight D.tells self.old.book payload looked }
-        ensures looks { (payload : List ℕ) → IsPayload false framing wire.now payload → LooksOn D.tells self.new.book payload result }
+        requires right { (payload : List ℕ) → IsPayload false framing wire.now payload → IsRight self.old.told self.old.book payload looked }
+        ensures looks { (payload : List ℕ) → IsPayload false framing wire.now payload → LooksOn self.new.told self.new.book payload result }
         ensures since { NoneDamagedBelow looked.upto result }
         ensures only_looks { OnlyLooks D.Disk self.old self.new }
         ensures faults { CountsIf (is_look_fault result) (D.faults (disk_of self.old.journal)) (D.faults (disk_of self.new.journal)) }
-        ensures sound { IsTrue D.tells → IsSound self.new.book }
+        ensures sound { IsTrue self.new.told → IsSound self.new.book }
     {
         let candidates = self.table.candidates_from(digest, looked.upto);
-        let told = Shown::told_by(&self.found);
         self.volumes.look_on_wire(
-            &told,
+            &self.told,
             alloc,
             self.spots.as_slice(),
             candidates,
@@ -67,12 +65,12 @@ impl<D: Disk> Archive<D> {
         looked: Looked,
     ) -> Result<Looked, StoreFault>
         requires digest { digest.now ≡ sha1 payload.now }
-        requires right { IsRight D.tells self.old.book payload.now looked }
-        ensures looks { Looks (contents_of D.tells self.new) payload.now result }
+        requires right { IsRight self.old.told self.old.book payload.now looked }
+        ensures looks { Looks (contents_of self.new) payload.now result }
         ensures since { NoneDamagedBelow looked.upto result }
         ensures only_looks { OnlyLooks D.Disk self.old self.new }
         ensures faults { CountsIf (is_look_fault result) (D.faults (disk_of self.old.journal)) (D.faults (disk_of self.new.journal)) }
-        ensures sound { OnOk result (IsTrue D.tells → IsSound self.new.book) }
+        ensures sound { OnOk result (IsTrue self.new.told → IsSound self.new.book) }
     {
         self.check_room()?;
         self.look_on(alloc, Framing::ToEnd, payload, digest, looked)
@@ -139,8 +137,8 @@ impl<D: Disk> Archive<D> {
     ) -> Result<Option<u32>, StoreFault>
         requires wire { IsWire false framing wire.now }
         requires digest { (payload : List ℕ) → IsPayload false framing wire.now payload → digest.now ≡ sha1 payload }
-        requires right { (payload : List ℕ) → IsPayload false framing wire.now payload → IsRight D.tells self.old.book payload looked }
-        ensures finds { (payload : List ℕ) → IsPayload false framing wire.now payload → FindsAmongAll D.tells self.new.book payload result }
+        requires right { (payload : List ℕ) → IsPayload false framing wire.now payload → IsRight self.old.told self.old.book payload looked }
+        ensures finds { (payload : List ℕ) → IsPayload false framing wire.now payload → FindsAmongAll self.new.told self.new.book payload result }
         ensures since { NoneDamagedBelow looked.upto result }
         ensures looks { OnlyLooks D.Disk self.old self.new }
         ensures faults { CountsIf (is_look_fault result) (D.faults (disk_of self.old.journal)) (D.faults (disk_of self.new.journal)) }
@@ -162,8 +160,8 @@ impl<D: Disk> Archive<D> {
         requires fits { Fits taken.now }
         requires framed { IsFramedBy taken.now framing }
         requires digest { IsDigestOf taken.now digest.now }
-        requires right { IsRightOf (contents_of D.tells self.old) taken.now looked }
-        ensures refers { LooksFor (contents_of D.tells self.new) taken.now result }
+        requires right { IsRightOf (contents_of self.old) taken.now looked }
+        ensures refers { LooksFor (contents_of self.new) taken.now result }
         ensures looks { OnlyLooks D.Disk self.old self.new }
         ensures faults { CountsIf (is_look_fault result) (D.faults (disk_of self.old.journal)) (D.faults (disk_of self.new.journal)) }
     {
@@ -185,8 +183,8 @@ impl<D: Disk> Archive<D> {
     ) -> Result<Option<u32>, StoreFault>
         requires fits { Fits taken.now }
         requires digest { IsDigestOf taken.now digest.now }
-        requires right { IsRightOf (contents_of D.tells self.old) taken.now looked }
-        ensures refers { LooksFor (contents_of D.tells self.new) taken.now result }
+        requires right { IsRightOf (contents_of self.old) taken.now looked }
+        ensures refers { LooksFor (contents_of self.new) taken.now result }
         ensures looks { OnlyLooks D.Disk self.old self.new }
         ensures since { NoneDamagedBelow looked.upto result }
         ensures unread { looked.upto ≡ length (captures self.old.book) → self.new ≡ self.old }

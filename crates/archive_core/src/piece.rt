@@ -10,13 +10,12 @@ use crate::Archive;
 use archive_shelf::BringFault;
 use capture::Bytes;
 use disk_model::Disk;
-use shown::Shown;
 use std::alloc::Global;
 
 impl<D: Disk> Archive<D> {
     /// The piece of the capture with this number.
     pub(crate) fn piece_numbered(&mut self, alloc: Global, number: u32) -> Result<Bytes, BringFault>
-        ensures gives { GivesPiece (contents_of D.tells self.new) number result }
+        ensures gives { GivesPiece (contents_of self.new) number result }
         ensures digests { PieceGoesByDigest self.new.book number result }
         ensures looks { OnlyLooks D.Disk self.old self.new }
         ensures faults { CountsIf (is_piece_fault result) (D.faults (disk_of self.old.journal)) (D.faults (disk_of self.new.journal)) }
@@ -25,8 +24,7 @@ impl<D: Disk> Archive<D> {
         if number >= count {
             return Err(BringFault::NoSuch { count });
         }
-        let told = Shown::told_by(&self.found);
         self.volumes
-            .piece(&told, alloc, self.spots.as_slice(), number)
+            .piece(&self.told, alloc, self.spots.as_slice(), number)
     }
 }

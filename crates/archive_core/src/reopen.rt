@@ -41,22 +41,26 @@ impl<D: Disk> Archive<D> {
         ensures refused { IfErr result (IsNotOpened D.Disk disk namespace) }
     {
         match open_volumes(alloc, disk, &namespace) {
-            Ok(opened) => archive_of(alloc, opened, limits),
+            Ok(opened) => {
+                let told = Shown::told_by(&limits);
+                archive_of(alloc, opened, limits, told)
+            }
             Err(refused) => Err(refused),
         }
     }
 }
 
-/// The archive of what was opened.
+/// The archive of what was opened, of whose book it is told what it has, or isn't.
 fn archive_of<D: Disk>(
     alloc: Global,
     opened: Opened<D>,
     limits: Limits,
+    told: Shown<bool>,
 ) -> Result<Archive<D>, (ReopenFault, D)>
     requires limits { AreLimits limits }
-    requires usable { IsUsable D.Disk D.tells opened }
+    requires usable { IsUsable D.Disk told.value opened }
     requires entries { AreEntries (book_of opened.gathered.held) opened.gathered.entries.items }
-    ensures made { IfOk result (IsMadeOf opened limits) }
+    ensures made { IfOk result (IsMadeOf opened limits told.value) }
     ensures memory { IfErr result (λ refused. refused ≡ (IsMemory, disk_of opened.journal)) }
 {
     let Opened { journal, gathered } = opened;
@@ -67,7 +71,6 @@ fn archive_of<D: Disk>(
     };
     let found = spots.len() as u32;
     let revisits = revisits_among(spots.as_slice()) as u32;
-    let told = Shown::told_by(&found);
     Ok(Archive {
         volumes: Volumes::over(journal, held, &told),
         index,
@@ -76,6 +79,7 @@ fn archive_of<D: Disk>(
         limits,
         found,
         revisits,
+        told,
     })
 }
 

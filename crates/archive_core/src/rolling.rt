@@ -5,7 +5,6 @@ ghost use Rattle.archive_core.specs.Rolling.{Rolls};
 use crate::Archive;
 use archive_shelf::{RollFault, entries_gain_what_is_stored, leading_books_grow};
 use disk_model::Disk;
-use shown::Shown;
 use std::alloc::Global;
 
 impl<D: Disk> Archive<D> {
@@ -20,8 +19,7 @@ impl<D: Disk> Archive<D> {
             return Ok(());
         }
         let prepared = self.volumes.prepare(alloc, now)?;
-        let told = Shown::told_by(&self.found);
-        self.volumes.begin(&told, prepared)?;
+        self.volumes.begin(&self.told, prepared)?;
         Ok(())
     }
 }

@@ -13,7 +13,6 @@ use crate::Archive;
 use archive_shelf::{BringFault, Receipt, Shelf, StoreFault};
 use capture::{Brought, Bytes, Taken};
 use disk_model::Disk;
-use shown::Shown;
 use std::alloc::Global;
 
 impl<D: Disk> Archive<D> {
@@ -23,7 +22,7 @@ impl<D: Disk> Archive<D> {
         alloc: Global,
         number: u32,
     ) -> Result<Brought, BringFault>
-        ensures brings { Brings (contents_of D.tells self.new) number result }
+        ensures brings { Brings (contents_of self.new) number result }
         ensures names { NamesKeeper self.new.book number result }
         ensures digests { GoesByDigest self.new.book number result }
         ensures looks { OnlyLooks D.Disk self.old self.new }
@@ -33,9 +32,8 @@ impl<D: Disk> Archive<D> {
         if number >= count {
             return Err(BringFault::NoSuch { count });
         }
-        let told = Shown::told_by(&self.found);
         self.volumes
-            .bring(&told, alloc, self.spots.as_slice(), number)
+            .bring(&self.told, alloc, self.spots.as_slice(), number)
     }
 
     /// What holds of an archive at each call. A trait's method has no clause of its own that says it.
@@ -45,11 +43,12 @@ impl<D: Disk> Archive<D> {
         let _ = &self.limits;
     }
 
-    /// An archive shows its book, whatever was called before: where the disk tells, the book is sound and its entries are what is
-    /// shown; what may be opened is next to it.
+    /// An archive shows its book, whatever was called before: where that is told, which is only of a disk that tells, the book is
+    /// sound and its entries are what is shown; what may be opened is next to it.
     pub fn shows_its_book(&self)
         ensures shows { ShowsItsBook true (told_of D.Disk self.now) }
-        ensures near { IsTrue D.tells → OpensNear D.Disk (disk_of self.now.journal) self.now.book }
+        ensures near { IsTrue self.now.told → OpensNear D.Disk (disk_of self.now.journal) self.now.book }
+        ensures tells { IsTrue self.now.told → IsTrue D.tells }
     {
         self.is_an_archive();
     }

@@ -18,7 +18,6 @@ use archive_shelf::{
 use archive_volumes::{entry_for, reserve_kept};
 use capture::{Digest, Taken, growth_keeps_captures, wires_have_one_payload};
 use disk_model::Disk;
-use shown::Shown;
 use std::alloc::Global;
 use surt_key::accepted_targets_have_keys;
 use warc_text::texts_are_committed;
@@ -56,10 +55,10 @@ impl<D: Disk> Archive<D> {
         digest: &Digest,
         same: Option<u32>,
     ) -> Result<Receipt, StoreFault>
-        requires not_full { IsNotFull (contents_of D.tells self.old) self.old.book }
+        requires not_full { IsNotFull (contents_of self.old) self.old.book }
         requires fits { Fits taken.now }
         requires digest { IsDigestOf taken.now digest.now }
-        requires refers { RefersTo (contents_of D.tells self.old) taken.now same }
+        requires refers { RefersTo (contents_of self.old) taken.now same }
         ensures stores { Stores D.Disk self.old self.new taken.now result }
         ensures unread { (number : ℕ) → NoneDamagedBelow number result }
     {
@@ -73,10 +72,9 @@ impl<D: Disk> Archive<D> {
         let at = self.volumes.record_at(&ready, number);
         let entry = entry_for(alloc, &ready, taken.head.as_slice(), at)?;
         enter(alloc, &mut self.index, entry)?;
-        let told = Shown::told_by(&self.found);
         match self
             .volumes
-            .commit(&told, &mut self.spots, &mut self.table, ready)
+            .commit(&self.told, &mut self.spots, &mut self.table, ready)
         {
             Ok(()) => {
                 self.revisits += revisits_in(same);
@@ -100,10 +98,10 @@ impl<D: Disk> Archive<D> {
         digest: &Digest,
         looked: Looked,
     ) -> Result<Receipt, StoreFault>
-        requires not_full { IsNotFull (contents_of D.tells self.old) self.old.book }
+        requires not_full { IsNotFull (contents_of self.old) self.old.book }
         requires fits { Fits taken.now }
         requires digest { IsDigestOf taken.now digest.now }
-        requires right { IsRightOf (contents_of D.tells self.old) taken.now looked }
+        requires right { IsRightOf (contents_of self.old) taken.now looked }
         ensures stores { Stores D.Disk self.old self.new taken.now result }
         ensures since { NoneDamagedBelow looked.upto result }
     {
@@ -122,7 +120,7 @@ impl<D: Disk> Archive<D> {
     ) -> Result<Receipt, StoreFault>
         requires fits { Fits taken.now }
         requires digest { IsDigestOf taken.now digest.now }
-        requires right { IsRightOf (contents_of D.tells self.old) taken.now looked }
+        requires right { IsRightOf (contents_of self.old) taken.now looked }
         ensures stores { Stores D.Disk self.old self.new taken.now result }
         ensures since { NoneDamagedBelow looked.upto result }
     {

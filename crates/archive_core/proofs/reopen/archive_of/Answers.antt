@@ -1,11 +1,10 @@
-use Rattle.std.proofs.Common.{rules, ◌≡◌, Bool, length, refl, sym, ap, subst, ◌∙◌}
+use Rattle.std.proofs.Common.{rules, ◌≡◌, length, refl, sym, ap, subst, ◌∙◌}
 use Rattle.std.specs.Prelude.{count_by}
 use Rattle.capture.specs.declared.book.Book.{Book}
 use Rattle.warc_journal.specs.Journals.{texts}
 use Rattle.warc_text.specs.Books.{AreVolumeTexts}
 use Rattle.warc_text.specs.Sound.{IsSound}
 use Rattle.archive_volumes.specs.Held.{book_of}
-use Rattle.archive_volumes.specs.Volumes.{HoldsBook}
 use Rattle.archive_volumes.specs.declared.volumes.Volumes.{Volumes}
 use Rattle.archive_core.proofs.ReopenLaws.{AreParts, made_archive, parts_of, same_spot, shown_sorted}
 use Rattle.archive_core.proofs.reopen.archive_of.Given.{Over}
@@ -14,52 +13,52 @@ use Rattle.archive_core.proofs.reopen.archive_of.Goals as goal
 book_is : (g : Over) (c : goal.After-over g) → book_of c.over.result.held ≡ book_of c.args.opened.gathered.held
 book_is g c = ap (λ (v : Volumes _). book_of v.held) c.over.ensures.value ∙ ap book_of c.into_parts-held.ensures.held
 
-parts : (g : Over) (c : goal.After-over g) → AreParts g.D.Disk c.over.result.journal (book_of c.over.result.held) c.into_parts-held.result.1.items
+parts : (g : Over) (c : goal.After-over g) → AreParts g.D.Disk c.args.told.value c.over.result.journal (book_of c.over.result.held) c.into_parts-held.result.1.items
     c.into_parts-held.result.2 c.args.opened.gathered.lengths.items c.into_parts-held.result.3.items
 parts g c =
-    parts_of g.D.Disk c.args.opened c.requires.usable c.requires.entries c.over.result.journal (book_of c.over.result.held) c.into_parts-held.result.1.items
+    parts_of g.D.Disk c.args.told.value c.args.opened c.requires.usable c.requires.entries c.over.result.journal (book_of c.over.result.held) c.into_parts-held.result.1.items
     c.into_parts-held.result.2 c.into_parts-held.result.3.items (ap (λ (v : Volumes _). v.journal) c.over.ensures.value) (book_is g c)
     c.into_parts-held.ensures.spots c.into_parts-held.ensures.table c.into_parts-held.ensures.entries
 
 pub over-requires-clause-tells : goal.over-requires-clause-tells
-over-requires-clause-tells g c told = sym c.told_by-told.ensures ∙ told
+over-requires-clause-tells g c = c.requires.usable.tells
 
 pub over-requires-clause-texts_are : goal.over-requires-clause-texts_are
 over-requires-clause-texts_are g c told =
     subst (λ (b : Book). AreVolumeTexts b (texts g.D.Disk c.args.opened.journal)) (sym (ap book_of c.into_parts-held.ensures.held))
-    (c.requires.usable.texts_are (sym c.told_by-told.ensures ∙ told))
+    (c.requires.usable.texts_are told)
 
 pub over-requires-clause-sound : goal.over-requires-clause-sound
 over-requires-clause-sound g c told =
-    subst IsSound (sym (ap book_of c.into_parts-held.ensures.held)) (c.requires.usable.sound (sym c.told_by-told.ensures ∙ told))
+    subst IsSound (sym (ap book_of c.into_parts-held.ensures.held)) (c.requires.usable.sound told)
 
-found_is : (g : Over) (c : goal.After-over g) → c.len.result ≡ length c.into_parts-held.result.1.items
+found_is : (g : Over) (c : goal.After-over g) → c.len-found.result ≡ length c.into_parts-held.result.1.items
 found_is g c = search rules
 
 pub invariant_of-result : goal.invariant_of-result
 invariant_of-result g c =
-    made_archive g.D.Disk c.over.result.journal (book_of c.over.result.held) c.into_parts-held.result.1.items c.into_parts-held.result.2
+    made_archive g.D.Disk c.args.told.value c.over.result.journal (book_of c.over.result.held) c.into_parts-held.result.1.items c.into_parts-held.result.2
     c.args.opened.gathered.lengths.items c.into_parts-held.result.3.items c.in-Ok.index (parts g c) c.in-Ok.ensures.same c.in-Ok.ensures.index
-    c.args.limits c.len.result c.revisits_among-revisits.result
-    (subst (λ (t : Bool). HoldsBook g.D.Disk t c.over.result.journal (book_of c.over.result.held)) c.told_by-told.ensures c.over.ensures.holds)
-    c.over.ensures.measured c.requires.limits (found_is g c)
+    c.args.limits c.len-found.result c.revisits_among-revisits.result
+    c.over.ensures.holds c.over.ensures.measured c.requires.limits (found_is g c)
     (c.revisits_among-revisits.ensures ∙ ap (count_by same_spot) c.as_slice.ensures.value)
 
 pub returns-clause-made : goal.returns-clause-made
 returns-clause-made g c =
     let book : book_of c.over.result.held ≡ book_of c.args.opened.gathered.held =
     ap (λ (v : Volumes _). book_of v.held) c.over.ensures.value ∙ ap book_of c.into_parts-held.ensures.held in
-    let are : AreParts g.D.Disk c.over.result.journal (book_of c.over.result.held) c.into_parts-held.result.1.items
+    let are : AreParts g.D.Disk c.args.told.value c.over.result.journal (book_of c.over.result.held) c.into_parts-held.result.1.items
     c.into_parts-held.result.2 c.args.opened.gathered.lengths.items c.into_parts-held.result.3.items =
-    parts_of g.D.Disk c.args.opened c.requires.usable c.requires.entries c.over.result.journal (book_of c.over.result.held) c.into_parts-held.result.1.items
+    parts_of g.D.Disk c.args.told.value c.args.opened c.requires.usable c.requires.entries c.over.result.journal (book_of c.over.result.held) c.into_parts-held.result.1.items
     c.into_parts-held.result.2 c.into_parts-held.result.3.items (ap (λ (v : Volumes _). v.journal) c.over.ensures.value) book
     c.into_parts-held.ensures.spots c.into_parts-held.ensures.table c.into_parts-held.ensures.entries in
-    let count : c.len.result ≡ length c.into_parts-held.result.1.items = search rules in
+    let count : c.len-found.result ≡ length c.into_parts-held.result.1.items = search rules in
     record {
       journal_is = ap (λ (v : Volumes _). v.journal) c.over.ensures.value;
       book_is = book;
-      shown = shown_sorted g.D.Disk c.over.result.journal (book_of c.over.result.held) c.into_parts-held.result.1.items c.into_parts-held.result.2
+      shown = shown_sorted g.D.Disk c.args.told.value c.over.result.journal (book_of c.over.result.held) c.into_parts-held.result.1.items c.into_parts-held.result.2
           c.args.opened.gathered.lengths.items c.into_parts-held.result.3.items c.in-Ok.index are c.in-Ok.ensures.same c.in-Ok.ensures.index;
       found = count ∙ are.0.count;
       limits_are = refl;
+      told_is = refl;
     }

@@ -1,4 +1,4 @@
-use Rattle.std.proofs.Common.{rules, ◌≡◌, ◌<◌, ◌≤◌, refl, sym, subst, ◌∙◌, arith, Bool}
+use Rattle.std.proofs.Common.{rules, ◌≡◌, ◌<◌, ◌≤◌, refl, sym, subst, ◌∙◌, arith}
 use Rattle.std.specs.Prelude.{length}
 use Rattle.capture.specs.Captures.{captures}
 use Rattle.capture.specs.declared.book.Book.{Book}
@@ -8,9 +8,8 @@ use Rattle.archive_volumes.specs.Bringing.{BringsFrom}
 use Rattle.archive_volumes.specs.Held.{book_of}
 use Rattle.warc_journal.specs.Journals.{texts}
 use Rattle.archive_volumes.specs.Spots.{ArePlaced, AreWithin}
-use Rattle.archive_volumes.proofs.BringLaws.{within_of}
-use Rattle.archive_volumes.specs.Volumes.{HoldsBook}
 use Rattle.archive_core.specs.Holdings.{Holdings, IsArchive}
+use Rattle.archive_core.specs.Looking.{OnlyLooks}
 use Rattle.archive_core.specs.View.{holdings_of}
 use Rattle.archive_core.proofs.ReadLaws as laws
 use Rattle.archive_core.proofs.archive.Archive.bring_numbered.Goals as goal
@@ -26,17 +25,17 @@ returns-then-number-count-clause-brings g c =
 
 pub bring-requires-clause-holds : goal.bring-requires-clause-holds
 bring-requires-clause-holds g c =
-    subst (λ (t : Bool). HoldsBook g.D.Disk t c.self.inside.volumes.journal (book_of c.self.inside.volumes.held)) (sym c.told_by-told.ensures) c.self.invariant.holds
+    c.self.invariant.holds
 
 pub bring-requires-clause-placed : goal.bring-requires-clause-placed
 bring-requires-clause-placed g c told =
     subst (ArePlaced (texts g.D.Disk c.self.inside.volumes.journal) (book_of c.self.inside.volumes.held)) (sym c.as_slice.ensures.value)
-    (c.self.invariant.placed (sym c.told_by-told.ensures ∙ told))
+    (c.self.invariant.placed told)
 
 pub bring-requires-clause-within : goal.bring-requires-clause-within
 bring-requires-clause-within g c told =
     subst (AreWithin (texts g.D.Disk c.self.inside.volumes.journal)) (sym c.as_slice.ensures.value)
-    (within_of (texts g.D.Disk c.self.inside.volumes.journal) (book_of c.self.inside.volumes.held) c.self.inside.spots.items (c.self.invariant.placed told))
+    (c.self.invariant.within told)
 
 pub invariant_of-self : goal.invariant_of-self
 invariant_of-self g c =
@@ -50,8 +49,7 @@ returns-clause-brings g c =
     c.args.number c.bring.result
     (laws.reads_archive g.D.Disk (holdings_of c.self.inside) c.self.inside.volumes c.bring.new.self refl refl c.bring.ensures.reads c.self.invariant)
     (subst (λ (b : Book). c.args.number < length (captures b)) (sym same) (omega (arith, many, c.self.invariant.spots.count, c.if-number-count.false)))
-    (subst (λ (b : Book). BringsFrom g.D.Disk.tells b c.args.number c.bring.result) (sym same)
-    (subst (λ (t : Bool). BringsFrom t (book_of c.self.inside.volumes.held) c.args.number c.bring.result) c.told_by-told.ensures c.bring.ensures.brings))
+    (subst (λ (b : Book). BringsFrom c.self.inside.told.value b c.args.number c.bring.result) (sym same) c.bring.ensures.brings)
 
 pub returns-clause-names : goal.returns-clause-names
 returns-clause-names g c =
@@ -62,3 +60,8 @@ pub returns-clause-digests : goal.returns-clause-digests
 returns-clause-digests g c =
     let same = laws.same_book g.D.Disk (holdings_of c.self.inside) c.self.inside.volumes c.bring.new.self refl refl c.bring.ensures.reads in
     subst (λ (b : Book). GoesByDigest b c.args.number c.bring.result) (sym same) c.bring.ensures.digests
+
+pub returns-clause-looks : goal.returns-clause-looks
+returns-clause-looks g c =
+    subst (λ (held : Holdings _). OnlyLooks g.D.Disk held (record (holdings_of c.self.inside) { journal = c.bring.new.self.journal; book = book_of c.bring.new.self.held })) c.self.view_is
+    (laws.looks g.D.Disk (holdings_of c.self.inside) c.self.inside.volumes c.bring.new.self refl refl c.bring.ensures.reads c.self.invariant.holds.tells)

@@ -11,12 +11,12 @@ use Rattle.archive_core.proofs.archive.Archive.compare.Goals as goal
 
 pub returns-in_err-check_room-clause-looks : goal.returns-in_err-check_room-clause-looks
 returns-in_err-check_room-clause-looks g c =
-    full_compares (contents_of g.D.Disk.tells c.args.self.now) c.args.payload.now c.in_err-check_room.field-0.0 c.from_residual.result c.from_residual.ensures.1
+    full_compares (contents_of c.args.self.now) c.args.payload.now c.in_err-check_room.field-0.0 c.from_residual.result c.from_residual.ensures.1
     c.in_err-check_room.ensures
 
 pub returns-in_err-check_room-clause-faults : goal.returns-in_err-check_room-clause-faults
 returns-in_err-check_room-clause-faults g c =
-    full_steady (contents_of g.D.Disk.tells c.args.self.now) c.in_err-check_room.field-0.0 c.from_residual.result _ c.from_residual.ensures.1
+    full_steady (contents_of c.args.self.now) c.in_err-check_room.field-0.0 c.from_residual.result _ c.from_residual.ensures.1
     c.in_err-check_room.ensures
 
 pub returns-clause-looks : goal.returns-clause-looks
@@ -26,14 +26,14 @@ returns-clause-looks g c =
 
 pub returns-in_err-check_room-clause-sound : goal.returns-in_err-check_room-clause-sound
 returns-in_err-check_room-clause-sound g c =
-    on_no_ok c.in_err-check_room.field-0.0 c.from_residual.result (IsTrue g.D.Disk.tells → IsSound c.args.self.now.book) c.from_residual.ensures.1
+    on_no_ok c.in_err-check_room.field-0.0 c.from_residual.result (IsTrue c.args.self.now.told → IsSound c.args.self.now.book) c.from_residual.ensures.1
 
 pub returns-clause-sound : goal.returns-clause-sound
-returns-clause-sound g c = on_each_ok c.look_on.result (IsTrue g.D.Disk.tells → IsSound c.look_on.new.self.book) c.look_on.ensures.sound
+returns-clause-sound g c = on_each_ok c.look_on.result (IsTrue c.look_on.new.self.told → IsSound c.look_on.new.self.book) c.look_on.ensures.sound
 
 pub returns-in_err-check_room-clause-since : goal.returns-in_err-check_room-clause-since
 returns-in_err-check_room-clause-since g c =
-    full_since _ (contents_of g.D.Disk.tells c.args.self.now) c.args.looked.upto c.in_err-check_room.field-0.0 c.from_residual.result c.from_residual.ensures.1
+    full_since _ (contents_of c.args.self.now) c.args.looked.upto c.in_err-check_room.field-0.0 c.from_residual.result c.from_residual.ensures.1
     c.in_err-check_room.ensures
 
 pub look_on-requires-clause-digest : goal.look_on-requires-clause-digest
@@ -41,4 +41,4 @@ look_on-requires-clause-digest g c payload is = c.requires.digest ∙ ap sha1 (s
 
 pub look_on-requires-clause-right : goal.look_on-requires-clause-right
 look_on-requires-clause-right g c payload is =
-    subst (λ (p : List ℕ). IsRight g.D.Disk.tells c.args.self.now.book p c.args.looked) (sym is) c.requires.right
+    subst (λ (p : List ℕ). IsRight c.args.self.now.told c.args.self.now.book p c.args.looked) (sym is) c.requires.right

@@ -1,5 +1,5 @@
 -- An archive stays one while its disk is read.
-use Rattle.std.proofs.Common.{List, ℕ, refl, sym, ap, subst, ◌∙◌, Bool}
+use Rattle.std.proofs.Common.{List, ℕ, refl, sym, ap, subst, ◌∙◌}
 use Rattle.std.specs.Prelude.{filter, nat_le}
 use Rattle.sha1.specs.Sha1.{sha1}
 use Rattle.capture.specs.declared.book.Book.{Book}
@@ -9,26 +9,25 @@ use Rattle.archive_volumes.specs.Choosing.{LooksOn}
 use Rattle.archive_volumes.specs.Held.{book_of}
 use Rattle.archive_volumes.specs.Spots.{ArePlaced, AreWithin, whole_from}
 use Rattle.warc_journal.specs.Journals.{texts}
-use Rattle.archive_volumes.proofs.BringLaws.{within_of}
-use Rattle.archive_volumes.specs.Volumes.{HoldsBook}
 use Rattle.archive_core.specs.Holdings.{Holdings}
+use Rattle.archive_core.specs.Looking.{OnlyLooks}
 use Rattle.archive_core.specs.View.{holdings_of}
 use Rattle.archive_core.proofs.ReadLaws as laws
 use Rattle.archive_core.proofs.archive.Archive.look_on.Goals as goal
 
 pub look_on_wire-requires-clause-holds : goal.look_on_wire-requires-clause-holds
 look_on_wire-requires-clause-holds g c =
-    subst (λ (t : Bool). HoldsBook g.D.Disk t c.self.inside.volumes.journal (book_of c.self.inside.volumes.held)) (sym c.told_by-told.ensures) c.self.invariant.holds
+    c.self.invariant.holds
 
 pub look_on_wire-requires-clause-placed : goal.look_on_wire-requires-clause-placed
 look_on_wire-requires-clause-placed g c told =
     subst (ArePlaced (texts g.D.Disk c.self.inside.volumes.journal) (book_of c.self.inside.volumes.held)) (sym c.as_slice.ensures.value)
-    (c.self.invariant.placed (sym c.told_by-told.ensures ∙ told))
+    (c.self.invariant.placed told)
 
 pub look_on_wire-requires-clause-within : goal.look_on_wire-requires-clause-within
 look_on_wire-requires-clause-within g c told =
     subst (AreWithin (texts g.D.Disk c.self.inside.volumes.journal)) (sym c.as_slice.ensures.value)
-    (within_of (texts g.D.Disk c.self.inside.volumes.journal) (book_of c.self.inside.volumes.held) c.self.inside.spots.items (c.self.invariant.placed told))
+    (c.self.invariant.within told)
 
 pub invariant_of-self : goal.invariant_of-self
 invariant_of-self g c =
@@ -44,10 +43,14 @@ look_on_wire-requires-clause-candidates g c payload is =
 
 pub look_on_wire-requires-clause-right : goal.look_on_wire-requires-clause-right
 look_on_wire-requires-clause-right g c payload is =
-    subst (λ (t : Bool). IsRight t (book_of c.self.inside.volumes.held) payload c.args.looked) (sym c.told_by-told.ensures)
-    (subst (λ (held : Holdings _). IsRight g.D.Disk.tells held.book payload c.args.looked) (sym c.self.view_is) (c.requires.right payload is))
+    subst (λ (held : Holdings _). IsRight held.told held.book payload c.args.looked) (sym c.self.view_is) (c.requires.right payload is)
 
 pub returns-clause-looks : goal.returns-clause-looks
 returns-clause-looks g c payload is =
-    subst (λ (b : Book). LooksOn g.D.Disk.tells b payload c.look_on_wire.result) (sym (ap book_of c.look_on_wire.ensures.reads.held))
-    (subst (λ (t : Bool). LooksOn t (book_of c.self.inside.volumes.held) payload c.look_on_wire.result) c.told_by-told.ensures (c.look_on_wire.ensures.looks payload is))
+    subst (λ (b : Book). LooksOn c.self.inside.told.value b payload c.look_on_wire.result) (sym (ap book_of c.look_on_wire.ensures.reads.held))
+    (c.look_on_wire.ensures.looks payload is)
+
+pub returns-clause-only_looks : goal.returns-clause-only_looks
+returns-clause-only_looks g c =
+    subst (λ (held : Holdings _). OnlyLooks g.D.Disk held (record (holdings_of c.self.inside) { journal = c.look_on_wire.new.self.journal; book = book_of c.look_on_wire.new.self.held })) c.self.view_is
+    (laws.looks g.D.Disk (holdings_of c.self.inside) c.self.inside.volumes c.look_on_wire.new.self refl refl c.look_on_wire.ensures.reads c.self.invariant.holds.tells)

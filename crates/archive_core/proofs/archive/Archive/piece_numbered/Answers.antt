@@ -1,4 +1,4 @@
-use Rattle.std.proofs.Common.{rules, ◌≡◌, ◌<◌, refl, sym, subst, ◌∙◌, arith, Bool}
+use Rattle.std.proofs.Common.{rules, ◌≡◌, ◌<◌, refl, sym, subst, ◌∙◌, arith}
 use Rattle.std.specs.Prelude.{length}
 use Rattle.capture.specs.Captures.{captures}
 use Rattle.capture.specs.declared.book.Book.{Book}
@@ -7,9 +7,8 @@ use Rattle.archive_volumes.specs.Held.{book_of}
 use Rattle.archive_volumes.specs.KeptGroups.{GivesPieceFrom}
 use Rattle.warc_journal.specs.Journals.{texts}
 use Rattle.archive_volumes.specs.Spots.{ArePlaced, AreWithin}
-use Rattle.archive_volumes.proofs.BringLaws.{within_of}
-use Rattle.archive_volumes.specs.Volumes.{HoldsBook}
 use Rattle.archive_core.specs.Holdings.{Holdings}
+use Rattle.archive_core.specs.Looking.{OnlyLooks}
 use Rattle.archive_core.specs.View.{holdings_of}
 use Rattle.archive_core.proofs.PieceLaws.{gives_by}
 use Rattle.archive_core.proofs.ReadLaws as laws
@@ -24,17 +23,17 @@ returns-then-number-count-clause-gives g c =
 
 pub piece-requires-clause-holds : goal.piece-requires-clause-holds
 piece-requires-clause-holds g c =
-    subst (λ (t : Bool). HoldsBook g.D.Disk t c.self.inside.volumes.journal (book_of c.self.inside.volumes.held)) (sym c.told_by-told.ensures) c.self.invariant.holds
+    c.self.invariant.holds
 
 pub piece-requires-clause-placed : goal.piece-requires-clause-placed
 piece-requires-clause-placed g c told =
     subst (ArePlaced (texts g.D.Disk c.self.inside.volumes.journal) (book_of c.self.inside.volumes.held)) (sym c.as_slice.ensures.value)
-    (c.self.invariant.placed (sym c.told_by-told.ensures ∙ told))
+    (c.self.invariant.placed told)
 
 pub piece-requires-clause-within : goal.piece-requires-clause-within
 piece-requires-clause-within g c told =
     subst (AreWithin (texts g.D.Disk c.self.inside.volumes.journal)) (sym c.as_slice.ensures.value)
-    (within_of (texts g.D.Disk c.self.inside.volumes.journal) (book_of c.self.inside.volumes.held) c.self.inside.spots.items (c.self.invariant.placed told))
+    (c.self.invariant.within told)
 
 pub invariant_of-self : goal.invariant_of-self
 invariant_of-self g c =
@@ -47,10 +46,14 @@ returns-clause-gives g c =
     gives_by g.D.Disk (record (holdings_of c.self.inside) { journal = c.piece.new.self.journal; book = book_of c.piece.new.self.held })
     c.args.number c.piece.result
     (subst (λ (b : Book). c.args.number < length (captures b)) (sym same) (omega (arith, many, c.self.invariant.spots.count, c.if-number-count.false)))
-    (subst (λ (b : Book). GivesPieceFrom g.D.Disk.tells b c.args.number c.piece.result) (sym same)
-    (subst (λ (t : Bool). GivesPieceFrom t (book_of c.self.inside.volumes.held) c.args.number c.piece.result) c.told_by-told.ensures c.piece.ensures.gives))
+    (subst (λ (b : Book). GivesPieceFrom c.self.inside.told.value b c.args.number c.piece.result) (sym same) c.piece.ensures.gives)
 
 pub returns-clause-digests : goal.returns-clause-digests
 returns-clause-digests g c =
     let same = laws.same_book g.D.Disk (holdings_of c.self.inside) c.self.inside.volumes c.piece.new.self refl refl c.piece.ensures.reads in
     subst (λ (b : Book). PieceGoesByDigest b c.args.number c.piece.result) (sym same) c.piece.ensures.digests
+
+pub returns-clause-looks : goal.returns-clause-looks
+returns-clause-looks g c =
+    subst (λ (held : Holdings _). OnlyLooks g.D.Disk held (record (holdings_of c.self.inside) { journal = c.piece.new.self.journal; book = book_of c.piece.new.self.held })) c.self.view_is
+    (laws.looks g.D.Disk (holdings_of c.self.inside) c.self.inside.volumes c.piece.new.self refl refl c.piece.ensures.reads c.self.invariant.holds.tells)

@@ -1,4 +1,8 @@
+use Rattle.std.proofs.Common.{Bool, subst, sym}
+use Rattle.std.specs.Prelude.{IfOk}
+use Rattle.archive_opening.specs.Gathering.{IsUsable}
 use Rattle.archive_volumes.proofs.ChangeLaws.{DiskLaws}
+use Rattle.archive_core.specs.Reopening.{IsMadeOf}
 use Rattle.archive_core.proofs.ReopenLaws.{no_memory, not_opened, reopened}
 use Rattle.archive_core.proofs.archive.Archive.reopen.Given.{Over}
 use Rattle.archive_core.proofs.archive.Archive.reopen.Goals as goal
@@ -8,14 +12,16 @@ disk_laws : (g : Over) → DiskLaws g.D.Disk
 disk_laws g = record { earlier = g.met.D.Disk.earlier; now_counts = g.met.D.Disk.now_counts; now_only = g.met.D.Disk.now_only }
 
 pub archive_of-requires-clause-usable : goal.archive_of-requires-clause-usable
-archive_of-requires-clause-usable g c = c.in-Ok.ensures.opened.usable
+archive_of-requires-clause-usable g c =
+    subst (λ (told : Bool). IsUsable g.D.Disk told c.in-Ok.opened) (sym c.told_by-told.ensures) c.in-Ok.ensures.opened.usable
 
 pub archive_of-requires-clause-entries : goal.archive_of-requires-clause-entries
 archive_of-requires-clause-entries g c = c.in-Ok.ensures.opened.entries
 
 pub returns-in-Ok-clause-reopened : goal.returns-in-Ok-clause-reopened
 returns-in-Ok-clause-reopened g c =
-    reopened g.D.Disk (disk_laws g) c.args.disk c.args.namespace c.args.limits c.in-Ok.opened c.in-Ok.ensures.opened c.archive_of.result c.archive_of.ensures.made
+    reopened g.D.Disk (disk_laws g) c.args.disk c.args.namespace c.args.limits c.in-Ok.opened c.in-Ok.ensures.opened c.archive_of.result
+    (subst (λ (told : Bool). IfOk c.archive_of.result (IsMadeOf c.in-Ok.opened c.args.limits told)) c.told_by-told.ensures c.archive_of.ensures.made)
 
 pub returns-in-Ok-clause-refused : goal.returns-in-Ok-clause-refused
 returns-in-Ok-clause-refused g c =

@@ -1,5 +1,5 @@
 use Rattle.std.specs.Prelude.{Result, ⊤}
-use Rattle.std.proofs.Common.{Bool, ◌++◌, ◌∷◌, [], ℕ, length, true, refl, Ok, Err, subst, sym, ap, ◌∙◌, arith}
+use Rattle.std.proofs.Common.{◌++◌, ◌∷◌, [], ℕ, length, true, refl, Ok, Err, subst, sym, ap, ◌∙◌, arith}
 use Rattle.capture.specs.Faults.{CountsFaults}
 use Rattle.capture.specs.declared.book.Book.{Book}
 use Rattle.warc_journal.specs.Extents.{cdxj_files}
@@ -25,13 +25,11 @@ returns-then-not-is_filled g c =
     subst (λ (held : Holdings _). Rolls {T = ⊤} g.D.Disk held held c.args.now (Ok tt)) c.self.view_is
     (laws.rolls_none g.D.Disk (holdings_of c.self.inside) c.args.now empty)
 
--- where the book is told, it is told as the disk tells
 pub begin-requires-clause-holds : goal.begin-requires-clause-holds
 begin-requires-clause-holds g c =
     let same = c.in_ok-prepared.ensures in
-    subst (λ (t : Bool). HoldsBook g.D.Disk t c.prepare.new.self.journal (book_of c.prepare.new.self.held)) (sym c.told_by-told.ensures)
-    (laws.of_the_same (λ j b n. HoldsBook g.D.Disk g.D.Disk.tells j b) c.self.inside.volumes.journal c.prepare.new.self.journal
-    (book_of c.self.inside.volumes.held) (book_of c.prepare.new.self.held) 0 0 (sym same.journal) (sym same.book) refl c.self.invariant.holds)
+    laws.of_the_same (λ j b n. HoldsBook g.D.Disk c.self.inside.told.value j b) c.self.inside.volumes.journal c.prepare.new.self.journal
+    (book_of c.self.inside.volumes.held) (book_of c.prepare.new.self.held) 0 0 (sym same.journal) (sym same.book) refl c.self.invariant.holds
 
 pub begin-requires-clause-filled : goal.begin-requires-clause-filled
 begin-requires-clause-filled g c =
@@ -54,7 +52,7 @@ invariant_of-self-in_err-begin g c =
     (λ told. c.begin.ensures.others told ∙ ap (λ (j : Journal _). cdxj_files (g.D.Disk.reading (disk_of j))) same.journal)
     c.entries_gain_what_is_stored.ensures.same
     (c.leading_books_grow.ensures.grows true (book_of c.self.inside.volumes.held) (book_of c.self.inside.volumes.held) refl)
-    c.self.invariant (subst (λ (t : Bool). HoldsBook g.D.Disk t c.begin.new.self.journal (book_of c.begin.new.self.held)) c.told_by-told.ensures c.begin.ensures.holds) c.begin.ensures.measured
+    c.self.invariant c.begin.ensures.holds c.begin.ensures.measured
     (c.in_err-begin.ensures.book ∙ same.book)
     (λ told. c.in_err-begin.ensures.texts told ∙ ap (λ (j : Journal _). texts g.D.Disk j) same.journal)
 
@@ -68,12 +66,10 @@ returns-in_err-begin g c =
     (sym c.is_filled.ensures ∙ c.if-not-is_filled.false)
     (λ told. c.begin.ensures.others told ∙ ap (λ (j : Journal _). cdxj_files (g.D.Disk.reading (disk_of j))) same.journal)
     c.in_err-begin.field-0.0 (c.in_err-begin.ensures.book ∙ same.book)
-    (laws.of_the_same (λ j b n. Makes {T = ⊤} {E = DiskFault} g.D.Disk (disk_of j) (disk_of c.begin.new.self.journal) b (with_volume b n) (Err c.in_err-begin.field-0.0))
+    (laws.of_the_same (λ j b n. Makes {T = ⊤} {E = DiskFault} (muted c.self.inside.told.value g.D.Disk) (disk_of j) (disk_of c.begin.new.self.journal) b (with_volume b n) (Err c.in_err-begin.field-0.0))
     c.prepare.new.self.journal c.self.inside.volumes.journal (book_of c.prepare.new.self.held) (book_of c.self.inside.volumes.held)
     c.in_ok-prepared.prepared.shadow.born c.args.now same.journal same.book same.born
-    (subst (λ (t : Bool). Makes {T = ⊤} {E = DiskFault} (muted t g.D.Disk) (disk_of c.prepare.new.self.journal) (disk_of c.begin.new.self.journal)
-    (book_of c.prepare.new.self.held) (with_volume (book_of c.prepare.new.self.held) c.in_ok-prepared.prepared.shadow.born) (Err c.in_err-begin.field-0.0)) c.told_by-told.ensures
-    c.in_err-begin.ensures.makes))
+    c.in_err-begin.ensures.makes)
     (subst (λ (j : Journal _). CountsFaults {T = ⊤} {E = DiskFault} (g.D.Disk.faults (disk_of j)) (g.D.Disk.faults (disk_of c.begin.new.self.journal)) (Err c.in_err-begin.field-0.0))
     same.journal c.in_err-begin.ensures.faults)
     (c.in_err-begin.ensures.last_len ∙ ap (λ (j : Journal _). last_len j) same.journal)))
@@ -84,7 +80,7 @@ invariant_of-self-2 g c =
     laws.begun_archive g.D.Disk (holdings_of c.self.inside) c.args.now c.begin.new.self.journal (book_of c.begin.new.self.held)
     (sym c.is_filled.ensures ∙ c.if-not-is_filled.false)
     (λ told. c.begin.ensures.others told ∙ ap (λ (j : Journal _). cdxj_files (g.D.Disk.reading (disk_of j))) same.journal)
-    c.entries_gain_what_is_stored.ensures.same c.self.invariant (subst (λ (t : Bool). HoldsBook g.D.Disk t c.begin.new.self.journal (book_of c.begin.new.self.held)) c.told_by-told.ensures c.begin.ensures.holds) c.begin.ensures.measured
+    c.entries_gain_what_is_stored.ensures.same c.self.invariant c.begin.ensures.holds c.begin.ensures.measured
     (c.in_ok-begin.ensures.book ∙ ap (λ (b : Book). with_volume b c.in_ok-prepared.prepared.shadow.born) same.book
     ∙ ap (λ (n : ℕ). with_volume (book_of c.self.inside.volumes.held) n) same.born)
     c.in_ok-prepared.prepared.info
@@ -100,12 +96,10 @@ returns g c =
     c.in_ok-begin.field-0
     (c.in_ok-begin.ensures.book ∙ ap (λ (b : Book). with_volume b c.in_ok-prepared.prepared.shadow.born) same.book
     ∙ ap (λ (n : ℕ). with_volume (book_of c.self.inside.volumes.held) n) same.born)
-    (laws.of_the_same (λ j b n. Makes {T = ⊤} {E = DiskFault} g.D.Disk (disk_of j) (disk_of c.begin.new.self.journal) b (with_volume b n) (Ok c.in_ok-begin.field-0))
+    (laws.of_the_same (λ j b n. Makes {T = ⊤} {E = DiskFault} (muted c.self.inside.told.value g.D.Disk) (disk_of j) (disk_of c.begin.new.self.journal) b (with_volume b n) (Ok c.in_ok-begin.field-0))
     c.prepare.new.self.journal c.self.inside.volumes.journal (book_of c.prepare.new.self.held) (book_of c.self.inside.volumes.held)
     c.in_ok-prepared.prepared.shadow.born c.args.now same.journal same.book same.born
-    (subst (λ (t : Bool). Makes {T = ⊤} {E = DiskFault} (muted t g.D.Disk) (disk_of c.prepare.new.self.journal) (disk_of c.begin.new.self.journal)
-    (book_of c.prepare.new.self.held) (with_volume (book_of c.prepare.new.self.held) c.in_ok-prepared.prepared.shadow.born) (Ok c.in_ok-begin.field-0)) c.told_by-told.ensures
-    c.in_ok-begin.ensures.makes))
+    c.in_ok-begin.ensures.makes)
     (subst (λ (j : Journal _). CountsFaults {T = ⊤} {E = DiskFault} (g.D.Disk.faults (disk_of j)) (g.D.Disk.faults (disk_of c.begin.new.self.journal)) (Ok c.in_ok-begin.field-0))
     same.journal c.in_ok-begin.ensures.faults)
     (c.in_ok-begin.ensures.last_len

@@ -6,7 +6,7 @@ use Rattle.archive_core.proofs.archive.Archive.same_by.Goals as goal
 
 pub returns-then-taken-clause-refers : goal.returns-then-taken-clause-refers
 returns-then-taken-clause-refers g c =
-    refers_cut c.wires_have_one_payload.ensures.whole c.wires_have_one_payload.ensures.cut (contents_of g.D.Disk.tells c.args.self.now) c.args.taken.now
+    refers_cut c.wires_have_one_payload.ensures.whole c.wires_have_one_payload.ensures.cut (contents_of c.args.self.now) c.args.taken.now
     c.requires.fits c.if-taken.true
 
 pub same_with-requires-clause-wire : goal.same_with-requires-clause-wire
@@ -24,6 +24,6 @@ pub returns-clause-refers : goal.returns-clause-refers
 returns-clause-refers g c =
     let taken = c.args.taken.now in
     let there = has_one c.wires_have_one_payload.ensures.whole c.wires_have_one_payload.ensures.cut taken c.requires.fits in
-    looks_for (contents_of g.D.Disk.tells c.same_with.new.self) taken there.payload there.has c.if-taken.false c.same_with.result
+    looks_for (contents_of c.same_with.new.self) taken there.payload there.has c.if-taken.false c.same_with.result
     (c.same_with.ensures.finds there.payload
     (its_decoded taken c.args.framing c.requires.framed c.if-taken.false c.as_slice.result.now c.as_slice.ensures there.payload there.has))

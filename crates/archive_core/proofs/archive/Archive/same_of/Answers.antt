@@ -8,7 +8,7 @@ use Rattle.archive_core.proofs.archive.Archive.same_of.Goals as goal
 
 pub returns-then-taken-clause-refers : goal.returns-then-taken-clause-refers
 returns-then-taken-clause-refers g c =
-    refers_cut c.wires_have_one_payload.ensures.whole c.wires_have_one_payload.ensures.cut (contents_of g.D.Disk.tells c.args.self.now) c.args.taken.now
+    refers_cut c.wires_have_one_payload.ensures.whole c.wires_have_one_payload.ensures.cut (contents_of c.args.self.now) c.args.taken.now
     c.requires.fits c.if-taken.true
 
 pub returns-then-looked-count-clause-refers : goal.returns-then-looked-count-clause-refers
@@ -16,7 +16,7 @@ returns-then-looked-count-clause-refers g c =
     let many : c.len-count.result ≡ length c.self.inside.spots.items = search rules in
     let count : c.len-count.result ≡ length (captures c.args.self.now.book) =
     many ∙ subst (λ (held : Holdings _). length c.self.inside.spots.items ≡ length (captures held.book)) c.self.view_is c.self.invariant.spots.count in
-    refers_before c.wires_have_one_payload.ensures.whole c.wires_have_one_payload.ensures.cut (contents_of g.D.Disk.tells c.args.self.now) c.args.taken.now
+    refers_before c.wires_have_one_payload.ensures.whole c.wires_have_one_payload.ensures.cut (contents_of c.args.self.now) c.args.taken.now
     c.requires.fits c.if-taken.false c.args.looked (c.if-looked-count.true ∙ count) c.requires.right
 
 pub same_with-requires-clause-wire : goal.same_with-requires-clause-wire
@@ -34,6 +34,6 @@ pub returns-clause-refers : goal.returns-clause-refers
 returns-clause-refers g c =
     let taken = c.args.taken.now in
     let there = has_one c.wires_have_one_payload.ensures.whole c.wires_have_one_payload.ensures.cut taken c.requires.fits in
-    looks_for (contents_of g.D.Disk.tells c.same_with.new.self) taken there.payload there.has c.if-taken.false c.same_with.result
+    looks_for (contents_of c.same_with.new.self) taken there.payload there.has c.if-taken.false c.same_with.result
     (c.same_with.ensures.finds there.payload
     (its_decoded taken c.in_ok-framing.framing c.in_ok-framing.ensures c.if-taken.false c.as_slice.result.now c.as_slice.ensures there.payload there.has))

@@ -8,11 +8,11 @@ use Rattle.archive_core.proofs.archive.Archive.same_with.Goals as goal
 pub returns-in_err-all-clause-finds : goal.returns-in_err-all-clause-finds
 returns-in_err-all-clause-finds g c payload is =
     let fault : StoreFault = c.in_err-all.field-0.0 in
-    finds_exit g.D.Disk.tells c.look_on.new.self.book payload fault c.from_residual.result c.from_residual.ensures.1 (c.in_err-all.ensures.looks payload is)
+    finds_exit c.look_on.new.self.told c.look_on.new.self.book payload fault c.from_residual.result c.from_residual.ensures.1 (c.in_err-all.ensures.looks payload is)
 
 pub returns-clause-finds : goal.returns-clause-finds
 returns-clause-finds g c payload is =
-    finds_all g.D.Disk.tells c.look_on.new.self.book payload c.in_ok-all.all (c.in_ok-all.ensures.looks payload is)
+    finds_all c.look_on.new.self.told c.look_on.new.self.book payload c.in_ok-all.all (c.in_ok-all.ensures.looks payload is)
 
 pub returns-in_err-all-clause-since : goal.returns-in_err-all-clause-since
 returns-in_err-all-clause-since g c =

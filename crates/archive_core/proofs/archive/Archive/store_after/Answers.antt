@@ -17,5 +17,5 @@ returns-in_err-check_room-clause-stores g c =
 
 pub returns-in_err-check_room-clause-since : goal.returns-in_err-check_room-clause-since
 returns-in_err-check_room-clause-since g c =
-    full_since _ (contents_of g.D.Disk.tells c.args.self.now) c.args.looked.upto c.in_err-check_room.field-0.0 c.from_residual.result c.from_residual.ensures.1
+    full_since _ (contents_of c.args.self.now) c.args.looked.upto c.in_err-check_room.field-0.0 c.from_residual.result c.from_residual.ensures.1
     c.in_err-check_room.ensures

@@ -1,4 +1,4 @@
-use Rattle.std.proofs.Common.{rules, Bool, ◌≡◌, ◌+◌, ℕ, List, length, Some, Ok, Err, refl, sym, ap, subst, ◌∙◌, arith}
+use Rattle.std.proofs.Common.{rules, ◌≡◌, ◌+◌, ℕ, List, length, Some, Ok, Err, refl, sym, ap, subst, ◌∙◌, arith}
 use Rattle.std.specs.Prelude.{is_some}
 use Rattle.capture.specs.Captures.{captures}
 use Rattle.capture.specs.Message.{IsResponseHeadText}
@@ -8,7 +8,7 @@ use Rattle.cdxj_index.specs.Facts.{Facts}
 use Rattle.httparse.specs.Grammar.{ResponseHead}
 use Rattle.cdxj_index.specs.Order.{without}
 use Rattle.time_text.specs.Texts.{InRange}
-use Rattle.warc_journal.specs.Journals.{disk_of, texts}
+use Rattle.warc_journal.specs.Journals.{texts}
 use Rattle.archive_shelf.specs.Answers.{IsNotFull}
 use Rattle.archive_shelf.specs.declared.fault.StoreFault.TheVariants as stores
 use Rattle.archive_shelf.specs.declared.receipt.Receipt.{Receipt}
@@ -17,14 +17,10 @@ use Rattle.archive_volumes.specs.Held.{book_of, stored_in}
 use Rattle.archive_core.specs.Holdings.{Holdings, contents_of}
 use Rattle.archive_core.specs.Looking.{RefersTo}
 use Rattle.archive_volumes.specs.Spots.{ArePlaced, AreSpotsOf, AreWithin, whole_from}
-use Rattle.archive_volumes.specs.Ready.{CanCommit, incoming_of}
+use Rattle.archive_volumes.specs.Ready.{incoming_of}
 use Rattle.archive_core.specs.Stores.{Stores}
-use Rattle.archive_shelf.specs.Storing.{with_capture}
-use Rattle.archive_volumes.specs.Volumes.{HoldsBook, muted}
-use Rattle.archive_volumes.specs.Writing.{Writes, with_prepared}
 use Rattle.archive_core.specs.View.{holdings_of}
 use Rattle.archive_volumes.specs.declared.spot.Spot.{Spot}
-use Rattle.archive_volumes.proofs.BringLaws.{within_of}
 use Rattle.archive_volumes.proofs.ChangeLaws.{DiskLaws}
 use Rattle.archive_core.proofs.ExitLaws as laws
 use Rattle.archive_core.proofs.PayloadLaws.{has_one}
@@ -45,16 +41,16 @@ make_ready-requires-clause-spots g c =
 pub make_ready-requires-clause-few : goal.make_ready-requires-clause-few
 make_ready-requires-clause-few g c =
     let was : Holdings _ = holdings_of c.self.inside in
-    let not_full : IsNotFull (contents_of g.D.Disk.tells was) was.book =
-    subst (λ (held : Holdings _). IsNotFull (contents_of g.D.Disk.tells held) held.book) (sym c.self.view_is) c.requires.not_full in
+    let not_full : IsNotFull (contents_of was) was.book =
+    subst (λ (held : Holdings _). IsNotFull (contents_of held) held.book) (sym c.self.view_is) c.requires.not_full in
     let given : c.as_slice.result.now ≡ c.self.inside.spots.items = search rules in
     omega (arith, ap (λ (l : List Spot). length l) given, c.self.invariant.spots.count, not_full, c.self.invariant.counted.limits.captures)
 
 pub make_ready-requires-clause-refers : goal.make_ready-requires-clause-refers
 make_ready-requires-clause-refers g c =
     let was : Holdings _ = holdings_of c.self.inside in
-    let refers : RefersTo (contents_of g.D.Disk.tells was) c.args.taken.now c.args.same =
-    subst (λ (held : Holdings _). RefersTo (contents_of g.D.Disk.tells held) c.args.taken.now c.args.same) (sym c.self.view_is) c.requires.refers in
+    let refers : RefersTo (contents_of was) c.args.taken.now c.args.same =
+    subst (λ (held : Holdings _). RefersTo (contents_of held) c.args.taken.now c.args.same) (sym c.self.view_is) c.requires.refers in
     refers.can
 
 pub make_ready-requires-clause-limit : goal.make_ready-requires-clause-limit
@@ -160,8 +156,7 @@ commit-requires-clause-ready g c =
     let u = laws.under_way g.D.Disk c.storing_has_a_basis.ensures c.args.self.now was c.self.inside.volumes now (incoming_of c.args.taken.now c.args.digest.now c.args.same) ready c.self.view_is
     refl refl c.self.invariant c.requires.fits c.requires.not_full c.requires.digest c.requires.refers c.make_ready.ensures.journal
     c.make_ready.ensures.book c.in_ok-ready.ensures.ready in
-    subst (λ (t : Bool). CanCommit g.D.Disk t now ready) (sym c.told_by-told.ensures)
-    (laws.commit_ready g.D.Disk c.storing_has_a_basis.ensures was now (incoming_of c.args.taken.now c.args.digest.now c.args.same) ready u)
+    laws.commit_ready g.D.Disk c.storing_has_a_basis.ensures was now (incoming_of c.args.taken.now c.args.digest.now c.args.same) ready u
 
 pub commit-requires-clause-holds : goal.commit-requires-clause-holds
 commit-requires-clause-holds g c =
@@ -171,7 +166,7 @@ commit-requires-clause-holds g c =
     let u = laws.under_way g.D.Disk c.storing_has_a_basis.ensures c.args.self.now was c.self.inside.volumes now (incoming_of c.args.taken.now c.args.digest.now c.args.same) ready c.self.view_is
     refl refl c.self.invariant c.requires.fits c.requires.not_full c.requires.digest c.requires.refers c.make_ready.ensures.journal
     c.make_ready.ensures.book c.in_ok-ready.ensures.ready in
-    subst (λ (t : Bool). HoldsBook g.D.Disk t now.journal (book_of now.held)) (sym c.told_by-told.ensures) u.is.holds
+    u.is.holds
 
 pub commit-requires-clause-measured : goal.commit-requires-clause-measured
 commit-requires-clause-measured g c =
@@ -202,7 +197,7 @@ commit-requires-clause-within g c told =
     refl refl c.self.invariant c.requires.fits c.requires.not_full c.requires.digest c.requires.refers c.make_ready.ensures.journal
     c.make_ready.ensures.book c.in_ok-ready.ensures.ready in
     subst (AreWithin (texts g.D.Disk now.journal)) (sym c.reserve_kept.ensures.spots)
-    (within_of (texts g.D.Disk now.journal) (book_of now.held) was.spots (u.is.placed told))
+    (u.is.within told)
 
 pub commit-requires-clause-placed : goal.commit-requires-clause-placed
 commit-requires-clause-placed g c told =
@@ -213,7 +208,7 @@ commit-requires-clause-placed g c told =
     refl refl c.self.invariant c.requires.fits c.requires.not_full c.requires.digest c.requires.refers c.make_ready.ensures.journal
     c.make_ready.ensures.book c.in_ok-ready.ensures.ready in
     subst (λ (l : List Spot). ArePlaced (texts g.D.Disk now.journal) (book_of now.held) l) (sym c.reserve_kept.ensures.spots)
-    (u.is.placed (sym c.told_by-told.ensures ∙ told))
+    (u.is.placed told)
 
 pub commit-requires-clause-table : goal.commit-requires-clause-table
 commit-requires-clause-table g c =
@@ -239,7 +234,7 @@ commit-requires-clause-few g c =
 pub invariant_of-self : goal.invariant_of-self
 invariant_of-self g c =
     let was : Holdings _ = holdings_of c.self.inside in
-    laws.memory_archive g.D.Disk was (record was { journal = c.self.inside.volumes.journal; book = book_of c.self.inside.volumes.held; table = c.reserve_kept.new.table; index = c.self.inside.index; spots = c.reserve_kept.new.spots.items }) refl refl refl refl refl
+    laws.memory_archive g.D.Disk was (record was { journal = c.self.inside.volumes.journal; book = book_of c.self.inside.volumes.held; table = c.reserve_kept.new.table; index = c.self.inside.index; spots = c.reserve_kept.new.spots.items }) refl refl refl refl refl refl
     c.self.invariant c.reserve_kept.ensures.spots c.reserve_kept.ensures.table refl
 
 pub returns-in_err-reserve_kept-clause-stores : goal.returns-in_err-reserve_kept-clause-stores
@@ -247,12 +242,12 @@ returns-in_err-reserve_kept-clause-stores g c =
     let was : Holdings _ = holdings_of c.self.inside in
     let is : Holdings _ = record was { journal = c.self.inside.volumes.journal; book = book_of c.self.inside.volumes.held; table = c.reserve_kept.new.table; index = c.self.inside.index; spots = c.reserve_kept.new.spots.items } in
     subst (λ (held : Holdings _). Stores g.D.Disk held is c.args.taken.now c.from_residual.result) c.self.view_is
-    (laws.memory_exit g.D.Disk was is refl refl refl refl refl c.args.taken.now c.from_residual.result c.from_residual.ensures.1)
+    (laws.memory_exit g.D.Disk was is refl refl refl refl refl refl c.args.taken.now c.from_residual.result c.from_residual.ensures.1)
 
 pub invariant_of-self-in_err-ready : goal.invariant_of-self-in_err-ready
 invariant_of-self-in_err-ready g c =
     let was : Holdings _ = holdings_of c.self.inside in
-    laws.memory_archive g.D.Disk was (record was { journal = c.make_ready.new.self.journal; book = book_of c.make_ready.new.self.held; table = c.reserve_kept.new.table; index = c.self.inside.index; spots = c.reserve_kept.new.spots.items }) c.make_ready.ensures.journal c.make_ready.ensures.book refl refl refl
+    laws.memory_archive g.D.Disk was (record was { journal = c.make_ready.new.self.journal; book = book_of c.make_ready.new.self.held; table = c.reserve_kept.new.table; index = c.self.inside.index; spots = c.reserve_kept.new.spots.items }) c.make_ready.ensures.journal c.make_ready.ensures.book refl refl refl refl
     c.self.invariant c.reserve_kept.ensures.spots c.reserve_kept.ensures.table refl
 
 pub returns-in_err-ready-clause-stores : goal.returns-in_err-ready-clause-stores
@@ -260,12 +255,12 @@ returns-in_err-ready-clause-stores g c =
     let was : Holdings _ = holdings_of c.self.inside in
     let is : Holdings _ = record was { journal = c.make_ready.new.self.journal; book = book_of c.make_ready.new.self.held; table = c.reserve_kept.new.table; index = c.self.inside.index; spots = c.reserve_kept.new.spots.items } in
     subst (λ (held : Holdings _). Stores g.D.Disk held is c.args.taken.now c.from_residual-in_err-ready.result) c.self.view_is
-    (laws.memory_exit g.D.Disk was is c.make_ready.ensures.journal c.make_ready.ensures.book refl refl refl c.args.taken.now c.from_residual-in_err-ready.result c.from_residual-in_err-ready.ensures.1)
+    (laws.memory_exit g.D.Disk was is c.make_ready.ensures.journal c.make_ready.ensures.book refl refl refl refl c.args.taken.now c.from_residual-in_err-ready.result c.from_residual-in_err-ready.ensures.1)
 
 pub invariant_of-self-in_err-entry : goal.invariant_of-self-in_err-entry
 invariant_of-self-in_err-entry g c =
     let was : Holdings _ = holdings_of c.self.inside in
-    laws.memory_archive g.D.Disk was (record was { journal = c.make_ready.new.self.journal; book = book_of c.make_ready.new.self.held; table = c.reserve_kept.new.table; index = c.self.inside.index; spots = c.reserve_kept.new.spots.items }) c.make_ready.ensures.journal c.make_ready.ensures.book refl refl refl
+    laws.memory_archive g.D.Disk was (record was { journal = c.make_ready.new.self.journal; book = book_of c.make_ready.new.self.held; table = c.reserve_kept.new.table; index = c.self.inside.index; spots = c.reserve_kept.new.spots.items }) c.make_ready.ensures.journal c.make_ready.ensures.book refl refl refl refl
     c.self.invariant c.reserve_kept.ensures.spots c.reserve_kept.ensures.table refl
 
 pub returns-in_err-entry-clause-stores : goal.returns-in_err-entry-clause-stores
@@ -273,12 +268,12 @@ returns-in_err-entry-clause-stores g c =
     let was : Holdings _ = holdings_of c.self.inside in
     let is : Holdings _ = record was { journal = c.make_ready.new.self.journal; book = book_of c.make_ready.new.self.held; table = c.reserve_kept.new.table; index = c.self.inside.index; spots = c.reserve_kept.new.spots.items } in
     subst (λ (held : Holdings _). Stores g.D.Disk held is c.args.taken.now c.from_residual-in_err-entry.result) c.self.view_is
-    (laws.memory_exit g.D.Disk was is c.make_ready.ensures.journal c.make_ready.ensures.book refl refl refl c.args.taken.now c.from_residual-in_err-entry.result c.from_residual-in_err-entry.ensures.1)
+    (laws.memory_exit g.D.Disk was is c.make_ready.ensures.journal c.make_ready.ensures.book refl refl refl refl c.args.taken.now c.from_residual-in_err-entry.result c.from_residual-in_err-entry.ensures.1)
 
 pub invariant_of-self-in_err-enter : goal.invariant_of-self-in_err-enter
 invariant_of-self-in_err-enter g c =
     let was : Holdings _ = holdings_of c.self.inside in
-    laws.memory_archive g.D.Disk was (record was { journal = c.make_ready.new.self.journal; book = book_of c.make_ready.new.self.held; table = c.reserve_kept.new.table; index = c.enter.new.index; spots = c.reserve_kept.new.spots.items }) c.make_ready.ensures.journal c.make_ready.ensures.book c.in_err-enter.ensures.refused refl refl
+    laws.memory_archive g.D.Disk was (record was { journal = c.make_ready.new.self.journal; book = book_of c.make_ready.new.self.held; table = c.reserve_kept.new.table; index = c.enter.new.index; spots = c.reserve_kept.new.spots.items }) c.make_ready.ensures.journal c.make_ready.ensures.book c.in_err-enter.ensures.refused refl refl refl
     c.self.invariant c.reserve_kept.ensures.spots c.reserve_kept.ensures.table refl
 
 pub returns-in_err-enter-clause-stores : goal.returns-in_err-enter-clause-stores
@@ -286,7 +281,7 @@ returns-in_err-enter-clause-stores g c =
     let was : Holdings _ = holdings_of c.self.inside in
     let is : Holdings _ = record was { journal = c.make_ready.new.self.journal; book = book_of c.make_ready.new.self.held; table = c.reserve_kept.new.table; index = c.enter.new.index; spots = c.reserve_kept.new.spots.items } in
     subst (λ (held : Holdings _). Stores g.D.Disk held is c.args.taken.now c.from_residual-in_err-enter.result) c.self.view_is
-    (laws.memory_exit g.D.Disk was is c.make_ready.ensures.journal c.make_ready.ensures.book c.in_err-enter.ensures.refused refl refl c.args.taken.now c.from_residual-in_err-enter.result c.from_residual-in_err-enter.ensures.1)
+    (laws.memory_exit g.D.Disk was is c.make_ready.ensures.journal c.make_ready.ensures.book c.in_err-enter.ensures.refused refl refl refl c.args.taken.now c.from_residual-in_err-enter.result c.from_residual-in_err-enter.ensures.1)
 
 pub invariant_of-self-in-Err : goal.invariant_of-self-in-Err
 invariant_of-self-in-Err g c =
@@ -310,12 +305,11 @@ invariant_of-self-in-Err g c =
     laws.refused_archive g.D.Disk c.storing_has_a_basis.ensures was now (incoming_of c.args.taken.now c.args.digest.now c.args.same) ready u c.record_at-at.result c.len-number.result
     c.record_at-at.ensures number c.in_ok-entry.entry enters (disk_laws g)
     c.commit.new.self.journal (book_of c.commit.new.self.held) c.commit.new.table c.take_back.new.self c.commit.new.spots.items
-    (subst (λ (t : Bool). HoldsBook g.D.Disk t c.commit.new.self.journal (book_of c.commit.new.self.held)) c.told_by-told.ensures c.commit.ensures.holds)
-    c.commit.ensures.measured c.commit.ensures.table c.commit.ensures.spots (λ told. c.commit.ensures.placed (c.told_by-told.ensures ∙ told)) c.commit.ensures.others
+    c.commit.ensures.holds c.commit.ensures.measured c.commit.ensures.table c.commit.ensures.spots c.commit.ensures.within c.commit.ensures.placed c.commit.ensures.others
     c.in-Err.ensures.left back
 
-pub returns-clause-stores : goal.returns-clause-stores
-returns-clause-stores g c =
+pub returns-in-Err-clause-stores : goal.returns-in-Err-clause-stores
+returns-in-Err-clause-stores g c =
     let was : Holdings _ = holdings_of c.self.inside in
     let now = c.make_ready.new.self in
     let ready = c.in_ok-ready.ready in
@@ -346,12 +340,9 @@ returns-clause-stores g c =
     (laws.refused_stores g.D.Disk c.storing_has_a_basis.ensures was now (incoming_of c.args.taken.now c.args.digest.now c.args.same) ready u c.record_at-at.result c.len-number.result
     c.record_at-at.ensures number c.in_ok-entry.entry enters (disk_laws g)
     c.commit.new.self.journal (book_of c.commit.new.self.held) c.commit.new.table c.take_back.new.self c.commit.new.spots.items
-    (subst (λ (t : Bool). HoldsBook g.D.Disk t c.commit.new.self.journal (book_of c.commit.new.self.held)) c.told_by-told.ensures c.commit.ensures.holds)
-    c.commit.ensures.measured c.commit.ensures.table c.commit.ensures.spots (λ told. c.commit.ensures.placed (c.told_by-told.ensures ∙ told)) c.commit.ensures.others
+    c.commit.ensures.holds c.commit.ensures.measured c.commit.ensures.table c.commit.ensures.spots c.commit.ensures.within c.commit.ensures.placed c.commit.ensures.others
     c.in-Err.ensures.left back c.in-Err.field-0
-    (subst (λ (t : Bool). Writes (muted t g.D.Disk) (disk_of now.journal) (disk_of c.commit.new.self.journal) (book_of now.held)
-    (with_prepared (book_of now.held) ready.prepared) (with_capture (with_prepared (book_of now.held) ready.prepared) (stored_in ready.stored))
-    (book_of c.commit.new.self.held) (Err c.in-Err.field-0)) c.told_by-told.ensures c.in-Err.ensures.writes)
+    c.in-Err.ensures.writes
     c.in-Err.ensures.faults)
 
 pub overflow_add-self : goal.overflow_add-self
@@ -382,8 +373,7 @@ invariant_of-self-in-Ok g c =
     laws.stored_archive g.D.Disk c.storing_has_a_basis.ensures was now (incoming_of c.args.taken.now c.args.digest.now c.args.same) ready u c.record_at-at.result c.len-number.result
     c.record_at-at.ensures number c.in_ok-entry.entry enters (disk_laws g)
     c.commit.new.self.journal (book_of c.commit.new.self.held) c.commit.new.table c.enter.new.index c.commit.new.spots.items
-    (subst (λ (t : Bool). HoldsBook g.D.Disk t c.commit.new.self.journal (book_of c.commit.new.self.held)) c.told_by-told.ensures c.commit.ensures.holds)
-    c.commit.ensures.measured c.commit.ensures.table c.commit.ensures.spots (λ told. c.commit.ensures.placed (c.told_by-told.ensures ∙ told)) c.commit.ensures.others
+    c.commit.ensures.holds c.commit.ensures.measured c.commit.ensures.table c.commit.ensures.spots c.commit.ensures.within c.commit.ensures.placed c.commit.ensures.others
     (c.self.inside.revisits + c.revisits_in.result) c.in-Ok.ensures.stored c.in_ok-enter.ensures.entered c.enter.ensures.indexed more
 
 pub returns-in-Ok-clause-stores : goal.returns-in-Ok-clause-stores
@@ -417,13 +407,10 @@ returns-in-Ok-clause-stores g c =
     (laws.stored_stores g.D.Disk c.storing_has_a_basis.ensures was now (incoming_of c.args.taken.now c.args.digest.now c.args.same) ready u c.record_at-at.result c.len-number.result
     c.record_at-at.ensures number c.in_ok-entry.entry enters (disk_laws g)
     c.commit.new.self.journal (book_of c.commit.new.self.held) c.commit.new.table c.enter.new.index c.commit.new.spots.items
-    (subst (λ (t : Bool). HoldsBook g.D.Disk t c.commit.new.self.journal (book_of c.commit.new.self.held)) c.told_by-told.ensures c.commit.ensures.holds)
-    c.commit.ensures.measured c.commit.ensures.table c.commit.ensures.spots (λ told. c.commit.ensures.placed (c.told_by-told.ensures ∙ told)) c.commit.ensures.others
+    c.commit.ensures.holds c.commit.ensures.measured c.commit.ensures.table c.commit.ensures.spots c.commit.ensures.within c.commit.ensures.placed c.commit.ensures.others
     (c.self.inside.revisits + c.revisits_in.result) c.in-Ok.ensures.stored c.in_ok-enter.ensures.entered
     c.in-Ok.field-0
-    (subst (λ (t : Bool). Writes (muted t g.D.Disk) (disk_of now.journal) (disk_of c.commit.new.self.journal) (book_of now.held)
-    (with_prepared (book_of now.held) ready.prepared) (with_capture (with_prepared (book_of now.held) ready.prepared) (stored_in ready.stored))
-    (book_of c.commit.new.self.held) (Ok c.in-Ok.field-0)) c.told_by-told.ensures c.in-Ok.ensures.writes)
+    c.in-Ok.ensures.writes
     c.in-Ok.ensures.faults c.in-Ok.ensures.last_len receipt number refl)
 
 pub returns-in_err-reserve_kept-clause-unread : goal.returns-in_err-reserve_kept-clause-unread

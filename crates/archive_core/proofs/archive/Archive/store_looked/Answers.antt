@@ -19,7 +19,7 @@ returns-in_err-same-clause-stores g c =
 
 pub store_compared-requires-clause-not_full : goal.store_compared-requires-clause-not_full
 store_compared-requires-clause-not_full g c =
-    subst (λ (held : Holdings _). IsNotFull (contents_of g.D.Disk.tells held) held.book) (sym c.in_ok-same.ensures.looks.others) c.requires.not_full
+    subst (λ (held : Holdings _). IsNotFull (contents_of held) held.book) (sym c.in_ok-same.ensures.looks.others) c.requires.not_full
 
 pub returns-clause-stores : goal.returns-clause-stores
 returns-clause-stores g c =

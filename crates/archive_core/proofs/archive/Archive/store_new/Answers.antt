@@ -20,7 +20,7 @@ returns-in_err-check_room g c =
 
 pub returns-in_err-framing : goal.returns-in_err-framing
 returns-in_err-framing g c =
-    memory_exit g.D.Disk c.args.self.now c.args.self.now refl refl refl refl refl c.args.taken.now c.from_residual-in_err-framing.result
+    memory_exit g.D.Disk c.args.self.now c.args.self.now refl refl refl refl refl refl c.args.taken.now c.from_residual-in_err-framing.result
     c.from_residual-in_err-framing.ensures.1
 
 pub same_by-requires-clause-digest : goal.same_by-requires-clause-digest
@@ -30,7 +30,7 @@ same_by-requires-clause-digest g c payload has =
     (subst (λ (w : List ℕ). IsPayload taken.cut c.in_ok-framing.framing w payload) (sym c.as_slice.ensures) (c.in_ok-framing.ensures.needs payload has))
 
 pub same_by-requires-clause-right : goal.same_by-requires-clause-right
-same_by-requires-clause-right g c payload has = c.none.ensures.right g.D.Disk.tells c.args.self.now.book payload
+same_by-requires-clause-right g c payload has = c.none.ensures.right c.args.self.now.told c.args.self.now.book payload
 
 pub returns-in_err-same : goal.returns-in_err-same
 returns-in_err-same g c =
@@ -40,7 +40,7 @@ returns-in_err-same g c =
 
 pub store_compared-requires-clause-not_full : goal.store_compared-requires-clause-not_full
 store_compared-requires-clause-not_full g c =
-    subst (λ (held : Holdings _). IsNotFull (contents_of g.D.Disk.tells held) held.book) (sym c.in_ok-same.ensures.looks.others) c.in_ok-check_room.ensures
+    subst (λ (held : Holdings _). IsNotFull (contents_of held) held.book) (sym c.in_ok-same.ensures.looks.others) c.in_ok-check_room.ensures
 
 pub store_compared-requires-clause-digest : goal.store_compared-requires-clause-digest
 store_compared-requires-clause-digest g c payload has =

@@ -15,5 +15,5 @@ returns-clause-found g c =
 pub returns-clause-knows : goal.returns-clause-knows
 returns-clause-knows g c =
     let is = subst (λ (held : Holdings _). IsArchive g.D.Disk held) c.self.view_is c.self.invariant in
-    laws.on_each_ok c.starting.result (IsTrue g.D.Disk.tells → AreEntries c.args.self.now.book (numbered c.args.self.now.index))
+    laws.on_each_ok c.starting.result (IsTrue c.args.self.now.told → AreEntries c.args.self.now.book (numbered c.args.self.now.index))
     (laws.shows_entries g.D.Disk c.args.self.now is)

@@ -1,5 +1,5 @@
 -- The book is told where the disk tells.
-use Rattle.archive_core.proofs.archive.Archive.piece_numbered.Given as goal
+use Rattle.archive_core.proofs.archive.Archive.reopen.Given as goal
 
 abbrev pub ghost-told_by : goal.ghost-told_by
 ghost-told_by g a = g.D.Disk.tells
