@@ -1,5 +1,5 @@
 -- A shelf goes on following a load.
-use Rattle.std.proofs.Common.{◌≡◌, ◌⊎◌, ℕ, zero, suc, ◌+◌, ◌<◌, Bool, true, false, IsTrue, Ok, refl, sym, ap, subst, inl, inr, arith}
+use Rattle.std.proofs.Common.{◌≡◌, ◌⊎◌, ℕ, zero, suc, ◌+◌, ◌<◌, Bool, true, false, IsTrue, Ok, refl, sym, ap, subst, ◌∙◌, inl, inr, arith}
 use Rattle.archive_shelf.specs.Answers.{Brings, HasStored}
 use Rattle.archive_shelf.specs.Contents.{Contents}
 use Rattle.archive_shelf.specs.Openings.{HasJust}
@@ -15,9 +15,10 @@ use Rattle.load_maker.specs.Load.{brought_of, payload, taken_of}
 use Rattle.load_shelf.specs.Loads.{Follows, HavePayloads, HoldsFirst, IsFilled}
 
 -- what was seen and read stays
-stays : (was is : Told) (seed count replayed : ℕ) → is.contents.seen ≡ was.contents.seen → is.contents.limits ≡ was.contents.limits
+stays : (was is : Told) (seed count replayed : ℕ) → is.contents.tells ≡ was.contents.tells → is.contents.seen ≡ was.contents.seen → is.contents.limits ≡ was.contents.limits
     → is.reading ≡ was.reading → IsFilled was seed count replayed → IsFilled is seed count replayed
-stays was is seed count replayed seen limits reading filled = record {
+stays was is seed count replayed tells seen limits reading filled = record {
+  told = tells ∙ filled.told;
   namespace = filled.namespace;
   holds = subst (λ l. HoldsFirst l.volume_bytes filled.namespace seed count is.contents.seen) (sym limits)
       (subst (λ b. HoldsFirst was.contents.limits.volume_bytes filled.namespace seed count b) (sym seen) filled.holds);
@@ -28,34 +29,31 @@ stays was is seed count replayed seen limits reading filled = record {
 -- behind a look
 pub looked : (alone : Bool) (was is : Told) (seed count replayed : ℕ) (follows : Bool) → LooksOn alone was is
     → Follows alone was seed count replayed follows → Follows alone is seed count replayed follows
-looked true was is seed count replayed follows looks before alone tells so =
-    let told : was.contents.tells ≡ is.contents.tells = sym (ap (λ (c : Contents). c.tells) looks.looks.others) in
-    let told_was = subst (λ t. IsTrue t) (sym told) tells in
-    stays was is seed count replayed (ap (λ (c : Contents). c.seen) looks.looks.others) (ap (λ (c : Contents). c.limits) looks.looks.others)
-    (looks.unwritten.reading alone told_was) (before alone told_was so)
-looked false was is seed count replayed follows looks before alone tells so = absurd (let no : ⊥ = cc alone in no)
+looked true was is seed count replayed follows looks before alone so =
+    let filled = before alone so in
+    stays was is seed count replayed (ap (λ (c : Contents). c.tells) looks.looks.others) (ap (λ (c : Contents). c.seen) looks.looks.others) (ap (λ (c : Contents). c.limits) looks.looks.others)
+    (looks.unwritten.reading alone filled.told) filled
+looked false was is seed count replayed follows looks before alone so = absurd (let no : ⊥ = cc alone in no)
 
 -- behind a read
 pub read : (alone fault : Bool) (was is : Told) (seed count replayed : ℕ) (follows : Bool) → ReadsOn alone fault was is
     → Follows alone was seed count replayed follows → Follows alone is seed count replayed follows
-read true fault was is seed count replayed follows reads before alone tells so =
-    let told : was.contents.tells ≡ is.contents.tells = sym (ap (λ (c : Contents). c.tells) reads.stays.others) in
-    let told_was = subst (λ t. IsTrue t) (sym told) tells in
-    stays was is seed count replayed reads.stays.seen (ap (λ (c : Contents). c.limits) reads.stays.others)
-    (reads.unwritten.reading alone told_was) (before alone told_was so)
-read false fault was is seed count replayed follows reads before alone tells so = absurd (let no : ⊥ = cc alone in no)
+read true fault was is seed count replayed follows reads before alone so =
+    let filled = before alone so in
+    stays was is seed count replayed (ap (λ (c : Contents). c.tells) reads.stays.others) reads.stays.seen (ap (λ (c : Contents). c.limits) reads.stays.others)
+    (reads.unwritten.reading alone filled.told) filled
+read false fault was is seed count replayed follows reads before alone so = absurd (let no : ⊥ = cc alone in no)
 
 -- behind the store of the load's next capture
 pub stored : (alone : Bool) (was is : Told) (seed count replayed : ℕ) (follows : Bool) (taken : Taken) (receipt : Receipt)
     → taken ≡ taken_of seed count → HasStored alone taken was.contents is.contents receipt
     → (IsTrue alone → IsTrue is.contents.tells → HasJust is.reading is.contents.seen)
     → Follows alone was seed count replayed follows → Follows alone is seed (count + 1) 0 follows
-stored true was is seed count replayed follows taken receipt next has just before alone tells so =
+stored true was is seed count replayed follows taken receipt next has just before alone so =
     let told : is.contents.tells ≡ was.contents.tells = ap (λ (c : Contents). c.tells) has.others in
     let limits : was.contents.limits ≡ is.contents.limits = sym (ap (λ (c : Contents). c.limits) has.others) in
-    let told_was = subst (λ t. IsTrue t) told tells in
-    let filled = before alone told_was so in
-    let rule = has.by_rule told_was in
+    let filled = before alone so in
+    let rule = has.by_rule filled.told in
     let pair : (s : Storing was.contents.limits.volume_bytes has.found (taken_of seed count)) × (is.contents.seen ≡ stored_by s) =
     subst (λ (t : Taken). (s : Storing was.contents.limits.volume_bytes has.found t) × (is.contents.seen ≡ stored_by s)) next
     (rule.storing, rule.stored) in
@@ -65,13 +63,14 @@ stored true was is seed count replayed follows taken receipt next has just befor
     (has.found, found, pair.0, pair.1) in
     let one : suc count ≡ count + 1 = omega arith in
     record {
+      told = told ∙ filled.told;
       namespace = filled.namespace;
       holds = subst (λ n. HoldsFirst is.contents.limits.volume_bytes filled.namespace seed n is.contents.seen) one
           (subst (λ (l : Limits). HoldsFirst l.volume_bytes filled.namespace seed (suc count) is.contents.seen) limits held);
-      just = just alone tells;
+      just = just alone (told ∙ filled.told);
       payloads = λ number lt. absurd (omega (arith, lt));
     }
-stored false was is seed count replayed follows taken receipt next has just before alone tells so = absurd (let no : ⊥ = cc alone in no)
+stored false was is seed count replayed follows taken receipt next has just before alone so = absurd (let no : ⊥ = cc alone in no)
 
 split : (n k : ℕ) → n < k + 1 → (n < k) ⊎ (n ≡ k)
 split zero zero h = inr refl
@@ -95,12 +94,13 @@ one_more seed replayed book before this number lt = by (split number replayed lt
 pub replayed_one : (alone fault : Bool) (was is : Told) (seed count replayed : ℕ) (follows : Bool) (brought : Brought)
     → brought ≡ brought_of seed replayed → ReadsOn alone fault was is → Brings is.contents replayed (Ok brought)
     → Follows alone was seed count replayed follows → Follows alone is seed count (replayed + 1) follows
-replayed_one alone fault was is seed count replayed follows brought same reads brings before lone tells so =
-    let filled = read alone fault was is seed count replayed follows reads before lone tells so in
-    let has = (brings.3 tells).0.has in
+replayed_one alone fault was is seed count replayed follows brought same reads brings before lone so =
+    let filled = read alone fault was is seed count replayed follows reads before lone so in
+    let has = (brings.3 filled.told).0.has in
     let this : IsPayloadOf is.contents.seen replayed (payload seed replayed) =
     subst (λ p. IsPayloadOf is.contents.seen replayed p) (ap (λ (b : Brought). b.payload) same) has in
     record {
+      told = filled.told;
       namespace = filled.namespace;
       holds = filled.holds;
       just = filled.just;

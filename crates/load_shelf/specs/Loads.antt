@@ -18,18 +18,19 @@ HoldsFirst limit namespace seed (suc count) book =
 abbrev pub HavePayloads : (seed count : ℕ) → Book → Type 0
 HavePayloads seed count book = (number : ℕ) → number < count → IsPayloadOf book number (payload seed number)
 
--- A shelf took the first so many exchanges of a load: its book did, and the files of the volumes are just that book's texts. Of
--- the first so many the payload was brought back.
+-- A shelf of which is told what its book has took the first so many exchanges of a load: the book did, and the files of the volumes are
+-- just that book's texts. Of the first so many the payload was brought back.
 pub record IsFilled (now : Told) (seed count replayed : ℕ) : Type 0 where
+  pub told : IsTrue now.contents.tells
   pub namespace : List ℕ
   pub holds : HoldsFirst now.contents.limits.volume_bytes namespace seed count now.contents.seen
   pub just : HasJust now.reading now.contents.seen
   pub payloads : HavePayloads seed replayed now.contents.seen
 
--- where nobody else stores and the disk is told, a shelf that is said to follow the load took so many exchanges
+-- where nobody else stores, a shelf that is said to follow the load took so many exchanges
 abbrev pub Follows : (alone : Bool) → Told → (seed count replayed : ℕ) (follows : Bool) → Type 0
 Follows alone now seed count replayed follows =
-    IsTrue alone → IsTrue now.contents.tells → IsTrue follows → IsFilled now seed count replayed
+    IsTrue alone → IsTrue follows → IsFilled now seed count replayed
 
 -- what is kept of a shelf that follows a load
 pub record Held (S : Type 0) : Type 0 where

@@ -37,8 +37,9 @@ impl<S: Shelf> Model for LoadShelf<S> {
 }
 
 impl<S: Shelf> LoadShelf<S> {
-    /// A shelf without volumes, on which a load is to be stored.
+    /// A shelf without volumes, on which a load is to be stored. What its book has is told.
     pub fn new(shelf: S, seed: u64) -> LoadShelf<S>
+        requires told { IsTrue (S.told shelf).contents.tells }
         requires empty { (S.told shelf).contents.seen ≡ empty_book (S.told shelf).contents.seen.namespace }
         requires just { HasJust (S.told shelf).reading (S.told shelf).contents.seen }
         ensures { result.shelf ≡ shelf }
@@ -54,7 +55,7 @@ impl<S: Shelf> LoadShelf<S> {
 
     /// Whether just so many captures of this load were stored on the shelf, and each was brought back as it was.
     pub fn is_filled(&self, seed: u64, count: u32) -> bool
-        ensures { IsTrue result → IsTrue S.alone → IsTrue (S.told self.now.shelf).contents.tells → IsFilled (S.told self.now.shelf) seed count count }
+        ensures { IsTrue result → IsTrue S.alone → IsFilled (S.told self.now.shelf) seed count count }
     {
         if self.seed != seed {
             return false;
