@@ -17,6 +17,7 @@ mod measured;
 mod memory;
 mod pages;
 mod plain;
+mod queries;
 mod responses;
 mod stopped;
 mod tables;
@@ -36,12 +37,13 @@ fn main(rt: HostRuntime) -> Result<(), Stopped> {
         Some("index") => index::measure(&rt, rt.alloc()),
         Some("keys") => keys::measure(&rt, rt.alloc()),
         Some("pages") => pages::measure(&rt, rt.alloc()),
+        Some("queries") => queries::measure(&rt, rt.alloc()),
         Some("responses") => responses::measure(&rt, rt.alloc()),
         Some("tables") => tables::measure(&rt, rt.alloc()),
         Some("volumes") => volumes::measure(&rt, rt.alloc()),
         _ => {
             println!(rt;
-                "usage: bench TOPIC, which is archive, digests, groups, heads, index, keys, pages, responses, tables or volumes"
+                "usage: bench TOPIC, which is archive, digests, groups, heads, index, keys, pages, queries, responses, tables or volumes"
             )?;
             Ok(())
         }
