@@ -1,7 +1,7 @@
 -- What a window shows, as it is moved on.
 use Rattle.std.proofs.Common.{◌≡◌, ◌≤◌, ℕ, ◌+◌, ◌-◌, List, ◌++◌, length, take, drop, sym, ap, ◌∙◌, arith}
 use Rattle.std.proofs.Math.Seq.{take-add}
-use Rattle.std.proofs.lemmas.List.{drop-drop, drop-take, length-drop, length-take, take_all, take_at}
+use Rattle.std.proofs.lemmas.List.{drop-drop, drop-take, length-drop, length-take, take_at}
 
 -- the bytes from a place on are those that stand there
 pub shown_from : (file bytes : List ℕ) (from place : ℕ) → from ≤ place → place ≤ from + length bytes
@@ -28,13 +28,12 @@ read_behind file there into place wanted m is fits first second =
     ∙ ap (λ (n : ℕ). take n (drop place file)) (omega (arith, fits))
 
 -- the bytes that are there are put first, room is made behind them, and the rest is read into it
-pub read_whole : (file there front into resized spare : List ℕ) (place wanted m n len : ℕ) → m ≡ length there → m ≤ wanted → place + wanted ≤ length file
-    → there ≡ take (length there) (drop place file) → resized ≡ take wanted there ++ spare → front ≡ take m resized → n + m ≡ wanted
+pub read_whole : (file there front into resized : List ℕ) (place wanted m n len : ℕ) → m ≡ length there → m ≤ wanted → place + wanted ≤ length file
+    → there ≡ take (length there) (drop place file) → take m resized ≡ there → front ≡ take m resized → n + m ≡ wanted
     → into ≡ take n (drop (place + m) file) → len ≡ wanted
     → take len (front ++ into ++ drop (length (front ++ into)) resized) ≡ take wanted (drop place file)
-read_whole file there front into resized spare place wanted m n len is fits long first room before count second whole =
-    let begins : front ≡ there =
-    before ∙ ap (λ (l : List ℕ). take m l) (room ∙ ap (λ (l : List ℕ). l ++ spare) (take_all wanted there (omega (arith, is, fits)))) ∙ take_at there spare m (sym is) in
+read_whole file there front into resized place wanted m n len is fits long first room before count second whole =
+    let begins : front ≡ there = before ∙ room in
     let rest : n ≡ wanted - m = omega (arith, count) in
     let second_is : into ≡ take (wanted - m) (drop (place + m) file) = second ∙ ap (λ (i : ℕ). take i (drop (place + m) file)) rest in
     let all : front ++ into ≡ take wanted (drop place file) =

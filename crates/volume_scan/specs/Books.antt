@@ -3,7 +3,6 @@ use Rattle.std.specs.Prelude.{◌≡◌, ◌≢◌, ◌<◌, ◌≤◌, ℕ, ◌
 use Rattle.capture.specs.Captures.{captures, first_number}
 use Rattle.capture.specs.declared.book.Book.{Book}
 use Rattle.capture.specs.declared.book.Volume.{Volume}
-use Rattle.disk_model.specs.declared.disk.Disk.{Ghosts}
 use Rattle.warc_journal.specs.Extents.{texts_in}
 use Rattle.warc_journal.specs.Texts.{Hold, with_more}
 use Rattle.warc_scan.specs.Groups.{IsGroup}
@@ -13,10 +12,9 @@ use Rattle.warc_text.specs.Books.{IsGroupText, IsVolumeText, joined}
 use Rattle.warc_text.specs.Sound.{IsSound}
 use Rattle.warc_text.specs.StandsFor.{StandsFor}
 use Rattle.volume_scan.specs.Damage.{IsDamagedAt}
-use Rattle.volume_scan.specs.Scannings.{LiesIn, captures_of, position_of, texts}
+use Rattle.volume_scan.specs.Scannings.{LiesIn}
 use Rattle.volume_scan.specs.declared.position.Position.{Position}
 use Rattle.volume_scan.specs.declared.position.Stage.TheVariants.{Skipped}
-use Rattle.volume_scan.specs.declared.scanning.Scanning.{Scanning}
 
 -- the text is that of a volume up to the group with this number, behind which its other groups follow
 pub record IsReadUpTo (book : Book) (k : ℕ) (text : List ℕ) (number : ℕ) : Type 0 where

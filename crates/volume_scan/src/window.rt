@@ -1,5 +1,5 @@
 //! A part of a file, as it was read.
-ghost use Rattle.std.specs.Prelude.{◌≡◌, ◌+◌, ◌-◌, ◌<◌, ◌≤◌, ◌^◌, ℕ, IfOk, IsTrue, List, OnOk, drop, length, min, take};
+ghost use Rattle.std.specs.Prelude.{◌≡◌, ◌+◌, ◌-◌, ◌<◌, ◌≤◌, ◌^◌, ℕ, IfOk, IsTrue, List, OnOk, drop, length, min, take, vec_len};
 ghost use Rattle.capture.specs.Faults.{CountsFaults};
 ghost use Rattle.warc_journal.specs.Extents.{warc_files};
 ghost use Rattle.warc_journal.specs.Journals.{Rests};
@@ -9,7 +9,7 @@ ghost use Rattle.volume_scan.specs.Windows.{IsInside, Shows};
 
 use crate::ScanFault;
 use disk_model::{Disk, Kind};
-use std::alloc::Global;
+use std::alloc::{AllocError, Global};
 use warc_journal::DiskFault;
 
 /// The bytes of a file from a place on, as far as they were read.
@@ -123,6 +123,22 @@ impl Window {
     }
 }
 
+/// Zeros, to be put behind bytes many at once: `resize` writes one after the other.
+const ZEROS: &[u8; 4_096] = &[0; 4_096];
+
+/// Puts zeros behind the bytes, until there are so many.
+fn put_zeros(bytes: &mut Vec<u8>, wanted: u64) -> Result<(), AllocError>
+    requires more { length bytes.old.items ≤ wanted }
+    ensures front { OnOk result (take (length bytes.old.items) bytes.new.items ≡ bytes.old.items) }
+    ensures len { OnOk result (vec_len bytes.new ≡ wanted) }
+{
+    'zeros: while (bytes.len() as u64) < wanted {
+        let more = (wanted - bytes.len() as u64).min(4_096) as usize;
+        bytes.extend_from_slice(&ZEROS[..more])?;
+    }
+    Ok(())
+}
+
 /// So many bytes of a file from a place on, the first of which are there already.
 #[tactic(auto, unfolding(disk_model::specs::Image::file_of))]
 fn read_on<D: Disk>(
@@ -147,7 +163,7 @@ fn read_on<D: Disk>(
 {
     let mut bytes = Vec::with_capacity(alloc, wanted as usize)?;
     bytes.extend_from_slice(there)?;
-    bytes.resize(wanted as usize, 0)?;
+    put_zeros(&mut bytes, wanted)?;
     let (_, into) = bytes.split_at_mut(there.len());
     match disk.read(Kind::Warc, file, place + there.len() as u64, into) {
         Ok(()) => Ok(bytes),
