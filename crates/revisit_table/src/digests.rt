@@ -4,6 +4,7 @@ ghost use Rattle.std.specs.List.Sorted.{IsStrictlyIncreasing};
 ghost use Rattle.revisit_table.specs.Table.{empty_table, numbers_of, with_room, with_added, with_taken_back, without};
 
 use crate::lists::{add_at, drop_unused, reserve_at, take_at};
+use crate::numbers::Numbers;
 use capture::{Digest, Memory};
 use std::alloc::Global;
 use std::collections::BTreeMap;
@@ -16,7 +17,7 @@ use std::marker::Model;
 #[derive(Debug, Drop)]
 pub struct Digests {
     kept: Vec<(Digest, u32)>,
-    lists: BTreeMap<Digest, Vec<u32>>,
+    lists: BTreeMap<Digest, Numbers>,
     reserved: Option<Digest>,
 }
 

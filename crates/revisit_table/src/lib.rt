@@ -3,5 +3,6 @@
 
 mod digests;
 mod lists;
+mod numbers;
 
 pub use digests::Digests;

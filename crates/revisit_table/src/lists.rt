@@ -5,13 +5,14 @@ ghost use Rattle.std.specs.Str.{bytes_eq};
 ghost use Rattle.std.specs.Vec.{vec_capacity};
 ghost use Rattle.revisit_table.specs.Lists.{has_list, numbers_at, spare_at};
 
+use crate::numbers::Numbers;
 use capture::{Digest, Memory};
 use std::alloc::Global;
 use std::collections::BTreeMap;
 
 /// Makes room for one more number at the digest.
 pub(crate) fn reserve_at(
-    lists: &mut BTreeMap<Digest, Vec<u32>>,
+    lists: &mut BTreeMap<Digest, Numbers>,
     alloc: Global,
     digest: &Digest,
 ) -> Result<(), Memory>
@@ -22,16 +23,15 @@ pub(crate) fn reserve_at(
     ensures err { OnErr result ((other : List ℕ) → has_list lists.new other ≡ has_list lists.old other) }
 {
     if let Some(numbers) = lists.get_mut(digest) {
-        numbers.reserve(1)?;
+        numbers.reserve(alloc)?;
         return Ok(());
     }
-    let numbers = Vec::with_capacity(alloc, 1)?;
-    lists.insert(*digest, numbers)?;
+    lists.insert(*digest, Numbers::Empty)?;
     Ok(())
 }
 
 /// Adds a number at the digest, in the room that is there.
-pub(crate) fn add_at(lists: &mut BTreeMap<Digest, Vec<u32>>, digest: &Digest, number: u32)
+pub(crate) fn add_at(lists: &mut BTreeMap<Digest, Numbers>, digest: &Digest, number: u32)
     requires { 0 < spare_at lists.old digest.now }
     ensures numbers { (other : List ℕ) → numbers_at lists.new other
         ≡ numbers_at lists.old other ++ (if bytes_eq digest.now other then number ∷ [] else []) }
@@ -43,7 +43,7 @@ pub(crate) fn add_at(lists: &mut BTreeMap<Digest, Vec<u32>>, digest: &Digest, nu
 }
 
 /// Takes a number out at the digest, if it's there.
-pub(crate) fn take_at(lists: &mut BTreeMap<Digest, Vec<u32>>, digest: &Digest, number: u32)
+pub(crate) fn take_at(lists: &mut BTreeMap<Digest, Numbers>, digest: &Digest, number: u32)
     requires { IsStrictlyIncreasing (numbers_at lists.old digest.now) }
     ensures same { (other : List ℕ) → numbers_at lists.new other
         ≡ (if bytes_eq digest.now other then filter (λ n. not (n == number)) (numbers_at lists.old other)
@@ -52,13 +52,13 @@ pub(crate) fn take_at(lists: &mut BTreeMap<Digest, Vec<u32>>, digest: &Digest, n
     ensures lists { (other : List ℕ) → has_list lists.new other ≡ has_list lists.old other }
 {
     if let Some(numbers) = lists.get_mut(digest) {
-        take_out(numbers, number);
+        numbers.take_out(number);
     }
 }
 
 /// Leaves no empty list at the digest, unless the digest is the reserved one.
 pub(crate) fn drop_unused(
-    lists: &mut BTreeMap<Digest, Vec<u32>>,
+    lists: &mut BTreeMap<Digest, Numbers>,
     digest: &Digest,
     reserved: Option<Digest>,
 )
@@ -71,24 +71,9 @@ pub(crate) fn drop_unused(
         return;
     }
     match lists.get(digest) {
-        Some(numbers) if numbers.is_empty() => {
+        Some(numbers) if numbers.as_slice().is_empty() => {
             lists.remove(digest);
         }
         _ => {}
-    }
-}
-
-/// Takes a number out of a list, if it's there.
-fn take_out(numbers: &mut Vec<u32>, number: u32)
-    requires { IsStrictlyIncreasing numbers.old.items }
-    ensures items { numbers.new.items ≡ filter (λ n. not (n == number)) numbers.old.items }
-    ensures len { vec_len numbers.new ≤ vec_len numbers.old }
-    ensures capacity { vec_capacity numbers.new ≡ vec_capacity numbers.old }
-{
-    match numbers.binary_search(&number) {
-        Ok(place) => {
-            numbers.remove(place);
-        }
-        Err(_) => {}
     }
 }

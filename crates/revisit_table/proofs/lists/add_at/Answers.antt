@@ -2,6 +2,7 @@ use Rattle.std.proofs.Common.{◌≡◌, rules, arith, sym, cond, ◌++◌, ◌�
 use Rattle.std.proofs.lemmas.Grind.{common_steps}
 use Rattle.std.specs.Str.{bytes_eq}
 use Rattle.std.proofs.lemmas.List.{append-nil}
+use Rattle.revisit_table.specs.Lists.{items_of}
 use Rattle.revisit_table.proofs.MapLemmas.{related}
 use Rattle.revisit_table.proofs.lists.add_at.Goals as goal
 
@@ -11,7 +12,7 @@ returns-in-Some-clause-numbers c = λ other.
     let w = c.push_reserved.new.self in
     let number = c.args.number in
     let key = c.args.digest.now in
-    related (λ numbers. numbers.items) [] m (c.get_mut.follows.lender w) key w ((c.get_mut.follows.holds w).3 (search rules))
+    related items_of [] m (c.get_mut.follows.lender w) key w ((c.get_mut.follows.holds w).3 (search rules))
     (λ old new. new ≡ old ++ cond (bytes_eq key other) (number ∷ []) []) other
     (λ yes. rw yes (grind (arith, common_steps)))
     (λ no. rw no (sym (append-nil _)))

@@ -1,7 +1,8 @@
 use Rattle.std.proofs.Common.{◌≡◌, ◌≤◌, rules, arith, [], refl, sym, ◌∙◌, true, false, true≢false}
-use Rattle.std.specs.Prelude.{◌-◌, vec_len, Result, Ok, Err, OnErr}
-use Rattle.std.specs.Vec.{vec_capacity}
+use Rattle.std.specs.Prelude.{Result, Ok, Err, OnErr}
 use Rattle.std.proofs.lemmas.Grind.{common_steps}
+use Rattle.revisit_table.specs.Lists.{items_of, spare_of}
+use Rattle.revisit_table.specs.declared.numbers.Numbers.TheVariants.{Empty}
 use Rattle.revisit_table.proofs.MapLemmas.{related}
 use Rattle.revisit_table.proofs.lists.reserve_at.Goals as goal
 
@@ -29,42 +30,42 @@ returns-in-Some-clause-others c = λ other apart.
 
 pub returns-clause-others : goal.returns-clause-others
 returns-clause-others c = λ other apart.
-    let w = c.in_ok-numbers.numbers in
+    let w = Empty in
     related (λ numbers. true) false c.args.lists.now c.insert.new.self c.args.digest.now w (rw c.get_mut.follows.holds-at-none at c.in_ok-insert.ensures.updates)
     (λ old new. new ≡ old) other (λ yes. absurd (true≢false (sym yes ∙ apart))) (λ no. refl)
 
 pub returns-in_err-reserve-clause-same : goal.returns-in_err-reserve-clause-same
 returns-in_err-reserve-clause-same c = λ other.
     let w = c.reserve.new.self in
-    related (λ numbers. numbers.items) [] c.args.lists.now (c.get_mut.follows.lender w) c.args.digest.now w ((c.get_mut.follows.holds w).3 (search rules))
+    related items_of [] c.args.lists.now (c.get_mut.follows.lender w) c.args.digest.now w ((c.get_mut.follows.holds w).3 (search rules))
     (λ old new. new ≡ old) other (λ yes. grind (arith, common_steps)) (λ no. refl)
 
 pub returns-in_err-reserve-clause-spare : goal.returns-in_err-reserve-clause-spare
 returns-in_err-reserve-clause-spare c = λ other.
     let w = c.reserve.new.self in
-    related (λ numbers. vec_capacity numbers - vec_len numbers) 0 c.args.lists.now (c.get_mut.follows.lender w) c.args.digest.now w ((c.get_mut.follows.holds w).3 (search rules))
+    related spare_of 0 c.args.lists.now (c.get_mut.follows.lender w) c.args.digest.now w ((c.get_mut.follows.holds w).3 (search rules))
     (λ old new. old ≤ new) other (λ yes. grind (arith, common_steps)) (λ no. omega arith)
 
 pub returns-in-Some-clause-same : goal.returns-in-Some-clause-same
 returns-in-Some-clause-same c = λ other.
     let w = c.reserve.new.self in
-    related (λ numbers. numbers.items) [] c.args.lists.now (c.get_mut.follows.lender w) c.args.digest.now w ((c.get_mut.follows.holds w).3 (search rules))
+    related items_of [] c.args.lists.now (c.get_mut.follows.lender w) c.args.digest.now w ((c.get_mut.follows.holds w).3 (search rules))
     (λ old new. new ≡ old) other (λ yes. grind (arith, common_steps)) (λ no. refl)
 
 pub returns-in-Some-clause-spare : goal.returns-in-Some-clause-spare
 returns-in-Some-clause-spare c = λ other.
     let w = c.reserve.new.self in
-    related (λ numbers. vec_capacity numbers - vec_len numbers) 0 c.args.lists.now (c.get_mut.follows.lender w) c.args.digest.now w ((c.get_mut.follows.holds w).3 (search rules))
+    related spare_of 0 c.args.lists.now (c.get_mut.follows.lender w) c.args.digest.now w ((c.get_mut.follows.holds w).3 (search rules))
     (λ old new. old ≤ new) other (λ yes. grind (arith, common_steps)) (λ no. omega arith)
 
 pub returns-clause-same : goal.returns-clause-same
 returns-clause-same c = λ other.
-    let w = c.in_ok-numbers.numbers in
-    related (λ numbers. numbers.items) [] c.args.lists.now c.insert.new.self c.args.digest.now w (rw c.get_mut.follows.holds-at-none at c.in_ok-insert.ensures.updates)
+    let w = Empty in
+    related items_of [] c.args.lists.now c.insert.new.self c.args.digest.now w (rw c.get_mut.follows.holds-at-none at c.in_ok-insert.ensures.updates)
     (λ old new. new ≡ old) other (λ yes. grind (arith, common_steps)) (λ no. refl)
 
 pub returns-clause-spare : goal.returns-clause-spare
 returns-clause-spare c = λ other.
-    let w = c.in_ok-numbers.numbers in
-    related (λ numbers. vec_capacity numbers - vec_len numbers) 0 c.args.lists.now c.insert.new.self c.args.digest.now w (rw c.get_mut.follows.holds-at-none at c.in_ok-insert.ensures.updates)
+    let w = Empty in
+    related spare_of 0 c.args.lists.now c.insert.new.self c.args.digest.now w (rw c.get_mut.follows.holds-at-none at c.in_ok-insert.ensures.updates)
     (λ old new. old ≤ new) other (λ yes. grind (arith, common_steps)) (λ no. omega arith)

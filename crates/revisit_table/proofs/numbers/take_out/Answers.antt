@@ -1,6 +1,6 @@
 use Rattle.std.proofs.Common.{Ok, Err, sym, ◌∙◌}
 use Rattle.revisit_table.proofs.Searches.{number_search_is_filter}
-use Rattle.revisit_table.proofs.lists.take_out.Goals as goal
+use Rattle.revisit_table.proofs.numbers.take_out.Goals as goal
 
 pub returns-in-Ok-clause-items : goal.returns-in-Ok-clause-items
 returns-in-Ok-clause-items c =
