@@ -1,6 +1,7 @@
 -- What the command `import` leaves.
 use Rattle.std.proofs.Common.{◌≡◌, ◌⊎◌, ℕ, Bool, true, IsTrue, List, [], ◌∷◌, ◌++◌, length, Option, Some, None, Result, Ok, Err, refl, sym, ap, subst, ◌∙◌, inl, inr, ⊎_elim, arith}
 use Rattle.std.specs.List.{flat_map}
+use Rattle.archive_core.proofs.TellingLaws.{quiet_muted}
 use Rattle.archive_core.specs.Holdings.{Holdings, contents_of}
 use Rattle.archive_core.specs.Reopening.{IsReopened}
 use Rattle.archive_core.specs.Told.{told_of, told_on}
@@ -11,9 +12,9 @@ use Rattle.archive_shelf.specs.Openings.{SameBook}
 use Rattle.archive_shelf.specs.Told.{Told}
 use Rattle.archive_shelf.specs.declared.fault.StoreFault.{StoreFault}
 use Rattle.archive_shelf.specs.declared.fault.StoreFault.TheVariants.{Full, DiskFault, Damaged, Memory}
-use Rattle.archive_volumes.proofs.ChangeLaws.{DiskLaws, opens_now}
+use Rattle.archive_volumes.proofs.ChangeLaws.{DiskLaws, laws_muted, opens_now}
 use Rattle.archive_volumes.proofs.StoreLaws.{opens_earlier}
-use Rattle.archive_volumes.specs.Volumes.{OpensNear, crash_of}
+use Rattle.archive_volumes.specs.Volumes.{IsQuiet, OpensNear, crash_of, muted}
 use Rattle.capture.specs.declared.book.Book.{Book}
 use Rattle.capture.specs.declared.captured.Taken.{Taken}
 use Rattle.disk_model.specs.declared.disk.Disk.{Ghosts as Disks}
@@ -157,42 +158,46 @@ module _ {D : Type 0} (disks : Disks D) (laws : DiskLaws disks) (given : D) (ask
     (reopened : IsReopened disks given asked usual_limits held) where
   -- from the disk that was given, over which nothing was written until the archive was opened
   pub keeps_since : (takens : List Taken) (count : ℕ) (refused : Option StoreFault) → Keeps true takens count refused (told_of disks held) (told_of disks left)
-      → Keeps true takens count refused (told_on disks given (contents_of disks.tells held)) (told_of disks left)
-  keeps_since takens count refused k = record {
-    steps = k.steps;
-    rest = k.rest;
-    reached = k.reached;
-    in_order = k.in_order;
-    count_is = k.count_is;
-    stored = k.stored;
-    ends = k.ends;
-    goes_on = record {
-      grows = k.goes_on.grows;
-      shows = k.goes_on.shows;
-      mine = k.goes_on.mine;
-      same_tells = k.goes_on.same_tells;
-      same_limits = k.goes_on.same_limits;
-      consistent = k.goes_on.consistent;
-      faults = omega (arith, k.goes_on.faults, reopened.faults);
-      later = omega (arith, reopened.quiet.later, k.goes_on.later);
-      covered = λ t le all. k.goes_on.covered t (omega (arith, le, reopened.quiet.later)) (reopened.quiet.covered t le all);
-      kept = λ files has. reopened.quiet.kept files (k.goes_on.kept files has);
-    };
-    faults = subst (λ (n : ℕ). CountsIf (is_denied refused) n (told_of disks left).faults) reopened.faults k.faults;
-    moves = λ ids last t x le o. ⊎_elim
-        (λ then. inl (no_more (reopened.quiet.moves t x le then)))
-        (λ on. inr on)
-        (k.moves ids last t x (omega (arith, le, reopened.quiet.later)) o);
-    left = λ a tells ids last x o. last_by refused k.rest k.steps k.reached (contents_of disks.tells left)
-        (λ b. (crash_of disks (disk_of held.journal)).openings (crash_of disks (disk_of held.journal)).moment b)
-        (λ b. (crash_of disks given).openings (crash_of disks given).moment b) x
-        (opened_before (crash_of disks given) (crash_of disks (disk_of held.journal)) (opens_earlier disks laws (disk_of held.journal)) reopened.quiet)
-        (k.left a tells ids last x o);
-  }
+      → Keeps true takens count refused (told_on disks given (contents_of held)) (told_of disks left)
+  keeps_since takens count refused k =
+      let quiet : IsQuiet (muted held.told disks) given (disk_of held.journal) =
+      quiet_muted disks held.told (λ told. sym reopened.told_is ∙ told) given (disk_of held.journal) reopened.quiet in
+      record {
+        steps = k.steps;
+        rest = k.rest;
+        reached = k.reached;
+        in_order = k.in_order;
+        count_is = k.count_is;
+        stored = k.stored;
+        ends = k.ends;
+        goes_on = record {
+          grows = k.goes_on.grows;
+          shows = k.goes_on.shows;
+          mine = k.goes_on.mine;
+          same_tells = k.goes_on.same_tells;
+          same_limits = k.goes_on.same_limits;
+          consistent = k.goes_on.consistent;
+          faults = omega (arith, k.goes_on.faults, reopened.faults);
+          later = omega (arith, quiet.later, k.goes_on.later);
+          covered = λ t le all. k.goes_on.covered t (omega (arith, le, quiet.later)) (quiet.covered t le all);
+          kept = λ files has. quiet.kept files (k.goes_on.kept files has);
+        };
+        faults = subst (λ (n : ℕ). CountsIf (is_denied refused) n (told_of disks left).faults) reopened.faults k.faults;
+        moves = λ ids last t x le o. ⊎_elim
+            (λ then. inl (no_more (quiet.moves t x le then)))
+            (λ on. inr on)
+            (k.moves ids last t x (omega (arith, le, quiet.later)) o);
+        left = λ a tells ids last x o. last_by refused k.rest k.steps k.reached (contents_of left)
+            (λ b. (told_of disks held).crash.openings (told_of disks held).crash.moment b)
+            (λ b. (crash_of (muted held.told disks) given).openings (crash_of (muted held.told disks) given).moment b) x
+            (opened_before (crash_of (muted held.told disks) given) (told_of disks held).crash
+            (opens_earlier (muted held.told disks) (laws_muted disks held.told laws) (disk_of held.journal)) quiet)
+            (k.left a tells ids last x o);
+      }
 
   pub imported_since : {O : Type 0} (sinks : Sinks O) (input : Result (List ℕ) InputFault) (out_was out_is : O) (status : Status)
       → HasImported true sinks input (told_of disks held) (told_of disks left) out_was out_is status
-      → HasImported true sinks input (told_on disks given (contents_of disks.tells held)) (told_of disks left) out_was out_is status
+      → HasImported true sinks input (told_on disks given (contents_of held)) (told_of disks left) out_was out_is status
   imported_since sinks input out_was out_is status imported = record {
     takens = imported.takens;
     stored = imported.stored;
@@ -204,32 +209,34 @@ module _ {D : Type 0} (disks : Disks D) (laws : DiskLaws disks) (given : D) (ask
 -- an archive that was opened, and what was left of it
 imports_left : {D G L P O : Type 0} (disks : Disks D) (gates : Gates G L P) (sinks : Sinks O) (clients_tell : Bool) → (laws : DiskLaws disks) (asked : Option (List ℕ))
     (was is : Ends D G O) (status : Status) (held left : Holdings D) → IsReopened disks was.disk asked usual_limits held
-    → IsOpened disks asked was.disk (contents_of disks.tells held) → (IsTrue disks.tells → OpensNear disks (disk_of left.journal) left.book)
+    → IsOpened disks asked was.disk (contents_of held) → (IsTrue left.told → OpensNear disks (disk_of left.journal) left.book)
     → ImportsFirst true sinks clients_tell (gate_told gates was.gate) (gate_told gates is.gate) (told_of disks held) (told_of disks left) was.out is.out status
     → Imports disks gates sinks clients_tell asked was (record is { disk = disk_of left.journal }) status
 unfolding imported_since keeps_since
 imports_left disks gates sinks clients_tell laws asked was is status held left reopened opened near first =
     let k = first.imported.keeps in
+    let so : IsTrue disks.tells → IsTrue left.told = λ told. k.goes_on.same_tells ∙ reopened.told_is ∙ told in
     record {
-      before = contents_of disks.tells held;
-      after = contents_of disks.tells left;
+      before = contents_of held;
+      after = contents_of left;
       opened = opened;
       input = first.input;
       came = first.came;
       gate_failed = first.gate_failed;
       imported = imported_since disks laws was.disk asked held left reopened sinks first.input was.out is.out status first.imported;
-      near = near;
-      left = λ told ids have last image x now stands. last_by first.imported.refused k.rest k.steps k.reached (contents_of disks.tells left)
-          (λ b. (crash_of disks (disk_of held.journal)).openings (crash_of disks (disk_of held.journal)).moment b) (λ b. SameBook b held.book) x
+      near = λ told. near (so told);
+      left = λ told ids have last image x now stands. last_by first.imported.refused k.rest k.steps k.reached (contents_of left)
+          (λ b. (told_of disks held).crash.openings (told_of disks held).crash.moment b) (λ b. SameBook b held.book) x
           (λ b o. only_one (reopened.state (ids_differ held.book ids) b o))
-          (k.left refl told have last x (opens_now disks laws (disk_of left.journal) x image told now stands));
+          (k.left refl (reopened.told_is ∙ told) have last x
+          (opens_now (muted left.told disks) (laws_muted disks left.told laws) (disk_of left.journal) x image (so told) now stands));
     }
 
 -- the archive was opened, and closed behind the import
 pub imports_by : {D G L P O : Type 0} (disks : Disks D) (gates : Gates G L P) (sinks : Sinks O) (clients_tell : Bool) → (laws : DiskLaws disks) (asked : Option (List ℕ))
     (was is : Ends D G O) (out_opened : O) (status : Status) (held left : Holdings D) → IsReopened disks was.disk asked usual_limits held
-    → IsOpened disks asked was.disk (contents_of disks.tells held) → is.disk ≡ disk_of left.journal → out_opened ≡ was.out
-    → (IsTrue disks.tells → OpensNear disks is.disk left.book)
+    → IsOpened disks asked was.disk (contents_of held) → is.disk ≡ disk_of left.journal → out_opened ≡ was.out
+    → (IsTrue left.told → OpensNear disks is.disk left.book)
     → ImportsFirst true sinks clients_tell (gate_told gates was.gate) (gate_told gates is.gate) (told_of disks held) (told_of disks left) out_opened is.out status
     → Imports disks gates sinks clients_tell asked was is status
 imports_by {D} {G} {L} {P} {O} disks gates sinks clients_tell laws asked was is out_opened status held left reopened opened closed silent near first =

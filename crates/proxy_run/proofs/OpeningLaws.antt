@@ -20,13 +20,13 @@ none_by_length [] e = refl
 none_by_length (volume ∷ volumes) e = absurd (omega (arith, e))
 
 pub opened_by : {D : Type 0} (disks : Disks D) (disk : D) (asked : Option (List ℕ)) (held : Holdings D) → IsReopened disks disk asked usual_limits held
-    → IsOpened disks asked disk (contents_of disks.tells held)
+    → IsOpened disks asked disk (contents_of held)
 opened_by disks disk asked held is = record {
   stands = λ told. record { for = is.stands told; sound = is.sound };
   one = λ told book stands ids. is.one told book stands.sound ids stands.for;
   in_namespace = is.in_namespace;
   consistent = record { sound = λ told. is.sound; shown = λ alone told. is.shown };
-  same_tells = refl;
+  same_tells = is.told_is;
   limits_are = is.limits_are;
   none_stored = is.mine;
 }
@@ -51,11 +51,11 @@ refused_by disks sinks asked was refused out_was out_is status is told = record 
 
 -- an archive that was opened, counted and closed
 pub counted_by : {D O : Type 0} (disks : Disks D) (sinks : Sinks O) (was is : D) (held : Holdings D) (out_was out_opened out_is : O) (status : Status)
-    → IsReopened disks was None usual_limits held → IsOpened disks None was (contents_of disks.tells held) → is ≡ disk_of held.journal
+    → IsReopened disks was None usual_limits held → IsOpened disks None was (contents_of held) → is ≡ disk_of held.journal
     → Prints sinks Done (counts_text (counts_of held.book)) out_opened out_is status ⊎ LacksMemory sinks out_opened out_is status → out_opened ≡ out_was
     → IsCounted disks sinks was is out_was out_is status
 counted_by disks sinks was is held out_was out_opened out_is status reopened opened closed printed silent = record {
-  now = contents_of disks.tells held;
+  now = contents_of held;
   opened = opened;
   unchanged = subst (λ d. IsUnchanged disks was d) (sym closed) (unchanged_by disks was None held reopened);
   same_faults = ap disks.faults closed ∙ reopened.faults;

@@ -4,9 +4,11 @@ use Rattle.std.specs.Prelude.{get_or}
 use Rattle.archive_core.specs.Holdings.{Holdings, contents_of}
 use Rattle.archive_core.specs.Reopening.{IsReopened}
 use Rattle.archive_core.specs.Told.{told_of}
+use Rattle.archive_shelf.specs.Openings.{StaysCovered}
 use Rattle.archive_volumes.proofs.ChangeLaws.{DiskLaws}
-use Rattle.archive_volumes.specs.Volumes.{OpensNear, crash_of}
+use Rattle.archive_volumes.specs.Volumes.{OpensNear, crash_of, muted}
 use Rattle.capture.specs.Growth.{Grows}
+use Rattle.disk_model.specs.declared.disk.Disk.{Ghosts as Disks}
 use Rattle.outside.proofs.HangUps.{connections_hung_up_are_logged}
 use Rattle.outside.specs.Gate.{Connections, heard_of, one_given, one_hung_up, one_served}
 use Rattle.outside.specs.Link.{IsFresh, Traffic}
@@ -49,56 +51,65 @@ first_any (item ∷ items) a b some = refl
 
 -- ---- the archive
 
+-- what is told of the images with the books is told by the disk
+covered_as : {D : Type 0} (disks : Disks D) (was is : D) (before after : Bool) → before ≡ disks.tells → after ≡ disks.tells
+    → StaysCovered (crash_of (muted before disks) was) (crash_of (muted after disks) is) → StaysCovered (crash_of disks was) (crash_of disks is)
+covered_as disks was is before after same_before same_after stays =
+    subst (λ (told : Bool). StaysCovered (crash_of disks was) (crash_of (muted told disks) is)) same_after
+    (subst (λ (told : Bool). StaysCovered (crash_of (muted told disks) was) (crash_of (muted after disks) is)) same_before stays)
+
 module _ {D G L P N M C O : Type 0} (kinds : Kinds D G L P N M C O) (laws : DiskLaws kinds.disks) (was is : Objects D G N C O) (asked : Option (List ℕ))
-    (status : Status) (held left : Holdings D) (reopened : IsReopened kinds.disks was.disk asked usual_limits held) (closed : is.disk ≡ disk_of left.journal) where
+    (status : Status) (held left : Holdings D) (reopened : IsReopened kinds.disks was.disk asked usual_limits held) (closed : is.disk ≡ disk_of left.journal)
+    (same_told : left.told ≡ held.told) where
   pub has_served : ServesOne true (pipe_setting kinds.clocks.tells) (around_in kinds was) (around_in kinds is) (told_of kinds.disks held) (told_of kinds.disks left) status
-      → HasServed kinds was is (contents_of kinds.disks.tells held) (contents_of kinds.disks.tells left) status
+      → HasServed kinds was is (contents_of held) (contents_of left) status
   unfolding served_over
   has_served one =
-      subst (λ (d : D). HasServed kinds was (record is { disk = d }) (contents_of kinds.disks.tells held) (contents_of kinds.disks.tells left) status) (sym closed)
+      subst (λ (d : D). HasServed kinds was (record is { disk = d }) (contents_of held) (contents_of left) status) (sym closed)
       (record {
         one = served_over kinds.disks laws was.disk kinds.clocks.tells (around_in kinds was) (around_in kinds is) held left status
-            (unchanged_by kinds.disks was.disk asked held reopened) reopened.faults one;
-        left = leaves_just kinds.disks laws was.disk asked one.connection.rounds held left reopened one.connection.images;
+            (λ told. sym reopened.told_is ∙ told) (unchanged_by kinds.disks was.disk asked held reopened) reopened.faults one;
+        left = leaves_just kinds.disks laws was.disk asked one.connection.rounds held left same_told reopened one.connection.images;
       })
 
   pub has_served_none : ServesNone (kinds.gates.closed was.gate) (kinds.gates.faults was.gate) (kinds.gates.faults is.gate) (around_in kinds was) (around_in kinds is) status
-      → left ≡ held → HasServedNone kinds was is (contents_of kinds.disks.tells held) (contents_of kinds.disks.tells left) status
+      → left ≡ held → HasServedNone kinds was is (contents_of held) (contents_of left) status
   has_served_none none same =
-      subst (λ (d : D). HasServedNone kinds was (record is { disk = d }) (contents_of kinds.disks.tells held) (contents_of kinds.disks.tells left) status)
+      subst (λ (d : D). HasServedNone kinds was (record is { disk = d }) (contents_of held) (contents_of left) status)
       (sym (closed ∙ ap (λ (h : Holdings D). disk_of h.journal) same))
       (record {
         none = none;
         unchanged = unchanged_by kinds.disks was.disk asked held reopened;
-        same = ap (λ (h : Holdings D). contents_of kinds.disks.tells h) same;
+        same = ap (λ (h : Holdings D). contents_of h) same;
       })
 
   serves_by : (ServesOne true (pipe_setting kinds.clocks.tells) (around_in kinds was) (around_in kinds is) (told_of kinds.disks held) (told_of kinds.disks left) status
       ⊎ (ServesNone (kinds.gates.closed was.gate) (kinds.gates.faults was.gate) (kinds.gates.faults is.gate) (around_in kinds was) (around_in kinds is) status × (left ≡ held)))
-      → HasServed kinds was is (contents_of kinds.disks.tells held) (contents_of kinds.disks.tells left) status
-      ⊎ HasServedNone kinds was is (contents_of kinds.disks.tells held) (contents_of kinds.disks.tells left) status
+      → HasServed kinds was is (contents_of held) (contents_of left) status
+      ⊎ HasServedNone kinds was is (contents_of held) (contents_of left) status
   serves_by (inl one) = inl (has_served one)
   serves_by (inr none) = inr (has_served_none none.0 none.1)
 
-  pub pipes_by : IsOpened kinds.disks asked was.disk (contents_of kinds.disks.tells held)
+  pub pipes_by : IsOpened kinds.disks asked was.disk (contents_of held)
       → (IsTrue kinds.clients_tell → IsTrue kinds.origins_tell
       → ServesOne true (pipe_setting kinds.clocks.tells) (around_in kinds was) (around_in kinds is) (told_of kinds.disks held) (told_of kinds.disks left) status
       ⊎ (ServesNone (kinds.gates.closed was.gate) (kinds.gates.faults was.gate) (kinds.gates.faults is.gate) (around_in kinds was) (around_in kinds is) status × (left ≡ held)))
-      → Grows held.book left.book → (IsTrue kinds.disks.tells → OpensNear kinds.disks is.disk left.book)
-      → ((t : ℕ) → t ≤ (crash_of kinds.disks (disk_of held.journal)).moment → (crash_of kinds.disks (disk_of held.journal)).covered t → (crash_of kinds.disks (disk_of left.journal)).covered t)
+      → Grows held.book left.book → (IsTrue left.told → OpensNear kinds.disks is.disk left.book)
+      → StaysCovered (told_of kinds.disks held).crash (told_of kinds.disks left).crash
       → IsServedStatus status → (status ≡ Outside) ⊎ (kinds.gates.faults is.gate ≡ kinds.gates.faults was.gate)
       → kinds.disks.faults (disk_of held.journal) ≤ kinds.disks.faults (disk_of left.journal) → is.out ≡ was.out
       → Pipes kinds asked was is status
   pipes_by opened serves grows near covered ends gate_failed faults silent = record {
-    before = contents_of kinds.disks.tells held;
-    after = contents_of kinds.disks.tells left;
+    before = contents_of held;
+    after = contents_of left;
     opened = opened;
     serves = λ clients origins. serves_by (serves clients origins);
     grows = grows;
-    near = near;
+    near = λ told. near (same_told ∙ reopened.told_is ∙ told);
     covered = λ t le all.
         subst (λ (d : D). (crash_of kinds.disks d).covered t) (sym closed)
-        (covered t (omega (arith, le, reopened.quiet.later)) (reopened.quiet.covered t le all));
+        (covered_as kinds.disks (disk_of held.journal) (disk_of left.journal) held.told left.told reopened.told_is (same_told ∙ reopened.told_is) covered
+        t (omega (arith, le, reopened.quiet.later)) (reopened.quiet.covered t le all));
     ends = ends;
     gate_failed = gate_failed;
     disk_faults = omega (arith, faults, reopened.faults, ap (λ (d : D). kinds.disks.faults d) closed);

@@ -34,7 +34,7 @@ pub fn open<D: Disk, O: Sink>(
 ) -> Result<Archive<D>, Ran<D>>
     requires uuid { IfSome asked IsUuid }
     ensures reopened { IfOk result (IsReopened D.Disk disk asked usual_limits) }
-    ensures opened { IfOk result (λ archive. IsOpened D.Disk asked disk (contents_of D.tells archive)) }
+    ensures opened { IfOk result (λ archive. IsOpened D.Disk asked disk (contents_of archive)) }
     ensures refused { IfErr result (λ ran. IsNotOpened D.Disk O.Sink asked disk ran.disk out.old out.new ran.status) }
     ensures prints_nothing { OnOk result (out.new ≡ out.old) }
 {

@@ -30,6 +30,7 @@ pub fn serve_first<S: Shelf, G: Gate, N: Dialer, C: Clock>(
     ensures grows { Grows (S.told shelf.old).contents.seen (S.told shelf.new).contents.seen }
     ensures faults { (S.told shelf.old).faults ≤ (S.told shelf.new).faults }
     ensures covered { StaysCovered (S.told shelf.old).crash (S.told shelf.new).crash }
+    ensures same_tells { (S.told shelf.new).contents.tells ≡ (S.told shelf.old).contents.tells }
     ensures ends { IsServedStatus result }
     ensures gate_failed { (result ≡ Status.Outside) ⊎ (G.faults gate.new ≡ G.faults gate.old) }
 {
@@ -66,6 +67,7 @@ fn serve_link<S: Shelf, G: Gate, N: Dialer, C: Clock>(
     ensures grows { Grows (S.told shelf.old).contents.seen (S.told shelf.new).contents.seen }
     ensures faults { (S.told shelf.old).faults ≤ (S.told shelf.new).faults }
     ensures covered { StaysCovered (S.told shelf.old).crash (S.told shelf.new).crash }
+    ensures same_tells { (S.told shelf.new).contents.tells ≡ (S.told shelf.old).contents.tells }
     ensures ends { IsServedStatus result }
     ensures same_faults { G.faults gate.new ≡ G.faults gate.old }
 {

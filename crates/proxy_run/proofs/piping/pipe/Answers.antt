@@ -23,6 +23,7 @@ returns g c =
     (objects_of c.args.disk c.args.gate.now c.args.member.now c.args.out.now)
     (objects_of c.close.result c.serve_first-status.new.gate c.serve_first-status.new.member c.open.new.out)
     _ c.serve_first-status.result c.in-Ok.archive c.serve_first-status.new.shelf
-    (rw c.asked_of.ensures at c.in-Ok.ensures.reopened) c.close.ensures.disk (rw c.asked_of.ensures at c.in-Ok.ensures.opened)
+    (rw c.asked_of.ensures at c.in-Ok.ensures.reopened) c.close.ensures.disk c.serve_first-status.ensures.same_tells
+    (rw c.asked_of.ensures at c.in-Ok.ensures.opened)
     (λ t u. c.serve_first-status.ensures.serves t u) c.serve_first-status.ensures.grows c.close.ensures.near c.serve_first-status.ensures.covered
     c.serve_first-status.ensures.ends c.serve_first-status.ensures.gate_failed c.serve_first-status.ensures.faults c.in-Ok.ensures.prints_nothing)

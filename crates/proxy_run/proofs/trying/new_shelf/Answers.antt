@@ -6,6 +6,9 @@ use Rattle.warc_journal.specs.Extents.{warc_files}
 use Rattle.proxy_run.proofs.TrialLaws.{new_has_just, no_warc_files}
 use Rattle.proxy_run.proofs.trying.new_shelf.Goals as goal
 
+pub new-requires-then-counts-eq0-clause-told : goal.new-requires-then-counts-eq0-clause-told
+new-requires-then-counts-eq0-clause-told c = c.in-Ok.ensures.reopened.told_is
+
 pub new-requires-then-counts-eq0-clause-just : goal.new-requires-then-counts-eq0-clause-just
 new-requires-then-counts-eq0-clause-just c =
     let none : length c.in-Ok.archive.book.volumes ≡ 0 = sym (ap (λ (counts : Counts). counts.volumes) c.counts.ensures) ∙ c.if-counts-eq0.true in

@@ -9,4 +9,4 @@ use Rattle.proxy_run.proofs.trying.tried.Goals as goal
 pub returns-then-is_filled : goal.returns-then-is_filled
 returns-then-is_filled c =
     c.tell.ensures c.args.seed (subst (λ (held : Holdings _). IsFilled (told_of ghosts held) c.args.seed c.args.count c.args.count)
-    (sym c.into_shelf.ensures) (c.if-is_filled.ensures refl refl refl))
+    (sym c.into_shelf.ensures) (c.if-is_filled.ensures refl refl))
