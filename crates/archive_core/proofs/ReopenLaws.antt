@@ -1,9 +1,9 @@
 -- What was opened makes an archive, and what may be opened of it then.
 use Rattle.std.proofs.Common.{◌≡◌, ℕ, suc, ◌+◌, ◌-◌, ◌<◌, ◌≤◌, Bool, IsTrue, List, [], ◌∷◌, length, Option, Some, None, Result, Ok, Err, refl, sym, ap, subst, ◌∙◌, inl, cond, ⊎_elim, arith}
-use Rattle.std.specs.Prelude.{Contains, IfErr, IfOk, count_by, slice_get}
+use Rattle.std.specs.Prelude.{Contains, IfErr, IfOk, IfSome, count_by, slice_get}
 use Rattle.std.specs.List.Sorted.{IsPermutation}
 use Rattle.std.proofs.lemmas.List.Sorted.{Contains-permutation, IsPermutation-sym}
-use Rattle.std.proofs.lemmas.Bool.{cases_lt}
+use Rattle.std.proofs.lemmas.Bool.{cases_lt, false≢true}
 use Rattle.std.proofs.lemmas.List.Sums.{sum_by-cons}
 use Rattle.std.proofs.lemmas.Option.{same_Some, slice_get_within}
 use Rattle.capture.specs.Captures.{captures}
@@ -23,8 +23,10 @@ use Rattle.warc_journal.specs.Journals.{Rests, disk_of, texts}
 use Rattle.warc_journal.specs.declared.journal.Journal.{Journal}
 use Rattle.warc_text.proofs.BookLaws.{files_stand_for_no_volume}
 use Rattle.warc_text.specs.Sound.{IsSound}
-use Rattle.warc_text.specs.StandsFor.{StandsFor}
-use Rattle.archive_shelf.specs.Openings.{ImageStandsFor}
+use Rattle.warc_text.specs.StandsFor.{IdsDifferIn, StandsFor}
+use Rattle.archive_shelf.specs.Openings.{ImageStandsFor, IsState, SameBook}
+use Rattle.archive_shelf.specs.declared.depth.Depth.{Depth}
+use Rattle.archive_shelf.specs.declared.depth.Depth.TheVariants as depths
 use Rattle.archive_shelf.specs.Storing.{is_revisit}
 use Rattle.archive_shelf.specs.declared.fault.ReopenFault.{ReopenFault}
 use Rattle.archive_shelf.specs.declared.fault.ReopenFault.TheVariants as faults
@@ -36,7 +38,9 @@ use Rattle.archive_volumes.specs.Held.{book_of}
 use Rattle.archive_core.specs.Holdings.{AreLimits, Holdings, IsArchive}
 use Rattle.archive_opening.specs.Opening.{CountsFault, HoldsOther, IsCause, IsDamageIn, IsIn, IsOtherIn}
 use Rattle.archive_core.specs.Reopening.{IsAskedFor, IsMadeOf, IsNotOpened, IsOutside, IsReopened}
+use Rattle.archive_core.specs.Known.{IsNotOpenedKnown, IsReopenedKnown, MayBeKnown, told_at}
 use Rattle.archive_core.specs.Shown.{numbered, numbers_from}
+use Rattle.archive_core.specs.Told.{told_of}
 use Rattle.archive_volumes.specs.Spots.{ArePlaced, AreSpotsOf, AreWithin, form_of, is_same_form}
 use Rattle.archive_volumes.specs.Volumes.{HoldsBook, IsMeasured, muted}
 use Rattle.archive_opening.specs.declared.opening.Opened.{Opened}
@@ -119,11 +123,11 @@ parts_of d told opened is entries_are journal book spots table entries ej eb es 
 
 module _ {D : Type 0} (d : Ghosts D) (told : Bool) (journal : Journal D) (book : Book) (spots : List Spot) (table : Table) (lengths : List ℕ)
     (entries index : List Facts) (parts : AreParts d told journal book spots table lengths entries) (same : IsPermutation entries index) (is : IsIndex index) where
-  known : AreOf book index
-  known = of_sorted book entries index parts.2.of_book same
+  of_index : AreOf book index
+  of_index = of_sorted book entries index parts.2.of_book same
 
   pub shown_sorted : AreEntries book (numbered index)
-  shown_sorted = entries_shown book index is known
+  shown_sorted = entries_shown book index is of_index
 
   pub made_archive : (limits : Limits) (found revisits : ℕ) → HoldsBook d told journal book → IsMeasured journal book
       → AreLimits limits → found ≡ length spots → revisits ≡ count_by same_spot spots
@@ -145,7 +149,7 @@ module _ {D : Type 0} (d : Ghosts D) (told : Bool) (journal : Journal D) (book :
       few = omega (arith, parts.0.few, parts.0.count);
       revisits = revisits_is ∙ revisits_are book spots parts.1;
       found = omega (arith, found_is, parts.0.count);
-      below = λ entry has. slice_get_within (captures book) entry.number (known.each entry has).group.stored (known.each entry has).group.placed;
+      below = λ entry has. slice_get_within (captures book) entry.number (of_index.each entry has).group.stored (of_index.each entry has).group.placed;
       limits = are_limits;
     };
     spots = parts.1;
@@ -153,7 +157,7 @@ module _ {D : Type 0} (d : Ghosts D) (told : Bool) (journal : Journal D) (book :
     indexed = is;
     within = parts.3;
     placed = parts.4;
-    known = λ so. known;
+    known = λ so. of_index;
   }
 
 -- ---- what isn't refused
@@ -191,37 +195,76 @@ module _ {D : Type 0} (d : Ghosts D) (laws : DiskLaws d) (disk : D) (asked : Opt
       stands (book_of opened.gathered.held) (texts d opened.journal) image (is.texts_are told) (is.sound told) (is.left told image left)
 
   module _ (opened : Opened D) (is : IsOpened d disk asked opened) where
-    module _ (held : Holdings D) (made : IsMadeOf opened limits d.tells held) where
+    module _ (told : Bool) (tells : IsTrue told → IsTrue d.tells) (held : Holdings D) (made : IsMadeOf opened limits told held) where
       rests_to : IsTrue d.tells → Rests d disk (disk_of held.journal)
-      rests_to told = subst (λ (j : Journal D). Rests d disk (disk_of j)) (sym made.journal_is) (is.rests told)
+      rests_to so = subst (λ (j : Journal D). Rests d disk (disk_of j)) (sym made.journal_is) (is.rests so)
 
       for_book : IsTrue d.tells → (image : Image) → d.images (disk_of held.journal) image → ImageStandsFor image held.book
-      for_book told image left = subst (ImageStandsFor image) (sym made.book_is)
-          (only_by opened is.usable told image (subst (λ (j : Journal D). d.images (disk_of j) image) made.journal_is left))
+      for_book so image left = subst (ImageStandsFor image) (sym made.book_is)
+          (only_by opened is.usable so image (subst (λ (j : Journal D). d.images (disk_of j) image) made.journal_is left))
 
-      reopened_as : IsReopened d disk asked limits held
-      reopened_as = record {
-        sound = subst IsSound (sym made.book_is) is.sound;
-        stands = λ told. subst (StandsFor (warc_files (d.reading disk))) (sym made.book_is) (is.stands told);
-        one = λ told book sound ids for. one_of (d.reading disk) held.book book
-            (record { for = subst (StandsFor (warc_files (d.reading disk))) (sym made.book_is) (is.stands told); sound = subst IsSound (sym made.book_is) is.sound })
-            (record { for = for; sound = sound }) ids;
+      is_sound : IsSound held.book
+      is_sound = subst IsSound (sym made.book_is) is.sound
+
+      stands_by : IsTrue d.tells → StandsFor (warc_files (d.reading disk)) held.book
+      stands_by so = subst (StandsFor (warc_files (d.reading disk))) (sym made.book_is) (is.stands so)
+
+      one_by : IsTrue d.tells → (book : Book) → IsSound book → IdsDifferIn book → StandsFor (warc_files (d.reading disk)) book → SameBook held.book book
+      one_by so book sound ids for = one_of (d.reading disk) held.book book (record { for = stands_by so; sound = is_sound })
+          (record { for = for; sound = sound }) ids
+
+      covered_by : (told_of d held).crash.covered (told_of d held).crash.moment
+      covered_by so image left = (
+        held.book,
+        for_book (tells (sym made.told_is ∙ so)) image (laws.now_only (disk_of held.journal) image
+            (subst (λ (t : ℕ). d.images_since (disk_of held.journal) t image) (moment_told (muted held.told d) (disk_of held.journal) so) left)),
+      )
+
+      state_by : IdsDifferIn held.book → IsState (told_of d held).crash held.book None
+      state_by ids x o = inl (one_of o.image x held.book o.stands
+          (for_book (tells (sym made.told_is ∙ o.told)) o.image (now_image (muted held.told d) (laws_muted d held.told laws) (disk_of held.journal) x o)) ids)
+
+      reopened_as : told ≡ d.tells → IsReopened d disk asked limits held
+      reopened_as same = record {
+        sound = is_sound;
+        stands = stands_by;
+        one = one_by;
         in_namespace = subst (IsIn asked) (sym made.book_is) is.in_namespace;
         shown = made.shown;
         mine = none_mine held.found (length (captures held.book)) made.found;
         limits_are = made.limits_are;
-        told_is = made.told_is;
+        told_is = made.told_is ∙ same;
         rests = rests_to;
         quiet = quiet_by d laws disk (disk_of held.journal) rests_to;
         faults = ap (λ (j : Journal D). d.faults (disk_of j)) made.journal_is ∙ is.faults;
         only = for_book;
-        covered = λ told image left. (
-          held.book,
-          for_book (sym made.told_is ∙ told) image (laws.now_only (disk_of held.journal) image
-              (subst (λ (t : ℕ). d.images_since (disk_of held.journal) t image) (moment_told (muted held.told d) (disk_of held.journal) told) left)),
-        );
-        state = λ ids x o. inl (one_of o.image x held.book o.stands
-            (for_book (sym made.told_is ∙ o.told) o.image (now_image (muted held.told d) (laws_muted d held.told laws) (disk_of held.journal) x o)) ids);
+        covered = covered_by;
+        state = state_by;
+      }
+
+      known_by : (known : Option Book) → MayBeKnown d disk asked known → IsTrue told → IfSome known (λ book. SameBook held.book book)
+      known_by None may so = tt
+      known_by (Some book) may so =
+          let it = may (tells so) in
+          one_by (tells so) book it.stands.sound it.ids it.stands.for
+
+      known_as : (known : Option Book) → MayBeKnown d disk asked known → IsReopenedKnown d disk asked limits told known held
+      known_as known may = record {
+        told_is = made.told_is;
+        sound = λ so. is_sound;
+        stands = λ so. stands_by (tells so);
+        one = λ so. one_by (tells so);
+        known_is = known_by known may;
+        shown = λ so. made.shown;
+        in_namespace = subst (IsIn asked) (sym made.book_is) is.in_namespace;
+        mine = none_mine held.found (length (captures held.book)) made.found;
+        limits_are = made.limits_are;
+        rests = rests_to;
+        quiet = quiet_by d laws disk (disk_of held.journal) rests_to;
+        faults = ap (λ (j : Journal D). d.faults (disk_of j)) made.journal_is ∙ is.faults;
+        only = λ so. for_book (tells so);
+        covered = covered_by;
+        state = state_by;
       }
 
     -- without memory the disk comes back as it was read
@@ -241,7 +284,15 @@ module _ {D : Type 0} (d : Ghosts D) (laws : DiskLaws d) (disk : D) (asked : Opt
       reopened made = by result made
         where
           by : (r : Result (Holdings D) (ReopenFault × D)) → IfOk r (IsMadeOf opened limits d.tells) → IfOk r (IsReopened d disk asked limits)
-          by (Ok held) made = reopened_as held made
+          by (Ok held) made = reopened_as d.tells (λ so. so) held made refl
+          by (Err refused) made = tt
+
+      pub reopened_known : (told : Bool) → (IsTrue told → IsTrue d.tells) → (known : Option Book) → MayBeKnown d disk asked known
+          → IfOk result (IsMadeOf opened limits told) → IfOk result (IsReopenedKnown d disk asked limits told known)
+      reopened_known told tells known may made = by result made
+        where
+          by : (r : Result (Holdings D) (ReopenFault × D)) → IfOk r (IsMadeOf opened limits told) → IfOk r (IsReopenedKnown d disk asked limits told known)
+          by (Ok held) made = known_as told tells held made known may
           by (Err refused) made = tt
 
       pub no_memory : IfErr result (λ refused. refused ≡ (faults.Memory, disk_of opened.journal)) → IfErr result (IsNotOpened d disk asked)
@@ -265,3 +316,44 @@ module _ {D : Type 0} (d : Ghosts D) (laws : DiskLaws d) (disk : D) (asked : Opt
     quiet = quiet_by d laws disk refused.1 rests;
     faults = count;
   }
+
+  -- and where its book may be known
+  pub not_known : (known : Option Book) → MayBeKnown d disk asked known → (refused : ReopenFault × D) → IsNotOpened d disk asked refused
+      → IsNotOpenedKnown d disk asked known refused
+  not_known known may refused not = record {
+    cause = not.cause;
+    complete = by known may;
+    rests = not.rests;
+    quiet = not.quiet;
+    faults = not.faults;
+  }
+    where
+      by : (k : Option Book) → MayBeKnown d disk asked k → IfSome k (λ book. IsTrue d.tells → IsOutside refused.0)
+      by None may = tt
+      by (Some book) may = λ so. let it = may so in not.complete so book it.stands.sound it.stands.for it.asked_for
+
+  pub none_known : (known : Option Book) → MayBeKnown d disk asked known → (result : Result (Holdings D) (ReopenFault × D))
+      → IfErr result (IsNotOpened d disk asked) → IfErr result (IsNotOpenedKnown d disk asked known)
+  none_known known may (Ok held) not = tt
+  none_known known may (Err refused) not = not_known known may refused not
+
+-- the book is told at most where the disk tells
+pub told_only : (depth : Depth) (tells : Bool) (known : Option Book) → IsTrue (told_at depth tells known) → IsTrue tells
+told_only depths.Whole tells known so = so
+told_only depths.Checkpoints tells None so = absurd (false≢true so)
+told_only depths.Checkpoints tells (Some book) so = so
+
+-- what is usable where all is told is so where less is
+pub usable_as : {D : Type 0} (d : Ghosts D) (opened : Opened D) (told : Bool) → (IsTrue told → IsTrue d.tells) → IsUsable d d.tells opened → IsUsable d told opened
+usable_as d opened told tells is = record {
+  measured = is.measured;
+  steady = is.steady;
+  spots = is.spots;
+  in_step = is.in_step;
+  left = is.left;
+  within = is.within;
+  tells = tells;
+  sound = λ so. is.sound (tells so);
+  texts_are = λ so. is.texts_are (tells so);
+  placed = λ so. is.placed (tells so);
+}

@@ -1,5 +1,6 @@
 pub mod Basis
 pub mod Holdings
+pub mod Known
 pub mod Looking
 pub mod Matching
 pub mod Reopening

@@ -5,6 +5,7 @@ mod archive;
 mod comparing;
 mod finding;
 mod index;
+mod knowing;
 mod laws;
 mod piece;
 mod reopen;

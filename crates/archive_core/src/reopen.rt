@@ -51,7 +51,7 @@ impl<D: Disk> Archive<D> {
 }
 
 /// The archive of what was opened, of whose book it is told what it has, or isn't.
-fn archive_of<D: Disk>(
+pub(crate) fn archive_of<D: Disk>(
     alloc: Global,
     opened: Opened<D>,
     limits: Limits,
