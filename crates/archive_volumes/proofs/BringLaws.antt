@@ -32,7 +32,7 @@ use Rattle.archive_volumes.proofs.GroupPlaces.{ends_in_text}
 use Rattle.archive_volumes.specs.Bringing.{AreOf, IsKept, IsReadRight, OnlyReads, brought_of, checked_by}
 use Rattle.archive_volumes.specs.Decoding.{HoldsPayload, IsHead, TellsFraming}
 use Rattle.archive_volumes.specs.Held.{book_of}
-use Rattle.archive_volumes.specs.Spots.{ArePlaced, AreSpotsOf, AreWithin, HasPlace, IsPlaced, IsSpotOf, RefersBack, form_of, head_in, is_cut_form, is_same_form, text_at, wire_in}
+use Rattle.archive_volumes.specs.Spots.{AreHeldWhole, ArePlaced, AreSpotsOf, AreWithin, HasPlace, IsPlaced, IsSpotOf, RefersBack, form_of, head_in, is_cut_form, is_same_form, is_told_form, text_at, wire_in}
 use Rattle.archive_volumes.specs.Volumes.{IsQuiet}
 use Rattle.archive_volumes.specs.declared.payload.ReadBack.TheVariants as back
 use Rattle.archive_volumes.specs.declared.spot.Form.{Form}
@@ -107,15 +107,15 @@ pub kept_payload : (texts : List (List ℕ)) (book : Book) (number : ℕ) (spot 
 kept_payload texts book number spot kept =
     let stored : Stored = kept.placed.has.stored in
     let same : stored ≡ kept.is.stored = stored_is texts book number spot kept in
-    let form : spot.form ≡ form_of stored.kept = kept.is.form ∙ ap (λ (s : Stored). form_of s.kept) (sym same) in
+    let form : spot.form ≡ form_of stored.kept = kept.is.form kept.read ∙ ap (λ (s : Stored). form_of s.kept) (sym same) in
     let method : spot.method ≡ stored.method = kept.is.method ∙ ap (λ (s : Stored). s.method) (sym same) in
     let payload : List ℕ = kept.placed.payload in
     let has : HasPayload (is_cut_form (form_of stored.kept)) stored.method stored.head (kept_wire stored.kept) payload =
     no_same book stored stored.kept payload (ap is_same_form (sym form) ∙ kept.own) kept.placed.has.by_kept in
     subst (λ (f : Form). HasPayload (is_cut_form f) spot.method (head_in texts spot) (wire_in texts spot) payload) (sym form)
     (subst (λ (m : List ℕ). HasPayload (is_cut_form (form_of stored.kept)) m (head_in texts spot) (wire_in texts spot) payload) (sym method)
-    (subst (λ (h : List ℕ). HasPayload (is_cut_form (form_of stored.kept)) stored.method h (wire_in texts spot) payload) (sym kept.placed.head)
-    (subst (λ (w : List ℕ). HasPayload (is_cut_form (form_of stored.kept)) stored.method stored.head w payload) (sym kept.placed.wire) has)))
+    (subst (λ (h : List ℕ). HasPayload (is_cut_form (form_of stored.kept)) stored.method h (wire_in texts spot) payload) (sym (kept.placed.head kept.read))
+    (subst (λ (w : List ℕ). HasPayload (is_cut_form (form_of stored.kept)) stored.method stored.head w payload) (sym (kept.placed.wire kept.read)) has)))
 
 short_take : (n : ℕ) (xs : List ℕ) → length (take n xs) ≤ n
 short_take n xs = omega (arith, length-take n xs)
@@ -128,22 +128,25 @@ kept_tells texts book number spot kept none =
     (omega (arith, kept.is.ends, short_take spot.wire_len (drop (spot.head_at + spot.head_len) (text_at texts spot.volume))))
     (kept_payload texts book number spot kept)
 
+-- behind a head that tells a framing stands the payload
+pub payload_found : WiresHaveOnePayload → (cut : Bool) (method head wire payload : List ℕ) → HasPayload cut method head wire payload → (framing : Framing)
+    → TellsFraming method head (Some framing) → (found : Option (List ℕ)) → HoldsPayload cut framing wire found → found ≡ Some payload
+payload_found one cut method head wire payload has framing tells found holds =
+    let same = one_framing (asks_for_head method) head has.framing framing (has.parsed, has.whole, has.framed) tells in
+    by_found (subst (λ (f : Framing). IsWire cut f wire) same has.wire_is) (subst (λ (f : Framing). IsPayload cut f wire payload) same has.decoded) found holds
+  where
+    by_found : IsWire cut framing wire → IsPayload cut framing wire payload → (found : Option (List ℕ)) → HoldsPayload cut framing wire found
+        → found ≡ Some payload
+    by_found wire_is is None holds = absurd (holds wire_is)
+    by_found wire_is is (Some other) holds = ap Some (one cut framing wire other payload holds is)
+
 -- and its wire is its payload by that framing
 pub found_is : WiresHaveOnePayload → (texts : List (List ℕ)) (book : Book) (number : ℕ) (spot : Spot) (kept : IsKept texts book number spot)
     → (framing : Framing) → TellsFraming spot.method (head_in texts spot) (Some framing)
     → (found : Option (List ℕ)) → HoldsPayload (is_cut_form spot.form) framing (wire_in texts spot) found → found ≡ Some kept.placed.payload
 found_is one texts book number spot kept framing tells found holds =
-    let has = kept_payload texts book number spot kept in
-    let same : has.framing ≡ framing = one_framing (asks_for_head spot.method) (head_in texts spot) has.framing framing (has.parsed, has.whole, has.framed) tells in
-    by_found (subst (λ (f : Framing). IsWire (is_cut_form spot.form) f (wire_in texts spot)) same has.wire_is)
-    (subst (λ (f : Framing). IsPayload (is_cut_form spot.form) f (wire_in texts spot) kept.placed.payload) same has.decoded) found holds
-  where
-    by_found : IsWire (is_cut_form spot.form) framing (wire_in texts spot)
-        → IsPayload (is_cut_form spot.form) framing (wire_in texts spot) kept.placed.payload → (found : Option (List ℕ))
-        → HoldsPayload (is_cut_form spot.form) framing (wire_in texts spot) found → found ≡ Some kept.placed.payload
-    by_found wire_is is None holds = absurd (holds wire_is)
-    by_found wire_is is (Some payload) holds =
-        ap Some (one (is_cut_form spot.form) framing (wire_in texts spot) payload kept.placed.payload holds is)
+    payload_found one (is_cut_form spot.form) spot.method (head_in texts spot) (wire_in texts spot) kept.placed.payload (kept_payload texts book number spot kept)
+    framing tells found holds
 
 -- so it is read back
 pub read_right : WiresHaveOnePayload → (texts : List (List ℕ)) (book : Book) (number : ℕ) (spot : Spot) (kept : IsKept texts book number spot)
@@ -157,7 +160,7 @@ read_right one texts book number spot kept head is framing tells found holds =
     (by_test (bytes_eq (sha1 kept.placed.payload) spot.digest) ((bytes_eq-Decides (sha1 kept.placed.payload) spot.digest).1 (sym kept.placed.digest)))
   where
     right : AreOf book number head kept.placed.payload
-    right = record { has = kept.placed.has; head_is = is ∙ kept.placed.head }
+    right = record { has = kept.placed.has; head_is = is ∙ kept.placed.head kept.read }
 
     by_test : (b : Bool) → b ≡ true
         → IsReadRight book number (if b then back.Right head kept.placed.payload else back.Damaged (Some (sha1 kept.placed.payload)))
@@ -186,8 +189,11 @@ module _ (book : Book) (number : ℕ) (spot : Spot) (is : IsSpotOf book number s
     pub refers_to : (first < number) × KeepsWire book first
     refers_to = subst (λ (f : Form). RefersBack book number f) form is.refers
 
+    was_read : is_told_form spot.form ≡ false
+    was_read = ap is_told_form form
+
     pub keeps_same : is.stored.kept ≡ Same first
-    keeps_same = by_form is.stored.kept (sym is.form ∙ form)
+    keeps_same = by_form is.stored.kept (sym (is.form was_read) ∙ form)
       where
         by_form : (kept : Kept) → form_of kept ≡ forms.Same first → kept ≡ Same first
         by_form (Wire wire) e = cc
@@ -201,7 +207,7 @@ module _ (book : Book) (number : ℕ) (spot : Spot) (is : IsSpotOf book number s
     keeper_keeps keeper its =
         let keeps : KeepsWire book first = refers_to.1 in
         let same : its.stored ≡ keeps.stored = same_Some its.stored keeps.stored (sym its.placed ∙ keeps.placed) in
-        ap is_same_form (its.form ∙ ap (λ (s : Stored). form_of s.kept) same ∙ ap form_of keeps.kept)
+        its.revisit ∙ ap is_same_form (ap (λ (s : Stored). form_of s.kept) same ∙ ap form_of keeps.kept)
 
     same_payload : (head payload : List ℕ) → AreOf book first head payload → IsPayloadBy book is.stored (Same first) payload
     same_payload head payload are =
@@ -220,7 +226,7 @@ module _ (book : Book) (number : ℕ) (spot : Spot) (is : IsSpotOf book number s
 
     module _ (texts : List (List ℕ)) (placed : IsPlaced texts book number spot) (head : List ℕ) (read : head ≡ head_in texts spot) where
       own_head : head ≡ is.stored.head
-      own_head = read ∙ placed.head
+      own_head = read ∙ placed.head was_read
           ∙ ap (λ (s : Stored). s.head) (same_Some placed.has.stored is.stored (sym placed.has.placed ∙ is.placed))
 
       pub same_brought : (payload other : List ℕ) → AreOf book first other payload → IsBrought book number (brought_of spot head payload)
@@ -266,6 +272,10 @@ pub untold : (tells : Bool) → (IsTrue tells → ⊥) → IsFalse tells
 untold true never = absurd (never refl)
 untold false never = refl
 
+-- no digest is none of those that are kept
+pub no_digest : (kept : List ℕ) → None ≢ Some kept
+no_digest kept e = cc
+
 pub damaged : (tells : Bool) (kept : List ℕ) (found : Option (List ℕ)) → (IsTrue tells → ⊥) → found ≢ Some kept → IsDamaged tells kept found
 damaged tells kept found never other = record { untold = untold tells never; other = other }
 
@@ -284,3 +294,7 @@ pub placed_on : {D : Type 0} (d : Ghosts D) (old new : Volumes D) → OnlyReads 
 placed_on d old new reads told spots are =
     subst (λ (t : List (List ℕ)). ArePlaced t (book_of new.held) spots) (sym (texts_stay d old new reads told))
     (subst (λ (b : Book). ArePlaced (texts d old.journal) b spots) (sym (ap book_of reads.held)) are)
+
+pub made_on : {D : Type 0} (d : Ghosts D) (old new : Volumes D) → OnlyReads d old new → (spots : List Spot)
+    → AreHeldWhole (book_of old.held) spots → AreHeldWhole (book_of new.held) spots
+made_on d old new reads spots are = subst (λ (b : Book). AreHeldWhole b spots) (sym (ap book_of reads.held)) are

@@ -1,5 +1,5 @@
 -- Which captures may have a payload, and what was found of it among all captures.
-use Rattle.std.proofs.Common.{◌≡◌, ◌≢◌, ℕ, zero, suc, ◌+◌, ◌-◌, ◌<◌, ◌≤◌, Bool, true, false, IsTrue, if◌then◌else◌, List, [], ◌∷◌, length, get_or, Option, Some, None, Result, Ok, Err, refl, sym, ap, subst, ◌∙◌, ⊎_elim, arith}
+use Rattle.std.proofs.Common.{◌≡◌, ◌≢◌, ℕ, zero, suc, ◌+◌, ◌-◌, ◌<◌, ◌≤◌, Bool, true, false, not, IsTrue, if◌then◌else◌, List, [], ◌∷◌, length, get_or, Option, Some, None, Result, Ok, Err, refl, sym, ap, subst, ◌∙◌, ⊎_elim, arith}
 use Rattle.std.specs.Prelude.{◌==◌, IfOk, IfSome, IsErrAnd, filter, nat_le, slice_get}
 use Rattle.std.specs.List.Sorted.{IsStrictlyIncreasing}
 use Rattle.std.specs.Str.{bytes_eq}
@@ -25,9 +25,10 @@ use Rattle.archive_shelf.specs.declared.fault.StoreFault.TheVariants as stores
 use Rattle.archive_shelf.specs.declared.looked.Looked.{Looked}
 use Rattle.archive_volumes.proofs.BringLaws.{found_is, place_at, spot_at}
 use Rattle.archive_volumes.specs.Bringing.{IsKept}
-use Rattle.archive_volumes.specs.Choosing.{AreWhole, Chooses, Compares, ComparesWith, IsFirstOf, IsWholeAt, LooksOn, NoneDamagedBelow, NoneHas}
+use Rattle.archive_volumes.specs.Choosing.{MayBeWhole, Chooses, Compares, ComparesWith, IsFirstOf, MayBeWholeAt, LooksOn, NoneDamagedBelow, NoneHas}
 use Rattle.archive_volumes.specs.Decoding.{HoldsPayload, TellsFraming, is_plain}
-use Rattle.archive_volumes.specs.Spots.{ArePlaced, AreSpotsOf, IsPlaced, IsSpotOf, form_of, head_in, is_cut_form, is_same_form, is_whole, whole_from, wire_in}
+use Rattle.archive_volumes.specs.Rereading.{HaveDigest}
+use Rattle.archive_volumes.specs.Spots.{ArePlaced, AreSpotsOf, IsPlaced, IsSpotOf, form_of, head_in, is_cut_form, is_same_form, is_told_form, may_be_whole, whole_from, wire_in}
 use Rattle.archive_volumes.specs.declared.compare.Compared.{Compared}
 use Rattle.archive_volumes.specs.declared.compare.Compared.TheVariants as compares
 use Rattle.archive_volumes.specs.declared.part.ReadFault.{ReadFault}
@@ -38,10 +39,10 @@ use Rattle.archive_volumes.specs.declared.spot.Spot.{Spot}
 -- ---- lists of numbers
 
 -- a number stands in a list
-record Stands (xs : List ℕ) (n : ℕ) : Type 0 where
-  place : ℕ
-  within : place < length xs
-  is : n ≡ get_or xs place 0
+pub record Stands (xs : List ℕ) (n : ℕ) : Type 0 where
+  pub place : ℕ
+  pub within : place < length xs
+  pub is : n ≡ get_or xs place 0
 
 first_stands : (x : ℕ) (xs : List ℕ) → Stands (x ∷ xs) x
 first_stands x xs = record { place = 0; within = omega arith; is = refl }
@@ -95,21 +96,22 @@ module _ (upto : ℕ) where
           above
       kept false e above = above (subst (λ (l : List ℕ). Stands l n) (least_by false x xs e) s)
 
--- ---- the captures that keep their whole wire
+-- ---- the captures that keep their whole wire, or may do so
 
--- such a capture stands at a place behind a number
-record WholeBehind (from : ℕ) (spots : List Spot) (n : ℕ) : Type 0 where
+-- such a capture, with this digest, stands at a place behind a number
+record WholeBehind (digest : List ℕ) (from : ℕ) (spots : List Spot) (n : ℕ) : Type 0 where
   place : ℕ
   spot : Spot
   placed : slice_get spots place ≡ Some spot
-  whole : is_whole spot.form ≡ true
+  whole : may_be_whole spot.form ≡ true
+  digested : spot.digest ≡ digest
   is : n ≡ from + place
 
-behind_next : (from : ℕ) (s : Spot) (ss : List Spot) (n : ℕ) → WholeBehind (suc from) ss n → WholeBehind from (s ∷ ss) n
-behind_next from s ss n w = record { place = suc w.place; spot = w.spot; placed = w.placed; whole = w.whole; is = omega (arith, w.is) }
+behind_next : (digest : List ℕ) (from : ℕ) (s : Spot) (ss : List Spot) (n : ℕ) → WholeBehind digest (suc from) ss n → WholeBehind digest from (s ∷ ss) n
+behind_next digest from s ss n w = record { place = suc w.place; spot = w.spot; placed = w.placed; whole = w.whole; digested = w.digested; is = omega (arith, w.is) }
 
 module _ (digest : List ℕ) where
-  step_by : (b : Bool) (same : Bool) (from : ℕ) (s : Spot) (ss : List Spot) → is_whole s.form ≡ b → bytes_eq s.digest digest ≡ same
+  step_by : (b : Bool) (same : Bool) (from : ℕ) (s : Spot) (ss : List Spot) → may_be_whole s.form ≡ b → bytes_eq s.digest digest ≡ same
       → numbers_of digest (whole_from from (s ∷ ss)) ≡ (if b then (if same then from ∷ numbers_of digest (whole_from (suc from) ss) else numbers_of digest (whole_from (suc from) ss))
       else numbers_of digest (whole_from (suc from) ss))
   step_by true true from s ss e d = rw (e, d) refl
@@ -117,39 +119,39 @@ module _ (digest : List ℕ) where
   step_by false same from s ss e d = rw e refl
 
   -- each number of the digest is that of such a capture
-  number_whole : (from : ℕ) (spots : List Spot) (n : ℕ) → Stands (numbers_of digest (whole_from from spots)) n → WholeBehind from spots n
+  number_whole : (from : ℕ) (spots : List Spot) (n : ℕ) → Stands (numbers_of digest (whole_from from spots)) n → WholeBehind digest from spots n
   number_whole from [] n s = absurd (omega (arith, s.within))
-  number_whole from (s ∷ ss) n stands = by (is_whole s.form) (bytes_eq s.digest digest) refl refl (λ there. behind_next from s ss n (number_whole (suc from) ss n there))
+  number_whole from (s ∷ ss) n stands = by (may_be_whole s.form) (bytes_eq s.digest digest) refl refl (λ there. behind_next digest from s ss n (number_whole (suc from) ss n there))
     where
-      by : (b same : Bool) → is_whole s.form ≡ b → bytes_eq s.digest digest ≡ same
-          → (Stands (numbers_of digest (whole_from (suc from) ss)) n → WholeBehind from (s ∷ ss) n) → WholeBehind from (s ∷ ss) n
-      by true true e d next = stands_by (λ (m : ℕ). WholeBehind from (s ∷ ss) m) from (numbers_of digest (whole_from (suc from) ss)) n
+      by : (b same : Bool) → may_be_whole s.form ≡ b → bytes_eq s.digest digest ≡ same
+          → (Stands (numbers_of digest (whole_from (suc from) ss)) n → WholeBehind digest from (s ∷ ss) n) → WholeBehind digest from (s ∷ ss) n
+      by true true e d next = stands_by (λ (m : ℕ). WholeBehind digest from (s ∷ ss) m) from (numbers_of digest (whole_from (suc from) ss)) n
           (subst (λ (l : List ℕ). Stands l n) (step_by true true from s ss e d) stands)
-          (λ is. record { place = 0; spot = s; placed = refl; whole = e; is = omega (arith, is) })
+          (λ is. record { place = 0; spot = s; placed = refl; whole = e; digested = (bytes_eq-Decides s.digest digest).0 d; is = omega (arith, is) })
           next
       by true false e d next = next (subst (λ (l : List ℕ). Stands l n) (step_by true false from s ss e d) stands)
       by false same e d next = next (subst (λ (l : List ℕ). Stands l n) (step_by false same from s ss e d) stands)
 
   -- each such capture with this digest has its number there
-  whole_number : (from : ℕ) (spots : List Spot) (k : ℕ) (spot : Spot) → slice_get spots k ≡ Some spot → is_whole spot.form ≡ true → spot.digest ≡ digest
+  pub whole_number : (from : ℕ) (spots : List Spot) (k : ℕ) (spot : Spot) → slice_get spots k ≡ Some spot → may_be_whole spot.form ≡ true → spot.digest ≡ digest
       → Stands (numbers_of digest (whole_from from spots)) (from + k)
   whole_number from [] k spot at whole same = cc
   whole_number from (s ∷ ss) zero spot at whole same =
       let is : s ≡ spot = same_Some s spot at in
       subst (λ (l : List ℕ). Stands l (from + 0))
-      (sym (step_by true true from s ss (ap (λ (p : Spot). is_whole p.form) is ∙ whole) ((bytes_eq-Decides s.digest digest).1 (ap (λ (p : Spot). p.digest) is ∙ same))))
+      (sym (step_by true true from s ss (ap (λ (p : Spot). may_be_whole p.form) is ∙ whole) ((bytes_eq-Decides s.digest digest).1 (ap (λ (p : Spot). p.digest) is ∙ same))))
       (subst (λ (m : ℕ). Stands (from ∷ numbers_of digest (whole_from (suc from) ss)) m) (sym (no_more from)) (first_stands from (numbers_of digest (whole_from (suc from) ss))))
     where
       no_more : (m : ℕ) → m + 0 ≡ m
       no_more m = omega arith
   whole_number from (s ∷ ss) (suc k) spot at whole same =
       subst (λ (m : ℕ). Stands (numbers_of digest (whole_from from (s ∷ ss))) m) (one_more from k)
-      (by (is_whole s.form) (bytes_eq s.digest digest) refl refl (whole_number (suc from) ss k spot at whole same))
+      (by (may_be_whole s.form) (bytes_eq s.digest digest) refl refl (whole_number (suc from) ss k spot at whole same))
     where
       one_more : (m j : ℕ) → suc m + j ≡ m + suc j
       one_more m j = omega arith
 
-      by : (b other : Bool) → is_whole s.form ≡ b → bytes_eq s.digest digest ≡ other → Stands (numbers_of digest (whole_from (suc from) ss)) (suc from + k)
+      by : (b other : Bool) → may_be_whole s.form ≡ b → bytes_eq s.digest digest ≡ other → Stands (numbers_of digest (whole_from (suc from) ss)) (suc from + k)
           → Stands (numbers_of digest (whole_from from (s ∷ ss))) (suc from + k)
       by true true e d there = subst (λ (l : List ℕ). Stands l (suc from + k)) (sym (step_by true true from s ss e d))
           (later_stands from (numbers_of digest (whole_from (suc from) ss)) (suc from + k) there)
@@ -162,7 +164,7 @@ abbrev candidates_of : ℕ → List ℕ → List Spot → List ℕ
 candidates_of upto payload spots = at_least upto (numbers_of (sha1 payload) (whole_from 0 spots))
 
 -- each keeps its whole wire
-pub candidates_whole : (upto : ℕ) (payload : List ℕ) (spots : List Spot) (candidates : List ℕ) → candidates ≡ candidates_of upto payload spots → AreWhole spots candidates
+pub candidates_whole : (upto : ℕ) (payload : List ℕ) (spots : List Spot) (candidates : List ℕ) → candidates ≡ candidates_of upto payload spots → MayBeWhole spots candidates
 candidates_whole upto payload spots candidates are k less =
     let n : ℕ = get_or candidates k 0 in
     let stands : Stands (candidates_of upto payload spots) n = subst (λ (l : List ℕ). Stands l n) are (record { place = k; within = less; is = refl }) in
@@ -172,9 +174,28 @@ candidates_whole upto payload spots candidates are k less =
     none : (m : ℕ) → 0 + m ≡ m
     none m = omega arith
 
+-- so are all captures with a digest, and that is kept of them
+pub numbers_whole : (digest : List ℕ) (spots : List Spot) (candidates : List ℕ) → candidates ≡ numbers_of digest (whole_from 0 spots) → MayBeWhole spots candidates
+numbers_whole digest spots candidates are k less =
+    let n : ℕ = get_or candidates k 0 in
+    let w = number_whole digest 0 spots n (subst (λ (l : List ℕ). Stands l n) are (record { place = k; within = less; is = refl })) in
+    record { spot = w.spot; placed = ap (slice_get spots) (w.is ∙ none w.place) ∙ w.placed; whole = w.whole }
+  where
+    none : (m : ℕ) → 0 + m ≡ m
+    none m = omega arith
+
+pub numbers_digest : (digest : List ℕ) (spots : List Spot) (candidates : List ℕ) → candidates ≡ numbers_of digest (whole_from 0 spots) → HaveDigest spots candidates digest
+numbers_digest digest spots candidates are k spot less at =
+    let n : ℕ = get_or candidates k 0 in
+    let w = number_whole digest 0 spots n (subst (λ (l : List ℕ). Stands l n) are (record { place = k; within = less; is = refl })) in
+    ap (λ (s : Spot). s.digest) (same_Some spot w.spot (sym at ∙ ap (slice_get spots) (w.is ∙ none w.place) ∙ w.placed)) ∙ w.digested
+  where
+    none : (m : ℕ) → 0 + m ≡ m
+    none m = omega arith
+
 -- ---- numbers that rise
 
-rises : (xs : List ℕ) → IsStrictlyIncreasing xs → (d k : ℕ) → k + suc d < length xs → get_or xs k 0 < get_or xs (k + suc d) 0
+pub rises : (xs : List ℕ) → IsStrictlyIncreasing xs → (d k : ℕ) → k + suc d < length xs → get_or xs k 0 < get_or xs (k + suc d) 0
 rises xs rising zero k less = rising k less
 rises xs rising (suc d) k less =
     let before : get_or xs k 0 < get_or xs (k + suc d) 0 = rises xs rising d k (omega (arith, less)) in
@@ -238,13 +259,21 @@ holder_of book other payload sound does =
     let has : IsPayloadOf book other payload = does.has in
     holder_by book other payload has.stored has.placed has.stored.kept refl (sound.sound.each other has.stored has.placed).kept has.by_kept does.whole
 
-there_is : (spots : List Spot) (k : ℕ) → k < length spots → (spot : Spot) × (slice_get spots k ≡ Some spot)
+pub there_is : (spots : List Spot) (k : ℕ) → k < length spots → (spot : Spot) × (slice_get spots k ≡ Some spot)
 there_is [] k less = absurd (omega (arith, less))
 there_is (s ∷ ss) zero less = (s, refl)
 there_is (s ∷ ss) (suc k) less = there_is ss k (omega (arith, less))
 
+-- who keeps its whole wire is one that may do so
+pub may_be : (form : Form) (kept : Kept) → (is_told_form form ≡ false → form ≡ form_of kept) → is_same_form form ≡ is_same_form (form_of kept)
+    → (wire : List ℕ) → kept ≡ Wire wire → may_be_whole form ≡ true
+may_be forms.Whole kept read revisit wire e = refl
+may_be (forms.Same first) kept read revisit wire e = ap may_be_whole (read refl ∙ ap form_of e)
+may_be forms.Cut kept read revisit wire e = ap may_be_whole (read refl ∙ ap form_of e)
+may_be (forms.Told other) kept read revisit wire e = ap not (revisit ∙ ap is_same_form (ap form_of e))
+
 -- whose form is whole keeps its whole wire
-whole_kept : (kept : Kept) → is_whole (form_of kept) ≡ true → (wire : List ℕ) × (kept ≡ Wire wire)
+whole_kept : (kept : Kept) → may_be_whole (form_of kept) ≡ true → (wire : List ℕ) × (kept ≡ Wire wire)
 whole_kept (Wire wire) e = (wire, refl)
 whole_kept (Same first) e = absurd (false≢true e)
 whole_kept (Cut wire) e = absurd (false≢true e)
@@ -262,8 +291,9 @@ module _ (one : CapturesHaveOnePayload) (book : Book) (spots : List Spot) (are :
       let at : slice_get spots h.number ≡ Some spot = (there_is spots h.number less).1 in
       let its : IsSpotOf book h.number spot = are.each h.number spot at in
       let place : IsPlaced texts book h.number spot = placed.each h.number spot at in
-      let form : is_whole spot.form ≡ true =
-      ap is_whole (its.form ∙ ap (λ (s : Stored). form_of s.kept) (same_Some its.stored h.has.stored (sym its.placed ∙ h.has.placed)) ∙ ap form_of h.keeps) in
+      let form : may_be_whole spot.form ≡ true =
+      may_be spot.form its.stored.kept its.form its.revisit h.wire
+      (ap (λ (s : Stored). s.kept) (same_Some its.stored h.has.stored (sym its.placed ∙ h.has.placed)) ∙ h.keeps) in
       let digest : spot.digest ≡ sha1 payload = place.digest ∙ ap sha1 (one book h.number place.payload payload place.has h.has) in
       stands_least upto (numbers_of (sha1 payload) (whole_from 0 spots)) h.number le
       (subst (λ (m : ℕ). Stands (numbers_of (sha1 payload) (whole_from 0 spots)) m) (none h.number) (whole_number (sha1 payload) 0 spots h.number spot at form digest))
@@ -282,7 +312,7 @@ module _ (one : CapturesHaveOnePayload) (book : Book) (spots : List Spot) (are :
   none_below below none bound number less does =
       let h : Holder book number payload = holder_of book number payload sound does in
       let s : Stands candidates h.number = holder_stands number h (holder_past below number h) in
-      none s.place s.within (subst (λ (m : ℕ). IsPayloadOf book m payload) s.is h.has)
+      none s.place s.within (subst (λ (m : ℕ). HasWhole book m payload) s.is (record { has = h.has; whole = ap is_cut h.keeps }))
 
   first_below : HasNoneBelow book upto payload → IsStrictlyIncreasing candidates → (found place : ℕ) → found ≡ get_or candidates place 0
       → NoneHas book candidates place payload → (other : ℕ) → HasWhole book other payload → found ≤ other
@@ -291,17 +321,32 @@ module _ (one : CapturesHaveOnePayload) (book : Book) (spots : List Spot) (are :
       let h : Holder book other payload = holder_of book other payload sound does in
       let s : Stands candidates h.number = holder_stands other h (holder_past below other h) in
       let earlier : s.place < place = stands_before candidates rising s.place place s.within (omega (arith, s.is, is, h.no_later, less)) in
-      absurd (before s.place earlier (subst (λ (m : ℕ). IsPayloadOf book m payload) s.is h.has)))
+      absurd (before s.place earlier (subst (λ (m : ℕ). HasWhole book m payload) s.is (record { has = h.has; whole = ap is_cut h.keeps }))))
       (λ (le : found ≤ other). le)
       (cases_lt other found)
 
 -- ---- what was found among all captures
 
-keeps_wire : (book : Book) (spots : List Spot) → AreSpotsOf book spots → (number : ℕ) → IsWholeAt spots number → KeepsWire book number
-keeps_wire book spots are number at =
-    let its : IsSpotOf book number at.spot = are.each number at.spot at.placed in
-    let kept = whole_kept its.stored.kept (ap is_whole (sym its.form) ∙ at.whole) in
-    record { stored = its.stored; wire = kept.0; placed = its.placed; kept = kept.1 }
+wire_by : (book : Book) (number : ℕ) (stored : Stored) → slice_get (captures book) number ≡ Some stored → (kept : Kept) → stored.kept ≡ kept
+    → is_same_form (form_of kept) ≡ false → is_cut kept ≡ false → KeepsWire book number
+wire_by book number stored placed (Wire wire) is own whole = record { stored = stored; wire = wire; placed = placed; kept = is }
+wire_by book number stored placed (Same first) is own whole = absurd (false≢true (sym own))
+wire_by book number stored placed (Cut wire) is own whole = absurd (false≢true (sym whole))
+
+-- who keeps its wire, and wasn't cut
+pub whole_wire : (book : Book) (number : ℕ) (spot : Spot) → IsSpotOf book number spot → is_same_form spot.form ≡ false → (payload : List ℕ)
+    → HasWhole book number payload → KeepsWire book number
+whole_wire book number spot its own payload does =
+    let stored : Stored = does.has.stored in
+    let same : its.stored ≡ stored = same_Some its.stored stored (sym its.placed ∙ does.has.placed) in
+    wire_by book number stored does.has.placed stored.kept refl (ap is_same_form (ap (λ (s : Stored). form_of s.kept) (sym same)) ∙ sym its.revisit ∙ own) does.whole
+
+-- a payload of a capture that keeps its whole wire
+pub has_whole : (book : Book) (number : ℕ) (payload : List ℕ) → KeepsWire book number → IsPayloadOf book number payload → HasWhole book number payload
+has_whole book number payload keeps has = record {
+  has = has;
+  whole = ap is_cut (ap (λ (s : Stored). s.kept) (same_Some has.stored keeps.stored (sym has.placed ∙ keeps.placed)) ∙ keeps.kept);
+}
 
 module _ (tells : Bool) (book : Book) (spots : List Spot) (are : AreSpotsOf book spots) (payload : List ℕ) (looked : Looked)
     (right : IsRight tells book payload looked) where
@@ -339,25 +384,22 @@ module _ (tells : Bool) (book : Book) (spots : List Spot) (are : AreSpotsOf book
     -- a candidate has it
     pub right_first : (found : ℕ) → IsFirstOf tells book candidates payload found → IsRight tells book payload (record { upto = length spots; same = Some found })
     right_first found first =
-        let at : IsWholeAt spots found =
-        subst (IsWholeAt spots) (sym first.is) (candidates_whole looked.upto payload spots candidates is first.place first.within) in
-        let keeps : KeepsWire book found = keeps_wire book spots are found at in
+        let at : MayBeWholeAt spots found =
+        subst (MayBeWholeAt spots) (sym first.is) (candidates_whole looked.upto payload spots candidates is first.place first.within) in
         let less : found < length spots = slice_get_within spots found at.spot at.placed in
         record {
           within = omega (arith, are.count);
-          earlier = (less, keeps);
-          finds = λ told.
-              let has : IsPayloadOf book found payload = first.has told in
-              let stored : keeps.stored ≡ has.stored = same_Some keeps.stored has.stored (sym keeps.placed ∙ has.placed) in (
-                some,
-                less,
-                record {
-                  does = record { has = has; whole = ap (λ (s : Stored). is_cut s.kept) (sym stored) ∙ ap is_cut keeps.kept };
-                  first = first_below one book spots are texts (placed told) (sound told) payload looked.upto (none_before told)
-                      (subst IsStrictlyIncreasing is rising) found first.place (first.is ∙ ap (λ (l : List ℕ). get_or l first.place 0) is)
-                      (subst (λ (l : List ℕ). NoneHas book l first.place payload) is (first.before told));
-                },
-              );
+          earlier = (less, first.keeps);
+          finds = λ told. (
+            some,
+            less,
+            record {
+              does = first.has told;
+              first = first_below one book spots are texts (placed told) (sound told) payload looked.upto (none_before told)
+                  (subst IsStrictlyIncreasing is rising) found first.place (first.is ∙ ap (λ (l : List ℕ). get_or l first.place 0) is)
+                  (subst (λ (l : List ℕ). NoneHas book l first.place payload) is (first.before told));
+            },
+          );
         }
 
     pub right_chosen : (same : Option ℕ) → Chooses tells book candidates payload (Ok same) → IsRight tells book payload (record { upto = length spots; same = same })
@@ -365,12 +407,12 @@ module _ (tells : Bool) (book : Book) (spots : List Spot) (are : AreSpotsOf book
     right_chosen None none_has = right_none none_has
 
 -- a fault that choosing met is the answer
-pub looks_err : (tells : Bool) (book : Book) (spots : List Spot) → AreSpotsOf book spots → (candidates payload : List ℕ) → AreWhole spots candidates
+pub looks_err : (tells : Bool) (book : Book) (spots : List Spot) → AreSpotsOf book spots → (candidates payload : List ℕ) → MayBeWhole spots candidates
     → (fault : StoreFault) → Chooses tells book candidates payload (Err fault) → LooksOn tells book payload (Err fault)
 looks_err tells book spots are candidates payload whole (stores.Full count limit) chooses = chooses
 looks_err tells book spots are candidates payload whole stores.DiskFault chooses = tt
 looks_err tells book spots are candidates payload whole (stores.Damaged at kept found) chooses =
-    let w : IsWholeAt spots at = subst (IsWholeAt spots) (sym chooses.is) (whole chooses.place chooses.within) in
+    let w : MayBeWholeAt spots at = subst (MayBeWholeAt spots) (sym chooses.is) (whole chooses.place chooses.within) in
     (omega (arith, slice_get_within spots at w.spot w.placed, are.count), chooses.damaged)
 looks_err tells book spots are candidates payload whole stores.Memory chooses = tt
 
@@ -404,7 +446,7 @@ compares_right one texts book number spot kept bytes payload is compares.Other o
 compares_right one texts book number spot kept bytes payload is (compares.Damaged found) other =
     other (ap sha1 is ∙ sym kept.placed.digest)
 
-module _ (book : Book) (spots : List Spot) (are : AreSpotsOf book spots) (number : ℕ) (whole : IsWholeAt spots number) where
+module _ (book : Book) (spots : List Spot) (are : AreSpotsOf book spots) (number : ℕ) (whole : MayBeWholeAt spots number) where
   pub its_bound : number < length spots
   its_bound = slice_get_within spots number whole.spot whole.placed
 
@@ -412,37 +454,62 @@ module _ (book : Book) (spots : List Spot) (are : AreSpotsOf book spots) (number
     pub its_spot : IsSpotOf book number spot
     its_spot = spot_at book spots number spot its_bound at are
 
-    its_form : is_whole spot.form ≡ true
+    its_form : may_be_whole spot.form ≡ true
     its_form =
-        ap (λ (s : Spot). is_whole s.form)
+        ap (λ (s : Spot). may_be_whole s.form)
         (same_Some spot whole.spot (sym (slice_get-get_or spots number spot its_bound ∙ ap Some (sym at)) ∙ whole.placed)) ∙ whole.whole
 
-    own_by : (form : Form) → is_whole form ≡ true → is_same_form form ≡ false
+    turned : (b : Bool) → not b ≡ true → b ≡ false
+    turned true e = absurd (false≢true e)
+    turned false e = refl
+
+    own_by : (form : Form) → may_be_whole form ≡ true → is_same_form form ≡ false
     own_by forms.Whole e = refl
     own_by (forms.Same first) e = absurd (false≢true e)
     own_by forms.Cut e = refl
+    own_by (forms.Told revisit) e = turned revisit e
 
-    not_cut_by : (form : Form) → is_whole form ≡ true → is_cut_form form ≡ false
+    pub its_own : is_same_form spot.form ≡ false
+    its_own = own_by spot.form its_form
+
+    told_by : (form : Form) → may_be_whole form ≡ true → is_told_form form ≡ true → form ≡ forms.Told false
+    told_by forms.Whole e told = absurd (false≢true told)
+    told_by (forms.Same first) e told = absurd (false≢true told)
+    told_by forms.Cut e told = absurd (false≢true told)
+    told_by (forms.Told revisit) e told = ap (λ (b : Bool). forms.Told b) (turned revisit e)
+
+    pub its_told : is_told_form spot.form ≡ true → spot.form ≡ forms.Told false
+    its_told told = told_by spot.form its_form told
+
+    pub its_wire : is_told_form spot.form ≡ false → KeepsWire book number
+    its_wire read =
+        let its : IsSpotOf book number spot = its_spot in
+        let kept = whole_kept its.stored.kept (ap may_be_whole (sym (its.form read)) ∙ its_form) in
+        record { stored = its.stored; wire = kept.0; placed = its.placed; kept = kept.1 }
+
+    not_cut_by : (form : Form) → may_be_whole form ≡ true → is_cut_form form ≡ false
     not_cut_by forms.Whole e = refl
     not_cut_by (forms.Same first) e = absurd (false≢true e)
     not_cut_by forms.Cut e = absurd (false≢true e)
+    not_cut_by (forms.Told revisit) e = refl
 
     pub its_whole : is_cut_form spot.form ≡ false
     its_whole = not_cut_by spot.form its_form
 
-    pub its_kept : (texts : List (List ℕ)) → ArePlaced texts book spots → IsKept texts book number spot
-    its_kept texts placed = record {
+    pub its_kept : is_told_form spot.form ≡ false → (texts : List (List ℕ)) → ArePlaced texts book spots → IsKept texts book number spot
+    its_kept read texts placed = record {
       is = its_spot;
       placed = place_at book spots number spot its_bound at texts placed;
       own = own_by spot.form its_form;
+      read = read;
     }
 
 -- none of one candidate more has it
 pub none_more : (book : Book) (candidates : List ℕ) (k number : ℕ) (payload : List ℕ) → number ≡ get_or candidates k 0
-    → NoneHas book candidates k payload → ¬ (IsPayloadOf book number payload) → NoneHas book candidates (k + 1) payload
-none_more book candidates k number payload is none not j less = ⊎_elim
+    → NoneHas book candidates k payload → ¬ (HasWhole book number payload) → NoneHas book candidates (k + 1) payload
+none_more book candidates k number payload is none none_has j less = ⊎_elim
     (λ (before : j < k). none j before)
-    (λ (behind : k ≤ j). λ has. not (subst (λ (n : ℕ). IsPayloadOf book n payload) (ap (λ (i : ℕ). get_or candidates i 0) (both j k less behind) ∙ sym is) has))
+    (λ (behind : k ≤ j). λ has. none_has (subst (λ (n : ℕ). HasWhole book n payload) (ap (λ (i : ℕ). get_or candidates i 0) (both j k less behind) ∙ sym is) has))
     (cases_lt j k)
   where
     both : (a b : ℕ) → a < b + 1 → b ≤ a → a ≡ b

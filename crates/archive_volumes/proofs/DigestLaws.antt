@@ -1,5 +1,6 @@
 -- What goes by the digest that is kept of a capture goes by that of its payload.
-use Rattle.std.proofs.Common.{◌≡◌, ℕ, ◌<◌, ◌++◌, Bool, true, not, List, Result, Ok, Err, false, refl, sym, ap, subst, ◌∙◌, inl, inr, ⊎_elim, arith}
+use Rattle.std.proofs.Common.{◌≡◌, ◌≢◌, ◌⊎◌, ℕ, ◌<◌, ◌++◌, Bool, true, not, List, [], Option, None, get_or, length, Result, Ok, Err, Some, false, refl, sym, ap, subst, ◌∙◌, inl, inr, ⊎_elim, arith}
+use Rattle.std.specs.Prelude.{slice_get}
 use Rattle.std.specs.Str.{bytes_eq}
 use Rattle.std.proofs.lemmas.Option.{same_Some}
 use Rattle.std.proofs.lemmas.Slice.Eq.{bytes_eq-Decides}
@@ -14,13 +15,14 @@ use Rattle.warc_scan.specs.Groups.{reference_in}
 use Rattle.warc_scan.specs.declared.outline.Outline.{Outline}
 use Rattle.archive_shelf.specs.Answers.{IsKeeperOf, NamesKeeper, keeper_by}
 use Rattle.archive_shelf.specs.Comparing.{KeepsWire}
-use Rattle.archive_shelf.specs.Digests.{GoesByDigest, HasDigestOf, TellsDigestOf}
+use Rattle.archive_shelf.specs.Digests.{GoesByDigest, HasDigestOf, HasRequest, PieceGoesByDigest, WasRead}
 use Rattle.archive_shelf.specs.declared.fault.BringFault.{BringFault}
 use Rattle.archive_shelf.specs.declared.fault.BringFault.TheVariants as brings
 use Rattle.archive_volumes.proofs.BringLaws.{keeper_keeps, keeps_same, refers_to}
-use Rattle.archive_volumes.specs.Digests.{GoesByKeeper, GoesByOwn}
-use Rattle.archive_volumes.specs.KeptGroups.{HasFront, IsTold}
-use Rattle.archive_volumes.specs.Spots.{HasOwnDigest, IsSpotOf, form_of, is_same_form}
+use Rattle.archive_volumes.proofs.GroupLaws.{got}
+use Rattle.archive_volumes.specs.Digests.{GoesByKeeper, GoesByKept, GoesByLine, GoesByOwn, HasKeptDigest, IsKeptAt}
+use Rattle.archive_volumes.specs.KeptGroups.{HasFront, IsTold, PieceGoesByKept, TellsDigest}
+use Rattle.archive_volumes.specs.Spots.{HasOwnDigest, IsSpotOf, form_of, is_same_form, is_told_form}
 use Rattle.archive_volumes.specs.declared.spot.Form.TheVariants as forms
 use Rattle.archive_volumes.specs.declared.spot.Spot.{Spot}
 
@@ -51,19 +53,43 @@ by_own book stored (Same first) digest own has = cc
 by_own book stored (Cut wire) digest own has = has
 
 module _ (book : Book) (number : ℕ) (spot : Spot) (is : IsSpotOf book number spot) where
+  -- the book has its request
+  asked_here : HasRequest book number → is.stored.request ≢ []
+  asked_here asked none = asked.some (ap (λ (s : Stored). s.request) (same_Some asked.stored is.stored (sym asked.placed ∙ is.placed)) ∙ none)
+
+  -- one that a line alone told of
+  pub has_told : is_told_form spot.form ≡ true → HasRequest book number → HasDigestOf book number spot.digest
+  has_told told asked = is.line told (asked_here asked)
+
+  by_told : HasRequest book number → (is_told_form spot.form ≡ false → HasDigestOf book number spot.digest) → (told : Bool) → is_told_form spot.form ≡ told
+      → HasDigestOf book number spot.digest
+  by_told asked read true e = has_told e asked
+  by_told asked read false e = read e
+
+  pub line_digests : is_told_form spot.form ≡ true → (result : Result Brought BringFault) → GoesByLine number spot.digest result → GoesByDigest book number result
+  line_digests told (Ok brought) by = λ read. subst (λ (d : List ℕ). HasDigestOf book number d) (sym by) (has_told told read.own)
+  line_digests told (Err (brings.NoSuch count)) by = tt
+  line_digests told (Err brings.DiskFault) by = tt
+  line_digests told (Err (brings.Damaged at kept found)) by =
+      λ read. subst (λ (d : List ℕ). HasDigestOf book number d) (sym by.2) (has_told told read.own)
+  line_digests told (Err brings.Memory) by = tt
+
   -- a capture that keeps its wire
   module _ (own : is_same_form spot.form ≡ false) where
     own_form : is_same_form (form_of is.stored.kept) ≡ false
-    own_form = ap is_same_form (sym is.form) ∙ own
+    own_form = sym is.revisit ∙ own
 
-    pub has_own : HasDigestOf book number spot.digest
-    has_own =
-        let found = by_own book is.stored is.stored.kept spot.digest own_form is.digest in
+    has_read : is_told_form spot.form ≡ false → HasDigestOf book number spot.digest
+    has_read read =
+        let found = by_own book is.stored is.stored.kept spot.digest own_form (is.digest read) in
         record {
           payload = found.0;
           has = record { stored = is.stored; placed = is.placed; by_kept = found.1 };
           is = found.2;
         }
+
+    pub has_own : HasRequest book number → HasDigestOf book number spot.digest
+    has_own asked = by_told asked has_read (is_told_form spot.form) refl
 
     pub own_names : (result : Result Brought BringFault) → GoesByOwn number spot.digest result → NamesKeeper book number result
     own_names (Ok brought) by = tt
@@ -74,11 +100,11 @@ module _ (book : Book) (number : ℕ) (spot : Spot) (is : IsSpotOf book number s
     own_names (Err brings.Memory) by = tt
 
     pub own_digests : (result : Result Brought BringFault) → GoesByOwn number spot.digest result → GoesByDigest book number result
-    own_digests (Ok brought) by = λ read. subst (λ (d : List ℕ). HasDigestOf book number d) (sym by) has_own
+    own_digests (Ok brought) by = λ read. subst (λ (d : List ℕ). HasDigestOf book number d) (sym by) (has_own read.own)
     own_digests (Err (brings.NoSuch count)) by = tt
     own_digests (Err brings.DiskFault) by = tt
     own_digests (Err (brings.Damaged at kept found)) by =
-        λ read. subst (λ (d : List ℕ). HasDigestOf book number d) (sym by.1) has_own
+        λ read. subst (λ (d : List ℕ). HasDigestOf book number d) (sym by.1) (has_own read.own)
     own_digests (Err brings.Memory) by = tt
 
 module _ (book : Book) (number : ℕ) (spot : Spot) (is : IsSpotOf book number spot) where
@@ -113,10 +139,17 @@ module _ (book : Book) (number : ℕ) (spot : Spot) (is : IsSpotOf book number s
           },
         )
 
+    -- the book has the request of the one that keeps it
+    keeper_asked : WasRead book number → HasRequest book first
+    keeper_asked read =
+        let same : read.keeps.stored ≡ is.stored = same_Some read.keeps.stored is.stored (sym read.keeps.placed ∙ is.placed) in
+        subst (HasRequest book) (read.keeps.is ∙ ap (λ (s : Stored). keeper_by s.kept number) same ∙ sym other_keeps) read.kept
+
     module _ (keeper : Spot) (its : IsSpotOf book first keeper) where
-      has_same : HasDigestOf book number keeper.digest
-      has_same =
-          let kept : HasDigestOf book first keeper.digest = has_own book first keeper its (keeper_keeps book number spot is first form keeper its) in
+      has_same : WasRead book number → HasDigestOf book number keeper.digest
+      has_same read =
+          let kept : HasDigestOf book first keeper.digest =
+          has_own book first keeper its (keeper_keeps book number spot is first form keeper its) (keeper_asked read) in
           record {
             payload = kept.payload;
             has = record {
@@ -129,11 +162,11 @@ module _ (book : Book) (number : ℕ) (spot : Spot) (is : IsSpotOf book number s
           }
 
       pub same_digests : (result : Result Brought BringFault) → GoesByKeeper number first keeper.digest result → GoesByDigest book number result
-      same_digests (Ok brought) by = λ read. subst (λ (d : List ℕ). HasDigestOf book number d) (sym by) has_same
+      same_digests (Ok brought) by = λ read. subst (λ (d : List ℕ). HasDigestOf book number d) (sym by) (has_same read)
       same_digests (Err (brings.NoSuch count)) by = tt
       same_digests (Err brings.DiskFault) by = tt
       same_digests (Err (brings.Damaged at kept found)) by =
-          λ read. subst (λ (d : List ℕ). HasDigestOf book number d) (sym by.1) has_same
+          λ read. subst (λ (d : List ℕ). HasDigestOf book number d) (sym by.1) (has_same read)
       same_digests (Err brings.Memory) by = tt
 
   -- ---- a piece
@@ -147,17 +180,20 @@ module _ (book : Book) (number : ℕ) (spot : Spot) (is : IsSpotOf book number s
       below a b e less = omega (arith, e, less)
   own_kept (Cut wire) keeps before = refl
 
-  pub keeper_digest : IsKeeperOf book number number → HasDigestOf book number spot.digest
-  keeper_digest keeps =
+  read_keeper : IsKeeperOf book number number → is_told_form spot.form ≡ false → HasDigestOf book number spot.digest
+  read_keeper keeps read =
       let same : keeps.stored ≡ is.stored = same_Some keeps.stored is.stored (sym keeps.placed ∙ is.placed) in
-      has_own book number spot is (ap is_same_form is.form
+      has_read book number spot is (is.revisit
       ∙ own_kept is.stored.kept (keeps.is ∙ ap (λ (s : Stored). keeper_by s.kept number) same)
-      (λ first kept. (refers_to book number spot is first (is.form ∙ ap form_of kept)).0))
+      (λ first kept. (refers_to book number spot is first (is.form read ∙ ap form_of kept)).0)) read
+
+  pub keeper_digest : HasRequest book number → IsKeeperOf book number number → HasDigestOf book number spot.digest
+  keeper_digest asked keeps = by_told book number spot is asked (read_keeper keeps) (is_told_form spot.form) refl
 
   -- the piece around a group that tells the digest which is kept
   pub piece_by_digest : (group bytes : List ℕ) (outline : Outline) → IsTold book.namespace number group outline → HasFront book number group bytes
-      → outline.digest ≡ spot.digest → IsKeeperOf book number number → TellsDigestOf book number bytes
-  piece_by_digest group bytes outline told front same keeps = record {
+      → outline.digest ≡ spot.digest → TellsDigest book number spot.digest bytes
+  piece_by_digest group bytes outline told front same = record {
     piece = record {
       front = front.front;
       taken = taken_back told.group.stored;
@@ -166,5 +202,85 @@ module _ (book : Book) (number : ℕ) (spot : Spot) (is : IsSpotOf book number s
       before = front.before;
       composed = front.composed ∙ ap (λ (g : List ℕ). front.front ++ g) told.is.composed;
     };
-    tells = subst (λ (d : List ℕ). HasDigestOf book number d) (sym (sym told.told.digest_is ∙ same)) (keeper_digest keeps);
+    is = sym told.told.digest_is ∙ same;
   }
+
+  pub piece_by_keeper : (result : Result (List ℕ) BringFault) → PieceGoesByKept book number spot.digest result → PieceGoesByDigest book number result
+  piece_by_keeper (Ok bytes) by = λ asked keeps. record {
+    piece = by.piece;
+    tells = subst (λ (d : List ℕ). HasDigestOf book number d) (sym by.is) (keeper_digest asked keeps);
+  }
+  piece_by_keeper (Err (brings.NoSuch count)) by = tt
+  piece_by_keeper (Err brings.DiskFault) by = tt
+  piece_by_keeper (Err (brings.Damaged at kept found)) by = λ asked keeps.
+      subst (λ (d : List ℕ). HasDigestOf book number d) (sym by) (keeper_digest asked keeps)
+  piece_by_keeper (Err brings.Memory) by = tt
+
+-- ---- what stands at a place of the spots
+
+pub one_spot : (spots : List Spot) (number : ℕ) (spot other : Spot) → slice_get spots number ≡ Some spot → slice_get spots number ≡ Some other → spot ≡ other
+one_spot spots number spot other here at = same_Some spot other (sym here ∙ at)
+
+pub form_at : (spots : List Spot) (number : ℕ) (spot other : Spot) → slice_get spots number ≡ Some spot → slice_get spots number ≡ Some other
+    → other.form ≡ spot.form
+form_at spots number spot other here at = ap (λ (s : Spot). s.form) (sym (one_spot spots number spot other here at))
+
+-- the digest that is read by an index is that of the spot which stands there
+pub kept_there : (spots : List Spot) (number : ℕ) (spot : Spot) → number < length spots → spot ≡ get_or spots number spot → (other : Spot)
+    → slice_get spots number ≡ Some other → (get_or spots number spot).digest ≡ other.digest
+kept_there spots number spot less is other at =
+    ap (λ (s : Spot). s.digest) (sym is ∙ one_spot spots number spot other (got spots number spot less is) at)
+
+pub own_goes : (spots : List Spot) (number : ℕ) (spot other : Spot) → slice_get spots number ≡ Some spot → slice_get spots number ≡ Some other
+    → (found : Option (List ℕ)) → GoesByOwn number other.digest (Err (brings.Damaged number spot.digest found))
+own_goes spots number spot other here at found = (refl, ap (λ (s : Spot). s.digest) (one_spot spots number spot other here at))
+
+pub keeper_goes : (spots : List Spot) (first : ℕ) (keeper other : Spot) → slice_get spots first ≡ Some keeper → slice_get spots first ≡ Some other
+    → (number at : ℕ) (found : Option (List ℕ)) → (at ≡ first) ⊎ ((at ≡ number) × (found ≡ None))
+    → GoesByKeeper number first other.digest (Err (brings.Damaged at keeper.digest found))
+keeper_goes spots first keeper other there is number at found which = (which, ap (λ (s : Spot). s.digest) (one_spot spots first keeper other there is))
+
+pub line_goes : (spots : List Spot) (number : ℕ) (spot other : Spot) → slice_get spots number ≡ Some spot → slice_get spots number ≡ Some other
+    → GoesByLine number other.digest (Err (brings.Damaged number spot.digest None))
+line_goes spots number spot other here at = (refl, refl, ap (λ (s : Spot). s.digest) (one_spot spots number spot other here at))
+
+-- ---- which digest is kept
+
+module _ (spots : List Spot) (number : ℕ) (spot : Spot) (here : slice_get spots number ≡ Some spot) where
+  own_kept_digest : (digest : List ℕ) → digest ≡ spot.digest → HasKeptDigest spots number digest
+  own_kept_digest digest is = record { at = number; spot = spot; kept = inl refl; placed = here; is = is }
+
+  pub own_goes_by_kept : (result : Result Brought BringFault) → GoesByOwn number spot.digest result → GoesByKept spots number result
+  own_goes_by_kept (Ok brought) by = own_kept_digest (sha1 brought.payload) by
+  own_goes_by_kept (Err (brings.NoSuch count)) by = tt
+  own_goes_by_kept (Err brings.DiskFault) by = tt
+  own_goes_by_kept (Err (brings.Damaged at kept found)) by = own_kept_digest kept by.1
+  own_goes_by_kept (Err brings.Memory) by = tt
+
+  pub line_goes_by_kept : (result : Result Brought BringFault) → GoesByLine number spot.digest result → GoesByKept spots number result
+  line_goes_by_kept (Ok brought) by = own_kept_digest (sha1 brought.payload) by
+  line_goes_by_kept (Err (brings.NoSuch count)) by = tt
+  line_goes_by_kept (Err brings.DiskFault) by = tt
+  line_goes_by_kept (Err (brings.Damaged at kept found)) by = own_kept_digest kept by.2
+  line_goes_by_kept (Err brings.Memory) by = tt
+
+  module _ (first : ℕ) (form : spot.form ≡ forms.Same first) (keeper : Spot) (there : slice_get spots first ≡ Some keeper) where
+    pub same_kept_at : IsKeptAt spots number first
+    same_kept_at = inr (spot, here, form)
+
+    same_kept_digest : (digest : List ℕ) → digest ≡ keeper.digest → HasKeptDigest spots number digest
+    same_kept_digest digest is = record { at = first; spot = keeper; kept = same_kept_at; placed = there; is = is }
+
+    pub same_goes_by_kept : (result : Result Brought BringFault) → GoesByKeeper number first keeper.digest result → GoesByKept spots number result
+    same_goes_by_kept (Ok brought) by = same_kept_digest (sha1 brought.payload) by
+    same_goes_by_kept (Err (brings.NoSuch count)) by = tt
+    same_goes_by_kept (Err brings.DiskFault) by = tt
+    same_goes_by_kept (Err (brings.Damaged at kept found)) by = same_kept_digest kept by.1
+    same_goes_by_kept (Err brings.Memory) by = tt
+
+pub line_names : (book : Book) (number : ℕ) (digest : List ℕ) (result : Result Brought BringFault) → GoesByLine number digest result → NamesKeeper book number result
+line_names book number digest (Ok brought) by = tt
+line_names book number digest (Err (brings.NoSuch count)) by = tt
+line_names book number digest (Err brings.DiskFault) by = tt
+line_names book number digest (Err (brings.Damaged at kept found)) by = inr (by.0, by.1)
+line_names book number digest (Err brings.Memory) by = tt

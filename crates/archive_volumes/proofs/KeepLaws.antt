@@ -1,7 +1,7 @@
 -- What is kept of a capture that was written, and where it stands.
 use Rattle.std.proofs.Common.{◌≡◌, ℕ, ◌+◌, ◌-◌, ◌^◌, ◌<◌, ◌≤◌, Bool, true, false, IsTrue, List, [], ◌∷◌, ◌++◌, length, Option, Some, None, refl, sym, ap, subst, ◌∙◌, inl, inr, ⊎_elim, ◌⊎◌, arith, append-nil, append_assoc, length-append}
 use Rattle.std.specs.Prelude.{drop, slice_get}
-use Rattle.std.proofs.lemmas.Bool.{cases_lt}
+use Rattle.std.proofs.lemmas.Bool.{cases_lt, false≢true}
 use Rattle.std.proofs.lemmas.List.{get_or_append_left, get_or-set_other, length-set, length_push}
 use Rattle.std.proofs.lemmas.Grind.{get_or-set_at}
 use Rattle.std.proofs.lemmas.Option.{slice_get_within}
@@ -29,9 +29,9 @@ use Rattle.archive_volumes.proofs.GroupPlaces.{begins_behind, has_volume}
 use Rattle.archive_volumes.proofs.WayLaws.{room_captures}
 use Rattle.archive_volumes.specs.Held.{book_of, stored_in}
 use Rattle.archive_volumes.specs.Ready.{CanCommit, book_with, spot_in}
-use Rattle.archive_volumes.proofs.SpotLaws.{GoOn, placed_at, placed_stay, placed_with, spots_stay, spots_with, within_stay, within_with}
+use Rattle.archive_volumes.proofs.SpotLaws.{GoOn, form_read, made_stay, made_with, placed_at, placed_stay, placed_with, spots_stay, spots_with, within_stay, within_with}
 use Rattle.archive_volumes.specs.Grouping.{StandsAt, block_of}
-use Rattle.archive_volumes.specs.Spots.{ArePlaced, AreSpotsOf, AreWithin, HasGroupAt, HasOwnDigest, IsInVolume, IsPlaced, IsSpotOf, RefersBack, form_of, spot_of, text_at}
+use Rattle.archive_volumes.specs.Spots.{AreHeldWhole, ArePlaced, AreSpotsOf, AreWithin, HasGroupAt, HasOwnDigest, IsInVolume, IsPlaced, IsSpotOf, RefersBack, form_of, spot_of, text_at}
 use Rattle.archive_volumes.specs.Volumes.{HoldsBook}
 use Rattle.archive_volumes.specs.Writing.{texts_with, with_prepared}
 use Rattle.archive_volumes.specs.declared.group.Layout.{Layout}
@@ -89,8 +89,10 @@ module _ (old new : Book) (taken : Taken) (same : Option ℕ) (gains : captures 
         method = refl;
         uri = refl;
         date = refl;
-        form = refl;
-        digest = own_by taken.cut taken.wire same has;
+        form = λ read. refl;
+        revisit = refl;
+        digest = λ read. own_by taken.cut taken.wire same has;
+        line = λ told some. absurd (false≢true (sym (form_read (as_stored taken same).kept) ∙ told));
         refers = refers_by taken.cut taken.wire same refers;
         inside = inside;
         in_range = fits.date;
@@ -134,7 +136,6 @@ module _ (old new : Book) (taken : Taken) (same : Option ℕ) (gains : captures 
       let k : ℕ = length texts - 1 in
       let text : List ℕ = text_at texts k in
       let stored : Stored = as_stored taken same in
-      let block : List ℕ = block_of taken same in
       let kept : List ℕ = taken.head ++ kept_wire (kept_of taken.cut taken.wire same) in
       let more : text_at (with_more texts group) k ≡ text ++ group = get_or-set_at texts k k (text ++ group) [] refl (omega (arith, some)) in
       let composed : text_at (with_more texts group) k ≡ (text ++ at.front) ++ (kept ++ at.rest) =
@@ -227,6 +228,14 @@ module _ {D : Type 0} (d : Ghosts D) (told : Bool) (before : Volumes D) (ready :
       (spots_with (book_of before.held) (book_with before ready) (stored_in ready.stored) can.gains (ready_grows (book_of before.held) ready.prepared (stored_in ready.stored)) spots
       (spot_in before ready) are can.spot))
 
+  pub kept_made : (now : Book) (spots items : List Spot) (spot : Spot) → AreHeldWhole (book_of before.held) spots → now ≡ book_with before ready
+      → items ≡ spots ++ spot ∷ [] → spot ≡ spot_in before ready → AreHeldWhole now items
+  kept_made now spots items spot are is all is_spot =
+      subst (AreHeldWhole now) (sym (all ∙ ap (λ (s : Spot). spots ++ s ∷ []) is_spot))
+      (subst (λ (b : Book). AreHeldWhole b (spots ++ spot_in before ready ∷ [])) (sym is)
+      (made_with (book_of before.held) (book_with before ready) (stored_in ready.stored ∷ []) can.gains
+      (ready_grows (book_of before.held) ready.prepared (stored_in ready.stored)) spots (spot_in before ready) are (form_read (stored_in ready.stored).kept)))
+
   pub kept_within : IsTrue d.tells → (texts_now : List (List ℕ)) (spots items : List Spot) (spot : Spot) → AreWithin (texts d before.journal) spots
       → texts_now ≡ with_more (texts_with (texts d before.journal) ready.prepared) ready.group
       → items ≡ spots ++ spot ∷ [] → spot ≡ spot_in before ready → AreWithin texts_now items
@@ -270,6 +279,11 @@ grows_left book now (Some p) (inr is) = subst (Grows book) (sym is) (volume_grow
 pub spots_left : (book now : Book) (prepared : Option Prepared) (spots : List Spot) → (now ≡ book) ⊎ (now ≡ with_prepared book prepared)
     → AreSpotsOf book spots → AreSpotsOf now spots
 spots_left book now prepared spots left are = spots_stay book now (captures_left book now prepared left) (grows_left book now prepared left) spots are
+
+pub made_left : (book now : Book) (prepared : Option Prepared) (spots : List Spot) → (now ≡ book) ⊎ (now ≡ with_prepared book prepared)
+    → AreHeldWhole book spots → AreHeldWhole now spots
+made_left book now prepared spots left are =
+    made_stay book now [] (captures_left book now prepared left ∙ sym (append-nil (captures book))) (grows_left book now prepared left) spots are
 
 pub within_left : (prepared : Option Prepared) (was texts_now : List (List ℕ)) (spots : List Spot)
     → (texts_now ≡ was) ⊎ (texts_now ≡ texts_with was prepared) → AreWithin was spots → AreWithin texts_now spots

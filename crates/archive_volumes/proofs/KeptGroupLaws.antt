@@ -1,5 +1,5 @@
 -- The group of a capture, as it is read by its place.
-use Rattle.std.proofs.Common.{◌≡◌, ◌⊎◌, ℕ, suc, ◌+◌, ◌-◌, ◌^◌, ◌<◌, ◌≤◌, false, List, [], ◌∷◌, ◌++◌, length, Some, refl, sym, ap, subst, ◌∙◌, ⊎_elim, arith, append-nil, length-append, take}
+use Rattle.std.proofs.Common.{◌≡◌, ℕ, suc, ◌+◌, ◌-◌, ◌^◌, ◌<◌, ◌≤◌, false, List, [], ◌∷◌, ◌++◌, length, Some, refl, sym, ap, subst, ◌∙◌, ⊎_elim, arith, append-nil, length-append, take}
 use Rattle.std.specs.Prelude.{drop, slice_get}
 use Rattle.std.proofs.lemmas.Option.{same_Some}
 use Rattle.std.proofs.Math.Seq.{drop-append-add, take-append-add}
@@ -22,6 +22,7 @@ use Rattle.volume_scan.proofs.FoundGroups.{group_found, group_is_found}
 use Rattle.volume_scan.proofs.FoundTexts.{found_writable}
 use Rattle.archive_volumes.proofs.GroupPlaces.{each_ends, ends_in_text}
 use Rattle.archive_volumes.specs.KeptGroups.{EndsGroup, EndsWithin, IsFirstIn, IsFrontOf, IsGroupOf, IsKeptGroup, IsNextAt}
+use Rattle.archive_volumes.specs.Rereading.{BeginWithText}
 use Rattle.archive_volumes.specs.Spots.{ArePlaced, AreWithin, HasGroupAt, part, text_at}
 use Rattle.archive_volumes.specs.declared.kept_group.KeptGroup.{KeptGroup}
 use Rattle.archive_volumes.specs.declared.kept_group.KeptGroup.TheVariants as kept
@@ -174,13 +175,23 @@ module _ (book : Book) (texts : List (List ℕ)) (spots : List Spot) (number : �
   reach : spot.at + length own_group.group ≤ end
   reach = ends.reaches spot own_group.group here own_group.is
 
-  -- what is read from its place on is the capture's group
-  pub read_is : IsSound book → AreVolumeTexts book texts → (result : KeptGroup)
-      → IsFirstIn book.namespace number (part (text_at texts spot.volume) spot.at (end - spot.at)) result → IsKeptGroup book number result
-  read_is sound are result first =
+  -- what is read from its place on begins with the capture's group
+  pub begins_is : IsSound book → AreVolumeTexts book texts → (bytes : List ℕ) → bytes ≡ part (text_at texts spot.volume) spot.at (end - spot.at)
+      → BeginWithText book number bytes
+  begins_is sound are bytes is =
       let text : List ℕ = text_at texts spot.volume in
       let short : length text < 2 ^ 62 = sound.short_texts spot.volume text (are.each spot.volume (placed.each number spot here).there) in
       let ended : spot.at + length own_group.group ≤ length text = ends_in_text book number spot.at text own_group in
-      kept_by book sound number own_group.group own_group.is (omega (arith, ended, short)) (part text spot.at (end - spot.at))
-      (take (end - spot.at - length own_group.group) own_group.rest)
-      (part_begins text own_group.front own_group.group own_group.rest spot.at end own_group.composed own_group.behind reach) result first
+      record {
+        group = own_group.group;
+        rest = take (end - spot.at - length own_group.group) own_group.rest;
+        is = own_group.is;
+        short = omega (arith, ended, short);
+        composed = is ∙ part_begins text own_group.front own_group.group own_group.rest spot.at end own_group.composed own_group.behind reach;
+      }
+
+-- so it is that group
+pub read_is : (book : Book) (number : ℕ) → IsSound book → (bytes : List ℕ) → BeginWithText book number bytes → (result : KeptGroup)
+    → IsFirstIn book.namespace number bytes result → IsKeptGroup book number result
+read_is book number sound bytes begins result first =
+    kept_by book sound number begins.group begins.is begins.short bytes begins.rest begins.composed result first

@@ -1,3 +1,4 @@
+pub mod AskLaws
 pub mod BringLaws
 pub mod ChangeLaws
 pub mod ChooseLaws
@@ -11,11 +12,14 @@ pub mod GroupPlaces
 pub mod HeldLaws
 pub mod KeptGroupLaws
 pub mod KeepLaws
+pub mod OriginalLaws
 pub mod PieceAnswers
 pub mod PieceFronts
 pub mod PieceLaws
 pub mod Places
+pub mod RereadLaws
 pub mod RoomLaws
+pub mod SameGroup
 pub mod SinceLaws
 mod SliceLaws
 pub mod SpotLaws

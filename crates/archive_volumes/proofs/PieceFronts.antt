@@ -1,15 +1,15 @@
 -- What stands before the group in the piece of a capture.
-use Rattle.std.proofs.Common.{◌≡◌, ◌≢◌, ◌⊎◌, ℕ, zero, suc, ◌+◌, ◌-◌, ◌<◌, ◌≤◌, Bool, true, false, IsTrue, List, [], ◌∷◌, ◌++◌, length, take, Some, inl, inr, refl, sym, ap, subst, ◌∙◌, ⊎_elim, arith, length-append}
+use Rattle.std.proofs.Common.{◌≡◌, ◌≢◌, ℕ, zero, suc, ◌+◌, ◌-◌, ◌<◌, ◌≤◌, Bool, true, false, List, [], ◌∷◌, ◌++◌, length, take, Some, inl, inr, refl, sym, ap, ◌∙◌, ⊎_elim, arith, length-append}
 use Rattle.std.specs.Prelude.{nat_eq, not, slice_get}
 use Rattle.std.proofs.lemmas.Bool.{cases_lt, eqb-false, eqb-true, false≢true}
 use Rattle.std.proofs.lemmas.Option.{same_Some, slice_get_within}
-use Rattle.capture.specs.Captures.{captures, captures_in, first_number}
+use Rattle.capture.specs.Captures.{captures_in, first_number}
 use Rattle.capture.specs.declared.book.Book.{Book}
 use Rattle.capture.specs.declared.book.Volume.{Volume}
 use Rattle.warc_text.specs.Records.{info_text}
-use Rattle.archive_shelf.specs.Pieces.{BeginsVolume, IsFirstOf, IsFront}
+use Rattle.archive_shelf.specs.Pieces.{IsFirstOf}
 use Rattle.archive_volumes.specs.KeptGroups.{HasFront}
-use Rattle.archive_volumes.specs.Spots.{AreSpotsOf, IsInVolume, IsSpotOf}
+use Rattle.archive_volumes.specs.Spots.{AreSpotsOf, IsInVolume}
 use Rattle.archive_volumes.specs.declared.spot.Spot.{Spot}
 
 -- the numbers of a volume's captures are below those of each later volume

@@ -1,6 +1,7 @@
 -- What is kept of the captures stays when a book grows, and its texts go on.
 use Rattle.std.proofs.Common.{◌≡◌, ℕ, zero, suc, ◌+◌, ◌-◌, ◌<◌, ◌≤◌, Bool, true, false, if◌then◌else◌, List, [], ◌∷◌, ◌++◌, length, take, Some, refl, sym, ap, subst, ◌∙◌, arith, append_assoc, length-append}
 use Rattle.std.specs.Prelude.{All, drop, slice_get}
+use Rattle.std.proofs.lemmas.Bool.{false≢true}
 use Rattle.std.proofs.lemmas.List.Elements.{All-cons, All-nil}
 use Rattle.std.proofs.Math.Seq.{drop-append-add, take-append_seam}
 use Rattle.std.proofs.lemmas.List.{drop-append-le, length-drop, take-append-le}
@@ -8,11 +9,15 @@ use Rattle.sha1.specs.Sha1.{sha1}
 use Rattle.capture.specs.Captures.{captures, kept_wire, IsPayloadOf}
 use Rattle.capture.specs.Growth.{Grows}
 use Rattle.capture.specs.declared.book.Book.{Book}
+use Rattle.capture.specs.declared.captured.Kept.{Kept}
+use Rattle.capture.specs.declared.captured.Kept.TheVariants as keeps
 use Rattle.capture.specs.declared.captured.Stored.{Stored}
 use Rattle.archive_shelf.proofs.ComparingLaws.{payload_later, placed_later}
+use Rattle.archive_shelf.specs.Comparing.{KeepsWire}
+use Rattle.archive_shelf.specs.Digests.{HasDigestOf}
 use Rattle.archive_volumes.proofs.GroupPlaces.{each_ends, ends_in_text, group_at_later, in_volume_later}
 use Rattle.warc_text.specs.Books.{IsGroupText}
-use Rattle.archive_volumes.specs.Spots.{AreSpotsOf, ArePlaced, AreWithin, HasGroupAt, HasPlace, IsPlaced, IsSpotOf, RefersBack, is_whole, part, spot_of, text_at, whole_from}
+use Rattle.archive_volumes.specs.Spots.{AreHeldWhole, AreSpotsOf, ArePlaced, AreWithin, HasGroupAt, HasPlace, IsFoundById, IsPlaced, IsSpotOf, RefersBack, form_of, is_told_form, may_be_whole, part, spot_of, text_at, whole_from}
 use Rattle.archive_volumes.specs.declared.spot.Form.{Form}
 use Rattle.archive_volumes.specs.declared.spot.Form.TheVariants as forms
 use Rattle.archive_volumes.specs.declared.spot.Spot.{Spot}
@@ -57,6 +62,17 @@ module _ (old new : Book) (added : List Stored) (gains : captures new ≡ captur
     },
   )
   refers_stay number forms.Cut is = is
+  refers_stay number (forms.Told revisit) is = is
+
+  payload_stays : (number : ℕ) (payload : List ℕ) → IsPayloadOf old number payload → IsPayloadOf new number payload
+  payload_stays number payload has = record {
+    stored = has.stored;
+    placed = placed_later old new added gains number has.stored has.placed;
+    by_kept = payload_later old new added gains has.stored has.stored.kept payload has.by_kept;
+  }
+
+  digest_stays : (number : ℕ) (digest : List ℕ) → HasDigestOf old number digest → HasDigestOf new number digest
+  digest_stays number digest is = record { payload = is.payload; has = payload_stays number is.payload is.has; is = is.is }
 
   pub spot_stays : (number : ℕ) (spot : Spot) → IsSpotOf old number spot → IsSpotOf new number spot
   spot_stays number spot is = record {
@@ -66,7 +82,9 @@ module _ (old new : Book) (added : List Stored) (gains : captures new ≡ captur
     uri = is.uri;
     date = is.date;
     form = is.form;
+    revisit = is.revisit;
     digest = is.digest;
+    line = λ told some. digest_stays number spot.digest (is.line told some);
     refers = refers_stay number spot.form is.refers;
     inside = in_volume_later old new number spot.volume grow is.inside;
     in_range = is.in_range;
@@ -74,12 +92,26 @@ module _ (old new : Book) (added : List Stored) (gains : captures new ≡ captur
     ends = is.ends;
   }
 
-  payload_stays : (number : ℕ) (payload : List ℕ) → IsPayloadOf old number payload → IsPayloadOf new number payload
-  payload_stays number payload has = record {
-    stored = has.stored;
-    placed = placed_later old new added gains number has.stored has.placed;
-    by_kept = payload_later old new added gains has.stored has.stored.kept payload has.by_kept;
+  -- who keeps its whole wire goes on to do so
+  wire_stays : (number : ℕ) → KeepsWire old number → KeepsWire new number
+  wire_stays number own = record {
+    stored = own.stored;
+    wire = own.wire;
+    placed = placed_later old new added gains number own.stored own.placed;
+    kept = own.kept;
   }
+
+  pub made_stay : (spots : List Spot) → AreHeldWhole old spots → AreHeldWhole new spots
+  made_stay spots are = record { each = λ number spot at told. wire_stays number (are.each number spot at told) }
+
+  -- with one more, of which no line told
+  pub made_with : (spots : List Spot) (spot : Spot) → AreHeldWhole old spots → is_told_form spot.form ≡ false → AreHeldWhole new (spots ++ spot ∷ [])
+  made_with spots spot are read = record { each = λ number other at told. by number other (stands_in spots spot number other at) told }
+    where
+      by : (number : ℕ) (other : Spot) → Stands spots spot number other → other.form ≡ forms.Told false → KeepsWire new number
+      by number other (before at) told = wire_stays number (are.each number other at told)
+      by number other (behind last same) told =
+          absurd (false≢true (sym read ∙ ap (λ (s : Spot). is_told_form s.form) (sym same) ∙ ap is_told_form told))
 
 -- as many captures, and the same ones
 pub spots_stay : (old new : Book) → captures new ≡ captures old → Grows old new → (spots : List Spot) → AreSpotsOf old spots → AreSpotsOf new spots
@@ -155,10 +187,11 @@ module _ (was now : List (List ℕ)) (on : GoOn was now) (old new : Book) (added
         there = omega (arith, is.there, on.count);
         group = group_at_later old new number spot.at text (on.rest spot.volume) (text_at now spot.volume) grow more is.group;
         within = omega (arith, is.within, ap length more, length-append text (on.rest spot.volume));
-        head = ap (λ (t : List ℕ). part t spot.head_at spot.head_len) more
-            ∙ part_stays text (on.rest spot.volume) spot.head_at spot.head_len (omega (arith, is.within)) ∙ is.head;
-        wire = ap (λ (t : List ℕ). part t (spot.head_at + spot.head_len) spot.wire_len) more
-            ∙ part_stays text (on.rest spot.volume) (spot.head_at + spot.head_len) spot.wire_len (omega (arith, is.within)) ∙ is.wire;
+        head = λ read. ap (λ (t : List ℕ). part t spot.head_at spot.head_len) more
+            ∙ part_stays text (on.rest spot.volume) spot.head_at spot.head_len (omega (arith, is.within)) ∙ is.head read;
+        wire = λ read. ap (λ (t : List ℕ). part t (spot.head_at + spot.head_len) spot.wire_len) more
+            ∙ part_stays text (on.rest spot.volume) (spot.head_at + spot.head_len) spot.wire_len (omega (arith, is.within)) ∙ is.wire read;
+        found = λ told. subst (λ (n : List ℕ). IsFoundById n is.has.stored.kept) (sym grow.namespace) (is.found told);
       }
 
   pub placed_stay : (spots : List Spot) → ArePlaced was old spots → ArePlaced now new spots
@@ -223,6 +256,12 @@ first_part front block rest =
     ap (λ (n : ℕ). part (front ++ (block ++ rest)) n (length block)) (sym (no_more_at (length front)))
     ∙ part_behind front (block ++ rest) 0 (length block) ∙ take-append_seam block rest
 
+-- what is kept of a capture is no line's
+pub form_read : (kept : Kept) → is_told_form (form_of kept) ≡ false
+form_read (keeps.Wire wire) = refl
+form_read (keeps.Same first) = refl
+form_read (keeps.Cut wire) = refl
+
 -- a head and a wire that stand between a front and a rest
 pub placed_at : (texts : List (List ℕ)) (book : Book) (number : ℕ) (payload : List ℕ) (has : IsPayloadOf book number payload) (volume at : ℕ)
     (front rest : List ℕ) → volume < length texts → HasGroupAt book number (text_at texts volume) at
@@ -241,9 +280,10 @@ placed_at texts book number payload has volume at front rest there group compose
       there = there;
       group = group;
       within = omega (arith, ap length composed, length-append front ((head ++ wire) ++ rest), length-append (head ++ wire) rest, length-append head wire);
-      head = ap (λ (t : List ℕ). part t (length front) (length head)) as_head ∙ first_part front head (wire ++ rest);
-      wire = ap (λ (n : ℕ). part text n (length wire)) (sym (length-append front head))
+      head = λ read. ap (λ (t : List ℕ). part t (length front) (length head)) as_head ∙ first_part front head (wire ++ rest);
+      wire = λ read. ap (λ (n : ℕ). part text n (length wire)) (sym (length-append front head))
           ∙ ap (λ (t : List ℕ). part t (length (front ++ head)) (length wire)) as_wire ∙ first_part (front ++ head) wire rest;
+      found = λ told. absurd (false≢true (sym (form_read has.stored.kept) ∙ told));
     }
 
 -- ---- the captures that keep their whole wire
@@ -253,18 +293,18 @@ if_more true x xs ys = refl
 if_more false x xs ys = refl
 
 whole_behind : (from : ℕ) (spots : List Spot) (spot : Spot)
-    → whole_from from (spots ++ spot ∷ []) ≡ whole_from from spots ++ (if is_whole spot.form then (spot.digest, from + length spots) ∷ [] else [])
-whole_behind from [] spot = ap (λ (n : ℕ). if is_whole spot.form then (spot.digest, n) ∷ [] else []) (sym (no_more_at from))
+    → whole_from from (spots ++ spot ∷ []) ≡ whole_from from spots ++ (if may_be_whole spot.form then (spot.digest, from + length spots) ∷ [] else [])
+whole_behind from [] spot = ap (λ (n : ℕ). if may_be_whole spot.form then (spot.digest, n) ∷ [] else []) (sym (no_more_at from))
 whole_behind from (s ∷ ss) spot =
-    let last : List (List ℕ × ℕ) = if is_whole spot.form then (spot.digest, suc from + length ss) ∷ [] else [] in
+    let last : List (List ℕ × ℕ) = if may_be_whole spot.form then (spot.digest, suc from + length ss) ∷ [] else [] in
     let step : suc from + length ss ≡ from + suc (length ss) = omega arith in
-    ap (λ (l : List (List ℕ × ℕ)). if is_whole s.form then (s.digest, from) ∷ l else l) (whole_behind (suc from) ss spot)
-    ∙ if_more (is_whole s.form) (s.digest, from) (whole_from (suc from) ss) last
-    ∙ ap (λ (n : ℕ). whole_from from (s ∷ ss) ++ (if is_whole spot.form then (spot.digest, n) ∷ [] else [])) step
+    ap (λ (l : List (List ℕ × ℕ)). if may_be_whole s.form then (s.digest, from) ∷ l else l) (whole_behind (suc from) ss spot)
+    ∙ if_more (may_be_whole s.form) (s.digest, from) (whole_from (suc from) ss) last
+    ∙ ap (λ (n : ℕ). whole_from from (s ∷ ss) ++ (if may_be_whole spot.form then (spot.digest, n) ∷ [] else [])) step
 
 pub table_with : (spots : List Spot) (spot : Spot)
-    → whole_from 0 (spots ++ spot ∷ []) ≡ whole_from 0 spots ++ (if is_whole spot.form then (spot.digest, length spots) ∷ [] else [])
-table_with spots spot = whole_behind 0 spots spot ∙ ap (λ (n : ℕ). whole_from 0 spots ++ (if is_whole spot.form then (spot.digest, n) ∷ [] else [])) (none (length spots))
+    → whole_from 0 (spots ++ spot ∷ []) ≡ whole_from 0 spots ++ (if may_be_whole spot.form then (spot.digest, length spots) ∷ [] else [])
+table_with spots spot = whole_behind 0 spots spot ∙ ap (λ (n : ℕ). whole_from 0 spots ++ (if may_be_whole spot.form then (spot.digest, n) ∷ [] else [])) (none (length spots))
   where
     none : (n : ℕ) → 0 + n ≡ n
     none n = omega arith
@@ -277,7 +317,7 @@ below_by false from digest bound others less all = all
 whole_below_from : (from : ℕ) (spots : List Spot) (bound : ℕ) → from + length spots ≤ bound → All (λ (entry : List ℕ × ℕ). entry.1 < bound) (whole_from from spots)
 whole_below_from from [] bound le = All-nil (λ (entry : List ℕ × ℕ). entry.1 < bound)
 whole_below_from from (s ∷ ss) bound le =
-    below_by (is_whole s.form) from s.digest bound (whole_from (suc from) ss) (omega (arith, le)) (whole_below_from (suc from) ss bound (omega (arith, le)))
+    below_by (may_be_whole s.form) from s.digest bound (whole_from (suc from) ss) (omega (arith, le)) (whole_below_from (suc from) ss bound (omega (arith, le)))
 
 pub whole_below : (spots : List Spot) → All (λ (entry : List ℕ × ℕ). entry.1 < length spots) (whole_from 0 spots)
 whole_below spots = whole_below_from 0 spots (length spots) (omega arith)

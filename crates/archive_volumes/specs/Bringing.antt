@@ -14,7 +14,7 @@ use Rattle.archive_shelf.specs.declared.fault.StoreFault.{StoreFault}
 use Rattle.archive_shelf.specs.declared.fault.StoreFault.TheVariants as stores
 use Rattle.archive_volumes.specs.Decoding.{IsHead}
 use Rattle.archive_volumes.specs.Held.{book_of}
-use Rattle.archive_volumes.specs.Spots.{IsPlaced, IsSpotOf, is_same_form}
+use Rattle.archive_volumes.specs.Spots.{IsPlaced, IsSpotOf, is_same_form, is_told_form}
 use Rattle.archive_volumes.specs.Volumes.{HoldsBook, IsMeasured, IsQuiet}
 use Rattle.archive_volumes.specs.declared.part.ReadFault.{ReadFault}
 use Rattle.archive_volumes.specs.declared.part.ReadFault.TheVariants as reads
@@ -50,11 +50,12 @@ store_fault_of reads.Memory = stores.Memory
 
 -- ---- a capture that keeps its wire
 
--- the capture keeps its wire, whole or cut, and stands where it says
+-- the capture keeps its wire, whole or cut, and stands where it says: not a line alone told of it
 pub record IsKept (texts : List (List ℕ)) (book : Book) (number : ℕ) (spot : Spot) : Type 0 where
   pub is : IsSpotOf book number spot
   pub placed : IsPlaced texts book number spot
   pub own : is_same_form spot.form ≡ false
+  pub read : is_told_form spot.form ≡ false
 
 -- the payload where its digest is the one that is kept
 abbrev pub checked_by : List ℕ → List ℕ → Option (List ℕ) → ReadBack

@@ -4,11 +4,11 @@ use Rattle.sha1.specs.Sha1.{sha1}
 use Rattle.capture.specs.Captures.{captures, IsPayloadOf}
 use Rattle.capture.specs.declared.book.Book.{Book}
 use Rattle.archive_shelf.specs.Answers.{IsDamaged}
-use Rattle.archive_shelf.specs.Comparing.{IsRight}
+use Rattle.archive_shelf.specs.Comparing.{HasWhole, IsRight, KeepsWire}
 use Rattle.archive_shelf.specs.declared.fault.StoreFault.{StoreFault}
 use Rattle.archive_shelf.specs.declared.fault.StoreFault.TheVariants as stores
 use Rattle.archive_shelf.specs.declared.looked.Looked.{Looked}
-use Rattle.archive_volumes.specs.Spots.{is_whole}
+use Rattle.archive_volumes.specs.Spots.{may_be_whole}
 use Rattle.archive_volumes.specs.declared.compare.Compared.{Compared}
 use Rattle.archive_volumes.specs.declared.compare.Compared.TheVariants as compares
 use Rattle.archive_volumes.specs.declared.spot.Spot.{Spot}
@@ -52,35 +52,36 @@ ComparesWith book number payload (compares.Damaged found) = ⊥
 
 -- ---- candidates
 
--- the capture with this number keeps its whole wire
-pub record IsWholeAt (spots : List Spot) (number : ℕ) : Type 0 where
+-- the capture with this number keeps its whole wire, or may do so
+pub record MayBeWholeAt (spots : List Spot) (number : ℕ) : Type 0 where
   pub spot : Spot
   pub placed : slice_get spots number ≡ Some spot
-  pub whole : is_whole spot.form ≡ true
+  pub whole : may_be_whole spot.form ≡ true
 
 -- each candidate does
-abbrev pub AreWhole : List Spot → List ℕ → Type 0
-AreWhole spots candidates = (k : ℕ) → k < length candidates → IsWholeAt spots (get_or candidates k 0)
+abbrev pub MayBeWhole : List Spot → List ℕ → Type 0
+MayBeWhole spots candidates = (k : ℕ) → k < length candidates → MayBeWholeAt spots (get_or candidates k 0)
 
--- what asking one of them for the payload answers
+-- What asking one of them for the payload answers. Where there is the payload, the capture wasn't cut.
 abbrev pub Asks : Bool → Book → ℕ → List ℕ → Result Bool StoreFault → Type 0
-Asks tells book number payload (Ok true) = IsTrue tells → IsPayloadOf book number payload
-Asks tells book number payload (Ok false) = IsTrue tells → ¬ (IsPayloadOf book number payload)
+Asks tells book number payload (Ok true) = KeepsWire book number × (IsTrue tells → HasWhole book number payload)
+Asks tells book number payload (Ok false) = IsTrue tells → ¬ (HasWhole book number payload)
 Asks tells book number payload (Err (stores.Full count limit)) = ⊥
 Asks tells book number payload (Err stores.DiskFault) = ⊤
 Asks tells book number payload (Err (stores.Damaged at kept found)) = (at ≡ number) × IsDamaged tells kept found
 Asks tells book number payload (Err stores.Memory) = ⊤
 
--- none of so many candidates has the payload
+-- none of so many candidates has the payload, and wasn't cut
 abbrev pub NoneHas : Book → List ℕ → ℕ → List ℕ → Type 0
-NoneHas book candidates many payload = (k : ℕ) → k < many → ¬ (IsPayloadOf book (get_or candidates k 0) payload)
+NoneHas book candidates many payload = (k : ℕ) → k < many → ¬ (HasWhole book (get_or candidates k 0) payload)
 
--- it is a candidate; where the disk tells it has the payload, and none before it has
+-- it is a candidate that keeps its whole wire; where the disk tells it has the payload, and none before it has
 pub record IsFirstOf (tells : Bool) (book : Book) (candidates payload : List ℕ) (number : ℕ) : Type 0 where
   pub place : ℕ
   pub within : place < length candidates
   pub is : number ≡ get_or candidates place 0
-  pub has : IsTrue tells → IsPayloadOf book number payload
+  pub keeps : KeepsWire book number
+  pub has : IsTrue tells → HasWhole book number payload
   pub before : IsTrue tells → NoneHas book candidates place payload
 
 -- a candidate is damaged

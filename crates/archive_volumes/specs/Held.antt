@@ -1,5 +1,5 @@
 -- The book that is held without its bytes.
-use Rattle.std.specs.Prelude.{ℕ, ◌<◌, List, ◌++◌, map, option_to_list, vec_len, IsSome, IfSome, Bool, false, not, nat_eq, [], ◌∷◌, length}
+use Rattle.std.specs.Prelude.{ℕ, ◌<◌, List, ◌++◌, map, option_to_list, vec_len, IsSome, IfSome, Bool, false, not, nat_eq, [], ◌∷◌, length, if◌then◌else◌}
 use Rattle.std.specs.Vec.{vec_capacity}
 use Rattle.capture.specs.declared.book.Book.{Book}
 use Rattle.capture.specs.declared.book.Volume.{Volume}
@@ -12,11 +12,12 @@ use Rattle.archive_volumes.specs.declared.spot.Form.{Form}
 use Rattle.archive_volumes.specs.declared.spot.Form.TheVariants as forms
 use Rattle.archive_volumes.specs.declared.stored_ghost.StoredGhost.{StoredGhost}
 
--- what is kept of a capture, by its form and its wire
+-- What is kept of a capture, by its form and its wire. Of one that a line told of, in a book that isn't known: some number, or the wire.
 abbrev pub kept_in : Form → List ℕ → Kept
 kept_in forms.Whole wire = Wire wire
 kept_in (forms.Same first) wire = Same first
 kept_in forms.Cut wire = Cut wire
+kept_in (forms.Told revisit) wire = if revisit then Same 0 else Wire wire
 
 -- the capture
 abbrev pub stored_in : StoredGhost → Stored

@@ -77,3 +77,15 @@ GivesPieceFrom tells book number (Err (brings.NoSuch count)) = ⊥
 GivesPieceFrom tells book number (Err brings.DiskFault) = ⊤
 GivesPieceFrom tells book number (Err (brings.Damaged at kept found)) = (at ≡ number) × IsDamaged tells kept found
 GivesPieceFrom tells book number (Err brings.Memory) = ⊤
+
+-- whatever the disk tells, and whoever told of the capture: the group in its piece tells the digest that is kept, and damage is told with that
+pub record TellsDigest (book : Book) (number : ℕ) (digest bytes : List ℕ) : Type 0 where
+  pub piece : IsSomePiece book number bytes
+  pub is : piece.digest ≡ digest
+
+abbrev pub PieceGoesByKept : Book → ℕ → List ℕ → Result (List ℕ) BringFault → Type 0
+PieceGoesByKept book number digest (Ok bytes) = TellsDigest book number digest bytes
+PieceGoesByKept book number digest (Err (brings.NoSuch count)) = ⊤
+PieceGoesByKept book number digest (Err brings.DiskFault) = ⊤
+PieceGoesByKept book number digest (Err (brings.Damaged at kept found)) = kept ≡ digest
+PieceGoesByKept book number digest (Err brings.Memory) = ⊤

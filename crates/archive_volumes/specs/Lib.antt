@@ -8,6 +8,7 @@ pub mod Grouping
 pub mod Held
 pub mod KeptGroups
 pub mod Ready
+pub mod Rereading
 pub mod Spots
 pub mod Volumes
 pub mod Writing

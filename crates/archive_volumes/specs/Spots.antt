@@ -1,5 +1,5 @@
 -- What is kept of the captures in memory, and where they stand in the volumes.
-use Rattle.std.specs.Prelude.{◌≡◌, ℕ, suc, ◌+◌, ◌^◌, ◌<◌, ◌≤◌, Bool, true, false, List, [], ◌∷◌, ◌++◌, length, take, drop, slice_get, slice_index_or, Some, if◌then◌else◌, ⊤}
+use Rattle.std.specs.Prelude.{◌≡◌, ◌≢◌, ℕ, suc, ◌+◌, ◌^◌, ◌<◌, ◌≤◌, Bool, true, false, List, [], ◌∷◌, ◌++◌, length, take, drop, slice_get, slice_index_or, Some, if◌then◌else◌, not, ⊤}
 use Rattle.sha1.specs.Sha1.{sha1}
 use Rattle.capture.specs.Captures.{captures, first_number, kept_wire, HasPayload, IsPayloadOf}
 use Rattle.capture.specs.declared.book.Book.{Book}
@@ -10,7 +10,10 @@ use Rattle.capture.specs.declared.captured.Stored.{Stored}
 use Rattle.revisit_table.specs.Table.{Table}
 use Rattle.time_text.specs.Texts.{InRange}
 use Rattle.warc_text.specs.Books.{IsGroupText}
+use Rattle.warc_text.specs.Ids.{id_of}
+use Rattle.warc_text.specs.declared.id.IdKind.TheVariants.{Response}
 use Rattle.archive_shelf.specs.Comparing.{KeepsWire}
+use Rattle.archive_shelf.specs.Digests.{HasDigestOf}
 use Rattle.archive_volumes.specs.declared.spot.Form.{Form}
 use Rattle.archive_volumes.specs.declared.spot.Form.TheVariants as forms
 use Rattle.archive_volumes.specs.declared.spot.Spot.{Spot}
@@ -28,12 +31,21 @@ abbrev pub is_cut_form : Form → Bool
 is_cut_form forms.Whole = false
 is_cut_form (forms.Same first) = false
 is_cut_form forms.Cut = true
+is_cut_form (forms.Told revisit) = false
 
 -- another capture keeps the wire
 abbrev pub is_same_form : Form → Bool
 is_same_form forms.Whole = false
 is_same_form (forms.Same first) = true
 is_same_form forms.Cut = false
+is_same_form (forms.Told revisit) = revisit
+
+-- a line alone told of it: its records weren't read
+abbrev pub is_told_form : Form → Bool
+is_told_form forms.Whole = false
+is_told_form (forms.Same first) = false
+is_told_form forms.Cut = false
+is_told_form (forms.Told revisit) = true
 
 -- what is kept of a capture, by the digest of its payload and the places of its group and of its head
 abbrev pub spot_of : Stored → List ℕ → ℕ → ℕ → ℕ → Spot
@@ -55,6 +67,7 @@ abbrev pub RefersBack : Book → ℕ → Form → Type 0
 RefersBack book number forms.Whole = ⊤
 RefersBack book number (forms.Same first) = (first < number) × KeepsWire book first
 RefersBack book number forms.Cut = ⊤
+RefersBack book number (forms.Told revisit) = ⊤
 
 -- where the capture keeps its wire, this is the digest of its payload
 abbrev pub HasOwnDigest : Stored → Kept → List ℕ → Type 0
@@ -71,15 +84,18 @@ pub record IsInVolume (book : Book) (number volume : ℕ) : Type 0 where
   pub from : first_number book volume ≤ number
   pub below : number < first_number book volume + length of.captures
 
--- whatever the disk tells: this is kept of the book's capture with this number
+-- Whatever the disk tells: this is kept of the book's capture with this number. Of one that a line alone told of, whether it is a revisit; the
+-- digest that the line told is that of its payload, unless the book was made up for the line, which has no request then.
 pub record IsSpotOf (book : Book) (number : ℕ) (spot : Spot) : Type 0 where
   pub stored : Stored
   pub placed : slice_get (captures book) number ≡ Some stored
   pub method : spot.method ≡ stored.method
   pub uri : spot.uri ≡ stored.uri
   pub date : spot.date ≡ stored.date
-  pub form : spot.form ≡ form_of stored.kept
-  pub digest : HasOwnDigest stored stored.kept spot.digest
+  pub form : is_told_form spot.form ≡ false → spot.form ≡ form_of stored.kept
+  pub revisit : is_same_form spot.form ≡ is_same_form (form_of stored.kept)
+  pub digest : is_told_form spot.form ≡ false → HasOwnDigest stored stored.kept spot.digest
+  pub line : is_told_form spot.form ≡ true → stored.request ≢ [] → HasDigestOf book number spot.digest
   pub refers : RefersBack book number spot.form
   pub inside : IsInVolume book number spot.volume
   pub in_range : InRange spot.date
@@ -103,7 +119,14 @@ pub record HasGroupAt (book : Book) (number : ℕ) (text : List ℕ) (at : ℕ) 
   pub composed : text ≡ front ++ (group ++ rest)
   pub behind : at ≡ length front
 
--- Where the book is told: the group, the head and the wire of the capture stand there, and this is the digest of its payload.
+-- what a revisit refers to is found by the id of its record: no earlier capture has that
+abbrev pub IsFoundById : List ℕ → Kept → Type 0
+IsFoundById namespace (keeps.Wire wire) = ⊤
+IsFoundById namespace (keeps.Same first) = (other : ℕ) → other < first → id_of namespace Response other ≢ id_of namespace Response first
+IsFoundById namespace (keeps.Cut wire) = ⊤
+
+-- Where the book is told: the group of the capture stands there, and this is the digest of its payload. Its head and its wire stand there, unless
+-- a line alone told of it: then what it refers to can be found.
 pub record IsPlaced (texts : List (List ℕ)) (book : Book) (number : ℕ) (spot : Spot) : Type 0 where
   pub payload : List ℕ
   pub has : IsPayloadOf book number payload
@@ -111,8 +134,10 @@ pub record IsPlaced (texts : List (List ℕ)) (book : Book) (number : ℕ) (spot
   pub there : spot.volume < length texts
   pub group : HasGroupAt book number (text_at texts spot.volume) spot.at
   pub within : spot.head_at + spot.head_len + spot.wire_len ≤ length (text_at texts spot.volume)
-  pub head : part (text_at texts spot.volume) spot.head_at spot.head_len ≡ has.stored.head
-  pub wire : part (text_at texts spot.volume) (spot.head_at + spot.head_len) spot.wire_len ≡ kept_wire has.stored.kept
+  pub head : is_told_form spot.form ≡ false → part (text_at texts spot.volume) spot.head_at spot.head_len ≡ has.stored.head
+  pub wire : is_told_form spot.form ≡ false
+      → part (text_at texts spot.volume) (spot.head_at + spot.head_len) spot.wire_len ≡ kept_wire has.stored.kept
+  pub found : is_told_form spot.form ≡ true → IsFoundById book.namespace has.stored.kept
 
 -- where the disk tells: the group begins within the text of its volume, and head and wire are within it
 pub record HasPlace (texts : List (List ℕ)) (spot : Spot) : Type 0 where
@@ -144,19 +169,25 @@ pub record ArePlaced (texts : List (List ℕ)) (book : Book) (spots : List Spot)
   pub apart : (number : ℕ) (spot next : Spot) (group : List ℕ) → slice_get spots number ≡ Some spot → slice_get spots (suc number) ≡ Some next
       → next.volume ≡ spot.volume → IsGroupText book number group → spot.at + length group ≤ next.at
 
+-- where the book isn't told: a capture that a line alone told of, which isn't a revisit, counts as one that keeps its whole wire
+pub record AreHeldWhole (book : Book) (spots : List Spot) : Type 0 where
+  pub each : (number : ℕ) (spot : Spot) → slice_get spots number ≡ Some spot → spot.form ≡ forms.Told false → KeepsWire book number
+
 -- ---- the table of digests
 
-abbrev pub is_whole : Form → Bool
-is_whole forms.Whole = true
-is_whole (forms.Same first) = false
-is_whole forms.Cut = false
+-- the capture keeps its whole wire, or may do so, as far as is known
+abbrev pub may_be_whole : Form → Bool
+may_be_whole forms.Whole = true
+may_be_whole (forms.Same first) = false
+may_be_whole forms.Cut = false
+may_be_whole (forms.Told revisit) = not revisit
 
--- the captures from a number on that keep their whole wire, each with the digest of its payload
+-- the captures from a number on that keep their whole wire or may do so, each with the digest that is kept
 abbrev pub whole_from : ℕ → List Spot → List (List ℕ × ℕ)
 whole_from from [] = []
 whole_from from (spot ∷ spots) =
-    if is_whole spot.form then (spot.digest, from) ∷ whole_from (suc from) spots else whole_from (suc from) spots
+    if may_be_whole spot.form then (spot.digest, from) ∷ whole_from (suc from) spots else whole_from (suc from) spots
 
--- the table's captures are those that keep their whole wire
+-- the table's captures are those
 abbrev pub IsTableOf : List Spot → Table → Type 0
 IsTableOf spots table = table.kept ≡ whole_from 0 spots

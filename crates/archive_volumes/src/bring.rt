@@ -1,21 +1,28 @@
 //! A capture by its number, with its payload.
-ghost use Rattle.std.specs.Prelude.{◌≡◌, ◌<◌, false, IsTrue, IfOk, length};
+ghost use Rattle.std.specs.Prelude.{◌≡◌, ◌<◌, false, true, IsTrue, IfOk, Err, None, Some, length, slice_get};
+ghost use Rattle.std.specs.List.Sorted.{IsStrictlyIncreasing};
+ghost use Rattle.revisit_table.specs.Table.{numbers_of};
 ghost use Rattle.warc_journal.specs.Journals.{disk_of, texts};
 ghost use Rattle.archive_shelf.specs.Answers.{CountsIf, NamesKeeper, is_bring_fault};
 ghost use Rattle.archive_shelf.specs.Digests.{GoesByDigest};
+ghost use Rattle.archive_shelf.specs.declared.fault.BringFault.TheVariants.{Damaged as DamagedAt};
 ghost use Rattle.archive_volumes.specs.Bringing.{BringsFrom, OnlyReads, brought_of};
-ghost use Rattle.archive_volumes.specs.Digests.{GoesByKeeper, GoesByOwn};
+ghost use Rattle.archive_volumes.specs.Digests.{GoesByKeeper, GoesByKept, GoesByLine, GoesByOwn};
 ghost use Rattle.archive_volumes.specs.Held.{book_of};
-ghost use Rattle.archive_volumes.specs.Spots.{AreSpotsOf, ArePlaced, AreWithin, HasPlace, IsPlaced, IsSpotOf, is_same_form};
-ghost use Rattle.archive_volumes.specs.Volumes.{HoldsBook};
+ghost use Rattle.archive_volumes.specs.Spots.{AreSpotsOf, ArePlaced, AreWithin, is_same_form, whole_from};
+ghost use Rattle.archive_volumes.specs.Volumes.{HoldsBook, IsMeasured};
+ghost use Rattle.archive_volumes.specs.declared.spot.Form.TheVariants as forms;
+ghost use Rattle.archive_volumes.specs.declared.spot.Spot.{Spot as SpotValue};
 
 use crate::decode::is_response_head;
 use crate::payload::ReadBack;
+use crate::reread::Reread;
 use crate::spot::{Form, Spot};
 use crate::volumes::Volumes;
 use archive_shelf::BringFault;
-use capture::{Brought, Bytes, Memory};
+use capture::{Brought, Bytes, Digest, Memory};
 use disk_model::Disk;
+use revisit_table::Digests;
 use shown::Shown;
 use std::alloc::Global;
 
@@ -34,27 +41,40 @@ impl Spot {
     }
 }
 
+/// The answer where the records of a revisit aren't what a line told of it, or where what it refers to isn't there.
+fn not_as_told(number: u32, kept: Digest) -> Result<Brought, BringFault>
+    ensures { result ≡ Err (DamagedAt number kept None) }
+{
+    Err(BringFault::Damaged {
+        number,
+        kept,
+        found: None,
+    })
+}
+
 impl<D: Disk> Volumes<D> {
     /// Brings a capture that keeps its wire.
     fn bring_own(
         &mut self,
         told: &Shown<bool>,
         alloc: Global,
+        spots: &[Spot],
         number: u32,
-        spot: &Spot,
     ) -> Result<Brought, BringFault>
         requires holds { HoldsBook D.Disk told.now.value self.old.journal (book_of self.old.held) }
-        requires spot { IsSpotOf (book_of self.old.held) number spot.now }
-        requires place { IsTrue D.tells → HasPlace (texts D.Disk self.old.journal) spot.now }
-        requires placed { IsTrue told.now.value → IsPlaced (texts D.Disk self.old.journal) (book_of self.old.held) number spot.now }
-        requires own { is_same_form spot.now.form ≡ false }
+        requires measured { IsMeasured self.old.journal (book_of self.old.held) }
+        requires below { number < length spots.now }
+        requires spots { AreSpotsOf (book_of self.old.held) spots.now }
+        requires within { IsTrue D.tells → AreWithin (texts D.Disk self.old.journal) spots.now }
+        requires placed { IsTrue told.now.value → ArePlaced (texts D.Disk self.old.journal) (book_of self.old.held) spots.now }
+        requires own { (spot : SpotValue) → slice_get spots.now number ≡ Some spot → is_same_form spot.form ≡ false }
         ensures brings { BringsFrom told.now.value (book_of self.old.held) number result }
-        ensures digest { GoesByOwn number spot.now.digest result }
+        ensures digest { (spot : SpotValue) → slice_get spots.now number ≡ Some spot → GoesByOwn number spot.digest result }
         ensures reads { OnlyReads D.Disk self.old self.new }
         ensures faults { CountsIf (is_bring_fault result) (D.faults (disk_of self.old.journal)) (D.faults (disk_of self.new.journal)) }
     {
-        let _ = told;
-        let read = self.read_back(alloc, spot)?;
+        let spot = &spots[number as usize];
+        let read = self.read_own(told, alloc, spots, number)?;
         match read {
             ReadBack::Right { head, payload } => Ok(spot.brought(head, payload)?),
             ReadBack::Damaged(found) => Err(BringFault::Damaged {
@@ -71,25 +91,24 @@ impl<D: Disk> Volumes<D> {
         &mut self,
         told: &Shown<bool>,
         alloc: Global,
+        spots: &[Spot],
         number: u32,
-        spot: &Spot,
         first: u32,
-        keeper: &Spot,
     ) -> Result<Brought, BringFault>
         requires holds { HoldsBook D.Disk told.now.value self.old.journal (book_of self.old.held) }
-        requires spot { IsSpotOf (book_of self.old.held) number spot.now }
-        requires place { IsTrue D.tells → HasPlace (texts D.Disk self.old.journal) spot.now }
-        requires placed { IsTrue told.now.value → IsPlaced (texts D.Disk self.old.journal) (book_of self.old.held) number spot.now }
-        requires form { spot.now.form ≡ Form.Same first }
-        requires keeper { IsSpotOf (book_of self.old.held) first keeper.now }
-        requires keeper_place { IsTrue D.tells → HasPlace (texts D.Disk self.old.journal) keeper.now }
-        requires kept { IsTrue told.now.value → IsPlaced (texts D.Disk self.old.journal) (book_of self.old.held) first keeper.now }
+        requires measured { IsMeasured self.old.journal (book_of self.old.held) }
+        requires below { number < length spots.now }
+        requires spots { AreSpotsOf (book_of self.old.held) spots.now }
+        requires within { IsTrue D.tells → AreWithin (texts D.Disk self.old.journal) spots.now }
+        requires placed { IsTrue told.now.value → ArePlaced (texts D.Disk self.old.journal) (book_of self.old.held) spots.now }
+        requires form { (spot : SpotValue) → slice_get spots.now number ≡ Some spot → spot.form ≡ forms.Same first }
         ensures brings { BringsFrom told.now.value (book_of self.old.held) number result }
-        ensures digest { GoesByKeeper number first keeper.now.digest result }
+        ensures digest { (keeper : SpotValue) → slice_get spots.now first ≡ Some keeper → GoesByKeeper number first keeper.digest result }
         ensures reads { OnlyReads D.Disk self.old self.new }
         ensures faults { CountsIf (is_bring_fault result) (D.faults (disk_of self.old.journal)) (D.faults (disk_of self.new.journal)) }
     {
-        let _ = told;
+        let spot = &spots[number as usize];
+        let keeper = &spots[first as usize];
         let head = self.read_part(alloc, spot.head_place())?;
         if !is_response_head(alloc, head.as_slice())? {
             return Err(BringFault::Damaged {
@@ -98,7 +117,7 @@ impl<D: Disk> Volumes<D> {
                 found: None,
             });
         }
-        let read = self.read_back(alloc, keeper)?;
+        let read = self.read_own(told, alloc, spots, first)?;
         match read {
             ReadBack::Right { head: _, payload } => Ok(spot.brought(Bytes::of(head), payload)?),
             ReadBack::Damaged(found) => Err(BringFault::Damaged {
@@ -109,32 +128,84 @@ impl<D: Disk> Volumes<D> {
         }
     }
 
-    /// Brings the capture with this number, of those whose spots these are.
+    /// Brings a revisit of which a line alone told. Which capture it refers to is found by its record, among those that have its digest and
+    /// may keep their whole wire. Damage is told under its own number.
+    fn bring_told(
+        &mut self,
+        told: &Shown<bool>,
+        alloc: Global,
+        spots: &[Spot],
+        candidates: &[u32],
+        number: u32,
+    ) -> Result<Brought, BringFault>
+        requires holds { HoldsBook D.Disk told.now.value self.old.journal (book_of self.old.held) }
+        requires measured { IsMeasured self.old.journal (book_of self.old.held) }
+        requires below { number < length spots.now }
+        requires spots { AreSpotsOf (book_of self.old.held) spots.now }
+        requires within { IsTrue D.tells → AreWithin (texts D.Disk self.old.journal) spots.now }
+        requires placed { IsTrue told.now.value → ArePlaced (texts D.Disk self.old.journal) (book_of self.old.held) spots.now }
+        requires form { (spot : SpotValue) → slice_get spots.now number ≡ Some spot → spot.form ≡ forms.Told true }
+        requires candidates { (spot : SpotValue) → slice_get spots.now number ≡ Some spot
+            → candidates.now ≡ numbers_of spot.digest (whole_from 0 spots.now) }
+        requires rising { IsStrictlyIncreasing candidates.now }
+        ensures brings { BringsFrom told.now.value (book_of self.old.held) number result }
+        ensures digest { (spot : SpotValue) → slice_get spots.now number ≡ Some spot → GoesByLine number spot.digest result }
+        ensures reads { OnlyReads D.Disk self.old self.new }
+        ensures faults { CountsIf (is_bring_fault result) (D.faults (disk_of self.old.journal)) (D.faults (disk_of self.new.journal)) }
+    {
+        let spot = &spots[number as usize];
+        let read = self.reread(told, alloc, spots, number)?;
+        match read {
+            Reread::Own {
+                head: _,
+                payload: _,
+                cut: _,
+            } => not_as_told(number, spot.digest),
+            Reread::Same { head, same } => {
+                match self.original_payload(told, alloc, spots, candidates, &same)? {
+                    Some(payload) => Ok(spot.brought(head, payload)?),
+                    None => not_as_told(number, spot.digest),
+                }
+            }
+            Reread::Damaged(_) => not_as_told(number, spot.digest),
+        }
+    }
+
+    /// Brings the capture with this number, of those whose spots these are, and whose table this is.
     pub fn bring(
         &mut self,
         told: &Shown<bool>,
         alloc: Global,
         spots: &[Spot],
+        table: &Digests,
         number: u32,
     ) -> Result<Brought, BringFault>
         requires holds { HoldsBook D.Disk told.now.value self.old.journal (book_of self.old.held) }
+        requires measured { IsMeasured self.old.journal (book_of self.old.held) }
         requires below { number < length spots.now }
         requires spots { AreSpotsOf (book_of self.old.held) spots.now }
         requires within { IsTrue D.tells → AreWithin (texts D.Disk self.old.journal) spots.now }
         requires placed { IsTrue told.now.value → ArePlaced (texts D.Disk self.old.journal) (book_of self.old.held) spots.now }
+        requires table { table.now.kept ≡ whole_from 0 spots.now }
         ensures brings { BringsFrom told.now.value (book_of self.old.held) number result }
         ensures names { NamesKeeper (book_of self.old.held) number result }
+        ensures kept { GoesByKept spots.now number result }
         ensures digests { GoesByDigest (book_of self.old.held) number result }
         ensures reads { OnlyReads D.Disk self.old self.new }
         ensures faults { CountsIf (is_bring_fault result) (D.faults (disk_of self.old.journal)) (D.faults (disk_of self.new.journal)) }
     {
         let spot = &spots[number as usize];
         match spot.form {
-            Form::Whole => self.bring_own(told, alloc, number, spot),
-            Form::Same(first) => {
-                self.bring_same(told, alloc, number, spot, first, &spots[first as usize])
+            Form::Whole => self.bring_own(told, alloc, spots, number),
+            Form::Same(first) => self.bring_same(told, alloc, spots, number, first),
+            Form::Cut => self.bring_own(told, alloc, spots, number),
+            Form::Told { revisit } => {
+                if revisit {
+                    let candidates = table.candidates(&spot.digest);
+                    return self.bring_told(told, alloc, spots, candidates, number);
+                }
+                self.bring_own(told, alloc, spots, number)
             }
-            Form::Cut => self.bring_own(told, alloc, number, spot),
         }
     }
 }

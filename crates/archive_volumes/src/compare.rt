@@ -1,5 +1,5 @@
 //! Which capture has a payload. Candidates are those with its digest; their payloads are compared as the disk has them.
-ghost use Rattle.std.specs.Prelude.{◌≡◌, ◌↔◌, ℕ, List, [], ◌+◌, ◌^◌, ◌<◌, Option, false, nat_le, filter, IsTrue, IfOk, Some, length};
+ghost use Rattle.std.specs.Prelude.{◌≡◌, ◌↔◌, ℕ, List, [], ◌+◌, ◌^◌, ◌<◌, Option, false, nat_le, filter, IsFalse, IsTrue, IfOk, Some, length, slice_get};
 ghost use Rattle.std.specs.List.Sorted.{IsStrictlyIncreasing};
 ghost use Rattle.sha1.specs.Sha1.{sha1};
 ghost use Rattle.capture.specs.Body.{IsWire};
@@ -9,14 +9,17 @@ ghost use Rattle.warc_journal.specs.Journals.{IsInStep, disk_of, texts};
 ghost use Rattle.archive_shelf.specs.Answers.{CountsIf};
 ghost use Rattle.archive_shelf.specs.Comparing.{IsRight};
 ghost use Rattle.archive_volumes.specs.Bringing.{IsKept, OnlyReads, is_read_fault};
-ghost use Rattle.archive_volumes.specs.Choosing.{AreWhole, Asks, Chooses, Compares, ComparesWith, IsComparison, IsWholeAt, LooksOn, NoneDamagedBelow, is_look_fault};
+ghost use Rattle.archive_volumes.specs.Choosing.{Asks, Chooses, Compares, ComparesWith, IsComparison, LooksOn, MayBeWhole, MayBeWholeAt, NoneDamagedBelow, is_look_fault};
 ghost use Rattle.archive_volumes.specs.Decoding.{HoldsPayload, is_plain as spec_plain};
 ghost use Rattle.archive_volumes.specs.Held.{book_of};
-ghost use Rattle.archive_volumes.specs.Spots.{AreSpotsOf, ArePlaced, AreWithin, HasPlace, is_cut_form, whole_from, wire_in};
-ghost use Rattle.archive_volumes.specs.Volumes.{HoldsBook};
+ghost use Rattle.archive_volumes.specs.Spots.{AreHeldWhole, AreSpotsOf, ArePlaced, AreWithin, HasPlace, is_cut_form, whole_from, wire_in};
+ghost use Rattle.archive_volumes.specs.Volumes.{HoldsBook, IsMeasured};
+ghost use Rattle.archive_volumes.specs.declared.spot.Form.TheVariants as forms;
+ghost use Rattle.archive_volumes.specs.declared.spot.Spot.{Spot as SpotValue};
 
 use crate::decode::{framing_behind, is_plain};
 use crate::part::ReadFault;
+use crate::reread::Reread;
 use crate::spot::Spot;
 use crate::volumes::Volumes;
 use archive_shelf::{Looked, StoreFault};
@@ -207,7 +210,51 @@ impl<D: Disk> Volumes<D> {
         self.compare_read(alloc, spot, kept, framing, wire)
     }
 
-    /// Whether a capture that keeps its whole wire has the payload of a whole one.
+    /// Whether a capture of which a line alone told turns out to keep its whole wire, and has the payload of a whole one. It is read whole.
+    fn has_told_payload(
+        &mut self,
+        told: &Shown<bool>,
+        alloc: Global,
+        spots: &[Spot],
+        number: u32,
+        framing: Framing,
+        wire: &[u8],
+    ) -> Result<bool, StoreFault>
+        requires holds { HoldsBook D.Disk told.now.value self.old.journal (book_of self.old.held) }
+        requires measured { IsMeasured self.old.journal (book_of self.old.held) }
+        requires spots { AreSpotsOf (book_of self.old.held) spots.now }
+        requires within { IsTrue D.tells → AreWithin (texts D.Disk self.old.journal) spots.now }
+        requires placed { IsTrue told.now.value → ArePlaced (texts D.Disk self.old.journal) (book_of self.old.held) spots.now }
+        requires made { IsFalse told.now.value → AreHeldWhole (book_of self.old.held) spots.now }
+        requires whole { MayBeWholeAt spots.now number }
+        requires form { (spot : SpotValue) → slice_get spots.now number ≡ Some spot → spot.form ≡ forms.Told false }
+        ensures asks { (payload : List ℕ) → IsPayload false framing wire.now payload → Asks told.now.value (book_of self.old.held) number payload result }
+        ensures reads { OnlyReads D.Disk self.old self.new }
+        ensures faults { CountsIf (is_look_fault result) (D.faults (disk_of self.old.journal)) (D.faults (disk_of self.new.journal)) }
+    {
+        let kept = spots[number as usize].digest;
+        let read = self.reread(told, alloc, spots, number)?;
+        match read {
+            Reread::Own {
+                head: _,
+                payload,
+                cut: false,
+            } => Ok(has_bytes(framing, wire, payload.as_slice())),
+            Reread::Own {
+                head: _,
+                payload: _,
+                cut: true,
+            } => Ok(false),
+            Reread::Same { head: _, same: _ } => Ok(false),
+            Reread::Damaged(found) => Err(StoreFault::Damaged {
+                number,
+                kept,
+                found,
+            }),
+        }
+    }
+
+    /// Whether a capture that keeps its whole wire, or may do so, does, and has the payload of a whole one.
     fn has_payload(
         &mut self,
         told: &Shown<bool>,
@@ -218,16 +265,20 @@ impl<D: Disk> Volumes<D> {
         wire: &[u8],
     ) -> Result<bool, StoreFault>
         requires holds { HoldsBook D.Disk told.now.value self.old.journal (book_of self.old.held) }
+        requires measured { IsMeasured self.old.journal (book_of self.old.held) }
         requires spots { AreSpotsOf (book_of self.old.held) spots.now }
         requires within { IsTrue D.tells → AreWithin (texts D.Disk self.old.journal) spots.now }
         requires placed { IsTrue told.now.value → ArePlaced (texts D.Disk self.old.journal) (book_of self.old.held) spots.now }
-        requires whole { IsWholeAt spots.now number }
+        requires made { IsFalse told.now.value → AreHeldWhole (book_of self.old.held) spots.now }
+        requires whole { MayBeWholeAt spots.now number }
         ensures asks { (payload : List ℕ) → IsPayload false framing wire.now payload → Asks told.now.value (book_of self.old.held) number payload result }
         ensures reads { OnlyReads D.Disk self.old self.new }
         ensures faults { CountsIf (is_look_fault result) (D.faults (disk_of self.old.journal)) (D.faults (disk_of self.new.journal)) }
     {
-        let _ = told;
         let spot = &spots[number as usize];
+        if spot.form.is_told() {
+            return self.has_told_payload(told, alloc, spots, number, framing, wire);
+        }
         let answer = self.compare_with(alloc, spot, framing, wire)?;
         match answer {
             Compared::Same => Ok(true),
@@ -240,7 +291,8 @@ impl<D: Disk> Volumes<D> {
         }
     }
 
-    /// The first of these captures that has the payload of a whole wire. Each keeps its whole wire.
+    /// The first of these captures that has the payload of a whole wire. Each keeps its whole wire, or may do so: one that doesn't is passed
+    /// over.
     pub(crate) fn choose(
         &mut self,
         told: &Shown<bool>,
@@ -251,10 +303,12 @@ impl<D: Disk> Volumes<D> {
         wire: &[u8],
     ) -> Result<Option<u32>, StoreFault>
         requires holds { HoldsBook D.Disk told.now.value self.old.journal (book_of self.old.held) }
+        requires measured { IsMeasured self.old.journal (book_of self.old.held) }
         requires spots { AreSpotsOf (book_of self.old.held) spots.now }
         requires within { IsTrue D.tells → AreWithin (texts D.Disk self.old.journal) spots.now }
         requires placed { IsTrue told.now.value → ArePlaced (texts D.Disk self.old.journal) (book_of self.old.held) spots.now }
-        requires whole { AreWhole spots.now candidates.now }
+        requires made { IsFalse told.now.value → AreHeldWhole (book_of self.old.held) spots.now }
+        requires whole { MayBeWhole spots.now candidates.now }
         ensures chooses { (payload : List ℕ) → IsPayload false framing wire.now payload
             → Chooses told.now.value (book_of self.old.held) candidates.now payload result }
         ensures reads { OnlyReads D.Disk self.old self.new }
@@ -282,9 +336,11 @@ impl<D: Disk> Volumes<D> {
         looked: Looked,
     ) -> Result<Looked, StoreFault>
         requires holds { HoldsBook D.Disk told.now.value self.old.journal (book_of self.old.held) }
+        requires measured { IsMeasured self.old.journal (book_of self.old.held) }
         requires spots { AreSpotsOf (book_of self.old.held) spots.now }
         requires within { IsTrue D.tells → AreWithin (texts D.Disk self.old.journal) spots.now }
         requires placed { IsTrue told.now.value → ArePlaced (texts D.Disk self.old.journal) (book_of self.old.held) spots.now }
+        requires made { IsFalse told.now.value → AreHeldWhole (book_of self.old.held) spots.now }
         requires few { length spots.now < 2 ^ 32 }
         requires wire { IsWire false framing wire.now }
         requires candidates { (payload : List ℕ) → IsPayload false framing wire.now payload → candidates.now

@@ -7,6 +7,7 @@ ghost use Rattle.archive_shelf.specs.Answers.{CountsIf};
 ghost use Rattle.archive_volumes.specs.Bringing.{OnlyReads, is_read_fault};
 ghost use Rattle.archive_volumes.specs.Held.{book_of};
 ghost use Rattle.archive_volumes.specs.KeptGroups.{EndsGroup, EndsWithin, IsFirstIn, IsKeptGroup, IsNextAt, IsSomeGroup};
+ghost use Rattle.archive_volumes.specs.Rereading.{BeginWithText};
 ghost use Rattle.archive_volumes.specs.Spots.{AreSpotsOf, ArePlaced, AreWithin, text_at};
 ghost use Rattle.archive_volumes.specs.Volumes.{HoldsBook, IsMeasured};
 ghost use Rattle.archive_volumes.specs.declared.spot.Spot.{Spot};
@@ -142,6 +143,35 @@ impl<D: Disk> Volumes<D> {
         }
     }
 
+    /// The bytes from the place of the group of the capture with this number to where it may end, of those whose spots these are. No byte
+    /// of another group is read.
+    pub(crate) fn read_text(
+        &mut self,
+        told: &Shown<bool>,
+        alloc: Global,
+        spots: &[Spot],
+        number: u32,
+    ) -> Result<Vec<u8>, ReadFault>
+        requires holds { HoldsBook D.Disk told.now.value self.old.journal (book_of self.old.held) }
+        requires measured { IsMeasured self.old.journal (book_of self.old.held) }
+        requires below { number < length spots.now }
+        requires spots { AreSpotsOf (book_of self.old.held) spots.now }
+        requires within { IsTrue D.tells → AreWithin (texts D.Disk self.old.journal) spots.now }
+        requires placed { IsTrue told.now.value → ArePlaced (texts D.Disk self.old.journal) (book_of self.old.held) spots.now }
+        ensures begins { IsTrue told.now.value → IfOk result (λ bytes. BeginWithText (book_of self.old.held) number bytes.items) }
+        ensures reads { OnlyReads D.Disk self.old self.new }
+        ensures faults { CountsIf (is_read_fault result) (D.faults (disk_of self.old.journal)) (D.faults (disk_of self.new.journal)) }
+    {
+        let spot = &spots[number as usize];
+        let end = self.group_end(told, spots, number)?;
+        let place = Place {
+            volume: spot.volume,
+            at: spot.at,
+            len: end.saturating_sub(spot.at),
+        };
+        self.read_part(alloc, place)
+    }
+
     /// The group of the capture with this number, of those whose spots these are. It is read by its place, and no byte of
     /// another one is.
     pub fn read_group(
@@ -162,14 +192,7 @@ impl<D: Disk> Volumes<D> {
         ensures reads { OnlyReads D.Disk self.old self.new }
         ensures faults { CountsIf (is_read_fault result) (D.faults (disk_of self.old.journal)) (D.faults (disk_of self.new.journal)) }
     {
-        let spot = &spots[number as usize];
-        let end = self.group_end(told, spots, number)?;
-        let place = Place {
-            volume: spot.volume,
-            at: spot.at,
-            len: end.saturating_sub(spot.at),
-        };
-        let bytes = self.read_part(alloc, place)?;
+        let bytes = self.read_text(told, alloc, spots, number)?;
         let kept = group_in(alloc, bytes, &self.held.namespace, number)?;
         Ok(kept)
     }

@@ -6,7 +6,7 @@ ghost use Rattle.archive_shelf.specs.Digests.{PieceGoesByDigest};
 ghost use Rattle.archive_shelf.specs.Pieces.{IsFirstOf, is_piece_fault};
 ghost use Rattle.archive_volumes.specs.Bringing.{OnlyReads};
 ghost use Rattle.archive_volumes.specs.Held.{book_of};
-ghost use Rattle.archive_volumes.specs.KeptGroups.{GivesPieceFrom, HasFront};
+ghost use Rattle.archive_volumes.specs.KeptGroups.{GivesPieceFrom, HasFront, PieceGoesByKept};
 ghost use Rattle.archive_volumes.specs.Spots.{AreSpotsOf, ArePlaced, AreWithin};
 ghost use Rattle.archive_volumes.specs.Volumes.{HoldsBook, IsMeasured};
 ghost use Rattle.archive_volumes.specs.declared.spot.Spot.{Spot};
@@ -76,6 +76,7 @@ impl<D: Disk> Volumes<D> {
         requires within { IsTrue D.tells → AreWithin (texts D.Disk self.old.journal) spots.now }
         requires placed { IsTrue told.now.value → ArePlaced (texts D.Disk self.old.journal) (book_of self.old.held) spots.now }
         ensures gives { GivesPieceFrom told.now.value (book_of self.old.held) number result }
+        ensures kept { (spot : Spot) → slice_get spots.now number ≡ Some spot → PieceGoesByKept (book_of self.old.held) number spot.digest result }
         ensures digests { PieceGoesByDigest (book_of self.old.held) number result }
         ensures reads { OnlyReads D.Disk self.old self.new }
         ensures faults { CountsIf (is_piece_fault result) (D.faults (disk_of self.old.journal)) (D.faults (disk_of self.new.journal)) }

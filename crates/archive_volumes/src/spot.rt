@@ -2,7 +2,7 @@
 ghost use Rattle.std.specs.Prelude.{◌≡◌, ◌+◌, ◌^◌, ◌<◌, ℕ, List, length, ◌++◌, ◌∷◌, [], All, vec_len, Some, IfOk, OnOk, if◌then◌else◌};
 ghost use Rattle.capture.specs.Captures.{kept_wire};
 ghost use Rattle.archive_shelf.specs.Storing.{as_stored, kept_of};
-ghost use Rattle.archive_volumes.specs.Spots.{form_of, is_cut_form, is_same_form, spot_of, is_whole, whole_from};
+ghost use Rattle.archive_volumes.specs.Spots.{form_of, is_cut_form, is_same_form, is_told_form, may_be_whole, spot_of, whole_from};
 ghost use Rattle.std.specs.Vec.{vec_capacity};
 
 use capture::{Digest, Kept, Memory, Stored, Taken, Text};
@@ -19,10 +19,25 @@ pub enum Form {
     Same(u32),
     /// With as much of its wire as came.
     Cut,
+    /// As its records have it, which weren't read: a line told of it, and whether another capture keeps its payload. Where its head and its
+    /// wire stand isn't known, nor which capture keeps its payload, nor whether its response was cut.
+    Told { revisit: bool },
 }
 
 impl Form {
-    /// Whether only as much of the wire is kept as came.
+    /// Whether a line alone told of the capture.
+    pub fn is_told(self) -> bool
+        ensures { result ≡ is_told_form self }
+    {
+        match self {
+            Form::Whole => false,
+            Form::Same(_) => false,
+            Form::Cut => false,
+            Form::Told { revisit: _ } => true,
+        }
+    }
+
+    /// Whether only as much of the wire is kept as came: not of one that a line alone told of, since nobody knows it.
     pub(crate) fn is_cut(self) -> bool
         ensures { result ≡ is_cut_form self }
     {
@@ -30,6 +45,7 @@ impl Form {
             Form::Whole => false,
             Form::Same(_) => false,
             Form::Cut => true,
+            Form::Told { revisit: _ } => false,
         }
     }
 
@@ -41,6 +57,7 @@ impl Form {
             Form::Whole => false,
             Form::Same(_) => true,
             Form::Cut => false,
+            Form::Told { revisit } => revisit,
         }
     }
 }
@@ -63,7 +80,8 @@ pub struct Spot {
     pub volume: u32,
     /// Where in that volume's text its group begins, in bytes, which is where its first record does.
     pub at: u64,
-    /// Where in that text the response's head begins, in bytes. The wire that is kept stands behind the head.
+    /// Where in that text the response's head begins, in bytes. The wire that is kept stands behind the head. This and the two lengths are
+    /// 0 where a line alone told of the capture.
     pub head_at: u64,
     /// The head's length in bytes.
     pub head_len: u64,
@@ -226,7 +244,7 @@ pub fn reserve_kept(
     table.reserve(alloc, digest)
 }
 
-/// Puts a capture behind the others, in the room that is there, and its digest into the table where it keeps its whole wire.
+/// Puts a capture behind the others, in the room that is there, and its digest into the table where it keeps its whole wire, or may do so.
 /// Takes no memory.
 pub(crate) fn keep(spots: &mut Vec<Spot>, table: &mut Digests, spot: Spot)
     requires room { vec_len spots.old < vec_capacity spots.old }
@@ -240,15 +258,17 @@ pub(crate) fn keep(spots: &mut Vec<Spot>, table: &mut Digests, spot: Spot)
     spots.push_reserved(spot);
 }
 
-/// Adds a capture's digest where it keeps its whole wire.
+/// Adds a capture's digest where it keeps its whole wire, or may do so.
 fn note_whole(table: &mut Digests, form: Form, digest: &Digest, number: u32)
     requires reserved { table.old.reserved ≡ Some digest.now }
     requires above { All (λ entry. entry.1 < number) table.old.kept }
-    ensures { table.new.kept ≡ table.old.kept ++ (if is_whole form then (digest.now, number) ∷ [] else []) }
+    ensures { table.new.kept ≡ table.old.kept ++ (if may_be_whole form then (digest.now, number) ∷ [] else []) }
 {
     match form {
         Form::Whole => table.add(digest, number),
         Form::Same(_) => (),
         Form::Cut => (),
+        Form::Told { revisit: false } => table.add(digest, number),
+        Form::Told { revisit: true } => (),
     }
 }

@@ -15,7 +15,7 @@ ghost use Rattle.archive_volumes.specs.Writing.{HasRoomFor, Writes, end_with, te
 ghost use Rattle.archive_volumes.specs.Volumes.{HoldsBook, IsMeasured, muted};
 ghost use Rattle.std.specs.Vec.{vec_capacity};
 ghost use Rattle.archive_volumes.specs.Ready.{CanCommit};
-ghost use Rattle.archive_volumes.specs.Spots.{AreSpotsOf, ArePlaced, AreWithin, whole_from};
+ghost use Rattle.archive_volumes.specs.Spots.{AreHeldWhole, AreSpotsOf, ArePlaced, AreWithin, whole_from};
 
 use crate::ready::Ready;
 use crate::room::Prepared;
@@ -108,6 +108,7 @@ impl<D: Disk> Volumes<D> {
         ensures spots { AreSpotsOf (book_of self.new.held) spots.new.items }
         ensures within { IsTrue D.tells → AreWithin (texts D.Disk self.new.journal) spots.new.items }
         ensures placed { IsTrue told.now.value → ArePlaced (texts D.Disk self.new.journal) (book_of self.new.held) spots.new.items }
+        ensures made { AreHeldWhole (book_of self.old.held) spots.old.items → AreHeldWhole (book_of self.new.held) spots.new.items }
         ensures table { table.new.kept ≡ whole_from 0 spots.new.items }
         ensures others { IsTrue D.tells
             → cdxj_files (D.reading (disk_of self.new.journal)) ≡ cdxj_files (D.reading (disk_of self.old.journal)) }

@@ -2,7 +2,6 @@ use Rattle.std.proofs.Common.{◌≡◌, List, ℕ, sym, ap, ◌∙◌, subst}
 use Rattle.std.specs.Prelude.{IfOk}
 use Rattle.httparse.proofs.GrammarLemmas.{response_unique}
 use Rattle.httparse.specs.Grammar as grammar
-use Rattle.capture.specs.Message.{IsResponseHeadText}
 use Rattle.archive_volumes.specs.Entries.{EntersAs}
 use Rattle.archive_volumes.specs.Held.{stored_in}
 use Rattle.archive_volumes.specs.Spots.{is_same_form}

@@ -1,4 +1,4 @@
-use Rattle.std.proofs.Common.{rules, ◌≡◌, refl, sym, ap, ◌∙◌, arith}
+use Rattle.std.proofs.Common.{rules, ◌≡◌, sym, ap, ◌∙◌, arith}
 use Rattle.surt_key.specs.Key.{key_of}
 use Rattle.std.specs.Prelude.{Some}
 use Rattle.archive_volumes.proofs.EntryLaws.{told_so}

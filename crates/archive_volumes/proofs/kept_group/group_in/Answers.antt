@@ -1,4 +1,4 @@
-use Rattle.std.proofs.Common.{rules, ◌≡◌, false, ℕ, List, [], sym, subst, ◌∙◌}
+use Rattle.std.proofs.Common.{rules, ◌≡◌, false, ℕ, List, sym, subst, ◌∙◌}
 use Rattle.warc_scan.specs.Outlines.{BeginsWithOutline}
 use Rattle.warc_scan.specs.Answers.{HasNoGroup, IsUnfinished}
 use Rattle.archive_volumes.proofs.KeptGroupLaws.{none_in_damage, none_in_nothing, none_in_tail}

@@ -1,4 +1,4 @@
-use Rattle.std.proofs.Common.{◌≡◌, ◌<◌, ℕ, ◌-◌, Some, sym, ap, subst, ◌∙◌, arith, get_or}
+use Rattle.std.proofs.Common.{◌≡◌, ℕ, ◌-◌, Some, sym, ◌∙◌, arith, get_or}
 use Rattle.std.specs.Prelude.{slice_get}
 use Rattle.std.proofs.lemmas.Option.{slice_get-get_or}
 use Rattle.archive_volumes.specs.declared.spot.Spot.{Spot}

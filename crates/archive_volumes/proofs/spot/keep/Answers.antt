@@ -1,5 +1,5 @@
 use Rattle.std.proofs.Common.{rules, ◌≡◌, ◌++◌, ◌∷◌, [], ◌<◌, ℕ, List, length, All, sym, ap, subst, ◌∙◌, if◌then◌else◌}
-use Rattle.archive_volumes.specs.Spots.{is_whole, whole_from}
+use Rattle.archive_volumes.specs.Spots.{may_be_whole, whole_from}
 use Rattle.archive_volumes.specs.declared.spot.Spot.{Spot}
 use Rattle.archive_volumes.proofs.SpotLaws.{table_with, whole_below}
 use Rattle.archive_volumes.proofs.spot.keep.Goals as goal
@@ -17,7 +17,7 @@ returns-clause-table c =
     let long : c.len.result ≡ length spots = search rules in
     let items : c.push_reserved.new.self.items ≡ spots ++ c.args.spot ∷ [] = search rules in
     c.note_whole.ensures
-    ∙ ap (λ (kept : List (List ℕ × ℕ)). kept ++ (if is_whole c.args.spot.form then (c.args.spot.digest, c.len.result) ∷ [] else [])) c.requires.table
-    ∙ ap (λ (n : ℕ). whole_from 0 spots ++ (if is_whole c.args.spot.form then (c.args.spot.digest, n) ∷ [] else [])) long
+    ∙ ap (λ (kept : List (List ℕ × ℕ)). kept ++ (if may_be_whole c.args.spot.form then (c.args.spot.digest, c.len.result) ∷ [] else [])) c.requires.table
+    ∙ ap (λ (n : ℕ). whole_from 0 spots ++ (if may_be_whole c.args.spot.form then (c.args.spot.digest, n) ∷ [] else [])) long
     ∙ sym (table_with spots c.args.spot)
     ∙ ap (λ (l : List Spot). whole_from 0 l) (sym items)

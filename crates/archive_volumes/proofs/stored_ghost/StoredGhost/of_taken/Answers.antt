@@ -1,5 +1,4 @@
 use Rattle.std.proofs.Common.{◌≡◌, ℕ, List, ap, ◌∙◌}
-use Rattle.capture.specs.declared.captured.Kept.{Kept}
 use Rattle.archive_shelf.specs.Storing.{kept_of}
 use Rattle.archive_volumes.specs.Held.{kept_in}
 use Rattle.archive_volumes.specs.Spots.{form_of}

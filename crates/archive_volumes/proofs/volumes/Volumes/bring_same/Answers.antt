@@ -1,99 +1,174 @@
-use Rattle.std.proofs.Common.{◌≢◌, ℕ, IsTrue, false, true, List, Option, Some, None, Ok, refl, sym, ap, subst, ◌∙◌, inl, inr, arith}
+use Rattle.std.proofs.Common.{ℕ, ◌<◌, ◌+◌, ◌≤◌, IsTrue, false, true, List, length, None, Ok, refl, sym, ap, subst, ◌∙◌, inl, inr, arith}
 use Rattle.capture.specs.declared.book.Book.{Book}
 use Rattle.capture.specs.declared.captured.Brought.{Brought}
 use Rattle.warc_journal.specs.Journals.{texts}
-use Rattle.archive_volumes.proofs.BringLaws.{damaged, has_head, keeper_keeps, keeps_payload, kept_on, named, reads_then, refers_to, replayable, same_brought}
-use Rattle.archive_volumes.specs.Bringing.{AreOf, BringsFrom, IsChecked, IsReadRight}
+use Rattle.warc_journal.specs.declared.place.Place.{Place}
+use Rattle.archive_volumes.proofs.BringLaws.{damaged, has_head, keeper_keeps, keeps_payload, named, no_digest, placed_on, reads_then, refers_to, replayable, same_brought, spots_on, within_on}
+use Rattle.archive_volumes.proofs.DigestLaws.{keeper_goes}
+use Rattle.archive_volumes.proofs.GroupLaws.{got}
+use Rattle.archive_volumes.specs.Bringing.{BringsFrom, IsChecked, IsReadRight}
 use Rattle.archive_volumes.specs.Digests.{GoesByKeeper}
 use Rattle.archive_volumes.specs.Decoding.{IsHead}
 use Rattle.archive_volumes.specs.Held.{book_of}
+use Rattle.archive_volumes.specs.Spots.{text_at}
 use Rattle.archive_volumes.specs.declared.payload.ReadBack.{ReadBack}
-use Rattle.archive_volumes.specs.declared.payload.ReadBack.TheVariants as back
 use Rattle.archive_volumes.proofs.volumes.Volumes.bring_same.Goals as goal
 
-abbrev nothing : Option (List ℕ)
-nothing = None
+pub bounds-spots-first : goal.bounds-spots-first
+bounds-spots-first g c =
+    let book = book_of c.args.self.now.held in
+    let spot = c.index-spots-number.result in
+    let here = got c.args.spots.now c.args.number spot c.requires.below c.index-spots-number.is in
+    let its = c.requires.spots.each c.args.number spot here in
+    let form = c.requires.form spot here in
+    let refers = refers_to book c.args.number spot its c.args.first form in
+    omega (arith, refers.0, c.requires.below)
 
-no_digest : (kept : List ℕ) → nothing ≢ Some kept
-no_digest kept e = cc
+pub read_part-requires-clause-there : goal.read_part-requires-clause-there
+read_part-requires-clause-there g c tells =
+    let spot = c.index-spots-number.result in
+    let here = got c.args.spots.now c.args.number spot c.requires.below c.index-spots-number.is in
+    subst (λ (p : Place). p.volume < length (texts g.D.Disk c.args.self.now.journal)) (sym c.head_place.ensures)
+    ((c.requires.within tells).each c.args.number spot here).there
+
+pub read_part-requires-clause-within : goal.read_part-requires-clause-within
+read_part-requires-clause-within g c tells =
+    let spot = c.index-spots-number.result in
+    let here = got c.args.spots.now c.args.number spot c.requires.below c.index-spots-number.is in
+    let all = texts g.D.Disk c.args.self.now.journal in
+    let place = (c.requires.within tells).each c.args.number spot here in
+    subst (λ (p : Place). p.at + p.len ≤ length (text_at all p.volume)) (sym c.head_place.ensures) (omega (arith, place.within))
+
+pub read_own-requires-clause-below : goal.read_own-requires-clause-below
+read_own-requires-clause-below g c =
+    let book = book_of c.args.self.now.held in
+    let spot = c.index-spots-number.result in
+    let here = got c.args.spots.now c.args.number spot c.requires.below c.index-spots-number.is in
+    let its = c.requires.spots.each c.args.number spot here in
+    let form = c.requires.form spot here in
+    let refers = refers_to book c.args.number spot its c.args.first form in
+    omega (arith, refers.0, c.requires.below)
+
+pub read_own-requires-clause-spots : goal.read_own-requires-clause-spots
+read_own-requires-clause-spots g c =
+    spots_on g.D.Disk c.args.self.now c.read_part.new.self c.read_part.ensures.reads c.args.spots.now c.requires.spots
+
+pub read_own-requires-clause-within : goal.read_own-requires-clause-within
+read_own-requires-clause-within g c tells =
+    within_on g.D.Disk c.args.self.now c.read_part.new.self c.read_part.ensures.reads tells c.args.spots.now (c.requires.within tells)
+
+pub read_own-requires-clause-placed : goal.read_own-requires-clause-placed
+read_own-requires-clause-placed g c told =
+    placed_on g.D.Disk c.args.self.now c.read_part.new.self c.read_part.ensures.reads (c.requires.holds.tells told) c.args.spots.now (c.requires.placed told)
+
+pub read_own-requires-clause-own : goal.read_own-requires-clause-own
+read_own-requires-clause-own g c keeper at =
+    let book = book_of c.args.self.now.held in
+    let spot = c.index-spots-number.result in
+    let here = got c.args.spots.now c.args.number spot c.requires.below c.index-spots-number.is in
+    let its = c.requires.spots.each c.args.number spot here in
+    let form = c.requires.form spot here in
+    keeper_keeps book c.args.number spot its c.args.first form keeper (c.requires.spots.each c.args.first keeper at)
 
 pub returns-then-not-branch-clause-brings : goal.returns-then-not-branch-clause-brings
 returns-then-not-branch-clause-brings g c =
-    let spot = c.args.spot.now in
     let book = book_of c.args.self.now.held in
+    let spot = c.index-spots-number.result in
+    let here = got c.args.spots.now c.args.number spot c.requires.below c.index-spots-number.is in
+    let its = c.requires.spots.each c.args.number spot here in
+    let form = c.requires.form spot here in
+    let kept = c.index-spots-first.result.digest in
     let is : IsHead c.as_slice.result.now false = subst (λ b. IsHead c.as_slice.result.now b) c.if-not-branch.true c.in_ok-is_response_head.ensures in (
       omega arith,
       inl refl,
-      damaged c.args.told.now.value c.args.keeper.now.digest None
-          (λ told. has_head book c.args.number spot c.requires.spot c.args.first c.requires.form (texts g.D.Disk c.args.self.now.journal) (c.requires.placed told)
+      damaged c.args.told.now.value kept None
+          (λ told. has_head book c.args.number spot its c.args.first form (texts g.D.Disk c.args.self.now.journal)
+          ((c.requires.placed told).each c.args.number spot here)
           c.in_ok-head.head.items (rw c.head_place.ensures at c.in_ok-head.ensures.bytes (c.requires.holds.tells told)) (c.requires.holds.sound told)
           (subst (λ (h : List ℕ). IsHead h false) c.as_slice.ensures.value is))
-          (no_digest c.args.keeper.now.digest),
+          (no_digest kept),
     )
 
 pub returns-in_err-read-clause-reads : goal.returns-in_err-read-clause-reads
 returns-in_err-read-clause-reads g c =
-    reads_then g.D.Disk c.args.self.now c.read_part.new.self c.read_back.new.self c.read_part.ensures.reads c.read_back.ensures.reads
+    reads_then g.D.Disk c.args.self.now c.read_part.new.self c.read_own.new.self c.read_part.ensures.reads c.read_own.ensures.reads
 
 pub returns-in_err-brought-in-Right-clause-reads : goal.returns-in_err-brought-in-Right-clause-reads
 returns-in_err-brought-in-Right-clause-reads g c =
-    reads_then g.D.Disk c.args.self.now c.read_part.new.self c.read_back.new.self c.read_part.ensures.reads c.read_back.ensures.reads
+    reads_then g.D.Disk c.args.self.now c.read_part.new.self c.read_own.new.self c.read_part.ensures.reads c.read_own.ensures.reads
 
 pub returns-in_ok-brought-in-Right-clause-reads : goal.returns-in_ok-brought-in-Right-clause-reads
 returns-in_ok-brought-in-Right-clause-reads g c =
-    reads_then g.D.Disk c.args.self.now c.read_part.new.self c.read_back.new.self c.read_part.ensures.reads c.read_back.ensures.reads
+    reads_then g.D.Disk c.args.self.now c.read_part.new.self c.read_own.new.self c.read_part.ensures.reads c.read_own.ensures.reads
 
 pub returns-in-Damaged-clause-reads : goal.returns-in-Damaged-clause-reads
 returns-in-Damaged-clause-reads g c =
-    reads_then g.D.Disk c.args.self.now c.read_part.new.self c.read_back.new.self c.read_part.ensures.reads c.read_back.ensures.reads
+    reads_then g.D.Disk c.args.self.now c.read_part.new.self c.read_own.new.self c.read_part.ensures.reads c.read_own.ensures.reads
 
 pub returns-in_ok-brought-in-Right-clause-brings : goal.returns-in_ok-brought-in-Right-clause-brings
 returns-in_ok-brought-in-Right-clause-brings g c =
-    let spot = c.args.spot.now in
     let book = book_of c.args.self.now.held in
+    let spot = c.index-spots-number.result in
+    let here = got c.args.spots.now c.args.number spot c.requires.below c.index-spots-number.is in
+    let its = c.requires.spots.each c.args.number spot here in
+    let form = c.requires.form spot here in
+    let right : IsTrue c.args.told.now.value → IsReadRight book c.args.first c.in_ok-read.read = λ told.
+    subst (λ (b : Book). IsReadRight b c.args.first c.in_ok-read.read) (ap book_of c.read_part.ensures.reads.held) (c.in_ok-read.ensures.right told) in
     let is : IsHead c.as_slice.result.now true = subst (λ b. IsHead c.as_slice.result.now b) c.if-not-branch.false c.in_ok-is_response_head.ensures in
     let parsed : IsHead c.of.result true = subst (λ (h : List ℕ). IsHead h true) (c.as_slice.ensures.value ∙ sym c.of.ensures) is in
-    let own = keeper_keeps book c.args.number spot c.requires.spot c.args.first c.requires.form c.args.keeper.now c.requires.keeper in
-    let right : IsTrue c.args.told.now.value → AreOf book c.args.first c.in-Right.head c.in-Right.payload = λ told.
-    subst (λ (b : Book). IsReadRight b c.args.first (back.Right c.in-Right.head c.in-Right.payload)) (ap book_of c.read_part.ensures.reads.held)
-    (subst (λ (r : ReadBack). IsReadRight (book_of c.read_part.new.self.held) c.args.first r) c.in-Right.is
-    (c.in_ok-read.ensures.right c.args.first (c.requires.holds.tells told)
-    (kept_on g.D.Disk c.args.self.now c.read_part.new.self c.read_part.ensures.reads (c.requires.holds.tells told) c.args.first c.args.keeper.now
-    (record { is = c.requires.keeper; placed = c.requires.kept told; own = own })))) in
     subst (λ (b : Brought). BringsFrom c.args.told.now.value book c.args.number (Ok b)) (sym c.in_ok-brought-in-Right.ensures) (
-      replayable book c.args.number spot c.requires.spot c.of.result c.in-Right.payload parsed,
-      named book c.args.number spot c.requires.spot c.of.result c.in-Right.payload,
-      λ told. same_brought book c.args.number spot c.requires.spot c.args.first c.requires.form
-          (texts g.D.Disk c.args.self.now.journal) (c.requires.placed told)
+      replayable book c.args.number spot its c.of.result c.in-Right.payload parsed,
+      named book c.args.number spot its c.of.result c.in-Right.payload,
+      λ told. same_brought book c.args.number spot its c.args.first form
+          (texts g.D.Disk c.args.self.now.journal) ((c.requires.placed told).each c.args.number spot here)
           c.of.result (c.of.ensures ∙ (rw c.head_place.ensures at c.in_ok-head.ensures.bytes (c.requires.holds.tells told)))
-          c.in-Right.payload c.in-Right.head (right told),
+          c.in-Right.payload c.in-Right.head (subst (λ (r : ReadBack). IsReadRight book c.args.first r) c.in-Right.is (right told)),
     )
 
 pub returns-in-Damaged-clause-brings : goal.returns-in-Damaged-clause-brings
 returns-in-Damaged-clause-brings g c =
     let book = book_of c.args.self.now.held in
-    let refers = refers_to book c.args.number c.args.spot.now c.requires.spot c.args.first c.requires.form in
-    let own = keeper_keeps book c.args.number c.args.spot.now c.requires.spot c.args.first c.requires.form c.args.keeper.now c.requires.keeper in
-    let never : IsTrue c.args.told.now.value → ⊥ = λ told.
-    subst (λ (r : ReadBack). IsReadRight (book_of c.read_part.new.self.held) c.args.first r) c.in-Damaged.is
-    (c.in_ok-read.ensures.right c.args.first (c.requires.holds.tells told)
-    (kept_on g.D.Disk c.args.self.now c.read_part.new.self c.read_part.ensures.reads (c.requires.holds.tells told) c.args.first c.args.keeper.now
-    (record { is = c.requires.keeper; placed = c.requires.kept told; own = own }))) in (
+    let spot = c.index-spots-number.result in
+    let here = got c.args.spots.now c.args.number spot c.requires.below c.index-spots-number.is in
+    let its = c.requires.spots.each c.args.number spot here in
+    let form = c.requires.form spot here in
+    let refers = refers_to book c.args.number spot its c.args.first form in
+    let keeper = c.index-spots-first.result in
+    let there = got c.args.spots.now c.args.first keeper (omega (arith, refers.0, c.requires.below)) c.index-spots-first.is in
+    let right : IsTrue c.args.told.now.value → IsReadRight book c.args.first c.in_ok-read.read = λ told.
+    subst (λ (b : Book). IsReadRight b c.args.first c.in_ok-read.read) (ap book_of c.read_part.ensures.reads.held) (c.in_ok-read.ensures.right told) in (
       omega (arith, refers.0),
-      keeps_payload book c.args.number c.args.spot.now c.requires.spot c.args.first c.requires.form,
-      damaged c.args.told.now.value c.args.keeper.now.digest c.in-Damaged.found
-          never
-          (subst (λ (r : ReadBack). IsChecked c.args.keeper.now.digest r) c.in-Damaged.is c.in_ok-read.ensures.checked),
+      keeps_payload book c.args.number spot its c.args.first form,
+      damaged c.args.told.now.value keeper.digest c.in-Damaged.found
+          (λ told. subst (λ (r : ReadBack). IsReadRight book c.args.first r) c.in-Damaged.is (right told))
+          (subst (λ (r : ReadBack). IsChecked keeper.digest r) c.in-Damaged.is (c.in_ok-read.ensures.checked keeper there)),
     )
 
 pub returns-then-not-branch-clause-digest : goal.returns-then-not-branch-clause-digest
-returns-then-not-branch-clause-digest g c = (inr (refl, refl), refl)
+returns-then-not-branch-clause-digest g c other at =
+    let book = book_of c.args.self.now.held in
+    let spot = c.index-spots-number.result in
+    let here = got c.args.spots.now c.args.number spot c.requires.below c.index-spots-number.is in
+    let its = c.requires.spots.each c.args.number spot here in
+    let form = c.requires.form spot here in
+    let refers = refers_to book c.args.number spot its c.args.first form in
+    let keeper = c.index-spots-first.result in
+    let there = got c.args.spots.now c.args.first keeper (omega (arith, refers.0, c.requires.below)) c.index-spots-first.is in
+    keeper_goes c.args.spots.now c.args.first keeper other there at c.args.number c.args.number None (inr (refl, refl))
 
 pub returns-in_ok-brought-in-Right-clause-digest : goal.returns-in_ok-brought-in-Right-clause-digest
-returns-in_ok-brought-in-Right-clause-digest g c =
-    let kept = c.args.keeper.now.digest in
-    subst (λ (b : Brought). GoesByKeeper c.args.number c.args.first kept (Ok b)) (sym c.in_ok-brought-in-Right.ensures)
-    (subst (λ (r : ReadBack). IsChecked kept r) c.in-Right.is c.in_ok-read.ensures.checked).1
+returns-in_ok-brought-in-Right-clause-digest g c other at =
+    subst (λ (b : Brought). GoesByKeeper c.args.number c.args.first other.digest (Ok b)) (sym c.in_ok-brought-in-Right.ensures)
+    (subst (λ (r : ReadBack). IsChecked other.digest r) c.in-Right.is (c.in_ok-read.ensures.checked other at)).1
 
 pub returns-in-Damaged-clause-digest : goal.returns-in-Damaged-clause-digest
-returns-in-Damaged-clause-digest g c = (inl refl, refl)
+returns-in-Damaged-clause-digest g c other at =
+    let book = book_of c.args.self.now.held in
+    let spot = c.index-spots-number.result in
+    let here = got c.args.spots.now c.args.number spot c.requires.below c.index-spots-number.is in
+    let its = c.requires.spots.each c.args.number spot here in
+    let form = c.requires.form spot here in
+    let refers = refers_to book c.args.number spot its c.args.first form in
+    let keeper = c.index-spots-first.result in
+    let there = got c.args.spots.now c.args.first keeper (omega (arith, refers.0, c.requires.below)) c.index-spots-first.is in
+    keeper_goes c.args.spots.now c.args.first keeper other there at c.args.number c.args.first c.in-Damaged.found (inl refl)

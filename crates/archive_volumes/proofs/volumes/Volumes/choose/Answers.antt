@@ -1,7 +1,7 @@
 use Rattle.std.proofs.Common.{false, Ok, get_or, refl, ap, subst, ◌∙◌, arith}
-use Rattle.capture.specs.Captures.{IsPayloadOf}
 use Rattle.capture.specs.declared.book.Book.{Book}
-use Rattle.archive_volumes.proofs.BringLaws.{placed_on, reads_then, spots_on, within_on}
+use Rattle.archive_shelf.specs.Comparing.{HasWhole}
+use Rattle.archive_volumes.proofs.BringLaws.{made_on, placed_on, reads_then, spots_on, within_on}
 use Rattle.archive_volumes.proofs.ChooseLaws.{none_more}
 use Rattle.archive_volumes.specs.Choosing.{Asks}
 use Rattle.archive_volumes.specs.Held.{book_of}
@@ -13,6 +13,13 @@ has_payload-requires-clause-spots g c =
 
 pub has_payload-requires-clause-holds : goal.has_payload-requires-clause-holds
 has_payload-requires-clause-holds g c = c.loop-candidate.invariant.reads.holds c.args.told.now.value c.requires.holds
+
+pub has_payload-requires-clause-measured : goal.has_payload-requires-clause-measured
+has_payload-requires-clause-measured g c = c.loop-candidate.invariant.reads.measured c.requires.measured
+
+pub has_payload-requires-clause-made : goal.has_payload-requires-clause-made
+has_payload-requires-clause-made g c untold =
+    made_on g.D.Disk c.args.self.now c.loop-candidate.self c.loop-candidate.invariant.reads c.args.spots.now (c.requires.made untold)
 
 pub has_payload-requires-clause-within : goal.has_payload-requires-clause-within
 has_payload-requires-clause-within g c tells =
@@ -43,7 +50,7 @@ loop-candidate-preserved g c =
           subst (λ b. Asks c.args.told.now.value (book_of c.loop-candidate.self.held) (get_or candidates index 0) payload (Ok b)) c.if-has.false
           (c.in_ok-has.ensures.asks payload is) in
           none_more (book_of c.args.self.now.held) candidates index (get_or candidates index 0) payload refl (c.loop-candidate.invariant.none payload is told)
-          (subst (λ (b : Book). ¬ (IsPayloadOf b (get_or candidates index 0) payload)) (ap book_of reads.held) (asks told));
+          (subst (λ (b : Book). ¬ (HasWhole b (get_or candidates index 0) payload)) (ap book_of reads.held) (asks told));
     }
 
 pub returns-clause-chooses : goal.returns-clause-chooses

@@ -9,7 +9,7 @@ use Rattle.archive_volumes.specs.Volumes.{muted}
 use Rattle.archive_volumes.specs.Writing.{texts_with}
 use Rattle.archive_volumes.specs.declared.spot.Spot.{Spot}
 use Rattle.archive_volumes.proofs.ChangeLaws.{DiskLaws, laws_muted}
-use Rattle.archive_volumes.proofs.KeepLaws.{kept_placed, kept_spots, kept_within, placed_left, spots_left, within_left}
+use Rattle.archive_volumes.proofs.KeepLaws.{kept_made, kept_placed, kept_spots, kept_within, made_left, placed_left, spots_left, within_left}
 use Rattle.archive_volumes.proofs.StoreLaws.{writes_refused}
 use Rattle.archive_volumes.proofs.volumes.Volumes.commit.Given.{Over}
 use Rattle.archive_volumes.proofs.volumes.Volumes.commit.Goals as goal
@@ -22,6 +22,11 @@ pub returns-in_err-place-clause-spots : goal.returns-in_err-place-clause-spots
 returns-in_err-place-clause-spots g c =
     spots_left (book_of c.args.self.now.held) (book_of c.write.new.self.held) c.args.ready.prepared c.args.spots.now.items
     c.in_err-place.ensures.left c.requires.spots
+
+pub returns-in_err-place-clause-made : goal.returns-in_err-place-clause-made
+returns-in_err-place-clause-made g c made =
+    made_left (book_of c.args.self.now.held) (book_of c.write.new.self.held) c.args.ready.prepared c.args.spots.now.items
+    c.in_err-place.ensures.left made
 
 pub returns-in_err-place-clause-within : goal.returns-in_err-place-clause-within
 returns-in_err-place-clause-within g c tells =
@@ -48,6 +53,15 @@ returns-clause-spots g c =
     ∙ ap (λ (p : Place). spot_of (stored_in c.args.ready.stored) c.args.ready.digest p.volume p.at (p.at + c.args.ready.layout.head_at)) c.in_ok-place.ensures.place in
     kept_spots g.D.Disk c.args.told.now.value c.args.self.now c.args.ready c.requires.ready (book_of c.write.new.self.held) c.args.spots.now.items c.keep.new.spots.items c.standing-spot.result
     c.requires.spots c.in_ok-place.ensures.stored c.keep.ensures.spots is_spot
+
+pub returns-clause-made : goal.returns-clause-made
+returns-clause-made g c made =
+    let is_spot : c.standing-spot.result ≡ spot_in c.args.self.now c.args.ready =
+    c.standing-spot.ensures
+    ∙ ap (λ (s : Spot). record s { volume = c.in_ok-place.place.volume; at = c.in_ok-place.place.at; head_at = c.in_ok-place.place.at + c.args.ready.layout.head_at }) c.requires.ready.kept
+    ∙ ap (λ (p : Place). spot_of (stored_in c.args.ready.stored) c.args.ready.digest p.volume p.at (p.at + c.args.ready.layout.head_at)) c.in_ok-place.ensures.place in
+    kept_made g.D.Disk c.args.told.now.value c.args.self.now c.args.ready c.requires.ready (book_of c.write.new.self.held) c.args.spots.now.items c.keep.new.spots.items c.standing-spot.result
+    made c.in_ok-place.ensures.stored c.keep.ensures.spots is_spot
 
 pub returns-clause-within : goal.returns-clause-within
 returns-clause-within g c tells =

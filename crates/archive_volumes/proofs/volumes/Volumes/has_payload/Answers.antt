@@ -1,10 +1,14 @@
-use Rattle.std.proofs.Common.{IsTrue, refl, subst}
+use Rattle.std.proofs.Common.{◌≡◌, IsTrue, false, refl, sym, ap, subst, ◌∙◌}
+use Rattle.std.proofs.lemmas.Option.{same_Some}
 use Rattle.warc_journal.specs.Journals.{texts}
 use Rattle.archive_volumes.proofs.BringLaws.{damaged, within_at}
-use Rattle.archive_volumes.proofs.ChooseLaws.{its_bound, its_kept, its_spot, its_whole}
+use Rattle.archive_volumes.proofs.ChooseLaws.{has_whole, its_bound, its_kept, its_spot, its_told, its_whole, its_wire}
+use Rattle.archive_volumes.proofs.GroupLaws.{got}
 use Rattle.archive_volumes.specs.Choosing.{ComparesWith, IsComparison}
 use Rattle.archive_volumes.specs.Held.{book_of}
+use Rattle.archive_volumes.specs.Spots.{is_told_form}
 use Rattle.archive_volumes.specs.declared.compare.Compared.{Compared}
+use Rattle.archive_volumes.specs.declared.spot.Spot.{Spot}
 use Rattle.archive_volumes.proofs.volumes.Volumes.has_payload.Goals as goal
 
 pub bounds-spots-number : goal.bounds-spots-number
@@ -26,25 +30,43 @@ pub compare_with-requires-clause-whole : goal.compare_with-requires-clause-whole
 compare_with-requires-clause-whole g c =
     its_whole (book_of c.args.self.now.held) c.args.spots.now c.requires.spots c.args.number c.requires.whole c.index-spots-number.result c.index-spots-number.is
 
-pub returns-in-Same-clause-asks : goal.returns-in-Same-clause-asks
-returns-in-Same-clause-asks g c payload is told =
+pub has_told_payload-requires-clause-form : goal.has_told_payload-requires-clause-form
+has_told_payload-requires-clause-form g c other at =
     let book = book_of c.args.self.now.held in
-    let kept = its_kept book c.args.spots.now c.requires.spots c.args.number c.requires.whole c.index-spots-number.result c.index-spots-number.is
-    (texts g.D.Disk c.args.self.now.journal) (c.requires.placed told) in
-    subst (λ (r : Compared). ComparesWith book c.args.number payload r) c.in-Same.is (c.in_ok-answer.ensures.compares payload c.args.number is (c.requires.holds.tells told) kept)
+    let spot = c.index-spots-number.result in
+    let here = got c.args.spots.now c.args.number spot (its_bound book c.args.spots.now c.requires.spots c.args.number c.requires.whole) c.index-spots-number.is in
+    ap (λ (s : Spot). s.form) (same_Some other spot (sym at ∙ here))
+    ∙ its_told book c.args.spots.now c.requires.spots c.args.number c.requires.whole spot c.index-spots-number.is (sym c.is_told.ensures ∙ c.if-is_told.true)
+
+pub returns-in-Same-clause-asks : goal.returns-in-Same-clause-asks
+returns-in-Same-clause-asks g c payload is =
+    let book = book_of c.args.self.now.held in
+    let read : is_told_form c.index-spots-number.result.form ≡ false = sym c.is_told.ensures ∙ c.if-is_told.false in
+    let keeps = its_wire book c.args.spots.now c.requires.spots c.args.number c.requires.whole c.index-spots-number.result c.index-spots-number.is read in (
+      keeps,
+      λ told.
+          let kept = its_kept book c.args.spots.now c.requires.spots c.args.number c.requires.whole c.index-spots-number.result c.index-spots-number.is read
+          (texts g.D.Disk c.args.self.now.journal) (c.requires.placed told) in
+          has_whole book c.args.number payload keeps
+          (subst (λ (r : Compared). ComparesWith book c.args.number payload r) c.in-Same.is
+          (c.in_ok-answer.ensures.compares payload c.args.number is (c.requires.holds.tells told) kept)),
+    )
 
 pub returns-in-Other-clause-asks : goal.returns-in-Other-clause-asks
-returns-in-Other-clause-asks g c payload is told =
+returns-in-Other-clause-asks g c payload is told does =
     let book = book_of c.args.self.now.held in
-    let kept = its_kept book c.args.spots.now c.requires.spots c.args.number c.requires.whole c.index-spots-number.result c.index-spots-number.is
+    let read : is_told_form c.index-spots-number.result.form ≡ false = sym c.is_told.ensures ∙ c.if-is_told.false in
+    let kept = its_kept book c.args.spots.now c.requires.spots c.args.number c.requires.whole c.index-spots-number.result c.index-spots-number.is read
     (texts g.D.Disk c.args.self.now.journal) (c.requires.placed told) in
-    subst (λ (r : Compared). ComparesWith book c.args.number payload r) c.in-Other.is (c.in_ok-answer.ensures.compares payload c.args.number is (c.requires.holds.tells told) kept)
+    subst (λ (r : Compared). ComparesWith book c.args.number payload r) c.in-Other.is
+    (c.in_ok-answer.ensures.compares payload c.args.number is (c.requires.holds.tells told) kept) does.has
 
 pub returns-in-Damaged-clause-asks : goal.returns-in-Damaged-clause-asks
 returns-in-Damaged-clause-asks g c payload is =
     let book = book_of c.args.self.now.held in
+    let read : is_told_form c.index-spots-number.result.form ≡ false = sym c.is_told.ensures ∙ c.if-is_told.false in
     let never : IsTrue c.args.told.now.value → ⊥ = λ told.
-    let kept = its_kept book c.args.spots.now c.requires.spots c.args.number c.requires.whole c.index-spots-number.result c.index-spots-number.is
+    let kept = its_kept book c.args.spots.now c.requires.spots c.args.number c.requires.whole c.index-spots-number.result c.index-spots-number.is read
     (texts g.D.Disk c.args.self.now.journal) (c.requires.placed told) in
     subst (λ (r : Compared). ComparesWith book c.args.number payload r) c.in-Damaged.is (c.in_ok-answer.ensures.compares payload c.args.number is (c.requires.holds.tells told) kept) in (
       refl,

@@ -1,0 +1,149 @@
+use Rattle.std.proofs.Common.{◌≡◌, true, ℕ, Bool, IsTrue, List, Option, None, Ok, Err, Result, refl, sym, ap, subst, inl, arith}
+use Rattle.std.specs.Prelude.{IfSome}
+use Rattle.sha1.specs.Sha1.{sha1}
+use Rattle.capture.specs.declared.book.Book.{Book}
+use Rattle.capture.specs.declared.captured.Brought.{Brought}
+use Rattle.warc_journal.specs.Journals.{texts}
+use Rattle.archive_shelf.specs.declared.fault.BringFault.{BringFault}
+use Rattle.archive_shelf.specs.declared.fault.BringFault.TheVariants as brings
+use Rattle.archive_volumes.proofs.BringLaws.{damaged, named, no_digest, placed_on, reads_then, replayable, spots_on, within_on}
+use Rattle.archive_volumes.proofs.ChooseLaws.{numbers_digest, numbers_whole}
+use Rattle.archive_volumes.proofs.DigestLaws.{line_goes}
+use Rattle.archive_volumes.proofs.GroupLaws.{got}
+use Rattle.archive_volumes.proofs.OriginalLaws.{first_told, no_own, told_brought}
+use Rattle.archive_volumes.specs.Bringing.{BringsFrom}
+use Rattle.archive_volumes.specs.Decoding.{IsHead}
+use Rattle.archive_volumes.specs.Digests.{GoesByLine}
+use Rattle.archive_volumes.specs.Held.{book_of}
+use Rattle.archive_volumes.specs.Rereading.{HasItsPayload, IsFirstTold, IsReread, IsRereadOf, IsSameOf}
+use Rattle.archive_volumes.specs.declared.reread.Reread.{Reread}
+use Rattle.archive_volumes.proofs.volumes.Volumes.bring_told.Goals as goal
+
+-- damage under its own number
+as_told : (told : Bool) (book : Book) (number : ℕ) (kept : List ℕ) (result : Result Brought BringFault) → result ≡ Err (brings.Damaged number kept None)
+    → (IsTrue told → ⊥) → BringsFrom told book number result
+as_told told book number kept result is never =
+    subst (BringsFrom told book number) (sym is) (omega arith, inl refl, damaged told kept None never (no_digest kept))
+
+pub original_payload-requires-clause-holds : goal.original_payload-requires-clause-holds
+original_payload-requires-clause-holds g c = c.reread.ensures.reads.holds c.args.told.now.value c.requires.holds
+
+pub original_payload-requires-clause-measured : goal.original_payload-requires-clause-measured
+original_payload-requires-clause-measured g c = c.reread.ensures.reads.measured c.requires.measured
+
+pub original_payload-requires-clause-spots : goal.original_payload-requires-clause-spots
+original_payload-requires-clause-spots g c = spots_on g.D.Disk c.args.self.now c.reread.new.self c.reread.ensures.reads c.args.spots.now c.requires.spots
+
+pub original_payload-requires-clause-within : goal.original_payload-requires-clause-within
+original_payload-requires-clause-within g c = λ tells. within_on g.D.Disk c.args.self.now c.reread.new.self c.reread.ensures.reads tells c.args.spots.now (c.requires.within tells)
+
+pub original_payload-requires-clause-placed : goal.original_payload-requires-clause-placed
+original_payload-requires-clause-placed g c = λ told. placed_on g.D.Disk c.args.self.now c.reread.new.self c.reread.ensures.reads (c.requires.holds.tells told) c.args.spots.now (c.requires.placed told)
+
+pub original_payload-requires-clause-whole : goal.original_payload-requires-clause-whole
+original_payload-requires-clause-whole g c =
+    let spot = c.index-spots-number.result in
+    let here = got c.args.spots.now c.args.number spot c.requires.below c.index-spots-number.is in
+    numbers_whole spot.digest c.args.spots.now c.args.candidates.now (c.requires.candidates spot here)
+
+pub returns-in-Own-clause-brings : goal.returns-in-Own-clause-brings
+returns-in-Own-clause-brings g c =
+    let book = book_of c.args.self.now.held in
+    let spot = c.index-spots-number.result in
+    let here = got c.args.spots.now c.args.number spot c.requires.below c.index-spots-number.is in
+    as_told c.args.told.now.value book c.args.number spot.digest c.not_as_told.result c.not_as_told.ensures
+    (λ told. no_own book c.args.spots.now c.requires.spots (texts g.D.Disk c.args.self.now.journal) (c.requires.placed told) c.args.number spot here
+    (c.requires.form spot here) _ _ _ (subst (λ (r : Reread). IsRereadOf book c.args.number r) c.in-Own.is (c.in_ok-read.ensures.right told)))
+
+pub returns-clause-brings : goal.returns-clause-brings
+returns-clause-brings g c =
+    let book = book_of c.args.self.now.held in
+    let spot = c.index-spots-number.result in
+    as_told c.args.told.now.value book c.args.number spot.digest c.not_as_told-in-Damaged.result c.not_as_told-in-Damaged.ensures
+    (λ told. subst (λ (r : Reread). IsRereadOf book c.args.number r) c.in-Damaged.is (c.in_ok-read.ensures.right told))
+
+pub returns-in-Own-clause-digest : goal.returns-in-Own-clause-digest
+returns-in-Own-clause-digest g c other at =
+    let spot = c.index-spots-number.result in
+    let here = got c.args.spots.now c.args.number spot c.requires.below c.index-spots-number.is in
+    subst (GoesByLine c.args.number other.digest) (sym c.not_as_told.ensures) (line_goes c.args.spots.now c.args.number spot other here at)
+
+pub returns-clause-digest : goal.returns-clause-digest
+returns-clause-digest g c other at =
+    let spot = c.index-spots-number.result in
+    let here = got c.args.spots.now c.args.number spot c.requires.below c.index-spots-number.is in
+    subst (GoesByLine c.args.number other.digest) (sym c.not_as_told-in-Damaged.ensures) (line_goes c.args.spots.now c.args.number spot other here at)
+
+-- ---- what it refers to was looked for
+
+pub returns-in-Some-clause-brings : goal.returns-in-Some-clause-brings
+returns-in-Some-clause-brings g c =
+    let book = book_of c.args.self.now.held in
+    let spot = c.index-spots-number.result in
+    let here = got c.args.spots.now c.args.number spot c.requires.below c.index-spots-number.is in
+    let its = c.requires.spots.each c.args.number spot here in
+    let told_texts = texts g.D.Disk c.args.self.now.journal in
+    let stays : book_of c.reread.new.self.held ≡ book = ap book_of c.reread.ensures.reads.held in
+    let right : IsTrue c.args.told.now.value → IsSameOf book c.args.number c.in-Same.head c.in-Same.same = λ told.
+    subst (λ (r : Reread). IsRereadOf book c.args.number r) c.in-Same.is (c.in_ok-read.ensures.right told) in
+    let found : (told : IsTrue c.args.told.now.value) → HasItsPayload book (right told).first c.in_ok-payload-in-Same.field-0 = λ told.
+    subst (λ (b : Book). HasItsPayload b (right told).first c.in_ok-payload-in-Same.field-0) stays
+    (c.in_ok-payload-in-Same.ensures.right told (right told).first
+    (subst (λ (b : Book). IsFirstTold b c.in-Same.same c.args.candidates.now (right told).first) (sym stays)
+    (first_told book c.args.spots.now c.requires.spots told_texts (c.requires.placed told) c.args.number spot here (c.requires.form spot here) c.in-Same.head
+    c.in-Same.same (right told) c.args.candidates.now (c.requires.candidates spot here) c.requires.rising))) in
+    let head : IsHead c.in-Same.head true = subst (λ (r : Reread). IsReread spot.digest r) c.in-Same.is (c.in_ok-read.ensures.read spot here) in
+    subst (λ (b : Brought). BringsFrom c.args.told.now.value book c.args.number (Ok b)) (sym c.in_ok-brought-in-Some.ensures) (
+      replayable book c.args.number spot its c.in-Same.head c.in-Some.payload head,
+      named book c.args.number spot its c.in-Same.head c.in-Some.payload,
+      λ told. told_brought book c.args.spots.now c.requires.spots told_texts (c.requires.placed told) c.args.number spot here (c.requires.form spot here)
+          c.in-Same.head c.in-Same.same (right told) c.in-Some.payload
+          (subst (λ (f : Option (List ℕ)). HasItsPayload book (right told).first f) c.in-Some.is (found told)),
+    )
+
+pub returns-in-Some-clause-digest : goal.returns-in-Some-clause-digest
+returns-in-Some-clause-digest g c other at =
+    subst (λ (b : Brought). GoesByLine c.args.number other.digest (Ok b)) (sym c.in_ok-brought-in-Some.ensures)
+    (subst (λ (f : Option (List ℕ)). IfSome f (λ payload. sha1 payload ≡ other.digest)) c.in-Some.is
+    (c.in_ok-payload-in-Same.ensures.kept other.digest
+    (numbers_digest other.digest c.args.spots.now c.args.candidates.now (c.requires.candidates other at))))
+
+pub returns-in-Some-clause-reads : goal.returns-in-Some-clause-reads
+returns-in-Some-clause-reads g c =
+    reads_then g.D.Disk c.args.self.now c.reread.new.self c.original_payload.new.self c.reread.ensures.reads c.original_payload.ensures.reads
+
+pub returns-in-Same-clause-brings : goal.returns-in-Same-clause-brings
+returns-in-Same-clause-brings g c =
+    let book = book_of c.args.self.now.held in
+    let spot = c.index-spots-number.result in
+    let here = got c.args.spots.now c.args.number spot c.requires.below c.index-spots-number.is in
+    let told_texts = texts g.D.Disk c.args.self.now.journal in
+    let stays : book_of c.reread.new.self.held ≡ book = ap book_of c.reread.ensures.reads.held in
+    let right : IsTrue c.args.told.now.value → IsSameOf book c.args.number c.in-Same.head c.in-Same.same = λ told.
+    subst (λ (r : Reread). IsRereadOf book c.args.number r) c.in-Same.is (c.in_ok-read.ensures.right told) in
+    let found : (told : IsTrue c.args.told.now.value) → HasItsPayload book (right told).first c.in_ok-payload-in-Same.field-0 = λ told.
+    subst (λ (b : Book). HasItsPayload b (right told).first c.in_ok-payload-in-Same.field-0) stays
+    (c.in_ok-payload-in-Same.ensures.right told (right told).first
+    (subst (λ (b : Book). IsFirstTold b c.in-Same.same c.args.candidates.now (right told).first) (sym stays)
+    (first_told book c.args.spots.now c.requires.spots told_texts (c.requires.placed told) c.args.number spot here (c.requires.form spot here) c.in-Same.head
+    c.in-Same.same (right told) c.args.candidates.now (c.requires.candidates spot here) c.requires.rising))) in
+    as_told c.args.told.now.value book c.args.number spot.digest c.not_as_told-in-None.result c.not_as_told-in-None.ensures
+    (λ told. subst (λ (f : Option (List ℕ)). HasItsPayload book (right told).first f) c.in-None.is (found told))
+
+pub returns-in-Same-clause-digest : goal.returns-in-Same-clause-digest
+returns-in-Same-clause-digest g c other at =
+    let spot = c.index-spots-number.result in
+    let here = got c.args.spots.now c.args.number spot c.requires.below c.index-spots-number.is in
+    subst (GoesByLine c.args.number other.digest) (sym c.not_as_told-in-None.ensures) (line_goes c.args.spots.now c.args.number spot other here at)
+
+pub returns-in-Same-clause-reads : goal.returns-in-Same-clause-reads
+returns-in-Same-clause-reads g c =
+    reads_then g.D.Disk c.args.self.now c.reread.new.self c.original_payload.new.self c.reread.ensures.reads c.original_payload.ensures.reads
+
+pub returns-in_err-payload-in-Same-clause-reads : goal.returns-in_err-payload-in-Same-clause-reads
+returns-in_err-payload-in-Same-clause-reads g c =
+    reads_then g.D.Disk c.args.self.now c.reread.new.self c.original_payload.new.self c.reread.ensures.reads c.original_payload.ensures.reads
+
+pub returns-in_err-brought-in-Some-clause-reads : goal.returns-in_err-brought-in-Some-clause-reads
+returns-in_err-brought-in-Some-clause-reads g c =
+    reads_then g.D.Disk c.args.self.now c.reread.new.self c.original_payload.new.self c.reread.ensures.reads c.original_payload.ensures.reads

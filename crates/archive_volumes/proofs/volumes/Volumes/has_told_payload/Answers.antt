@@ -1,0 +1,73 @@
+use Rattle.std.proofs.Common.{Bool, Err, IsTrue, subst}
+use Rattle.std.specs.Prelude.{IsFalse}
+use Rattle.archive_shelf.specs.Comparing.{KeepsWire}
+use Rattle.archive_shelf.specs.declared.fault.StoreFault.TheVariants as stores
+use Rattle.archive_volumes.proofs.AskLaws.{cut_asked, damage_asked, revisit_asked, whole_asked}
+use Rattle.archive_volumes.proofs.ChooseLaws.{its_bound, its_own}
+use Rattle.archive_volumes.proofs.GroupLaws.{got}
+use Rattle.archive_volumes.proofs.RereadLaws.{no_revisit}
+use Rattle.archive_volumes.specs.Choosing.{Asks}
+use Rattle.archive_volumes.specs.Held.{book_of}
+use Rattle.archive_volumes.specs.Rereading.{IsOwnOf, IsReread, IsRereadOf}
+use Rattle.archive_volumes.specs.declared.reread.Reread.{Reread}
+use Rattle.archive_volumes.specs.declared.spot.Spot.{Spot}
+use Rattle.archive_volumes.proofs.volumes.Volumes.has_told_payload.Goals as goal
+
+pub bounds-spots-number : goal.bounds-spots-number
+bounds-spots-number g c = its_bound (book_of c.args.self.now.held) c.args.spots.now c.requires.spots c.args.number c.requires.whole
+
+pub reread-requires-clause-below : goal.reread-requires-clause-below
+reread-requires-clause-below g c = its_bound (book_of c.args.self.now.held) c.args.spots.now c.requires.spots c.args.number c.requires.whole
+
+pub returns-in-Own-default-default-false-clause-asks : goal.returns-in-Own-default-default-false-clause-asks
+returns-in-Own-default-default-false-clause-asks g c payload is =
+    let book = book_of c.args.self.now.held in
+    let spot = c.index-spots-number.result in
+    let below = its_bound book c.args.spots.now c.requires.spots c.args.number c.requires.whole in
+    let here = got c.args.spots.now c.args.number spot below c.index-spots-number.is in
+    let its = c.requires.spots.each c.args.number spot here in
+    let own = its_own book c.args.spots.now c.requires.spots c.args.number c.requires.whole spot c.index-spots-number.is in
+    let made : IsFalse c.args.told.now.value → KeepsWire book c.args.number = λ untold. (c.requires.made untold).each c.args.number spot here (c.requires.form spot here) in
+    let right : IsTrue c.args.told.now.value → IsRereadOf book c.args.number c.in_ok-read.read = c.in_ok-read.ensures.right in
+    whole_asked c.args.told.now.value book c.args.number spot its own made payload _ c.in-Own-default-default-false.payload
+    (λ told. subst (λ (b : Bool). IsOwnOf book c.args.number c.in-Own-default-default-false.head c.in-Own-default-default-false.payload b) c.in-Own-default-default-false.cut-test
+    (subst (λ (r : Reread). IsRereadOf book c.args.number r) c.in-Own-default-default-false.is (right told)))
+    c.has_bytes.result (rw c.as_slice.ensures at (c.has_bytes.ensures payload is))
+
+pub returns-in-Own-default-default-true-clause-asks : goal.returns-in-Own-default-default-true-clause-asks
+returns-in-Own-default-default-true-clause-asks g c payload is =
+    let book = book_of c.args.self.now.held in
+    let spot = c.index-spots-number.result in
+    let below = its_bound book c.args.spots.now c.requires.spots c.args.number c.requires.whole in
+    let here = got c.args.spots.now c.args.number spot below c.index-spots-number.is in
+    let its = c.requires.spots.each c.args.number spot here in
+    let own = its_own book c.args.spots.now c.requires.spots c.args.number c.requires.whole spot c.index-spots-number.is in
+    let made : IsFalse c.args.told.now.value → KeepsWire book c.args.number = λ untold. (c.requires.made untold).each c.args.number spot here (c.requires.form spot here) in
+    let right : IsTrue c.args.told.now.value → IsRereadOf book c.args.number c.in_ok-read.read = c.in_ok-read.ensures.right in
+    cut_asked c.args.told.now.value book c.args.number spot its own made payload _ _
+    (λ told. subst (λ (b : Bool). IsOwnOf book c.args.number c.in-Own-default-default-true.head c.in-Own-default-default-true.payload b) c.in-Own-default-default-true.cut-test
+    (subst (λ (r : Reread). IsRereadOf book c.args.number r) c.in-Own-default-default-true.is (right told)))
+
+pub returns-in-Same-clause-asks : goal.returns-in-Same-clause-asks
+returns-in-Same-clause-asks g c payload is =
+    let book = book_of c.args.self.now.held in
+    let spot = c.index-spots-number.result in
+    let below = its_bound book c.args.spots.now c.requires.spots c.args.number c.requires.whole in
+    let here = got c.args.spots.now c.args.number spot below c.index-spots-number.is in
+    let its = c.requires.spots.each c.args.number spot here in
+    let own = its_own book c.args.spots.now c.requires.spots c.args.number c.requires.whole spot c.index-spots-number.is in
+    let right : IsTrue c.args.told.now.value → IsRereadOf book c.args.number c.in_ok-read.read = c.in_ok-read.ensures.right in
+    revisit_asked c.args.told.now.value book c.args.number payload
+    (λ told. no_revisit book c.args.number spot its own _ _ (subst (λ (r : Reread). IsRereadOf book c.args.number r) c.in-Same.is (right told)))
+
+pub returns-in-Damaged-clause-asks : goal.returns-in-Damaged-clause-asks
+returns-in-Damaged-clause-asks g c payload is =
+    let book = book_of c.args.self.now.held in
+    let spot = c.index-spots-number.result in
+    let below = its_bound book c.args.spots.now c.requires.spots c.args.number c.requires.whole in
+    let here = got c.args.spots.now c.args.number spot below c.index-spots-number.is in
+    let right : IsTrue c.args.told.now.value → IsRereadOf book c.args.number c.in_ok-read.read = c.in_ok-read.ensures.right in
+    subst (λ (s : Spot). Asks c.args.told.now.value book c.args.number payload (Err (stores.Damaged c.args.number s.digest c.in-Damaged.found))) c.index-spots-number.is
+    (damage_asked c.args.told.now.value book c.args.number payload spot.digest c.in-Damaged.found
+    (λ told. subst (λ (r : Reread). IsRereadOf book c.args.number r) c.in-Damaged.is (right told))
+    (subst (λ (r : Reread). IsReread spot.digest r) c.in-Damaged.is (c.in_ok-read.ensures.read spot here)))

@@ -1,0 +1,51 @@
+use Rattle.std.proofs.Common.{◌≡◌, false, sym, subst, ◌∙◌}
+use Rattle.std.specs.Prelude.{IfOk}
+use Rattle.archive_volumes.proofs.DigestLaws.{one_spot}
+use Rattle.archive_volumes.proofs.GroupLaws.{got}
+use Rattle.archive_volumes.proofs.RereadLaws.{own_checked, own_right}
+use Rattle.archive_volumes.specs.Bringing.{IsChecked, IsReadRight}
+use Rattle.archive_volumes.specs.Held.{book_of}
+use Rattle.archive_volumes.specs.Spots.{is_told_form}
+use Rattle.archive_volumes.specs.declared.spot.Spot.{Spot}
+use Rattle.archive_volumes.proofs.volumes.Volumes.read_own.Goals as goal
+
+pub returns-then-is_told-clause-checked : goal.returns-then-is_told-clause-checked
+returns-then-is_told-clause-checked g c other at =
+    subst (IsChecked other.digest) (sym c.own_read.ensures) (own_checked other.digest c.in_ok-read.read (c.in_ok-read.ensures.read other at))
+
+pub returns-then-is_told-clause-right : goal.returns-then-is_told-clause-right
+returns-then-is_told-clause-right g c told =
+    let book = book_of c.args.self.now.held in
+    let spot = c.index-spots-number.result in
+    let here = got c.args.spots.now c.args.number spot c.requires.below c.index-spots-number.is in
+    let its = c.requires.spots.each c.args.number spot here in
+    subst (IsReadRight book c.args.number) (sym c.own_read.ensures)
+    (own_right book c.args.number spot its (c.requires.own spot here) c.in_ok-read.read (c.in_ok-read.ensures.right told))
+
+pub read_back-requires-clause-place : goal.read_back-requires-clause-place
+read_back-requires-clause-place g c tells =
+    let spot = c.index-spots-number.result in
+    let here = got c.args.spots.now c.args.number spot c.requires.below c.index-spots-number.is in
+    (c.requires.within tells).each c.args.number spot here
+
+pub read_back-requires-clause-ends : goal.read_back-requires-clause-ends
+read_back-requires-clause-ends g c =
+    let spot = c.index-spots-number.result in
+    let here = got c.args.spots.now c.args.number spot c.requires.below c.index-spots-number.is in
+    let its = c.requires.spots.each c.args.number spot here in
+    its.ends
+
+pub returns-clause-checked : goal.returns-clause-checked
+returns-clause-checked g c other at =
+    let spot = c.index-spots-number.result in
+    let here = got c.args.spots.now c.args.number spot c.requires.below c.index-spots-number.is in
+    subst (λ (s : Spot). IfOk c.read_back.result (IsChecked s.digest)) (one_spot c.args.spots.now c.args.number spot other here at) c.read_back.ensures.checked
+
+pub returns-clause-right : goal.returns-clause-right
+returns-clause-right g c told =
+    let spot = c.index-spots-number.result in
+    let here = got c.args.spots.now c.args.number spot c.requires.below c.index-spots-number.is in
+    let its = c.requires.spots.each c.args.number spot here in
+    let read : is_told_form spot.form ≡ false = sym c.is_told.ensures ∙ c.if-is_told.false in
+    c.read_back.ensures.right c.args.number (c.requires.holds.tells told)
+    (record { is = its; placed = (c.requires.placed told).each c.args.number spot here; own = c.requires.own spot here; read = read })

@@ -1,0 +1,130 @@
+-- A capture of which a line alone told, read whole by its place.
+use Rattle.std.specs.Prelude.{◌≡◌, ◌≢◌, ◌⊎◌, ℕ, ◌^◌, ◌<◌, Bool, true, false, IsSomeAnd, List, ◌++◌, length, slice_get, get_or, Option, Some, None}
+use Rattle.sha1.specs.Sha1.{sha1}
+use Rattle.capture.specs.Captures.{captures, is_cut, kept_wire, HasPayload, IsPayloadOf}
+use Rattle.capture.specs.declared.book.Book.{Book}
+use Rattle.capture.specs.declared.captured.Kept.TheVariants.{Same}
+use Rattle.capture.specs.declared.captured.Stored.{Stored}
+use Rattle.warc_scan.specs.Answers.{BeginsWithGroup}
+use Rattle.warc_scan.specs.declared.group.Group.{Group}
+use Rattle.warc_scan.specs.declared.group.Revisited.{Revisited}
+use Rattle.warc_text.specs.Books.{IsGroupText}
+use Rattle.warc_text.specs.Ids.{id_of}
+use Rattle.warc_text.specs.declared.id.IdKind.TheVariants.{Response}
+use Rattle.archive_shelf.specs.Comparing.{KeepsWire}
+use Rattle.archive_volumes.specs.Bringing.{AreOf}
+use Rattle.archive_volumes.specs.Decoding.{IsHead}
+use Rattle.archive_volumes.specs.Spots.{form_of, is_same_form}
+use Rattle.archive_volumes.specs.declared.payload.ReadBack.{ReadBack}
+use Rattle.archive_volumes.specs.declared.payload.ReadBack.TheVariants as back
+use Rattle.archive_volumes.specs.declared.reread.Reread.{Reread}
+use Rattle.archive_volumes.specs.declared.reread.Reread.TheVariants as reread
+use Rattle.archive_volumes.specs.declared.spot.Spot.{Spot}
+
+-- where the book is told: bytes begin with the group of the capture with this number
+pub record BeginWithText (book : Book) (number : ℕ) (bytes : List ℕ) : Type 0 where
+  pub group : List ℕ
+  pub rest : List ℕ
+  pub is : IsGroupText book number group
+  pub short : length group < 2 ^ 63
+  pub composed : bytes ≡ group ++ rest
+
+-- ---- what is read
+
+-- Whatever the disk tells: there is a response's head, and a payload that is kept has the digest of the line; or what the group tells has another
+-- one, or there is no group.
+abbrev pub IsReread : List ℕ → Reread → Type 0
+IsReread digest (reread.Own head payload cut) = IsHead head true × (sha1 payload ≡ digest)
+IsReread digest (reread.Same head same) = IsHead head true
+IsReread digest (reread.Damaged found) = found ≢ Some digest
+
+-- what is read of a group, where the line told this digest
+abbrev pub IsRereadBy : Group → List ℕ → Reread → Type 0
+IsRereadBy group digest (reread.Own head payload cut) =
+    (head ≡ group.stored.head) × HasPayload cut group.stored.method group.stored.head (kept_wire group.stored.kept) payload
+    × (cut ≡ is_cut group.stored.kept) × (is_same_form (form_of group.stored.kept) ≡ false)
+IsRereadBy group digest (reread.Same head same) = (head ≡ group.stored.head) × (group.same ≡ Some same)
+IsRereadBy group digest (reread.Damaged found) = group.digest ≢ digest
+
+-- bytes begin with a group of which this is read, or with none
+abbrev pub IsRereadIn : List ℕ → ℕ → List ℕ → List ℕ → Reread → Type 0
+IsRereadIn namespace number bytes digest read =
+    ((group : Group) × BeginsWithGroup namespace number bytes group × IsRereadBy group digest read)
+    ⊎ ((group : Group) → BeginsWithGroup namespace number bytes group → ⊥)
+
+-- ---- where the book is told
+
+-- the capture keeps its wire, and these are its head and its payload
+pub record IsOwnOf (book : Book) (number : ℕ) (head payload : List ℕ) (cut : Bool) : Type 0 where
+  pub are : AreOf book number head payload
+  pub own : is_same_form (form_of are.has.stored.kept) ≡ false
+  pub cut_is : cut ≡ is_cut are.has.stored.kept
+
+-- what a revisit's record tells of the capture that it refers to
+pub record TellsOf (book : Book) (first : ℕ) (same : Revisited) : Type 0 where
+  pub original : Stored
+  pub placed : slice_get (captures book) first ≡ Some original
+  pub id_is : same.id ≡ id_of book.namespace Response first
+  pub uri_is : same.uri ≡ original.uri
+  pub date_is : same.date ≡ original.date
+
+-- the capture is a revisit of that one, and this is its head
+pub record IsSameOf (book : Book) (number : ℕ) (head : List ℕ) (same : Revisited) : Type 0 where
+  pub stored : Stored
+  pub first : ℕ
+  pub placed : slice_get (captures book) number ≡ Some stored
+  pub kept : stored.kept ≡ Same first
+  pub head_is : head ≡ stored.head
+  pub tells : TellsOf book first same
+
+abbrev pub IsRereadOf : Book → ℕ → Reread → Type 0
+IsRereadOf book number (reread.Own head payload cut) = IsOwnOf book number head payload cut
+IsRereadOf book number (reread.Same head same) = IsSameOf book number head same
+IsRereadOf book number (reread.Damaged found) = ⊥
+
+-- what was read of a capture that is to keep its wire: a revisit is damage
+abbrev pub own_by : Reread → ReadBack
+own_by (reread.Own head payload cut) = back.Right head payload
+own_by (reread.Same head same) = back.Damaged None
+own_by (reread.Damaged found) = back.Damaged found
+
+-- ---- what a revisit refers to
+
+-- the capture with this number has the id, the target and the date that a revisit's record tells
+pub record IsToldBy (namespace : List ℕ) (same : Revisited) (number : ℕ) (spot : Spot) : Type 0 where
+  pub date : spot.date ≡ same.date
+  pub uri : spot.uri ≡ same.uri
+  pub id : id_of namespace Response number ≡ same.id
+
+-- It is a candidate that keeps its whole wire, of which the record tells; no candidate before it has its id.
+pub record IsFirstTold (book : Book) (same : Revisited) (candidates : List ℕ) (first : ℕ) : Type 0 where
+  pub place : ℕ
+  pub within : place < length candidates
+  pub is : first ≡ get_or candidates place 0
+  pub keeps : KeepsWire book first
+  pub tells : TellsOf book first same
+  pub before : (k : ℕ) → k < place → id_of book.namespace Response (get_or candidates k 0) ≢ same.id
+
+-- its payload
+abbrev pub HasItsPayload : Book → ℕ → Option (List ℕ) → Type 0
+HasItsPayload book number found = IsSomeAnd found (λ payload. IsPayloadOf book number payload)
+
+-- the id of the record of a capture's response
+abbrev pub id_of_response : List ℕ → ℕ → List ℕ
+id_of_response namespace number = id_of namespace Response number
+
+-- the payload, where the whole wire is kept
+abbrev pub whole_by : Reread → Option (List ℕ)
+whole_by (reread.Own head payload false) = Some payload
+whole_by (reread.Own head payload true) = None
+whole_by (reread.Same head same) = None
+whole_by (reread.Damaged found) = None
+
+-- the payload, where it has its digest
+abbrev pub right_by : ReadBack → Option (List ℕ)
+right_by (back.Right head payload) = Some payload
+right_by (back.Damaged found) = None
+
+-- of each candidate this digest is kept
+abbrev pub HaveDigest : List Spot → List ℕ → List ℕ → Type 0
+HaveDigest spots candidates digest = (k : ℕ) (spot : Spot) → k < length candidates → slice_get spots (get_or candidates k 0) ≡ Some spot → spot.digest ≡ digest

@@ -1,0 +1,163 @@
+//! What a revisit refers to of which a line alone told, found by its record.
+ghost use Rattle.std.specs.Prelude.{◌≡◌, ℕ, List, IfOk, IfSome, IsFalse, IsTrue, Some, slice_get};
+ghost use Rattle.sha1.specs.Sha1.{sha1};
+ghost use Rattle.warc_journal.specs.Journals.{disk_of, texts};
+ghost use Rattle.archive_shelf.specs.Answers.{CountsIf};
+ghost use Rattle.archive_shelf.specs.Comparing.{KeepsWire};
+ghost use Rattle.archive_volumes.specs.Bringing.{OnlyReads, is_read_fault};
+ghost use Rattle.archive_volumes.specs.Choosing.{MayBeWhole, MayBeWholeAt};
+ghost use Rattle.archive_volumes.specs.Held.{book_of};
+ghost use Rattle.archive_volumes.specs.Rereading.{HasItsPayload, HaveDigest, IsFirstTold, IsToldBy, TellsOf, id_of_response, right_by, whole_by};
+ghost use Rattle.archive_volumes.specs.Spots.{AreSpotsOf, ArePlaced, AreWithin};
+ghost use Rattle.archive_volumes.specs.Volumes.{HoldsBook, IsMeasured};
+ghost use Rattle.archive_volumes.specs.declared.spot.Spot.{Spot as SpotValue};
+
+use crate::part::ReadFault;
+use crate::payload::ReadBack;
+use crate::reread::Reread;
+use crate::spot::Spot;
+use crate::volumes::Volumes;
+use capture::Bytes;
+use disk_model::Disk;
+use shown::Shown;
+use std::alloc::Global;
+use uuid::Uuid;
+use warc_scan::Revisited;
+use warc_text::{IdKind, id_of};
+
+/// Whether a revisit's record tells of the capture with this number: its target, its date and the id of its record.
+fn is_told_by(namespace: &Uuid, same: &Revisited, number: u32, spot: &Spot) -> bool
+    ensures met { IsTrue result → IsToldBy namespace.now same.now number spot.now }
+    ensures missed { IsFalse result → IsToldBy namespace.now same.now number spot.now → ⊥ }
+{
+    if spot.date != same.date {
+        return false;
+    }
+    if spot.uri != same.uri {
+        return false;
+    }
+    let own = id_of(namespace, IdKind::Response, number);
+    own == same.id
+}
+
+/// The payload of a capture as its group tells it, if it keeps its whole wire.
+fn whole_of(read: Reread) -> Option<Bytes>
+    ensures { result ≡ whole_by read }
+{
+    match read {
+        Reread::Own {
+            head: _,
+            payload,
+            cut: false,
+        } => Some(payload),
+        Reread::Own {
+            head: _,
+            payload: _,
+            cut: true,
+        } => None,
+        Reread::Same { head: _, same: _ } => None,
+        Reread::Damaged(_) => None,
+    }
+}
+
+/// The payload that was read back, if it has its digest.
+fn right_of(read: ReadBack) -> Option<Bytes>
+    ensures { result ≡ right_by read }
+{
+    match read {
+        ReadBack::Right { head: _, payload } => Some(payload),
+        ReadBack::Damaged(_) => None,
+    }
+}
+
+impl<D: Disk> Volumes<D> {
+    /// The payload of a capture that keeps its whole wire, or may do so; none where it doesn't, or where that is damaged.
+    fn whole_payload(
+        &mut self,
+        told: &Shown<bool>,
+        alloc: Global,
+        spots: &[Spot],
+        number: u32,
+    ) -> Result<Option<Bytes>, ReadFault>
+        requires holds { HoldsBook D.Disk told.now.value self.old.journal (book_of self.old.held) }
+        requires measured { IsMeasured self.old.journal (book_of self.old.held) }
+        requires spots { AreSpotsOf (book_of self.old.held) spots.now }
+        requires within { IsTrue D.tells → AreWithin (texts D.Disk self.old.journal) spots.now }
+        requires placed { IsTrue told.now.value → ArePlaced (texts D.Disk self.old.journal) (book_of self.old.held) spots.now }
+        requires whole { MayBeWholeAt spots.now number }
+        ensures kept { (spot : SpotValue) → slice_get spots.now number ≡ Some spot
+            → IfOk result (λ found. IfSome found (λ payload. sha1 payload ≡ spot.digest)) }
+        ensures right { IsTrue told.now.value → KeepsWire (book_of self.old.held) number → IfOk result (HasItsPayload (book_of self.old.held) number) }
+        ensures reads { OnlyReads D.Disk self.old self.new }
+        ensures faults { CountsIf (is_read_fault result) (D.faults (disk_of self.old.journal)) (D.faults (disk_of self.new.journal)) }
+    {
+        let spot = &spots[number as usize];
+        if spot.form.is_told() {
+            let read = self.reread(told, alloc, spots, number)?;
+            return Ok(whole_of(read));
+        }
+        let back = self.read_back(alloc, spot)?;
+        Ok(right_of(back))
+    }
+
+    /// The payload of a candidate, if a revisit's record tells of it, and it keeps its whole wire.
+    fn told_payload(
+        &mut self,
+        told: &Shown<bool>,
+        alloc: Global,
+        spots: &[Spot],
+        number: u32,
+        same: &Revisited,
+    ) -> Result<Option<Bytes>, ReadFault>
+        requires holds { HoldsBook D.Disk told.now.value self.old.journal (book_of self.old.held) }
+        requires measured { IsMeasured self.old.journal (book_of self.old.held) }
+        requires spots { AreSpotsOf (book_of self.old.held) spots.now }
+        requires within { IsTrue D.tells → AreWithin (texts D.Disk self.old.journal) spots.now }
+        requires placed { IsTrue told.now.value → ArePlaced (texts D.Disk self.old.journal) (book_of self.old.held) spots.now }
+        requires whole { MayBeWholeAt spots.now number }
+        ensures kept { (spot : SpotValue) → slice_get spots.now number ≡ Some spot
+            → IfOk result (λ found. IfSome found (λ payload. sha1 payload ≡ spot.digest)) }
+        ensures met { IfOk result (λ found. IfSome found (λ payload. id_of_response (book_of self.old.held).namespace number ≡ same.now.id)) }
+        ensures right { IsTrue told.now.value → KeepsWire (book_of self.old.held) number → TellsOf (book_of self.old.held) number same.now
+            → IfOk result (HasItsPayload (book_of self.old.held) number) }
+        ensures reads { OnlyReads D.Disk self.old self.new }
+        ensures faults { CountsIf (is_read_fault result) (D.faults (disk_of self.old.journal)) (D.faults (disk_of self.new.journal)) }
+    {
+        if is_told_by(&self.held.namespace, same, number, &spots[number as usize]) {
+            return self.whole_payload(told, alloc, spots, number);
+        }
+        Ok(None)
+    }
+
+    /// The payload of the first of the candidates of which a revisit's record tells, and which turns out to keep its whole wire.
+    pub(crate) fn original_payload(
+        &mut self,
+        told: &Shown<bool>,
+        alloc: Global,
+        spots: &[Spot],
+        candidates: &[u32],
+        same: &Revisited,
+    ) -> Result<Option<Bytes>, ReadFault>
+        requires holds { HoldsBook D.Disk told.now.value self.old.journal (book_of self.old.held) }
+        requires measured { IsMeasured self.old.journal (book_of self.old.held) }
+        requires spots { AreSpotsOf (book_of self.old.held) spots.now }
+        requires within { IsTrue D.tells → AreWithin (texts D.Disk self.old.journal) spots.now }
+        requires placed { IsTrue told.now.value → ArePlaced (texts D.Disk self.old.journal) (book_of self.old.held) spots.now }
+        requires whole { MayBeWhole spots.now candidates.now }
+        ensures kept { (digest : List ℕ) → HaveDigest spots.now candidates.now digest
+            → IfOk result (λ found. IfSome found (λ payload. sha1 payload ≡ digest)) }
+        ensures right { IsTrue told.now.value → (first : ℕ) → IsFirstTold (book_of self.old.held) same.now candidates.now first
+            → IfOk result (HasItsPayload (book_of self.old.held) first) }
+        ensures reads { OnlyReads D.Disk self.old self.new }
+        ensures faults { CountsIf (is_read_fault result) (D.faults (disk_of self.old.journal)) (D.faults (disk_of self.new.journal)) }
+    {
+        for candidate in candidates {
+            let found = self.told_payload(told, alloc, spots, *candidate, same)?;
+            match found {
+                Some(payload) => return Ok(Some(payload)),
+                None => (),
+            }
+        }
+        Ok(None)
+    }
+}

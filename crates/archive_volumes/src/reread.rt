@@ -1,0 +1,199 @@
+//! A capture of which a line alone told, read whole by its place.
+ghost use Rattle.std.specs.Prelude.{◌≡◌, ◌<◌, ◌^◌, ℕ, List, IfOk, IsTrue, Some, false, length, slice_get};
+ghost use Rattle.capture.specs.Captures.{HasPayload};
+ghost use Rattle.warc_journal.specs.Journals.{disk_of, texts};
+ghost use Rattle.warc_scan.specs.Groups.{IsGroup};
+ghost use Rattle.warc_scan.specs.declared.group.Revisited.{Revisited as RevisitedValue};
+ghost use Rattle.archive_shelf.specs.Answers.{CountsIf};
+ghost use Rattle.archive_volumes.specs.Bringing.{IsChecked, IsReadRight, OnlyReads, is_read_fault};
+ghost use Rattle.archive_volumes.specs.Held.{book_of};
+ghost use Rattle.archive_volumes.specs.Rereading.{IsReread, IsRereadBy, IsRereadIn, IsRereadOf, own_by};
+ghost use Rattle.archive_volumes.specs.Spots.{AreSpotsOf, ArePlaced, AreWithin, is_same_form};
+ghost use Rattle.archive_volumes.specs.Volumes.{HoldsBook, IsMeasured};
+ghost use Rattle.archive_volumes.specs.declared.reread.Reread.TheVariants.{Own as OwnRead, Same as SameRead};
+ghost use Rattle.archive_volumes.specs.declared.spot.Spot.{Spot as SpotValue};
+
+use crate::decode::{framing_behind, payload_in};
+use crate::part::ReadFault;
+use crate::payload::ReadBack;
+use crate::spot::Spot;
+use crate::volumes::Volumes;
+use capture::{Bytes, Digest, Kept, Memory, Stored, Text, wires_have_one_payload};
+use disk_model::Disk;
+use shown::Shown;
+use std::alloc::Global;
+use uuid::Uuid;
+use warc_scan::{Group, GroupStep, Revisited, next_group};
+
+/// A capture, as its group tells it.
+#[derive(Debug, Drop)]
+pub(crate) enum Reread {
+    /// It keeps its wire: its head, and its payload, which has the digest that is kept; and whether the response was cut.
+    Own {
+        head: Bytes,
+        payload: Bytes,
+        cut: bool,
+    },
+    /// Another capture keeps its payload: its head, and the record that it refers to.
+    Same {
+        head: Bytes,
+        same: Revisited,
+    },
+    /// Its group tells this other digest, or no group with its number stands there (`None`).
+    Damaged(Option<Digest>),
+}
+
+/// A capture that keeps its wire, whole or cut, which has a payload.
+fn own(alloc: Global, method: &Text, head: Bytes, wire: Bytes, cut: bool) -> Result<Reread, Memory>
+    requires has { (payload : List ℕ) × HasPayload cut method.now head wire payload }
+    requires short { length wire < 2 ^ 64 }
+    ensures { (payload : List ℕ) → HasPayload cut method.now head wire payload → IfOk result (λ read. read ≡ OwnRead head payload cut) }
+{
+    wires_have_one_payload();
+    let framing = match framing_behind(alloc, method, head.as_slice())? {
+        Some(framing) => framing,
+        None => unreachable!(),
+    };
+    let found = payload_in(alloc, framing, wire.into_vec(), cut)?;
+    match found {
+        Some(payload) => Ok(Reread::Own { head, payload, cut }),
+        None => unreachable!(),
+    }
+}
+
+/// What a group tells of its capture, if its digest is the one that is kept.
+fn reread_of(alloc: Global, group: Group, kept: &Digest) -> Result<Reread, Memory>
+    requires is { (namespace : List ℕ) × (number : ℕ) × (text : List ℕ) × IsGroup namespace number text group }
+    ensures read { IfOk result (IsReread kept.now) }
+    ensures by { IfOk result (IsRereadBy group kept.now) }
+{
+    let Group {
+        number: _,
+        stored,
+        digest,
+        payload_len: _,
+        same,
+        head_at: _,
+        body_at: _,
+        first_len: _,
+        len: _,
+    } = group;
+    if digest != *kept {
+        return Ok(Reread::Damaged(Some(digest)));
+    }
+    let Stored {
+        method,
+        uri: _,
+        date: _,
+        request: _,
+        head,
+        kept: wire,
+    } = stored;
+    match wire {
+        Kept::Wire(wire) => own(alloc, &method, head, wire, false),
+        Kept::Same(_) => Ok(revisit_of(head, same)),
+        Kept::Cut(wire) => own(alloc, &method, head, wire, true),
+    }
+}
+
+/// A capture whose payload another one keeps.
+fn revisit_of(head: Bytes, same: Option<Revisited>) -> Reread
+    ensures { (revisited : RevisitedValue) → same ≡ Some revisited → result ≡ SameRead head revisited }
+{
+    match same {
+        Some(same) => Reread::Same { head, same },
+        None => Reread::Damaged(None),
+    }
+}
+
+/// What the group with this number tells with which the bytes begin.
+fn reread_in(
+    alloc: Global,
+    bytes: &[u8],
+    namespace: &Uuid,
+    number: u32,
+    kept: &Digest,
+) -> Result<Reread, Memory>
+    ensures read { IfOk result (IsReread kept.now) }
+    ensures by { IfOk result (IsRereadIn namespace.now number bytes.now kept.now) }
+{
+    match next_group(alloc, bytes, false, namespace, number) {
+        GroupStep::Group(group) => reread_of(alloc, group, kept),
+        GroupStep::End => Ok(Reread::Damaged(None)),
+        GroupStep::Unfinished => Ok(Reread::Damaged(None)),
+        GroupStep::Damaged => Ok(Reread::Damaged(None)),
+        // All the bytes are there.
+        GroupStep::Need(_) => unreachable!(),
+        GroupStep::Memory => Err(Memory),
+    }
+}
+
+/// What was read of a capture that is to keep its wire.
+fn own_read(read: Reread) -> ReadBack
+    ensures { result ≡ own_by read }
+{
+    match read {
+        Reread::Own {
+            head,
+            payload,
+            cut: _,
+        } => ReadBack::Right { head, payload },
+        Reread::Same { head: _, same: _ } => ReadBack::Damaged(None),
+        Reread::Damaged(found) => ReadBack::Damaged(found),
+    }
+}
+
+impl<D: Disk> Volumes<D> {
+    /// The capture with this number, of those whose spots these are, as its group tells it.
+    pub(crate) fn reread(
+        &mut self,
+        told: &Shown<bool>,
+        alloc: Global,
+        spots: &[Spot],
+        number: u32,
+    ) -> Result<Reread, ReadFault>
+        requires holds { HoldsBook D.Disk told.now.value self.old.journal (book_of self.old.held) }
+        requires measured { IsMeasured self.old.journal (book_of self.old.held) }
+        requires below { number < length spots.now }
+        requires spots { AreSpotsOf (book_of self.old.held) spots.now }
+        requires within { IsTrue D.tells → AreWithin (texts D.Disk self.old.journal) spots.now }
+        requires placed { IsTrue told.now.value → ArePlaced (texts D.Disk self.old.journal) (book_of self.old.held) spots.now }
+        ensures read { (spot : SpotValue) → slice_get spots.now number ≡ Some spot → IfOk result (IsReread spot.digest) }
+        ensures right { IsTrue told.now.value → IfOk result (IsRereadOf (book_of self.old.held) number) }
+        ensures reads { OnlyReads D.Disk self.old self.new }
+        ensures faults { CountsIf (is_read_fault result) (D.faults (disk_of self.old.journal)) (D.faults (disk_of self.new.journal)) }
+    {
+        let bytes = self.read_text(told, alloc, spots, number)?;
+        let kept = spots[number as usize].digest;
+        let read = reread_in(alloc, bytes.as_slice(), &self.held.namespace, number, &kept)?;
+        Ok(read)
+    }
+
+    /// The head and the payload of a capture that keeps its wire. Its records are read as they stand where a line alone told of it.
+    pub(crate) fn read_own(
+        &mut self,
+        told: &Shown<bool>,
+        alloc: Global,
+        spots: &[Spot],
+        number: u32,
+    ) -> Result<ReadBack, ReadFault>
+        requires holds { HoldsBook D.Disk told.now.value self.old.journal (book_of self.old.held) }
+        requires measured { IsMeasured self.old.journal (book_of self.old.held) }
+        requires below { number < length spots.now }
+        requires spots { AreSpotsOf (book_of self.old.held) spots.now }
+        requires within { IsTrue D.tells → AreWithin (texts D.Disk self.old.journal) spots.now }
+        requires placed { IsTrue told.now.value → ArePlaced (texts D.Disk self.old.journal) (book_of self.old.held) spots.now }
+        requires own { (spot : SpotValue) → slice_get spots.now number ≡ Some spot → is_same_form spot.form ≡ false }
+        ensures checked { (spot : SpotValue) → slice_get spots.now number ≡ Some spot → IfOk result (IsChecked spot.digest) }
+        ensures right { IsTrue told.now.value → IfOk result (IsReadRight (book_of self.old.held) number) }
+        ensures reads { OnlyReads D.Disk self.old self.new }
+        ensures faults { CountsIf (is_read_fault result) (D.faults (disk_of self.old.journal)) (D.faults (disk_of self.new.journal)) }
+    {
+        let spot = &spots[number as usize];
+        if spot.form.is_told() {
+            let read = self.reread(told, alloc, spots, number)?;
+            return Ok(own_read(read));
+        }
+        self.read_back(alloc, spot)
+    }
+}
