@@ -4,6 +4,7 @@ use Rattle.std.specs.Prelude.{false, true, ◌==◌, nat_eq, not, Some, slice_ge
 use Rattle.std.specs.List.Sorted.{IsStrictlySortedBy}
 use Rattle.std.proofs.lemmas.Bool.{cases_lt, eqb-true, false≢true, not-false}
 use Rattle.std.proofs.lemmas.List.{get_or_append_left, length_push}
+use Rattle.std.proofs.lemmas.List.Elements.{All-nil}
 use Rattle.std.proofs.lemmas.Option.{same_Some, slice_get_within}
 use Rattle.capture.specs.Captures.{captures, captures_in}
 use Rattle.capture.specs.declared.book.Book.{Book}
@@ -19,7 +20,7 @@ use Rattle.archive_shelf.specs.Gaining.{AreFilled}
 use Rattle.archive_shelf.specs.Storing.{empty_book, with_volume}
 use Rattle.archive_opening.proofs.ReadingLaws.{nothing_read, with_info}
 use Rattle.archive_volumes.proofs.SpotLaws.{GoOn, placed_stay, spots_stay}
-use Rattle.archive_opening.specs.Gathering.{AreLengths, HasBegun, HasVolumeMore, IsGathered, TellsOf}
+use Rattle.archive_opening.specs.Gathering.{AreLengths, GroupWasRead, HasBegun, HasVolumeMore, IsGathered, TellsOf}
 use Rattle.archive_volumes.specs.Held.{book_of, is_filled}
 use Rattle.archive_opening.specs.Reading.{IsRead, Laws}
 use Rattle.archive_opening.specs.declared.gathered.Gathered.{Gathered}
@@ -53,6 +54,7 @@ tells_with_volume laws book texts spots lengths entries is text born info filled
       read = with_info laws book texts is.read text born info filled;
       spots_are = spots_stay book new same (volume_grows book born) spots is.spots_are;
       placed = placed_stay texts (texts ++ text ∷ []) (go_on_push texts text) book new [] (same ∙ sym (append-nil (captures book))) (volume_grows book born) spots is.placed;
+      all_read = is.all_read;
       lengths_are = lengths_stay book new lengths same is.lengths_are;
       entries_are = record {
         in_order = is.entries_are.in_order;
@@ -114,6 +116,7 @@ nothing_gathered namespace is = record {
     each = λ number spot at. absurd (omega (arith, slice_get_within [] number spot at));
     apart = λ number spot next group at after same is. absurd (omega (arith, slice_get_within [] number spot at));
   };
+  all_read = All-nil GroupWasRead;
   lengths_are = record {
     each = λ number stored wire payload keeps. absurd (omega (arith, slice_get_within [] number stored keeps.placed));
     small = λ number less. absurd (omega (arith, less));

@@ -3,6 +3,7 @@ pub mod CandidateLaws
 pub mod CaptureLaws
 pub mod FollowingLaws
 pub mod FrontLaws
+pub mod KnownLaws
 pub mod MeasuringLaws
 pub mod OpenedLaws
 pub mod OriginalLaws

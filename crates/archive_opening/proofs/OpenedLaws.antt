@@ -24,6 +24,7 @@ use Rattle.archive_shelf.specs.declared.fault.ReopenFault.{ReopenFault}
 use Rattle.archive_shelf.specs.declared.fault.ReopenFault.TheVariants as faults
 use Rattle.warc_text.specs.StandsFor.{StandsFor}
 use Rattle.archive_opening.proofs.FollowingLaws.{rests_on}
+use Rattle.archive_opening.proofs.KnownLaws.{none_made}
 use Rattle.archive_opening.proofs.RefusalLaws.{none_joined}
 use Rattle.archive_opening.specs.Gathering.{HasAll, IsGathered, IsOpened, IsSteady}
 use Rattle.archive_volumes.specs.Held.{book_of}
@@ -105,9 +106,11 @@ module _ {D : Type 0} (d : Ghosts D) (s : Scanning D) (g : Gathered) (all : HasA
       sound = λ told. gathered.read.sound;
       texts_are = λ told. subst (AreVolumeTexts (book_of other.held)) (sym (texts_same told)) gathered.read.are;
       placed = λ told. subst (λ (t : List (List ℕ)). ArePlaced t (book_of other.held) other.spots.items) (sym (texts_same told)) gathered.placed;
+      made = λ untold. none_made (book_of other.held) other.spots.items gathered.all_read;
     };
     sound = gathered.read.sound;
     entries = gathered.entries_are;
+    all_read = gathered.all_read;
     stands = λ told. record { texts = all.follows.texts; are = gathered.read.are; held = all.held told };
     in_namespace = in_it;
     rests = λ told. rests_itself d (disk_of s) (disk_of_journal journal) disk_is;
@@ -122,6 +125,7 @@ opened_on d disk mid asked opened rests steady_count is = record {
   usable = is.usable;
   sound = is.sound;
   entries = is.entries;
+  all_read = is.all_read;
   stands = λ told. subst (λ (i : Image). StandsFor (warc_files i) (book_of opened.gathered.held)) (rests told).read (is.stands told);
   in_namespace = is.in_namespace;
   rests = λ told. rests_on d disk mid (disk_of_journal opened.journal) (rests told) (is.rests told);

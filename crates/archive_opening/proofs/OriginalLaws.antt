@@ -27,11 +27,12 @@ use Rattle.warc_text.specs.Books.{same_of}
 use Rattle.warc_text.specs.References.{Reference, reference_to}
 use Rattle.archive_opening.proofs.CandidateLaws.{from_numbers, to_numbers}
 use Rattle.archive_opening.proofs.MeasuringLaws.{one_head}
+use Rattle.archive_opening.proofs.KnownLaws.{read_at}
 use Rattle.archive_opening.specs.Gathering.{TellsOf}
 use Rattle.archive_opening.specs.Measuring.{Agrees, TellsLength}
 use Rattle.archive_opening.specs.Originals.{IsMet}
 use Rattle.archive_opening.specs.Revisits.{IsOriginalOf}
-use Rattle.archive_volumes.specs.Spots.{IsPlaced, IsSpotOf, form_of, is_whole, whole_from}
+use Rattle.archive_volumes.specs.Spots.{IsPlaced, IsSpotOf, form_of, may_be_whole, whole_from}
 use Rattle.archive_opening.specs.declared.measuring.Told.{Told}
 use Rattle.archive_opening.specs.declared.measuring.Told.TheVariants.{Any, Exactly, TooMany}
 use Rattle.archive_volumes.specs.declared.spot.Spot.{Spot}
@@ -44,7 +45,7 @@ record KeepsWhole (kept : Kept) : Type 0 where
   wire : List ℕ
   is : kept ≡ Wire wire
 
-whole_by : (kept : Kept) → is_whole (form_of kept) ≡ true → KeepsWhole kept
+whole_by : (kept : Kept) → may_be_whole (form_of kept) ≡ true → KeepsWhole kept
 whole_by (Wire wire) e = record { wire = wire; is = refl }
 whole_by (Same first) e = absurd (false≢true e)
 whole_by (Cut wire) e = absurd (false≢true e)
@@ -122,7 +123,7 @@ module _ (one : CapturesHaveOnePayload) (book : Book) (texts : List (List ℕ)) 
       let spot_of_book : IsSpotOf book first met.spot = is.spots_are.each first met.spot met.kept in
       let there : IsPlaced texts book first met.spot = is.placed.each first met.spot met.kept in
       let stored : Stored = spot_of_book.stored in
-      let form : is_whole (form_of stored.kept) ≡ true = ap is_whole (sym spot_of_book.form) ∙ ap (λ (s : Spot). is_whole s.form) (sym spot_same) ∙ candidate.whole in
+      let form : may_be_whole (form_of stored.kept) ≡ true = ap may_be_whole (sym (spot_of_book.form (read_at spots is.all_read first met.spot met.kept))) ∙ ap (λ (s : Spot). may_be_whole s.form) (sym spot_same) ∙ candidate.whole in
       let whole = whole_by stored.kept form in
       let stored_same : there.has.stored ≡ stored = one_at (slice_get (captures book) first) there.has.stored stored there.has.placed spot_of_book.placed in
       let by_kept : IsPayloadBy book stored stored.kept there.payload = subst (λ (s : Stored). IsPayloadBy book s s.kept there.payload) stored_same there.has.by_kept in
@@ -163,8 +164,8 @@ module _ (one : CapturesHaveOnePayload) (book : Book) (texts : List (List ℕ)) 
       let spot_of_book : IsSpotOf book first spot = is.spots_are.each first spot kept.at in
       let there : IsPlaced texts book first spot = is.placed.each first spot kept.at in
       let stored_is : spot_of_book.stored ≡ of.original = one_at (slice_get (captures book) first) spot_of_book.stored of.original spot_of_book.placed of.keeps.placed in
-      let whole : is_whole spot.form ≡ true =
-      ap is_whole (spot_of_book.form ∙ ap (λ (s : Stored). form_of s.kept) stored_is) ∙ ap (λ (k : Kept). is_whole (form_of k)) of.keeps.kept in
+      let whole : may_be_whole spot.form ≡ true =
+      ap may_be_whole (spot_of_book.form (read_at spots is.all_read first spot kept.at) ∙ ap (λ (s : Stored). form_of s.kept) stored_is) ∙ ap (λ (k : Kept). may_be_whole (form_of k)) of.keeps.kept in
       let payload : there.payload ≡ of.payload = one book first there.payload of.payload there.has (record {
         stored = of.original;
         placed = of.keeps.placed;

@@ -1,7 +1,7 @@
 -- What is kept of a capture that was taken, and where it stands.
 use Rattle.std.proofs.Common.{◌≡◌, ◌≢◌, ℕ, ◌+◌, ◌-◌, ◌<◌, ◌≤◌, List, [], ◌∷◌, ◌++◌, length, get_or, refl, sym, ap, subst, ◌∙◌, arith, append-nil, append_assoc, length-append}
 use Rattle.std.specs.Prelude.{nat_eq, if◌then◌else◌, IsTrue, Option, Some, None, option_to_list, slice_get}
-use Rattle.std.proofs.lemmas.Bool.{cond_both, eqb-false, eqb-true}
+use Rattle.std.proofs.lemmas.Bool.{cond_both, eqb-false, eqb-true, false≢true}
 use Rattle.std.proofs.lemmas.List.{get_or-set_other, length-set}
 use Rattle.httparse.specs.Grammar.{ResponseHead, status_code}
 use Rattle.sha1.specs.Sha1.{sha1}
@@ -39,7 +39,7 @@ use Rattle.archive_opening.proofs.PlaceLaws.{answer_and_request}
 use Rattle.archive_volumes.proofs.DigestLaws.{own_digest}
 use Rattle.archive_volumes.proofs.GroupPlaces.{in_last_volume}
 use Rattle.archive_volumes.proofs.Places.{StandsIn, block_in_group}
-use Rattle.archive_volumes.proofs.SpotLaws.{GoOn, placed_at, placed_with, spots_with}
+use Rattle.archive_volumes.proofs.SpotLaws.{GoOn, form_read, placed_at, placed_with, spots_with}
 use Rattle.archive_opening.proofs.TakeLaws.{entries_push}
 use Rattle.archive_volumes.specs.Entries.{EntersAs, HasNoEntry, IsEntryAt}
 use Rattle.surt_key.specs.Targets.{TargetsHaveKeys}
@@ -159,8 +159,10 @@ module _ (laws : Laws) (book : Book) (texts : List (List ℕ)) (is : IsRead book
     method = refl;
     uri = refl;
     date = refl;
-    form = refl;
-    digest = own_digest new stored stored.kept says.payload group.digest says.payload_is says.digest;
+    form = λ read. refl;
+    revisit = refl;
+    digest = λ read. own_digest new stored stored.kept says.payload group.digest says.payload_is says.digest;
+    line = λ told some. absurd (false≢true (sym (form_read stored.kept) ∙ told));
     inside = subst (IsInVolume new number) (sym in_the_last) (in_last_volume book stored (omega (arith, at.some, is.are.count)));
     refers = refers_back book new (stored ∷ []) (gains laws book texts is text group at.some at.is stored of_group) number group group.stored.kept stored.kept of_group.kept;
     in_range = subst InRange (sym (ap (λ (s : Stored). s.date) of_group.others)) at.is.date;

@@ -17,6 +17,7 @@ use Rattle.warc_text.specs.References.{Reference}
 use Rattle.archive_shelf.specs.Storing.{with_capture}
 use Rattle.archive_opening.proofs.CaptureLaws.{gains}
 use Rattle.archive_opening.proofs.RefusalLaws.{too_long, too_many}
+use Rattle.archive_opening.proofs.KnownLaws.{read_with}
 use Rattle.archive_opening.proofs.RevisitLaws.{long_request, no_original}
 use Rattle.archive_opening.proofs.SpottedLaws.{entries_taken, places_taken, read_taken, spots_taken}
 use Rattle.archive_opening.proofs.TakeLaws.{captured, lengths_with}
@@ -95,6 +96,7 @@ taken laws keys was is texts text place group number first head noted tells at l
       read = read_taken laws book texts tells.read text place group at noted.stored of_group within;
       spots_are = spots_taken laws book texts tells.read text place group at noted.stored of_group within was.spots.items tells.spots_are;
       placed = places_taken laws book texts tells.read text place group at noted.stored of_group within was.spots.items tells.spots_are tells.placed;
+      all_read = read_with was.spots.items tells.all_read noted.stored group.digest place.volume place.at (place.at + group.head_at);
       lengths_are = lengths_with book new noted.stored was.lengths.items noted.length more lengths tells.lengths_are n.length n.fits;
       entries_are = entered;
     } in

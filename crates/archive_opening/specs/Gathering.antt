@@ -1,5 +1,5 @@
 -- What is gathered of the volumes that were read: their book, what is kept of its captures, and their entries.
-use Rattle.std.specs.Prelude.{◌≡◌, ◌≢◌, ℕ, ◌+◌, ◌-◌, ◌^◌, ◌<◌, Bool, true, false, IsTrue, List, [], ◌∷◌, ◌++◌, length, slice_index_or, option_to_list, Option, ⊤}
+use Rattle.std.specs.Prelude.{◌≡◌, ◌≢◌, ℕ, ◌+◌, ◌-◌, ◌^◌, ◌<◌, Bool, true, false, All, IsFalse, IsTrue, List, [], ◌∷◌, ◌++◌, length, slice_index_or, option_to_list, Option, ⊤}
 use Rattle.capture.specs.Captures.{KeepsPayload, captures}
 use Rattle.capture.specs.declared.book.Book.{Book}
 use Rattle.capture.specs.declared.captured.Stored.{Stored}
@@ -32,7 +32,7 @@ use Rattle.archive_volumes.specs.Held.{book_of}
 use Rattle.archive_opening.specs.Noting.{IsGroupAt, IsSomeGroup}
 use Rattle.archive_opening.specs.Opening.{IsDeadEnd, IsIn}
 use Rattle.archive_opening.specs.Reading.{IsRead}
-use Rattle.archive_volumes.specs.Spots.{ArePlaced, AreSpotsOf, AreWithin, spot_of, whole_from}
+use Rattle.archive_volumes.specs.Spots.{AreHeldWhole, ArePlaced, AreSpotsOf, AreWithin, is_told_form, spot_of, whole_from}
 use Rattle.archive_opening.specs.declared.gathered.Gathered.{Gathered}
 use Rattle.archive_volumes.specs.Volumes.{IsMeasured}
 use Rattle.archive_opening.specs.declared.noting.Noted.{Noted}
@@ -52,11 +52,20 @@ pub record IsInStepWith (book : Book) (spots : List Spot) (table : Table) (lengt
   pub few : length spots < 2 ^ 32 - 1
   pub table_is : table.kept ≡ whole_from 0 spots
 
+-- its group was read: not a line alone told of it
+abbrev pub GroupWasRead : Spot → Type 0
+GroupWasRead spot = is_told_form spot.form ≡ false
+
+-- so it is of each
+abbrev pub AreAllRead : List Spot → Type 0
+AreAllRead spots = All GroupWasRead spots
+
 -- they tell of the book whose texts these are
 pub record TellsOf (book : Book) (texts : List (List ℕ)) (spots : List Spot) (lengths : List ℕ) (entries : List Facts) : Type 0 where
   pub read : IsRead book texts
   pub spots_are : AreSpotsOf book spots
   pub placed : ArePlaced texts book spots
+  pub all_read : AreAllRead spots
   pub lengths_are : AreLengths book lengths
   pub entries_are : AreEntries book entries
 
@@ -167,6 +176,8 @@ pub record IsUsable {D : Type 0} (d : Ghosts D) (told : Bool) (opened : Opened D
   pub sound : IsTrue told → IsSound (book_of opened.gathered.held)
   pub texts_are : IsTrue told → AreVolumeTexts (book_of opened.gathered.held) (texts_of d opened.journal)
   pub placed : IsTrue told → ArePlaced (texts_of d opened.journal) (book_of opened.gathered.held) opened.gathered.spots.items
+  -- where it isn't told, a capture that a line alone told of counts as one that keeps its whole wire
+  pub made : IsFalse told → AreHeldWhole (book_of opened.gathered.held) opened.gathered.spots.items
 
 -- Volumes were opened, each of which was read: their book is sound and its entries were gathered. The disk holds it, where that tells, and
 -- nothing else may be left of it than before.
@@ -174,6 +185,7 @@ pub record IsOpened {D : Type 0} (d : Ghosts D) (disk : D) (asked : Option (List
   pub usable : IsUsable d d.tells opened
   pub sound : IsSound (book_of opened.gathered.held)
   pub entries : AreEntries (book_of opened.gathered.held) opened.gathered.entries.items
+  pub all_read : AreAllRead opened.gathered.spots.items
   pub stands : IsTrue d.tells → StandsFor (warc_files (d.reading disk)) (book_of opened.gathered.held)
   pub in_namespace : IsIn asked (book_of opened.gathered.held)
   pub rests : IsTrue d.tells → Rests d disk (disk_of_journal opened.journal)

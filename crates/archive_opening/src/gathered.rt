@@ -14,7 +14,7 @@ ghost use Rattle.archive_volumes.specs.Held.{book_of};
 ghost use Rattle.archive_opening.specs.Noting.{IsGroupAt, IsSomeGroup};
 ghost use Rattle.archive_opening.specs.Opening.{IsCause, IsDeadEnd, IsIn, IsOther};
 ghost use Rattle.archive_opening.specs.Revisits.{RefersRight, RefersToNone};
-ghost use Rattle.archive_volumes.specs.Spots.{form_of, is_whole as is_whole_form};
+ghost use Rattle.archive_volumes.specs.Spots.{form_of, may_be_whole};
 ghost use Rattle.archive_opening.specs.declared.gathered.Refusal.TheVariants.{Damaged as IsDamaged, Memory as IsMemory};
 
 use crate::laws::reading_laws;
@@ -346,7 +346,7 @@ fn add_entry(entries: &mut Vec<Entry>, entry: Option<Entry>) -> Result<(), Memor
 
 /// Whether a whole wire is kept.
 fn is_whole(kept: &Kept) -> bool
-    ensures { result ≡ is_whole_form (form_of kept.now) }
+    ensures { result ≡ may_be_whole (form_of kept.now) }
 {
     match kept {
         Kept::Wire(_) => true,
