@@ -19,10 +19,10 @@ use Rattle.proxy_run.proofs.NextLaws.{all_next, ready_next}
 use Rattle.proxy_run.specs.Complete.{CapturesComeBack, ChecksAreAnswered, EndsBadly, ImportsAreAnswered, ImportsBadly, ImportsLeaveReady, IsFullBefore, IsNotTaken, IsReady, IsSteady, NoFaults, PipesAreAnswered, PipesLeaveReady, ServesBadly}
 use Rattle.proxy_run.specs.Imports.{IsTellable, Tells, status_after}
 use Rattle.proxy_run.specs.Keeping.{EndsBy, Keeps, is_denied}
-use Rattle.proxy_run.specs.Objects.{Kinds, Objects}
-use Rattle.proxy_run.specs.Pipes.{HasServed, HasServedNone, Pipes, Refuses}
+use Rattle.proxy_run.specs.Objects.{Kinds, Objects, UsesFirst, with_one}
+use Rattle.proxy_run.specs.Pipes.{HasServed, HasServedNone, Refuses}
 use Rattle.proxy_run.specs.Printing.{LacksMemory, Prints}
-use Rattle.proxy_run.specs.Runs.{HasChecked, HasTakenIn}
+use Rattle.proxy_run.specs.Runs.{HasChecked, HasPiped, HasTakenIn}
 use Rattle.proxy_run.specs.Serving.{IsReason, status_of}
 use Rattle.proxy_run.specs.Texts.{IsFaultText}
 use Rattle.proxy_run.specs.declared.input.InputFault.{InputFault}
@@ -81,7 +81,7 @@ lacks_memory sinks asked image book before now out_was out_is status stands none
 lacks_memory sinks asked image book before now out_was out_is status stands none steady faults.Memory damage other counts (inr lacked) = lacked.status_is
 
 module _ {D G L P N M C O : Type 0} (kinds : Kinds D G L P N M C O) where
-  refused_for_memory : (asked : Option (List ℕ)) (was is : Objects D G N C O) (status : Status) → IsTrue kinds.disks.tells
+  refused_for_memory : (asked : Option (List ℕ)) (was is : Objects D G (List (N × C)) O) (status : Status) → IsTrue kinds.disks.tells
       → IsReady asked (kinds.disks.reading was.disk)
       → ((other : List ℕ) → HoldsOther (warc_files (kinds.disks.reading was.disk)) asked other → ⊥)
       → NoFaults kinds was is → Refuses kinds asked was is status → status ≡ Memory
@@ -91,7 +91,7 @@ module _ {D G L P N M C O : Type 0} (kinds : Kinds D G L P N M C O) where
 
   -- ---- `check`
 
-  check_answered : (was is : Objects D G N C O) (status : Status) → IsTrue kinds.disks.tells → IsReady None (kinds.disks.reading was.disk)
+  check_answered : (was is : Objects D G (List (N × C)) O) (status : Status) → IsTrue kinds.disks.tells → IsReady None (kinds.disks.reading was.disk)
       → NoFaults kinds was is → HasChecked kinds was is status ⊎ Refuses kinds None was is status → (status ≡ Done) ⊎ (status ≡ Memory)
   check_answered was is status told ready steady (inl checked) =
       printed_or_lacked kinds.sinks Done _ was.out is.out status steady.out checked.counted.printed
@@ -110,11 +110,12 @@ module _ {D G L P N M C O : Type 0} (kinds : Kinds D G L P N M C O) where
   ends_or_badly (served.ClientRefused refusal) status e = inl e
   ends_or_badly served.WantOfMemory status e = inr (inl e)
 
-  badly : (was is : Objects D G N C O) (before after : Contents) (status : Status) (s : HasServed kinds was is before after status)
+  badly : (was is : Objects D G (List (N × C)) O) (before after : Contents) (status : Status) (first : UsesFirst was.crew is.crew)
+      (s : HasServed kinds (with_one was first.before) (with_one is first.after) before after status)
       → (status ≡ Done) ⊎ (status ≡ Memory) ⊎ EndsBadly s.one.served → (status ≡ Done) ⊎ (status ≡ Memory) ⊎ ServesBadly kinds was is status
-  badly was is before after status s (inl done) = inl done
-  badly was is before after status s (inr (inl memory)) = inr (inl memory)
-  badly was is before after status s (inr (inr ends)) = inr (inr (record { before = before; after = after; served = s; badly = ends }))
+  badly was is before after status first s (inl done) = inl done
+  badly was is before after status first s (inr (inl memory)) = inr (inl memory)
+  badly was is before after status first s (inr (inr ends)) = inr (inr (record { before = before; after = after; first = first; served = s; badly = ends }))
 
   without : (closed : Bool) (before now : ℕ) (status : Status) → IsSteady before now → IsReason closed before now status
       → (status ≡ Done) ⊎ (status ≡ Memory)
@@ -128,19 +129,20 @@ module _ {D G L P N M C O : Type 0} (kinds : Kinds D G L P N M C O) where
   one_more (inl a) = inl a
   one_more (inr b) = inr (inl b)
 
-  served_answered : (was is : Objects D G N C O) (before after : Contents) (status : Status) → NoFaults kinds was is
-      → HasServed kinds was is before after status ⊎ HasServedNone kinds was is before after status
+  served_answered : (was is : Objects D G (List (N × C)) O) (before after : Contents) (status : Status) (first : UsesFirst was.crew is.crew) → NoFaults kinds was is
+      → HasServed kinds (with_one was first.before) (with_one is first.after) before after status
+      ⊎ HasServedNone kinds (with_one was first.before) (with_one is first.after) before after status
       → (status ≡ Done) ⊎ (status ≡ Memory) ⊎ ServesBadly kinds was is status
-  served_answered was is before after status steady (inl s) = badly was is before after status s (ends_or_badly s.one.served status s.one.status_is)
-  served_answered was is before after status steady (inr n) =
+  served_answered was is before after status first steady (inl s) = badly was is before after status first s (ends_or_badly s.one.served status s.one.status_is)
+  served_answered was is before after status first steady (inr n) =
       one_more (without (kinds.gates.closed was.gate) (kinds.gates.faults was.gate) (kinds.gates.faults is.gate) status steady.gate n.none.reason)
 
-  pipe_answered : FilesStandForOneBook → FilesStandForNoVolume → (namespace : List ℕ) (was is : Objects D G N C O) (status : Status) → IsTrue kinds.disks.tells
+  pipe_answered : FilesStandForOneBook → FilesStandForNoVolume → (namespace : List ℕ) (was is : Objects D G (List (N × C)) O) (status : Status) → IsTrue kinds.disks.tells
       → IsTrue kinds.clients_tell → IsTrue kinds.origins_tell → IsReady (Some namespace) (kinds.disks.reading was.disk) → NoFaults kinds was is
-      → Pipes kinds (Some namespace) was is status ⊎ Refuses kinds (Some namespace) was is status
+      → HasPiped kinds namespace was is status ⊎ Refuses kinds (Some namespace) was is status
       → (status ≡ Done) ⊎ (status ≡ Memory) ⊎ ServesBadly kinds was is status
   pipe_answered one no_volume namespace was is status told clients origins ready steady (inl piped) =
-      served_answered was is piped.before piped.after status steady (piped.serves clients origins)
+      served_answered was is piped.piped.before piped.piped.after status piped.first steady (piped.piped.serves clients origins)
   pipe_answered one no_volume namespace was is status told clients origins ready steady (inr refuses) =
       inr (inl (refused_for_memory (Some namespace) was is status told ready
       (λ other holds. not_other one no_volume namespace (kinds.disks.reading was.disk) other ready holds) steady refuses))
@@ -154,7 +156,7 @@ module _ {D G L P N M C O : Type 0} (kinds : Kinds D G L P N M C O) where
   damage_is_untold : (told : Bool) (kept : List ℕ) (found : Option (List ℕ)) → IsTrue told → IsDamaged told kept found → ⊥
   damage_is_untold told kept found tells damaged = true≢false (sym tells ∙ damaged.untold)
 
-  read_answered : (namespace : List ℕ) (was is : Objects D G N C O) (status : Status) (taken : HasTakenIn kinds namespace was is status) → IsTrue kinds.disks.tells
+  read_answered : (namespace : List ℕ) (was is : Objects D G (List (N × C)) O) (status : Status) (taken : HasTakenIn kinds namespace was is status) → IsTrue kinds.disks.tells
       → NoFaults kinds was is → (file : List ℕ) → taken.imported.input ≡ Ok file → (refused : Option StoreFault) → taken.imported.imported.refused ≡ refused
       → IsTellable refused → (text : List ℕ) → Prints kinds.sinks (status_after refused) text was.out is.out status
       → (status ≡ Done) ⊎ (status ≡ Memory) ⊎ ImportsBadly kinds namespace was is status
@@ -178,7 +180,7 @@ module _ {D G L P N M C O : Type 0} (kinds : Kinds D G L P N M C O) where
           ends.3.3
   read_answered namespace was is status taken told steady file whole (Some stores.Memory) fault tellable text printed = absurd tellable
 
-  taken_answered : (namespace : List ℕ) (was is : Objects D G N C O) (status : Status) (taken : HasTakenIn kinds namespace was is status) → IsTrue kinds.disks.tells
+  taken_answered : (namespace : List ℕ) (was is : Objects D G (List (N × C)) O) (status : Status) (taken : HasTakenIn kinds namespace was is status) → IsTrue kinds.disks.tells
       → NoFaults kinds was is → (input : Result (List ℕ) InputFault) → taken.imported.input ≡ input
       → Tells kinds.sinks taken.imported.imported.takens taken.imported.imported.stored taken.imported.imported.refused was.out is.out status input
       → (status ≡ Done) ⊎ (status ≡ Memory) ⊎ ImportsBadly kinds namespace was is status
@@ -193,7 +195,7 @@ module _ {D G L P N M C O : Type 0} (kinds : Kinds D G L P N M C O) where
       inr (inr (record { taken = taken; badly = subst (λ i. IsNotTaken i taken.imported.imported.refused) (sym same) tt }))
   taken_answered namespace was is status taken told steady (Err input_fault.Memory) same tells = inr (inl tells.1.status_is)
 
-  import_answered : FilesStandForOneBook → FilesStandForNoVolume → (namespace : List ℕ) (was is : Objects D G N C O) (status : Status) → IsTrue kinds.disks.tells
+  import_answered : FilesStandForOneBook → FilesStandForNoVolume → (namespace : List ℕ) (was is : Objects D G (List (N × C)) O) (status : Status) → IsTrue kinds.disks.tells
       → IsReady (Some namespace) (kinds.disks.reading was.disk) → NoFaults kinds was is
       → HasTakenIn kinds namespace was is status ⊎ Refuses kinds (Some namespace) was is status
       → (status ≡ Done) ⊎ (status ≡ Memory) ⊎ ImportsBadly kinds namespace was is status

@@ -1,6 +1,5 @@
 -- What the command `pipe` leaves.
-use Rattle.std.proofs.Common.{◌≡◌, ◌⊎◌, ℕ, ◌<◌, ◌≤◌, Bool, true, IsTrue, List, [], ◌∷◌, length, Option, refl, sym, ap, subst, ◌∙◌, inl, inr, arith}
-use Rattle.std.specs.Prelude.{get_or}
+use Rattle.std.proofs.Common.{◌≡◌, ◌⊎◌, ℕ, ◌≤◌, Bool, true, IsTrue, List, Option, sym, ap, subst, ◌∙◌, inl, inr, arith}
 use Rattle.archive_core.specs.Holdings.{Holdings, contents_of}
 use Rattle.archive_core.specs.Reopening.{IsReopened}
 use Rattle.archive_core.specs.Told.{told_of}
@@ -43,12 +42,6 @@ none_gained was closed before now connections status reason same = record {
   nothing_gained = ap (λ (k : Connections). record was { connections = k }) same;
 }
 
--- ---- the first member
-
-pub first_any : {A : Type 0} (items : List A) (a b : A) → 0 < length items → get_or items 0 a ≡ get_or items 0 b
-first_any [] a b some = absurd (omega (arith, some))
-first_any (item ∷ items) a b some = refl
-
 -- ---- the archive
 
 -- what is told of the images with the books is told by the disk
@@ -58,7 +51,7 @@ covered_as disks was is before after same_before same_after stays =
     subst (λ (told : Bool). StaysCovered (crash_of disks was) (crash_of (muted told disks) is)) same_after
     (subst (λ (told : Bool). StaysCovered (crash_of (muted told disks) was) (crash_of (muted after disks) is)) same_before stays)
 
-module _ {D G L P N M C O : Type 0} (kinds : Kinds D G L P N M C O) (laws : DiskLaws kinds.disks) (was is : Objects D G N C O) (asked : Option (List ℕ))
+module _ {D G L P N M C O : Type 0} (kinds : Kinds D G L P N M C O) (laws : DiskLaws kinds.disks) (was is : Objects D G (N × C) O) (asked : Option (List ℕ))
     (status : Status) (held left : Holdings D) (reopened : IsReopened kinds.disks was.disk asked usual_limits held) (closed : is.disk ≡ disk_of left.journal)
     (same_told : left.told ≡ held.told) where
   pub has_served : ServesOne true (pipe_setting kinds.clocks.tells) (around_in kinds was) (around_in kinds is) (told_of kinds.disks held) (told_of kinds.disks left) status

@@ -9,7 +9,7 @@ use Rattle.capture.specs.Captures.{captures}
 use Rattle.capture.specs.declared.book.Book.{Book}
 use Rattle.capture.specs.declared.captured.Stored.{Stored}
 use Rattle.disk_model.specs.Image.{Image}
-use Rattle.proxy_run.specs.Objects.{Kinds, Objects}
+use Rattle.proxy_run.specs.Objects.{Kinds, Objects, UsesFirst, with_one}
 use Rattle.proxy_run.specs.Pipes.{HasServed, Pipes}
 use Rattle.proxy_run.specs.Runs.{HasTakenIn, Runs}
 use Rattle.proxy_run.specs.declared.input.InputFault.{InputFault}
@@ -66,60 +66,61 @@ IsNotTaken (Err input_fault.Memory) refused = ⊥
 
 module _ {D G L P N M C O : Type 0} (kinds : Kinds D G L P N M C O) where
   -- neither the disk, nor the gate, nor the output failed
-  pub record NoFaults (was is : Objects D G N C O) : Type 0 where
+  pub record NoFaults {W : Type 0} (was is : Objects D G W O) : Type 0 where
     pub disk : IsSteady (kinds.disks.faults was.disk) (kinds.disks.faults is.disk)
     pub gate : IsSteady (kinds.gates.faults was.gate) (kinds.gates.faults is.gate)
     pub out : IsSteady (kinds.sinks.faults was.out) (kinds.sinks.faults is.out)
 
-  -- a connection was served, which ended badly
-  pub record ServesBadly (was is : Objects D G N C O) (status : Status) : Type 0 where
+  -- a connection was served by the first member, and ended badly
+  pub record ServesBadly (was is : Objects D G (List (N × C)) O) (status : Status) : Type 0 where
     pub before : Contents
     pub after : Contents
-    pub served : HasServed kinds was is before after status
+    pub first : UsesFirst was.crew is.crew
+    pub served : HasServed kinds (with_one was first.before) (with_one is first.after) before after status
     pub badly : EndsBadly served.one.served
 
   -- Where nothing failed and what a read gives is ready, `check` prints how much there is, or memory ran out.
   abbrev pub ChecksAreAnswered : Type 0
   ChecksAreAnswered =
-      (was is : Objects D G N C O) (status : Status) → IsTrue kinds.disks.tells → IsReady None (kinds.disks.reading was.disk) → NoFaults was is
+      (was is : Objects D G (List (N × C)) O) (status : Status) → IsTrue kinds.disks.tells → IsReady None (kinds.disks.reading was.disk) → NoFaults was is
       → Runs kinds (Some Check) was is status → (status ≡ Done) ⊎ (status ≡ Memory)
 
   -- And so `pipe` goes well, unless its connection ends badly.
   abbrev pub PipesAreAnswered : Type 0
   PipesAreAnswered =
-      (namespace : List ℕ) (was is : Objects D G N C O) (status : Status) → IsTrue kinds.disks.tells → IsTrue kinds.clients_tell
+      (namespace : List ℕ) (was is : Objects D G (List (N × C)) O) (status : Status) → IsTrue kinds.disks.tells → IsTrue kinds.clients_tell
       → IsTrue kinds.origins_tell → IsReady (Some namespace) (kinds.disks.reading was.disk) → NoFaults was is
       → Runs kinds (Some (Pipe namespace)) was is status → (status ≡ Done) ⊎ (status ≡ Memory) ⊎ ServesBadly was is status
 
   -- an import took not all
-  pub record ImportsBadly (namespace : List ℕ) (was is : Objects D G N C O) (status : Status) : Type 0 where
+  pub record ImportsBadly (namespace : List ℕ) (was is : Objects D G (List (N × C)) O) (status : Status) : Type 0 where
     pub taken : HasTakenIn kinds namespace was is status
     pub badly : IsNotTaken taken.imported.input taken.imported.imported.refused
 
   -- And so `import` goes well, unless its input isn't taken whole.
   abbrev pub ImportsAreAnswered : Type 0
   ImportsAreAnswered =
-      (namespace : List ℕ) (was is : Objects D G N C O) (status : Status) → IsTrue kinds.disks.tells
+      (namespace : List ℕ) (was is : Objects D G (List (N × C)) O) (status : Status) → IsTrue kinds.disks.tells
       → IsReady (Some namespace) (kinds.disks.reading was.disk) → NoFaults was is → Runs kinds (Some (Import namespace)) was is status
       → (status ≡ Done) ⊎ (status ≡ Memory) ⊎ ImportsBadly namespace was is status
 
   -- Each image that `import` may leave, and so what a read gives, is ready for the next run, where the ids differ.
   abbrev pub ImportsLeaveReady : Type 0
   ImportsLeaveReady =
-      (namespace : List ℕ) (was is : Objects D G N C O) (status : Status) (taken : HasTakenIn kinds namespace was is status)
+      (namespace : List ℕ) (was is : Objects D G (List (N × C)) O) (status : Status) (taken : HasTakenIn kinds namespace was is status)
       → IsTrue kinds.disks.tells → HasIds taken.imported.after.seen → (image : Image) → kinds.disks.images is.disk image
       → IsReady (Some namespace) image
 
   -- Each image that `pipe` may leave, and so what a read gives, is ready for the next run, where the ids differ.
   abbrev pub PipesLeaveReady : Type 0
   PipesLeaveReady =
-      (namespace : List ℕ) (was is : Objects D G N C O) (status : Status) (piped : Pipes kinds (Some namespace) was is status)
+      (namespace : List ℕ) (was is : Objects D G (N × C) O) (status : Status) (piped : Pipes kinds (Some namespace) was is status)
       → IsTrue kinds.disks.tells → HasIds piped.after.seen → (image : Image) → kinds.disks.images is.disk image → IsReady (Some namespace) image
 
   -- What was stored comes back: each book for which such an image stands holds all captures of the last book in order, and one more
   -- at most.
   abbrev pub CapturesComeBack : Type 0
   CapturesComeBack =
-      (namespace : List ℕ) (was is : Objects D G N C O) (status : Status) (piped : Pipes kinds (Some namespace) was is status)
+      (namespace : List ℕ) (was is : Objects D G (N × C) O) (status : Status) (piped : Pipes kinds (Some namespace) was is status)
       → IsTrue kinds.disks.tells → HasIds piped.after.seen → (image : Image) (x : Book) → kinds.disks.images is.disk image
       → ImageStandsFor image x → HoldsAll piped.after.seen x

@@ -1,5 +1,5 @@
 -- The objects of a run, and what they tell.
-use Rattle.std.specs.Prelude.{ℕ, Bool, List}
+use Rattle.std.specs.Prelude.{◌≡◌, ℕ, Bool, List, ◌∷◌}
 use Rattle.disk_model.specs.declared.disk.Disk.{Ghosts as Disks}
 use Rattle.outside.specs.Gate.{Connections}
 use Rattle.outside.specs.Records.{Links}
@@ -9,12 +9,20 @@ use Rattle.outside.specs.declared.dialer.Transcript.{Transcript}
 use Rattle.outside.specs.declared.gate.Gate.{Ghosts as Gates}
 use Rattle.outside.specs.declared.sink.Sink.{Ghosts as Sinks}
 
--- the disk, the gate, the first member of the crew with its dialer and its clock, and the output
-pub record Objects (D G N C O : Type 0) : Type 0 where
+-- the disk, the gate, the crew (its members, or the one of them that works), and the output
+pub record Objects (D G W O : Type 0) : Type 0 where
   pub disk : D
   pub gate : G
-  pub member : N × C
+  pub crew : W
   pub out : O
+
+-- The first member of a crew worked, and the others stay.
+pub record UsesFirst {M : Type 0} (was is : List M) : Type 0 where
+  pub before : M
+  pub after : M
+  pub others : List M
+  pub were : was ≡ before ∷ others
+  pub are : is ≡ after ∷ others
 
 -- What is told of such objects: of the gate's links, with what is kept of those that were hung up, and of the dialer's links
 -- whether they tell their traffic.
@@ -28,8 +36,12 @@ pub record Kinds (D G L P N M C O : Type 0) : Type 1 where
   pub origins_tell : Bool
 
 -- these objects
-abbrev pub objects_of : {D G N C O : Type 0} → D → G → N × C → O → Objects D G N C O
-objects_of disk gate member out = record { disk = disk; gate = gate; member = member; out = out }
+abbrev pub objects_of : {D G W O : Type 0} → D → G → W → O → Objects D G W O
+objects_of disk gate crew out = record { disk = disk; gate = gate; crew = crew; out = out }
+
+-- the objects that one member works with
+abbrev pub with_one : {D G N C O : Type 0} → Objects D G (List (N × C)) O → N × C → Objects D G (N × C) O
+with_one objects member = objects_of objects.disk objects.gate member objects.out
 
 -- what is told of them, by the ghost members of their types
 abbrev pub kinds_of : {D G L P N M C O : Type 0} → Disks D → Gates G L P → Dialers N M → Clocks C → Sinks O

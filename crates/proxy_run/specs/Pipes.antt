@@ -31,17 +31,17 @@ LeavesJust disks before rounds disk =
 
 module _ {D G L P N M C O : Type 0} (kinds : Kinds D G L P N M C O) where
   -- what is told around the connection
-  abbrev pub around_in : Objects D G N C O → Around
-  around_in objects = told_around kinds.gates kinds.dialers kinds.clocks objects.gate objects.member
+  abbrev pub around_in : Objects D G (N × C) O → Around
+  around_in objects = told_around kinds.gates kinds.dialers kinds.clocks objects.gate objects.crew
 
   -- the gate's first connection was served over the archive, and hung up
-  pub record HasServed (was is : Objects D G N C O) (before after : Contents) (status : Status) : Type 0 where
+  pub record HasServed (was is : Objects D G (N × C) O) (before after : Contents) (status : Status) : Type 0 where
     pub one : ServesOne true (pipe_setting kinds.clocks.tells) (around_in was) (around_in is)
         (told_on kinds.disks was.disk before) (told_on kinds.disks is.disk after) status
     pub left : LeavesJust kinds.disks before one.connection.rounds is.disk
 
   -- the gate gave no connection, and nothing was written
-  pub record HasServedNone (was is : Objects D G N C O) (before after : Contents) (status : Status) : Type 0 where
+  pub record HasServedNone (was is : Objects D G (N × C) O) (before after : Contents) (status : Status) : Type 0 where
     pub none : ServesNone (kinds.gates.closed was.gate) (kinds.gates.faults was.gate) (kinds.gates.faults is.gate)
         (around_in was) (around_in is) status
     pub unchanged : IsUnchanged kinds.disks was.disk is.disk
@@ -50,7 +50,7 @@ module _ {D G L P N M C O : Type 0} (kinds : Kinds D G L P N M C O) where
   -- The archive was opened. What holds whatever the links tell: nothing was printed; the book has only grown, and each image that a
   -- crash may leave, and so what a read gives, stands for a sound book that is that one or next to it; each image since an earlier
   -- moment stands for a sound book where it did before; a fault of the gate is told.
-  pub record Pipes (asked : Option (List ℕ)) (was is : Objects D G N C O) (status : Status) : Type 0 where
+  pub record Pipes (asked : Option (List ℕ)) (was is : Objects D G (N × C) O) (status : Status) : Type 0 where
     pub before : Contents
     pub after : Contents
     pub opened : IsOpened kinds.disks asked was.disk before
@@ -65,6 +65,6 @@ module _ {D G L P N M C O : Type 0} (kinds : Kinds D G L P N M C O) where
     pub prints_nothing : is.out ≡ was.out
 
   -- The archive was refused, and neither gate nor crew was touched.
-  pub record Refuses (asked : Option (List ℕ)) (was is : Objects D G N C O) (status : Status) : Type 0 where
+  pub record Refuses {W : Type 0} (asked : Option (List ℕ)) (was is : Objects D G W O) (status : Status) : Type 0 where
     pub refused : IsNotOpened kinds.disks kinds.sinks asked was.disk is.disk was.out is.out status
     pub untouched : is ≡ record was { disk = is.disk; out = is.out }

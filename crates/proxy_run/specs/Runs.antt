@@ -2,7 +2,7 @@
 use Rattle.std.specs.Prelude.{◌≡◌, ◌⊎◌, ℕ, List, Option, Some, None}
 use Rattle.proxy_run.specs.Checks.{IsCounted}
 use Rattle.proxy_run.specs.Imports.{Imports, ends_of}
-use Rattle.proxy_run.specs.Objects.{Kinds, Objects}
+use Rattle.proxy_run.specs.Objects.{Kinds, Objects, UsesFirst, with_one}
 use Rattle.proxy_run.specs.Pipes.{Pipes, Refuses}
 use Rattle.proxy_run.specs.Printing.{Prints}
 use Rattle.proxy_run.specs.Texts.{usage}
@@ -14,30 +14,35 @@ use Rattle.proxy_run.specs.declared.words.Command.TheVariants.{Check, Import, Pi
 
 module _ {D G L P N M C O : Type 0} (kinds : Kinds D G L P N M C O) where
   -- the words ask for nothing: the usage was printed, and nothing else was touched
-  pub record Misspells (was is : Objects D G N C O) (result : Status) : Type 0 where
+  pub record Misspells (was is : Objects D G (List (N × C)) O) (result : Status) : Type 0 where
     pub printed : Prints kinds.sinks status.Words usage was.out is.out result
     pub untouched : is ≡ record was { out = is.out }
 
   -- the archive was counted; neither gate nor crew was touched
-  pub record HasChecked (was is : Objects D G N C O) (result : Status) : Type 0 where
+  pub record HasChecked (was is : Objects D G (List (N × C)) O) (result : Status) : Type 0 where
     pub counted : IsCounted kinds.disks kinds.sinks was.disk is.disk was.out is.out result
     pub untouched : is ≡ record was { disk = is.disk; out = is.out }
 
+  -- the gate's first connection was served with the first member of the crew, and the others stay
+  pub record HasPiped (namespace : List ℕ) (was is : Objects D G (List (N × C)) O) (result : Status) : Type 0 where
+    pub first : UsesFirst was.crew is.crew
+    pub piped : Pipes kinds (Some namespace) (with_one was first.before) (with_one is first.after) result
+
   -- the archive took the gate's first connection in; the crew wasn't touched
-  pub record HasTakenIn (namespace : List ℕ) (was is : Objects D G N C O) (result : Status) : Type 0 where
+  pub record HasTakenIn (namespace : List ℕ) (was is : Objects D G (List (N × C)) O) (result : Status) : Type 0 where
     pub imported : Imports kinds.disks kinds.gates kinds.sinks kinds.clients_tell (Some namespace) (ends_of was.disk was.gate was.out)
         (ends_of is.disk is.gate is.out) result
-    pub untouched : is.member ≡ was.member
+    pub untouched : is.crew ≡ was.crew
 
   -- a trial was made in memory; neither disk, nor gate, nor crew was touched
-  pub record HasTried (count seed : ℕ) (was is : Objects D G N C O) (result : Status) : Type 0 where
+  pub record HasTried (count seed : ℕ) (was is : Objects D G (List (N × C)) O) (result : Status) : Type 0 where
     pub tried : Tries kinds.sinks count seed was.out is.out result
     pub untouched : is ≡ record was { out = is.out }
 
   -- by what the words ask for
-  abbrev pub Runs : Option Command → Objects D G N C O → Objects D G N C O → Status → Type 0
+  abbrev pub Runs : Option Command → Objects D G (List (N × C)) O → Objects D G (List (N × C)) O → Status → Type 0
   Runs None was is result = Misspells was is result
-  Runs (Some (Pipe namespace)) was is result = Pipes kinds (Some namespace) was is result ⊎ Refuses kinds (Some namespace) was is result
+  Runs (Some (Pipe namespace)) was is result = HasPiped namespace was is result ⊎ Refuses kinds (Some namespace) was is result
   Runs (Some (Import namespace)) was is result = HasTakenIn namespace was is result ⊎ Refuses kinds (Some namespace) was is result
   Runs (Some Check) was is result = HasChecked was is result ⊎ Refuses kinds None was is result
   Runs (Some (Trial count seed)) was is result = HasTried count seed was is result

@@ -1,5 +1,5 @@
 //! The call that the program makes.
-ghost use Rattle.std.specs.Prelude.{◌≡◌, drop, length, slice_index_or};
+ghost use Rattle.std.specs.Prelude.{◌≡◌, length};
 ghost use Rattle.proxy_run.specs.Objects.{kinds_of, objects_of};
 ghost use Rattle.proxy_run.specs.Runs.{Runs};
 ghost use Rattle.proxy_run.specs.Words.{command_of, texts};
@@ -66,12 +66,10 @@ where
     O: Sink,
     requires { length crew.old.members.items ≡ CREW }
 
-    ensures runs { (any : N × C)
-        → let kinds = kinds_of D.Disk G.Gate N.Dialer C.Clock O.Sink G.Link.tells N.Link.tells in
-        let was = objects_of disk gate.old (slice_index_or crew.old.members.items 0 any) out.old in
-        let is = objects_of result.disk gate.new (slice_index_or crew.new.members.items 0 any) out.new in
+    ensures { let kinds = kinds_of D.Disk G.Gate N.Dialer C.Clock O.Sink G.Link.tells N.Link.tells in
+        let was = objects_of disk gate.old crew.old.members.items out.old in
+        let is = objects_of result.disk gate.new crew.new.members.items out.new in
         Runs kinds (command_of (texts words.now)) was is result.status }
-    ensures same_others { drop 1 crew.new.members.items ≡ drop 1 crew.old.members.items }
 {
     let Some(command) = words::command_of(words) else {
         return Ran {
