@@ -97,17 +97,17 @@ dated q form url asks gate none =
     let is : IsDated (question_of (Gate url)) (date_field q) = subst (λ (f : Form). IsDated (question_of f) (date_field q)) same asks.dated in
     gate_dated (date_field q) is.0 is.1 none
 
-numbered : {P : Type 0} (q : SiteRequest) (view : View) (form : Form) (number count : ℕ) → Asks q form → HasWanted view (question_of form)
-    → IsPast q number count → count ≡ length (captures view.book) → P
-numbered q view form number count asks wanted (inl (other, past)) count_is =
+numbered : {P : Type 0} (q : SiteRequest) (view : View) (form : Form) (number : ℕ) → Asks q form → HasWanted view (question_of form)
+    → IsPast q view number → P
+numbered q view form number asks wanted (inl (other, past, none)) =
     let same : form ≡ Number number = one_form (parts_at q.address) form (Number number) asks.is other.is in
     let below : number < length (captures view.book) = subst (λ (f : Form). HasWanted view (question_of f)) same wanted in
-    let bad : ⊥ = omega (arith, below, count_is, past) in
+    let bad : ⊥ = omega (arith, below, past) in
     absurd bad
-numbered q view form number count asks wanted (inr (other, past)) count_is =
+numbered q view form number asks wanted (inr (other, past)) =
     let same : form ≡ Ship number = one_form (parts_at q.address) form (Ship number) asks.is other.is in
     let below : number ≤ length (captures view.book) = subst (λ (f : Form). HasWanted view (question_of f)) same wanted in
-    let bad : ⊥ = omega (arith, below, count_is, past) in
+    let bad : ⊥ = omega (arith, below, past) in
     absurd bad
 
 -- a text that is a query
@@ -140,7 +140,7 @@ no_rejection terms q NotAForm traces form tells whole disk asks wanted h = forme
 no_rejection terms q BadTime traces form tells whole disk asks wanted h = timed (parts_at q.address) form asks.is h.1
 no_rejection terms q BadAcceptDatetime traces form tells whole disk asks wanted h = dated q form h.1.0 asks h.1.1 h.2
 no_rejection terms q BadQuery traces form tells whole disk asks wanted h = queried q traces.before form h.0 asks wanted h.1 h.2
-no_rejection terms q (NoSuch number count) traces form tells whole disk asks wanted h = numbered q traces.before form number count asks wanted h.0 h.1
+no_rejection terms q (NoSuch number count) traces form tells whole disk asks wanted h = numbered q traces.before form number asks wanted h.0
 no_rejection terms q NoCapture traces form tells whole disk asks wanted h = found q traces.before form asks wanted h
 no_rejection terms q DiskFault traces form tells whole disk asks wanted h = rose_not _ _ disk.rose whole.disk whole.disk_counts
 no_rejection terms q (Damaged at kept lost) traces form tells whole disk asks wanted h = told_not_untold terms.tells tells h.4.untold

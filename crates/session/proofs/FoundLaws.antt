@@ -34,10 +34,5 @@ found_replayed terms alone q sought number faults disk brought mid is h later (t
   replayable = replayable;
   named = named;
   brought_is = λ tells. (known (rw same tells)).0;
-  as_shown = λ tells. (
-    h.entry,
-    sym h.number_is,
-    h.named,
-    (known (rw same tells)).1 h.entry (shown_on alone mid.shown is.shown h.entry later h.reaches.nearest.member) (sym h.number_is),
-  );
+  agrees = λ tells entry shown at. (known (rw same tells)).1 entry (shown_on alone mid.shown is.shown entry later shown) at;
 }

@@ -242,7 +242,7 @@ number_replayed terms q number brought is faults disk asks (there, replayable, n
   replayable = replayable;
   named = named;
   brought_is = λ tells. (known (rw same tells)).0;
-  as_shown = λ tells. tt;
+  agrees = λ tells. (known (rw same tells)).1;
 }
 
 -- a piece is shipped

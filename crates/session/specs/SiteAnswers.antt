@@ -1,6 +1,6 @@
 -- A request to the archive's own site, and how it is answered (RFC 7089, sections 2 to 5). Refusals come in this order: for the
 -- method, for the address, for the date or the query that is asked for, for want of a capture, for the disk.
-use Rattle.std.specs.Prelude.{◌≡◌, ◌≢◌, ◌⊎◌, ℕ, ◌<◌, ◌≤◌, Bool, true, false, ◌||◌, List, [], ◌++◌, length, map, codes, bytes_eq, Option, Some, None, IsTrue, ⊤, slice_get}
+use Rattle.std.specs.Prelude.{◌≡◌, ◌≢◌, ◌⊎◌, ℕ, ◌<◌, ◌≤◌, Bool, true, false, ◌||◌, List, [], ◌++◌, length, map, codes, bytes_eq, Contains, Option, Some, None, IsTrue, ⊤, slice_get}
 use Rattle.archive_shelf.specs.Answers.{IsBrought, IsDamaged, IsNamed, IsReplayable, KeepsPayloadOf}
 use Rattle.archive_shelf.specs.Pieces.{IsPiece, IsSomePiece}
 use Rattle.archive_shelf.specs.Queries.{ArePicked}
@@ -145,9 +145,16 @@ pub record FindsNone (q : SiteRequest) (view : View) : Type 0 where
   pub keyed : key_of url ≡ Some key
   pub none : HasNone view.shown key
 
--- the number of a capture, or of a piece, that is asked for, of a book with so many captures. The next piece is still to come.
-abbrev pub IsPast : SiteRequest → ℕ → ℕ → Type 0
-IsPast q number count = (Asks q (Number number) × (count ≤ number)) ⊎ (Asks q (Ship number) × (count < number))
+-- no entry is shown under this number
+abbrev pub ShowsNone : View → ℕ → Type 0
+ShowsNone view number = (entry : Facts) → Contains view.shown entry → entry.number ≢ number
+
+-- The number that is asked for is that of no capture of the book, nor of one that is shown; or it is that of no piece, nor of the next
+-- one, which is still to come.
+abbrev pub IsPast : SiteRequest → View → ℕ → Type 0
+IsPast q view number =
+    (Asks q (Number number) × (length (captures view.book) ≤ number) × ShowsNone view number)
+    ⊎ (Asks q (Ship number) × (length (captures view.book) < number))
 
 -- the damaged capture: the one whose piece is asked for, or the one that keeps the payload
 abbrev pub IsDamagedIn : View → Question → ℕ → ℕ → Type 0
@@ -164,21 +171,16 @@ IsRejected terms q BadTime view = (serves_method q.message.head.method ≡ true)
 IsRejected terms q BadAcceptDatetime view =
     (serves_method q.message.head.method ≡ true) × ((url : List ℕ) × IsForm q.address (Gate url)) × NamesNoTime (date_field q)
 IsRejected terms q BadQuery view = (text : List ℕ) × Asks q (Queried text) × ((query : Query) → ¬ (IsQuery text query))
-IsRejected terms q (NoSuch number count) view = IsPast q number count × (count ≡ length (captures view.book))
+IsRejected terms q (NoSuch number count) view = IsPast q view number × (count ≡ length (captures view.book))
 IsRejected terms q NoCapture view = FindsNone q view
 IsRejected terms q DiskFault view = (question : Question) × (number : ℕ) × Wants q view question number
 IsRejected terms q (Damaged at kept found) view =
     (question : Question) × (number : ℕ) × Wants q view question number × IsDamagedIn view question number at × IsDamaged terms.tells kept found
 IsRejected terms q other view = ⊥
 
--- the capture that was found by date is the one that the book has; a piece isn't replayed
-abbrev pub IsAsShown : View → Question → ℕ → Type 0
-IsAsShown view (ForNearest sought) number =
-    (entry : Facts) × (entry.number ≡ number) × (names_date sought.named entry.date ≡ true) × IsEntryOf view.book number entry
-IsAsShown view (ForNumber asked) number = ⊤
-IsAsShown view (ForAll url) number = ⊤
-IsAsShown view (ForQuery text) number = ⊤
-IsAsShown view (ForPiece asked) number = ⊤
+-- Whatever entry is shown under this number is that of the book's capture: so is the one that was found by date.
+abbrev pub AgreesAt : View → ℕ → Type 0
+AgreesAt view number = (entry : Facts) → Contains view.shown entry → entry.number ≡ number → IsEntryOf view.book number entry
 
 -- a capture is asked for, and no piece of one
 abbrev pub asks_for_capture : Question → Bool
@@ -194,7 +196,7 @@ pub record IsReplayed (terms : Terms) (q : SiteRequest) (view : View) (question 
   pub replayable : IsReplayable brought
   pub named : IsNamed view.book number brought
   pub brought_is : IsTrue terms.tells → IsBrought view.book number brought
-  pub as_shown : IsTrue terms.tells → IsAsShown view question number
+  pub agrees : IsTrue terms.tells → AgreesAt view number
 
 -- all captures of the URL that are shown are listed, of which there are some
 pub record AreListed (q : SiteRequest) (view : View) (url : List ℕ) (entries : List Facts) : Type 0 where

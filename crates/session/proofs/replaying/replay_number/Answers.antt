@@ -1,5 +1,5 @@
 -- What was brought, or wasn't.
-use Rattle.std.proofs.Common.{true, false, inl, refl}
+use Rattle.std.proofs.Common.{true, false, ◌≤◌, inl, refl, subst}
 use Rattle.archive_shelf.proofs.CallLaws.{read_goes_on, stays_tells}
 use Rattle.capture.specs.declared.refusal.Refusal.TheVariants.{NoSuch, DiskFault, Damaged}
 use Rattle.replay_url.specs.Questions.{ForNumber}
@@ -27,7 +27,7 @@ returns-in-Err-NoSuch-clause-answers g c clock_tells =
     (Refuses (NoSuch c.args.number c.in-Err-NoSuch.count)) c.args.visit.closes false c.refused.result (g.S.Finder.told c.args.shelf.now) (g.S.Finder.told c.bring.new.self)
     (g.met.S.Finder.earlier c.bring.new.self)
     (rw c.in-Err-NoSuch.field-0-is at c.in-Err-NoSuch.ensures.reads) refl refl
-    (λ lacked faults. (inl (c.requires.asks, brings.1), brings.0))
+    (λ lacked faults. (inl (c.requires.asks, subst (λ n. n ≤ c.args.number) brings.0 brings.1, brings.2), brings.0))
     (refusal_is c.refused.result (NoSuch c.args.number c.in-Err-NoSuch.count) c.asks_for_head-answers_head.result _ c.args.visit.closes c.asks_for_head-answers_head.ensures c.refused.ensures.text)
     c.refused.ensures.closes
 

@@ -40,7 +40,7 @@ returns-else-number-count-clause-answers g c clock_tells =
     (Refuses (NoSuch c.args.number c.in-Err-NoSuch.count)) c.args.visit.closes false c.refused.result (g.S.Finder.told c.args.shelf.now) (g.S.Finder.told c.piece.new.self)
     (g.met.S.Finder.earlier c.piece.new.self)
     (rw c.in-Err-NoSuch.field-0-is at c.in-Err-NoSuch.ensures.reads) refl refl
-    (λ lacked faults. (inr (c.requires.asks, omega (arith, gives.1, c.if-number-count.false)), gives.0))
+    (λ lacked faults. (inr (c.requires.asks, omega (arith, gives.0, gives.1, c.if-number-count.false)), gives.0))
     (refusal_is c.refused.result (NoSuch c.args.number c.in-Err-NoSuch.count) c.asks_for_head-answers_head.result _ c.args.visit.closes c.asks_for_head-answers_head.ensures c.refused.ensures.text)
     c.refused.ensures.closes
 
