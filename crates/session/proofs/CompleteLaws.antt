@@ -1,5 +1,5 @@
 -- Requests that are answered.
-use Rattle.std.proofs.Common.{◌≡◌, ◌⊎◌, inl, inr, ℕ, ◌-◌, ◌^◌, ◌<◌, Bool, true, false, IsTrue, IsFalse, List, [], ◌∷◌, Contains, refl, sym, subst, arith, lit<}
+use Rattle.std.proofs.Common.{◌≡◌, ◌⊎◌, inl, inr, ℕ, ◌-◌, ◌^◌, ◌<◌, Bool, true, false, IsTrue, IsFalse, List, [], ◌∷◌, Contains, Option, Some, None, refl, sym, ◌∙◌, subst, arith, lit<}
 use Rattle.std.specs.Prelude.{MatchBool}
 use Rattle.capture.specs.Faults.{RoseBy}
 use Rattle.capture.specs.Final.{Arrival, Arrived, IsArrival}
@@ -9,12 +9,12 @@ use Rattle.capture.specs.declared.framing.MessageFault.{MessageFault}
 use Rattle.capture.specs.declared.framing.MessageFault.TheVariants as message_fault
 use Rattle.capture.specs.declared.refusal.Refusal.{Refusal}
 use Rattle.capture.specs.declared.refusal.Refusal.TheVariants.{Malformed, TargetRefused, BadTime, BadAcceptDatetime, BadQuery, NotAForm, NoCapture, NoSuch, MethodRefused, BodyTooLong, HeadTooLong, ClockRange, ConnectRefused, SecureRefused, CodingRefused, DialFault, OriginFault, OriginEnded, OriginMalformed, OriginTooLong, TooManyInterim, Full, DiskFault, Damaged}
-use Rattle.exchange.specs.Fetches.{ComesTo, ArrivesCut}
+use Rattle.exchange.specs.Fetches.{ComesTo, ArrivesWhole, ArrivesCut}
 use Rattle.exchange.specs.Refusals.{memory_text}
 use Rattle.http_head.specs.declared.head.Received.{Received}
 use Rattle.outside.specs.declared.dialer.Transcript.{Transcript}
 use Rattle.http_wire.specs.Decisions.{ArrivalsAreOne}
-use Rattle.session.specs.Complete.{IsFaultless, GaveResponse, CanBePassedOn, GetsResponse, WholeResponsesArePassedOn}
+use Rattle.session.specs.Complete.{IsFaultless, GaveResponse, CanBePassedOn, GetsResponse, ResponsesArePassedOn}
 use Rattle.session.specs.Exchanges.{Exchange, Reply, Fails, Passes, LacksReply, IsFailure, IsReply, answers_head, reply_text}
 use Rattle.session.specs.Rounds.{Round, Outcome, Exchanged, IsRound, IsDecided, IsTextOf, closes_exchange, is_origin_fault, is_disk_fault, origin_fault, disk_fault}
 use Rattle.session.specs.Traces.{Terms, Traces, CountsMet}
@@ -30,39 +30,58 @@ told_not_untold b t f = let bad : ⊥ = cc in absurd bad
 
 -- ---- what came of an origin's stream
 
-message_isnt : {P : Type 0} (behind used at : ℕ) (first : First) → Arrived behind (Message used) ≡ Arrived at first → first ≡ HeadNeeded → P
-message_isnt behind used at first e f = let bad : ⊥ = cc in absurd bad
+-- whether a response came whole or cut, by what a stream came to
+abbrev first_cut : First → Option Bool
+first_cut (Message used) = Some false
+first_cut BodyNeeded = Some true
+first_cut other = None
 
-refused_isnt : {P : Type 0} (behind used at : ℕ) (fault : MessageFault) → Arrived behind (Message used) ≡ Arrived at (RefusedFirst fault) → P
-refused_isnt behind used at fault e = let bad : ⊥ = cc in absurd bad
+abbrev came_cut : Arrival → Option Bool
+came_cut (Arrived behind first) = first_cut first
+came_cut final.TooManyInterim = None
 
-body_isnt : {P : Type 0} (behind used at : ℕ) → Arrived behind (Message used) ≡ Arrived at BodyNeeded → P
-body_isnt behind used at e = let bad : ⊥ = cc in absurd bad
+-- what such a stream came to
+record Came (e : Exchange) (cut : Bool) (t : Transcript) : Type 0 where
+  pub arrival : Arrival
+  pub is : IsArrival (answers_head e) t.ended t.given arrival
+  pub cut_is : came_cut arrival ≡ Some cut
 
-interims_arent : {P : Type 0} (behind used : ℕ) → Arrived behind (Message used) ≡ final.TooManyInterim → P
-interims_arent behind used e = let bad : ⊥ = cc in absurd bad
+came : (e : Exchange) (cut : Bool) (t : Transcript) → GaveResponse e cut t → Came e cut t
+came e false t (behind, used, is) = record { arrival = Arrived behind (Message used); is = is; cut_is = refl }
+came e true t (behind, is, met) = record { arrival = Arrived behind BodyNeeded; is = is; cut_is = refl }
 
--- a stream with a response has no other
-head_needed_not : {P : Type 0} (e : Exchange) (t : Transcript) → ArrivalsAreOne → GaveResponse e t
+-- it came to nothing else
+came_once : (e : Exchange) (cut : Bool) (t : Transcript) (other : Arrival) → ArrivalsAreOne → GaveResponse e cut t
+    → IsArrival (answers_head e) t.ended t.given other → came_cut other ≡ Some cut
+came_once e cut t other once gave is =
+    let h : Came e cut t = came e cut t gave in
+    subst (λ (a : Arrival). came_cut a ≡ Some cut) (once (answers_head e) t.ended t.given h.arrival other h.is is) h.cut_is
+
+came_not : {P : Type 0} (cut : Bool) → None ≡ Some cut → P
+came_not cut e = let bad : ⊥ = cc in absurd bad
+
+just_cut : (b cut : Bool) → Some b ≡ Some cut → b ≡ cut
+just_cut b cut e = cc
+
+head_needed_not : {P : Type 0} (e : Exchange) (cut : Bool) (t : Transcript) → ArrivalsAreOne → GaveResponse e cut t
     → ComesTo (answers_head e) t.ended t.given HeadNeeded → P
-head_needed_not e t once (behind, used, gave) (at, other) =
-    message_isnt behind used at HeadNeeded (once (answers_head e) t.ended t.given _ _ gave other) refl
+head_needed_not e cut t once gave (at, other) = came_not cut (came_once e cut t (Arrived at HeadNeeded) once gave other)
 
-refusal_not : {P : Type 0} (e : Exchange) (t : Transcript) (fault : MessageFault) → ArrivalsAreOne → GaveResponse e t
+refusal_not : {P : Type 0} (e : Exchange) (cut : Bool) (t : Transcript) (fault : MessageFault) → ArrivalsAreOne → GaveResponse e cut t
     → ComesTo (answers_head e) t.ended t.given (RefusedFirst fault) → P
-refusal_not e t fault once (behind, used, gave) (at, other) =
-    refused_isnt behind used at fault (once (answers_head e) t.ended t.given _ _ gave other)
+refusal_not e cut t fault once gave (at, other) = came_not cut (came_once e cut t (Arrived at (RefusedFirst fault)) once gave other)
 
-interims_not : {P : Type 0} (e : Exchange) (t : Transcript) → ArrivalsAreOne → GaveResponse e t
+interims_not : {P : Type 0} (e : Exchange) (cut : Bool) (t : Transcript) → ArrivalsAreOne → GaveResponse e cut t
     → IsArrival (answers_head e) t.ended t.given final.TooManyInterim → P
-interims_not e t once (behind, used, gave) other =
-    interims_arent behind used (once (answers_head e) t.ended t.given _ _ gave other)
+interims_not e cut t once gave other = came_not cut (came_once e cut t final.TooManyInterim once gave other)
 
-cut_not : {P : Type 0} (e : Exchange) (t : Transcript) (received : Received) → ArrivalsAreOne → GaveResponse e t
-    → ArrivesCut (answers_head e) t.ended t.given received → P
-cut_not e t received once (behind, used, gave) cut =
-    let other = rw (sym cut.met) at cut.arrival in
-    body_isnt behind used cut.behind (once (answers_head e) t.ended t.given _ _ gave other)
+-- the response that was received is whole or cut as it came
+received_so : (e : Exchange) (cut : Bool) (t : Transcript) (received : Received) → ArrivalsAreOne → GaveResponse e cut t
+    → ArrivesWhole (answers_head e) t.ended t.given received ⊎ ArrivesCut (answers_head e) t.ended t.given received → received.cut ≡ cut
+received_so e cut t received once gave (inl all) =
+    all.whole ∙ just_cut false cut (came_once e cut t (Arrived all.behind (Message all.used)) once gave all.arrival)
+received_so e cut t received once gave (inr part) =
+    part.cut ∙ just_cut true cut (came_once e cut t (Arrived part.behind BodyNeeded) once gave (rw (sym part.met) at part.arrival))
 
 -- the one transcript
 only_one : (ts : List Transcript) (t : Transcript) → ts ≡ t ∷ [] → Contains ts t
@@ -71,49 +90,50 @@ only_one ts t e = subst (λ (l : List Transcript). Contains l t) (sym e) (0, lit
 only_time : (ts : List ℕ) (t : ℕ) → ts ≡ t ∷ [] → Contains ts t
 only_time ts t e = subst (λ (l : List ℕ). Contains l t) (sym e) (0, lit< tt, refl)
 
-gave_of : (terms : Terms) (e : Exchange) (traces : Traces) (t : Transcript) → CanBePassedOn terms e traces → traces.transcripts ≡ t ∷ [] → GaveResponse e t
-gave_of terms e traces t can only = can.gave t (only_one traces.transcripts t only)
+gave_of : (terms : Terms) (e : Exchange) (cut : Bool) (traces : Traces) (t : Transcript) → CanBePassedOn terms e cut traces → traces.transcripts ≡ t ∷ []
+    → GaveResponse e cut t
+gave_of terms e cut traces t can only = can.gave t (only_one traces.transcripts t only)
 
 -- ---- no refusal is lawful
 
-no_failure : {P : Type 0} (terms : Terms) (e : Exchange) (refusal : Refusal) (traces : Traces) → ArrivalsAreOne → IsTrue terms.tells → IsFaultless traces
+no_failure : {P : Type 0} (terms : Terms) (e : Exchange) (cut : Bool) (refusal : Refusal) (traces : Traces) → ArrivalsAreOne → IsTrue terms.tells → IsFaultless traces
     → CountsMet (is_origin_fault refusal) traces.before.dialer_faults traces.after.dialer_faults
     → CountsMet (is_disk_fault refusal) traces.before.disk_faults traces.after.disk_faults
-    → CanBePassedOn terms e traces → IsFailure terms e refusal traces → P
-no_failure terms e (ClockRange now) traces once tells whole origin disk can h =
+    → CanBePassedOn terms e cut traces → IsFailure terms e refusal traces → P
+no_failure terms e cut (ClockRange now) traces once tells whole origin disk can h =
     absurd (h.past (can.in_range now (only_time traces.times now h.asked)))
-no_failure terms e DialFault traces once tells whole origin disk can h = rose_not _ _ origin.rose whole.dialer whole.dialer_counts
-no_failure terms e OriginFault traces once tells whole origin disk can h = rose_not _ _ origin.rose whole.dialer whole.dialer_counts
-no_failure terms e OriginEnded traces once tells whole origin disk can h =
-    head_needed_not e h.linked.t once (gave_of terms e traces h.linked.t can h.linked.only) h.linked.fetched.received.1
-no_failure terms e OriginMalformed traces once tells whole origin disk can h = elim h.linked.fetched.received [
-  | inl wrong ↦ refusal_not e h.linked.t message_fault.Malformed once (gave_of terms e traces h.linked.t can h.linked.only) wrong
-  | inr coded ↦ refusal_not e h.linked.t message_fault.CodingRefused once (gave_of terms e traces h.linked.t can h.linked.only) coded
+no_failure terms e cut DialFault traces once tells whole origin disk can h = rose_not _ _ origin.rose whole.dialer whole.dialer_counts
+no_failure terms e cut OriginFault traces once tells whole origin disk can h = rose_not _ _ origin.rose whole.dialer whole.dialer_counts
+no_failure terms e cut OriginEnded traces once tells whole origin disk can h =
+    head_needed_not e cut h.linked.t once (gave_of terms e cut traces h.linked.t can h.linked.only) h.linked.fetched.received.1
+no_failure terms e cut OriginMalformed traces once tells whole origin disk can h = elim h.linked.fetched.received [
+  | inl wrong ↦ refusal_not e cut h.linked.t message_fault.Malformed once (gave_of terms e cut traces h.linked.t can h.linked.only) wrong
+  | inr coded ↦ refusal_not e cut h.linked.t message_fault.CodingRefused once (gave_of terms e cut traces h.linked.t can h.linked.only) coded
 ]
-no_failure terms e OriginTooLong traces once tells whole origin disk can h = elim h.linked.fetched.received [
-  | inl head ↦ refusal_not e h.linked.t message_fault.HeadTooLong once (gave_of terms e traces h.linked.t can h.linked.only) head
-  | inr body ↦ refusal_not e h.linked.t message_fault.BodyTooLong once (gave_of terms e traces h.linked.t can h.linked.only) body
+no_failure terms e cut OriginTooLong traces once tells whole origin disk can h = elim h.linked.fetched.received [
+  | inl head ↦ refusal_not e cut h.linked.t message_fault.HeadTooLong once (gave_of terms e cut traces h.linked.t can h.linked.only) head
+  | inr body ↦ refusal_not e cut h.linked.t message_fault.BodyTooLong once (gave_of terms e cut traces h.linked.t can h.linked.only) body
 ]
-no_failure terms e TooManyInterim traces once tells whole origin disk can h =
-    interims_not e h.linked.t once (gave_of terms e traces h.linked.t can h.linked.only) h.linked.fetched.received
-no_failure terms e (Full count limit) traces once tells whole origin disk can h =
+no_failure terms e cut TooManyInterim traces once tells whole origin disk can h =
+    interims_not e cut h.linked.t once (gave_of terms e cut traces h.linked.t can h.linked.only) h.linked.fetched.received
+no_failure terms e cut (Full count limit) traces once tells whole origin disk can h =
     let bad : ⊥ = omega (arith, h.full, h.limit_is, h.count_is, can.room) in absurd bad
-no_failure terms e DiskFault traces once tells whole origin disk can h = rose_not _ _ disk.rose whole.disk whole.disk_counts
-no_failure terms e (Damaged number kept found) traces once tells whole origin disk can h = told_not_untold terms.tells tells h.is.untold
-no_failure terms e (NoSuch number count) traces once tells whole origin disk can h = absurd h
-no_failure terms e Malformed traces once tells whole origin disk can h = absurd h
-no_failure terms e TargetRefused traces once tells whole origin disk can h = absurd h
-no_failure terms e BadQuery traces once tells whole origin disk can h = absurd h
-no_failure terms e BadTime traces once tells whole origin disk can h = absurd h
-no_failure terms e BadAcceptDatetime traces once tells whole origin disk can h = absurd h
-no_failure terms e NotAForm traces once tells whole origin disk can h = absurd h
-no_failure terms e NoCapture traces once tells whole origin disk can h = absurd h
-no_failure terms e MethodRefused traces once tells whole origin disk can h = absurd h
-no_failure terms e BodyTooLong traces once tells whole origin disk can h = absurd h
-no_failure terms e HeadTooLong traces once tells whole origin disk can h = absurd h
-no_failure terms e ConnectRefused traces once tells whole origin disk can h = absurd h
-no_failure terms e SecureRefused traces once tells whole origin disk can h = absurd h
-no_failure terms e CodingRefused traces once tells whole origin disk can h = absurd h
+no_failure terms e cut DiskFault traces once tells whole origin disk can h = rose_not _ _ disk.rose whole.disk whole.disk_counts
+no_failure terms e cut (Damaged number kept found) traces once tells whole origin disk can h = told_not_untold terms.tells tells h.is.untold
+no_failure terms e cut (NoSuch number count) traces once tells whole origin disk can h = absurd h
+no_failure terms e cut Malformed traces once tells whole origin disk can h = absurd h
+no_failure terms e cut TargetRefused traces once tells whole origin disk can h = absurd h
+no_failure terms e cut BadQuery traces once tells whole origin disk can h = absurd h
+no_failure terms e cut BadTime traces once tells whole origin disk can h = absurd h
+no_failure terms e cut BadAcceptDatetime traces once tells whole origin disk can h = absurd h
+no_failure terms e cut NotAForm traces once tells whole origin disk can h = absurd h
+no_failure terms e cut NoCapture traces once tells whole origin disk can h = absurd h
+no_failure terms e cut MethodRefused traces once tells whole origin disk can h = absurd h
+no_failure terms e cut BodyTooLong traces once tells whole origin disk can h = absurd h
+no_failure terms e cut HeadTooLong traces once tells whole origin disk can h = absurd h
+no_failure terms e cut ConnectRefused traces once tells whole origin disk can h = absurd h
+no_failure terms e cut SecureRefused traces once tells whole origin disk can h = absurd h
+no_failure terms e cut CodingRefused traces once tells whole origin disk can h = absurd h
 
 -- ---- the response
 
@@ -137,25 +157,24 @@ of_exchange terms served r e reply lawful is = record {
   text_is = by_lacked r.lacked _ _ (subst (λ (o : Outcome). MatchBool r.lacked (r.text ≡ memory_text) (IsTextOf terms served o r.text)) is lawful.text_is);
 }
 
-gets : (terms : Terms) (served : ℕ) (r : Round) (e : Exchange) (reply : Reply) → ArrivalsAreOne → IsTrue terms.tells → IsFaultless r.traces
-    → CanBePassedOn terms e r.traces → OfExchange terms served r e reply → IsTrue r.lacked ⊎ GetsResponse terms served r e reply
-gets terms served r e (Fails refusal) once tells whole can h = no_failure terms e refusal r.traces once tells whole h.origin h.disk can h.replied
-gets terms served r e LacksReply once tells whole can h = inl h.replied.0
-gets terms served r e (Passes received payload) once tells whole can h = elim h.text_is [
+gets : (terms : Terms) (served : ℕ) (r : Round) (e : Exchange) (reply : Reply) (cut : Bool) → ArrivalsAreOne → IsTrue terms.tells → IsFaultless r.traces
+    → CanBePassedOn terms e cut r.traces → r.outcome ≡ Exchanged e reply → OfExchange terms served r e reply
+    → IsTrue r.lacked ⊎ GetsResponse terms served r e cut
+gets terms served r e (Fails refusal) cut once tells whole can is h = no_failure terms e cut refusal r.traces once tells whole h.origin h.disk can h.replied
+gets terms served r e LacksReply cut once tells whole can is h = inl h.replied.0
+gets terms served r e (Passes received payload) cut once tells whole can is h = elim h.text_is [
   | inl lacked ↦ inl lacked
-  | inr text_is ↦ inr (record {
-    received = received;
-    payload = payload;
-    reply_is = refl;
-    passed = h.replied;
-    whole = elim h.replied.fetched.fetched.received [
-      | inl all ↦ all.whole
-      | inr cut ↦ cut_not e h.replied.fetched.t received once (gave_of terms e r.traces h.replied.fetched.t can h.replied.fetched.linked) cut
-    ];
-    text_is = text_is;
-  })
+  | inr text_is ↦ let passed = h.replied.1 in
+      inr (record {
+        received = received;
+        payload = payload;
+        outcome_is = is;
+        passed = passed;
+        cut_is = received_so e cut passed.fetched.t received once (gave_of terms e cut r.traces passed.fetched.t can passed.fetched.linked) passed.fetched.fetched.received;
+        text_is = text_is;
+      })
 ]
 
-pub passed_on : ArrivalsAreOne → WholeResponsesArePassedOn
-passed_on once terms served r e reply lawful is tells whole can =
-    gets terms served r e reply once tells whole can (of_exchange terms served r e reply lawful is)
+pub passed_on : ArrivalsAreOne → ResponsesArePassedOn
+passed_on once terms served r e reply cut lawful is tells whole can =
+    gets terms served r e reply cut once tells whole can is (of_exchange terms served r e reply lawful is)

@@ -68,7 +68,7 @@ decided_leaves : (terms : Terms) (r : Round) (outcome : Outcome) → IsDecided t
 decided_leaves terms r Undecided h = Stayed h.2.untouched
 decided_leaves terms r (Refused head refusal) h = Stayed h.1.untouched
 decided_leaves terms r (Exchanged e (Fails refusal)) h = failure_leaves terms e refusal r.traces h.1
-decided_leaves terms r (Exchanged e (Passes received payload)) h = Stored_it e received payload h.1
+decided_leaves terms r (Exchanged e (Passes received payload)) h = Stored_it e received payload h.1.1
 decided_leaves terms r (Exchanged e LacksReply) h = Stayed h.1.1.untouched
 decided_leaves terms r (Visited q reply) h = Stayed h.1.idle.untouched
 

@@ -245,21 +245,24 @@ module _ (alone : Bool) (site : Site) (e : Exchange) (closes : Bool) (date : ℕ
   stored_reply payload receipt was is law payload_is has consistent h = record {
     found = h.leaves.found;
     led = h.leaves.led;
-    by = record {
-      fetched = fetched_in h.leaves.found was is;
-      payload_is = payload_is;
-      room = h.leaves.not_full;
-      receipt = receipt;
-      number_is = h.leaves.number;
-      refers = h.leaves.refers;
-      gained = h.leaves.gained;
-      by_rule = h.leaves.by_rule;
-      there = there_is payload receipt was is law has consistent h;
-      shown = record {
-        shown = h.leaves.shown;
-        consistent = stays_consistent alone site e was is around.faults_now (ap (λ (x : Contents). x.tells) h.leaves.others) consistent;
-      };
-    };
+    by = (
+      refl,
+      record {
+        fetched = fetched_in h.leaves.found was is;
+        payload_is = payload_is;
+        room = h.leaves.not_full;
+        receipt = receipt;
+        number_is = h.leaves.number;
+        refers = h.leaves.refers;
+        gained = h.leaves.gained;
+        by_rule = h.leaves.by_rule;
+        there = there_is payload receipt was is law has consistent h;
+        shown = record {
+          shown = h.leaves.shown;
+          consistent = stays_consistent alone site e was is around.faults_now (ap (λ (x : Contents). x.tells) h.leaves.others) consistent;
+        };
+      },
+    );
     dialer = stayed_met around.faults_before around.faults_now come.steady;
     disk = stayed_met was.faults is.faults h.faults;
     stored = mine_stored was.contents is.contents receipt.number (length (captures h.leaves.found)) h.leaves.number h.leaves.others;

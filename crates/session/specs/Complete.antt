@@ -1,8 +1,8 @@
 -- Which requests are answered. Where no object failed, a lawful round of such a request has its answer, or memory ran out.
-use Rattle.std.specs.Prelude.{◌≡◌, ◌⊎◌, ℕ, ◌-◌, ◌^◌, ◌<◌, ◌≤◌, false, IsTrue, List, length, Contains, Option, Some, ⊤}
+use Rattle.std.specs.Prelude.{◌≡◌, ◌⊎◌, ℕ, ◌-◌, ◌^◌, ◌<◌, ◌≤◌, Bool, true, false, IsTrue, List, length, Contains, Option, Some, ⊤}
 use Rattle.capture.specs.Captures.{captures}
 use Rattle.capture.specs.Final.{Arrived, IsArrival}
-use Rattle.capture.specs.First.{Message}
+use Rattle.capture.specs.First.{Message, BodyNeeded}
 use Rattle.capture.specs.declared.refusal.Refusal.{Refusal}
 use Rattle.capture.specs.declared.site.Site.{Site}
 use Rattle.cdx_query.specs.Reading.{IsQuery}
@@ -33,30 +33,32 @@ pub record IsFaultless (traces : Traces) : Type 0 where
 
 -- ---- origins
 
--- the origin gave a whole final response within the limits, behind no more interim ones than are dropped
-abbrev pub GaveResponse : Exchange → Transcript → Type 0
-GaveResponse e t = (behind : ℕ) × (used : ℕ) × IsArrival (answers_head e) t.ended t.given (Arrived behind (Message used))
+-- The origin gave a final response within the limits, behind no more interim ones than are dropped: a whole one, or one that the
+-- link's end cut inside its body.
+abbrev pub GaveResponse : Exchange → Bool → Transcript → Type 0
+GaveResponse e false t = (behind : ℕ) × (used : ℕ) × IsArrival (answers_head e) t.ended t.given (Arrived behind (Message used))
+GaveResponse e true t = (behind : ℕ) × IsArrival (answers_head e) t.ended t.given (Arrived behind BodyNeeded) × (t.ended ≡ true)
 
 -- the clock's answer has a text, the origin gave a response, and there is room for its capture
-pub record CanBePassedOn (terms : Terms) (e : Exchange) (traces : Traces) : Type 0 where
+pub record CanBePassedOn (terms : Terms) (e : Exchange) (cut : Bool) (traces : Traces) : Type 0 where
   pub in_range : (date : ℕ) → Contains traces.times date → InRange date
-  pub gave : (t : Transcript) → Contains traces.transcripts t → GaveResponse e t
+  pub gave : (t : Transcript) → Contains traces.transcripts t → GaveResponse e cut t
   pub room : length (captures traces.before.book) < terms.limits.captures
 
--- the response was stored and passed on, whole
-pub record GetsResponse (terms : Terms) (served : ℕ) (r : Round) (e : Exchange) (reply : Reply) : Type 0 where
+-- the response was stored and passed on, as it came
+pub record GetsResponse (terms : Terms) (served : ℕ) (r : Round) (e : Exchange) (cut : Bool) : Type 0 where
   pub received : Received
   pub payload : List ℕ
-  pub reply_is : reply ≡ Passes received payload
+  pub outcome_is : r.outcome ≡ Exchanged e (Passes received payload)
   pub passed : IsPassedOn terms e received payload r.traces
-  pub whole : received.cut ≡ false
-  pub text_is : r.text ≡ answered received payload (answers_head e) (closes_exchange served e reply)
+  pub cut_is : received.cut ≡ cut
+  pub text_is : r.text ≡ answered received payload (answers_head e) (closes_exchange served e (Passes received payload))
 
-abbrev pub WholeResponsesArePassedOn : Type 0
-WholeResponsesArePassedOn =
-    (terms : Terms) (served : ℕ) (r : Round) (e : Exchange) (reply : Reply)
+abbrev pub ResponsesArePassedOn : Type 0
+ResponsesArePassedOn =
+    (terms : Terms) (served : ℕ) (r : Round) (e : Exchange) (reply : Reply) (cut : Bool)
     → IsRound terms served r → r.outcome ≡ Exchanged e reply → IsTrue terms.tells → IsFaultless r.traces
-    → CanBePassedOn terms e r.traces → IsTrue r.lacked ⊎ GetsResponse terms served r e reply
+    → CanBePassedOn terms e cut r.traces → IsTrue r.lacked ⊎ GetsResponse terms served r e cut
 
 -- ---- the site
 

@@ -1,6 +1,6 @@
 -- A request that goes to an origin, and how it is answered (RFC 9110, sections 3.7 and 7.6). Refusals come in this order: for the
 -- clock, for the dialer, for what the origin sent, for want of room, for the disk.
-use Rattle.std.specs.Prelude.{◌≡◌, ◌⊎◌, ℕ, ◌<◌, ◌≤◌, Bool, List, [], ◌∷◌, length, IsTrue, Ok, Err}
+use Rattle.std.specs.Prelude.{◌≡◌, ◌⊎◌, ℕ, ◌<◌, ◌≤◌, Bool, List, [], ◌∷◌, length, IsTrue, IsFalse, Ok, Err}
 use Rattle.archive_shelf.specs.Answers.{IsByRule, IsDamaged, HasVolumeAlone}
 use Rattle.archive_shelf.specs.Comparing.{CanRefer}
 use Rattle.archive_shelf.specs.Storing.{Gains, as_stored}
@@ -181,10 +181,10 @@ pub record RanOut (terms : Terms) (e : Exchange) (traces : Traces) : Type 0 wher
 
 -- ---- the answer
 
--- the reply follows from what the exchange left; without one, memory ran out
+-- The reply follows from what the exchange left. Without one memory ran out, and where memory ran out nothing was stored.
 abbrev pub IsReply : Terms → Exchange → Bool → Reply → Traces → Type 0
 IsReply terms e lacked (Fails refusal) traces = IsFailure terms e refusal traces
-IsReply terms e lacked (Passes received payload) traces = IsPassedOn terms e received payload traces
+IsReply terms e lacked (Passes received payload) traces = IsFalse lacked × IsPassedOn terms e received payload traces
 IsReply terms e lacked LacksReply traces = IsTrue lacked × RanOut terms e traces
 
 -- the text of a reply

@@ -1,6 +1,6 @@
 //! What the definitions promise to those who build on them.
 ghost use Rattle.std.specs.Prelude.{◌≡◌};
-ghost use Rattle.session.specs.Complete.{CapturesThatAreThereAreReplayed, RequestsAreNotRefused, WholeResponsesArePassedOn};
+ghost use Rattle.session.specs.Complete.{CapturesThatAreThereAreReplayed, RequestsAreNotRefused, ResponsesArePassedOn};
 ghost use Rattle.session.specs.Laws.{CoursesGrow, CoursesShowOn, CoursesCountFaults, CoursesStayConsistent, IdsDifferOnTheWay, StoredCapturesHaveTheirPayload};
 ghost use Rattle.session.specs.declared.TheConstants.{REQUEST_LIMIT};
 
@@ -32,11 +32,11 @@ pub fn stored_captures_have_their_payload()
     captures_have_one_payload();
 }
 
-/// Where no count of faults rises and the disk is told, a whole response that came with room for its capture is passed on, and a
-/// capture that is there, or one that is shown, is answered with, and so are queries and pieces: or memory ran out. Bytes that are a request which goes somewhere
-/// aren't refused for themselves.
+/// Where no count of faults rises and the disk is told, a response that came, whole or cut, with room for its capture is passed on,
+/// and a capture that is there, or one that is shown, is answered with, and so are queries and pieces: or memory ran out. Bytes that
+/// are a request which goes somewhere aren't refused for themselves.
 pub fn requests_are_answered()
-    ensures origins { WholeResponsesArePassedOn }
+    ensures origins { ResponsesArePassedOn }
     ensures site { CapturesThatAreThereAreReplayed }
     ensures unrefused { RequestsAreNotRefused }
 {
