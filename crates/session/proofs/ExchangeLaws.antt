@@ -17,7 +17,8 @@ use Rattle.time_text.specs.Texts.{InRange}
 use Rattle.session.specs.Answering.{Incoming, MakesRound}
 use Rattle.session.specs.Connection.{Setting}
 use Rattle.session.specs.Exchanges.{Exchange, Reply, Fails, LacksReply, IsReply, answers_head, reply_text}
-use Rattle.session.specs.Exchanging.{AnswersProxied, Around, Comes, Refuses, Replies, round_of, terms_in, traces_of, view_before}
+use Rattle.session.specs.Declining.{Refuses}
+use Rattle.session.specs.Exchanging.{AnswersProxied, Around, Comes, Replies, round_of, terms_in, traces_of, view_before}
 use Rattle.session.specs.Gains.{World}
 use Rattle.session.specs.Images.{NoDeed, deed_of}
 use Rattle.session.specs.Requests.{IsAsked, IsInterim}

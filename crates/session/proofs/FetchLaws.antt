@@ -16,7 +16,8 @@ use Rattle.outside.specs.Records.{Links}
 use Rattle.outside.specs.declared.dialer.Transcript.{Transcript}
 use Rattle.time_text.specs.Texts.{InRange}
 use Rattle.session.specs.Exchanges.{Exchange, Fails, IsFailure, LacksReply, WentInVain, answers_head, asking_of, sent_of}
-use Rattle.session.specs.Exchanging.{Around, Asks, FailsBy, Refuses, terms_in, traces_of}
+use Rattle.session.specs.Declining.{Declines, Refuses, refusal_by_fetch}
+use Rattle.session.specs.Exchanging.{Around, Asks, terms_in, traces_of}
 use Rattle.session.specs.Images.{NoDeed, deed_of_failure}
 use Rattle.session.specs.Rounds.{is_disk_fault, is_origin_fault}
 use Rattle.session.specs.Traces.{CountsMet}
@@ -85,7 +86,7 @@ module _ (alone : Bool) (site : Site) (e : Exchange) (closes : Bool) (date : ℕ
 
   -- by the fault
   pub fetch_failed : (fault : FetchFault) → LogsFetch (asking_of e) (Err fault) old new → CountsFetch before now (Err fault)
-      → FailsBy fault asks closes result
+      → Declines (refusal_by_fetch fault) asks closes result
       → Asks alone site e closes date result (record { links = old; faults = before; shelf = shelf }) (record { links = new; faults = now; shelf = shelf })
   fetch_failed fetch_fault.DialFault logs counts fails = record {
     transcripts = [];

@@ -1,13 +1,25 @@
 -- What is found by its date, and what an address says of it.
-use Rattle.std.proofs.Common.{◌≡◌, ℕ, Bool, Ok, Err, refl, sym, ◌∙◌}
-use Rattle.archive_shelf.specs.Answers.{Brings}
+use Rattle.std.proofs.Common.{◌≡◌, ℕ, Bool, true, false, Result, Ok, Err, refl, sym, ◌∙◌}
+use Rattle.archive_shelf.proofs.CallLaws.{same_tells, stays_tells}
+use Rattle.archive_shelf.specs.Answers.{Brings, is_bring_fault}
 use Rattle.archive_shelf.specs.Contents.{Contents, LeadsShown}
+use Rattle.archive_shelf.specs.Openings.{IsEarlier}
+use Rattle.archive_shelf.specs.Told.{LooksOn, ReadsOn, Told}
+use Rattle.archive_shelf.specs.declared.fault.BringFault.{BringFault}
 use Rattle.archive_shelf.specs.declared.fault.BringFault.TheVariants as brings
 use Rattle.capture.specs.declared.captured.Brought.{Brought}
+use Rattle.capture.specs.declared.memory.Memory.{Memory}
+use Rattle.capture.specs.declared.refusal.Refusal.TheVariants.{DiskFault, Damaged}
 use Rattle.replay_url.specs.Questions.{Nearest, ForNearest}
-use Rattle.session.specs.SiteAnswers.{SiteRequest, ReachesJust, IsReplayed}
+use Rattle.session.specs.Answering.{AnswersVisit}
+use Rattle.session.specs.Connection.{Setting}
+use Rattle.session.specs.Declining.{Declines, refusal_by_bring}
+use Rattle.session.specs.Givens.{Given}
+use Rattle.session.specs.Looking.{FindsJust}
+use Rattle.session.specs.SiteAnswers.{SiteRequest, Refuses, ReachesJust, IsReplayed, answers_head}
 use Rattle.session.specs.Traces.{Terms}
-use Rattle.session.proofs.LookLaws.{shown_on}
+use Rattle.session.proofs.LookLaws.{found_answers, found_lacking_by, shown_on}
+use Rattle.session.proofs.VisitLaws.{refusal_is, told_damaged}
 
 -- ---- the capture that was found is brought
 
@@ -36,3 +48,28 @@ found_replayed terms alone q sought number faults disk brought mid is h later (t
   brought_is = λ tells. (known (rw same tells)).0;
   agrees = λ tells entry shown at. (known (rw same tells)).1 entry (shown_on alone mid.shown is.shown entry later shown) at;
 }
+
+-- or it wasn't brought
+pub found_unbrought : (alone : Bool) (setting : Setting) (q : SiteRequest) (sought : Nearest) (number : ℕ) (fault : BringFault) (asks closes : Bool)
+    (result : Result Given Memory) (was mid is : Told) → IsEarlier is.crash → LooksOn alone was mid → FindsJust alone mid.contents q sought number
+    → asks ≡ answers_head q → Brings is.contents number (Err fault) → ReadsOn alone (is_bring_fault (Err fault)) mid is
+    → Declines (refusal_by_bring number fault) asks closes result → AnswersVisit alone setting q closes result was is
+found_unbrought alone setting q sought number (brings.NoSuch count) asks closes result was mid is earlier looks h same b reads declines =
+    found_there alone mid.contents is.contents q sought number count h.reaches reads.stays.shown b
+found_unbrought alone setting q sought number brings.DiskFault asks closes result was mid is earlier looks h same b reads declines =
+    found_answers alone setting q (Refuses DiskFault) closes true result was mid is earlier looks h.knows reads refl
+    (λ lacked faults. (ForNearest sought, number, record { wanted = h.reaches; there = b }))
+    (refusal_is result DiskFault asks (answers_head q) closes same declines.text_is) declines.closes_is
+found_unbrought alone setting q sought number (brings.Damaged at kept found) asks closes result was mid is earlier looks h same b reads declines =
+    found_answers alone setting q (Refuses (Damaged at kept found)) closes false result was mid is earlier looks h.knows reads refl
+    (λ lacked faults. (
+      ForNearest sought,
+      number,
+      record { wanted = h.reaches; there = b.0 },
+      b.2,
+      told_damaged _ _ kept found
+          (stays_tells alone mid.contents is.contents reads.stays ∙ same_tells was.contents mid.contents looks.looks.others) b.3,
+    ))
+    (refusal_is result (Damaged at kept found) asks (answers_head q) closes same declines.text_is) declines.closes_is
+found_unbrought alone setting q sought number brings.Memory asks closes result was mid is earlier looks h same b reads declines =
+    found_lacking_by alone setting q closes result was mid is earlier looks h.knows reads declines

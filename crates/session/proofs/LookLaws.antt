@@ -1,5 +1,5 @@
 -- What a look at the entries that are shown makes of a round, and what is found by them.
-use Rattle.std.proofs.Common.{◌≡◌, ℕ, Bool, true, false, ◌==◌, IsTrue, List, [], ◌∷◌, length, Option, Some, Result, Ok, Err, refl, sym, ◌∙◌, ap, subst, arith}
+use Rattle.std.proofs.Common.{◌≡◌, ℕ, Bool, true, false, ◌==◌, IsTrue, IsErr, List, [], ◌∷◌, length, Option, Some, Result, Ok, Err, refl, sym, ◌∙◌, ap, subst, arith}
 use Rattle.std.specs.Prelude.{◌≢◌, IfOk, OnOk, Contains, bytes_eq, nat_eq}
 use Rattle.std.specs.List.{starts_with}
 use Rattle.std.proofs.lemmas.Bool.{eqb-true, false≢true}
@@ -65,6 +65,11 @@ pub found_lacking : (alone : Bool) (setting : Setting) (q : SiteRequest) (closes
 found_lacking alone setting q closes memory was mid is earlier h knows k incoming then now answers links faults closing asked known =
     visit_lacked alone setting incoming q LacksSiteReply mid.contents.shown was is then now answers links faults earlier asked known
     (found_visits alone setting q true LacksSiteReply false was mid is h knows k refl (λ faults. refl))
+
+pub found_lacking_by : (alone : Bool) (setting : Setting) (q : SiteRequest) (closes : Bool) (result : Result Given Memory) (was mid is : Told) → IsEarlier is.crash
+    → LooksOn alone was mid → KnowsBook alone mid.contents → ReadsOn alone false mid is → IsErr result → AnswersVisit alone setting q closes result was is
+found_lacking_by alone setting q closes (Ok answer) was mid is earlier h knows k err = let bad : ⊥ = cc in absurd bad
+found_lacking_by alone setting q closes (Err memory) was mid is earlier h knows k err = found_lacking alone setting q closes memory was mid is earlier h knows k
 
 -- by a look alone
 pub looked_answers : (alone : Bool) (setting : Setting) (q : SiteRequest) (reply : SiteReply) (closes : Bool)

@@ -1,28 +1,33 @@
 -- What deciding a request to the site makes of a round.
-use Rattle.std.proofs.Common.{◌≡◌, inl, ℕ, Bool, true, false, IsTrue, List, [], ◌++◌, Result, Ok, Err, refl, sym, ◌∙◌, ap, subst, arith}
+use Rattle.std.proofs.Common.{◌≡◌, ◌≢◌, ◌==◌, inl, inr, ℕ, ◌≤◌, Bool, true, false, IsTrue, IsErr, List, [], ◌++◌, Some, Result, Ok, Err, refl, sym, ◌∙◌, ap, subst, arith}
+use Rattle.std.proofs.lemmas.Bool.{eqb-true, eqb-false}
 use Rattle.std.proofs.lemmas.List.{append-nil}
-use Rattle.std.specs.Prelude.{IfOk, Option}
-use Rattle.archive_shelf.proofs.CallLaws.{reads_itself, shown_itself}
-use Rattle.archive_shelf.specs.Answers.{Brings, CountsIf, IsDamaged}
+use Rattle.std.specs.Prelude.{IfOk, MatchBool, Option}
+use Rattle.archive_shelf.proofs.CallLaws.{reads_itself, shown_itself, stays_tells}
+use Rattle.archive_shelf.specs.Answers.{Brings, CountsIf, IsDamaged, is_bring_fault}
 use Rattle.archive_shelf.specs.Contents.{Contents, LeadsShown, Shows}
 use Rattle.archive_shelf.specs.Openings.{IsEarlier}
-use Rattle.archive_shelf.specs.Pieces.{GivesPiece}
+use Rattle.archive_shelf.specs.Pieces.{GivesPiece, is_piece_fault}
 use Rattle.archive_shelf.specs.Told.{ReadsOn, Told}
+use Rattle.archive_shelf.specs.declared.fault.BringFault.{BringFault}
+use Rattle.archive_shelf.specs.declared.fault.BringFault.TheVariants as brings
 use Rattle.capture.specs.Faults.{Rose}
 use Rattle.capture.specs.declared.refusal.Refusal.{Refusal}
+use Rattle.capture.specs.declared.refusal.Refusal.TheVariants.{NoSuch, DiskFault, Damaged}
 use Rattle.cdxj_index.specs.Facts.{Facts}
 use Rattle.exchange.specs.Refusals.{refusal_text, memory_text}
 use Rattle.exchange.specs.declared.aim.Aim.TheVariants.{Site as ToSite}
 use Rattle.outside.specs.Records.{Links}
 use Rattle.outside.specs.declared.dialer.Transcript.{Transcript}
 use Rattle.outside.specs.declared.gate.Heard.{Heard}
-use Rattle.replay_url.specs.Questions.{ForNumber}
+use Rattle.replay_url.specs.Questions.{ForNumber, ForPiece}
 use Rattle.replay_url.specs.declared.form.Form.TheVariants.{Number, Ship}
 use Rattle.session.specs.Answering.{Incoming, MakesRound, IsAnswered, Answers, AnswersVisit}
 use Rattle.session.specs.Connection.{Setting, terms_at}
+use Rattle.session.specs.Declining.{Declines, DeclinesPiece, refusal_by_bring}
 use Rattle.session.specs.Requests.{IsAsked, IsInterim, closes_after}
 use Rattle.session.specs.Rounds.{Round, Visited, IsRound, disk_fault}
-use Rattle.session.specs.SiteAnswers.{SiteRequest, SiteReply, Refuses, LacksSiteReply, Asks, IsReplayed, IsShipped, IsSiteReplyBy, IsSiteText, answers_head, is_of_shown}
+use Rattle.session.specs.SiteAnswers.{SiteRequest, SiteReply, Refuses, HasNoMore, LacksSiteReply, Asks, IsReplayed, IsShipped, IsSiteReplyBy, IsSiteText, answers_head, is_of_shown, nothing_text}
 use Rattle.session.specs.Traces.{Terms, View, CountsMet}
 use Rattle.capture.specs.declared.captured.Brought.{Brought}
 use Rattle.capture.specs.declared.memory.Memory.{Memory}
@@ -267,6 +272,93 @@ bring_answers alone setting q reply closes fault result was is earlier h met uns
     (λ lacked. brought_visits alone setting q lacked reply fault was is h met unshown (by lacked))
     text closed closing asked known
 
+pub told_damaged : (a b : Bool) (kept : List ℕ) (found : Option (List ℕ)) → a ≡ b → IsDamaged a kept found → IsDamaged b kept found
+told_damaged a b kept found e h = subst (λ (t : Bool). IsDamaged t kept found) e h
+
+-- a capture was to be brought, and there was no memory
+pub bring_lacking : (alone : Bool) (setting : Setting) (q : SiteRequest) (closes : Bool) (memory : Memory) (was is : Told) → IsEarlier is.crash
+    → ReadsOn alone false was is → AnswersVisit alone setting q closes (Err memory) was is
+bring_lacking alone setting q closes memory was is earlier h incoming then now answers links faults closing asked known =
+    visit_lacked alone setting incoming q LacksSiteReply is.contents.shown was is then now answers links faults earlier asked known
+    (brought_visits alone setting q true LacksSiteReply false was is h refl refl (λ faults. refl))
+
+lacking_bring : (alone : Bool) (setting : Setting) (q : SiteRequest) (closes : Bool) (result : Result Given Memory) (was is : Told) → IsEarlier is.crash
+    → ReadsOn alone false was is → IsErr result → AnswersVisit alone setting q closes result was is
+lacking_bring alone setting q closes (Ok answer) was is earlier h err = let bad : ⊥ = cc in absurd bad
+lacking_bring alone setting q closes (Err memory) was is earlier h err = bring_lacking alone setting q closes memory was is earlier h
+
+-- a capture with this number, which wasn't brought
+pub unbrought_answers : (alone : Bool) (setting : Setting) (q : SiteRequest) (number : ℕ) (fault : BringFault) (asks closes : Bool)
+    (result : Result Given Memory) (was is : Told) → IsEarlier is.crash → Asks q (Number number) → asks ≡ answers_head q
+    → Brings is.contents number (Err fault) → ReadsOn alone (is_bring_fault (Err fault)) was is
+    → Declines (refusal_by_bring number fault) asks closes result → AnswersVisit alone setting q closes result was is
+unbrought_answers alone setting q number (brings.NoSuch count) asks closes result was is earlier asked same h reads declines =
+    bring_answers alone setting q (Refuses (NoSuch number count)) closes false result was is earlier reads refl refl
+    (λ lacked faults. (inl (asked, subst (λ (n : ℕ). n ≤ number) h.0 h.1, h.2), h.0))
+    (refusal_is result (NoSuch number count) asks (answers_head q) closes same declines.text_is) declines.closes_is
+unbrought_answers alone setting q number brings.DiskFault asks closes result was is earlier asked same h reads declines =
+    bring_answers alone setting q (Refuses DiskFault) closes true result was is earlier reads refl refl
+    (λ lacked faults. (ForNumber number, number, record { wanted = (asked, refl); there = h }))
+    (refusal_is result DiskFault asks (answers_head q) closes same declines.text_is) declines.closes_is
+unbrought_answers alone setting q number (brings.Damaged at kept found) asks closes result was is earlier asked same h reads declines =
+    bring_answers alone setting q (Refuses (Damaged at kept found)) closes false result was is earlier reads refl refl
+    (λ lacked faults. (
+      ForNumber number,
+      number,
+      record { wanted = (asked, refl); there = h.0 },
+      h.2,
+      told_damaged _ _ kept found (stays_tells alone was.contents is.contents reads.stays) h.3,
+    ))
+    (refusal_is result (Damaged at kept found) asks (answers_head q) closes same declines.text_is) declines.closes_is
+unbrought_answers alone setting q number brings.Memory asks closes result was is earlier asked same h reads declines =
+    lacking_bring alone setting q closes result was is earlier reads declines
+
+-- or its piece
+pub unshipped_answers : (alone : Bool) (setting : Setting) (q : SiteRequest) (number : ℕ) (fault : BringFault) (asks closes : Bool)
+    (result : Result Given Memory) (was is : Told) → IsEarlier is.crash → Asks q (Ship number) → asks ≡ answers_head q
+    → GivesPiece is.contents number (Err fault) → ReadsOn alone (is_piece_fault (Err fault)) was is
+    → DeclinesPiece number fault asks closes result → IfOk result (λ answer. answer.closes ≡ closes)
+    → AnswersVisit alone setting q closes result was is
+unshipped_answers alone setting q number (brings.NoSuch count) asks closes result was is earlier asked same h reads declines closed =
+    by_test (number == count) refl declines where
+      by_test : (test : Bool) → (number == count) ≡ test
+          → MatchBool test (IfOk result (λ answer. answer.text ≡ nothing_text closes)) (Declines (Some (NoSuch number count)) asks closes result)
+          → AnswersVisit alone setting q closes result was is
+      by_test true e text =
+          let next : number ≡ count = eqb-true number count e in
+          bring_answers alone setting q (HasNoMore number) closes false result was is earlier reads refl refl
+          (λ lacked faults. record { asks = asked; next = next ∙ h.0 }) text closed
+      by_test false e refuses =
+          let other : number ≢ count = eqb-false number count e in
+          bring_answers alone setting q (Refuses (NoSuch number count)) closes false result was is earlier reads refl refl
+          (λ lacked faults. (inr (asked, omega (arith, h.0, h.1, other)), h.0))
+          (refusal_is result (NoSuch number count) asks (answers_head q) closes same refuses.text_is) closed
+unshipped_answers alone setting q number brings.DiskFault asks closes result was is earlier asked same h reads declines closed =
+    bring_answers alone setting q (Refuses DiskFault) closes true result was is earlier reads refl refl
+    (λ lacked faults. (ForPiece number, number, record { wanted = (asked, refl); there = h }))
+    (refusal_is result DiskFault asks (answers_head q) closes same declines.text_is) closed
+unshipped_answers alone setting q number (brings.Damaged at kept found) asks closes result was is earlier asked same h reads declines closed =
+    bring_answers alone setting q (Refuses (Damaged at kept found)) closes false result was is earlier reads refl refl
+    (λ lacked faults. (
+      ForPiece number,
+      number,
+      record { wanted = (asked, refl); there = h.0 },
+      h.1,
+      told_damaged _ _ kept found (stays_tells alone was.contents is.contents reads.stays) h.2,
+    ))
+    (refusal_is result (Damaged at kept found) asks (answers_head q) closes same declines.text_is) closed
+unshipped_answers alone setting q number brings.Memory asks closes result was is earlier asked same h reads declines closed =
+    lacking_bring alone setting q closes result was is earlier reads declines
+
+-- by what a test told
+pub match_true : (P Q : Type 0) (told test : Bool) → told ≡ test → told ≡ true → P → MatchBool test P Q
+match_true P Q told true e t p = p
+match_true P Q told false e t p = let bad : ⊥ = cc in absurd bad
+
+pub match_false : (P Q : Type 0) (told test : Bool) → told ≡ test → told ≡ false → Q → MatchBool test P Q
+match_false P Q told false e f q = q
+match_false P Q told true e f q = let bad : ⊥ = cc in absurd bad
+
 -- a request that is refused, or lacks memory, where the shelf wasn't called
 pub refusal_answers : (alone : Bool) (setting : Setting) (q : SiteRequest) (refusal : Refusal) (asks closes : Bool)
     (result : Result Given Memory) (shelf : Told) → IsEarlier shelf.crash → asks ≡ answers_head q
@@ -284,16 +376,6 @@ pub lacking_answers : (alone : Bool) (setting : Setting) (q : SiteRequest) (clos
     → AnswersVisit alone setting q closes (Err memory) shelf shelf
 lacking_answers alone setting q closes memory shelf earlier incoming then now answers links faults closing asked known =
     lacks_visit alone setting q shelf incoming then now answers links faults earlier asked known
-
--- a capture was to be brought, and there was no memory
-pub bring_lacking : (alone : Bool) (setting : Setting) (q : SiteRequest) (closes : Bool) (memory : Memory) (was is : Told) → IsEarlier is.crash
-    → ReadsOn alone false was is → AnswersVisit alone setting q closes (Err memory) was is
-bring_lacking alone setting q closes memory was is earlier h incoming then now answers links faults closing asked known =
-    visit_lacked alone setting incoming q LacksSiteReply is.contents.shown was is then now answers links faults earlier asked known
-    (brought_visits alone setting q true LacksSiteReply false was is h refl refl (λ faults. refl))
-
-pub told_damaged : (a b : Bool) (kept : List ℕ) (found : Option (List ℕ)) → a ≡ b → IsDamaged a kept found → IsDamaged b kept found
-told_damaged a b kept found e h = subst (λ (t : Bool). IsDamaged t kept found) e h
 
 pub unserved_by : (b served : Bool) → b ≡ served → b ≡ false → served ≡ false
 unserved_by b served e n = sym e ∙ n

@@ -2,27 +2,22 @@
 use Rattle.std.specs.Prelude.{◌≡◌, ℕ, Bool, true, false, ◌||◌, List, [], ◌∷◌, ◌++◌, IsErr, IfOk, Option, Some, None, Result, Ok, Err}
 use Rattle.archive_shelf.specs.Contents.{Leads}
 use Rattle.archive_shelf.specs.declared.fault.StoreFault.{StoreFault}
-use Rattle.archive_shelf.specs.declared.fault.StoreFault.TheVariants as store_fault
 use Rattle.archive_shelf.specs.Told.{ShowsItsBook, StoresOn, Told}
 use Rattle.archive_shelf.specs.declared.receipt.Receipt.{Receipt}
 use Rattle.capture.specs.Payload.{IsPayload}
 use Rattle.capture.specs.declared.book.Book.{Book}
 use Rattle.capture.specs.declared.captured.Taken.{Taken}
 use Rattle.capture.specs.declared.memory.Memory.{Memory}
-use Rattle.capture.specs.declared.refusal.Refusal.{Refusal}
-use Rattle.capture.specs.declared.refusal.Refusal.TheVariants.{DialFault, OriginFault, OriginEnded, OriginMalformed, OriginTooLong, TooManyInterim, Full, DiskFault, Damaged}
 use Rattle.capture.specs.declared.site.Site.{Site}
 use Rattle.exchange.specs.Fetches.{IsFetched}
-use Rattle.exchange.specs.Refusals.{refusal_text}
 use Rattle.exchange.specs.Texts.{answered}
 use Rattle.exchange.specs.declared.aim.Aim.TheVariants.{Origin}
-use Rattle.exchange.specs.declared.fetching.FetchFault.{FetchFault}
-use Rattle.exchange.specs.declared.fetching.FetchFault.TheVariants as fetch_fault
 use Rattle.http_head.specs.declared.head.Received.{Received}
 use Rattle.outside.specs.Records.{Links}
 use Rattle.outside.specs.declared.dialer.Transcript.{Transcript}
 use Rattle.session.specs.Answering.{Answers, Incoming}
 use Rattle.session.specs.Connection.{Setting}
+use Rattle.session.specs.Declining.{Declines, refusal_by_store}
 use Rattle.session.specs.Exchanges.{Exchange, Reply, IsReply, asking_of, reply_text}
 use Rattle.session.specs.Gains.{World}
 use Rattle.session.specs.Images.{KeepsImages}
@@ -41,21 +36,6 @@ exchange_of proxied = record { message = proxied.message; target = proxied.targe
 
 -- ---- answers
 
--- the answer is this refusal, or there was no memory for one
-pub record Refuses (refusal : Refusal) (answers_head closes : Bool) (result : Result Given Memory) : Type 0 where
-  pub text_is : IfOk result (λ answer. answer.text ≡ refusal_text refusal answers_head closes)
-  pub closes_is : IfOk result (λ answer. answer.closes ≡ closes)
-
--- the answer to a request of which no response came, by the reason
-abbrev pub FailsBy : FetchFault → Bool → Bool → Result Given Memory → Type 0
-FailsBy fetch_fault.DialFault answers_head closes result = Refuses DialFault answers_head closes result
-FailsBy fetch_fault.OriginFault answers_head closes result = Refuses OriginFault answers_head closes result
-FailsBy fetch_fault.OriginEnded answers_head closes result = Refuses OriginEnded answers_head closes result
-FailsBy fetch_fault.OriginMalformed answers_head closes result = Refuses OriginMalformed answers_head closes result
-FailsBy fetch_fault.OriginTooLong answers_head closes result = Refuses OriginTooLong answers_head closes result
-FailsBy fetch_fault.TooManyInterim answers_head closes result = Refuses TooManyInterim answers_head closes result
-FailsBy fetch_fault.Memory answers_head closes result = IsErr result
-
 -- what is written behind the text that is ready, by the payload of the response
 abbrev pub body_of : Rest → List ℕ → Option (List ℕ)
 body_of rests.Nothing payload = None
@@ -72,17 +52,10 @@ pub record PassesOn (received : Received) (answers_head closes : Bool) (answer :
 abbrev pub given_of : Ready → List ℕ → Given
 given_of ready payload = record { text = with_body ready.text (body_of ready.rest payload); closes = ready.closes }
 
--- the answer to a request whose capture wasn't stored, by the reason
-abbrev pub TurnsDown : StoreFault → Bool → Bool → Result Given Memory → Type 0
-TurnsDown (store_fault.Full count limit) answers_head closes result = Refuses (Full count limit) answers_head closes result
-TurnsDown store_fault.DiskFault answers_head closes result = Refuses DiskFault answers_head closes result
-TurnsDown (store_fault.Damaged number kept found) answers_head closes result = Refuses (Damaged number kept found) answers_head closes result
-TurnsDown store_fault.Memory answers_head closes result = IsErr result
-
 -- the answer by what a store said: the one that is ready, where the capture is stored
 abbrev pub FollowsStore : Given → Bool → Bool → Result Receipt StoreFault → Result Given Memory → Type 0
 FollowsStore ready answers_head closes (Ok receipt) result = result ≡ Ok ready
-FollowsStore ready answers_head closes (Err fault) result = TurnsDown fault answers_head closes result
+FollowsStore ready answers_head closes (Err fault) result = Declines (refusal_by_store fault) answers_head closes result
 
 -- ---- the outside
 

@@ -1,6 +1,7 @@
 pub mod Answering
 pub mod Complete
 pub mod Connection
+pub mod Declining
 pub mod Endings
 pub mod Exchanges
 pub mod Exchanging

@@ -9,16 +9,18 @@ ghost use Rattle.http_wire.specs.Messages.{IsOneResponse};
 ghost use Rattle.exchange.specs.Storing.{IsForOrigin};
 ghost use Rattle.exchange.specs.Texts.{forwarded};
 ghost use Rattle.outside.specs.declared.gate.Heard.{Heard};
+ghost use Rattle.session.specs.Declining.{Declines, refusal_by_fetch, refusal_by_store};
 ghost use Rattle.session.specs.Exchanges as spec;
-ghost use Rattle.session.specs.Exchanging.{AnswersProxied, Around, Asks, Comes, FailsBy, HasCome, Keeps, TurnsDown, exchange_of, given_of};
+ghost use Rattle.session.specs.Exchanging.{AnswersProxied, Around, Asks, Comes, HasCome, Keeps, exchange_of, given_of};
 ghost use Rattle.time_text.specs.Texts.{InRange};
 ghost use Rattle.warc_text.specs.Fits.{Fits};
 
 use crate::answer::Answer;
+use crate::faults::{why_unfetched, why_unstored};
 use crate::heads::asks_for_head;
 use crate::laws::stored_captures_have_their_payload;
 use crate::passing::{Ready, passed_on};
-use crate::refusing::refused;
+use crate::refusing::{declined, refused};
 use archive_shelf::{Shelf, StoreFault};
 use capture::{Bytes, Memory, Refusal, Taken};
 use exchange::{FetchFault, Target, Window, fetch, forward_text, requests_can_be_stored};
@@ -138,23 +140,10 @@ fn fail(
     answers_head: bool,
     closes: bool,
 ) -> Result<Answer, Memory>
-    ensures fails { FailsBy fault answers_head closes result }
+    ensures fails { Declines (refusal_by_fetch fault) answers_head closes result }
     ensures closes { IfOk result (λ answer. answer.closes ≡ closes) }
 {
-    match fault {
-        FetchFault::DialFault => refused(alloc, Refusal::DialFault, answers_head, closes),
-        FetchFault::OriginFault => refused(alloc, Refusal::OriginFault, answers_head, closes),
-        FetchFault::OriginEnded => refused(alloc, Refusal::OriginEnded, answers_head, closes),
-        FetchFault::OriginMalformed => refused(
-            alloc,
-            Refusal::OriginMalformed,
-            answers_head,
-            closes,
-        ),
-        FetchFault::OriginTooLong => refused(alloc, Refusal::OriginTooLong, answers_head, closes),
-        FetchFault::TooManyInterim => refused(alloc, Refusal::TooManyInterim, answers_head, closes),
-        FetchFault::Memory => Err(Memory),
-    }
+    declined(alloc, why_unfetched(fault), answers_head, closes)
 }
 
 /// Makes the answer to a response ready, stores the exchange, and gives the answer.
@@ -258,30 +247,7 @@ fn turn_down(
     answers_head: bool,
     closes: bool,
 ) -> Result<Answer, Memory>
-    ensures { TurnsDown fault answers_head closes result }
+    ensures { Declines (refusal_by_store fault) answers_head closes result }
 {
-    match fault {
-        StoreFault::Full { count, limit } => refused(
-            alloc,
-            Refusal::Full { count, limit },
-            answers_head,
-            closes,
-        ),
-        StoreFault::DiskFault => refused(alloc, Refusal::DiskFault, answers_head, closes),
-        StoreFault::Damaged {
-            number,
-            kept,
-            found,
-        } => refused(
-            alloc,
-            Refusal::Damaged {
-                number,
-                kept,
-                found,
-            },
-            answers_head,
-            closes,
-        ),
-        StoreFault::Memory => Err(Memory),
-    }
+    declined(alloc, why_unstored(fault), answers_head, closes)
 }

@@ -4,6 +4,7 @@
 mod answer;
 mod answering;
 mod exchanging;
+mod faults;
 mod finding;
 mod found;
 mod heads;

@@ -1,6 +1,7 @@
 //! Answers that refuse a request.
 ghost use Rattle.std.specs.Prelude.{◌≡◌, IfOk};
 ghost use Rattle.exchange.specs.Refusals as spec;
+ghost use Rattle.session.specs.Declining.{Declines};
 
 use crate::answer::Answer;
 use capture::{Memory, Refusal};
@@ -19,4 +20,20 @@ pub fn refused(
 {
     let text = refusal_text(alloc, &refusal, answers_head, closes)?;
     Ok(Answer::of(text, closes))
+}
+
+/// The answer to a request that is refused for this, or for which there was no memory.
+pub fn declined(
+    alloc: Global,
+    refusal: Option<Refusal>,
+    answers_head: bool,
+    closes: bool,
+) -> Result<Answer, Memory>
+    ensures declines { Declines refusal answers_head closes result }
+    ensures closes { IfOk result (λ answer. answer.closes ≡ closes) }
+{
+    match refusal {
+        Some(refusal) => refused(alloc, refusal, answers_head, closes),
+        None => Err(Memory),
+    }
 }

@@ -11,11 +11,12 @@ ghost use Rattle.session.specs.Looking.{FindsJust};
 ghost use Rattle.session.specs.SiteAnswers.{Asks};
 
 use crate::answer::Answer;
+use crate::faults::why_unbrought;
 use crate::heads::asks_for_head;
-use crate::refusing::refused;
+use crate::refusing::declined;
 use crate::visit::{Sought, Visit};
-use archive_shelf::{BringFault, Shelf};
-use capture::{Brought, Memory, Refusal};
+use archive_shelf::Shelf;
+use capture::{Brought, Memory};
 use replay_answer::memento;
 use std::alloc::Global;
 
@@ -35,35 +36,12 @@ pub fn replay_number<S: Shelf>(
     let answers_head = asks_for_head(&visit.message.head);
     match shelf.bring(alloc, number) {
         Ok(brought) => replay(alloc, visit, &brought, true),
-        Err(BringFault::NoSuch { count }) => refused(
+        Err(fault) => declined(
             alloc,
-            Refusal::NoSuch { number, count },
+            why_unbrought(number, fault),
             answers_head,
             visit.closes,
         ),
-        Err(BringFault::DiskFault) => refused(
-            alloc,
-            Refusal::DiskFault,
-            answers_head,
-            visit.closes,
-        ),
-        Err(
-            BringFault::Damaged {
-                number: at,
-                kept,
-                found,
-            },
-        ) => refused(
-            alloc,
-            Refusal::Damaged {
-                number: at,
-                kept,
-                found,
-            },
-            answers_head,
-            visit.closes,
-        ),
-        Err(BringFault::Memory) => Err(Memory),
     }
 }
 
@@ -86,30 +64,12 @@ pub fn replay_found<S: Shelf>(
     let answers_head = asks_for_head(&visit.message.head);
     match shelf.bring(alloc, number) {
         Ok(brought) => replay(alloc, visit, &brought, sought.raw),
-        Err(BringFault::NoSuch { .. }) => unreachable!(),
-        Err(BringFault::DiskFault) => refused(
+        Err(fault) => declined(
             alloc,
-            Refusal::DiskFault,
+            why_unbrought(number, fault),
             answers_head,
             visit.closes,
         ),
-        Err(
-            BringFault::Damaged {
-                number: at,
-                kept,
-                found,
-            },
-        ) => refused(
-            alloc,
-            Refusal::Damaged {
-                number: at,
-                kept,
-                found,
-            },
-            answers_head,
-            visit.closes,
-        ),
-        Err(BringFault::Memory) => Err(Memory),
     }
 }
 

@@ -3,15 +3,18 @@ ghost use Rattle.std.specs.Prelude.{◌≡◌, Bool, IfOk};
 ghost use Rattle.archive_shelf.specs.Told.{GoesOn};
 ghost use Rattle.replay_url.specs.declared.form.Form.TheVariants.{Ship as TheShip};
 ghost use Rattle.session.specs.Answering.{AnswersVisit};
+ghost use Rattle.session.specs.Declining as spec;
+ghost use Rattle.session.specs.Declining.{DeclinesPiece};
 ghost use Rattle.session.specs.SiteAnswers.{Asks};
 
 use crate::answer::Answer;
+use crate::faults::why_unbrought;
 use crate::found::{found, nothing};
 use crate::heads::asks_for_head;
-use crate::refusing::refused;
+use crate::refusing::declined;
 use crate::visit::Visit;
 use archive_shelf::{BringFault, Shelf};
-use capture::{Memory, Refusal};
+use capture::Memory;
 use std::alloc::Global;
 
 /// Answers with the piece of the capture of a number, or with nothing where it is that of the next capture.
@@ -30,39 +33,35 @@ pub fn ship<S: Shelf>(
     let answers_head = asks_for_head(&visit.message.head);
     match shelf.piece(alloc, number) {
         Ok(piece) => found(alloc, visit, b"application/warc", piece),
-        Err(BringFault::NoSuch { count }) => {
-            if number == count {
-                return nothing(alloc, visit.closes);
-            }
-            refused(
-                alloc,
-                Refusal::NoSuch { number, count },
-                answers_head,
-                visit.closes,
-            )
-        }
-        Err(BringFault::DiskFault) => refused(
-            alloc,
-            Refusal::DiskFault,
-            answers_head,
-            visit.closes,
-        ),
-        Err(
-            BringFault::Damaged {
-                number: at,
-                kept,
-                found,
-            },
-        ) => refused(
-            alloc,
-            Refusal::Damaged {
-                number: at,
-                kept,
-                found,
-            },
-            answers_head,
-            visit.closes,
-        ),
-        Err(BringFault::Memory) => Err(Memory),
+        Err(fault) => unshipped(alloc, number, fault, answers_head, visit.closes),
+    }
+}
+
+/// The answer to a request for the piece of the capture with this number, which wasn't brought.
+fn unshipped(
+    alloc: Global,
+    number: u32,
+    fault: BringFault,
+    answers_head: bool,
+    closes: bool,
+) -> Result<Answer, Memory>
+    ensures declines { DeclinesPiece number fault answers_head closes result }
+    ensures closes { IfOk result (λ answer. answer.closes ≡ closes) }
+{
+    if is_next(number, fault) {
+        return nothing(alloc, closes);
+    }
+    declined(alloc, why_unbrought(number, fault), answers_head, closes)
+}
+
+/// Whether the piece is that of the next capture, which is still to come.
+fn is_next(number: u32, fault: BringFault) -> bool
+    ensures { result ≡ spec.is_next number fault }
+{
+    match fault {
+        BringFault::NoSuch { count } => number == count,
+        BringFault::DiskFault => false,
+        BringFault::Damaged { .. } => false,
+        BringFault::Memory => false,
     }
 }

@@ -1,10 +1,9 @@
 -- What was brought, or wasn't.
-use Rattle.std.proofs.Common.{true, false, ◌≤◌, inl, refl, subst}
+use Rattle.std.proofs.Common.{false, refl}
 use Rattle.archive_shelf.proofs.CallLaws.{read_goes_on, stays_tells}
-use Rattle.capture.specs.declared.refusal.Refusal.TheVariants.{NoSuch, DiskFault, Damaged}
 use Rattle.replay_url.specs.Questions.{ForNumber}
-use Rattle.session.specs.SiteAnswers.{Refuses, Replays}
-use Rattle.session.proofs.VisitLaws.{bring_answers, bring_lacking, number_replayed, refusal_is, told_damaged}
+use Rattle.session.specs.SiteAnswers.{Replays}
+use Rattle.session.proofs.VisitLaws.{bring_answers, number_replayed, unbrought_answers}
 use Rattle.session.proofs.replaying.replay_number.Goals as goal
 
 pub returns-in-Ok-clause-answers : goal.returns-in-Ok-clause-answers
@@ -19,77 +18,20 @@ returns-in-Ok-clause-answers g c clock_tells =
     (stays_tells g.S.Finder.alone (g.S.Finder.told c.args.shelf.now).contents (g.S.Finder.told c.bring.new.self).contents c.in-Ok.ensures.reads.stays))
     c.replay.ensures.text c.replay.ensures.closes
 
-pub returns-in-Err-NoSuch-clause-answers : goal.returns-in-Err-NoSuch-clause-answers
-returns-in-Err-NoSuch-clause-answers g c clock_tells =
-    let brings = rw c.in-Err-NoSuch.field-0-is at c.in-Err-NoSuch.ensures.brings in
-    bring_answers g.S.Finder.alone (record { site = c.args.visit.site.now; clock_tells = clock_tells })
-    (record { message = c.args.visit.message.now; address = c.args.visit.address.now })
-    (Refuses (NoSuch c.args.number c.in-Err-NoSuch.count)) c.args.visit.closes false c.refused.result (g.S.Finder.told c.args.shelf.now) (g.S.Finder.told c.bring.new.self)
-    (g.met.S.Finder.earlier c.bring.new.self)
-    (rw c.in-Err-NoSuch.field-0-is at c.in-Err-NoSuch.ensures.reads) refl refl
-    (λ lacked faults. (inl (c.requires.asks, subst (λ n. n ≤ c.args.number) brings.0 brings.1, brings.2), brings.0))
-    (refusal_is c.refused.result (NoSuch c.args.number c.in-Err-NoSuch.count) c.asks_for_head-answers_head.result _ c.args.visit.closes c.asks_for_head-answers_head.ensures c.refused.ensures.text)
-    c.refused.ensures.closes
-
-pub returns-in-Err-DiskFault-clause-answers : goal.returns-in-Err-DiskFault-clause-answers
-returns-in-Err-DiskFault-clause-answers g c clock_tells =
-    let brings = rw c.in-Err-DiskFault.field-0-is at c.in-Err-DiskFault.ensures.brings in
-    bring_answers g.S.Finder.alone (record { site = c.args.visit.site.now; clock_tells = clock_tells })
-    (record { message = c.args.visit.message.now; address = c.args.visit.address.now })
-    (Refuses DiskFault) c.args.visit.closes true c.refused-in-Err-DiskFault.result (g.S.Finder.told c.args.shelf.now) (g.S.Finder.told c.bring.new.self)
-    (g.met.S.Finder.earlier c.bring.new.self)
-    (rw c.in-Err-DiskFault.field-0-is at c.in-Err-DiskFault.ensures.reads) refl refl
-    (λ lacked faults. (ForNumber c.args.number, c.args.number, record { wanted = (c.requires.asks, refl); there = brings }))
-    (refusal_is c.refused-in-Err-DiskFault.result DiskFault c.asks_for_head-answers_head.result _ c.args.visit.closes c.asks_for_head-answers_head.ensures c.refused-in-Err-DiskFault.ensures.text)
-    c.refused-in-Err-DiskFault.ensures.closes
-
-pub returns-in-Err-Damaged-clause-answers : goal.returns-in-Err-Damaged-clause-answers
-returns-in-Err-Damaged-clause-answers g c clock_tells =
-    let brings = rw c.in-Err-Damaged.field-0-is at c.in-Err-Damaged.ensures.brings in
-    bring_answers g.S.Finder.alone (record { site = c.args.visit.site.now; clock_tells = clock_tells })
-    (record { message = c.args.visit.message.now; address = c.args.visit.address.now })
-    (Refuses (Damaged c.in-Err-Damaged.at c.in-Err-Damaged.kept c.in-Err-Damaged.found)) c.args.visit.closes false c.refused-in-Err-Damaged.result (g.S.Finder.told c.args.shelf.now) (g.S.Finder.told c.bring.new.self)
-    (g.met.S.Finder.earlier c.bring.new.self)
-    (rw c.in-Err-Damaged.field-0-is at c.in-Err-Damaged.ensures.reads) refl refl
-    (λ lacked faults. (
-      ForNumber c.args.number,
-      c.args.number,
-      record { wanted = (c.requires.asks, refl); there = brings.0 },
-      brings.2,
-      told_damaged _ _ c.in-Err-Damaged.kept c.in-Err-Damaged.found
-          (stays_tells g.S.Finder.alone (g.S.Finder.told c.args.shelf.now).contents (g.S.Finder.told c.bring.new.self).contents c.in-Err-Damaged.ensures.reads.stays) brings.3,
-    ))
-    (refusal_is c.refused-in-Err-Damaged.result (Damaged c.in-Err-Damaged.at c.in-Err-Damaged.kept c.in-Err-Damaged.found) c.asks_for_head-answers_head.result _ c.args.visit.closes c.asks_for_head-answers_head.ensures c.refused-in-Err-Damaged.ensures.text)
-    c.refused-in-Err-Damaged.ensures.closes
-
-pub returns-in-Err-Memory-clause-answers : goal.returns-in-Err-Memory-clause-answers
-returns-in-Err-Memory-clause-answers g c clock_tells =
-    bring_lacking g.S.Finder.alone (record { site = c.args.visit.site.now; clock_tells = clock_tells })
-    (record { message = c.args.visit.message.now; address = c.args.visit.address.now }) c.args.visit.closes _ (g.S.Finder.told c.args.shelf.now) (g.S.Finder.told c.bring.new.self)
-    (g.met.S.Finder.earlier c.bring.new.self)
-    (rw c.in-Err-Memory.field-0-is at c.in-Err-Memory.ensures.reads)
+pub returns-in-Err-clause-answers : goal.returns-in-Err-clause-answers
+returns-in-Err-clause-answers g c clock_tells =
+    unbrought_answers g.S.Finder.alone (record { site = c.args.visit.site.now; clock_tells = clock_tells })
+    (record { message = c.args.visit.message.now; address = c.args.visit.address.now }) c.args.number c.in-Err.fault
+    c.asks_for_head-answers_head.result c.args.visit.closes c.declined.result (g.S.Finder.told c.args.shelf.now) (g.S.Finder.told c.bring.new.self)
+    (g.met.S.Finder.earlier c.bring.new.self) c.requires.asks c.asks_for_head-answers_head.ensures c.in-Err.ensures.brings c.in-Err.ensures.reads
+    (rw c.why_unbrought.ensures at c.declined.ensures.declines)
 
 pub returns-in-Ok-clause-goes_on : goal.returns-in-Ok-clause-goes_on
 returns-in-Ok-clause-goes_on g c =
     read_goes_on g.S.Finder.alone false (g.S.Finder.told c.args.shelf.now) (g.S.Finder.told c.bring.new.self) c.in-Ok.ensures.shows.consistent
     c.in-Ok.ensures.reads
 
-pub returns-in-Err-NoSuch-clause-goes_on : goal.returns-in-Err-NoSuch-clause-goes_on
-returns-in-Err-NoSuch-clause-goes_on g c =
-    read_goes_on g.S.Finder.alone false (g.S.Finder.told c.args.shelf.now) (g.S.Finder.told c.bring.new.self) c.in-Err-NoSuch.ensures.shows.consistent
-    (rw c.in-Err-NoSuch.field-0-is at c.in-Err-NoSuch.ensures.reads)
-
-pub returns-in-Err-DiskFault-clause-goes_on : goal.returns-in-Err-DiskFault-clause-goes_on
-returns-in-Err-DiskFault-clause-goes_on g c =
-    read_goes_on g.S.Finder.alone true (g.S.Finder.told c.args.shelf.now) (g.S.Finder.told c.bring.new.self) c.in-Err-DiskFault.ensures.shows.consistent
-    (rw c.in-Err-DiskFault.field-0-is at c.in-Err-DiskFault.ensures.reads)
-
-pub returns-in-Err-Damaged-clause-goes_on : goal.returns-in-Err-Damaged-clause-goes_on
-returns-in-Err-Damaged-clause-goes_on g c =
-    read_goes_on g.S.Finder.alone false (g.S.Finder.told c.args.shelf.now) (g.S.Finder.told c.bring.new.self) c.in-Err-Damaged.ensures.shows.consistent
-    (rw c.in-Err-Damaged.field-0-is at c.in-Err-Damaged.ensures.reads)
-
-pub returns-in-Err-Memory-clause-goes_on : goal.returns-in-Err-Memory-clause-goes_on
-returns-in-Err-Memory-clause-goes_on g c =
-    read_goes_on g.S.Finder.alone false (g.S.Finder.told c.args.shelf.now) (g.S.Finder.told c.bring.new.self) c.in-Err-Memory.ensures.shows.consistent
-    (rw c.in-Err-Memory.field-0-is at c.in-Err-Memory.ensures.reads)
+pub returns-in-Err-clause-goes_on : goal.returns-in-Err-clause-goes_on
+returns-in-Err-clause-goes_on g c =
+    read_goes_on g.S.Finder.alone _ (g.S.Finder.told c.args.shelf.now) (g.S.Finder.told c.bring.new.self) c.in-Err.ensures.shows.consistent
+    c.in-Err.ensures.reads
