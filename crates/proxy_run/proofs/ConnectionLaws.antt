@@ -39,10 +39,9 @@ served_over disks laws given clock_tells told now was is status only same faults
       connection = record {
         rounds = k.rounds;
         rest = k.rest;
-        accounts = k.accounts;
+        given = k.given;
         lawful = subst (λ n. IsCourse (pipe_terms (contents_of was)) 0 (view_of (contents_of was) told.dialer_faults n) k.rounds
             (view_of (contents_of is) now.dialer_faults (disks.faults (disk_of is.journal)))) faults k.lawful;
-        stops = k.stops;
         ends = k.ends;
         gained = record { around = record { asked = k.gained.around.asked; logged = k.gained.around.logged }; stored = k.gained.stored };
         images = images_behind (pipe_terms (contents_of was)) k.rounds (told_on disks given (contents_of was)) (told_of disks was)

@@ -8,7 +8,7 @@ use Rattle.outside.specs.declared.gate.Heard.{Heard}
 use Rattle.proxy_run.specs.Objects.{Around}
 use Rattle.proxy_run.specs.declared.status.Status.{Status}
 use Rattle.proxy_run.specs.declared.status.Status.TheVariants.{Done, Words, Archive, Outside, Memory}
-use Rattle.session.specs.Connection.{IsConnection, Setting, Stage}
+use Rattle.session.specs.Connection.{IsConnection, Setting}
 use Rattle.session.specs.Gains.{World}
 use Rattle.session.specs.declared.served.Served.{Served}
 use Rattle.session.specs.declared.served.Served.TheVariants as served
@@ -51,16 +51,12 @@ world_of heard told shelf = record {
   shelf = shelf;
 }
 
--- a connection before its first byte
-abbrev pub first_stage : Around → Told → Stage
-first_stage told shelf = record { served = 0; pending = []; world = world_of unheard told shelf }
-
 -- One connection was given, served and hung up, and is all that the gate gave.
 pub record ServesOne (alone : Bool) (setting : Setting) (was is : Around) (shelf_was shelf_is : Told) (status : Status) : Type 0 where
   pub heard : Heard
   pub served : Served
   pub logged : is.connections ≡ one_served was.connections heard
-  pub connection : IsConnection alone setting (first_stage was shelf_was) (world_of heard is shelf_is) served
+  pub connection : IsConnection alone setting (world_of unheard was shelf_was) (world_of heard is shelf_is) served
   pub status_is : status ≡ status_of served
 
 -- why a gate gave no connection: it was closed, it failed, or there was no memory

@@ -6,7 +6,7 @@ use Rattle.exchange.specs.Storing.{IsForOrigin}
 use Rattle.exchange.specs.declared.aim.Aim.{Aim}
 use Rattle.exchange.specs.declared.aim.Aim.TheVariants.{Origin}
 use Rattle.exchange.specs.declared.aim.Target.{Target}
-use Rattle.session.specs.Reads.{IsWellAsked}
+use Rattle.session.specs.steps.Reads.{IsWellAsked}
 use Rattle.session.specs.Requests.{aim_of_head}
 use Rattle.session.specs.declared.reading.Asked.{Asked}
 

@@ -1,15 +1,17 @@
 -- A lawful round and then a connection are a connection.
 use Rattle.std.proofs.Common.{◌≡◌, ℕ, ◌+◌, inl, inr, Bool, true, false, ◌||◌, List, [], ◌∷◌, ◌++◌, refl, sym, ◌∙◌, ap, append_assoc}
+use Rattle.std.proofs.lemmas.List.{append-nil}
 use Rattle.archive_shelf.specs.Contents.{Contents}
 use Rattle.capture.specs.declared.refusal.Refusal.{Refusal}
 use Rattle.capture.specs.declared.site.Site.{Site}
 use Rattle.exchange.specs.Receiving.{StaysAccounted}
 use Rattle.exchange.specs.Writing.{GrowsByProperFront}
 use Rattle.outside.specs.declared.gate.Heard.{Heard}
-use Rattle.session.specs.Connection.{Setting, Stage, IsConnection, IsStep, terms_at}
+use Rattle.session.specs.Connection.{IsConnection, Setting, terms_at}
+use Rattle.session.specs.steps.Stages.{Stage, IsRemainder, IsStep}
 use Rattle.session.specs.Gains.{World, gains_by, gains_of}
 use Rattle.session.specs.Rounds.{Round, Outcome, Undecided, Refused, Exchanged, Visited, closes, closes_outcome, course_text, course_wire, is_closed, lacks, refusal_in, refusals}
-use Rattle.session.specs.Stopping.{Stops, CutShort, CutInside, Closed, LeftOver, EndsWell, EndsAs}
+use Rattle.session.specs.Stopping.{Course, Ends, IsClosed, IsCutInside, IsCutShort, IsLeftOver}
 use Rattle.session.specs.Traces.{terms_of}
 use Rattle.session.specs.declared.served.Served.{Served}
 use Rattle.session.specs.declared.served.Served.TheVariants.{Done, ClientBroke, ClientEndedEarly, ClientRefused, WantOfMemory}
@@ -47,78 +49,90 @@ no_refusal served (Visited request reply) e = refl
 pub part_behind : (a b now text : List ℕ) → a ≡ b → GrowsByProperFront a now text → GrowsByProperFront b now text
 part_behind a b now text e w = record { front = w.front; is_front = w.is_front; grown = w.grown ∙ ap (λ x. x ++ w.front) e }
 
--- how a connection ended doesn't hang on a first round that doesn't close
-well_behind : (served : ℕ) (now : Heard) (r : Round) (rounds : List Round) (rest : List ℕ) → closes served r ≡ false → r.lacked ≡ false
-    → EndsWell (record { served = served + 1; rounds = rounds; rest = rest }) now
-    → EndsWell (record { served = served; rounds = r ∷ rounds; rest = rest }) now
-well_behind served now r rounds rest goes has h = record {
-  whole = h.whole;
-  enough = same_or r.lacked (lacks rounds) has ∙ h.enough;
-  between = elim h.between [
-    | inl closed ↦ inl (same_or (closes served r) (is_closed (served + 1) rounds) goes ∙ closed)
-    | inr none ↦ inr none
-  ];
-}
+-- ---- where a course stops, behind a first round that doesn't close
 
-ends_behind : (site : Site) (served : ℕ) (now : Heard) (r : Round) (rounds : List Round) (rest : List ℕ) → closes served r ≡ false → r.lacked ≡ false
-    → refusal_in r.outcome ≡ [] → (result : Served) → EndsAs result site (record { served = served + 1; rounds = rounds; rest = rest }) now
-    → EndsAs result site (record { served = served; rounds = r ∷ rounds; rest = rest }) now
-ends_behind site served now r rounds rest goes has none Done (h, e) =
-    (well_behind served now r rounds rest goes has h, ap (λ (x : List Refusal). x ++ refusals rounds) none ∙ e)
-ends_behind site served now r rounds rest goes has none ClientBroke (h, e) = (h, same_or r.lacked (lacks rounds) has ∙ e)
-ends_behind site served now r rounds rest goes has none ClientEndedEarly h = record {
-  whole = h.whole;
-  enough = same_or r.lacked (lacks rounds) has ∙ h.enough;
-  not_closed = same_or (closes served r) (is_closed (served + 1) rounds) goes ∙ h.not_closed;
-  ended = h.ended;
-  inside = h.inside;
-}
-ends_behind site served now r rounds rest goes has none (ClientRefused refusal) (h, e) =
-    (well_behind served now r rounds rest goes has h, ap (λ (x : List Refusal). x ++ refusals rounds) none ∙ e)
-ends_behind site served now r rounds rest goes has none WantOfMemory h = same_or r.lacked (lacks rounds) has ∙ h
+module _ (served : ℕ) (r : Round) (rounds : List Round) (rest : List ℕ) (then mid now : Heard)
+    (written : mid.written ≡ then.written ++ (r.interim ++ r.text)) where
+  -- the rounds behind it, and all
+  abbrev others : Course
+  others = record { served = served + 1; rounds = rounds; rest = rest }
 
--- where a course stops, behind a first round that doesn't close
-stops_behind : (site : Site) (served : ℕ) (r : Round) (rounds : List Round) (rest : List ℕ) (then mid now : Heard) → closes served r ≡ false
-    → mid.written ≡ then.written ++ (r.interim ++ r.text) → Stops site (record { served = served + 1; rounds = rounds; rest = rest }) mid now
-    → Stops site (record { served = served; rounds = r ∷ rounds; rest = rest }) then now
-stops_behind site served r rounds rest then mid now goes written (CutShort cut) =
-    let said_text : List ℕ = r.interim ++ r.text in
-    CutShort (record {
-      init = r ∷ cut.init;
-      last = cut.last;
-      are = ap (λ (l : List Round). r ∷ l) cut.are;
-      part = part_behind (mid.written ++ (course_text cut.init ++ cut.last.interim)) (then.written ++ ((said_text ++ course_text cut.init) ++ cut.last.interim)) now.written cut.last.text
-          (behind_text then.written mid.written said_text (course_text cut.init ++ cut.last.interim) written
-          ∙ ap (λ x. then.written ++ x) (sym (append_assoc said_text (course_text cut.init) cut.last.interim))) cut.part;
-      unwritten = cut.unwritten;
-    })
-stops_behind site served r rounds rest then mid now goes written (CutInside cut) =
-    CutInside (record {
-      not_closed = same_or (closes served r) (is_closed (served + 1) rounds) goes ∙ cut.not_closed;
-      begun = cut.begun;
-      unread = cut.unread;
-      are = cut.are;
-      interim = cut.interim;
-      asked = cut.asked;
-      part = part_behind (mid.written ++ course_text rounds) (then.written ++ ((r.interim ++ r.text) ++ course_text rounds)) now.written cut.interim
-          (behind_text then.written mid.written (r.interim ++ r.text) (course_text rounds) written) cut.part;
-      unwritten = cut.unwritten;
-    })
-stops_behind site served r rounds rest then mid now goes written (Closed all) =
-    Closed (record {
-      written = all.written ∙ behind_text then.written mid.written (r.interim ++ r.text) (course_text rounds) written;
-      closed = same_or (closes served r) (is_closed (served + 1) rounds) goes ∙ all.closed;
-    })
-stops_behind site served r rounds rest then mid now goes written (LeftOver all) =
-    LeftOver (record {
-      not_closed = same_or (closes served r) (is_closed (served + 1) rounds) goes ∙ all.not_closed;
-      undecided = all.undecided;
-      interim = all.interim;
-      interim_is = all.interim_is;
-      written = all.written ∙ behind_text then.written mid.written (r.interim ++ r.text) (course_text rounds ++ all.interim) written
-          ∙ ap (λ x. then.written ++ x) (sym (append_assoc (r.interim ++ r.text) (course_text rounds) all.interim));
-      no_more = all.no_more;
-    })
+  abbrev all_of : Course
+  all_of = record { served = served; rounds = r ∷ rounds; rest = rest }
+
+  short_behind : IsCutShort others mid now → IsCutShort all_of then now
+  short_behind cut =
+      let said_text : List ℕ = r.interim ++ r.text in
+      record {
+        init = r ∷ cut.init;
+        last = cut.last;
+        are = ap (λ (l : List Round). r ∷ l) cut.are;
+        part = part_behind (mid.written ++ (course_text cut.init ++ cut.last.interim)) (then.written ++ ((said_text ++ course_text cut.init) ++ cut.last.interim)) now.written cut.last.text
+            (behind_text then.written mid.written said_text (course_text cut.init ++ cut.last.interim) written
+            ∙ ap (λ x. then.written ++ x) (sym (append_assoc said_text (course_text cut.init) cut.last.interim))) cut.part;
+        unwritten = cut.unwritten;
+      }
+
+  inside_behind : (site : Site) → closes served r ≡ false → IsCutInside site others mid now → IsCutInside site all_of then now
+  inside_behind site goes cut = record {
+    not_closed = same_or (closes served r) (is_closed (served + 1) rounds) goes ∙ cut.not_closed;
+    begun = cut.begun;
+    unread = cut.unread;
+    are = cut.are;
+    interim = cut.interim;
+    asked = cut.asked;
+    part = part_behind (mid.written ++ course_text rounds) (then.written ++ ((r.interim ++ r.text) ++ course_text rounds)) now.written cut.interim
+        (behind_text then.written mid.written (r.interim ++ r.text) (course_text rounds) written) cut.part;
+    unwritten = cut.unwritten;
+  }
+
+  closed_behind : closes served r ≡ false → IsClosed others mid now → IsClosed all_of then now
+  closed_behind goes all = record {
+    written = all.written ∙ behind_text then.written mid.written (r.interim ++ r.text) (course_text rounds) written;
+    closed = same_or (closes served r) (is_closed (served + 1) rounds) goes ∙ all.closed;
+  }
+
+  left_behind : (site : Site) → closes served r ≡ false → IsLeftOver site others mid now → IsLeftOver site all_of then now
+  left_behind site goes all = record {
+    not_closed = same_or (closes served r) (is_closed (served + 1) rounds) goes ∙ all.not_closed;
+    undecided = all.undecided;
+    interim = all.interim;
+    interim_is = all.interim_is;
+    written = all.written ∙ behind_text then.written mid.written (r.interim ++ r.text) (course_text rounds ++ all.interim) written
+        ∙ ap (λ x. then.written ++ x) (sym (append_assoc (r.interim ++ r.text) (course_text rounds) all.interim));
+  }
+
+  -- how it ends
+  ends_behind : (result : Served) (site : Site) → closes served r ≡ false → r.lacked ≡ false → refusal_in r.outcome ≡ []
+      → Ends result site others mid now → Ends result site all_of then now
+  ends_behind Done site goes has none (whole, enough, unrefused, inl all) = (
+    whole,
+    same_or r.lacked (lacks rounds) has ∙ enough,
+    ap (λ (x : List Refusal). x ++ refusals rounds) none ∙ unrefused,
+    inl (closed_behind goes all),
+  )
+  ends_behind Done site goes has none (whole, enough, unrefused, inr (met, between, left)) = (
+    whole,
+    same_or r.lacked (lacks rounds) has ∙ enough,
+    ap (λ (x : List Refusal). x ++ refusals rounds) none ∙ unrefused,
+    inr (met, between, left_behind site goes left),
+  )
+  ends_behind ClientBroke site goes has none (broke, enough, inl cut) =
+      (broke, same_or r.lacked (lacks rounds) has ∙ enough, inl (short_behind cut))
+  ends_behind ClientBroke site goes has none (broke, enough, inr (inl cut)) =
+      (broke, same_or r.lacked (lacks rounds) has ∙ enough, inr (inl (inside_behind site goes cut)))
+  ends_behind ClientBroke site goes has none (broke, enough, inr (inr left)) =
+      (broke, same_or r.lacked (lacks rounds) has ∙ enough, inr (inr (left_behind site goes left)))
+  ends_behind ClientEndedEarly site goes has none (whole, enough, met, inside, left) =
+      (whole, same_or r.lacked (lacks rounds) has ∙ enough, met, inside, left_behind site goes left)
+  ends_behind (ClientRefused refusal) site goes has none (whole, enough, refused, all) = (
+    whole,
+    same_or r.lacked (lacks rounds) has ∙ enough,
+    ap (λ (x : List Refusal). x ++ refusals rounds) none ∙ refused,
+    closed_behind goes all,
+  )
+  ends_behind WantOfMemory site goes has none (lacking, inl all) = (same_or r.lacked (lacks rounds) has ∙ lacking, inl (closed_behind goes all))
+  ends_behind WantOfMemory site goes has none (lacking, inr cut) = (same_or r.lacked (lacks rounds) has ∙ lacking, inr (short_behind cut))
 
 -- the bytes of a round and then those of others
 accounts_on : (given pending mid pending_mid now wire others rest : List ℕ) → StaysAccounted given pending mid (wire ++ pending_mid)
@@ -135,7 +149,7 @@ same_terms site alone a b m e = ap (λ (c : Contents). terms_of site alone c) e
 
 -- the law
 pub then_on : (alone : Bool) (setting : Setting) (r : Round) (from to : Stage) (is : World) (result : Served)
-    → IsStep alone setting r from to → IsConnection alone setting to is result → IsConnection alone setting from is result
+    → IsStep alone setting r from to → IsRemainder alone setting to is result → IsRemainder alone setting from is result
 then_on alone setting r from to is result step c =
     let same : terms_at alone setting to.world.shelf ≡ terms_at alone setting from.world.shelf =
     same_terms setting.site alone from.world.shelf.contents to.world.shelf.contents (gains_by r).numbers step.made.gained.stored in
@@ -151,11 +165,23 @@ then_on alone setting r from to is result step c =
         (λ yes_it. let bad : ⊥ = cc (step.stays, yes_it) in absurd bad),
         rw (step.next, same, step.made.left) at c.lawful,
       );
-      stops = stops_behind setting.site from.served r c.rounds c.rest from.world.heard to.world.heard is.heard step.stays step.written (rw step.next at c.stops);
-      ends = ends_behind setting.site from.served is.heard r c.rounds c.rest step.stays
+      ends = ends_behind from.served r c.rounds c.rest from.world.heard to.world.heard is.heard step.written result setting.site step.stays
           (left_false r.lacked (closes_outcome from.served r.outcome) step.stays)
-          (no_refusal from.served r.outcome (right_false r.lacked (closes_outcome from.served r.outcome) step.stays)) result (rw step.next at c.ends);
+          (no_refusal from.served r.outcome (right_false r.lacked (closes_outcome from.served r.outcome) step.stays)) (rw step.next at c.ends);
       gained = gained_both alone setting from.world to.world is (gains_by r) (gains_of c.rounds) step.made.gained c.gained;
       images = images_both (terms_at alone setting from.world.shelf) r c.rounds from.world.shelf to.world.shelf is.shelf step.made.images
           (rw same at c.images);
     }
+
+-- what is left of a connection from its first stage on is all of it
+pub whole_connection : (alone : Bool) (setting : Setting) (was is : World) (result : Served)
+    → IsRemainder alone setting (record { served = 0; pending = []; world = was }) is result → IsConnection alone setting was is result
+whole_connection alone setting was is result c = record {
+  rounds = c.rounds;
+  rest = c.rest;
+  given = c.accounts was.heard.given (sym (append-nil was.heard.given));
+  lawful = c.lawful;
+  ends = c.ends;
+  gained = c.gained;
+  images = c.images;
+}

@@ -14,7 +14,7 @@ use Rattle.std.specs.declared.cmp.Ordering.TheVariants.{Less, Greater}
 use Rattle.cdxj_index.specs.Facts.{Facts}
 use Rattle.cdxj_index.specs.Order.{moment_cmp, moment_of, order}
 use Rattle.archive_shelf.specs.Contents.{Contents}
-use Rattle.session.specs.Looking.{FindsAll}
+use Rattle.session.specs.steps.Looking.{FindsAll}
 
 -- of two entries of one key the earlier has no later date
 dates_apart : (a b : Facts) → a.key ≡ b.key → order a b ≡ Less → a.date ≤ b.date

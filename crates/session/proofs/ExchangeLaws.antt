@@ -14,17 +14,17 @@ use Rattle.exchange.specs.Refusals.{refusal_text, memory_text}
 use Rattle.exchange.specs.declared.aim.Aim.TheVariants.{Origin}
 use Rattle.outside.specs.declared.dialer.Transcript.{Transcript}
 use Rattle.time_text.specs.Texts.{InRange}
-use Rattle.session.specs.Answering.{Incoming, MakesRound}
+use Rattle.session.specs.steps.Answering.{Incoming, MakesRound}
 use Rattle.session.specs.Connection.{Setting}
 use Rattle.session.specs.Exchanges.{Exchange, Reply, Fails, LacksReply, IsReply, answers_head, reply_text}
-use Rattle.session.specs.Declining.{Refuses}
-use Rattle.session.specs.Exchanging.{AnswersProxied, Around, Comes, Replies, round_of, terms_in, traces_of, view_before}
+use Rattle.session.specs.steps.Declining.{Refuses}
+use Rattle.session.specs.steps.Exchanging.{AnswersProxied, Around, Comes, Replies, round_of, terms_in, traces_of, view_before}
 use Rattle.session.specs.Gains.{World}
 use Rattle.session.specs.Images.{NoDeed, deed_of}
 use Rattle.session.specs.Requests.{IsAsked, IsInterim}
 use Rattle.session.specs.Rounds.{Exchanged, closes_exchange, disk_fault, is_cut_off, numbers_by, origin_fault}
 use Rattle.session.specs.Traces.{CountsMet}
-use Rattle.session.specs.Givens.{Given}
+use Rattle.session.specs.steps.Givens.{Given}
 use Rattle.session.proofs.GainLaws.{none_met}
 use Rattle.session.proofs.StoreLaws.{images_unwritten}
 

@@ -16,12 +16,12 @@ use Rattle.outside.specs.Records.{Links}
 use Rattle.outside.specs.declared.dialer.Transcript.{Transcript}
 use Rattle.time_text.specs.Texts.{InRange}
 use Rattle.session.specs.Exchanges.{Exchange, Fails, IsFailure, LacksReply, WentInVain, answers_head, asking_of, sent_of}
-use Rattle.session.specs.Declining.{Declines, Refuses, refusal_by_fetch}
-use Rattle.session.specs.Exchanging.{Around, Asks, terms_in, traces_of}
+use Rattle.session.specs.steps.Declining.{Declines, Refuses, refusal_by_fetch}
+use Rattle.session.specs.steps.Exchanging.{Around, Asks, terms_in, traces_of}
 use Rattle.session.specs.Images.{NoDeed, deed_of_failure}
 use Rattle.session.specs.Rounds.{is_disk_fault, is_origin_fault}
 use Rattle.session.specs.Traces.{CountsMet}
-use Rattle.session.specs.Givens.{Given}
+use Rattle.session.specs.steps.Givens.{Given}
 use Rattle.session.proofs.ExchangeLaws.{lacking_comes, refused_comes, untouched}
 use Rattle.session.proofs.GainLaws.{none_met}
 use Rattle.session.proofs.VisitLaws.{rose_met, stayed_met}

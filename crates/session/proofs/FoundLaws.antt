@@ -11,11 +11,11 @@ use Rattle.capture.specs.declared.captured.Brought.{Brought}
 use Rattle.capture.specs.declared.memory.Memory.{Memory}
 use Rattle.capture.specs.declared.refusal.Refusal.TheVariants.{DiskFault, Damaged}
 use Rattle.replay_url.specs.Questions.{Nearest, ForNearest}
-use Rattle.session.specs.Answering.{AnswersVisit}
+use Rattle.session.specs.steps.Answering.{AnswersVisit}
 use Rattle.session.specs.Connection.{Setting}
-use Rattle.session.specs.Declining.{Declines, refusal_by_bring}
-use Rattle.session.specs.Givens.{Given}
-use Rattle.session.specs.Looking.{FindsJust}
+use Rattle.session.specs.steps.Declining.{Declines, refusal_by_bring}
+use Rattle.session.specs.steps.Givens.{Given}
+use Rattle.session.specs.steps.Looking.{FindsJust}
 use Rattle.session.specs.SiteAnswers.{SiteRequest, Refuses, ReachesJust, IsReplayed, answers_head}
 use Rattle.session.specs.Traces.{Terms}
 use Rattle.session.proofs.LookLaws.{found_answers, found_lacking_by, shown_on}

@@ -6,7 +6,7 @@ use Rattle.capture.specs.Faults.{RoseBy}
 use Rattle.outside.specs.Records.{Links}
 use Rattle.outside.specs.declared.dialer.Transcript.{Transcript}
 use Rattle.outside.specs.declared.gate.Heard.{Heard}
-use Rattle.session.specs.Endings.{heard_now}
+use Rattle.session.specs.steps.Endings.{heard_now}
 use Rattle.session.specs.Connection.{Setting, Gained}
 use Rattle.session.specs.Gains.{World, Gains, no_gains, both_gains, GainsOutside}
 use Rattle.session.specs.Traces.{CountsMet}

@@ -27,10 +27,10 @@ use Rattle.outside.specs.declared.dialer.Transcript.{Transcript}
 use Rattle.time_text.specs.Texts.{InRange}
 use Rattle.warc_text.specs.Fits.{Fits}
 use Rattle.session.specs.Exchanges.{Exchange, Fails, Fetched, HasRoom, LacksReply, Passes, answers_head, asking_of, taken_of}
-use Rattle.session.specs.Exchanging.{Around, Comes, FollowsStore, HasCome, Keeps, PassesOn, Replies, round_of, terms_in, traces_of}
+use Rattle.session.specs.steps.Exchanging.{Around, Comes, FollowsStore, HasCome, Keeps, PassesOn, Replies, round_of, terms_in, traces_of}
 use Rattle.session.specs.Laws.{StoredCapturesHaveTheirPayload}
 use Rattle.session.specs.Traces.{IsConsistentView, view_of}
-use Rattle.session.specs.Givens.{Given}
+use Rattle.session.specs.steps.Givens.{Given}
 use Rattle.session.proofs.ExchangeLaws.{lacking_comes, none_stored, refused_comes, untouched, unwritten}
 use Rattle.session.proofs.GainLaws.{none_met}
 use Rattle.session.proofs.StoreLaws.{images_denied, images_stored}

@@ -18,12 +18,12 @@ use Rattle.cdx_query.specs.declared.query.Query.{Query}
 use Rattle.cdxj_index.specs.Facts.{Facts}
 use Rattle.cdxj_index.specs.Queries.{HasNone}
 use Rattle.surt_key.specs.Key.{key_of}
-use Rattle.session.specs.Answering.{AnswersVisit}
+use Rattle.session.specs.steps.Answering.{AnswersVisit}
 use Rattle.session.specs.Connection.{Setting, terms_at}
-use Rattle.session.specs.Looking.{FindsNearest, FindsAll, FindsAnswer}
+use Rattle.session.specs.steps.Looking.{FindsNearest, FindsAll, FindsAnswer}
 use Rattle.session.specs.Rounds.{Visited, disk_fault}
 use Rattle.session.specs.SiteAnswers.{SiteRequest, SiteReply, LacksSiteReply, IsSiteReplyBy, IsSiteText}
-use Rattle.session.specs.Givens.{Given}
+use Rattle.session.specs.steps.Givens.{Given}
 use Rattle.session.proofs.VisitLaws.{Visits, bring_lacking, one_if, seen_at, visit_answers, visit_lacked}
 
 -- the entries that are shown know the book that was seen before

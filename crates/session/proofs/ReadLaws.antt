@@ -32,10 +32,9 @@ use Rattle.http_wire.specs.Messages.{IsRequest}
 use Rattle.http_wire.specs.Reading.{Standing, Open, Failed, EndsInside}
 use Rattle.http_wire.specs.Reading.{IsUndecided as WireUndecided, LacksHead as WireLacksHead}
 use Rattle.outside.specs.declared.gate.Heard.{Heard}
-use Rattle.session.specs.Reads.{Client, HasTaken, HasRead, AwaitsRest, ReadsNone, NoMore, Breaking, Refusing, GivingUp, Owes, ComesFaulty, IsBehind, IsWellAsked, LooksAt, ReadsBody, RefusesAim}
+use Rattle.session.specs.steps.Reads.{Client, HasTaken, HasRead, AwaitsRest, ReadsNone, NoMore, Breaking, Refusing, GivingUp, Owes, ComesFaulty, IsBehind, IsWellAsked, LooksAt, ReadsBody, RefusesAim}
 use Rattle.session.specs.Requests.{IsAimed, IsAimedNowhere, IsInside, IsInterim, IsRefused, IsUndecided, LacksHead, aim_of_head, answers_head, interim_of, interim_where, refusal_of, waits_for_answer}
-use Rattle.session.specs.Steps.{EndsRefusal}
-use Rattle.session.specs.Wire.{Tries, Writes}
+use Rattle.session.specs.steps.Wire.{EndsRefusal, Tries, Writes}
 use Rattle.session.specs.declared.reading.Asked.{Asked}
 use Rattle.session.specs.declared.served.Served.{Served}
 use Rattle.session.specs.declared.served.Served.TheVariants.{Done, ClientBroke, ClientEndedEarly, WantOfMemory}
@@ -99,8 +98,7 @@ ended_between site from stream window now between none accounts written ended wh
   undecided = inl between;
   interim_is = inr (between_lacks stream between.0, refl);
   taken = record { accounts = rw none at accounts; written = written ∙ sym (append-nil from.heard.written) };
-  no_more = inl ended;
-  ends = λ served. (record { whole = whole; enough = refl; between = inr between }, refl);
+  meets = (ended, between, whole);
 })
 
 -- what is undecided in a stream without a head
@@ -132,8 +130,7 @@ broke_without site from stream window now lacks undecided none accounts written 
   undecided = undecided_without site stream lacks undecided;
   interim_is = inr (no_head_lacks stream lacks, refl);
   taken = record { accounts = rw none at accounts; written = written ∙ sym (append-nil from.heard.written) };
-  no_more = inr broke;
-  ends = λ served. (broke, refl);
+  meets = broke;
 })
 
 -- the link failed behind a head that goes somewhere
@@ -147,8 +144,7 @@ broke_behind site from stream window head now begins aimed undecided none accoun
   undecided = undecided_behind site stream head begins aimed undecided;
   interim_is = inl (record { head = head; begins = begins; text_is = refl });
   taken = record { accounts = rw none at accounts; written = written };
-  no_more = inr broke;
-  ends = λ served. (broke, refl);
+  meets = broke;
 })
 
 -- ---- what is no message
@@ -210,8 +206,7 @@ ended_early site from stream window interim standing head to failed holds owed e
       undecided = inr within;
       interim_is = interim_known site stream standing head interim n holds owed;
       taken = record { accounts = rw none at accounts; written = written };
-      no_more = inl met;
-      ends = λ served. record { whole = whole; enough = refl; not_closed = refl; ended = met; inside = within };
+      meets = (met, within, whole);
     })
 
 -- before its head had come

@@ -5,20 +5,20 @@ use Rattle.archive_shelf.proofs.CallLaws.{shown_itself}
 use Rattle.archive_shelf.specs.Laws.{BooksLeadToThemselves}
 use Rattle.archive_shelf.specs.Told.{Told}
 use Rattle.capture.specs.declared.book.Book.{Book}
-use Rattle.session.specs.Connection.{Setting, Stage, IsConnection, IsMade, Gained, terms_at, view_at}
-use Rattle.session.specs.Endings.{client_at, heard_now}
+use Rattle.session.specs.Connection.{Setting, Gained, terms_at, view_at}
+use Rattle.session.specs.steps.Stages.{Stage, IsRemainder, IsMade}
+use Rattle.session.specs.steps.Endings.{client_at, heard_now}
 use Rattle.session.specs.Gains.{World, Gains, no_gains, gains_by}
 use Rattle.session.specs.Images.{Deed, NoDeed, deed_of, KeepsImages, OpensBehind}
 use Rattle.capture.specs.declared.refusal.Refusal.{Refusal}
 use Rattle.http_head.specs.declared.head.RequestHead.{RequestHead}
 use Rattle.exchange.specs.Refusals.{refusal_text, memory_text}
 use Rattle.outside.specs.declared.gate.Heard.{Heard}
-use Rattle.session.specs.Reads.{Client, HasTaken}
-use Rattle.session.specs.Steps.{EndsRefusal}
+use Rattle.session.specs.steps.Reads.{Client, HasTaken}
+use Rattle.session.specs.steps.Wire.{EndsRefusal, Tries}
 use Rattle.session.specs.Requests.{IsBegun, IsInterim, IsRefused, answers_head}
 use Rattle.session.specs.Rounds.{Round, Undecided, Refused, IsRound, is_from_shown}
 use Rattle.session.specs.Traces.{Terms, View, Traces}
-use Rattle.session.specs.Wire.{Tries}
 use Rattle.session.specs.declared.served.Served.{Served}
 use Rattle.session.specs.declared.served.Served.TheVariants.{Done, ClientBroke, ClientEndedEarly, ClientRefused, WantOfMemory}
 use Rattle.session.proofs.CourseLaws.{part_behind}
@@ -93,7 +93,7 @@ lacking_lawful terms served wire interim view begun known = record {
 pub gave_up : (alone : Bool) (setting : Setting) (wire interim : List ℕ) (from : Stage) (to : Client) (now : Heard)
     → BooksLeadToThemselves → IsBegun setting.site wire → IsInterim setting.site wire interim ⊎ (interim ≡ [])
     → HasTaken (client_at from) wire interim to → Tries memory_text to.heard now
-    → IsConnection alone setting from (heard_now from.world now) WantOfMemory
+    → IsRemainder alone setting from (heard_now from.world now) WantOfMemory
 gave_up alone setting wire interim from to now itself begun known taken tries = by_trying tries where
   r : Round
   r = lacking_round wire interim (view_at alone setting from.world)
@@ -103,25 +103,25 @@ gave_up alone setting wire interim from to now itself begun known taken tries = 
       (lacking_lawful (terms_at alone setting from.world.shelf) from.served wire interim (view_at alone setting from.world) begun known)
       (record { traces = refl; gains = refl; deed = refl; shown = refl })
 
-  by_trying : Tries memory_text to.heard now → IsConnection alone setting from (heard_now from.world now) WantOfMemory
+  by_trying : Tries memory_text to.heard now → IsRemainder alone setting from (heard_now from.world now) WantOfMemory
   by_trying (inl w) = last_whole alone setting r to.pending from (heard_now from.world now) WantOfMemory itself (record {
     made = made;
     closed = refl;
     accounts = λ done e. w.same_given ∙ taken.accounts done e;
     written = w.written ∙ behind_text from.world.heard.written to.heard.written interim memory_text taken.written;
-    ends = refl;
+    ends = λ all. (refl, inl all);
   })
   by_trying (inr broken) = last_part alone setting r to.pending from (heard_now from.world now) WantOfMemory itself (record {
     made = made;
     accounts = λ done e. broken.same_given ∙ taken.accounts done e;
     part = part_behind to.heard.written (from.world.heard.written ++ interim) now.written memory_text taken.written broken.part;
     unwritten = broken.unwritten;
-    ends = refl;
+    ends = λ cut. (refl, inr cut);
   })
 
 -- given up before anything was read
 pub gave_up_at_once : (alone : Bool) (setting : Setting) (from : Stage) (now : Heard) → BooksLeadToThemselves
-    → Tries memory_text from.world.heard now → IsConnection alone setting from (heard_now from.world now) WantOfMemory
+    → Tries memory_text from.world.heard now → IsRemainder alone setting from (heard_now from.world now) WantOfMemory
 gave_up_at_once alone setting from now itself tries =
     gave_up alone setting [] [] from (client_at from) now itself (inl (inl (refl, refl))) (inr refl)
     (record { accounts = λ done e. e; written = sym (append-nil from.world.heard.written) }) tries
@@ -153,7 +153,7 @@ pub refused_bytes : (alone : Bool) (setting : Setting) (head : Option RequestHea
     (from : Stage) (to : Client) (now : Heard) (result : Served) → BooksLeadToThemselves → IsRefused setting.site wire head refusal
     → IsInterim setting.site wire interim → HasTaken (client_at from) wire interim to
     → EndsRefusal refusal (refusal_text refusal (answers_head head) true) to.heard now result
-    → IsConnection alone setting from (heard_now from.world now) result
+    → IsRemainder alone setting from (heard_now from.world now) result
 refused_bytes alone setting head refusal wire interim from to now result itself refused known taken ends = by_result result ends where
   r : Round
   r = refusal_round head refusal wire interim (view_at alone setting from.world)
@@ -164,20 +164,20 @@ refused_bytes alone setting head refusal wire interim from to now result itself 
       (record { traces = refl; gains = refl; deed = refl; shown = refl })
 
   by_result : (result : Served) → EndsRefusal refusal (refusal_text refusal (answers_head head) true) to.heard now result
-      → IsConnection alone setting from (heard_now from.world now) result
+      → IsRemainder alone setting from (heard_now from.world now) result
   by_result (ClientRefused told) (e, w) = last_whole alone setting r to.pending from (heard_now from.world now) (ClientRefused told) itself (record {
     made = made;
     closed = refl;
     accounts = λ done given. w.same_given ∙ taken.accounts done given;
     written = w.written ∙ behind_text from.world.heard.written to.heard.written interim (refusal_text refusal (answers_head head) true) taken.written;
-    ends = (record { whole = w.whole; enough = refl; between = inl refl }, ap (λ (x : Refusal). x ∷ []) (sym e));
+    ends = λ all. (w.whole, refl, ap (λ (x : Refusal). x ∷ []) (sym e), all);
   })
   by_result ClientBroke broken = last_part alone setting r to.pending from (heard_now from.world now) ClientBroke itself (record {
     made = made;
     accounts = λ done given. broken.same_given ∙ taken.accounts done given;
     part = part_behind to.heard.written (from.world.heard.written ++ interim) now.written (refusal_text refusal (answers_head head) true) taken.written broken.part;
     unwritten = broken.unwritten;
-    ends = (broken.broke, refl);
+    ends = λ cut. (broken.broke, refl, inl cut);
   })
   by_result Done h = absurd h
   by_result ClientEndedEarly h = absurd h

@@ -8,24 +8,25 @@ use Rattle.exchange.specs.Refusals.{memory_text}
 use Rattle.exchange.specs.declared.aim.Aim.{Aim}
 use Rattle.http_head.specs.declared.head.RequestMessage.{RequestMessage}
 use Rattle.outside.specs.declared.gate.Heard.{Heard}
-use Rattle.session.specs.Answering.{Incoming, MakesRound, IsAnswered}
-use Rattle.session.specs.Connection.{Setting, Stage, IsConnection}
-use Rattle.session.specs.Endings.{client_at, heard_now}
+use Rattle.session.specs.steps.Answering.{Incoming, MakesRound, IsAnswered}
+use Rattle.session.specs.Connection.{Setting}
+use Rattle.session.specs.steps.Stages.{Stage, IsRemainder}
+use Rattle.session.specs.steps.Endings.{client_at, heard_now}
 use Rattle.session.specs.Gains.{World}
-use Rattle.session.specs.Reads.{Client, HasRead, HasTaken, ReadsNone, NoMore, Breaking, Refusing, GivingUp}
+use Rattle.session.specs.steps.Reads.{Client, HasRead, HasTaken, ReadsNone, NoMore, Breaking, Refusing, GivingUp}
 use Rattle.session.specs.Rounds.{Round, Outcome, closes, refusal_in}
-use Rattle.session.specs.Wire.{Breaks, Tries, Writes}
-use Rattle.session.specs.Givens.{Given}
+use Rattle.session.specs.steps.Wire.{Breaks, Tries, Writes}
+use Rattle.session.specs.steps.Givens.{Given}
 use Rattle.session.specs.declared.served.Served.{Served}
 use Rattle.session.specs.declared.served.Served.TheVariants.{Done, ClientBroke, WantOfMemory}
-use Rattle.session.proofs.CourseLaws.{or_true, part_behind, then_on}
+use Rattle.session.proofs.CourseLaws.{part_behind, then_on}
 use Rattle.session.proofs.EndingLaws.{last_whole, last_part, no_round, broke_inside}
 use Rattle.session.proofs.GainLaws.{behind_text}
 use Rattle.session.proofs.RoundLaws.{gave_up, refused_bytes}
 
 -- a connection that reads no request
 pub reading_ends : (alone : Bool) (setting : Setting) (from : Stage) (now : Heard) (end : Served) → BooksLeadToThemselves
-    → ReadsNone setting.site (client_at from) now end → IsConnection alone setting from (heard_now from.world now) end
+    → ReadsNone setting.site (client_at from) now end → IsRemainder alone setting from (heard_now from.world now) end
 reading_ends alone setting from now end itself (NoMore h) = no_round alone setting from now end itself h
 reading_ends alone setting from now end itself (Breaking h) = rw h.ends (broke_inside alone setting from now end itself h)
 reading_ends alone setting from now end itself (Refusing h) =
@@ -55,14 +56,14 @@ none_refused outcome e = append-nil (refusal_in outcome) ∙ e
 pub answer_lacked : (alone : Bool) (setting : Setting) (from : Stage) (incoming : Incoming) (to : Client) (is : World)
     → BooksLeadToThemselves → incoming.served ≡ from.served → HasTaken (client_at from) incoming.wire incoming.interim to
     → MakesRound alone setting incoming true memory_text from.world is → Tries memory_text to.heard is.heard
-    → IsConnection alone setting from is WantOfMemory
+    → IsRemainder alone setting from is WantOfMemory
 answer_lacked alone setting from incoming to is itself same taken makes (inl w) =
     last_whole alone setting (round_of makes) to.pending from is WantOfMemory itself (record {
       made = rw same at makes.made;
       closed = refl;
       accounts = λ done e. w.same_given ∙ taken.accounts done e;
       written = w.written ∙ behind_text from.world.heard.written to.heard.written incoming.interim memory_text taken.written;
-      ends = refl;
+      ends = λ all. (refl, inl all);
     })
 answer_lacked alone setting from incoming to is itself same taken makes (inr broken) =
     last_part alone setting (round_of makes) to.pending from is WantOfMemory itself (record {
@@ -70,28 +71,28 @@ answer_lacked alone setting from incoming to is itself same taken makes (inr bro
       accounts = λ done e. broken.same_given ∙ taken.accounts done e;
       part = part_behind to.heard.written (from.world.heard.written ++ incoming.interim) is.heard.written memory_text taken.written broken.part;
       unwritten = broken.unwritten;
-      ends = refl;
+      ends = λ cut. (refl, inr cut);
     })
 
 -- the answer was written in part
 pub answer_broke : (alone : Bool) (setting : Setting) (from : Stage) (incoming : Incoming) (answer : Given) (to : Client) (is : World)
     → BooksLeadToThemselves → incoming.served ≡ from.served → HasTaken (client_at from) incoming.wire incoming.interim to
     → IsAnswered alone setting incoming answer from.world is → Breaks answer.text to.heard is.heard
-    → IsConnection alone setting from is ClientBroke
+    → IsRemainder alone setting from is ClientBroke
 answer_broke alone setting from incoming answer to is itself same taken answered broken =
     last_part alone setting (round_of answered.makes) to.pending from is ClientBroke itself (record {
       made = rw same at answered.makes.made;
       accounts = λ done e. broken.same_given ∙ taken.accounts done e;
       part = part_behind to.heard.written (from.world.heard.written ++ incoming.interim) is.heard.written answer.text taken.written broken.part;
       unwritten = broken.unwritten;
-      ends = (broken.broke, refl);
+      ends = λ cut. (broken.broke, refl, inl cut);
     })
 
 -- the answer was written, and closes
 pub answer_closed : (alone : Bool) (setting : Setting) (from : Stage) (incoming : Incoming) (answer : Given) (to : Client) (is : World)
     → BooksLeadToThemselves → incoming.served ≡ from.served → HasTaken (client_at from) incoming.wire incoming.interim to
     → IsAnswered alone setting incoming answer from.world is → Writes answer.text to.heard is.heard → answer.closes ≡ true
-    → IsConnection alone setting from is Done
+    → IsRemainder alone setting from is Done
 answer_closed alone setting from incoming answer to is itself same taken answered w closed =
     let ends_it : closes from.served (round_of answered.makes) ≡ true = rw (sym same) (answered.closes_is ∙ closed) in
     last_whole alone setting (round_of answered.makes) to.pending from is Done itself (record {
@@ -99,18 +100,15 @@ answer_closed alone setting from incoming answer to is itself same taken answere
       closed = ends_it;
       accounts = λ done e. w.same_given ∙ taken.accounts done e;
       written = w.written ∙ behind_text from.world.heard.written to.heard.written incoming.interim answer.text taken.written;
-      ends = (
-        record { whole = w.whole; enough = refl; between = inl (or_true (closes from.served (round_of answered.makes)) ends_it) },
-        none_refused answered.makes.outcome answered.makes.unrefused,
-      );
+      ends = λ all. (w.whole, refl, none_refused answered.makes.outcome answered.makes.unrefused, inl all);
     })
 
 -- the answer was written, and the connection goes on
 pub answer_said : (alone : Bool) (setting : Setting) (from : Stage) (incoming : Incoming) (answer : Given) (to : Client) (mid : World)
     (is : World) (result : Served) → incoming.served ≡ from.served → HasTaken (client_at from) incoming.wire incoming.interim to
     → IsAnswered alone setting incoming answer from.world mid → Writes answer.text to.heard mid.heard → answer.closes ≡ false
-    → IsConnection alone setting (record { served = from.served + 1; pending = to.pending; world = mid }) is result
-    → IsConnection alone setting from is result
+    → IsRemainder alone setting (record { served = from.served + 1; pending = to.pending; world = mid }) is result
+    → IsRemainder alone setting from is result
 answer_said alone setting from incoming answer to mid is result same taken answered w goes next =
     then_on alone setting (round_of answered.makes) from (record { served = from.served + 1; pending = to.pending; world = mid }) is result (record {
       made = rw same at answered.makes.made;

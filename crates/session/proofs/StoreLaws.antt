@@ -13,7 +13,7 @@ use Rattle.warc_journal.specs.Extents.{cdxj_files}
 use Rattle.session.specs.Exchanges.{Exchange, HasRoom, taken_of, taken_in}
 use Rattle.session.specs.Images.{Deed, NoDeed, Stores, IsDenied, deed_of, MayBeLeft, OpensBehind, IsOfDenied, KeepsImages, NeedsIds}
 use Rattle.session.specs.Rounds.{Round}
-use Rattle.session.specs.Shelving.{HasKept, WasDenied}
+use Rattle.session.specs.steps.Shelving.{HasKept, WasDenied}
 use Rattle.session.specs.Traces.{Terms, Traces, terms_of}
 
 -- ---- nothing was written

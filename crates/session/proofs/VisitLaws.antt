@@ -22,16 +22,16 @@ use Rattle.outside.specs.declared.dialer.Transcript.{Transcript}
 use Rattle.outside.specs.declared.gate.Heard.{Heard}
 use Rattle.replay_url.specs.Questions.{ForNumber, ForPiece}
 use Rattle.replay_url.specs.declared.form.Form.TheVariants.{Number, Ship}
-use Rattle.session.specs.Answering.{Incoming, MakesRound, IsAnswered, Answers, AnswersVisit}
+use Rattle.session.specs.steps.Answering.{Incoming, MakesRound, IsAnswered, Answers, AnswersVisit}
 use Rattle.session.specs.Connection.{Setting, terms_at}
-use Rattle.session.specs.Declining.{Declines, DeclinesPiece, refusal_by_bring}
+use Rattle.session.specs.steps.Declining.{Declines, DeclinesPiece, refusal_by_bring}
 use Rattle.session.specs.Requests.{IsAsked, IsInterim, closes_after}
 use Rattle.session.specs.Rounds.{Round, Visited, IsRound, disk_fault}
 use Rattle.session.specs.SiteAnswers.{SiteRequest, SiteReply, Refuses, HasNoMore, LacksSiteReply, Asks, IsReplayed, IsShipped, IsSiteReplyBy, IsSiteText, answers_head, is_of_shown, nothing_text}
 use Rattle.session.specs.Traces.{Terms, View, CountsMet}
 use Rattle.capture.specs.declared.captured.Brought.{Brought}
 use Rattle.capture.specs.declared.memory.Memory.{Memory}
-use Rattle.session.specs.Givens.{Given}
+use Rattle.session.specs.steps.Givens.{Given}
 use Rattle.session.proofs.GainLaws.{none_met}
 use Rattle.session.proofs.StoreLaws.{images_unwritten}
 

@@ -8,8 +8,8 @@ use Rattle.outside.specs.Calls.{one_more}
 use Rattle.outside.specs.Gate.{heard_of}
 use Rattle.outside.specs.Link.{Traffic}
 use Rattle.outside.specs.declared.gate.Heard.{Heard}
-use Rattle.session.specs.Reads.{Client, Reads}
-use Rattle.session.specs.Wire.{Breaks, Writes}
+use Rattle.session.specs.steps.Reads.{Client, Reads}
+use Rattle.session.specs.steps.Wire.{Breaks, Writes}
 use Rattle.session.specs.declared.reading.Asked.{Asked}
 use Rattle.session.specs.declared.served.Served.{Served}
 use Rattle.session.proofs.ReadLaws.{rose_above}

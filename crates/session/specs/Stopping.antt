@@ -1,4 +1,4 @@
--- Where a connection may stop, and how it ends.
+-- How a connection ends.
 use Rattle.std.specs.Prelude.{◌≡◌, ◌≢◌, ◌⊎◌, ℕ, Bool, true, false, List, [], ◌∷◌, ◌++◌}
 use Rattle.capture.specs.declared.site.Site.{Site}
 use Rattle.exchange.specs.Writing.{GrowsByProperFront}
@@ -42,40 +42,26 @@ pub record IsClosed (c : Course) (then now : Heard) : Type 0 where
   pub written : now.written ≡ then.written ++ course_text c.rounds
   pub closed : closes_course c ≡ true
 
--- All was answered; what is left over is no request and isn't refused, and no more comes.
+-- All was answered, and no answer closes; what is left over is no request and isn't refused.
 pub record IsLeftOver (site : Site) (c : Course) (then now : Heard) : Type 0 where
   pub not_closed : closes_course c ≡ false
   pub undecided : IsUndecided site c.rest
   pub interim : List ℕ
   pub interim_is : IsInterim site c.rest interim
   pub written : now.written ≡ then.written ++ (course_text c.rounds ++ interim)
-  pub no_more : (now.ended ≡ true) ⊎ (now.faults ≢ 0)
 
--- Where a connection may stop.
-pub data Stops (site : Site) (c : Course) (then now : Heard) : Type 0 where
-  CutShort : (cut : IsCutShort c then now) → Stops site c then now
-  CutInside : (cut : IsCutInside site c then now) → Stops site c then now
-  Closed : (all : IsClosed c then now) → Stops site c then now
-  LeftOver : (all : IsLeftOver site c then now) → Stops site c then now
-
--- The client was served up to the answer that closes, or to its end between messages.
-pub record EndsWell (c : Course) (now : Heard) : Type 0 where
-  pub whole : now.faults ≡ 0
-  pub enough : lacks c.rounds ≡ false
-  pub between : (closes_course c ≡ true) ⊎ IsBetween c.rest
-
--- The client's end was met inside a message.
-pub record EndsInside (site : Site) (c : Course) (now : Heard) : Type 0 where
-  pub whole : now.faults ≡ 0
-  pub enough : lacks c.rounds ≡ false
-  pub not_closed : closes_course c ≡ false
-  pub ended : now.ended ≡ true
-  pub inside : IsInside site c.rest
-
--- How the connection ended says which course it was.
-abbrev pub EndsAs : Served → Site → Course → Heard → Type 0
-EndsAs Done site c now = EndsWell c now × (refusals c.rounds ≡ [])
-EndsAs ClientBroke site c now = (now.faults ≢ 0) × (lacks c.rounds ≡ false)
-EndsAs ClientEndedEarly site c now = EndsInside site c now
-EndsAs (ClientRefused refusal) site c now = EndsWell c now × (refusals c.rounds ≡ refusal ∷ [])
-EndsAs WantOfMemory site c now = lacks c.rounds ≡ true
+-- How a connection ended says where it stopped. Its link is whole: an answer closed it, which refused the bytes that came or didn't; or
+-- the client's end was met, between messages or inside one. Its link failed: in an answer, in the text that asks for a body, or where
+-- more was awaited. There was no memory: with the answer that says so, whole or in part.
+abbrev pub Ends : Served → Site → Course → Heard → Heard → Type 0
+Ends Done site c then now =
+    (now.faults ≡ 0) × (lacks c.rounds ≡ false) × (refusals c.rounds ≡ [])
+    × (IsClosed c then now ⊎ ((now.ended ≡ true) × IsBetween c.rest × IsLeftOver site c then now))
+Ends ClientBroke site c then now =
+    (now.faults ≢ 0) × (lacks c.rounds ≡ false)
+    × (IsCutShort c then now ⊎ IsCutInside site c then now ⊎ IsLeftOver site c then now)
+Ends ClientEndedEarly site c then now =
+    (now.faults ≡ 0) × (lacks c.rounds ≡ false) × (now.ended ≡ true) × IsInside site c.rest × IsLeftOver site c then now
+Ends (ClientRefused refusal) site c then now =
+    (now.faults ≡ 0) × (lacks c.rounds ≡ false) × (refusals c.rounds ≡ refusal ∷ []) × IsClosed c then now
+Ends WantOfMemory site c then now = (lacks c.rounds ≡ true) × (IsClosed c then now ⊎ IsCutShort c then now)

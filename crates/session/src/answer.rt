@@ -2,8 +2,8 @@
 ghost use Rattle.std.specs.Prelude.{◌≡◌, ◌++◌, IfOk, IsTrue, MatchResult, OnOk, Some};
 ghost use Rattle.capture.specs.Faults.{CountsFaults};
 ghost use Rattle.outside.specs.Gate.{heard_of};
-ghost use Rattle.session.specs.Givens.{with_body};
-ghost use Rattle.session.specs.Wire.{Breaks, Writes};
+ghost use Rattle.session.specs.steps.Givens.{with_body};
+ghost use Rattle.session.specs.steps.Wire.{Breaks, Writes};
 
 use crate::saying::{say, say_both};
 use capture::{Bytes, Failed, Memory, put_all};
@@ -26,7 +26,7 @@ pub struct Answer {
 }
 
 impl Model for Answer {
-    ghost use Rattle.session.specs.Givens.{Given, with_body};
+    ghost use Rattle.session.specs.steps.Givens.{Given, with_body};
 
     ghost Value = { Given };
 

@@ -2,8 +2,8 @@
 ghost use Rattle.std.specs.Prelude.{◌≡◌, ◌≤◌, [], IsTrue, IfOk};
 ghost use Rattle.archive_shelf.specs.Told.{GoesOn};
 ghost use Rattle.outside.specs.declared.gate.Heard.{Heard};
-ghost use Rattle.session.specs.Answering.{Answers, Incoming};
-ghost use Rattle.session.specs.Reads.{IsWellAsked};
+ghost use Rattle.session.specs.steps.Answering.{Answers, Incoming};
+ghost use Rattle.session.specs.steps.Reads.{IsWellAsked};
 ghost use Rattle.session.specs.Requests.{IsAsked, IsInterim, closes_after as closes_by};
 
 use crate::answer::Answer;

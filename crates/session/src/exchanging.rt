@@ -9,9 +9,9 @@ ghost use Rattle.http_wire.specs.Messages.{IsOneResponse};
 ghost use Rattle.exchange.specs.Storing.{IsForOrigin};
 ghost use Rattle.exchange.specs.Texts.{forwarded};
 ghost use Rattle.outside.specs.declared.gate.Heard.{Heard};
-ghost use Rattle.session.specs.Declining.{Declines, refusal_by_fetch, refusal_by_store};
+ghost use Rattle.session.specs.steps.Declining.{Declines, refusal_by_fetch, refusal_by_store};
 ghost use Rattle.session.specs.Exchanges as spec;
-ghost use Rattle.session.specs.Exchanging.{AnswersProxied, Around, Asks, Comes, HasCome, Keeps, exchange_of, given_of};
+ghost use Rattle.session.specs.steps.Exchanging.{AnswersProxied, Around, Asks, Comes, HasCome, Keeps, exchange_of, given_of};
 ghost use Rattle.time_text.specs.Texts.{InRange};
 ghost use Rattle.warc_text.specs.Fits.{Fits};
 

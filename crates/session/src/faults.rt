@@ -1,6 +1,6 @@
 //! Why a request is refused, by the fault that was met. None says that there was no memory.
 ghost use Rattle.std.specs.Prelude.{◌≡◌};
-ghost use Rattle.session.specs.Declining as spec;
+ghost use Rattle.session.specs.steps.Declining as spec;
 
 use archive_shelf::{BringFault, StoreFault};
 use capture::Refusal;

@@ -3,8 +3,8 @@ ghost use Rattle.std.specs.Prelude.{◌≡◌, Bool, IfOk};
 ghost use Rattle.archive_shelf.specs.Told.{GoesOn, LooksOn};
 ghost use Rattle.cdx_query.specs.Picking.{start_of};
 ghost use Rattle.replay_url.specs.declared.form.Form.TheVariants.{Query as TheQuery};
-ghost use Rattle.session.specs.Answering.{AnswersVisit};
-ghost use Rattle.session.specs.Looking.{FindsAnswer};
+ghost use Rattle.session.specs.steps.Answering.{AnswersVisit};
+ghost use Rattle.session.specs.steps.Looking.{FindsAnswer};
 ghost use Rattle.session.specs.SiteAnswers.{Asks, AsksQuery};
 
 use crate::answer::Answer;

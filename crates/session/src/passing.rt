@@ -3,7 +3,7 @@ ghost use Rattle.std.specs.Prelude.{◌≡◌, ◌++◌, ◌||◌, ℕ, Bool, Li
 ghost use Rattle.capture.specs.Payload.{IsPayload};
 ghost use Rattle.exchange.specs.Texts.{answered_head};
 ghost use Rattle.http_wire.specs.Messages.{IsOneResponse};
-ghost use Rattle.session.specs.Exchanging.{PassesOn, given_of};
+ghost use Rattle.session.specs.steps.Exchanging.{PassesOn, given_of};
 
 use crate::answer::{Answer, SHORT};
 use capture::{Bytes, Framing, Memory, put_all};

@@ -12,10 +12,9 @@ ghost use Rattle.http_wire.specs.Heads.{HoldsHead};
 ghost use Rattle.http_wire.specs.Messages.{IsRequest};
 ghost use Rattle.http_wire.specs.Reading.{Failed as HasFailed, Whole as IsWhole, ComesBeforeTheEnd, HasFault};
 ghost use Rattle.outside.specs.Gate.{heard_of};
-ghost use Rattle.session.specs.Reads.{AwaitsRest, Client, ComesFaulty, HasTaken, IsBehind, IsWellAsked, LooksAt, Owes, Reads, ReadsBody, ReadsNone, RefusesAim};
+ghost use Rattle.session.specs.steps.Reads.{AwaitsRest, Client, ComesFaulty, HasTaken, IsBehind, IsWellAsked, LooksAt, Owes, Reads, ReadsBody, ReadsNone, RefusesAim};
 ghost use Rattle.session.specs.Requests as spec;
-ghost use Rattle.session.specs.Steps.{EndsRefusal};
-ghost use Rattle.session.specs.Wire.{Breaks, Tries, Writes};
+ghost use Rattle.session.specs.steps.Wire.{Breaks, EndsRefusal, Tries, Writes};
 
 use crate::Served;
 use crate::heads::{asks_for_head, asks_to_go_on};

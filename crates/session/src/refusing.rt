@@ -1,7 +1,7 @@
 //! Answers that refuse a request.
 ghost use Rattle.std.specs.Prelude.{◌≡◌, IfOk};
 ghost use Rattle.exchange.specs.Refusals as spec;
-ghost use Rattle.session.specs.Declining.{Declines};
+ghost use Rattle.session.specs.steps.Declining.{Declines};
 
 use crate::answer::Answer;
 use capture::{Memory, Refusal};

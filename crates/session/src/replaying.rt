@@ -6,8 +6,8 @@ ghost use Rattle.capture.specs.Methods.{asks_for_head as is_head};
 ghost use Rattle.replay_answer.specs.Mementos.{IsMemento};
 ghost use Rattle.replay_url.specs.Questions.{by_memento};
 ghost use Rattle.replay_url.specs.declared.form.Form.TheVariants.{Number as TheNumber};
-ghost use Rattle.session.specs.Answering.{AnswersVisit};
-ghost use Rattle.session.specs.Looking.{FindsJust};
+ghost use Rattle.session.specs.steps.Answering.{AnswersVisit};
+ghost use Rattle.session.specs.steps.Looking.{FindsJust};
 ghost use Rattle.session.specs.SiteAnswers.{Asks};
 
 use crate::answer::Answer;

@@ -3,7 +3,7 @@ ghost use Rattle.std.specs.Prelude.{◌≡◌, ◌≤◌, ◌++◌, IsTrue, OnOk
 ghost use Rattle.capture.specs.Faults.{CountsFaults};
 ghost use Rattle.outside.specs.Gate.{heard_of};
 ghost use Rattle.exchange.specs.Refusals as spec;
-ghost use Rattle.session.specs.Wire.{Breaks, Tries, Writes};
+ghost use Rattle.session.specs.steps.Wire.{Breaks, Tries, Writes};
 
 use crate::Served;
 use capture::Failed;

@@ -1,5 +1,5 @@
 //! Serves a connection.
-ghost use Rattle.std.specs.Prelude.{◌≡◌, ◌≤◌, [], IsTrue};
+ghost use Rattle.std.specs.Prelude.{◌≡◌, ◌≤◌, IsTrue};
 ghost use Rattle.archive_shelf.specs.Told.{GoesOn};
 ghost use Rattle.capture.specs.Faults.{Rose};
 ghost use Rattle.outside.specs.Gate.{heard_of};
@@ -32,15 +32,11 @@ pub fn serve<S: Shelf, L: Link, N: Dialer, C: Clock>(
     requires no_fault { L.faults client.old ≡ 0 }
     ensures serves { IsTrue L.tells → IsTrue N.Link.tells → IsConnection S.alone (record { site = site.now; clock_tells = C.tells })
         (record {
-          served = 0;
-          pending = [];
-          world = record {
-            heard = heard_of (L.traffic client.old) (L.faults client.old);
-            answers = C.answers clock.old;
-            links = N.links dialer.old;
-            dialer_faults = N.faults dialer.old;
-            shelf = S.told shelf.old;
-          };
+          heard = heard_of (L.traffic client.old) (L.faults client.old);
+          answers = C.answers clock.old;
+          links = N.links dialer.old;
+          dialer_faults = N.faults dialer.old;
+          shelf = S.told shelf.old;
         })
         (record {
           heard = heard_of (L.traffic client.new) (L.faults client.new);

@@ -2,9 +2,9 @@
 ghost use Rattle.std.specs.Prelude.{◌≡◌, Bool, IfOk};
 ghost use Rattle.archive_shelf.specs.Told.{GoesOn};
 ghost use Rattle.replay_url.specs.declared.form.Form.TheVariants.{Ship as TheShip};
-ghost use Rattle.session.specs.Answering.{AnswersVisit};
-ghost use Rattle.session.specs.Declining as spec;
-ghost use Rattle.session.specs.Declining.{DeclinesPiece};
+ghost use Rattle.session.specs.steps.Answering.{AnswersVisit};
+ghost use Rattle.session.specs.steps.Declining as spec;
+ghost use Rattle.session.specs.steps.Declining.{DeclinesPiece};
 ghost use Rattle.session.specs.SiteAnswers.{Asks};
 
 use crate::answer::Answer;

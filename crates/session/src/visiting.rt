@@ -3,7 +3,7 @@ ghost use Rattle.std.specs.Prelude.{◌≡◌, Bool, true, IfOk};
 ghost use Rattle.archive_shelf.specs.Told.{GoesOn};
 ghost use Rattle.replay_url.specs.Forms.{IsForm};
 ghost use Rattle.replay_url.specs.Keyed.{HasKeys, form_of};
-ghost use Rattle.session.specs.Answering.{AnswersVisit};
+ghost use Rattle.session.specs.steps.Answering.{AnswersVisit};
 ghost use Rattle.session.specs.SiteAnswers as spec;
 
 use crate::answer::Answer;

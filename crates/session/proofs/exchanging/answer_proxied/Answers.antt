@@ -3,7 +3,7 @@ use Rattle.std.proofs.Common.{[], ◌∷◌, Err, refl, arith}
 use Rattle.archive_shelf.proofs.CallLaws.{goes_on_itself}
 use Rattle.capture.specs.declared.refusal.Refusal.TheVariants.{ClockRange}
 use Rattle.session.specs.Exchanges.{LacksReply}
-use Rattle.session.specs.Exchanging.{exchange_of}
+use Rattle.session.specs.steps.Exchanging.{exchange_of}
 use Rattle.session.proofs.ExchangeLaws.{clock_alone, comes_answers, past_the_clock, refused_comes, unsent}
 use Rattle.session.proofs.FetchLaws.{same_log}
 use Rattle.session.proofs.exchanging.answer_proxied.Goals as goal

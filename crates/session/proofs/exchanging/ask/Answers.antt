@@ -1,7 +1,7 @@
 -- What the origin gave, and what the shelf made of it.
 use Rattle.std.proofs.Common.{◌∷◌, [], Ok, Err, refl, ◌∙◌}
 use Rattle.archive_shelf.proofs.CallLaws.{goes_on_itself}
-use Rattle.session.specs.Exchanging.{exchange_of}
+use Rattle.session.specs.steps.Exchanging.{exchange_of}
 use Rattle.session.proofs.FetchLaws.{as_asked, fetch_failed, fetch_later}
 use Rattle.session.proofs.exchanging.ask.Goals as goal
 

@@ -5,7 +5,7 @@ use Rattle.capture.specs.Methods.{asks_for_head}
 use Rattle.capture.specs.Payload.{IsPayload}
 use Rattle.capture.specs.declared.framing.Framing.{Framing}
 use Rattle.session.specs.Exchanges.{LacksReply}
-use Rattle.session.specs.Exchanging.{exchange_of, given_of}
+use Rattle.session.specs.steps.Exchanging.{exchange_of, given_of}
 use Rattle.session.proofs.KeepLaws.{fits, follows_close, kept_comes, passes_close, unready}
 use Rattle.session.proofs.PassLaws.{payload_in}
 use Rattle.session.proofs.exchanging.pass_on.Goals as goal

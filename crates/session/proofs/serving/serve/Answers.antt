@@ -3,27 +3,28 @@ use Rattle.std.proofs.Common.{[], refl, sym, ◌∙◌, arith, lit<}
 use Rattle.archive_shelf.proofs.CallLaws.{goes_on_both, goes_on_itself}
 use Rattle.outside.specs.Gate.{heard_of}
 use Rattle.session.specs.declared.TheConstants.{REQUEST_LIMIT}
+use Rattle.session.proofs.CourseLaws.{whole_connection}
 use Rattle.session.proofs.RoundLaws.{gave_up_at_once}
 use Rattle.session.proofs.ServeLaws.{answer_broke, answer_closed, answer_lacked, answer_said, reading_ends, still_fewer}
 use Rattle.session.proofs.serving.serve.Goals as goal
 
 pub returns-in-Err-clause-serves : goal.returns-in-Err-clause-serves
 returns-in-Err-clause-serves g c t n =
-    rw c.give_up.ensures.ends (gave_up_at_once g.S.Finder.alone (record { site = c.args.site.now; clock_tells = g.C.Clock.tells })
+    rw c.give_up.ensures.ends (whole_connection g.S.Finder.alone _ _ _ _ (gave_up_at_once g.S.Finder.alone (record { site = c.args.site.now; clock_tells = g.C.Clock.tells })
     (record { served = 0; pending = []; world = (record { heard = heard_of (g.L.Link.traffic c.args.client.now) (g.L.Link.faults c.args.client.now); answers = g.C.Clock.answers c.args.clock.now; links = g.N.Dialer.links c.args.dialer.now; dialer_faults = g.N.Dialer.faults c.args.dialer.now; shelf = g.S.Finder.told c.args.shelf.now }) })
     (heard_of (g.L.Link.traffic c.give_up.new.client) (g.L.Link.faults c.give_up.new.client))
-    c.leading_books_grow.ensures.itself (c.give_up.ensures.tries t))
+    c.leading_books_grow.ensures.itself (c.give_up.ensures.tries t)))
 
 pub returns-in-Err-new-clause-serves : goal.returns-in-Err-new-clause-serves
 returns-in-Err-new-clause-serves g c t n =
-    rw c.give_up-in-Err-new.ensures.ends (gave_up_at_once g.S.Finder.alone (record { site = c.args.site.now; clock_tells = g.C.Clock.tells })
+    rw c.give_up-in-Err-new.ensures.ends (whole_connection g.S.Finder.alone _ _ _ _ (gave_up_at_once g.S.Finder.alone (record { site = c.args.site.now; clock_tells = g.C.Clock.tells })
     (record { served = 0; pending = []; world = (record { heard = heard_of (g.L.Link.traffic c.args.client.now) (g.L.Link.faults c.args.client.now); answers = g.C.Clock.answers c.args.clock.now; links = g.N.Dialer.links c.args.dialer.now; dialer_faults = g.N.Dialer.faults c.args.dialer.now; shelf = g.S.Finder.told c.args.shelf.now }) })
     (heard_of (g.L.Link.traffic c.give_up-in-Err-new.new.client) (g.L.Link.faults c.give_up-in-Err-new.new.client))
-    c.leading_books_grow.ensures.itself (c.give_up-in-Err-new.ensures.tries t))
+    c.leading_books_grow.ensures.itself (c.give_up-in-Err-new.ensures.tries t)))
 
 pub serving-init : goal.serving-init
 serving-init g c = record {
-  joins = λ t n heard answers links faults shelf result h. rw c.in-Ok.ensures at h;
+  joins = λ t n heard answers links faults shelf result h. whole_connection g.S.Finder.alone _ _ _ _ (rw c.in-Ok.ensures at h);
   whole = c.requires.no_fault;
   fewer = lit< tt;
   empty = c.in-Ok-new.ensures;

@@ -6,6 +6,7 @@ use Rattle.outside.specs.Records.{Links}
 use Rattle.outside.specs.declared.dialer.Transcript.{Transcript}
 use Rattle.outside.specs.declared.gate.Heard.{Heard}
 use Rattle.session.specs.Connection.{IsConnection}
+use Rattle.session.specs.steps.Stages.{IsRemainder}
 use Rattle.session.specs.declared.TheConstants.{REQUEST_LIMIT}
 use Rattle.session.specs.declared.served.Served.{Served}
 use Rattle.session.proofs.serving.serve.Given as goal
@@ -18,7 +19,7 @@ invariant-serving g l =
     record {
       joins : IsTrue link.tells → IsTrue g.N.Link.Link.tells → (heard : Heard) (answers : List ℕ) (links : Links Transcript) (faults : ℕ)
           (shelf : g.row.S.Denot) (result : Served)
-          → IsConnection g.S.Finder.alone (record { site = l.fn.site; clock_tells = clock.tells })
+          → IsRemainder g.S.Finder.alone (record { site = l.fn.site; clock_tells = clock.tells })
           (record {
             served = l.served;
             pending = l.of_client;
@@ -32,15 +33,11 @@ invariant-serving g l =
           }) (record { heard = heard; answers = answers; links = links; dialer_faults = faults; shelf = g.S.Finder.told shelf }) result
           → IsConnection g.S.Finder.alone (record { site = l.fn.site; clock_tells = clock.tells })
           (record {
-            served = 0;
-            pending = [];
-            world = record {
-              heard = heard_of (link.traffic l.fn.client) (link.faults l.fn.client);
-              answers = clock.answers l.fn.clock;
-              links = dialer.links l.fn.dialer;
-              dialer_faults = dialer.faults l.fn.dialer;
-              shelf = g.S.Finder.told l.fn.shelf;
-            };
+            heard = heard_of (link.traffic l.fn.client) (link.faults l.fn.client);
+            answers = clock.answers l.fn.clock;
+            links = dialer.links l.fn.dialer;
+            dialer_faults = dialer.faults l.fn.dialer;
+            shelf = g.S.Finder.told l.fn.shelf;
           }) (record { heard = heard; answers = answers; links = links; dialer_faults = faults; shelf = g.S.Finder.told shelf }) result;
       whole : link.faults l.client ≡ 0;
       fewer : l.served < REQUEST_LIMIT;

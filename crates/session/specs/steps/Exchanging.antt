@@ -15,16 +15,16 @@ use Rattle.exchange.specs.declared.aim.Aim.TheVariants.{Origin}
 use Rattle.http_head.specs.declared.head.Received.{Received}
 use Rattle.outside.specs.Records.{Links}
 use Rattle.outside.specs.declared.dialer.Transcript.{Transcript}
-use Rattle.session.specs.Answering.{Answers, Incoming}
+use Rattle.session.specs.steps.Answering.{Answers, Incoming}
 use Rattle.session.specs.Connection.{Setting}
-use Rattle.session.specs.Declining.{Declines, refusal_by_store}
+use Rattle.session.specs.steps.Declining.{Declines, refusal_by_store}
 use Rattle.session.specs.Exchanges.{Exchange, Reply, IsReply, asking_of, reply_text}
 use Rattle.session.specs.Gains.{World}
 use Rattle.session.specs.Images.{KeepsImages}
 use Rattle.session.specs.Requests.{IsAsked, IsInterim, closes_after}
 use Rattle.session.specs.Rounds.{Round, Exchanged, disk_fault, is_cut_off, numbers_by, origin_fault}
 use Rattle.session.specs.Traces.{Terms, Traces, View, CountsMet, terms_of, view_of}
-use Rattle.session.specs.Givens.{Given, with_body}
+use Rattle.session.specs.steps.Givens.{Given, with_body}
 use Rattle.session.specs.declared.exchanging.Proxied.{Proxied}
 use Rattle.session.specs.declared.passing.Ready.{Ready}
 use Rattle.session.specs.declared.passing.Rest.{Rest}

@@ -7,13 +7,14 @@ use Rattle.exchange.specs.declared.aim.Aim.TheVariants.{Site as ToSite}
 use Rattle.outside.specs.Records.{Links}
 use Rattle.outside.specs.declared.dialer.Transcript.{Transcript}
 use Rattle.outside.specs.declared.gate.Heard.{Heard}
-use Rattle.session.specs.Connection.{Setting, IsMade}
+use Rattle.session.specs.Connection.{Setting}
+use Rattle.session.specs.steps.Stages.{IsMade}
 use Rattle.session.specs.Gains.{World}
 use Rattle.session.specs.Requests.{IsAsked, IsInterim, closes_after}
 use Rattle.session.specs.Rounds.{Outcome, closes_outcome, refusal_in}
 use Rattle.session.specs.SiteAnswers.{SiteRequest}
 use Rattle.session.specs.Traces.{Traces}
-use Rattle.session.specs.Givens.{Given}
+use Rattle.session.specs.steps.Givens.{Given}
 
 -- a request that is to be answered: how many were served before it, the client's bytes that it took, and the text that was written
 -- in the middle of them

@@ -2,12 +2,13 @@
 use Rattle.std.specs.Prelude.{◌≡◌, ◌≢◌, ℕ, true, List, [], ◌∷◌, ◌++◌, Bool}
 use Rattle.exchange.specs.Receiving.{StaysAccounted}
 use Rattle.exchange.specs.Writing.{GrowsByProperFront}
-use Rattle.session.specs.Connection.{Setting, Stage, IsMade}
+use Rattle.session.specs.Connection.{Setting}
+use Rattle.session.specs.steps.Stages.{Stage, IsMade}
 use Rattle.session.specs.Gains.{World}
 use Rattle.outside.specs.declared.gate.Heard.{Heard}
-use Rattle.session.specs.Reads.{Client}
+use Rattle.session.specs.steps.Reads.{Client}
 use Rattle.session.specs.Rounds.{Round, closes}
-use Rattle.session.specs.Stopping.{EndsAs}
+use Rattle.session.specs.Stopping.{Ends, IsClosed, IsCutShort}
 use Rattle.session.specs.declared.served.Served.{Served}
 
 -- the client's side of a stage
@@ -25,7 +26,8 @@ module _ (alone : Bool) (setting : Setting) where
     pub closed : closes from.served r ≡ true
     pub accounts : StaysAccounted from.world.heard.given from.pending is.heard.given (r.wire ++ rest)
     pub written : is.heard.written ≡ from.world.heard.written ++ (r.interim ++ r.text)
-    pub ends : EndsAs result setting.site (record { served = from.served; rounds = r ∷ []; rest = rest }) is.heard
+    pub ends : IsClosed (record { served = from.served; rounds = r ∷ []; rest = rest }) from.world.heard is.heard
+        → Ends result setting.site (record { served = from.served; rounds = r ∷ []; rest = rest }) from.world.heard is.heard
 
   -- A lawful round, whose text was written in part.
   pub record LastIsInPart (r : Round) (rest : List ℕ) (from : Stage) (is : World) (result : Served) : Type 0 where
@@ -33,4 +35,5 @@ module _ (alone : Bool) (setting : Setting) where
     pub accounts : StaysAccounted from.world.heard.given from.pending is.heard.given (r.wire ++ rest)
     pub part : GrowsByProperFront (from.world.heard.written ++ r.interim) is.heard.written r.text
     pub unwritten : is.heard.failed_writes ≢ 0
-    pub ends : EndsAs result setting.site (record { served = from.served; rounds = r ∷ []; rest = rest }) is.heard
+    pub ends : IsCutShort (record { served = from.served; rounds = r ∷ []; rest = rest }) from.world.heard is.heard
+        → Ends result setting.site (record { served = from.served; rounds = r ∷ []; rest = rest }) from.world.heard is.heard

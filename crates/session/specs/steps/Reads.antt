@@ -15,13 +15,11 @@ use Rattle.http_head.specs.declared.head.RequestMessage.{RequestMessage}
 use Rattle.http_wire.specs.Heads.{BeginsWithRequest}
 use Rattle.http_wire.specs.Messages.{IsRequest}
 use Rattle.outside.specs.declared.gate.Heard.{Heard}
-use Rattle.session.specs.Requests.{HasInterim, IsAimed, IsAimedNowhere, IsAsked, IsBegun, IsInterim, IsRefused, IsUndecided, aim_of_head, answers_head, interim_of}
-use Rattle.session.specs.Steps.{EndsRefusal}
-use Rattle.session.specs.Stopping.{EndsAs}
-use Rattle.session.specs.Wire.{Breaks, Tries, Writes}
+use Rattle.session.specs.Requests.{HasInterim, IsAimed, IsAimedNowhere, IsAsked, IsBegun, IsBetween, IsInside, IsInterim, IsRefused, IsUndecided, aim_of_head, answers_head, interim_of}
+use Rattle.session.specs.steps.Wire.{Breaks, EndsRefusal, Tries, Writes}
 use Rattle.session.specs.declared.reading.Asked.{Asked}
 use Rattle.session.specs.declared.served.Served.{Served}
-use Rattle.session.specs.declared.served.Served.TheVariants.{ClientBroke, WantOfMemory}
+use Rattle.session.specs.declared.served.Served.TheVariants.{Done, ClientBroke, ClientEndedEarly, ClientRefused, WantOfMemory}
 
 -- what was heard of a client, and those of the bytes that it gave which nobody has used
 pub record Client : Type 0 where
@@ -49,6 +47,14 @@ pub record AwaitsRest (site : Site) (from : Client) (stream : List ℕ) (head : 
 
 -- ---- no request was read
 
+-- how a connection ends where no more comes behind these bytes
+abbrev pub MeetsEnd : Served → Site → List ℕ → Heard → Type 0
+MeetsEnd Done site rest now = (now.ended ≡ true) × IsBetween rest × (now.faults ≡ 0)
+MeetsEnd ClientBroke site rest now = now.faults ≢ 0
+MeetsEnd ClientEndedEarly site rest now = (now.ended ≡ true) × IsInside site rest × (now.faults ≡ 0)
+MeetsEnd (ClientRefused refusal) site rest now = ⊥
+MeetsEnd WantOfMemory site rest now = ⊥
+
 -- no more comes, and what came is no request
 pub record MeetsNoMore (site : Site) (from : Client) (now : Heard) (end : Served) : Type 0 where
   pub rest : List ℕ
@@ -56,8 +62,7 @@ pub record MeetsNoMore (site : Site) (from : Client) (now : Heard) (end : Served
   pub undecided : IsUndecided site rest
   pub interim_is : IsInterim site rest interim
   pub taken : HasTaken from rest interim (record { heard = now; pending = [] })
-  pub no_more : (now.ended ≡ true) ⊎ (now.faults ≢ 0)
-  pub ends : (served : ℕ) → EndsAs end site (record { served = served; rounds = []; rest = rest }) now
+  pub meets : MeetsEnd end site rest now
 
 -- the link failed in the text that asks for the body
 pub record BreaksInside (site : Site) (from : Client) (now : Heard) (end : Served) : Type 0 where

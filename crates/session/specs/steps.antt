@@ -1,0 +1,10 @@
+pub mod Answering
+pub mod Declining
+pub mod Endings
+pub mod Exchanging
+pub mod Givens
+pub mod Looking
+pub mod Reads
+pub mod Shelving
+pub mod Stages
+pub mod Wire

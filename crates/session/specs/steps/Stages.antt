@@ -1,0 +1,44 @@
+-- A connection from a stage on, and a step from one stage to the next.
+use Rattle.std.specs.Prelude.{◌≡◌, ◌+◌, ℕ, Bool, false, List, [], ◌∷◌, ◌++◌}
+use Rattle.exchange.specs.Receiving.{StaysAccounted}
+use Rattle.session.specs.Connection.{Setting, Gained, terms_at, view_at}
+use Rattle.session.specs.Gains.{World, gains_by, gains_of}
+use Rattle.session.specs.Images.{KeepsImages}
+use Rattle.session.specs.Rounds.{Round, IsRound, IsCourse, KnowsBefore, closes, course_wire}
+use Rattle.session.specs.Stopping.{Ends}
+use Rattle.session.specs.Traces.{LeadsView}
+use Rattle.session.specs.declared.served.Served.{Served}
+
+-- a point of a connection: how many requests were served, what the client gave and nobody has used, and what the objects tell
+pub record Stage : Type 1 where
+  pub served : ℕ
+  pub pending : List ℕ
+  pub world : World
+
+module _ (alone : Bool) (setting : Setting) where
+  -- what is left of a connection, from a stage on
+  pub record IsRemainder (from : Stage) (is : World) (result : Served) : Type 0 where
+    pub rounds : List Round
+    pub rest : List ℕ
+    pub accounts : StaysAccounted from.world.heard.given from.pending is.heard.given (course_wire rounds ++ rest)
+    pub lawful : IsCourse (terms_at alone setting from.world.shelf) from.served (view_at alone setting from.world) rounds (view_at alone setting is)
+    pub ends : Ends result setting.site (record { served = from.served; rounds = rounds; rest = rest }) from.world.heard is.heard
+    pub gained : Gained alone setting from.world is (gains_of rounds)
+    pub images : KeepsImages (terms_at alone setting from.world.shelf) rounds from.world.shelf is.shelf
+
+  -- A lawful round was made between two stages. Only its text may not be written.
+  pub record IsMade (served : ℕ) (r : Round) (was is : World) : Type 0 where
+    pub lawful : IsRound (terms_at alone setting was.shelf) served r
+    pub leads : LeadsView (terms_at alone setting was.shelf) (view_at alone setting was) r.traces.before
+    pub knows : KnowsBefore (terms_at alone setting was.shelf) (view_at alone setting was) r
+    pub left : view_at alone setting is ≡ r.traces.after
+    pub gained : Gained alone setting was is (gains_by r)
+    pub images : KeepsImages (terms_at alone setting was.shelf) (r ∷ []) was.shelf is.shelf
+
+  -- A lawful round was made from one stage to the next, doesn't close, and its text was written.
+  pub record IsStep (r : Round) (from to : Stage) : Type 0 where
+    pub made : IsMade from.served r from.world to.world
+    pub stays : closes from.served r ≡ false
+    pub next : to.served ≡ from.served + 1
+    pub accounts : StaysAccounted from.world.heard.given from.pending to.world.heard.given (r.wire ++ to.pending)
+    pub written : to.world.heard.written ≡ from.world.heard.written ++ (r.interim ++ r.text)
