@@ -119,7 +119,7 @@ no_failure terms e cut TooManyInterim traces once tells whole origin disk can h 
 no_failure terms e cut (Full count limit) traces once tells whole origin disk can h =
     let bad : ⊥ = omega (arith, h.full, h.limit_is, h.count_is, can.room) in absurd bad
 no_failure terms e cut DiskFault traces once tells whole origin disk can h = rose_not _ _ disk.rose whole.disk whole.disk_counts
-no_failure terms e cut (Damaged number kept found) traces once tells whole origin disk can h = told_not_untold terms.tells tells h.is.untold
+no_failure terms e cut (Damaged number kept found) traces once tells whole origin disk can h = told_not_untold terms.tells tells h.1.untold
 no_failure terms e cut (NoSuch number count) traces once tells whole origin disk can h = absurd h
 no_failure terms e cut Malformed traces once tells whole origin disk can h = absurd h
 no_failure terms e cut TargetRefused traces once tells whole origin disk can h = absurd h

@@ -1,5 +1,5 @@
 -- A book only grows while a connection is served, and so does what is shown.
-use Rattle.std.proofs.Common.{◌≡◌, ℕ, ◌+◌, ◌≤◌, IsTrue, List, [], ◌∷◌, length, Err, refl, sym, ap, subst, arith, length-append}
+use Rattle.std.proofs.Common.{◌≡◌, inr, inl, ◌⊎◌, ℕ, ◌+◌, ◌≤◌, IsTrue, List, [], ◌∷◌, length, Err, refl, sym, ap, subst, arith, length-append}
 use Rattle.archive_shelf.proofs.CallLaws.{begins_both, leads_begins, leads_same, past_begins, shown_same}
 use Rattle.archive_shelf.specs.Contents.{Begins}
 use Rattle.archive_shelf.specs.Laws.{BooksLeadToThemselves, GainsGrow, LeadingGrows, StoresGrow}
@@ -38,17 +38,18 @@ data Leaves (terms : Terms) (traces : Traces) : Type 0 where
   Denied : (e : Exchange) (refused : IsRefusedByDisk terms e traces) → Leaves terms traces
   Stored_it : (e : Exchange) (received : Received) (payload : List ℕ) (passed : IsPassedOn terms e received payload traces) → Leaves terms traces
 
-failure_leaves : (terms : Terms) (e : Exchange) (refusal : Refusal) (traces : Traces) → IsFailure terms e refusal traces → Leaves terms traces
-failure_leaves terms e (ClockRange now) traces h = Stayed h.untouched
-failure_leaves terms e DialFault traces h = Stayed h.untouched
-failure_leaves terms e OriginFault traces h = Stayed h.untouched
-failure_leaves terms e OriginEnded traces h = Stayed h.untouched
-failure_leaves terms e OriginMalformed traces h = Stayed h.untouched
-failure_leaves terms e OriginTooLong traces h = Stayed h.untouched
-failure_leaves terms e TooManyInterim traces h = Stayed h.untouched
-failure_leaves terms e (Full count limit) traces h = Stayed h.untouched
-failure_leaves terms e DiskFault traces h = Denied e h
-failure_leaves terms e (Damaged number kept found) traces h = Stayed h.untouched
+pub failure_leaves : (terms : Terms) (e : Exchange) (refusal : Refusal) (traces : Traces) → IsFailure terms e refusal traces
+    → StaysView terms traces.before traces.after ⊎ IsRefusedByDisk terms e traces
+failure_leaves terms e (ClockRange now) traces h = inl h.untouched
+failure_leaves terms e DialFault traces h = inl h.untouched
+failure_leaves terms e OriginFault traces h = inl h.untouched
+failure_leaves terms e OriginEnded traces h = inl h.untouched
+failure_leaves terms e OriginMalformed traces h = inl h.untouched
+failure_leaves terms e OriginTooLong traces h = inl h.untouched
+failure_leaves terms e TooManyInterim traces h = inl h.untouched
+failure_leaves terms e (Full count limit) traces h = inl h.untouched
+failure_leaves terms e DiskFault traces h = inr h
+failure_leaves terms e (Damaged number kept found) traces h = inl h.0.untouched
 failure_leaves terms e (NoSuch number count) traces h = absurd h
 failure_leaves terms e Malformed traces h = absurd h
 failure_leaves terms e TargetRefused traces h = absurd h
@@ -67,7 +68,10 @@ failure_leaves terms e CodingRefused traces h = absurd h
 decided_leaves : (terms : Terms) (r : Round) (outcome : Outcome) → IsDecided terms r outcome → Leaves terms r.traces
 decided_leaves terms r Undecided h = Stayed h.2.untouched
 decided_leaves terms r (Refused head refusal) h = Stayed h.1.untouched
-decided_leaves terms r (Exchanged e (Fails refusal)) h = failure_leaves terms e refusal r.traces h.1
+decided_leaves terms r (Exchanged e (Fails refusal)) h = elim (failure_leaves terms e refusal r.traces h.1) [
+  | inl stays ↦ Stayed stays
+  | inr refused ↦ Denied e refused
+]
 decided_leaves terms r (Exchanged e (Passes received payload)) h = Stored_it e received payload h.1.1
 decided_leaves terms r (Exchanged e LacksReply) h = Stayed h.1.1.untouched
 decided_leaves terms r (Visited q reply) h = Stayed h.1.idle.untouched

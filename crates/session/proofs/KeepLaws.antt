@@ -168,13 +168,14 @@ module _ (alone : Bool) (site : Site) (e : Exchange) (closes : Bool) (date : ℕ
   damaged_reply number kept found lacked was is earlier h =
       unwritten alone site e lacked (Fails (Damaged number kept found)) around was is earlier h.leaves.0
       (quiet_by (Err (store_fault.Damaged number kept found)) was is h tt) refl refl
-      (stayed_met around.faults_before around.faults_now come.steady) (stayed_met was.faults is.faults h.faults)
-      (record {
-        room = room_in is.contents.seen was is h.leaves.1;
-        number_is = h.leaves.2;
-        is = h.leaves.3;
-        untouched = record { book = refl; shown = h.leaves.0.shown };
-      })
+      (stayed_met around.faults_before around.faults_now come.steady) (stayed_met was.faults is.faults h.faults) (
+        record {
+          room = room_in is.contents.seen was is h.leaves.1;
+          number_is = h.leaves.2;
+          untouched = record { book = refl; shown = h.leaves.0.shown };
+        },
+        h.leaves.3,
+      )
 
   -- there was no memory to store the capture
   unkept_reply : (was is : Told) → IsEarlier is.crash → StoresOn alone (taken_of e date received) was is (Err store_fault.Memory)

@@ -19,6 +19,7 @@ mod PayloadLaws
 mod ReadLaws
 mod RoundLaws
 mod ServeLaws
+mod StayLaws
 mod StoreLaws
 mod VisitLaws
 mod WireLaws

@@ -127,10 +127,9 @@ pub record IsRefusedByDisk (terms : Terms) (e : Exchange) (traces : Traces) : Ty
   pub shown : StaysShown terms traces.before traces.after
 
 -- what was read of an earlier capture, to be compared, is damaged
-pub record IsRefusedForDamage (terms : Terms) (e : Exchange) (number : ℕ) (damaged : Type 0) (traces : Traces) : Type 0 where
+pub record IsRefusedForDamage (terms : Terms) (e : Exchange) (number : ℕ) (traces : Traces) : Type 0 where
   pub room : HasRoom terms e traces
   pub number_is : number < length (captures traces.before.book)
-  pub is : damaged
   pub untouched : StaysView terms traces.before traces.after
 
 -- a refusal has its cause in the clock, in the link to the origin, in what that gave, in the archive's limit or in the disk
@@ -144,8 +143,7 @@ IsFailure terms e OriginTooLong traces = WentInVain terms e fetch_fault.OriginTo
 IsFailure terms e TooManyInterim traces = WentInVain terms e fetch_fault.TooManyInterim traces
 IsFailure terms e (Full count limit) traces = IsFull terms e count limit traces
 IsFailure terms e DiskFault traces = IsRefusedByDisk terms e traces
-IsFailure terms e (Damaged number kept found) traces =
-    IsRefusedForDamage terms e number (IsDamaged terms.tells kept found) traces
+IsFailure terms e (Damaged number kept found) traces = IsRefusedForDamage terms e number traces × IsDamaged terms.tells kept found
 IsFailure terms e other traces = ⊥
 
 -- ---- the response

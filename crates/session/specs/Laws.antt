@@ -1,16 +1,24 @@
 -- What lawful courses promise to those who build on them.
-use Rattle.std.specs.Prelude.{ℕ, List, [], ◌∷◌, IsTrue, length, ⊤}
+use Rattle.std.specs.Prelude.{◌≡◌, ◌≢◌, ℕ, List, [], ◌∷◌, Contains, IsTrue, length, ⊤}
 use Rattle.archive_shelf.specs.Answers.{IsByRule}
 use Rattle.archive_shelf.specs.Contents.{Begins}
 use Rattle.archive_shelf.specs.Openings.{HasIds}
 use Rattle.archive_shelf.specs.declared.receipt.Receipt.{Receipt}
 use Rattle.capture.specs.Captures.{captures, HasPayload, IsPayloadOf}
 use Rattle.capture.specs.Growth.{Grows}
+use Rattle.capture.specs.Payload.{IsPayload}
 use Rattle.capture.specs.Soundness.{HasSoundCaptures}
 use Rattle.capture.specs.declared.book.Book.{Book}
 use Rattle.capture.specs.declared.captured.Taken.{Taken}
+use Rattle.capture.specs.declared.site.Site.{Site}
+use Rattle.exchange.specs.declared.aim.Aim.TheVariants.{Origin}
+use Rattle.http_head.specs.declared.head.Received.{Received}
+use Rattle.outside.specs.declared.dialer.Transcript.{Transcript}
+use Rattle.session.specs.Exchanges.{Exchange, Passes}
+use Rattle.session.specs.Gains.{gains_of}
 use Rattle.session.specs.Images.{HasAllIds}
-use Rattle.session.specs.Rounds.{Round, IsCourse, origin_faults, disk_faults}
+use Rattle.session.specs.Requests.{IsAsked}
+use Rattle.session.specs.Rounds.{Round, Exchanged, IsRound, IsCourse, origin_faults, disk_faults}
 use Rattle.session.specs.Traces.{Terms, View, CountsMet, IsConsistentView}
 
 -- the book only grows, from round to round and over a course
@@ -57,3 +65,35 @@ StoredCapturesHaveTheirPayload =
     (limit : ℕ) (book : Book) (taken : Taken) (receipt : Receipt) (after : Book) (payload : List ℕ)
     → IsByRule limit book taken receipt after → HasPayload taken.cut taken.method taken.head taken.wire payload
     → HasSoundCaptures after → IsPayloadOf after (length (captures book)) payload
+
+-- ---- what a reader of a course may stop at
+
+-- A response that was passed on is in the book that the course leaves, under the number that its capture got, with the payload of the
+-- bytes that the origin gave.
+abbrev pub PassedOnResponsesStay : Type 0
+PassedOnResponsesStay =
+    (terms : Terms) (served : ℕ) (was : View) (rounds : List Round) (is : View)
+    (r : Round) (e : Exchange) (received : Received) (payload : List ℕ)
+    → IsCourse terms served was rounds is → Contains rounds r → r.outcome ≡ Exchanged e (Passes received payload) → IsTrue terms.tells
+    → IsPayload received.cut received.framing received.wire payload × IsPayloadOf is.book (length (captures r.traces.before.book)) payload
+
+-- a link was made to the origin of the client's request
+pub record IsDialedFor (site : Site) (r : Round) (t : Transcript) : Type 0 where
+  pub exchange : Exchange
+  pub asked : IsAsked site r.wire exchange.message (Origin exchange.target)
+  pub host : t.host ≡ exchange.target.host
+  pub port : t.port ≡ exchange.target.port
+
+-- nobody was dialed but the origins of the client's requests
+abbrev pub OriginsAloneAreDialed : Type 0
+OriginsAloneAreDialed =
+    (terms : Terms) (served : ℕ) (was : View) (rounds : List Round) (is : View) (t : Transcript)
+    → IsCourse terms served was rounds is → Contains (gains_of rounds).transcripts t
+    → (r : Round) × Contains rounds r × IsDialedFor terms.site r t
+
+-- a round that passes no response on leaves the captures as they were
+abbrev pub OtherRoundsStoreNothing : Type 0
+OtherRoundsStoreNothing =
+    (terms : Terms) (served : ℕ) (r : Round)
+    → IsRound terms served r → ((e : Exchange) (received : Received) (payload : List ℕ) → r.outcome ≢ Exchanged e (Passes received payload))
+    → captures r.traces.after.book ≡ captures r.traces.before.book

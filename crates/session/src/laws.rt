@@ -1,7 +1,7 @@
 //! What the definitions promise to those who build on them.
 ghost use Rattle.std.specs.Prelude.{◌≡◌};
 ghost use Rattle.session.specs.Complete.{CapturesThatAreThereAreReplayed, RequestsAreNotRefused, ResponsesArePassedOn};
-ghost use Rattle.session.specs.Laws.{CoursesGrow, CoursesShowOn, CoursesCountFaults, CoursesStayConsistent, IdsDifferOnTheWay, StoredCapturesHaveTheirPayload};
+ghost use Rattle.session.specs.Laws.{CoursesGrow, CoursesShowOn, CoursesCountFaults, CoursesStayConsistent, IdsDifferOnTheWay, OriginsAloneAreDialed, OtherRoundsStoreNothing, PassedOnResponsesStay, StoredCapturesHaveTheirPayload};
 ghost use Rattle.session.specs.declared.TheConstants.{REQUEST_LIMIT};
 
 use archive_shelf::{leading_books_grow, stored_captures_stand_behind};
@@ -17,6 +17,18 @@ pub fn courses_only_grow()
     ensures consistent { CoursesStayConsistent }
     ensures faults { CoursesCountFaults }
     ensures ids { IdsDifferOnTheWay }
+{
+    growth_keeps_captures();
+    leading_books_grow();
+    stored_captures_stand_behind();
+}
+
+/// What a reader of a course may stop at. A response that was passed on is in the book that the course leaves, with its payload by its
+/// number; nobody was dialed but the origins of the client's requests; and a round that passes no response on stores nothing.
+pub fn courses_keep_their_answers()
+    ensures stay { PassedOnResponsesStay }
+    ensures dialed { OriginsAloneAreDialed }
+    ensures others { OtherRoundsStoreNothing }
 {
     growth_keeps_captures();
     leading_books_grow();
