@@ -46,6 +46,16 @@ pub record World : Type 1 where
   pub dialer_faults : ℕ
   pub shelf : Told
 
+-- what these objects tell
+abbrev pub world_of : Heard → (answers : List ℕ) → Links Transcript → (dialer_faults : ℕ) → Told → World
+world_of heard answers links dialer_faults shelf = record {
+  heard = heard;
+  answers = answers;
+  links = links;
+  dialer_faults = dialer_faults;
+  shelf = shelf;
+}
+
 -- Clock and dialer tell these gains, and no link is left out. A clock that tells does so while its answers are fewer than 2^64 - 1.
 pub record GainsOutside (clock_tells : Bool) (was is : World) (gains : Gains) : Type 0 where
   pub asked : IsTrue clock_tells → length is.answers < 2 ^ 64 - 1 → is.answers ≡ was.answers ++ gains.times

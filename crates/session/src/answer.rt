@@ -15,7 +15,7 @@ pub const SHORT: usize = 65_536;
 
 /// The answer to a request. A long body isn't copied behind its head: both are written one after the other. A contract sees one
 /// text.
-#[derive(Debug, Drop)]
+#[derive(Drop)]
 pub struct Answer {
     /// The text, or the head of a long one.
     head: Bytes,

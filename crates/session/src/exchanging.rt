@@ -9,7 +9,7 @@ ghost use Rattle.http_wire.specs.Messages.{IsOneResponse};
 ghost use Rattle.exchange.specs.Storing.{IsForOrigin};
 ghost use Rattle.exchange.specs.Texts.{forwarded};
 ghost use Rattle.outside.specs.declared.gate.Heard.{Heard};
-ghost use Rattle.session.specs.steps.Declining.{Declines, refusal_by_fetch, refusal_by_store};
+ghost use Rattle.session.specs.Gains.{world_of};
 ghost use Rattle.session.specs.Exchanges as spec;
 ghost use Rattle.session.specs.steps.Exchanging.{AnswersProxied, Around, Asks, Comes, HasCome, Keeps, exchange_of, given_of};
 ghost use Rattle.time_text.specs.Texts.{InRange};
@@ -21,16 +21,16 @@ use crate::heads::asks_for_head;
 use crate::laws::stored_captures_have_their_payload;
 use crate::passing::{Ready, passed_on};
 use crate::refusing::{declined, refused};
-use archive_shelf::{Shelf, StoreFault};
+use archive_shelf::Shelf;
 use capture::{Bytes, Memory, Refusal, Taken};
-use exchange::{FetchFault, Target, Window, fetch, forward_text, requests_can_be_stored};
+use exchange::{Target, Window, fetch, forward_text, requests_can_be_stored};
 use http_wire::{Received, RequestHead, RequestMessage, responses_can_be_stored};
 use outside::{Clock, Dialer};
 use std::alloc::Global;
 use time_text::LATEST;
 
 /// A request that goes to an origin.
-#[derive(Debug, Drop)]
+#[derive(Drop)]
 pub struct Proxied {
     /// The request.
     pub message: RequestMessage,
@@ -41,7 +41,7 @@ pub struct Proxied {
 }
 
 /// A request as it is sent.
-#[derive(Debug, Drop)]
+#[derive(Drop)]
 struct Sending {
     /// The client's request, and the origin.
     proxied: Proxied,
@@ -65,8 +65,8 @@ pub fn answer_proxied<S: Shelf, N: Dialer, C: Clock>(
     requires empty { window.old ≡ [] }
     ensures answers { IsTrue N.Link.tells → (site : Site) (then now : Heard)
         → AnswersProxied S.alone (record { site = site; clock_tells = C.tells }) (exchange_of proxied) proxied.closes result
-        (record { heard = then; answers = C.answers clock.old; links = N.links dialer.old; dialer_faults = N.faults dialer.old; shelf = S.told shelf.old })
-        (record { heard = now; answers = C.answers clock.new; links = N.links dialer.new; dialer_faults = N.faults dialer.new; shelf = S.told shelf.new }) }
+        (world_of then (C.answers clock.old) (N.links dialer.old) (N.faults dialer.old) (S.told shelf.old))
+        (world_of now (C.answers clock.new) (N.links dialer.new) (N.faults dialer.new) (S.told shelf.new)) }
     ensures closes { IfOk result (λ answer. IsTrue proxied.closes → IsTrue answer.closes) }
     ensures goes_on { GoesOn S.alone (S.told shelf.old) (S.told shelf.new) }
     ensures faults { N.faults dialer.old ≤ N.faults dialer.new }
@@ -129,21 +129,13 @@ fn ask<S: Shelf, N: Dialer>(
         sending.request.as_slice(),
     ) {
         Ok(received) => pass_on(alloc, shelf, sending, received),
-        Err(fault) => fail(alloc, fault, answers_head, sending.proxied.closes),
+        Err(fault) => declined(
+            alloc,
+            why_unfetched(fault),
+            answers_head,
+            sending.proxied.closes,
+        ),
     }
-}
-
-/// The answer to a request of which no response came.
-fn fail(
-    alloc: Global,
-    fault: FetchFault,
-    answers_head: bool,
-    closes: bool,
-) -> Result<Answer, Memory>
-    ensures fails { Declines (refusal_by_fetch fault) answers_head closes result }
-    ensures closes { IfOk result (λ answer. answer.closes ≡ closes) }
-{
-    declined(alloc, why_unfetched(fault), answers_head, closes)
 }
 
 /// Makes the answer to a response ready, stores the exchange, and gives the answer.
@@ -236,18 +228,6 @@ fn keep<S: Shelf>(
             let Taken { wire, .. } = taken;
             Ok(ready.given(wire))
         }
-        Err(fault) => turn_down(alloc, fault, answers_head, closes),
+        Err(fault) => declined(alloc, why_unstored(fault), answers_head, closes),
     }
-}
-
-/// The answer to a request whose capture wasn't stored.
-fn turn_down(
-    alloc: Global,
-    fault: StoreFault,
-    answers_head: bool,
-    closes: bool,
-) -> Result<Answer, Memory>
-    ensures { Declines (refusal_by_store fault) answers_head closes result }
-{
-    declined(alloc, why_unstored(fault), answers_head, closes)
 }

@@ -16,7 +16,7 @@ use std::alloc::Global;
 const ADDED: usize = 256;
 
 /// What is ready of an answer before the exchange is stored.
-#[derive(Debug, Drop)]
+#[derive(Drop)]
 pub struct Ready {
     /// The head, and behind it the payload where that is short.
     pub text: Bytes,
@@ -29,7 +29,7 @@ pub struct Ready {
 }
 
 /// What is written behind the text that is ready.
-#[derive(Clone, Copy, Debug, PartialEq, Eq)]
+#[derive(Clone, Copy)]
 pub enum Rest {
     /// Nothing.
     Nothing,

@@ -26,7 +26,7 @@ use outside::Link;
 use std::alloc::Global;
 
 /// What a client asks.
-#[derive(Debug, Drop)]
+#[derive(Drop)]
 pub struct Asked {
     /// Its request.
     pub message: RequestMessage,

@@ -4,7 +4,7 @@ use http_wire::RequestMessage;
 use surt_key::KeyedUrl;
 
 /// A request to the site.
-#[derive(Clone, Copy, Debug)]
+#[derive(Clone, Copy)]
 pub struct Visit<'a> {
     /// The request.
     pub message: &'a RequestMessage,
@@ -17,7 +17,7 @@ pub struct Visit<'a> {
 }
 
 /// What the address of a memento asks for.
-#[derive(Clone, Copy, Debug)]
+#[derive(Clone, Copy)]
 pub struct Sought<'a> {
     /// The time in milliseconds since 1970: the earliest that the digits name.
     pub time: u64,

@@ -23,14 +23,14 @@ returns-in-Ok-clause-asks g c t site =
 
 pub returns-in-Err-clause-asks : goal.returns-in-Err-clause-asks
 returns-in-Err-clause-asks g c t site =
-    fetch_failed g.S.Finder.alone site (exchange_of c.args.sending.proxied) c.args.sending.proxied.closes c.args.sending.date c.fail.result
+    fetch_failed g.S.Finder.alone site (exchange_of c.args.sending.proxied) c.args.sending.proxied.closes c.args.sending.date c.declined.result
     (g.N.Dialer.links c.args.dialer.now) (g.N.Dialer.links c.fetch.new.dialer) (g.N.Dialer.faults c.args.dialer.now) (g.N.Dialer.faults c.fetch.new.dialer)
     (g.S.Finder.told c.args.shelf.now)
     (g.met.S.Finder.earlier c.args.shelf.now)
     c.requires.date c.asks_for_head-answers_head.result c.asks_for_head-answers_head.ensures c.in-Err.fault
     (as_asked (exchange_of c.args.sending.proxied) c.as_slice.result.now c.asks_for_head-answers_head.result (Err c.in-Err.fault)
     (g.N.Dialer.links c.args.dialer.now) (g.N.Dialer.links c.fetch.new.dialer) (c.as_slice.ensures ∙ c.requires.request) c.asks_for_head-answers_head.ensures
-    (c.in-Err.ensures.logs t)) c.in-Err.ensures.counts c.fail.ensures.fails
+    (c.in-Err.ensures.logs t)) c.in-Err.ensures.counts (rw c.why_unfetched.ensures at c.declined.ensures.declines)
 
 pub returns-in-Err-clause-goes_on : goal.returns-in-Err-clause-goes_on
 returns-in-Err-clause-goes_on g c = goes_on_itself g.S.Finder.alone (g.S.Finder.told c.args.shelf.now)
