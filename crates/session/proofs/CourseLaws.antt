@@ -6,8 +6,10 @@ use Rattle.capture.specs.declared.refusal.Refusal.{Refusal}
 use Rattle.capture.specs.declared.site.Site.{Site}
 use Rattle.exchange.specs.Receiving.{StaysAccounted}
 use Rattle.exchange.specs.Writing.{GrowsByProperFront}
+use Rattle.outside.specs.Calls.{one_more}
 use Rattle.outside.specs.declared.gate.Heard.{Heard}
 use Rattle.session.specs.Connection.{IsConnection, Setting, terms_at}
+use Rattle.session.specs.steps.Wire.{Says}
 use Rattle.session.specs.steps.Stages.{Stage, IsRemainder, IsStep}
 use Rattle.session.specs.Gains.{World, gains_by, gains_of}
 use Rattle.session.specs.Rounds.{Round, Outcome, Undecided, Refused, Exchanged, Visited, closes, closes_outcome, course_text, course_wire, is_closed, lacks, refusal_in, refusals}
@@ -52,7 +54,7 @@ part_behind a b now text e w = record { front = w.front; is_front = w.is_front; 
 -- ---- where a course stops, behind a first round that doesn't close
 
 module _ (served : ℕ) (r : Round) (rounds : List Round) (rest : List ℕ) (then mid now : Heard)
-    (written : mid.written ≡ then.written ++ (r.interim ++ r.text)) where
+    (said : Says (r.interim ++ r.text) then mid) where
   -- the rounds behind it, and all
   abbrev others : Course
   others = record { served = served + 1; rounds = rounds; rest = rest }
@@ -68,9 +70,9 @@ module _ (served : ℕ) (r : Round) (rounds : List Round) (rest : List ℕ) (the
         last = cut.last;
         are = ap (λ (l : List Round). r ∷ l) cut.are;
         part = part_behind (mid.written ++ (course_text cut.init ++ cut.last.interim)) (then.written ++ ((said_text ++ course_text cut.init) ++ cut.last.interim)) now.written cut.last.text
-            (behind_text then.written mid.written said_text (course_text cut.init ++ cut.last.interim) written
+            (behind_text then.written mid.written said_text (course_text cut.init ++ cut.last.interim) said.written
             ∙ ap (λ x. then.written ++ x) (sym (append_assoc said_text (course_text cut.init) cut.last.interim))) cut.part;
-        unwritten = cut.unwritten;
+        unwritten = cut.unwritten ∙ ap one_more said.unfailed;
       }
 
   inside_behind : (site : Site) → closes served r ≡ false → IsCutInside site others mid now → IsCutInside site all_of then now
@@ -82,13 +84,14 @@ module _ (served : ℕ) (r : Round) (rounds : List Round) (rest : List ℕ) (the
     interim = cut.interim;
     asked = cut.asked;
     part = part_behind (mid.written ++ course_text rounds) (then.written ++ ((r.interim ++ r.text) ++ course_text rounds)) now.written cut.interim
-        (behind_text then.written mid.written (r.interim ++ r.text) (course_text rounds) written) cut.part;
-    unwritten = cut.unwritten;
+        (behind_text then.written mid.written (r.interim ++ r.text) (course_text rounds) said.written) cut.part;
+    unwritten = cut.unwritten ∙ ap one_more said.unfailed;
   }
 
   closed_behind : closes served r ≡ false → IsClosed others mid now → IsClosed all_of then now
   closed_behind goes all = record {
-    written = all.written ∙ behind_text then.written mid.written (r.interim ++ r.text) (course_text rounds) written;
+    written = all.written ∙ behind_text then.written mid.written (r.interim ++ r.text) (course_text rounds) said.written;
+    unfailed = all.unfailed ∙ said.unfailed;
     closed = same_or (closes served r) (is_closed (served + 1) rounds) goes ∙ all.closed;
   }
 
@@ -98,8 +101,9 @@ module _ (served : ℕ) (r : Round) (rounds : List Round) (rest : List ℕ) (the
     undecided = all.undecided;
     interim = all.interim;
     interim_is = all.interim_is;
-    written = all.written ∙ behind_text then.written mid.written (r.interim ++ r.text) (course_text rounds ++ all.interim) written
+    written = all.written ∙ behind_text then.written mid.written (r.interim ++ r.text) (course_text rounds ++ all.interim) said.written
         ∙ ap (λ x. then.written ++ x) (sym (append_assoc (r.interim ++ r.text) (course_text rounds) all.interim));
+    unfailed = all.unfailed ∙ said.unfailed;
   }
 
   -- how it ends
@@ -165,7 +169,7 @@ then_on alone setting r from to is result step c =
         (λ yes_it. let bad : ⊥ = cc (step.stays, yes_it) in absurd bad),
         rw (step.next, same, step.made.left) at c.lawful,
       );
-      ends = ends_behind from.served r c.rounds c.rest from.world.heard to.world.heard is.heard step.written result setting.site step.stays
+      ends = ends_behind from.served r c.rounds c.rest from.world.heard to.world.heard is.heard step.said result setting.site step.stays
           (left_false r.lacked (closes_outcome from.served r.outcome) step.stays)
           (no_refusal from.served r.outcome (right_false r.lacked (closes_outcome from.served r.outcome) step.stays)) (rw step.next at c.ends);
       gained = gained_both alone setting from.world to.world is (gains_by r) (gains_of c.rounds) step.made.gained c.gained;

@@ -4,6 +4,7 @@ use Rattle.std.proofs.lemmas.List.{append-nil}
 use Rattle.archive_shelf.proofs.CallLaws.{shown_itself}
 use Rattle.archive_shelf.specs.Laws.{BooksLeadToThemselves}
 use Rattle.capture.specs.declared.site.Site.{Site}
+use Rattle.outside.specs.Calls.{one_more}
 use Rattle.outside.specs.declared.gate.Heard.{Heard}
 use Rattle.session.specs.Connection.{Setting, Gained, terms_at, view_at}
 use Rattle.session.specs.steps.Stages.{Stage, IsRemainder}
@@ -38,7 +39,8 @@ last_whole alone setting r rest from is result itself h = record {
   accounts = λ done e. h.accounts done e ∙ ap (λ w. done ++ (w ++ rest)) (sym (append-nil r.wire));
   lawful = (h.made.lawful, h.made.leads, h.made.knows, (λ _. refl), rw h.made.left (view_itself (terms_at alone setting from.world.shelf) r.traces.after itself));
   ends = h.ends (record {
-    written = h.written ∙ ap (λ t. from.world.heard.written ++ t) (sym (append-nil (r.interim ++ r.text)));
+    written = h.said.written ∙ ap (λ t. from.world.heard.written ++ t) (sym (append-nil (r.interim ++ r.text)));
+    unfailed = h.said.unfailed;
     closed = or_true (closes from.served r) h.closed;
   });
   gained = gained_one alone setting r from.world is h.made.gained;
@@ -87,7 +89,8 @@ no_round alone setting from now end itself h = record {
     undecided = h.undecided;
     interim = h.interim;
     interim_is = h.interim_is;
-    written = h.taken.written;
+    written = h.taken.said.written;
+    unfailed = h.taken.said.unfailed;
   });
   gained = gained_none alone setting from.world now;
   images = images_none (terms_at alone setting from.world.shelf) from.world.shelf;
@@ -111,8 +114,8 @@ broke_inside alone setting from now end itself h = record {
       are = refl;
       interim = h.interim;
       asked = h.asked;
-      part = part_behind h.to.heard.written (from.world.heard.written ++ []) now.written h.interim h.taken.written h.broke.part;
-      unwritten = h.broke.unwritten;
+      part = part_behind h.to.heard.written (from.world.heard.written ++ []) now.written h.interim h.taken.said.written h.broke.part;
+      unwritten = h.broke.unwritten ∙ ap one_more h.taken.said.unfailed;
     })),
   );
   gained = gained_none alone setting from.world now;

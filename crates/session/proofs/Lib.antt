@@ -18,6 +18,7 @@ mod PassLaws
 mod PayloadLaws
 mod ReadLaws
 mod RoundLaws
+mod SayLaws
 mod ServeLaws
 mod StayLaws
 mod StoreLaws

@@ -1,7 +1,6 @@
 -- What came of a client's link makes of reading a request.
 use Rattle.std.proofs.Common.{◌≡◌, ◌≢◌, inl, inr, ℕ, ◌+◌, ◌-◌, Bool, true, false, List, [], ◌++◌, length, drop, Option, Some, None, Result, Ok, Err, refl, sym, ◌∙◌, ap, subst, arith, append_assoc, length-append}
 use Rattle.std.proofs.Math.Seq.{drop-append_seam}
-use Rattle.std.proofs.lemmas.List.{append-nil}
 use Rattle.httparse.proofs.GrammarLemmas.{request_unique}
 use Rattle.httparse.specs.Grammar.{RequestHead as GrammarHead, ReadsRequest}
 use Rattle.std.specs.Prelude.{IsSome, IfOk, OnOk, IfErr, is_ok, ◌&&◌}
@@ -34,10 +33,11 @@ use Rattle.http_wire.specs.Reading.{IsUndecided as WireUndecided, LacksHead as W
 use Rattle.outside.specs.declared.gate.Heard.{Heard}
 use Rattle.session.specs.steps.Reads.{Client, HasTaken, HasRead, AwaitsRest, ReadsNone, NoMore, Breaking, Refusing, GivingUp, Owes, ComesFaulty, IsBehind, IsWellAsked, LooksAt, ReadsBody, RefusesAim}
 use Rattle.session.specs.Requests.{IsAimed, IsAimedNowhere, IsInside, IsInterim, IsRefused, IsUndecided, LacksHead, aim_of_head, answers_head, interim_of, interim_where, refusal_of, waits_for_answer}
-use Rattle.session.specs.steps.Wire.{EndsRefusal, Tries, Writes}
+use Rattle.session.specs.steps.Wire.{EndsRefusal, Says, Tries, Writes}
 use Rattle.session.specs.declared.reading.Asked.{Asked}
 use Rattle.session.specs.declared.served.Served.{Served}
 use Rattle.session.specs.declared.served.Served.TheVariants.{Done, ClientBroke, ClientEndedEarly, WantOfMemory}
+use Rattle.session.proofs.SayLaws.{says_first, says_same}
 
 -- ---- fronts
 
@@ -90,14 +90,14 @@ begins_rest given pending now stream h = (drop (length given - length pending + 
 
 -- the client ended, and nothing has begun
 pub ended_between : (site : Site) (from : Client) (stream window : List ℕ) (now : Heard) → IsFirst Requests true stream NothingBegun → window ≡ []
-    → StaysAccounted from.heard.given from.pending now.given (stream ++ window) → now.written ≡ from.heard.written → now.ended ≡ true → now.faults ≡ 0
+    → StaysAccounted from.heard.given from.pending now.given (stream ++ window) → Says [] from.heard now → now.ended ≡ true → now.faults ≡ 0
     → ReadsNone site from now Done
-ended_between site from stream window now between none accounts written ended whole = NoMore (record {
+ended_between site from stream window now between none accounts said ended whole = NoMore (record {
   rest = stream;
   interim = [];
   undecided = inl between;
   interim_is = inr (between_lacks stream between.0, refl);
-  taken = record { accounts = rw none at accounts; written = written ∙ sym (append-nil from.heard.written) };
+  taken = record { accounts = rw none at accounts; said = said };
   meets = (ended, between, whole);
 })
 
@@ -122,28 +122,28 @@ undecided_behind site stream head begins aimed (inr (inr body)) = inr (inr (reco
 -- the link failed before a head had come
 pub broke_without : (site : Site) (from : Client) (stream window : List ℕ) (now : Heard)
     → ((skipped : ℕ) (text : List ℕ) → front_of stream ≡ head_front.Head skipped text → IsNoHead Requests text) → WireUndecided Requests false stream
-    → window ≡ [] → StaysAccounted from.heard.given from.pending now.given (stream ++ window) → now.written ≡ from.heard.written → now.faults ≢ 0
+    → window ≡ [] → StaysAccounted from.heard.given from.pending now.given (stream ++ window) → Says [] from.heard now → now.faults ≢ 0
     → ReadsNone site from now ClientBroke
-broke_without site from stream window now lacks undecided none accounts written broke = NoMore (record {
+broke_without site from stream window now lacks undecided none accounts said broke = NoMore (record {
   rest = stream;
   interim = [];
   undecided = undecided_without site stream lacks undecided;
   interim_is = inr (no_head_lacks stream lacks, refl);
-  taken = record { accounts = rw none at accounts; written = written ∙ sym (append-nil from.heard.written) };
+  taken = record { accounts = rw none at accounts; said = said };
   meets = broke;
 })
 
 -- the link failed behind a head that goes somewhere
 pub broke_behind : (site : Site) (from : Client) (stream window : List ℕ) (head : RequestHead) (now : Heard) → BeginsWithRequest stream head
     → IsAimed site head → WireUndecided Requests false stream → window ≡ []
-    → StaysAccounted from.heard.given from.pending now.given (stream ++ window) → now.written ≡ from.heard.written ++ interim_of site head → now.faults ≢ 0
+    → StaysAccounted from.heard.given from.pending now.given (stream ++ window) → Says (interim_of site head) from.heard now → now.faults ≢ 0
     → ReadsNone site from now ClientBroke
-broke_behind site from stream window head now begins aimed undecided none accounts written broke = NoMore (record {
+broke_behind site from stream window head now begins aimed undecided none accounts said broke = NoMore (record {
   rest = stream;
   interim = interim_of site head;
   undecided = undecided_behind site stream head begins aimed undecided;
   interim_is = inl (record { head = head; begins = begins; text_is = refl });
-  taken = record { accounts = rw none at accounts; written = written };
+  taken = record { accounts = rw none at accounts; said = said };
   meets = broke;
 })
 
@@ -195,9 +195,9 @@ owes_none site held e = subst (λ (o : Option RequestHead). Owes site o []) (sym
 -- the client ended inside a message
 pub ended_early : (site : Site) (from : Client) (stream window interim : List ℕ) (standing : Standing) (head : Option RequestHead) (to : Heard)
     → standing ≡ Failed EndedEarly → HoldsHead stream standing head → Owes site head interim → EndsInside Requests stream → window ≡ []
-    → StaysAccounted from.heard.given from.pending to.given (stream ++ window) → to.written ≡ from.heard.written ++ interim
+    → StaysAccounted from.heard.given from.pending to.given (stream ++ window) → Says interim from.heard to
     → to.ended ≡ true → to.faults ≡ 0 → ReadsNone site from to ClientEndedEarly
-ended_early site from stream window interim standing head to failed holds owed ends none accounts written met whole =
+ended_early site from stream window interim standing head to failed holds owed ends none accounts said met whole =
     let n : standing ≢ Failed Memory = not_memory EndedEarly standing failed (λ e. let bad : ⊥ = cc in bad) in
     let within : IsInside site stream = inside site stream standing head interim n holds owed ends in
     NoMore (record {
@@ -205,29 +205,29 @@ ended_early site from stream window interim standing head to failed holds owed e
       interim = interim;
       undecided = inr within;
       interim_is = interim_known site stream standing head interim n holds owed;
-      taken = record { accounts = rw none at accounts; written = written };
+      taken = record { accounts = rw none at accounts; said = said };
       meets = (met, within, whole);
     })
 
 -- before its head had come
 pub ended_before_head : (site : Site) (from : Client) (stream window : List ℕ) (standing : Standing) (head : Option RequestHead) (now : Heard)
     → standing ≡ Failed EndedEarly → HoldsHead stream standing head → head ≡ None → EndsInside Requests stream → window ≡ []
-    → StaysAccounted from.heard.given from.pending now.given (stream ++ window) → now.written ≡ from.heard.written
+    → StaysAccounted from.heard.given from.pending now.given (stream ++ window) → Says [] from.heard now
     → now.ended ≡ true → now.faults ≡ 0 → ReadsNone site from now ClientEndedEarly
 ended_before_head site from stream window standing head now failed holds e ends none accounts same met whole =
     ended_early site from stream window [] standing head now failed holds (owes_none site head e) ends none accounts
-    (same ∙ sym (append-nil from.heard.written)) met whole
+    same met whole
 
 -- behind a head that goes somewhere
 pub ended_behind_head : (site : Site) (from mid : Client) (stream grown window : List ℕ) (standing : Standing) (held old : Option RequestHead)
     (head : RequestHead) (aim : Aim) (now : Heard) → AwaitsRest site from stream head aim mid
     → standing ≡ Failed EndedEarly → HoldsHead grown standing held → old ≡ Some head → held ≡ old → EndsInside Requests grown → window ≡ []
-    → StaysAccounted mid.heard.given (stream ++ mid.pending) now.given (grown ++ window) → now.written ≡ mid.heard.written
+    → StaysAccounted mid.heard.given (stream ++ mid.pending) now.given (grown ++ window) → Says [] mid.heard now
     → now.ended ≡ true → now.faults ≡ 0 → ReadsNone site from now ClientEndedEarly
 ended_behind_head site from mid stream grown window standing held old head aim now h failed holds e same_head ends none accounts same met whole =
     ended_early site from grown window (interim_of site head) standing held now failed holds
     (still_owed site old held head aim e same_head h.aimed) ends none (λ done f. accounts done (h.taken.accounts done f))
-    (same ∙ h.taken.written) met whole
+    (says_same _ _ _ _ h.taken.said same) met whole
 
 -- there was no memory to read on
 pub out_of_memory : (site : Site) (from : Client) (stream interim : List ℕ) (standing : Standing) (head : Option RequestHead) (to now : Heard)
@@ -241,7 +241,7 @@ out_of_memory site from stream interim standing None to now holds owed h tries =
       begun = inl (inl (refl, refl));
       interim_is = inr owed;
       to = record { heard = to; pending = stream ++ parts.0 };
-      taken = record { accounts = parts.1; written = h.written };
+      taken = record { accounts = parts.1; said = h.said };
       tries = tries;
       ends = refl;
     })
@@ -253,7 +253,7 @@ out_of_memory site from stream interim standing (Some head) to now holds owed h 
       begun = inr (inl (record { head = head; begins = holds; aimed = owed.0 }));
       interim_is = inl (inl (record { head = head; begins = holds; text_is = owed.1 }));
       to = record { heard = to; pending = parts.0 };
-      taken = record { accounts = parts.1; written = h.written };
+      taken = record { accounts = parts.1; said = h.said };
       tries = tries;
       ends = refl;
     })
@@ -283,9 +283,9 @@ refused_by site stream interim standing (Some head) fault refusal n holds owed e
 pub turned_away : (site : Site) (from : Client) (stream interim : List ℕ) (standing : Standing) (head : Option RequestHead) (fault : MessageFault)
     (refusal : Refusal) (asks : Bool) (to now : Heard) (end : Served) → standing ≢ Failed Memory → HoldsHead stream standing head → Owes site head interim
     → refusal ≡ refusal_of fault → IsFirst Requests false stream (Refused fault)
-    → BeginsAccounted from.heard.given from.pending to.given stream → to.written ≡ from.heard.written ++ interim → asks ≡ answers_head head
+    → BeginsAccounted from.heard.given from.pending to.given stream → Says interim from.heard to → asks ≡ answers_head head
     → EndsRefusal refusal (refusal_text refusal asks true) to now end → ReadsNone site from now end
-turned_away site from stream interim standing head fault refusal asks to now end n holds owed e refused accounts written asked ends =
+turned_away site from stream interim standing head fault refusal asks to now end n holds owed e refused accounts said asked ends =
     let parts = begins_rest from.heard.given from.pending to.given stream accounts in
     Refusing (record {
       head = head;
@@ -295,7 +295,7 @@ turned_away site from stream interim standing head fault refusal asks to now end
       refused = refused_by site stream interim standing head fault refusal n holds owed e refused;
       interim_is = interim_known site stream standing head interim n holds owed;
       to = record { heard = to; pending = parts.0 };
-      taken = record { accounts = parts.1; written = written };
+      taken = record { accounts = parts.1; said = said };
       ends = subst (λ (b : Bool). EndsRefusal refusal (refusal_text refusal b true) to now end) asked ends;
     })
 
@@ -354,7 +354,7 @@ looked_ends site from stream pending head then now end begins taken (inr (inl (t
   begun = inl (inl (refl, refl));
   interim_is = inr refl;
   to = record { heard = then; pending = stream ++ pending };
-  taken = record { accounts = taken.accounts; written = taken.written };
+  taken = record { accounts = taken.accounts; said = taken.said };
   tries = tries;
   ends = e;
 })
@@ -373,23 +373,23 @@ pub faulty_taken : (from : Client) (stream : List ℕ) (to : Heard) → ComesFau
     → (pending : List ℕ) × HasTaken from stream [] (record { heard = to; pending = pending })
 faulty_taken from stream to h =
     let parts = begins_rest from.heard.given from.pending to.given stream h.accounts in
-    (parts.0, record { accounts = parts.1; written = h.written })
+    (parts.0, record { accounts = parts.1; said = h.said })
 
 -- and then what the head asks for was written
 pub faulty_written : (from : Client) (stream text : List ℕ) (then now : Heard) → ComesFaulty from stream [] then
     → Writes text then now → ComesFaulty from stream text now
 faulty_written from stream text then now h w = record {
   accounts = rw (sym w.same_given) at h.accounts;
-  written = w.written ∙ ap (λ (x : List ℕ). x ++ text) h.written ∙ ap (λ (x : List ℕ). x ++ text) (append-nil from.heard.written);
+  said = says_first text from.heard then now h.said w;
 }
 
 -- a fault in the body, behind a head that was looked at
 pub faulty_behind : (site : Site) (from mid : Client) (stream grown : List ℕ) (head : RequestHead) (aim : Aim) (now : Heard)
     → AwaitsRest site from stream head aim mid → BeginsAccounted mid.heard.given (stream ++ mid.pending) now.given grown
-    → now.written ≡ mid.heard.written → ComesFaulty from grown (interim_of site head) now
+    → Says [] mid.heard now → ComesFaulty from grown (interim_of site head) now
 faulty_behind site from mid stream grown head aim now h accounts same = record {
   accounts = λ done e. accounts done (h.taken.accounts done e);
-  written = same ∙ h.taken.written;
+  said = says_same _ _ _ _ h.taken.said same;
 }
 
 -- ---- a body
@@ -409,20 +409,20 @@ same_aim site stream head message begins is =
 -- a request was read whole
 pub read_whole : (site : Site) (from mid : Client) (stream grown : List ℕ) (head : RequestHead) (aim : Aim) (message : RequestMessage) (to : Client)
     → AwaitsRest site from stream head aim mid → BeginsWithRequest grown head → IsRequest grown message
-    → StaysAccounted mid.heard.given (stream ++ mid.pending) to.heard.given (grown ++ to.pending) → to.heard.written ≡ mid.heard.written
+    → StaysAccounted mid.heard.given (stream ++ mid.pending) to.heard.given (grown ++ to.pending) → Says [] mid.heard to.heard
     → HasRead site from message aim to
 read_whole site from mid stream grown head aim message to h begins is accounts same = record {
   wire = grown;
   interim = interim_of site head;
   asked = record { is = is; aimed = same_aim site grown head message begins is ∙ h.aimed };
   interim_is = inl (record { head = head; begins = begins; text_is = refl });
-  taken = record { accounts = λ done e. accounts done (h.taken.accounts done e); written = same ∙ h.taken.written };
+  taken = record { accounts = λ done e. accounts done (h.taken.accounts done e); said = says_same _ _ _ _ h.taken.said same };
 }
 
 -- there was no memory for it
 pub read_without_memory : (site : Site) (from mid : Client) (stream grown : List ℕ) (head : RequestHead) (aim : Aim) (to : Client) (now : Heard)
     → AwaitsRest site from stream head aim mid → BeginsWithRequest grown head
-    → StaysAccounted mid.heard.given (stream ++ mid.pending) to.heard.given (grown ++ to.pending) → to.heard.written ≡ mid.heard.written
+    → StaysAccounted mid.heard.given (stream ++ mid.pending) to.heard.given (grown ++ to.pending) → Says [] mid.heard to.heard
     → Tries memory_text to.heard now → ReadsNone site from now WantOfMemory
 read_without_memory site from mid stream grown head aim to now h begins accounts same tries = GivingUp (record {
   wire = grown;
@@ -430,7 +430,7 @@ read_without_memory site from mid stream grown head aim to now h begins accounts
   begun = inr (inl (record { head = head; begins = begins; aimed = (aim, h.aimed) }));
   interim_is = inl (inl (record { head = head; begins = begins; text_is = refl }));
   to = to;
-  taken = record { accounts = λ done e. accounts done (h.taken.accounts done e); written = same ∙ h.taken.written };
+  taken = record { accounts = λ done e. accounts done (h.taken.accounts done e); said = says_same _ _ _ _ h.taken.said same };
   tries = tries;
   ends = refl;
 })
@@ -438,11 +438,11 @@ read_without_memory site from mid stream grown head aim to now h begins accounts
 -- the link failed in it
 pub body_broke : (site : Site) (from mid : Client) (stream grown window : List ℕ) (head : RequestHead) (aim : Aim) (now : Heard)
     → AwaitsRest site from stream head aim mid → BeginsWithRequest grown head → WireUndecided Requests false grown → window ≡ []
-    → StaysAccounted mid.heard.given (stream ++ mid.pending) now.given (grown ++ window) → now.written ≡ mid.heard.written → now.faults ≢ 0
+    → StaysAccounted mid.heard.given (stream ++ mid.pending) now.given (grown ++ window) → Says [] mid.heard now → now.faults ≢ 0
     → ReadsNone site from now ClientBroke
 body_broke site from mid stream grown window head aim now h begins undecided none accounts same broke =
     broke_behind site from grown window head now begins (aim, h.aimed) undecided none
-    (λ done e. accounts done (h.taken.accounts done e)) (same ∙ h.taken.written) broke
+    (λ done e. accounts done (h.taken.accounts done e)) (says_same _ _ _ _ h.taken.said same) broke
 
 -- a head that was looked at
 pub looked : (site : Site) (from : Client) (stream pending : List ℕ) (head : RequestHead) (aim : Aim) (then now : Heard)
@@ -453,7 +453,7 @@ looked site from stream pending head aim then now begins taken aimed w = record 
   aimed = aimed;
   taken = record {
     accounts = λ done e. w.same_given ∙ taken.accounts done e;
-    written = w.written ∙ ap (λ (x : List ℕ). x ++ interim_of site head) (taken.written ∙ append-nil from.heard.written);
+    said = says_first (interim_of site head) from.heard then now taken.said w;
   };
 }
 
@@ -461,7 +461,7 @@ looked site from stream pending head aim then now begins taken aimed w = record 
 pub taken_whole : (site : Site) (from mid : Client) (stream grown : List ℕ) (head : RequestHead) (aim : Aim) (to : Client) (now : Heard)
     (pending : List ℕ) (result : Result RequestMessage Served)
     → AwaitsRest site from stream head aim mid → BeginsWithRequest grown head
-    → StaysAccounted mid.heard.given (stream ++ mid.pending) to.heard.given (grown ++ to.pending) → to.heard.written ≡ mid.heard.written
+    → StaysAccounted mid.heard.given (stream ++ mid.pending) to.heard.given (grown ++ to.pending) → Says [] mid.heard to.heard
     → to.pending ≡ pending → IfOk result (IsRequest grown) → OnOk result (now ≡ to.heard)
     → IfErr result (λ end. (end ≡ WantOfMemory) × Tries memory_text to.heard now)
     → ReadsBody site from aim (record { heard = now; pending = pending }) result
@@ -499,13 +499,13 @@ none_new old new e f = f ∙ e
 
 -- what was read from the start on
 pub read_first : (from : Client) (stream : List ℕ) (to : Client) → StaysAccounted from.heard.given from.pending to.heard.given (stream ++ to.pending)
-    → to.heard.written ≡ from.heard.written → HasTaken from stream [] to
-read_first from stream to accounts same = record { accounts = accounts; written = same ∙ sym (append-nil from.heard.written) }
+    → Says [] from.heard to.heard → HasTaken from stream [] to
+read_first from stream to accounts same = record { accounts = accounts; said = same }
 
 pub faulty_first : (from : Client) (stream : List ℕ) (now : Heard) → BeginsAccounted from.heard.given from.pending now.given stream
-    → now.written ≡ from.heard.written → ComesFaulty from stream [] now
+    → Says [] from.heard now → ComesFaulty from stream [] now
 faulty_first from stream now accounts same =
-    record { accounts = accounts; written = same ∙ sym (append-nil from.heard.written) }
+    record { accounts = accounts; said = same }
 
 pub open_is_whole : (standing : Standing) → standing ≡ Open → standing ≢ Failed Memory
 open_is_whole standing e f = cc

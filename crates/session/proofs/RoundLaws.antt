@@ -1,6 +1,5 @@
 -- Rounds that ask nothing of clock, origin and archive.
 use Rattle.std.proofs.Common.{◌≡◌, ◌⊎◌, inl, inr, ℕ, true, false, List, [], ◌∷◌, ◌++◌, Option, refl, sym, ◌∙◌, ap, subst, arith, Bool}
-use Rattle.std.proofs.lemmas.List.{append-nil}
 use Rattle.archive_shelf.proofs.CallLaws.{shown_itself}
 use Rattle.archive_shelf.specs.Laws.{BooksLeadToThemselves}
 use Rattle.archive_shelf.specs.Told.{Told}
@@ -13,6 +12,7 @@ use Rattle.session.specs.Images.{Deed, NoDeed, deed_of, KeepsImages, OpensBehind
 use Rattle.capture.specs.declared.refusal.Refusal.{Refusal}
 use Rattle.http_head.specs.declared.head.RequestHead.{RequestHead}
 use Rattle.exchange.specs.Refusals.{refusal_text, memory_text}
+use Rattle.outside.specs.Calls.{one_more}
 use Rattle.outside.specs.declared.gate.Heard.{Heard}
 use Rattle.session.specs.steps.Reads.{Client, HasTaken}
 use Rattle.session.specs.steps.Wire.{EndsRefusal, Tries}
@@ -23,7 +23,8 @@ use Rattle.session.specs.declared.served.Served.{Served}
 use Rattle.session.specs.declared.served.Served.TheVariants.{Done, ClientBroke, ClientEndedEarly, ClientRefused, WantOfMemory}
 use Rattle.session.proofs.CourseLaws.{part_behind}
 use Rattle.session.proofs.EndingLaws.{last_whole, last_part, view_itself}
-use Rattle.session.proofs.GainLaws.{behind_text, gained_none, none_met}
+use Rattle.session.proofs.GainLaws.{gained_none, none_met}
+use Rattle.session.proofs.SayLaws.{says_itself, says_then}
 
 -- nothing was asked, and this is seen of the archive
 abbrev pub idle_traces : View → Traces
@@ -108,14 +109,14 @@ gave_up alone setting wire interim from to now itself begun known taken tries = 
     made = made;
     closed = refl;
     accounts = λ done e. w.same_given ∙ taken.accounts done e;
-    written = w.written ∙ behind_text from.world.heard.written to.heard.written interim memory_text taken.written;
+    said = says_then interim memory_text from.world.heard to.heard _ taken.said w;
     ends = λ all. (refl, inl all);
   })
   by_trying (inr broken) = last_part alone setting r to.pending from (heard_now from.world now) WantOfMemory itself (record {
     made = made;
     accounts = λ done e. broken.same_given ∙ taken.accounts done e;
-    part = part_behind to.heard.written (from.world.heard.written ++ interim) now.written memory_text taken.written broken.part;
-    unwritten = broken.unwritten;
+    part = part_behind to.heard.written (from.world.heard.written ++ interim) now.written memory_text taken.said.written broken.part;
+    unwritten = broken.unwritten ∙ ap one_more taken.said.unfailed;
     ends = λ cut. (refl, inr cut);
   })
 
@@ -124,7 +125,7 @@ pub gave_up_at_once : (alone : Bool) (setting : Setting) (from : Stage) (now : H
     → Tries memory_text from.world.heard now → IsRemainder alone setting from (heard_now from.world now) WantOfMemory
 gave_up_at_once alone setting from now itself tries =
     gave_up alone setting [] [] from (client_at from) now itself (inl (inl (refl, refl))) (inr refl)
-    (record { accounts = λ done e. e; written = sym (append-nil from.world.heard.written) }) tries
+    (record { accounts = λ done e. e; said = says_itself from.world.heard }) tries
 
 -- ---- bytes that were refused
 
@@ -169,14 +170,14 @@ refused_bytes alone setting head refusal wire interim from to now result itself 
     made = made;
     closed = refl;
     accounts = λ done given. w.same_given ∙ taken.accounts done given;
-    written = w.written ∙ behind_text from.world.heard.written to.heard.written interim (refusal_text refusal (answers_head head) true) taken.written;
+    said = says_then interim (refusal_text refusal (answers_head head) true) from.world.heard to.heard _ taken.said w;
     ends = λ all. (w.whole, refl, ap (λ (x : Refusal). x ∷ []) (sym e), all);
   })
   by_result ClientBroke broken = last_part alone setting r to.pending from (heard_now from.world now) ClientBroke itself (record {
     made = made;
     accounts = λ done given. broken.same_given ∙ taken.accounts done given;
-    part = part_behind to.heard.written (from.world.heard.written ++ interim) now.written (refusal_text refusal (answers_head head) true) taken.written broken.part;
-    unwritten = broken.unwritten;
+    part = part_behind to.heard.written (from.world.heard.written ++ interim) now.written (refusal_text refusal (answers_head head) true) taken.said.written broken.part;
+    unwritten = broken.unwritten ∙ ap one_more taken.said.unfailed;
     ends = λ cut. (broken.broke, refl, inl cut);
   })
   by_result Done h = absurd h

@@ -1,5 +1,5 @@
 -- What the steps of serving make of a connection.
-use Rattle.std.proofs.Common.{◌≡◌, ◌≢◌, inl, inr, ℕ, ◌+◌, ◌<◌, Bool, true, false, ◌||◌, ◌==◌, IsTrue, List, [], ◌++◌, refl, sym, ◌∙◌, arith}
+use Rattle.std.proofs.Common.{◌≡◌, ◌≢◌, inl, inr, ℕ, ◌+◌, ◌<◌, Bool, true, false, ◌||◌, ◌==◌, IsTrue, List, [], ◌++◌, refl, sym, ◌∙◌, ap, arith}
 use Rattle.std.proofs.lemmas.Bool.{eqb-false}
 use Rattle.std.proofs.lemmas.List.{append-nil}
 use Rattle.archive_shelf.specs.Laws.{BooksLeadToThemselves}
@@ -7,6 +7,7 @@ use Rattle.capture.specs.declared.site.Site.{Site}
 use Rattle.exchange.specs.Refusals.{memory_text}
 use Rattle.exchange.specs.declared.aim.Aim.{Aim}
 use Rattle.http_head.specs.declared.head.RequestMessage.{RequestMessage}
+use Rattle.outside.specs.Calls.{one_more}
 use Rattle.outside.specs.declared.gate.Heard.{Heard}
 use Rattle.session.specs.steps.Answering.{Incoming, MakesRound, IsAnswered}
 use Rattle.session.specs.Connection.{Setting}
@@ -21,8 +22,8 @@ use Rattle.session.specs.declared.served.Served.{Served}
 use Rattle.session.specs.declared.served.Served.TheVariants.{Done, ClientBroke, WantOfMemory}
 use Rattle.session.proofs.CourseLaws.{part_behind, then_on}
 use Rattle.session.proofs.EndingLaws.{last_whole, last_part, no_round, broke_inside}
-use Rattle.session.proofs.GainLaws.{behind_text}
 use Rattle.session.proofs.RoundLaws.{gave_up, refused_bytes}
+use Rattle.session.proofs.SayLaws.{says_then}
 
 -- a connection that reads no request
 pub reading_ends : (alone : Bool) (setting : Setting) (from : Stage) (now : Heard) (end : Served) → BooksLeadToThemselves
@@ -62,15 +63,15 @@ answer_lacked alone setting from incoming to is itself same taken makes (inl w) 
       made = rw same at makes.made;
       closed = refl;
       accounts = λ done e. w.same_given ∙ taken.accounts done e;
-      written = w.written ∙ behind_text from.world.heard.written to.heard.written incoming.interim memory_text taken.written;
+      said = says_then incoming.interim memory_text from.world.heard to.heard _ taken.said w;
       ends = λ all. (refl, inl all);
     })
 answer_lacked alone setting from incoming to is itself same taken makes (inr broken) =
     last_part alone setting (round_of makes) to.pending from is WantOfMemory itself (record {
       made = rw same at makes.made;
       accounts = λ done e. broken.same_given ∙ taken.accounts done e;
-      part = part_behind to.heard.written (from.world.heard.written ++ incoming.interim) is.heard.written memory_text taken.written broken.part;
-      unwritten = broken.unwritten;
+      part = part_behind to.heard.written (from.world.heard.written ++ incoming.interim) is.heard.written memory_text taken.said.written broken.part;
+      unwritten = broken.unwritten ∙ ap one_more taken.said.unfailed;
       ends = λ cut. (refl, inr cut);
     })
 
@@ -83,8 +84,8 @@ answer_broke alone setting from incoming answer to is itself same taken answered
     last_part alone setting (round_of answered.makes) to.pending from is ClientBroke itself (record {
       made = rw same at answered.makes.made;
       accounts = λ done e. broken.same_given ∙ taken.accounts done e;
-      part = part_behind to.heard.written (from.world.heard.written ++ incoming.interim) is.heard.written answer.text taken.written broken.part;
-      unwritten = broken.unwritten;
+      part = part_behind to.heard.written (from.world.heard.written ++ incoming.interim) is.heard.written answer.text taken.said.written broken.part;
+      unwritten = broken.unwritten ∙ ap one_more taken.said.unfailed;
       ends = λ cut. (broken.broke, refl, inl cut);
     })
 
@@ -99,7 +100,7 @@ answer_closed alone setting from incoming answer to is itself same taken answere
       made = rw same at answered.makes.made;
       closed = ends_it;
       accounts = λ done e. w.same_given ∙ taken.accounts done e;
-      written = w.written ∙ behind_text from.world.heard.written to.heard.written incoming.interim answer.text taken.written;
+      said = says_then incoming.interim answer.text from.world.heard to.heard _ taken.said w;
       ends = λ all. (w.whole, refl, none_refused answered.makes.outcome answered.makes.unrefused, inl all);
     })
 
@@ -115,7 +116,7 @@ answer_said alone setting from incoming answer to mid is result same taken answe
       stays = rw (sym same) (answered.closes_is ∙ goes);
       next = refl;
       accounts = λ done e. w.same_given ∙ taken.accounts done e;
-      written = w.written ∙ behind_text from.world.heard.written to.heard.written incoming.interim answer.text taken.written;
+      said = says_then incoming.interim answer.text from.world.heard to.heard _ taken.said w;
     }) next
 
 -- an answer that doesn't close isn't the last

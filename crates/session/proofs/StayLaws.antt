@@ -1,6 +1,6 @@
 -- What a reader of a course may stop at.
-use Rattle.std.proofs.Common.{◌≡◌, ◌⊎◌, inl, inr, ℕ, zero, suc, ◌+◌, ◌<◌, List, [], ◌∷◌, ◌++◌, length, get_or, refl, sym, ◌∙◌, ap, subst, arith, lit<}
-use Rattle.std.specs.Prelude.{◌≢◌, Contains}
+use Rattle.std.proofs.Common.{◌≡◌, inl, inr, ℕ, zero, suc, ◌+◌, ◌<◌, List, [], ◌∷◌, length, get_or, refl, sym, ◌∙◌, ap, subst, arith, lit<}
+use Rattle.std.specs.Prelude.{Contains}
 use Rattle.std.proofs.lemmas.List.Elements.{Contains-append_left, Contains-append_right, Contains-append_cases}
 use Rattle.archive_shelf.proofs.StoringLaws.{captures_stay}
 use Rattle.capture.specs.Captures.{captures, IsPayloadOf}
@@ -13,7 +13,7 @@ use Rattle.capture.specs.declared.site.Site.{Site}
 use Rattle.exchange.specs.declared.aim.Aim.TheVariants.{Origin}
 use Rattle.http_head.specs.declared.head.Received.{Received}
 use Rattle.outside.specs.declared.dialer.Transcript.{Transcript}
-use Rattle.session.specs.Exchanges.{Exchange, Fails, Passes, LacksReply, Fetched, IsFailure, IsPassedOn, IsRefusedByDisk, OneLink, RanOut}
+use Rattle.session.specs.Exchanges.{Exchange, Fails, Passes, LacksReply, Fetched, IsFailure, IsPassedOn, IsRefusedByDisk, RanOut}
 use Rattle.session.specs.Gains.{gains_of}
 use Rattle.session.specs.Laws.{IsDialedFor, OriginsAloneAreDialed, OtherRoundsStoreNothing, PassedOnResponsesStay}
 use Rattle.session.specs.Requests.{IsAsked}

@@ -22,7 +22,7 @@ breaks text was is before now e part rose = record {
   same_given = ap (λ (traffic : Traffic). traffic.given) e;
   part = part;
   broke = rose_above before now rose;
-  unwritten = λ none. let bad : ⊥ = omega (arith, ap (λ (traffic : Traffic). traffic.failed_writes) e, none) in bad;
+  unwritten = ap (λ (traffic : Traffic). traffic.failed_writes) e;
 }
 
 -- what is read of a client that tells the same is read of it
@@ -40,6 +40,7 @@ writes_both head body then mid now first second = record {
   same_given = second.same_given ∙ first.same_given;
   same_end = second.same_end ∙ first.same_end;
   written = second.written ∙ ap (λ w. w ++ body) first.written ∙ append_assoc then.written head body;
+  unfailed = second.unfailed ∙ first.unfailed;
   whole = second.whole;
 }
 
@@ -56,7 +57,7 @@ breaks_behind head body then mid now first second = record {
     grown = second.part.grown ∙ ap (λ w. w ++ second.part.front) first.written ∙ append_assoc then.written head second.part.front;
   };
   broke = second.broke;
-  unwritten = second.unwritten;
+  unwritten = second.unwritten ∙ ap one_more first.unfailed;
 }
 
 -- the first of them was written in part

@@ -2,6 +2,7 @@
 use Rattle.std.specs.Prelude.{◌≡◌, ◌≢◌, ◌⊎◌, ℕ, Bool, true, false, List, [], ◌∷◌, ◌++◌}
 use Rattle.capture.specs.declared.site.Site.{Site}
 use Rattle.exchange.specs.Writing.{GrowsByProperFront}
+use Rattle.outside.specs.Calls.{one_more}
 use Rattle.outside.specs.declared.gate.Heard.{Heard}
 use Rattle.session.specs.Requests.{HasInterim, IsBetween, IsInside, IsInterim, IsUndecided}
 use Rattle.session.specs.Rounds.{Round, course_text, is_closed, lacks, refusals}
@@ -18,15 +19,15 @@ pub record Course : Type 0 where
 abbrev pub closes_course : Course → Bool
 closes_course c = is_closed c.served c.rounds
 
--- A write of the last answer failed.
+-- A write of the last answer failed, and no other.
 pub record IsCutShort (c : Course) (then now : Heard) : Type 0 where
   pub init : List Round
   pub last : Round
   pub are : c.rounds ≡ init ++ last ∷ []
   pub part : GrowsByProperFront (then.written ++ (course_text init ++ last.interim)) now.written last.text
-  pub unwritten : now.failed_writes ≢ 0
+  pub unwritten : now.failed_writes ≡ one_more then.failed_writes
 
--- A write failed of the text that a head asks for before its body is read.
+-- A write failed of the text that a head asks for before its body is read, and no other.
 pub record IsCutInside (site : Site) (c : Course) (then now : Heard) : Type 0 where
   pub not_closed : closes_course c ≡ false
   pub begun : List ℕ
@@ -35,11 +36,12 @@ pub record IsCutInside (site : Site) (c : Course) (then now : Heard) : Type 0 wh
   pub interim : List ℕ
   pub asked : HasInterim site begun interim
   pub part : GrowsByProperFront (then.written ++ course_text c.rounds) now.written interim
-  pub unwritten : now.failed_writes ≢ 0
+  pub unwritten : now.failed_writes ≡ one_more then.failed_writes
 
 -- All was answered, and the last answer closes.
 pub record IsClosed (c : Course) (then now : Heard) : Type 0 where
   pub written : now.written ≡ then.written ++ course_text c.rounds
+  pub unfailed : now.failed_writes ≡ then.failed_writes
   pub closed : closes_course c ≡ true
 
 -- All was answered, and no answer closes; what is left over is no request and isn't refused.
@@ -49,10 +51,11 @@ pub record IsLeftOver (site : Site) (c : Course) (then now : Heard) : Type 0 whe
   pub interim : List ℕ
   pub interim_is : IsInterim site c.rest interim
   pub written : now.written ≡ then.written ++ (course_text c.rounds ++ interim)
+  pub unfailed : now.failed_writes ≡ then.failed_writes
 
 -- How a connection ended says where it stopped. Its link is whole: an answer closed it, which refused the bytes that came or didn't; or
--- the client's end was met, between messages or inside one. Its link failed: in an answer, in the text that asks for a body, or where
--- more was awaited. There was no memory: with the answer that says so, whole or in part.
+-- the client's end was met, between messages or inside one. Its link failed: in a write of an answer or of the text that
+-- asks for a body, or in a read. There was no memory: with the answer that says so, whole or in part.
 abbrev pub Ends : Served → Site → Course → Heard → Heard → Type 0
 Ends Done site c then now =
     (now.faults ≡ 0) × (lacks c.rounds ≡ false) × (refusals c.rounds ≡ [])

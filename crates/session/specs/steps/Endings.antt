@@ -1,12 +1,14 @@
 -- How the last step of a connection makes it one.
-use Rattle.std.specs.Prelude.{◌≡◌, ◌≢◌, ℕ, true, List, [], ◌∷◌, ◌++◌, Bool}
+use Rattle.std.specs.Prelude.{◌≡◌, ℕ, true, List, [], ◌∷◌, ◌++◌, Bool}
 use Rattle.exchange.specs.Receiving.{StaysAccounted}
 use Rattle.exchange.specs.Writing.{GrowsByProperFront}
 use Rattle.session.specs.Connection.{Setting}
 use Rattle.session.specs.steps.Stages.{Stage, IsMade}
 use Rattle.session.specs.Gains.{World}
+use Rattle.outside.specs.Calls.{one_more}
 use Rattle.outside.specs.declared.gate.Heard.{Heard}
 use Rattle.session.specs.steps.Reads.{Client}
+use Rattle.session.specs.steps.Wire.{Says}
 use Rattle.session.specs.Rounds.{Round, closes}
 use Rattle.session.specs.Stopping.{Ends, IsClosed, IsCutShort}
 use Rattle.session.specs.declared.served.Served.{Served}
@@ -25,7 +27,7 @@ module _ (alone : Bool) (setting : Setting) where
     pub made : IsMade alone setting from.served r from.world is
     pub closed : closes from.served r ≡ true
     pub accounts : StaysAccounted from.world.heard.given from.pending is.heard.given (r.wire ++ rest)
-    pub written : is.heard.written ≡ from.world.heard.written ++ (r.interim ++ r.text)
+    pub said : Says (r.interim ++ r.text) from.world.heard is.heard
     pub ends : IsClosed (record { served = from.served; rounds = r ∷ []; rest = rest }) from.world.heard is.heard
         → Ends result setting.site (record { served = from.served; rounds = r ∷ []; rest = rest }) from.world.heard is.heard
 
@@ -34,6 +36,6 @@ module _ (alone : Bool) (setting : Setting) where
     pub made : IsMade alone setting from.served r from.world is
     pub accounts : StaysAccounted from.world.heard.given from.pending is.heard.given (r.wire ++ rest)
     pub part : GrowsByProperFront (from.world.heard.written ++ r.interim) is.heard.written r.text
-    pub unwritten : is.heard.failed_writes ≢ 0
+    pub unwritten : is.heard.failed_writes ≡ one_more from.world.heard.failed_writes
     pub ends : IsCutShort (record { served = from.served; rounds = r ∷ []; rest = rest }) from.world.heard is.heard
         → Ends result setting.site (record { served = from.served; rounds = r ∷ []; rest = rest }) from.world.heard is.heard

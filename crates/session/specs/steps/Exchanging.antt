@@ -1,5 +1,5 @@
 -- What the steps of an exchange with an origin leave: the clock's answer, what the dialer's link gave, and the capture that is stored.
-use Rattle.std.specs.Prelude.{◌≡◌, ℕ, Bool, true, false, ◌||◌, List, [], ◌∷◌, ◌++◌, IsErr, IfOk, Option, Some, None, Result, Ok, Err}
+use Rattle.std.specs.Prelude.{◌≡◌, ℕ, Bool, true, false, ◌||◌, List, [], ◌∷◌, ◌++◌, Option, Some, None, Result, Ok, Err}
 use Rattle.archive_shelf.specs.Contents.{Leads}
 use Rattle.archive_shelf.specs.declared.fault.StoreFault.{StoreFault}
 use Rattle.archive_shelf.specs.Told.{ShowsItsBook, StoresOn, Told}

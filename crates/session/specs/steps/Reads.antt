@@ -16,7 +16,7 @@ use Rattle.http_wire.specs.Heads.{BeginsWithRequest}
 use Rattle.http_wire.specs.Messages.{IsRequest}
 use Rattle.outside.specs.declared.gate.Heard.{Heard}
 use Rattle.session.specs.Requests.{HasInterim, IsAimed, IsAimedNowhere, IsAsked, IsBegun, IsBetween, IsInside, IsInterim, IsRefused, IsUndecided, aim_of_head, answers_head, interim_of}
-use Rattle.session.specs.steps.Wire.{Breaks, EndsRefusal, Tries, Writes}
+use Rattle.session.specs.steps.Wire.{Breaks, EndsRefusal, Says, Tries, Writes}
 use Rattle.session.specs.declared.reading.Asked.{Asked}
 use Rattle.session.specs.declared.served.Served.{Served}
 use Rattle.session.specs.declared.served.Served.TheVariants.{Done, ClientBroke, ClientEndedEarly, ClientRefused, WantOfMemory}
@@ -29,7 +29,7 @@ pub record Client : Type 0 where
 -- these bytes were taken, and this text was written
 pub record HasTaken (from : Client) (wire interim : List ℕ) (to : Client) : Type 0 where
   pub accounts : StaysAccounted from.heard.given from.pending to.heard.given (wire ++ to.pending)
-  pub written : to.heard.written ≡ from.heard.written ++ interim
+  pub said : Says interim from.heard to.heard
 
 -- One request was read, which goes there. Where it asks to be told that its body is awaited, it was.
 pub record HasRead (site : Site) (from : Client) (message : RequestMessage) (aim : Aim) (to : Client) : Type 0 where
@@ -114,7 +114,7 @@ Owes site (Some head) interim = IsAimed site head × (interim ≡ interim_of sit
 -- what came of a client is no message, and this was written before
 pub record ComesFaulty (from : Client) (stream interim : List ℕ) (to : Heard) : Type 0 where
   pub accounts : BeginsAccounted from.heard.given from.pending to.given stream
-  pub written : to.written ≡ from.heard.written ++ interim
+  pub said : Says interim from.heard to
 
 -- ---- a head that is looked at
 

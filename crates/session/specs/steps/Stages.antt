@@ -7,6 +7,7 @@ use Rattle.session.specs.Images.{KeepsImages}
 use Rattle.session.specs.Rounds.{Round, IsRound, IsCourse, KnowsBefore, closes, course_wire}
 use Rattle.session.specs.Stopping.{Ends}
 use Rattle.session.specs.Traces.{LeadsView}
+use Rattle.session.specs.steps.Wire.{Says}
 use Rattle.session.specs.declared.served.Served.{Served}
 
 -- a point of a connection: how many requests were served, what the client gave and nobody has used, and what the objects tell
@@ -41,4 +42,4 @@ module _ (alone : Bool) (setting : Setting) where
     pub stays : closes from.served r ≡ false
     pub next : to.served ≡ from.served + 1
     pub accounts : StaysAccounted from.world.heard.given from.pending to.world.heard.given (r.wire ++ to.pending)
-    pub written : to.world.heard.written ≡ from.world.heard.written ++ (r.interim ++ r.text)
+    pub said : Says (r.interim ++ r.text) from.world.heard to.world.heard

@@ -3,15 +3,22 @@ use Rattle.std.specs.Prelude.{◌≡◌, ◌≢◌, ◌⊎◌, List, ◌++◌, �
 use Rattle.capture.specs.declared.refusal.Refusal.{Refusal}
 use Rattle.exchange.specs.Refusals.{memory_text}
 use Rattle.exchange.specs.Writing.{GrowsByProperFront}
+use Rattle.outside.specs.Calls.{one_more}
 use Rattle.outside.specs.declared.gate.Heard.{Heard}
 use Rattle.session.specs.declared.served.Served.TheVariants.{Done, ClientBroke, ClientEndedEarly, ClientRefused, WantOfMemory}
 use Rattle.session.specs.declared.served.Served.{Served}
+
+-- A text was written, and no write failed.
+pub record Says (text : List ℕ) (then now : Heard) : Type 0 where
+  pub written : now.written ≡ then.written ++ text
+  pub unfailed : now.failed_writes ≡ then.failed_writes
 
 -- A text was written whole, and the link is whole.
 pub record Writes (text : List ℕ) (then now : Heard) : Type 0 where
   pub same_given : now.given ≡ then.given
   pub same_end : now.ended ≡ then.ended
   pub written : now.written ≡ then.written ++ text
+  pub unfailed : now.failed_writes ≡ then.failed_writes
   pub whole : now.faults ≡ 0
 
 -- A text was written in part, since a write of it failed.
@@ -19,7 +26,7 @@ pub record Breaks (text : List ℕ) (then now : Heard) : Type 0 where
   pub same_given : now.given ≡ then.given
   pub part : GrowsByProperFront then.written now.written text
   pub broke : now.faults ≢ 0
-  pub unwritten : now.failed_writes ≢ 0
+  pub unwritten : now.failed_writes ≡ one_more then.failed_writes
 
 -- one of the two
 abbrev pub Tries : List ℕ → Heard → Heard → Type 0

@@ -12,7 +12,7 @@ returns-in-Malformed-clause-ends g c t site from interim owed h =
     c.is_for_head-answers_head.result (heard_of (g.L.Link.traffic c.args.client.now) (g.L.Link.faults c.args.client.now))
     (heard_of (g.L.Link.traffic c.refuse.new.client) (g.L.Link.faults c.refuse.new.client)) c.refuse.result
     (not_memory c.args.fault c.args.reader.now.standing c.requires.failed (λ e. let bad : ⊥ = cc (c.in-Malformed.is, e) in bad))
-    c.is_for_head-answers_head.ensures.holds owed refl (rw c.in-Malformed.is at c.requires.faulty) h.accounts h.written
+    c.is_for_head-answers_head.ensures.holds owed refl (rw c.in-Malformed.is at c.requires.faulty) h.accounts h.said
     c.is_for_head-answers_head.ensures.value (c.refuse.ensures.ends t)
 
 pub returns-in-HeadTooLong-clause-ends : goal.returns-in-HeadTooLong-clause-ends
@@ -21,7 +21,7 @@ returns-in-HeadTooLong-clause-ends g c t site from interim owed h =
     c.is_for_head-answers_head.result (heard_of (g.L.Link.traffic c.args.client.now) (g.L.Link.faults c.args.client.now))
     (heard_of (g.L.Link.traffic c.refuse-in-HeadTooLong.new.client) (g.L.Link.faults c.refuse-in-HeadTooLong.new.client)) c.refuse-in-HeadTooLong.result
     (not_memory c.args.fault c.args.reader.now.standing c.requires.failed (λ e. let bad : ⊥ = cc (c.in-HeadTooLong.is, e) in bad))
-    c.is_for_head-answers_head.ensures.holds owed refl (rw c.in-HeadTooLong.is at c.requires.faulty) h.accounts h.written
+    c.is_for_head-answers_head.ensures.holds owed refl (rw c.in-HeadTooLong.is at c.requires.faulty) h.accounts h.said
     c.is_for_head-answers_head.ensures.value (c.refuse-in-HeadTooLong.ensures.ends t)
 
 pub returns-in-BodyTooLong-clause-ends : goal.returns-in-BodyTooLong-clause-ends
@@ -30,7 +30,7 @@ returns-in-BodyTooLong-clause-ends g c t site from interim owed h =
     c.is_for_head-answers_head.result (heard_of (g.L.Link.traffic c.args.client.now) (g.L.Link.faults c.args.client.now))
     (heard_of (g.L.Link.traffic c.refuse-in-BodyTooLong.new.client) (g.L.Link.faults c.refuse-in-BodyTooLong.new.client)) c.refuse-in-BodyTooLong.result
     (not_memory c.args.fault c.args.reader.now.standing c.requires.failed (λ e. let bad : ⊥ = cc (c.in-BodyTooLong.is, e) in bad))
-    c.is_for_head-answers_head.ensures.holds owed refl (rw c.in-BodyTooLong.is at c.requires.faulty) h.accounts h.written
+    c.is_for_head-answers_head.ensures.holds owed refl (rw c.in-BodyTooLong.is at c.requires.faulty) h.accounts h.said
     c.is_for_head-answers_head.ensures.value (c.refuse-in-BodyTooLong.ensures.ends t)
 
 pub returns-in-CodingRefused-clause-ends : goal.returns-in-CodingRefused-clause-ends
@@ -39,7 +39,7 @@ returns-in-CodingRefused-clause-ends g c t site from interim owed h =
     c.is_for_head-answers_head.result (heard_of (g.L.Link.traffic c.args.client.now) (g.L.Link.faults c.args.client.now))
     (heard_of (g.L.Link.traffic c.refuse-in-CodingRefused.new.client) (g.L.Link.faults c.refuse-in-CodingRefused.new.client)) c.refuse-in-CodingRefused.result
     (not_memory c.args.fault c.args.reader.now.standing c.requires.failed (λ e. let bad : ⊥ = cc (c.in-CodingRefused.is, e) in bad))
-    c.is_for_head-answers_head.ensures.holds owed refl (rw c.in-CodingRefused.is at c.requires.faulty) h.accounts h.written
+    c.is_for_head-answers_head.ensures.holds owed refl (rw c.in-CodingRefused.is at c.requires.faulty) h.accounts h.said
     c.is_for_head-answers_head.ensures.value (c.refuse-in-CodingRefused.ensures.ends t)
 
 pub returns-in-Memory-clause-ends : goal.returns-in-Memory-clause-ends
