@@ -1,5 +1,6 @@
 -- Requests that are answered.
-use Rattle.std.proofs.Common.{◌≡◌, ◌⊎◌, inl, inr, ℕ, ◌-◌, ◌^◌, ◌<◌, Bool, true, false, IsTrue, IsFalse, List, [], ◌∷◌, Contains, Option, Some, None, refl, sym, ◌∙◌, subst, arith, lit<}
+use Rattle.capture.specs.Captures.{captures}
+use Rattle.std.proofs.Common.{◌≡◌, ◌⊎◌, inl, inr, ℕ, ◌-◌, ◌^◌, ◌<◌, Bool, true, false, IsTrue, IsFalse, List, [], ◌∷◌, Contains, Option, Some, None, refl, sym, ◌∙◌, subst, arith, lit<, length}
 use Rattle.std.specs.Prelude.{MatchBool}
 use Rattle.capture.specs.Faults.{RoseBy}
 use Rattle.capture.specs.Final.{Arrival, Arrived, IsArrival}
@@ -15,8 +16,8 @@ use Rattle.http_head.specs.declared.head.Received.{Received}
 use Rattle.outside.specs.declared.dialer.Transcript.{Transcript}
 use Rattle.http_wire.specs.Decisions.{ArrivalsAreOne}
 use Rattle.session.specs.Complete.{IsFaultless, GaveResponse, CanBePassedOn, GetsResponse, ResponsesArePassedOn}
-use Rattle.session.specs.Exchanges.{Exchange, Reply, Fails, Passes, LacksReply, IsFailure, IsReply, answers_head, reply_text}
-use Rattle.session.specs.Rounds.{Round, Outcome, Exchanged, IsRound, IsDecided, IsTextOf, closes_exchange, is_origin_fault, is_disk_fault, origin_fault, disk_fault}
+use Rattle.session.specs.Exchanges.{Exchange, Reply, Fails, Passes, IsFailure, IsReply, answers_head, reply_text}
+use Rattle.session.specs.Rounds.{Round, Outcome, Exchanged, IsRound, IsDecided, IsTextOf, closes_exchange, is_origin_fault, is_disk_fault, origin_fault, disk_fault, numbers_by}
 use Rattle.session.specs.Traces.{Terms, Traces, CountsMet}
 
 -- ---- faults
@@ -139,7 +140,8 @@ no_failure terms e cut CodingRefused traces once tells whole origin disk can h =
 
 -- what a lawful round of an exchange says
 pub record OfExchange (terms : Terms) (served : ℕ) (r : Round) (e : Exchange) (reply : Reply) : Type 0 where
-  pub replied : IsReply terms e r.lacked reply r.traces
+  pub replied : IsReply terms e reply r.traces
+  pub kept : IsTrue r.lacked → numbers_by (Exchanged e reply) r.traces.before ≡ []
   pub origin : CountsMet (origin_fault (Exchanged e reply)) r.traces.before.dialer_faults r.traces.after.dialer_faults
   pub disk : CountsMet (disk_fault (Exchanged e reply)) r.traces.before.disk_faults r.traces.after.disk_faults
   pub text_is : IsTrue r.lacked ⊎ (r.text ≡ reply_text e reply (closes_exchange served e reply))
@@ -152,6 +154,7 @@ of_exchange : (terms : Terms) (served : ℕ) (r : Round) (e : Exchange) (reply :
     → OfExchange terms served r e reply
 of_exchange terms served r e reply lawful is = record {
   replied = (subst (λ (o : Outcome). IsDecided terms r o) is lawful.decided).1;
+  kept = subst (λ (o : Outcome). IsTrue r.lacked → numbers_by o r.traces.before ≡ []) is lawful.kept;
   origin = subst (λ (o : Outcome). CountsMet (origin_fault o) r.traces.before.dialer_faults r.traces.after.dialer_faults) is lawful.dialer;
   disk = subst (λ (o : Outcome). CountsMet (disk_fault o) r.traces.before.disk_faults r.traces.after.disk_faults) is lawful.disk;
   text_is = by_lacked r.lacked _ _ (subst (λ (o : Outcome). MatchBool r.lacked (r.text ≡ memory_text) (IsTextOf terms served o r.text)) is lawful.text_is);
@@ -159,20 +162,19 @@ of_exchange terms served r e reply lawful is = record {
 
 gets : (terms : Terms) (served : ℕ) (r : Round) (e : Exchange) (reply : Reply) (cut : Bool) → ArrivalsAreOne → IsTrue terms.tells → IsFaultless r.traces
     → CanBePassedOn terms e cut r.traces → r.outcome ≡ Exchanged e reply → OfExchange terms served r e reply
-    → IsTrue r.lacked ⊎ GetsResponse terms served r e cut
+    → GetsResponse terms served r e cut
 gets terms served r e (Fails refusal) cut once tells whole can is h = no_failure terms e cut refusal r.traces once tells whole h.origin h.disk can h.replied
-gets terms served r e LacksReply cut once tells whole can is h = inl h.replied.0
 gets terms served r e (Passes received payload) cut once tells whole can is h = elim h.text_is [
-  | inl lacked ↦ inl lacked
-  | inr text_is ↦ let passed = h.replied.1 in
-      inr (record {
+  | inl lacking ↦ let none : length (captures r.traces.before.book) ∷ [] ≡ [] = h.kept lacking in let bad : ⊥ = cc in absurd bad
+  | inr text_is ↦ let passed = h.replied in
+      record {
         received = received;
         payload = payload;
         outcome_is = is;
         passed = passed;
         cut_is = received_so e cut passed.fetched.t received once (gave_of terms e cut r.traces passed.fetched.t can passed.fetched.linked) passed.fetched.fetched.received;
         text_is = text_is;
-      })
+      }
 ]
 
 pub passed_on : ArrivalsAreOne → ResponsesArePassedOn

@@ -1,5 +1,5 @@
 -- What the steps of an exchange with an origin make of a round.
-use Rattle.std.proofs.Common.{◌≡◌, inl, inr, ℕ, ◌-◌, ◌^◌, ◌<◌, Bool, true, false, ◌||◌, IsTrue, IsErr, List, [], ◌∷◌, ◌++◌, length, Result, Ok, Err, refl, sym, ◌∙◌, ap}
+use Rattle.std.proofs.Common.{◌≡◌, inl, inr, ℕ, ◌-◌, ◌^◌, ◌<◌, Bool, true, false, ◌||◌, IsTrue, IsErr, List, [], ◌∷◌, ◌++◌, length, Result, Ok, Err, refl, sym, ◌∙◌, ap, Option, Some, None}
 use Rattle.std.proofs.lemmas.List.{append-nil}
 use Rattle.std.specs.Prelude.{MatchBool}
 use Rattle.archive_shelf.proofs.CallLaws.{shown_itself, stays_itself, writes_nothing_itself}
@@ -15,15 +15,15 @@ use Rattle.exchange.specs.declared.aim.Aim.TheVariants.{Origin}
 use Rattle.outside.specs.declared.dialer.Transcript.{Transcript}
 use Rattle.time_text.specs.Texts.{InRange}
 use Rattle.session.specs.steps.Answering.{Incoming, MakesRound}
-use Rattle.session.specs.Connection.{Setting}
-use Rattle.session.specs.Exchanges.{Exchange, Reply, Fails, LacksReply, IsReply, answers_head, reply_text}
+use Rattle.session.specs.Connection.{Setting, terms_at}
+use Rattle.session.specs.Exchanges.{Exchange, Reply, Fails, answers_head, reply_text}
 use Rattle.session.specs.steps.Declining.{Refuses}
-use Rattle.session.specs.steps.Exchanging.{AnswersProxied, Around, Comes, Replies, round_of, terms_in, traces_of, view_before}
+use Rattle.session.specs.steps.Exchanging.{AnswersProxied, Around, Comes, Replies, round_of, terms_in, traces_of, view_before, IsLeft, outcome_of}
 use Rattle.session.specs.Gains.{World}
 use Rattle.session.specs.Images.{NoDeed, deed_of}
 use Rattle.session.specs.Requests.{IsAsked, IsInterim}
-use Rattle.session.specs.Rounds.{Exchanged, closes_exchange, disk_fault, is_cut_off, numbers_by, origin_fault}
-use Rattle.session.specs.Traces.{CountsMet}
+use Rattle.session.specs.Rounds.{disk_fault, is_cut_off, numbers_by, origin_fault, Round, IsDecided, IsTextOf, is_from_shown, refusal_in}
+use Rattle.session.specs.Traces.{CountsMet, Terms}
 use Rattle.session.specs.steps.Givens.{Given}
 use Rattle.session.proofs.GainLaws.{none_met}
 use Rattle.session.proofs.StoreLaws.{images_unwritten}
@@ -40,31 +40,53 @@ around_of times transcripts was is = record {
 }
 
 -- a lawful round was made, where its text is told
-made : (alone : Bool) (setting : Setting) (e : Exchange) (incoming : Incoming) (lacked : Bool) (reply : Reply) (times : List ℕ)
+decided_so : (terms : Terms) (e : Exchange) (r : Round) (reply : Option Reply) → IsAsked terms.site r.wire e.message (Origin e.target)
+    → IsLeft terms e r.lacked reply r.traces → IsDecided terms r (outcome_of e reply)
+decided_so terms e r None asked (lacking, out) = (lacking, inr (e, asked, out))
+decided_so terms e r (Some reply) asked by = (asked, by)
+
+unshown : (e : Exchange) (reply : Option Reply) → is_from_shown (outcome_of e reply) ≡ false
+unshown e None = refl
+unshown e (Some reply) = refl
+
+unrefused : (e : Exchange) (reply : Option Reply) → refusal_in (outcome_of e reply) ≡ []
+unrefused e None = refl
+unrefused e (Some reply) = refl
+
+made : (alone : Bool) (setting : Setting) (e : Exchange) (incoming : Incoming) (lacked : Bool) (reply : Option Reply) (times : List ℕ)
     (transcripts : List Transcript) (text : List ℕ) (was is : World)
     → IsAsked setting.site incoming.wire e.message (Origin e.target) → IsInterim setting.site incoming.wire incoming.interim
     → (IsTrue setting.clock_tells → length is.answers < 2 ^ 64 - 1 → is.answers ≡ was.answers ++ times)
     → is.links ≡ record was.links { log = was.links.log ++ transcripts }
     → Replies alone setting.site e lacked reply (around_of times transcripts was is) was.shelf is.shelf
-    → MatchBool lacked (text ≡ memory_text) (text ≡ reply_text e reply (closes_exchange incoming.served e reply))
+    → MatchBool lacked (text ≡ memory_text) (IsTextOf (terms_at alone setting was.shelf) incoming.served (outcome_of e reply) text)
     → MakesRound alone setting incoming lacked text was is
 made alone setting e incoming lacked reply times transcripts text was is asked known answers logged h text_is = record {
-  outcome = Exchanged e reply;
+  outcome = outcome_of e reply;
   traces = traces_of alone setting.site e (around_of times transcripts was is) h.found was.shelf is.shelf;
   made = record {
-    lawful = record { decided = (asked, h.by); dialer = h.dialer; disk = h.disk; interim_is = inl known; text_is = text_is };
+    lawful = record {
+      decided = decided_so (terms_at alone setting was.shelf) e
+          (round_of alone setting.site e incoming reply lacked (traces_of alone setting.site e (around_of times transcripts was is) h.found was.shelf is.shelf) text)
+          reply asked h.by;
+      dialer = h.dialer;
+      disk = h.disk;
+      kept = h.kept;
+      interim_is = inl known;
+      text_is = text_is;
+    };
     leads = record {
       book = h.led;
       shown = shown_itself alone was.shelf.contents.shown;
       same_dialer = refl;
       same_disk = refl;
     };
-    knows = λ tells from. let bad : ⊥ = cc in absurd bad;
+    knows = λ tells from. let bad : ⊥ = cc (unshown e reply, from) in absurd bad;
     left = refl;
     gained = record { around = record { asked = answers; logged = logged }; stored = h.stored };
     images = h.images incoming text;
   };
-  unrefused = refl;
+  unrefused = unrefused e reply;
 }
 
 -- what came of a request answers it
@@ -76,7 +98,7 @@ pub comes_answers : (alone : Bool) (setting : Setting) (e : Exchange) (closes : 
     → AnswersProxied alone setting e closes result was is
 unfolding made
 comes_answers alone setting e closes (Ok answer) times transcripts was is answers logged h incoming closing asked known = record {
-  makes = made alone setting e incoming false h.reply times transcripts answer.text was is asked known answers logged h.replies
+  makes = made alone setting e incoming false (Some h.reply) times transcripts answer.text was is asked known answers logged h.replies
       (h.text_is ∙ ap (λ (b : Bool). reply_text e h.reply (is_cut_off h.reply || b)) closing);
   closes_is = sym (h.closes_is ∙ ap (λ (b : Bool). is_cut_off h.reply || b) closing);
 }
@@ -88,7 +110,7 @@ comes_answers alone setting e closes (Err memory) times transcripts was is answe
 -- a refusal, whether or not there was memory for it
 pub refused_comes : (alone : Bool) (site : Site) (e : Exchange) (refusal : Refusal) (asks closes : Bool) (around : Around)
     (result : Result Given Memory) (was is : Told) → asks ≡ answers_head e
-    → ((lacked : Bool) → Replies alone site e lacked (Fails refusal) around was is) → Refuses refusal asks closes result
+    → ((lacked : Bool) → Replies alone site e lacked (Some (Fails refusal)) around was is) → Refuses refusal asks closes result
     → Comes alone site e around closes result was is
 refused_comes alone site e refusal asks closes around (Ok answer) was is same h r = record {
   reply = Fails refusal;
@@ -96,13 +118,13 @@ refused_comes alone site e refusal asks closes around (Ok answer) was is same h 
   text_is = r.text_is ∙ ap (λ (b : Bool). refusal_text refusal b closes) same;
   closes_is = r.closes_is;
 }
-refused_comes alone site e refusal asks closes around (Err memory) was is same h r = (Fails refusal, h true)
+refused_comes alone site e refusal asks closes around (Err memory) was is same h r = (Some (Fails refusal), h true)
 
 -- no answer, for want of memory
 pub lacking_comes : (alone : Bool) (site : Site) (e : Exchange) (closes : Bool) (around : Around) (result : Result Given Memory)
-    (was is : Told) → Replies alone site e true LacksReply around was is → IsErr result → Comes alone site e around closes result was is
+    (was is : Told) → Replies alone site e true None around was is → IsErr result → Comes alone site e around closes result was is
 lacking_comes alone site e closes around (Ok answer) was is h err = let bad : ⊥ = cc in absurd bad
-lacking_comes alone site e closes around (Err memory) was is h err = (LacksReply, h)
+lacking_comes alone site e closes around (Err memory) was is h err = (None, h)
 
 -- ---- nothing was written
 
@@ -112,21 +134,22 @@ none_stored a b numbers none e =
     e ∙ ap (λ (l : List ℕ). record a { seen = b.seen; shown = b.shown; mine = l }) (sym (ap (λ (l : List ℕ). a.mine ++ l) none ∙ append-nil a.mine))
 
 -- a reply that stored nothing
-pub unwritten : (alone : Bool) (site : Site) (e : Exchange) (lacked : Bool) (reply : Reply) (around : Around) (was is : Told)
-    → IsEarlier is.crash → Stays alone was.contents is.contents → WritesNothing alone was is → deed_of (Exchanged e reply) ≡ NoDeed
-    → numbers_by (Exchanged e reply) (view_before alone site e around is.contents.seen was) ≡ []
-    → CountsMet (origin_fault (Exchanged e reply)) around.faults_before around.faults_now
-    → CountsMet (disk_fault (Exchanged e reply)) was.faults is.faults
-    → IsReply (terms_in alone site e was) e lacked reply (traces_of alone site e around is.contents.seen was is)
+pub unwritten : (alone : Bool) (site : Site) (e : Exchange) (lacked : Bool) (reply : Option Reply) (around : Around) (was is : Told)
+    → IsEarlier is.crash → Stays alone was.contents is.contents → WritesNothing alone was is → deed_of (outcome_of e reply) ≡ NoDeed
+    → numbers_by (outcome_of e reply) (view_before alone site e around is.contents.seen was) ≡ []
+    → CountsMet (origin_fault (outcome_of e reply)) around.faults_before around.faults_now
+    → CountsMet (disk_fault (outcome_of e reply)) was.faults is.faults
+    → IsLeft (terms_in alone site e was) e lacked reply (traces_of alone site e around is.contents.seen was is)
     → Replies alone site e lacked reply around was is
 unwritten alone site e lacked reply around was is earlier stays quiet deed none dialer disk by = record {
   found = is.contents.seen;
   led = stays.seen;
   by = by;
+  kept = λ lacking. none;
   dialer = dialer;
   disk = disk;
   stored = none_stored was.contents is.contents
-      (numbers_by (Exchanged e reply) (view_before alone site e around is.contents.seen was)) none stays.others;
+      (numbers_by (outcome_of e reply) (view_before alone site e around is.contents.seen was)) none stays.others;
   images = λ incoming text. images_unwritten alone site
       (round_of alone site e incoming reply lacked (traces_of alone site e around is.contents.seen was is) text) was is deed earlier quiet;
 }
@@ -134,12 +157,12 @@ unwritten alone site e lacked reply around was is earlier stays quiet deed none 
 -- ---- the shelf wasn't called
 
 -- a reply that the shelf has no part in
-pub untouched : (alone : Bool) (site : Site) (e : Exchange) (lacked : Bool) (reply : Reply) (around : Around) (shelf : Told)
-    → IsEarlier shelf.crash → deed_of (Exchanged e reply) ≡ NoDeed
-    → numbers_by (Exchanged e reply) (view_before alone site e around shelf.contents.seen shelf) ≡ []
-    → CountsMet (origin_fault (Exchanged e reply)) around.faults_before around.faults_now
-    → CountsMet (disk_fault (Exchanged e reply)) shelf.faults shelf.faults
-    → IsReply (terms_in alone site e shelf) e lacked reply (traces_of alone site e around shelf.contents.seen shelf shelf)
+pub untouched : (alone : Bool) (site : Site) (e : Exchange) (lacked : Bool) (reply : Option Reply) (around : Around) (shelf : Told)
+    → IsEarlier shelf.crash → deed_of (outcome_of e reply) ≡ NoDeed
+    → numbers_by (outcome_of e reply) (view_before alone site e around shelf.contents.seen shelf) ≡ []
+    → CountsMet (origin_fault (outcome_of e reply)) around.faults_before around.faults_now
+    → CountsMet (disk_fault (outcome_of e reply)) shelf.faults shelf.faults
+    → IsLeft (terms_in alone site e shelf) e lacked reply (traces_of alone site e around shelf.contents.seen shelf shelf)
     → Replies alone site e lacked reply around shelf shelf
 untouched alone site e lacked reply around shelf earlier deed none dialer disk by =
     unwritten alone site e lacked reply around shelf shelf earlier (stays_itself alone shelf.contents) (writes_nothing_itself alone shelf)
@@ -153,9 +176,9 @@ clock_alone now faults = record { times = now ∷ []; transcripts = []; faults_b
 
 -- the clock's answer has no text
 pub past_the_clock : (alone : Bool) (site : Site) (e : Exchange) (lacked : Bool) (now faults : ℕ) (shelf : Told)
-    → IsEarlier shelf.crash → (InRange now → ⊥) → Replies alone site e lacked (Fails (ClockRange now)) (clock_alone now faults) shelf shelf
+    → IsEarlier shelf.crash → (InRange now → ⊥) → Replies alone site e lacked (Some (Fails (ClockRange now))) (clock_alone now faults) shelf shelf
 past_the_clock alone site e lacked now faults shelf earlier past =
-    untouched alone site e lacked (Fails (ClockRange now)) (clock_alone now faults) shelf earlier refl refl (none_met faults) (none_met shelf.faults)
+    untouched alone site e lacked (Some (Fails (ClockRange now))) (clock_alone now faults) shelf earlier refl refl (none_met faults) (none_met shelf.faults)
     (record {
       asked = refl;
       past = past;
@@ -165,9 +188,9 @@ past_the_clock alone site e lacked now faults shelf earlier past =
 
 -- there was no memory to compose the request
 pub unsent : (alone : Bool) (site : Site) (e : Exchange) (now faults : ℕ) (shelf : Told)
-    → IsEarlier shelf.crash → Replies alone site e true LacksReply (clock_alone now faults) shelf shelf
+    → IsEarlier shelf.crash → Replies alone site e true None (clock_alone now faults) shelf shelf
 unsent alone site e now faults shelf earlier =
-    untouched alone site e true LacksReply (clock_alone now faults) shelf earlier refl refl (none_met faults) (none_met shelf.faults) (
+    untouched alone site e true None (clock_alone now faults) shelf earlier refl refl (none_met faults) (none_met shelf.faults) (
       refl,
       record {
         begun = inr (inl ((now, refl), refl));

@@ -1,5 +1,5 @@
 -- What asking an origin makes of a round, where no response came.
-use Rattle.std.proofs.Common.{◌≡◌, inl, inr, ℕ, ◌≤◌, Bool, true, List, [], ◌∷◌, ◌++◌, Result, Ok, Err, refl, sym, ◌∙◌, ap, subst, arith}
+use Rattle.std.proofs.Common.{◌≡◌, inl, inr, ℕ, ◌≤◌, Bool, true, List, [], ◌∷◌, ◌++◌, Result, Ok, Err, refl, sym, ◌∙◌, ap, subst, arith, Some, None}
 use Rattle.std.proofs.lemmas.List.{append-nil}
 use Rattle.archive_shelf.proofs.CallLaws.{shown_itself}
 use Rattle.archive_shelf.specs.Openings.{IsEarlier}
@@ -15,7 +15,7 @@ use Rattle.http_head.specs.declared.head.Received.{Received}
 use Rattle.outside.specs.Records.{Links}
 use Rattle.outside.specs.declared.dialer.Transcript.{Transcript}
 use Rattle.time_text.specs.Texts.{InRange}
-use Rattle.session.specs.Exchanges.{Exchange, Fails, IsFailure, LacksReply, WentInVain, answers_head, asking_of, sent_of}
+use Rattle.session.specs.Exchanges.{Exchange, Fails, IsFailure, WentInVain, answers_head, asking_of, sent_of}
 use Rattle.session.specs.steps.Declining.{Declines, Refuses, refusal_by_fetch}
 use Rattle.session.specs.steps.Exchanging.{Around, Asks, terms_in, traces_of}
 use Rattle.session.specs.Images.{NoDeed, deed_of_failure}
@@ -75,7 +75,7 @@ module _ (alone : Bool) (site : Site) (e : Exchange) (closes : Bool) (date : ℕ
     transcripts = logs.t ∷ [];
     logged = logs.gains;
     comes = refused_comes alone site e refusal asks closes (dialed date (logs.t ∷ []) before now) result shelf shelf same
-        (λ lacked. untouched alone site e lacked (Fails refusal) (dialed date (logs.t ∷ []) before now) shelf earlier deed refl dialer
+        (λ lacked. untouched alone site e lacked (Some (Fails refusal)) (dialed date (logs.t ∷ []) before now) shelf earlier deed refl dialer
         (subst (λ (n : ℕ). CountsMet n shelf.faults shelf.faults) (sym none) (none_met shelf.faults))
         (is logs.t (record {
           timed = record { date = date; only = refl; in_range = in_range };
@@ -92,7 +92,7 @@ module _ (alone : Bool) (site : Site) (e : Exchange) (closes : Bool) (date : ℕ
     transcripts = [];
     logged = same_log old new logs;
     comes = refused_comes alone site e DialFault asks closes (dialed date [] before now) result shelf shelf same
-        (λ lacked. untouched alone site e lacked (Fails DialFault) (dialed date [] before now) shelf earlier refl refl
+        (λ lacked. untouched alone site e lacked (Some (Fails DialFault)) (dialed date [] before now) shelf earlier refl refl
         (rose_met before now counts.1) (none_met shelf.faults) (record {
           timed = record { date = date; only = refl; in_range = in_range };
           none = refl;
@@ -113,7 +113,7 @@ module _ (alone : Bool) (site : Site) (e : Exchange) (closes : Bool) (date : ℕ
     transcripts = [];
     logged = same_log old new none;
     comes = lacking_comes alone site e closes (dialed date [] before now) result shelf shelf
-        (untouched alone site e true LacksReply (dialed date [] before now) shelf earlier refl refl
+        (untouched alone site e true None (dialed date [] before now) shelf earlier refl refl
         (stayed_met before now counts) (none_met shelf.faults) (
           refl,
           record {
@@ -126,7 +126,7 @@ module _ (alone : Bool) (site : Site) (e : Exchange) (closes : Bool) (date : ℕ
     transcripts = logs.t ∷ [];
     logged = logs.gains;
     comes = lacking_comes alone site e closes (dialed date (logs.t ∷ []) before now) result shelf shelf
-        (untouched alone site e true LacksReply (dialed date (logs.t ∷ []) before now) shelf earlier refl refl
+        (untouched alone site e true None (dialed date (logs.t ∷ []) before now) shelf earlier refl refl
         (stayed_met before now counts) (none_met shelf.faults) (
           refl,
           record {

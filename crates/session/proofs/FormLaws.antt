@@ -1,5 +1,5 @@
 -- Requests to the site that are answered.
-use Rattle.std.proofs.Common.{◌≡◌, ◌⊎◌, inl, inr, ℕ, ◌<◌, ◌≤◌, Bool, true, false, IsTrue, List, length, Option, Some, None, sym, ◌∙◌, ap, subst, arith}
+use Rattle.std.proofs.Common.{◌≡◌, inl, inr, ℕ, ◌<◌, ◌≤◌, Bool, true, false, IsTrue, List, length, Option, Some, None, sym, ◌∙◌, ap, subst, arith}
 use Rattle.std.specs.Prelude.{IsSome}
 use Rattle.capture.specs.Captures.{captures}
 use Rattle.capture.specs.declared.refusal.Refusal.{Refusal}
@@ -15,7 +15,7 @@ use Rattle.surt_key.specs.Key.{key_of}
 use Rattle.replay_url.proofs.OneForm.{one_form}
 use Rattle.session.specs.Complete.{IsFaultless, HasShown, HasWanted, IsAnswer, CapturesThatAreThereAreReplayed}
 use Rattle.session.specs.Rounds.{Outcome, Visited, IsDecided, is_disk_fault, disk_fault}
-use Rattle.session.specs.SiteAnswers.{SiteRequest, SiteReply, Refuses, Redirects, Replays, Lists, Finds, Ships, HasNoMore, LacksSiteReply, Asks, FindsNone, IsGateTime, NamesNoTime, IsDated, IsPast, IsRejected, IsSiteReplyBy, date_field, serves_method}
+use Rattle.session.specs.SiteAnswers.{SiteRequest, SiteReply, Refuses, Redirects, Replays, Lists, Finds, Ships, HasNoMore, Asks, FindsNone, IsGateTime, NamesNoTime, IsDated, IsPast, IsRejected, IsSiteReplyBy, date_field, serves_method}
 use Rattle.session.specs.Traces.{Terms, View, Traces, CountsMet}
 use Rattle.session.proofs.CompleteLaws.{rose_not, told_not_untold}
 
@@ -160,21 +160,20 @@ no_rejection terms q ConnectRefused traces form tells whole disk asks wanted h =
 no_rejection terms q SecureRefused traces form tells whole disk asks wanted h = absurd h
 no_rejection terms q CodingRefused traces form tells whole disk asks wanted h = absurd h
 
-answers : (terms : Terms) (q : SiteRequest) (reply : SiteReply) (lacked : Bool) (traces : Traces) (form : Form) → IsTrue terms.tells → IsFaultless traces
+answers : (terms : Terms) (q : SiteRequest) (reply : SiteReply) (traces : Traces) (form : Form) → IsTrue terms.tells → IsFaultless traces
     → CountsMet (disk_fault (Visited q reply)) traces.before.disk_faults traces.after.disk_faults
-    → Asks q form → HasWanted traces.before (question_of form) → IsSiteReplyBy terms q lacked reply traces.before → IsTrue lacked ⊎ IsAnswer reply
-answers terms q (Refuses refusal) lacked traces form tells whole disk asks wanted h =
+    → Asks q form → HasWanted traces.before (question_of form) → IsSiteReplyBy terms q reply traces.before → IsAnswer reply
+answers terms q (Refuses refusal) traces form tells whole disk asks wanted h =
     no_rejection terms q refusal traces form tells whole disk asks wanted h
-answers terms q (Redirects other entry) lacked traces form tells whole disk asks wanted h = inr tt
-answers terms q (Replays other brought) lacked traces form tells whole disk asks wanted h = inr tt
-answers terms q (Lists url entries) lacked traces form tells whole disk asks wanted h = inr tt
-answers terms q (Finds query found) lacked traces form tells whole disk asks wanted h = inr tt
-answers terms q (Ships number piece) lacked traces form tells whole disk asks wanted h = inr tt
-answers terms q (HasNoMore number) lacked traces form tells whole disk asks wanted h = inr tt
-answers terms q LacksSiteReply lacked traces form tells whole disk asks wanted h = inl h
+answers terms q (Redirects other entry) traces form tells whole disk asks wanted h = tt
+answers terms q (Replays other brought) traces form tells whole disk asks wanted h = tt
+answers terms q (Lists url entries) traces form tells whole disk asks wanted h = tt
+answers terms q (Finds query found) traces form tells whole disk asks wanted h = tt
+answers terms q (Ships number piece) traces form tells whole disk asks wanted h = tt
+answers terms q (HasNoMore number) traces form tells whole disk asks wanted h = tt
 
 pub replayed : CapturesThatAreThereAreReplayed
 replayed terms served r q reply form lawful is tells whole asks wanted =
-    answers terms q reply r.lacked r.traces form tells whole
+    answers terms q reply r.traces form tells whole
     (subst (λ (o : Outcome). CountsMet (disk_fault o) r.traces.before.disk_faults r.traces.after.disk_faults) is lawful.disk)
     asks wanted (subst (λ (o : Outcome). IsDecided terms r o) is lawful.decided).1.by

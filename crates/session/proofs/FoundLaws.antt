@@ -58,11 +58,11 @@ found_unbrought alone setting q sought number (brings.NoSuch count) asks closes 
     found_there alone mid.contents is.contents q sought number count h.reaches reads.stays.shown b
 found_unbrought alone setting q sought number brings.DiskFault asks closes result was mid is earlier looks h same b reads declines =
     found_answers alone setting q (Refuses DiskFault) closes true result was mid is earlier looks h.knows reads refl
-    (λ lacked faults. (ForNearest sought, number, record { wanted = h.reaches; there = b }))
+    (λ faults. (ForNearest sought, number, record { wanted = h.reaches; there = b }))
     (refusal_is result DiskFault asks (answers_head q) closes same declines.text_is) declines.closes_is
 found_unbrought alone setting q sought number (brings.Damaged at kept found) asks closes result was mid is earlier looks h same b reads declines =
     found_answers alone setting q (Refuses (Damaged at kept found)) closes false result was mid is earlier looks h.knows reads refl
-    (λ lacked faults. (
+    (λ faults. (
       ForNearest sought,
       number,
       record { wanted = h.reaches; there = b.0 },

@@ -13,7 +13,7 @@ use Rattle.capture.specs.declared.captured.Stored.{Stored}
 use Rattle.capture.specs.declared.refusal.Refusal.{Refusal}
 use Rattle.capture.specs.declared.refusal.Refusal.TheVariants.{Malformed, TargetRefused, BadTime, BadAcceptDatetime, BadQuery, NotAForm, NoCapture, NoSuch, MethodRefused, BodyTooLong, HeadTooLong, ClockRange, ConnectRefused, SecureRefused, CodingRefused, DialFault, OriginFault, OriginEnded, OriginMalformed, OriginTooLong, TooManyInterim, Full, DiskFault, Damaged}
 use Rattle.http_head.specs.declared.head.Received.{Received}
-use Rattle.session.specs.Exchanges.{Exchange, Fails, Passes, LacksReply, IsFailure, IsRefusedByDisk, IsPassedOn}
+use Rattle.session.specs.Exchanges.{Exchange, Fails, Passes, IsFailure, IsRefusedByDisk, IsPassedOn}
 use Rattle.session.specs.Images.{Deed, NoDeed, Stores, IsDenied, deed_of, contents_at, NeedsIds}
 use Rattle.session.specs.Laws.{CoursesGrow, CoursesShowOn, CoursesCountFaults, CoursesStayConsistent, IdsDifferOnTheWay}
 use Rattle.session.specs.Rounds.{Round, Outcome, Undecided, Refused, Exchanged, Visited, IsDecided, origin_fault, origin_faults, disk_fault, disk_faults}
@@ -66,14 +66,14 @@ failure_leaves terms e SecureRefused traces h = absurd h
 failure_leaves terms e CodingRefused traces h = absurd h
 
 decided_leaves : (terms : Terms) (r : Round) (outcome : Outcome) → IsDecided terms r outcome → Leaves terms r.traces
-decided_leaves terms r Undecided h = Stayed h.2.untouched
+decided_leaves terms r Undecided (lacking, inl (begun, idle)) = Stayed idle.untouched
+decided_leaves terms r Undecided (lacking, inr (e, asked, out)) = Stayed out.untouched
 decided_leaves terms r (Refused head refusal) h = Stayed h.1.untouched
 decided_leaves terms r (Exchanged e (Fails refusal)) h = elim (failure_leaves terms e refusal r.traces h.1) [
   | inl stays ↦ Stayed stays
   | inr refused ↦ Denied e refused
 ]
-decided_leaves terms r (Exchanged e (Passes received payload)) h = Stored_it e received payload h.1.1
-decided_leaves terms r (Exchanged e LacksReply) h = Stayed h.1.1.untouched
+decided_leaves terms r (Exchanged e (Passes received payload)) h = Stored_it e received payload h.1
 decided_leaves terms r (Visited q reply) h = Stayed h.1.idle.untouched
 
 -- ---- books

@@ -1,5 +1,6 @@
 -- What storing the capture of an exchange makes of a round.
-use Rattle.std.proofs.Common.{◌≡◌, inr, ℕ, ◌<◌, ◌≤◌, Bool, true, false, ◌||◌, IsTrue, IfOk, List, [], ◌∷◌, ◌++◌, length, Option, Result, Ok, Err, refl, sym, ◌∙◌, ap, subst, arith}
+use Rattle.std.proofs.lemmas.Bool.{false≢true}
+use Rattle.std.proofs.Common.{◌≡◌, inr, ℕ, ◌<◌, ◌≤◌, Bool, true, false, ◌||◌, IsTrue, IfOk, List, [], ◌∷◌, ◌++◌, length, Option, Result, Ok, Err, refl, sym, ◌∙◌, ap, subst, arith, Some, None}
 use Rattle.archive_shelf.proofs.CallLaws.{leads_same, shown_itself}
 use Rattle.archive_shelf.specs.Answers.{WritesNone}
 use Rattle.archive_shelf.specs.Contents.{Contents, IsConsistent}
@@ -26,7 +27,7 @@ use Rattle.http_head.specs.declared.head.Received.{Received}
 use Rattle.outside.specs.declared.dialer.Transcript.{Transcript}
 use Rattle.time_text.specs.Texts.{InRange}
 use Rattle.warc_text.specs.Fits.{Fits}
-use Rattle.session.specs.Exchanges.{Exchange, Fails, Fetched, HasRoom, LacksReply, Passes, answers_head, asking_of, taken_of}
+use Rattle.session.specs.Exchanges.{Exchange, Fails, Fetched, HasRoom, Passes, answers_head, asking_of, taken_of}
 use Rattle.session.specs.steps.Exchanging.{Around, Comes, FollowsStore, HasCome, Keeps, PassesOn, Replies, round_of, terms_in, traces_of}
 use Rattle.session.specs.Laws.{StoredCapturesHaveTheirPayload}
 use Rattle.session.specs.Traces.{IsConsistentView, view_of}
@@ -121,9 +122,9 @@ module _ (alone : Bool) (site : Site) (e : Exchange) (closes : Bool) (date : ℕ
   room_in found was is room = record { received = received; fetched = fetched_in found was is; room = room }
 
   -- there was no memory for the answer
-  pub unready : (shelf : Told) → IsEarlier shelf.crash → Replies alone site e true LacksReply around shelf shelf
+  pub unready : (shelf : Told) → IsEarlier shelf.crash → Replies alone site e true None around shelf shelf
   unready shelf earlier =
-      untouched alone site e true LacksReply around shelf earlier refl refl
+      untouched alone site e true None around shelf earlier refl refl
       (stayed_met around.faults_before around.faults_now come.steady) (none_met shelf.faults) (
         refl,
         record {
@@ -147,9 +148,9 @@ module _ (alone : Bool) (site : Site) (e : Exchange) (closes : Bool) (date : ℕ
   -- the archive was full
   full_reply : (count limit : ℕ) (lacked : Bool) (was is : Told) → IsEarlier is.crash
       → StoresOn alone (taken_of e date received) was is (Err (store_fault.Full count limit))
-      → Replies alone site e lacked (Fails (Full count limit)) around was is
+      → Replies alone site e lacked (Some (Fails (Full count limit))) around was is
   full_reply count limit lacked was is earlier h =
-      unwritten alone site e lacked (Fails (Full count limit)) around was is earlier h.leaves.0
+      unwritten alone site e lacked (Some (Fails (Full count limit))) around was is earlier h.leaves.0
       (quiet_by (Err (store_fault.Full count limit)) was is h tt) refl refl
       (stayed_met around.faults_before around.faults_now come.steady) (stayed_met was.faults is.faults h.faults)
       (record {
@@ -164,9 +165,9 @@ module _ (alone : Bool) (site : Site) (e : Exchange) (closes : Bool) (date : ℕ
   -- an earlier capture is damaged
   damaged_reply : (number : ℕ) (kept : List ℕ) (found : Option (List ℕ)) (lacked : Bool) (was is : Told) → IsEarlier is.crash
       → StoresOn alone (taken_of e date received) was is (Err (store_fault.Damaged number kept found))
-      → Replies alone site e lacked (Fails (Damaged number kept found)) around was is
+      → Replies alone site e lacked (Some (Fails (Damaged number kept found))) around was is
   damaged_reply number kept found lacked was is earlier h =
-      unwritten alone site e lacked (Fails (Damaged number kept found)) around was is earlier h.leaves.0
+      unwritten alone site e lacked (Some (Fails (Damaged number kept found))) around was is earlier h.leaves.0
       (quiet_by (Err (store_fault.Damaged number kept found)) was is h tt) refl refl
       (stayed_met around.faults_before around.faults_now come.steady) (stayed_met was.faults is.faults h.faults) (
         record {
@@ -179,9 +180,9 @@ module _ (alone : Bool) (site : Site) (e : Exchange) (closes : Bool) (date : ℕ
 
   -- there was no memory to store the capture
   unkept_reply : (was is : Told) → IsEarlier is.crash → StoresOn alone (taken_of e date received) was is (Err store_fault.Memory)
-      → Replies alone site e true LacksReply around was is
+      → Replies alone site e true None around was is
   unkept_reply was is earlier h =
-      unwritten alone site e true LacksReply around was is earlier h.leaves
+      unwritten alone site e true None around was is earlier h.leaves
       (quiet_by (Err store_fault.Memory) was is h tt) refl refl
       (stayed_met around.faults_before around.faults_now come.steady) (stayed_met was.faults is.faults h.faults) (
         refl,
@@ -199,7 +200,7 @@ module _ (alone : Bool) (site : Site) (e : Exchange) (closes : Bool) (date : ℕ
   -- the disk failed
   denied_reply : (lacked : Bool) (was is : Told) → IsConsistent alone is.contents
       → StoresOn alone (taken_of e date received) was is (Err store_fault.DiskFault)
-      → Replies alone site e lacked (Fails DiskFault) around was is
+      → Replies alone site e lacked (Some (Fails DiskFault)) around was is
   denied_reply lacked was is consistent h = record {
     found = h.leaves.found;
     led = h.leaves.led;
@@ -211,11 +212,12 @@ module _ (alone : Bool) (site : Site) (e : Exchange) (closes : Bool) (date : ℕ
         consistent = stays_consistent alone site e was is around.faults_now (ap (λ (x : Contents). x.tells) h.leaves.others) consistent;
       };
     };
+    kept = λ lacking. refl;
     dialer = stayed_met around.faults_before around.faults_now come.steady;
     disk = rose_met was.faults is.faults h.faults.1;
     stored = none_stored was.contents is.contents [] refl h.leaves.others;
     images = λ incoming text. images_denied alone site
-        (round_of alone site e incoming (Fails DiskFault) lacked (traces_of alone site e around h.leaves.found was is) text) e was is
+        (round_of alone site e incoming (Some (Fails DiskFault)) lacked (traces_of alone site e around h.leaves.found was is) text) e was is
         (record {
           deed = refl;
           room = room_in h.leaves.found was is h.leaves.not_full;
@@ -242,33 +244,31 @@ module _ (alone : Bool) (site : Site) (e : Exchange) (closes : Bool) (date : ℕ
       → IsPayload received.cut received.framing received.wire payload
       → HasPayload received.cut e.message.head.method received.head.text received.wire payload
       → IsConsistent alone is.contents → StoresOn alone (taken_of e date received) was is (Ok receipt)
-      → Replies alone site e false (Passes received payload) around was is
+      → Replies alone site e false (Some (Passes received payload)) around was is
   stored_reply payload receipt was is law payload_is has consistent h = record {
     found = h.leaves.found;
     led = h.leaves.led;
-    by = (
-      refl,
-      record {
-        fetched = fetched_in h.leaves.found was is;
-        payload_is = payload_is;
-        room = h.leaves.not_full;
-        receipt = receipt;
-        number_is = h.leaves.number;
-        refers = h.leaves.refers;
-        gained = h.leaves.gained;
-        by_rule = h.leaves.by_rule;
-        there = there_is payload receipt was is law has consistent h;
-        shown = record {
-          shown = h.leaves.shown;
-          consistent = stays_consistent alone site e was is around.faults_now (ap (λ (x : Contents). x.tells) h.leaves.others) consistent;
-        };
-      },
-    );
+    by = record {
+      fetched = fetched_in h.leaves.found was is;
+      payload_is = payload_is;
+      room = h.leaves.not_full;
+      receipt = receipt;
+      number_is = h.leaves.number;
+      refers = h.leaves.refers;
+      gained = h.leaves.gained;
+      by_rule = h.leaves.by_rule;
+      there = there_is payload receipt was is law has consistent h;
+      shown = record {
+        shown = h.leaves.shown;
+        consistent = stays_consistent alone site e was is around.faults_now (ap (λ (x : Contents). x.tells) h.leaves.others) consistent;
+      };
+    };
+    kept = λ lacking. absurd (false≢true lacking);
     dialer = stayed_met around.faults_before around.faults_now come.steady;
     disk = stayed_met was.faults is.faults h.faults;
     stored = mine_stored was.contents is.contents receipt.number (length (captures h.leaves.found)) h.leaves.number h.leaves.others;
     images = λ incoming text. images_stored alone site
-        (round_of alone site e incoming (Passes received payload) false (traces_of alone site e around h.leaves.found was is) text) e received was is
+        (round_of alone site e incoming (Some (Passes received payload)) false (traces_of alone site e around h.leaves.found was is) text) e received was is
         (record {
           deed = refl;
           fetched = fetched_in h.leaves.found was is;

@@ -22,9 +22,9 @@ use Rattle.session.specs.steps.Answering.{AnswersVisit}
 use Rattle.session.specs.Connection.{Setting, terms_at}
 use Rattle.session.specs.steps.Looking.{FindsNearest, FindsAll, FindsAnswer}
 use Rattle.session.specs.Rounds.{Visited, disk_fault}
-use Rattle.session.specs.SiteAnswers.{SiteRequest, SiteReply, LacksSiteReply, IsSiteReplyBy, IsSiteText}
+use Rattle.session.specs.SiteAnswers.{SiteRequest, SiteReply, IsSiteReplyBy, IsSiteText}
 use Rattle.session.specs.steps.Givens.{Given}
-use Rattle.session.proofs.VisitLaws.{Visits, bring_lacking, one_if, seen_at, visit_answers, visit_lacked}
+use Rattle.session.proofs.VisitLaws.{Visits, bring_lacking, one_if, seen_at, visit_answers, undecided}
 
 -- the entries that are shown know the book that was seen before
 knows_before : (alone : Bool) (was is : Told) → LooksOn alone was is → KnowsBook alone is.contents → IsTrue was.contents.tells
@@ -35,11 +35,11 @@ knows_before alone was is h knows tells =
 
 -- ---- a reply that is decided by a look, and perhaps by what was read then
 
-found_visits : (alone : Bool) (setting : Setting) (q : SiteRequest) (lacked : Bool) (reply : SiteReply) (fault : Bool) (was mid is : Told)
+found_visits : (alone : Bool) (setting : Setting) (q : SiteRequest) (reply : SiteReply) (fault : Bool) (was mid is : Told)
     → LooksOn alone was mid → KnowsBook alone mid.contents → ReadsOn alone fault mid is → disk_fault (Visited q reply) ≡ one_if fault
-    → ((faults : ℕ) → IsSiteReplyBy (terms_at alone setting was) q lacked reply (seen_at mid.contents.shown faults was is))
-    → Visits alone setting q lacked reply mid.contents.shown was is
-found_visits alone setting q lacked reply fault was mid is h knows k met by = record {
+    → ((faults : ℕ) → IsSiteReplyBy (terms_at alone setting was) q reply (seen_at mid.contents.shown faults was is))
+    → Visits alone setting q reply mid.contents.shown was is
+found_visits alone setting q reply fault was mid is h knows k met by = record {
   fault = fault;
   reads = read_both alone fault was mid is (looked_reads alone was mid h) k;
   met = met;
@@ -52,19 +52,19 @@ found_visits alone setting q lacked reply fault was mid is h knows k met by = re
 pub found_answers : (alone : Bool) (setting : Setting) (q : SiteRequest) (reply : SiteReply) (closes fault : Bool)
     (result : Result Given Memory) (was mid is : Told) → IsEarlier is.crash
     → LooksOn alone was mid → KnowsBook alone mid.contents → ReadsOn alone fault mid is → disk_fault (Visited q reply) ≡ one_if fault
-    → ((lacked : Bool) (faults : ℕ) → IsSiteReplyBy (terms_at alone setting was) q lacked reply (seen_at mid.contents.shown faults was is))
+    → ((faults : ℕ) → IsSiteReplyBy (terms_at alone setting was) q reply (seen_at mid.contents.shown faults was is))
     → IfOk result (λ answer. IsSiteText (terms_at alone setting was) q reply closes answer.text) → IfOk result (λ answer. answer.closes ≡ closes)
     → AnswersVisit alone setting q closes result was is
 found_answers alone setting q reply closes fault result was mid is earlier h knows k met by text closed incoming then now answers links faults closing asked known =
     visit_answers alone setting q reply mid.contents.shown closes result was is incoming then now answers links faults earlier
-    (λ lacked. found_visits alone setting q lacked reply fault was mid is h knows k met (by lacked))
+    (found_visits alone setting q reply fault was mid is h knows k met by)
     text closed closing asked known
 
 pub found_lacking : (alone : Bool) (setting : Setting) (q : SiteRequest) (closes : Bool) (memory : Memory) (was mid is : Told) → IsEarlier is.crash
     → LooksOn alone was mid → KnowsBook alone mid.contents → ReadsOn alone false mid is → AnswersVisit alone setting q closes (Err memory) was is
 found_lacking alone setting q closes memory was mid is earlier h knows k incoming then now answers links faults closing asked known =
-    visit_lacked alone setting incoming q LacksSiteReply mid.contents.shown was is then now answers links faults earlier asked known
-    (found_visits alone setting q true LacksSiteReply false was mid is h knows k refl (λ faults. refl))
+    undecided alone setting incoming q mid.contents.shown was is then now answers links faults earlier asked known
+    (read_both alone false was mid is (looked_reads alone was mid h) k) h.looks.shown k.stays.shown
 
 pub found_lacking_by : (alone : Bool) (setting : Setting) (q : SiteRequest) (closes : Bool) (result : Result Given Memory) (was mid is : Told) → IsEarlier is.crash
     → LooksOn alone was mid → KnowsBook alone mid.contents → ReadsOn alone false mid is → IsErr result → AnswersVisit alone setting q closes result was is
@@ -75,7 +75,7 @@ found_lacking_by alone setting q closes (Err memory) was mid is earlier h knows 
 pub looked_answers : (alone : Bool) (setting : Setting) (q : SiteRequest) (reply : SiteReply) (closes : Bool)
     (result : Result Given Memory) (was is : Told) → IsEarlier is.crash → LooksOn alone was is
     → KnowsBook alone is.contents → disk_fault (Visited q reply) ≡ 0
-    → ((lacked : Bool) (faults : ℕ) → IsSiteReplyBy (terms_at alone setting was) q lacked reply (seen_at is.contents.shown faults was is))
+    → ((faults : ℕ) → IsSiteReplyBy (terms_at alone setting was) q reply (seen_at is.contents.shown faults was is))
     → IfOk result (λ answer. IsSiteText (terms_at alone setting was) q reply closes answer.text) → IfOk result (λ answer. answer.closes ≡ closes)
     → AnswersVisit alone setting q closes result was is
 looked_answers alone setting q reply closes result was is earlier h knows none by text closed =

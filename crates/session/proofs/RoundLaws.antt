@@ -83,7 +83,8 @@ lacking_round wire interim view = record {
 lacking_lawful : (terms : Terms) (served : ℕ) (wire interim : List ℕ) (view : View) → IsBegun terms.site wire
     → IsInterim terms.site wire interim ⊎ (interim ≡ []) → IsRound terms served (lacking_round wire interim view)
 lacking_lawful terms served wire interim view begun known = record {
-  decided = (refl, begun, record { times = refl; transcripts = refl; untouched = record { book = refl; shown = shown_itself terms.alone view.shown } });
+  decided = (refl, inl (begun, record { times = refl; transcripts = refl; untouched = record { book = refl; shown = shown_itself terms.alone view.shown } }));
+  kept = λ lacking. refl;
   dialer = none_met view.dialer_faults;
   disk = none_met view.disk_faults;
   interim_is = elim known [ inl is ↦ inl is | inr none ↦ inr (refl, none) ];
@@ -143,6 +144,7 @@ refusal_lawful : (terms : Terms) (served : ℕ) (head : Option RequestHead) (ref
     → IsRefused terms.site wire head refusal → IsInterim terms.site wire interim → IsRound terms served (refusal_round head refusal wire interim view)
 refusal_lawful terms served head refusal wire interim view is known = record {
   decided = (is, record { times = refl; transcripts = refl; untouched = record { book = refl; shown = shown_itself terms.alone view.shown } });
+  kept = λ lacking. refl;
   dialer = none_met view.dialer_faults;
   disk = none_met view.disk_faults;
   interim_is = inl known;

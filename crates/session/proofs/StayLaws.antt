@@ -13,7 +13,7 @@ use Rattle.capture.specs.declared.site.Site.{Site}
 use Rattle.exchange.specs.declared.aim.Aim.TheVariants.{Origin}
 use Rattle.http_head.specs.declared.head.Received.{Received}
 use Rattle.outside.specs.declared.dialer.Transcript.{Transcript}
-use Rattle.session.specs.Exchanges.{Exchange, Fails, Passes, LacksReply, Fetched, IsFailure, IsPassedOn, IsRefusedByDisk, RanOut}
+use Rattle.session.specs.Exchanges.{Exchange, Fails, Passes, Fetched, IsFailure, IsPassedOn, IsRefusedByDisk, RanOut}
 use Rattle.session.specs.Gains.{gains_of}
 use Rattle.session.specs.Laws.{IsDialedFor, OriginsAloneAreDialed, OtherRoundsStoreNothing, PassedOnResponsesStay}
 use Rattle.session.specs.Requests.{IsAsked}
@@ -53,7 +53,7 @@ grows_behind laws terms served was (r ∷ rounds) is x (lawful, leads, knows, la
 pub passed_stays : Growing → GrowthKeepsPayloads → PassedOnResponsesStay
 passed_stays laws payloads terms served was rounds is r e received payload course there passes tells =
     let found : IsIn terms r = lawful_in terms served was rounds is r course there in
-    let passed : IsPassedOn terms e received payload r.traces = (subst (λ (o : Outcome). IsDecided terms r o) passes found.lawful.decided).1.1 in (
+    let passed : IsPassedOn terms e received payload r.traces = (subst (λ (o : Outcome). IsDecided terms r o) passes found.lawful.decided).1 in (
       passed.payload_is,
       payloads r.traces.after.book is.book (length (captures r.traces.before.book)) payload (grows_behind laws terms served was rounds is r course there)
           (subst (λ (n : ℕ). IsPayloadOf r.traces.after.book n payload) passed.number_is (passed.there tells)),
@@ -120,11 +120,11 @@ module _ (site : Site) (r : Round) (t : Transcript) (there : Contains r.traces.t
 
 dialed : (terms : Terms) (r : Round) (t : Transcript) (outcome : Outcome) → IsDecided terms r outcome → Contains r.traces.transcripts t
     → IsDialedFor terms.site r t
-dialed terms r t Undecided h there = nobody r.traces.transcripts t h.2.transcripts there
+dialed terms r t Undecided (lacking, inl (begun, idle)) there = nobody r.traces.transcripts t idle.transcripts there
+dialed terms r t Undecided (lacking, inr (e, asked, out)) there = ran_out_dialed terms.site r t there terms e asked out
 dialed terms r t (Refused head refusal) h there = nobody r.traces.transcripts t h.1.transcripts there
 dialed terms r t (Exchanged e (Fails refusal)) h there = failure_dialed terms.site r t there terms e refusal h.0 h.1
-dialed terms r t (Exchanged e (Passes received payload)) h there = fetched_from terms.site r t there e received h.0 h.1.1.fetched
-dialed terms r t (Exchanged e LacksReply) h there = ran_out_dialed terms.site r t there terms e h.0 h.1.1
+dialed terms r t (Exchanged e (Passes received payload)) h there = fetched_from terms.site r t there e received h.0 h.1.fetched
 dialed terms r t (Visited q reply) h there = nobody r.traces.transcripts t h.1.idle.transcripts there
 
 pub origins_dialed : OriginsAloneAreDialed
@@ -151,12 +151,12 @@ others_store_none terms served r lawful other = of r.outcome refl lawful.decided
   same stays = ap (λ (book : Book). captures book) stays.book
 
   of : (outcome : Outcome) → r.outcome ≡ outcome → IsDecided terms r outcome → captures r.traces.after.book ≡ captures r.traces.before.book
-  of Undecided e h = same h.2.untouched
+  of Undecided e (lacking, inl (begun, idle)) = same idle.untouched
+  of Undecided e (lacking, inr (exchange, asked, out)) = same out.untouched
   of (Refused head refusal) e h = same h.1.untouched
   of (Exchanged exchange (Fails refusal)) e h = elim (failure_leaves terms exchange refusal r.traces h.1) [
     | inl stays ↦ same stays
     | inr refused ↦ denied_stores_none terms exchange r.traces refused
   ]
   of (Exchanged exchange (Passes received payload)) e h = absurd (other exchange received payload e)
-  of (Exchanged exchange LacksReply) e h = same h.1.1.untouched
   of (Visited q reply) e h = same h.1.idle.untouched

@@ -1,6 +1,9 @@
 -- What deciding a request to the site makes of a round.
+use Rattle.http_head.specs.declared.head.RequestMessage.{RequestMessage}
+use Rattle.exchange.specs.declared.aim.Aim.{Aim}
+use Rattle.capture.specs.declared.site.Site.{Site}
 use Rattle.std.proofs.Common.{◌≡◌, ◌≢◌, ◌==◌, inl, inr, ℕ, ◌≤◌, Bool, true, false, IsTrue, IsErr, List, [], ◌++◌, Some, Result, Ok, Err, refl, sym, ◌∙◌, ap, subst, arith}
-use Rattle.std.proofs.lemmas.Bool.{eqb-true, eqb-false}
+use Rattle.std.proofs.lemmas.Bool.{eqb-true, eqb-false, false≢true}
 use Rattle.std.proofs.lemmas.List.{append-nil}
 use Rattle.std.specs.Prelude.{IfOk, MatchBool, Option}
 use Rattle.archive_shelf.proofs.CallLaws.{reads_itself, shown_itself, stays_tells}
@@ -25,9 +28,9 @@ use Rattle.replay_url.specs.declared.form.Form.TheVariants.{Number, Ship}
 use Rattle.session.specs.steps.Answering.{Incoming, MakesRound, IsAnswered, Answers, AnswersVisit}
 use Rattle.session.specs.Connection.{Setting, terms_at}
 use Rattle.session.specs.steps.Declining.{Declines, DeclinesPiece, refusal_by_bring}
-use Rattle.session.specs.Requests.{IsAsked, IsInterim, closes_after}
-use Rattle.session.specs.Rounds.{Round, Visited, IsRound, disk_fault}
-use Rattle.session.specs.SiteAnswers.{SiteRequest, SiteReply, Refuses, HasNoMore, LacksSiteReply, Asks, IsReplayed, IsShipped, IsSiteReplyBy, IsSiteText, answers_head, is_of_shown, nothing_text}
+use Rattle.session.specs.Requests.{IsAsked, IsInterim, closes_after, IsBegun}
+use Rattle.session.specs.Rounds.{Round, Visited, IsRound, disk_fault, Undecided}
+use Rattle.session.specs.SiteAnswers.{SiteRequest, SiteReply, Refuses, HasNoMore, Asks, IsReplayed, IsShipped, IsSiteReplyBy, IsSiteText, answers_head, is_of_shown, nothing_text}
 use Rattle.session.specs.Traces.{Terms, View, CountsMet}
 use Rattle.capture.specs.declared.captured.Brought.{Brought}
 use Rattle.capture.specs.declared.memory.Memory.{Memory}
@@ -51,14 +54,14 @@ one_if false = 0
 
 -- The shelf was looked at, and perhaps read: these entries were shown when the reply was decided, and the book is the one that is seen
 -- now. Nothing was stored or written.
-pub record Visits (alone : Bool) (setting : Setting) (q : SiteRequest) (lacked : Bool) (reply : SiteReply) (shown : List Facts) (was is : Told) : Type 0 where
+pub record Visits (alone : Bool) (setting : Setting) (q : SiteRequest) (reply : SiteReply) (shown : List Facts) (was is : Told) : Type 0 where
   pub fault : Bool
   pub reads : ReadsOn alone fault was is
   pub met : disk_fault (Visited q reply) ≡ one_if fault
   pub shows : LeadsShown alone was.contents.shown shown
   pub later : LeadsShown alone shown is.contents.shown
   pub knows : IsTrue was.contents.tells → IsTrue (is_of_shown reply) → Shows alone was.contents.seen shown
-  pub by : (faults : ℕ) → IsSiteReplyBy (terms_at alone setting was) q lacked reply (seen_at shown faults was is)
+  pub by : (faults : ℕ) → IsSiteReplyBy (terms_at alone setting was) q reply (seen_at shown faults was is)
 
 -- a count that stayed
 pub stayed_met : (before now : ℕ) → now ≡ before → CountsMet 0 before now
@@ -73,9 +76,9 @@ met_if true before now h = rose_met before now h.1
 met_if false before now h = stayed_met before now h
 
 -- the disk's faults that such a round met
-counts : (alone : Bool) (setting : Setting) (q : SiteRequest) (lacked : Bool) (reply : SiteReply) (shown : List Facts) (was is : Told)
-    → Visits alone setting q lacked reply shown was is → CountsMet (disk_fault (Visited q reply)) was.faults is.faults
-counts alone setting q lacked reply shown was is h =
+counts : (alone : Bool) (setting : Setting) (q : SiteRequest) (reply : SiteReply) (shown : List Facts) (was is : Told)
+    → Visits alone setting q reply shown was is → CountsMet (disk_fault (Visited q reply)) was.faults is.faults
+counts alone setting q reply shown was is h =
     subst (λ (n : ℕ). CountsMet n was.faults is.faults) (sym h.met) (met_if h.fault was.faults is.faults h.reads.faults)
 
 stored_none : (a b : Contents) → b ≡ record a { seen = b.seen; shown = b.shown } → b ≡ record a { seen = b.seen; shown = b.shown; mine = a.mine ++ [] }
@@ -106,7 +109,7 @@ visit_round incoming q lacked reply shown text faults was is = record {
 visited : (alone : Bool) (setting : Setting) (incoming : Incoming) (q : SiteRequest) (lacked : Bool) (reply : SiteReply) (shown : List Facts)
     (text : List ℕ) (was is : Told) (then now : Heard) (answers : List ℕ) (links : Links Transcript) (faults : ℕ)
     → IsEarlier is.crash → IsAsked setting.site incoming.wire q.message (ToSite q.address) → IsInterim setting.site incoming.wire incoming.interim
-    → Visits alone setting q lacked reply shown was is
+    → Visits alone setting q reply shown was is
     → IsRound (terms_at alone setting was) incoming.served (visit_round incoming q lacked reply shown text faults was is)
     → MakesRound alone setting incoming lacked text
     (record { heard = then; answers = answers; links = links; dialer_faults = faults; shelf = was })
@@ -136,7 +139,7 @@ pub visit_answered : (alone : Bool) (setting : Setting) (incoming : Incoming) (q
     (answer : Given) (closes : Bool) (was is : Told) (then now : Heard) (answers : List ℕ) (links : Links Transcript) (faults : ℕ)
     → IsEarlier is.crash → closes ≡ closes_after incoming.served q.message.head
     → IsAsked setting.site incoming.wire q.message (ToSite q.address) → IsInterim setting.site incoming.wire incoming.interim
-    → Visits alone setting q false reply shown was is → answer.closes ≡ closes
+    → Visits alone setting q reply shown was is → answer.closes ≡ closes
     → IsSiteText (terms_at alone setting was) q reply closes answer.text
     → IsAnswered alone setting incoming answer
     (record { heard = then; answers = answers; links = links; dialer_faults = faults; shelf = was })
@@ -146,7 +149,8 @@ visit_answered alone setting incoming q reply shown answer closes was is then no
   makes = visited alone setting incoming q false reply shown answer.text was is then now answers links faults earlier asked known h (record {
     decided = (asked, record { idle = record { times = refl; transcripts = refl; untouched = record { book = refl; shown = h.later } }; by = h.by faults });
     dialer = none_met faults;
-    disk = counts alone setting q false reply shown was is h;
+    disk = counts alone setting q reply shown was is h;
+    kept = λ lacking. refl;
     interim_is = inl known;
     text_is = subst (λ (b : Bool). IsSiteText (terms_at alone setting was) q reply b answer.text) closing text;
   });
@@ -157,7 +161,7 @@ visit_answered alone setting incoming q reply shown answer closes was is then no
 pub visit_lacked : (alone : Bool) (setting : Setting) (incoming : Incoming) (q : SiteRequest) (reply : SiteReply) (shown : List Facts)
     (was is : Told) (then now : Heard) (answers : List ℕ) (links : Links Transcript) (faults : ℕ)
     → IsEarlier is.crash → IsAsked setting.site incoming.wire q.message (ToSite q.address) → IsInterim setting.site incoming.wire incoming.interim
-    → Visits alone setting q true reply shown was is
+    → Visits alone setting q reply shown was is
     → MakesRound alone setting incoming true memory_text
     (record { heard = then; answers = answers; links = links; dialer_faults = faults; shelf = was })
     (record { heard = now; answers = answers; links = links; dialer_faults = faults; shelf = is })
@@ -165,15 +169,85 @@ visit_lacked alone setting incoming q reply shown was is then now answers links 
     visited alone setting incoming q true reply shown memory_text was is then now answers links faults earlier asked known h (record {
       decided = (asked, record { idle = record { times = refl; transcripts = refl; untouched = record { book = refl; shown = h.later } }; by = h.by faults });
       dialer = none_met faults;
-      disk = counts alone setting q true reply shown was is h;
+      disk = counts alone setting q reply shown was is h;
+      kept = λ lacking. refl;
       interim_is = inl known;
       text_is = refl;
     })
 
+-- a request that was read begins with its head
+asked_begun : (site : Site) (wire : List ℕ) (message : RequestMessage) (aim : Aim) → IsAsked site wire message aim → IsBegun site wire
+asked_begun site wire message aim asked = inr (inl (record {
+  head = message.head;
+  begins = record { skipped = asked.is.skipped; front = asked.is.front; holds = asked.is.holds };
+  aimed = (aim, asked.aimed);
+}))
+
+-- there was no memory to decide on a reply
+abbrev undecided_round : Incoming → List Facts → ℕ → Told → Told → Round
+undecided_round incoming shown faults was is = record {
+  wire = incoming.wire;
+  outcome = Undecided;
+  lacked = true;
+  traces = record {
+    times = [];
+    transcripts = [];
+    before = seen_at shown faults was is;
+    after = record {
+      book = is.contents.seen;
+      shown = is.contents.shown;
+      dialer_faults = faults;
+      disk_faults = is.faults;
+    };
+  };
+  interim = incoming.interim;
+  text = memory_text;
+}
+
+pub undecided : (alone : Bool) (setting : Setting) (incoming : Incoming) (q : SiteRequest) (shown : List Facts)
+    (was is : Told) (then now : Heard) (answers : List ℕ) (links : Links Transcript) (faults : ℕ)
+    → IsEarlier is.crash → IsAsked setting.site incoming.wire q.message (ToSite q.address) → IsInterim setting.site incoming.wire incoming.interim
+    → ReadsOn alone false was is → LeadsShown alone was.contents.shown shown → LeadsShown alone shown is.contents.shown
+    → MakesRound alone setting incoming true memory_text
+    (record { heard = then; answers = answers; links = links; dialer_faults = faults; shelf = was })
+    (record { heard = now; answers = answers; links = links; dialer_faults = faults; shelf = is })
+undecided alone setting incoming q shown was is then now answers links faults earlier asked known reads shows later = record {
+  outcome = Undecided;
+  traces = (undecided_round incoming shown faults was is).traces;
+  made = record {
+    lawful = record {
+      decided = (
+        refl,
+        inl (
+          asked_begun setting.site incoming.wire q.message (ToSite q.address) asked,
+          record { times = refl; transcripts = refl; untouched = record { book = refl; shown = later } },
+        ),
+      );
+      dialer = none_met faults;
+      disk = stayed_met was.faults is.faults reads.faults;
+      kept = λ lacking. refl;
+      interim_is = inl known;
+      text_is = refl;
+    };
+    leads = record { book = reads.stays.seen; shown = shows; same_dialer = refl; same_disk = refl };
+    knows = λ tells from. absurd (false≢true from);
+    left = refl;
+    gained = record {
+      around = record {
+        asked = λ _ _. sym (append-nil answers);
+        logged = ap (λ (l : List Transcript). record links { log = l }) (sym (append-nil links.log));
+      };
+      stored = stored_none was.contents is.contents reads.stays.others;
+    };
+    images = images_unwritten alone setting.site (undecided_round incoming shown faults was is) was is refl earlier reads.unwritten;
+  };
+  unrefused = refl;
+}
+
 -- the one or the other
 pub visit_answers : (alone : Bool) (setting : Setting) (q : SiteRequest) (reply : SiteReply) (shown : List Facts) (closes : Bool)
     (result : Result Given Memory) (was is : Told) (incoming : Incoming) (then now : Heard) (answers : List ℕ) (links : Links Transcript) (faults : ℕ)
-    → IsEarlier is.crash → ((lacked : Bool) → Visits alone setting q lacked reply shown was is)
+    → IsEarlier is.crash → Visits alone setting q reply shown was is
     → IfOk result (λ answer. IsSiteText (terms_at alone setting was) q reply closes answer.text) → IfOk result (λ answer. answer.closes ≡ closes)
     → closes ≡ closes_after incoming.served q.message.head
     → IsAsked setting.site incoming.wire q.message (ToSite q.address) → IsInterim setting.site incoming.wire incoming.interim
@@ -181,18 +255,18 @@ pub visit_answers : (alone : Bool) (setting : Setting) (q : SiteRequest) (reply 
     (record { heard = then; answers = answers; links = links; dialer_faults = faults; shelf = was })
     (record { heard = now; answers = answers; links = links; dialer_faults = faults; shelf = is })
 visit_answers alone setting q reply shown closes (Ok answer) was is incoming then now answers links faults earlier h text closed closing asked known =
-    visit_answered alone setting incoming q reply shown answer closes was is then now answers links faults earlier closing asked known (h false) closed text
+    visit_answered alone setting incoming q reply shown answer closes was is then now answers links faults earlier closing asked known h closed text
 visit_answers alone setting q reply shown closes (Err memory) was is incoming then now answers links faults earlier h text closed closing asked known =
-    visit_lacked alone setting incoming q reply shown was is then now answers links faults earlier asked known (h true)
+    visit_lacked alone setting incoming q reply shown was is then now answers links faults earlier asked known h
 
 -- ---- the shelf wasn't called
 
 -- a reply that is no answer from what is shown, and no fault
-at_once : (alone : Bool) (setting : Setting) (q : SiteRequest) (lacked : Bool) (reply : SiteReply) (shelf : Told)
+at_once : (alone : Bool) (setting : Setting) (q : SiteRequest) (reply : SiteReply) (shelf : Told)
     → disk_fault (Visited q reply) ≡ 0 → is_of_shown reply ≡ false
-    → ((faults : ℕ) → IsSiteReplyBy (terms_at alone setting shelf) q lacked reply (seen_at shelf.contents.shown faults shelf shelf))
-    → Visits alone setting q lacked reply shelf.contents.shown shelf shelf
-at_once alone setting q lacked reply shelf none unshown by = record {
+    → ((faults : ℕ) → IsSiteReplyBy (terms_at alone setting shelf) q reply (seen_at shelf.contents.shown faults shelf shelf))
+    → Visits alone setting q reply shelf.contents.shown shelf shelf
+at_once alone setting q reply shelf none unshown by = record {
   fault = false;
   reads = reads_itself alone shelf;
   met = none;
@@ -216,17 +290,17 @@ pub lacks_visit : (alone : Bool) (setting : Setting) (q : SiteRequest) (shelf : 
     (record { heard = then; answers = answers; links = links; dialer_faults = faults; shelf = shelf })
     (record { heard = now; answers = answers; links = links; dialer_faults = faults; shelf = shelf })
 lacks_visit alone setting q shelf incoming then now answers links faults earlier asked known =
-    visit_lacked alone setting incoming q LacksSiteReply shelf.contents.shown shelf shelf then now answers links faults earlier asked known
-    (at_once alone setting q true LacksSiteReply shelf refl refl (λ faults. refl))
+    undecided alone setting incoming q shelf.contents.shown shelf shelf then now answers links faults earlier asked known
+    (reads_itself alone shelf) (shown_itself alone shelf.contents.shown) (shown_itself alone shelf.contents.shown)
 
 -- ---- a capture was brought, or wasn't
 
 -- a reply that is decided by what was brought
-brought_visits : (alone : Bool) (setting : Setting) (q : SiteRequest) (lacked : Bool) (reply : SiteReply) (fault : Bool) (was is : Told)
+brought_visits : (alone : Bool) (setting : Setting) (q : SiteRequest) (reply : SiteReply) (fault : Bool) (was is : Told)
     → ReadsOn alone fault was is → disk_fault (Visited q reply) ≡ one_if fault → is_of_shown reply ≡ false
-    → ((faults : ℕ) → IsSiteReplyBy (terms_at alone setting was) q lacked reply (seen_at is.contents.shown faults was is))
-    → Visits alone setting q lacked reply is.contents.shown was is
-brought_visits alone setting q lacked reply fault was is h met unshown by = record {
+    → ((faults : ℕ) → IsSiteReplyBy (terms_at alone setting was) q reply (seen_at is.contents.shown faults was is))
+    → Visits alone setting q reply is.contents.shown was is
+brought_visits alone setting q reply fault was is h met unshown by = record {
   fault = fault;
   reads = h;
   met = met;
@@ -264,12 +338,12 @@ piece_shipped terms q number piece is faults disk asks (there, some, known) same
 pub bring_answers : (alone : Bool) (setting : Setting) (q : SiteRequest) (reply : SiteReply) (closes fault : Bool)
     (result : Result Given Memory) (was is : Told) → IsEarlier is.crash → ReadsOn alone fault was is
     → disk_fault (Visited q reply) ≡ one_if fault → is_of_shown reply ≡ false
-    → ((lacked : Bool) (faults : ℕ) → IsSiteReplyBy (terms_at alone setting was) q lacked reply (seen_at is.contents.shown faults was is))
+    → ((faults : ℕ) → IsSiteReplyBy (terms_at alone setting was) q reply (seen_at is.contents.shown faults was is))
     → IfOk result (λ answer. IsSiteText (terms_at alone setting was) q reply closes answer.text) → IfOk result (λ answer. answer.closes ≡ closes)
     → AnswersVisit alone setting q closes result was is
 bring_answers alone setting q reply closes fault result was is earlier h met unshown by text closed incoming then now answers links faults closing asked known =
     visit_answers alone setting q reply is.contents.shown closes result was is incoming then now answers links faults earlier
-    (λ lacked. brought_visits alone setting q lacked reply fault was is h met unshown (by lacked))
+    (brought_visits alone setting q reply fault was is h met unshown by)
     text closed closing asked known
 
 pub told_damaged : (a b : Bool) (kept : List ℕ) (found : Option (List ℕ)) → a ≡ b → IsDamaged a kept found → IsDamaged b kept found
@@ -279,8 +353,8 @@ told_damaged a b kept found e h = subst (λ (t : Bool). IsDamaged t kept found) 
 pub bring_lacking : (alone : Bool) (setting : Setting) (q : SiteRequest) (closes : Bool) (memory : Memory) (was is : Told) → IsEarlier is.crash
     → ReadsOn alone false was is → AnswersVisit alone setting q closes (Err memory) was is
 bring_lacking alone setting q closes memory was is earlier h incoming then now answers links faults closing asked known =
-    visit_lacked alone setting incoming q LacksSiteReply is.contents.shown was is then now answers links faults earlier asked known
-    (brought_visits alone setting q true LacksSiteReply false was is h refl refl (λ faults. refl))
+    undecided alone setting incoming q is.contents.shown was is then now answers links faults earlier asked known
+    h h.stays.shown (shown_itself alone is.contents.shown)
 
 lacking_bring : (alone : Bool) (setting : Setting) (q : SiteRequest) (closes : Bool) (result : Result Given Memory) (was is : Told) → IsEarlier is.crash
     → ReadsOn alone false was is → IsErr result → AnswersVisit alone setting q closes result was is
@@ -294,15 +368,15 @@ pub unbrought_answers : (alone : Bool) (setting : Setting) (q : SiteRequest) (nu
     → Declines (refusal_by_bring number fault) asks closes result → AnswersVisit alone setting q closes result was is
 unbrought_answers alone setting q number (brings.NoSuch count) asks closes result was is earlier asked same h reads declines =
     bring_answers alone setting q (Refuses (NoSuch number count)) closes false result was is earlier reads refl refl
-    (λ lacked faults. (inl (asked, subst (λ (n : ℕ). n ≤ number) h.0 h.1, h.2), h.0))
+    (λ faults. (inl (asked, subst (λ (n : ℕ). n ≤ number) h.0 h.1, h.2), h.0))
     (refusal_is result (NoSuch number count) asks (answers_head q) closes same declines.text_is) declines.closes_is
 unbrought_answers alone setting q number brings.DiskFault asks closes result was is earlier asked same h reads declines =
     bring_answers alone setting q (Refuses DiskFault) closes true result was is earlier reads refl refl
-    (λ lacked faults. (ForNumber number, number, record { wanted = (asked, refl); there = h }))
+    (λ faults. (ForNumber number, number, record { wanted = (asked, refl); there = h }))
     (refusal_is result DiskFault asks (answers_head q) closes same declines.text_is) declines.closes_is
 unbrought_answers alone setting q number (brings.Damaged at kept found) asks closes result was is earlier asked same h reads declines =
     bring_answers alone setting q (Refuses (Damaged at kept found)) closes false result was is earlier reads refl refl
-    (λ lacked faults. (
+    (λ faults. (
       ForNumber number,
       number,
       record { wanted = (asked, refl); there = h.0 },
@@ -327,19 +401,19 @@ unshipped_answers alone setting q number (brings.NoSuch count) asks closes resul
       by_test true e text =
           let next : number ≡ count = eqb-true number count e in
           bring_answers alone setting q (HasNoMore number) closes false result was is earlier reads refl refl
-          (λ lacked faults. record { asks = asked; next = next ∙ h.0 }) text closed
+          (λ faults. record { asks = asked; next = next ∙ h.0 }) text closed
       by_test false e refuses =
           let other : number ≢ count = eqb-false number count e in
           bring_answers alone setting q (Refuses (NoSuch number count)) closes false result was is earlier reads refl refl
-          (λ lacked faults. (inr (asked, omega (arith, h.0, h.1, other)), h.0))
+          (λ faults. (inr (asked, omega (arith, h.0, h.1, other)), h.0))
           (refusal_is result (NoSuch number count) asks (answers_head q) closes same refuses.text_is) closed
 unshipped_answers alone setting q number brings.DiskFault asks closes result was is earlier asked same h reads declines closed =
     bring_answers alone setting q (Refuses DiskFault) closes true result was is earlier reads refl refl
-    (λ lacked faults. (ForPiece number, number, record { wanted = (asked, refl); there = h }))
+    (λ faults. (ForPiece number, number, record { wanted = (asked, refl); there = h }))
     (refusal_is result DiskFault asks (answers_head q) closes same declines.text_is) closed
 unshipped_answers alone setting q number (brings.Damaged at kept found) asks closes result was is earlier asked same h reads declines closed =
     bring_answers alone setting q (Refuses (Damaged at kept found)) closes false result was is earlier reads refl refl
-    (λ lacked faults. (
+    (λ faults. (
       ForPiece number,
       number,
       record { wanted = (asked, refl); there = h.0 },
@@ -363,13 +437,13 @@ match_false P Q told true e f q = let bad : ⊥ = cc in absurd bad
 pub refusal_answers : (alone : Bool) (setting : Setting) (q : SiteRequest) (refusal : Refusal) (asks closes : Bool)
     (result : Result Given Memory) (shelf : Told) → IsEarlier shelf.crash → asks ≡ answers_head q
     → disk_fault (Visited q (Refuses refusal)) ≡ 0 → is_of_shown (Refuses refusal) ≡ false
-    → ((lacked : Bool) (faults : ℕ)
-    → IsSiteReplyBy (terms_at alone setting shelf) q lacked (Refuses refusal) (seen_at shelf.contents.shown faults shelf shelf))
+    → ((faults : ℕ)
+    → IsSiteReplyBy (terms_at alone setting shelf) q (Refuses refusal) (seen_at shelf.contents.shown faults shelf shelf))
     → IfOk result (λ answer. answer.text ≡ refusal_text refusal asks closes) → IfOk result (λ answer. answer.closes ≡ closes)
     → AnswersVisit alone setting q closes result shelf shelf
 refusal_answers alone setting q refusal asks closes result shelf earlier asks_is none unshown by text closed incoming then now answers links faults closing asked known =
     visit_answers alone setting q (Refuses refusal) shelf.contents.shown closes result shelf shelf incoming then now answers links faults earlier
-    (λ lacked. at_once alone setting q lacked (Refuses refusal) shelf none unshown (by lacked))
+    (at_once alone setting q (Refuses refusal) shelf none unshown by)
     (refusal_is result refusal asks (answers_head q) closes asks_is text) closed closing asked known
 
 pub lacking_answers : (alone : Bool) (setting : Setting) (q : SiteRequest) (closes : Bool) (memory : Memory) (shelf : Told) → IsEarlier shelf.crash

@@ -1,5 +1,5 @@
--- Which requests are answered. Where no object failed, a lawful round of such a request has its answer, or memory ran out.
-use Rattle.std.specs.Prelude.{◌≡◌, ◌⊎◌, ℕ, ◌-◌, ◌^◌, ◌<◌, ◌≤◌, Bool, true, false, IsTrue, List, length, Contains, Option, Some, ⊤}
+-- Which requests are answered. Where no object failed, a lawful round that decided such a request has its answer.
+use Rattle.std.specs.Prelude.{◌≡◌, ℕ, ◌-◌, ◌^◌, ◌<◌, ◌≤◌, Bool, true, false, IsTrue, List, length, Contains, Option, Some, ⊤}
 use Rattle.capture.specs.Captures.{captures}
 use Rattle.capture.specs.Final.{Arrived, IsArrival}
 use Rattle.capture.specs.First.{Message, BodyNeeded}
@@ -19,7 +19,7 @@ use Rattle.replay_url.specs.declared.form.Form.{Form}
 use Rattle.session.specs.Exchanges.{Exchange, Reply, Passes, IsPassedOn, answers_head}
 use Rattle.session.specs.Requests.{IsAsked, IsRefused}
 use Rattle.session.specs.Rounds.{Round, Exchanged, Visited, IsRound, closes_exchange}
-use Rattle.session.specs.SiteAnswers.{SiteRequest, SiteReply, Refuses, Redirects, Replays, Lists, Finds, Ships, HasNoMore, LacksSiteReply, Asks}
+use Rattle.session.specs.SiteAnswers.{SiteRequest, SiteReply, Refuses, Redirects, Replays, Lists, Finds, Ships, HasNoMore, Asks}
 use Rattle.session.specs.Traces.{Terms, View, Traces}
 use Rattle.surt_key.specs.Key.{key_of}
 use Rattle.time_text.specs.Texts.{InRange}
@@ -58,7 +58,7 @@ abbrev pub ResponsesArePassedOn : Type 0
 ResponsesArePassedOn =
     (terms : Terms) (served : ℕ) (r : Round) (e : Exchange) (reply : Reply) (cut : Bool)
     → IsRound terms served r → r.outcome ≡ Exchanged e reply → IsTrue terms.tells → IsFaultless r.traces
-    → CanBePassedOn terms e cut r.traces → IsTrue r.lacked ⊎ GetsResponse terms served r e cut
+    → CanBePassedOn terms e cut r.traces → GetsResponse terms served r e cut
 
 -- ---- the site
 
@@ -84,13 +84,12 @@ IsAnswer (Lists url entries) = ⊤
 IsAnswer (Finds query found) = ⊤
 IsAnswer (Ships number piece) = ⊤
 IsAnswer (HasNoMore number) = ⊤
-IsAnswer LacksSiteReply = ⊥
 
 abbrev pub CapturesThatAreThereAreReplayed : Type 0
 CapturesThatAreThereAreReplayed =
     (terms : Terms) (served : ℕ) (r : Round) (q : SiteRequest) (reply : SiteReply) (form : Form)
     → IsRound terms served r → r.outcome ≡ Visited q reply → IsTrue terms.tells → IsFaultless r.traces
-    → Asks q form → HasWanted r.traces.before (question_of form) → IsTrue r.lacked ⊎ IsAnswer reply
+    → Asks q form → HasWanted r.traces.before (question_of form) → IsAnswer reply
 
 -- ---- requests
 

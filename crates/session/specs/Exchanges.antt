@@ -1,6 +1,6 @@
 -- A request that goes to an origin, and how it is answered (RFC 9110, sections 3.7 and 7.6). Refusals come in this order: for the
 -- clock, for the dialer, for what the origin sent, for want of room, for the disk.
-use Rattle.std.specs.Prelude.{◌≡◌, ◌⊎◌, ℕ, ◌<◌, ◌≤◌, Bool, List, [], ◌∷◌, length, IsTrue, IsFalse, Ok, Err}
+use Rattle.std.specs.Prelude.{◌≡◌, ◌⊎◌, ℕ, ◌<◌, ◌≤◌, Bool, List, [], ◌∷◌, length, IsTrue, Ok, Err}
 use Rattle.archive_shelf.specs.Answers.{IsByRule, IsDamaged, HasVolumeAlone}
 use Rattle.archive_shelf.specs.Comparing.{CanRefer}
 use Rattle.archive_shelf.specs.Storing.{Gains, as_stored}
@@ -12,7 +12,7 @@ use Rattle.capture.specs.declared.captured.Taken.{Taken}
 use Rattle.capture.specs.declared.refusal.Refusal.{Refusal}
 use Rattle.capture.specs.declared.refusal.Refusal.TheVariants.{ClockRange, DialFault, OriginFault, OriginEnded, OriginMalformed, OriginTooLong, TooManyInterim, Full, DiskFault, Damaged}
 use Rattle.exchange.specs.Fetches.{Asking, IsFetched}
-use Rattle.exchange.specs.Refusals.{refusal_text, memory_text}
+use Rattle.exchange.specs.Refusals.{refusal_text}
 use Rattle.exchange.specs.Texts.{forwarded, answered}
 use Rattle.exchange.specs.declared.aim.Target.{Target}
 use Rattle.exchange.specs.declared.fetching.FetchFault.{FetchFault}
@@ -40,11 +40,10 @@ answers_head e = asks_for_head e.message.head.method
 abbrev pub asking_of : Exchange → Asking
 asking_of e = record { target = e.target; request = sent_of e; answers_head = answers_head e }
 
--- How the request is answered: by a refusal; by the origin's response, with this payload; or not, for want of memory.
+-- How the request is answered: by a refusal, or by the origin's response, with this payload.
 pub data Reply : Type 0 where
   Fails : (refusal : Refusal) → Reply
   Passes : (received : Received) (payload : List ℕ) → Reply
-  LacksReply : Reply
 
 -- the clock gave one answer, which has a text
 pub record WasTimed (times : List ℕ) : Type 0 where
@@ -170,7 +169,7 @@ pub record WasBegun (e : Exchange) (traces : Traces) : Type 0 where
   pub timed : WasTimed traces.times
   pub linked : (traces.transcripts ≡ []) ⊎ OneLink e fetch_fault.Memory traces.transcripts
 
--- nothing is stored, and nothing was answered
+-- memory ran out before a reply was decided: nothing was stored
 pub record RanOut (terms : Terms) (e : Exchange) (traces : Traces) : Type 0 where
   pub begun : ((traces.times ≡ []) × (traces.transcripts ≡ []))
       ⊎ (((now : ℕ) × (traces.times ≡ now ∷ [])) × (traces.transcripts ≡ []))
@@ -179,14 +178,12 @@ pub record RanOut (terms : Terms) (e : Exchange) (traces : Traces) : Type 0 wher
 
 -- ---- the answer
 
--- The reply follows from what the exchange left. Without one memory ran out, and where memory ran out nothing was stored.
-abbrev pub IsReply : Terms → Exchange → Bool → Reply → Traces → Type 0
-IsReply terms e lacked (Fails refusal) traces = IsFailure terms e refusal traces
-IsReply terms e lacked (Passes received payload) traces = IsFalse lacked × IsPassedOn terms e received payload traces
-IsReply terms e lacked LacksReply traces = IsTrue lacked × RanOut terms e traces
+-- the reply follows from what the exchange left
+abbrev pub IsReply : Terms → Exchange → Reply → Traces → Type 0
+IsReply terms e (Fails refusal) traces = IsFailure terms e refusal traces
+IsReply terms e (Passes received payload) traces = IsPassedOn terms e received payload traces
 
 -- the text of a reply
 abbrev pub reply_text : Exchange → Reply → Bool → List ℕ
 reply_text e (Fails refusal) closes = refusal_text refusal (answers_head e) closes
 reply_text e (Passes received payload) closes = answered received payload (answers_head e) closes
-reply_text e LacksReply closes = memory_text

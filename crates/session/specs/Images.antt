@@ -9,7 +9,7 @@ use Rattle.capture.specs.declared.refusal.Refusal.{Refusal}
 use Rattle.capture.specs.declared.refusal.Refusal.TheVariants.{DiskFault}
 use Rattle.http_head.specs.declared.head.Received.{Received}
 use Rattle.warc_journal.specs.Extents.{cdxj_files}
-use Rattle.session.specs.Exchanges.{Exchange, Fails, Passes, LacksReply, Fetched, HasRoom, taken_of, taken_in}
+use Rattle.session.specs.Exchanges.{Exchange, Fails, Passes, Fetched, HasRoom, taken_of, taken_in}
 use Rattle.session.specs.Rounds.{Outcome, Undecided, Refused, Exchanged, Visited, Round}
 use Rattle.session.specs.Traces.{Terms, View, Traces}
 
@@ -29,7 +29,6 @@ deed_of Undecided = NoDeed
 deed_of (Refused head refusal) = NoDeed
 deed_of (Exchanged e (Fails refusal)) = deed_of_failure e refusal
 deed_of (Exchanged e (Passes received payload)) = Stores e received
-deed_of (Exchanged e LacksReply) = NoDeed
 deed_of (Visited q reply) = NoDeed
 
 -- what a shelf with this view tells

@@ -9,7 +9,7 @@ use Rattle.exchange.specs.declared.aim.Aim.TheVariants.{Origin}
 use Rattle.exchange.specs.declared.aim.Aim.TheVariants.{Site as ToSite}
 use Rattle.exchange.specs.Refusals.{refusal_text, memory_text}
 use Rattle.http_head.specs.declared.head.RequestHead.{RequestHead}
-use Rattle.session.specs.Exchanges.{Exchange, Reply, Fails, Passes, LacksReply, IsReply, reply_text}
+use Rattle.session.specs.Exchanges.{Exchange, Reply, Fails, Passes, RanOut, IsReply, reply_text}
 use Rattle.session.specs.Requests.{IsAsked, IsRefused, IsBegun, IsInterim, answers_head, closes_after}
 use Rattle.session.specs.SiteAnswers.{SiteRequest, SiteReply, Refuses, IsSiteReply, IsSiteText, is_of_shown}
 use Rattle.session.specs.Traces.{Terms, View, Traces, IsIdle, LeadsView, CountsMet}
@@ -38,7 +38,6 @@ pub record Round : Type 0 where
 abbrev pub is_cut_off : Reply → Bool
 is_cut_off (Fails refusal) = false
 is_cut_off (Passes received payload) = received.cut
-is_cut_off LacksReply = false
 
 abbrev pub closes_exchange : ℕ → Exchange → Reply → Bool
 closes_exchange served e reply = is_cut_off reply || closes_after served e.message.head
@@ -67,7 +66,6 @@ origin_fault Undecided = 0
 origin_fault (Refused head refusal) = 0
 origin_fault (Exchanged e (Fails refusal)) = is_origin_fault refusal
 origin_fault (Exchanged e (Passes received payload)) = 0
-origin_fault (Exchanged e LacksReply) = 0
 origin_fault (Visited q reply) = 0
 
 -- a fault of the disk was met
@@ -80,20 +78,22 @@ disk_fault Undecided = 0
 disk_fault (Refused head refusal) = 0
 disk_fault (Exchanged e (Fails refusal)) = is_disk_fault refusal
 disk_fault (Exchanged e (Passes received payload)) = 0
-disk_fault (Exchanged e LacksReply) = 0
 disk_fault (Visited q (Refuses refusal)) = is_disk_fault refusal
 disk_fault (Visited q other) = 0
 
 -- ---- a lawful round
 
--- what the bytes are, and what followed
+-- What the bytes are, and what followed. Where nothing was decided memory ran out: nobody was asked, or an origin perhaps.
 abbrev pub IsDecided : Terms → Round → Outcome → Type 0
-IsDecided terms r Undecided = IsTrue r.lacked × IsBegun terms.site r.wire × IsIdle terms r.traces
+IsDecided terms r Undecided =
+    IsTrue r.lacked
+    × ((IsBegun terms.site r.wire × IsIdle terms r.traces)
+    ⊎ ((e : Exchange) × IsAsked terms.site r.wire e.message (Origin e.target) × RanOut terms e r.traces))
 IsDecided terms r (Refused head refusal) = IsRefused terms.site r.wire head refusal × IsIdle terms r.traces
 IsDecided terms r (Exchanged e reply) =
-    IsAsked terms.site r.wire e.message (Origin e.target) × IsReply terms e r.lacked reply r.traces
+    IsAsked terms.site r.wire e.message (Origin e.target) × IsReply terms e reply r.traces
 IsDecided terms r (Visited q reply) =
-    IsAsked terms.site r.wire q.message (ToSite q.address) × IsSiteReply terms q r.lacked reply r.traces
+    IsAsked terms.site r.wire q.message (ToSite q.address) × IsSiteReply terms q reply r.traces
 
 -- the text of an answer, where memory sufficed
 abbrev pub IsTextOf : Terms → ℕ → Outcome → List ℕ → Type 0
@@ -102,11 +102,21 @@ IsTextOf terms served (Refused head refusal) text = text ≡ refusal_text refusa
 IsTextOf terms served (Exchanged e reply) text = text ≡ reply_text e reply (closes_exchange served e reply)
 IsTextOf terms served (Visited q reply) text = IsSiteText terms q reply (closes_after served q.message.head) text
 
--- A lawful round, behind so many requests. The counts of faults rose by what it met, and else stayed.
+-- the number of the capture that was stored
+abbrev pub numbers_by : Outcome → View → List ℕ
+numbers_by Undecided before = []
+numbers_by (Refused head refusal) before = []
+numbers_by (Exchanged e (Fails refusal)) before = []
+numbers_by (Exchanged e (Passes received payload)) before = length (captures before.book) ∷ []
+numbers_by (Visited q reply) before = []
+
+-- A lawful round, behind so many requests. The counts of faults rose by what it met, and else stayed; and where memory ran out nothing
+-- was stored.
 pub record IsRound (terms : Terms) (served : ℕ) (r : Round) : Type 0 where
   pub decided : IsDecided terms r r.outcome
   pub dialer : CountsMet (origin_fault r.outcome) r.traces.before.dialer_faults r.traces.after.dialer_faults
   pub disk : CountsMet (disk_fault r.outcome) r.traces.before.disk_faults r.traces.after.disk_faults
+  pub kept : IsTrue r.lacked → numbers_by r.outcome r.traces.before ≡ []
   pub interim_is : IsInterim terms.site r.wire r.interim ⊎ (IsTrue r.lacked × (r.interim ≡ []))
   pub text_is : MatchBool r.lacked (r.text ≡ memory_text) (IsTextOf terms served r.outcome r.text)
 
@@ -167,12 +177,3 @@ refusal_in (Visited q reply) = []
 
 abbrev pub refusals : List Round → List Refusal
 refusals rounds = flat_map (λ r. refusal_in r.outcome) rounds
-
--- the number of the capture that was stored
-abbrev pub numbers_by : Outcome → View → List ℕ
-numbers_by Undecided before = []
-numbers_by (Refused head refusal) before = []
-numbers_by (Exchanged e (Fails refusal)) before = []
-numbers_by (Exchanged e (Passes received payload)) before = length (captures before.book) ∷ []
-numbers_by (Exchanged e LacksReply) before = []
-numbers_by (Visited q reply) before = []

@@ -16,7 +16,7 @@ use Rattle.cdx_query.specs.declared.query.Query.{Query}
 use Rattle.cdxj_index.specs.Facts.{Facts}
 use Rattle.cdxj_index.specs.OfBook.{IsEntryOf}
 use Rattle.cdxj_index.specs.Queries.{HasNone, IsNearest}
-use Rattle.exchange.specs.Refusals.{refusal_text, memory_text}
+use Rattle.exchange.specs.Refusals.{refusal_text}
 use Rattle.head_lines.specs.Lines.{own_status_line, status_line, type_line, head_end, body_unless, close_line_where}
 use Rattle.head_lines.specs.declared.status.Status.TheVariants as status
 use Rattle.httparse.specs.Ascii.{crlf_bytes}
@@ -43,8 +43,7 @@ pub record SiteRequest : Type 0 where
   pub address : List ℕ
 
 -- How it is answered: by a refusal; by a redirect to the capture of an entry; by a capture; by the list of a URL's captures; by the
--- text of the entries that meet a query; by the piece of a capture, or with nothing, where the next piece is still to come; or not, for
--- want of memory.
+-- text of the entries that meet a query; by the piece of a capture, or with nothing, where the next piece is still to come.
 pub data SiteReply : Type 0 where
   Refuses : (refusal : Refusal) → SiteReply
   Redirects : (sought : Nearest) (entry : Facts) → SiteReply
@@ -53,7 +52,6 @@ pub data SiteReply : Type 0 where
   Finds : (query : Query) (found : List ℕ) → SiteReply
   Ships : (number : ℕ) (piece : List ℕ) → SiteReply
   HasNoMore : (number : ℕ) → SiteReply
-  LacksSiteReply : SiteReply
 
 -- whether the answer is one to HEAD
 abbrev pub answers_head : SiteRequest → Bool
@@ -227,21 +225,20 @@ pub record IsRedirected (q : SiteRequest) (view : View) (sought : Nearest) (entr
   pub reaches : Reaches q view.shown sought entry
   pub other : names_date sought.named entry.date ≡ false
 
--- the reply follows from what is seen of the archive; without one, memory ran out
-abbrev pub IsSiteReplyBy : Terms → SiteRequest → Bool → SiteReply → View → Type 0
-IsSiteReplyBy terms q lacked (Refuses refusal) view = IsRejected terms q refusal view
-IsSiteReplyBy terms q lacked (Redirects sought entry) view = IsRedirected q view sought entry
-IsSiteReplyBy terms q lacked (Replays question brought) view = IsReplayed terms q view question brought
-IsSiteReplyBy terms q lacked (Lists url entries) view = AreListed q view url entries
-IsSiteReplyBy terms q lacked (Finds query found) view = IsFoundBy q view query found
-IsSiteReplyBy terms q lacked (Ships number piece) view = IsShipped terms q view number piece
-IsSiteReplyBy terms q lacked (HasNoMore number) view = IsNext q view number
-IsSiteReplyBy terms q lacked LacksSiteReply view = IsTrue lacked
+-- the reply follows from what is seen of the archive
+abbrev pub IsSiteReplyBy : Terms → SiteRequest → SiteReply → View → Type 0
+IsSiteReplyBy terms q (Refuses refusal) view = IsRejected terms q refusal view
+IsSiteReplyBy terms q (Redirects sought entry) view = IsRedirected q view sought entry
+IsSiteReplyBy terms q (Replays question brought) view = IsReplayed terms q view question brought
+IsSiteReplyBy terms q (Lists url entries) view = AreListed q view url entries
+IsSiteReplyBy terms q (Finds query found) view = IsFoundBy q view query found
+IsSiteReplyBy terms q (Ships number piece) view = IsShipped terms q view number piece
+IsSiteReplyBy terms q (HasNoMore number) view = IsNext q view number
 
 -- neither clock nor origin is asked, and nothing is stored
-pub record IsSiteReply (terms : Terms) (q : SiteRequest) (lacked : Bool) (reply : SiteReply) (traces : Traces) : Type 0 where
+pub record IsSiteReply (terms : Terms) (q : SiteRequest) (reply : SiteReply) (traces : Traces) : Type 0 where
   pub idle : IsIdle terms traces
-  pub by : IsSiteReplyBy terms q lacked reply traces.before
+  pub by : IsSiteReplyBy terms q reply traces.before
 
 -- the answer is taken from the entries that are shown
 abbrev pub is_of_shown : SiteReply → Bool
@@ -254,7 +251,6 @@ is_of_shown (Lists url entries) = true
 is_of_shown (Finds query found) = true
 is_of_shown (Ships number piece) = false
 is_of_shown (HasNoMore number) = false
-is_of_shown LacksSiteReply = false
 
 -- ---- the texts
 
@@ -292,4 +288,3 @@ IsSiteText terms q (Lists url entries) closes text =
 IsSiteText terms q (Finds query found) closes text = text ≡ found_text (media_type_of query.json) found (answers_head q) closes
 IsSiteText terms q (Ships number piece) closes text = text ≡ found_text warc_format piece (answers_head q) closes
 IsSiteText terms q (HasNoMore number) closes text = text ≡ nothing_text closes
-IsSiteText terms q LacksSiteReply closes text = text ≡ memory_text

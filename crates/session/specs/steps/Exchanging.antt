@@ -1,5 +1,5 @@
 -- What the steps of an exchange with an origin leave: the clock's answer, what the dialer's link gave, and the capture that is stored.
-use Rattle.std.specs.Prelude.{◌≡◌, ℕ, Bool, true, false, ◌||◌, List, [], ◌∷◌, ◌++◌, Option, Some, None, Result, Ok, Err}
+use Rattle.std.specs.Prelude.{◌≡◌, ℕ, Bool, true, false, ◌||◌, List, [], ◌∷◌, ◌++◌, Option, Some, None, Result, Ok, Err, IsTrue}
 use Rattle.archive_shelf.specs.Contents.{Leads}
 use Rattle.archive_shelf.specs.declared.fault.StoreFault.{StoreFault}
 use Rattle.archive_shelf.specs.Told.{ShowsItsBook, StoresOn, Told}
@@ -18,11 +18,11 @@ use Rattle.outside.specs.declared.dialer.Transcript.{Transcript}
 use Rattle.session.specs.steps.Answering.{Answers, Incoming}
 use Rattle.session.specs.Connection.{Setting}
 use Rattle.session.specs.steps.Declining.{Declines, refusal_by_store}
-use Rattle.session.specs.Exchanges.{Exchange, Reply, IsReply, asking_of, reply_text}
+use Rattle.session.specs.Exchanges.{Exchange, Reply, RanOut, IsReply, asking_of, reply_text}
 use Rattle.session.specs.Gains.{World}
 use Rattle.session.specs.Images.{KeepsImages}
 use Rattle.session.specs.Requests.{IsAsked, IsInterim, closes_after}
-use Rattle.session.specs.Rounds.{Round, Exchanged, disk_fault, is_cut_off, numbers_by, origin_fault}
+use Rattle.session.specs.Rounds.{Round, Exchanged, disk_fault, is_cut_off, numbers_by, origin_fault, Outcome, Undecided}
 use Rattle.session.specs.Traces.{Terms, Traces, View, CountsMet, terms_of, view_of}
 use Rattle.session.specs.steps.Givens.{Given, with_body}
 use Rattle.session.specs.declared.exchanging.Proxied.{Proxied}
@@ -88,6 +88,16 @@ pub record Keeps (alone : Bool) (taken : Taken) (ready : Given) (answers_head cl
   pub shows : ShowsItsBook alone is
   pub follows : FollowsStore ready answers_head closes said result
 
+-- what was decided: a reply, or nothing
+abbrev pub outcome_of : Exchange → Option Reply → Outcome
+outcome_of e None = Undecided
+outcome_of e (Some reply) = Exchanged e reply
+
+-- the reply follows from what the exchange left; without one, memory ran out
+abbrev pub IsLeft : Terms → Exchange → Bool → Option Reply → Traces → Type 0
+IsLeft terms e lacked None traces = IsTrue lacked × RanOut terms e traces
+IsLeft terms e lacked (Some reply) traces = IsReply terms e reply traces
+
 module _ (alone : Bool) (site : Site) (e : Exchange) where
   -- what holds while the request is answered
   abbrev pub terms_in : Told → Terms
@@ -112,10 +122,10 @@ module _ (alone : Bool) (site : Site) (e : Exchange) where
   }
 
   -- the round that was made
-  abbrev pub round_of : Incoming → Reply → Bool → Traces → List ℕ → Round
+  abbrev pub round_of : Incoming → Option Reply → Bool → Traces → List ℕ → Round
   round_of incoming reply lacked traces text = record {
     wire = incoming.wire;
-    outcome = Exchanged e reply;
+    outcome = outcome_of e reply;
     lacked = lacked;
     traces = traces;
     interim = incoming.interim;
@@ -123,16 +133,17 @@ module _ (alone : Bool) (site : Site) (e : Exchange) where
   }
 
   -- how the request is answered follows from what clock, dialer and shelf left
-  pub record Replies (lacked : Bool) (reply : Reply) (around : Around) (was is : Told) : Type 0 where
+  pub record Replies (lacked : Bool) (reply : Option Reply) (around : Around) (was is : Told) : Type 0 where
     pub found : Book
     pub led : Leads alone was.contents.seen found
-    pub by : IsReply (terms_in was) e lacked reply (traces_of around found was is)
-    pub dialer : CountsMet (origin_fault (Exchanged e reply)) around.faults_before around.faults_now
-    pub disk : CountsMet (disk_fault (Exchanged e reply)) was.faults is.faults
+    pub by : IsLeft (terms_in was) e lacked reply (traces_of around found was is)
+    pub kept : IsTrue lacked → numbers_by (outcome_of e reply) (view_before around found was) ≡ []
+    pub dialer : CountsMet (origin_fault (outcome_of e reply)) around.faults_before around.faults_now
+    pub disk : CountsMet (disk_fault (outcome_of e reply)) was.faults is.faults
     pub stored : is.contents ≡ record was.contents {
       seen = is.contents.seen;
       shown = is.contents.shown;
-      mine = was.contents.mine ++ numbers_by (Exchanged e reply) (view_before around found was);
+      mine = was.contents.mine ++ numbers_by (outcome_of e reply) (view_before around found was);
     }
     pub images : (incoming : Incoming) (text : List ℕ)
         → KeepsImages (terms_in was) (round_of incoming reply lacked (traces_of around found was is) text ∷ []) was is
@@ -140,14 +151,14 @@ module _ (alone : Bool) (site : Site) (e : Exchange) where
   -- the answer is the text of such a reply
   pub record HasReply (around : Around) (closes : Bool) (answer : Given) (was is : Told) : Type 0 where
     pub reply : Reply
-    pub replies : Replies false reply around was is
+    pub replies : Replies false (Some reply) around was is
     pub text_is : answer.text ≡ reply_text e reply (is_cut_off reply || closes)
     pub closes_is : answer.closes ≡ (is_cut_off reply || closes)
 
   -- what comes of the request: the answer that is its reply, or want of memory
   abbrev pub Comes : Around → Bool → Result Given Memory → Told → Told → Type 0
   Comes around closes (Ok answer) was is = HasReply around closes answer was is
-  Comes around closes (Err memory) was is = (reply : Reply) × Replies true reply around was is
+  Comes around closes (Err memory) was is = (reply : Option Reply) × Replies true reply around was is
 
   -- the request was answered behind the clock's answer, and the dialer's log gained the transcripts of its links
   pub record Asks (closes : Bool) (date : ℕ) (result : Result Given Memory) (was is : Beyond) : Type 0 where

@@ -1,8 +1,7 @@
 -- What clock, origin and shelf left answers the request.
-use Rattle.std.proofs.Common.{[], ◌∷◌, Err, refl, arith}
+use Rattle.std.proofs.Common.{[], ◌∷◌, Err, refl, arith, None}
 use Rattle.archive_shelf.proofs.CallLaws.{goes_on_itself}
 use Rattle.capture.specs.declared.refusal.Refusal.TheVariants.{ClockRange}
-use Rattle.session.specs.Exchanges.{LacksReply}
 use Rattle.session.specs.steps.Exchanging.{exchange_of}
 use Rattle.session.proofs.ExchangeLaws.{clock_alone, comes_answers, past_the_clock, refused_comes, unsent}
 use Rattle.session.proofs.FetchLaws.{same_log}
@@ -33,7 +32,7 @@ returns-in-Err-clause-answers g c t site then now =
     (record { heard = then; answers = g.C.Clock.answers c.args.clock.now; links = g.N.Dialer.links c.args.dialer.now; dialer_faults = faults; shelf = g.S.Finder.told c.args.shelf.now })
     (record { heard = now; answers = g.C.Clock.answers c.now-date.new.self; links = g.N.Dialer.links c.args.dialer.now; dialer_faults = faults; shelf = g.S.Finder.told c.args.shelf.now })
     c.now-date.ensures.answers (same_log (g.N.Dialer.links c.args.dialer.now) (g.N.Dialer.links c.args.dialer.now) refl) (
-      LacksReply,
+      None,
       unsent g.S.Finder.alone site e date faults (g.S.Finder.told c.args.shelf.now)
           (g.met.S.Finder.earlier c.args.shelf.now),
     )

@@ -1,10 +1,9 @@
 -- The answer that was ready, or the refusal of the store.
-use Rattle.std.proofs.Common.{sym, subst}
+use Rattle.std.proofs.Common.{sym, subst, None}
 use Rattle.archive_shelf.proofs.CallLaws.{goes_on_itself, stored_goes_on}
 use Rattle.capture.specs.Methods.{asks_for_head}
 use Rattle.capture.specs.Payload.{IsPayload}
 use Rattle.capture.specs.declared.framing.Framing.{Framing}
-use Rattle.session.specs.Exchanges.{LacksReply}
 use Rattle.session.specs.steps.Exchanging.{exchange_of, given_of}
 use Rattle.session.proofs.KeepLaws.{fits, follows_close, kept_comes, passes_close, unready}
 use Rattle.session.proofs.PassLaws.{payload_in}
@@ -22,7 +21,7 @@ keep-requires g c =
 
 pub returns-in-Err-clause-passes : goal.returns-in-Err-clause-passes
 returns-in-Err-clause-passes g c site around come = (
-  LacksReply,
+  None,
   unready g.S.Finder.alone site (exchange_of c.args.sending.proxied) c.args.sending.proxied.closes c.args.sending.date c.args.received around c.requires.date come
       (g.S.Finder.told c.args.shelf.now) (g.met.S.Finder.earlier c.args.shelf.now),
 )

@@ -13,7 +13,7 @@ returns-in-Err-BadQuery-clause-answers g c clock_tells =
     refusal_answers g.S.Finder.alone (record { site = c.args.visit.site.now; clock_tells = clock_tells })
     (record { message = c.args.visit.message.now; address = c.args.visit.address.now }) BadQuery c.asks_for_head-answers_head.result c.args.visit.closes
     c.refused.result (g.S.Finder.told c.args.shelf.now) (g.met.S.Finder.earlier c.args.shelf.now)
-    c.asks_for_head-answers_head.ensures refl refl (λ lacked faults. (c.args.text.now, c.requires.asks, c.in-Err-BadQuery.ensures.bad (ap Err c.in-Err-BadQuery.field-0-is)))
+    c.asks_for_head-answers_head.ensures refl refl (λ faults. (c.args.text.now, c.requires.asks, c.in-Err-BadQuery.ensures.bad (ap Err c.in-Err-BadQuery.field-0-is)))
     c.refused.ensures.text c.refused.ensures.closes
 
 pub returns-in-Err-Memory-clause-answers : goal.returns-in-Err-Memory-clause-answers

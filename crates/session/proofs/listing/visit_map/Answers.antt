@@ -20,7 +20,7 @@ returns-then-is_empty-clause-answers g c clock_tells =
     (record { message = c.args.visit.message.now; address = c.args.visit.address.now })
     (Refuses NoCapture) c.args.visit.closes c.refused.result (g.S.Finder.told c.args.shelf.now) (g.S.Finder.told c.all_of.new.shelf)
     (g.met.S.Finder.earlier c.all_of.new.shelf) c.all_of.ensures.looks found.knows refl
-    (λ lacked faults. record { form = Map c.args.of.now.url; asks = c.requires.asks; url = c.args.of.now.url; asked = refl; key = found.key; keyed = found.keyed; none = lists_none g.S.Finder.alone (g.S.Finder.told c.all_of.new.shelf).contents c.args.of.now.url c.in-Ok.entries.items found (empty_list c.in-Ok.entries.items (vec_len c.in-Ok.entries) c.is_empty.result (omega (arith, c.in-Ok.entries.ok.0)) c.is_empty.ensures c.if-is_empty.true) })
+    (λ faults. record { form = Map c.args.of.now.url; asks = c.requires.asks; url = c.args.of.now.url; asked = refl; key = found.key; keyed = found.keyed; none = lists_none g.S.Finder.alone (g.S.Finder.told c.all_of.new.shelf).contents c.args.of.now.url c.in-Ok.entries.items found (empty_list c.in-Ok.entries.items (vec_len c.in-Ok.entries) c.is_empty.result (omega (arith, c.in-Ok.entries.ok.0)) c.is_empty.ensures c.if-is_empty.true) })
     (refusal_is c.refused.result NoCapture c.asks_for_head-answers_head.result _ c.args.visit.closes c.asks_for_head-answers_head.ensures c.refused.ensures.text)
     c.refused.ensures.closes
 
@@ -31,7 +31,7 @@ returns-else-is_empty-clause-answers g c clock_tells =
     (record { message = c.args.visit.message.now; address = c.args.visit.address.now })
     (Lists c.args.of.now.url c.in-Ok.entries.items) c.args.visit.closes c.list.result (g.S.Finder.told c.args.shelf.now) (g.S.Finder.told c.all_of.new.shelf)
     (g.met.S.Finder.earlier c.all_of.new.shelf) c.all_of.ensures.looks found.knows refl
-    (λ lacked faults. record { asks = c.requires.asks; key = found.key; keyed = found.keyed; picked = found.picked; some = some_list c.in-Ok.entries.items (vec_len c.in-Ok.entries) c.is_empty.result (omega (arith, c.in-Ok.entries.ok.0)) c.is_empty.ensures c.if-is_empty.false })
+    (λ faults. record { asks = c.requires.asks; key = found.key; keyed = found.keyed; picked = found.picked; some = some_list c.in-Ok.entries.items (vec_len c.in-Ok.entries) c.is_empty.result (omega (arith, c.in-Ok.entries.ok.0)) c.is_empty.ensures c.if-is_empty.false })
     (rw (c.as_slice.ensures.value, c.as_slice-in-Ok.ensures.value) at c.list.ensures.text) c.list.ensures.closes
 
 pub returns-in-Err-clause-answers : goal.returns-in-Err-clause-answers

@@ -13,7 +13,7 @@ returns-in-Ok-clause-answers g c clock_tells =
     (Replays (ForNumber c.args.number) c.in-Ok.brought) c.args.visit.closes false c.replay.result (g.S.Finder.told c.args.shelf.now) (g.S.Finder.told c.bring.new.self)
     (g.met.S.Finder.earlier c.bring.new.self)
     c.in-Ok.ensures.reads refl refl
-    (λ lacked faults. number_replayed _ (record { message = c.args.visit.message.now; address = c.args.visit.address.now }) c.args.number c.in-Ok.brought (g.S.Finder.told c.bring.new.self).contents faults
+    (λ faults. number_replayed _ (record { message = c.args.visit.message.now; address = c.args.visit.address.now }) c.args.number c.in-Ok.brought (g.S.Finder.told c.bring.new.self).contents faults
     (g.S.Finder.told c.args.shelf.now).faults c.requires.asks c.in-Ok.ensures.brings
     (stays_tells g.S.Finder.alone (g.S.Finder.told c.args.shelf.now).contents (g.S.Finder.told c.bring.new.self).contents c.in-Ok.ensures.reads.stays))
     c.replay.ensures.text c.replay.ensures.closes
