@@ -1,5 +1,5 @@
 -- How a store of an archive ends: without memory, refused by the disk, or with the capture.
-use Rattle.std.proofs.Common.{◌≡◌, ◌≢◌, ◌⊎◌, ℕ, suc, ◌+◌, ◌-◌, ◌^◌, ◌<◌, ◌≤◌, Bool, true, false, IsTrue, List, [], ◌∷◌, ◌++◌, length, Option, Some, None, Result, Ok, Err, if◌then◌else◌, is_some, refl, sym, ap, subst, ◌∙◌, inl, inr, ⊎_elim, arith, length-append}
+use Rattle.std.proofs.Common.{◌≡◌, ◌≢◌, ◌⊎◌, ℕ, suc, ◌+◌, ◌-◌, ◌^◌, ◌<◌, ◌≤◌, Bool, true, false, IsFalse, IsTrue, List, [], ◌∷◌, ◌++◌, length, Option, Some, None, Result, Ok, Err, if◌then◌else◌, is_some, refl, sym, ap, subst, ◌∙◌, inl, inr, ⊎_elim, arith, length-append}
 use Rattle.std.specs.Prelude.{Contains, IfSome, IsErrAnd, count_by}
 use Rattle.std.proofs.lemmas.Bool.{false≢true}
 use Rattle.std.proofs.lemmas.List.Sums.{count_by-le-length}
@@ -45,7 +45,7 @@ use Rattle.archive_core.specs.Holdings.{AreLimits, Holdings, IsArchive, contents
 use Rattle.archive_core.specs.Looking.{IsDigestOf, RefersTo}
 use Rattle.archive_volumes.specs.Ready.{CanCommit, Incoming, IsReady, record_in}
 use Rattle.archive_core.specs.Shown.{numbered, numbers_from}
-use Rattle.archive_volumes.specs.Spots.{ArePlaced, AreSpotsOf, AreWithin, text_at, whole_from}
+use Rattle.archive_volumes.specs.Spots.{AreHeldWhole, ArePlaced, AreSpotsOf, AreWithin, text_at, whole_from}
 use Rattle.archive_core.specs.Stores.{FillsVolumes, Stores}
 use Rattle.archive_core.specs.Told.{told_of}
 use Rattle.archive_volumes.specs.Writing.{HasRoomFor, IsWay, TakesSo, Writes, end_with, texts_with, with_prepared}
@@ -94,6 +94,8 @@ module _ {D : Type 0} (d : Ghosts D) (was is : Holdings D) (journal_is : is.jour
         placed = λ told. subst (λ (l : List Spot). ArePlaced (texts d is.journal) is.book l) (sym spots_are)
             (subst (λ (b : Book). ArePlaced (texts d is.journal) b was.spots) (sym book_is)
             (subst (λ (j : Journal D). ArePlaced (texts d j) was.book was.spots) (sym journal_is) (archive.placed (sym told_is ∙ told))));
+        made = λ untold. subst (λ (l : List Spot). AreHeldWhole is.book l) (sym spots_are)
+            (subst (λ (b : Book). AreHeldWhole b was.spots) (sym book_is) (archive.made (sym told_is ∙ untold)));
         known = λ told. subst (λ (l : List Facts). AreOf is.book l) (sym index_is) (subst (λ (b : Book). AreOf b was.index) (sym book_is) (archive.known (sym told_is ∙ told)));
       }
 
@@ -396,7 +398,7 @@ module _ {D : Type 0} (d : Ghosts D) (basis : StoringBasis) (was : Holdings D) (
     module _ (laws : DiskLaws d) (journal : Journal D) (after : Book) (table : Table) (index : List Facts) (spots : List Spot)
         (holds : HoldsBook d was.told journal after) (measured : IsMeasured journal after) (table_is : table.kept ≡ whole_from 0 spots)
         (spots_are : AreSpotsOf after spots) (within : IsTrue d.tells → AreWithin (texts d journal) spots)
-        (placed : IsTrue was.told → ArePlaced (texts d journal) after spots)
+        (placed : IsTrue was.told → ArePlaced (texts d journal) after spots) (made : IsFalse was.told → AreHeldWhole after spots)
         (others : IsTrue d.tells → cdxj_files (d.reading (disk_of journal)) ≡ cdxj_files (d.reading (disk_of now.journal))) where
       laws_told : DiskLaws (muted was.told d)
       laws_told = laws_muted d was.told laws
@@ -416,7 +418,7 @@ module _ {D : Type 0} (d : Ghosts D) (basis : StoringBasis) (was : Holdings D) (
 
         pub refused_archive : IsArchive d (record was { journal = journal; book = after; table = table; index = index; spots = spots })
         refused_archive =
-            archive_left d (in_volumes was now) u.is journal after table holds measured index spots captures_stay index_stays table_is spots_are within placed
+            archive_left d (in_volumes was now) u.is journal after table holds measured index spots captures_stay index_stays table_is spots_are within placed made
             (λ told. known_left basis.stay basis.itself book after ready.prepared was.index left (u.is.known told))
 
         pub refused_stores : {T E : Type 0} (fault : E)
@@ -484,7 +486,7 @@ module _ {D : Type 0} (d : Ghosts D) (basis : StoringBasis) (was : Holdings D) (
             (entered_by number entry was.index numbered_so))
             indexed
             (more ∙ ap (λ (k : ℕ). was.revisits + k) (revisit_by incoming.taken.cut book incoming.same incoming.taken.wire u.refers))
-            table_is spots_are within placed
+            table_is spots_are within placed made
             (λ told. subst (λ (b : Book). AreOf b index) (sym with_it)
             (subst (λ (l : List Facts). AreOf (with_capture room (stored_in ready.stored)) l) (sym index_is) (known_after told)))
 

@@ -21,5 +21,6 @@ fused_is held calls is = record {
   indexed = is.indexed;
   within = is.within;
   placed = is.placed;
+  made = is.made;
   known = is.known;
 }

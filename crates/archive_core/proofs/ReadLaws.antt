@@ -20,7 +20,7 @@ use Rattle.archive_volumes.specs.Bringing.{BringsFrom, OnlyReads}
 use Rattle.archive_volumes.specs.Held.{book_of}
 use Rattle.archive_core.specs.Holdings.{Holdings, IsArchive, contents_of}
 use Rattle.archive_core.specs.Looking.{OnlyLooks}
-use Rattle.archive_volumes.specs.Spots.{ArePlaced, AreSpotsOf, AreWithin}
+use Rattle.archive_volumes.specs.Spots.{AreHeldWhole, ArePlaced, AreSpotsOf, AreWithin}
 use Rattle.archive_volumes.specs.Volumes.{HoldsBook, IsMeasured, IsQuiet}
 use Rattle.archive_volumes.specs.declared.volumes.Volumes.{Volumes}
 use Rattle.archive_core.proofs.ShownLaws.{shown_from}
@@ -58,6 +58,7 @@ module _ {D : Type 0} (d : Ghosts D) (held : Holdings D) (old new : Volumes D)
     within = λ tells. subst (λ (all : List (List ℕ)). AreWithin all held.spots) (sym (same_texts tells)) (is.within tells);
     placed = λ told. subst (λ (b : Book). ArePlaced (texts d new.journal) b held.spots) (sym same_book)
         (subst (λ (all : List (List ℕ)). ArePlaced all held.book held.spots) (sym (same_texts (is.holds.tells told))) (is.placed told));
+    made = λ untold. subst (λ (b : Book). AreHeldWhole b held.spots) (sym same_book) (is.made untold);
     known = λ told. subst (λ (b : Book). AreOf b held.index) (sym same_book) (is.known told);
   }
 

@@ -1,5 +1,5 @@
 -- What was opened makes an archive, and what may be opened of it then.
-use Rattle.std.proofs.Common.{◌≡◌, ℕ, suc, ◌+◌, ◌-◌, ◌<◌, ◌≤◌, Bool, IsTrue, List, [], ◌∷◌, length, Option, Some, None, Result, Ok, Err, refl, sym, ap, subst, ◌∙◌, inl, cond, ⊎_elim, arith}
+use Rattle.std.proofs.Common.{◌≡◌, ℕ, suc, ◌+◌, ◌-◌, ◌<◌, ◌≤◌, Bool, IsFalse, IsTrue, List, [], ◌∷◌, length, Option, Some, None, Result, Ok, Err, refl, sym, ap, subst, ◌∙◌, inl, cond, ⊎_elim, arith}
 use Rattle.std.specs.Prelude.{Contains, IfErr, IfOk, IfSome, count_by, slice_get}
 use Rattle.std.specs.List.Sorted.{IsPermutation}
 use Rattle.std.proofs.lemmas.List.Sorted.{Contains-permutation, IsPermutation-sym}
@@ -33,7 +33,8 @@ use Rattle.archive_shelf.specs.declared.fault.ReopenFault.TheVariants as faults
 use Rattle.archive_core.proofs.NamespaceLaws.{one_namespace}
 use Rattle.archive_core.proofs.ArchiveLaws.{entries_shown}
 use Rattle.archive_volumes.proofs.ChangeLaws.{DiskLaws, laws_muted, moment_told, now_image, one_of, quiet_by, stands}
-use Rattle.archive_opening.specs.Gathering.{IsInStepWith, IsOpened, IsUsable}
+use Rattle.archive_opening.proofs.KnownLaws.{none_made}
+use Rattle.archive_opening.specs.Gathering.{AreAllRead, IsInStepWith, IsOpened, IsUsable}
 use Rattle.archive_volumes.specs.Held.{book_of}
 use Rattle.archive_core.specs.Holdings.{AreLimits, Holdings, IsArchive}
 use Rattle.archive_opening.specs.Opening.{CountsFault, HoldsOther, IsCause, IsDamageIn, IsIn, IsOtherIn}
@@ -41,7 +42,7 @@ use Rattle.archive_core.specs.Reopening.{IsAskedFor, IsMadeOf, IsNotOpened, IsOu
 use Rattle.archive_core.specs.Known.{IsNotOpenedKnown, IsReopenedKnown, MayBeKnown, told_at}
 use Rattle.archive_core.specs.Shown.{numbered, numbers_from}
 use Rattle.archive_core.specs.Told.{told_of}
-use Rattle.archive_volumes.specs.Spots.{ArePlaced, AreSpotsOf, AreWithin, form_of, is_same_form}
+use Rattle.archive_volumes.specs.Spots.{AreHeldWhole, ArePlaced, AreSpotsOf, AreWithin, form_of, is_same_form}
 use Rattle.archive_volumes.specs.Volumes.{HoldsBook, IsMeasured, muted}
 use Rattle.archive_opening.specs.declared.opening.Opened.{Opened}
 use Rattle.archive_volumes.specs.declared.spot.Spot.{Spot}
@@ -62,7 +63,7 @@ same_kept (keeps.Cut wire) = refl
 -- each spot is of the capture at its place
 abbrev pub AreForms : List Spot → List Stored → Type 0
 AreForms spots all = (k : ℕ) (spot : Spot) → slice_get spots k ≡ Some spot
-    → (stored : Stored) × (slice_get all k ≡ Some stored) × (spot.form ≡ form_of stored.kept)
+    → (stored : Stored) × (slice_get all k ≡ Some stored) × (is_same_form spot.form ≡ is_same_form (form_of stored.kept))
 
 counted : (spots : List Spot) (all : List Stored) → length spots ≡ length all → AreForms spots all
     → count_by same_spot spots ≡ count_by refers all
@@ -72,7 +73,7 @@ counted (spot ∷ spots) [] same are = absurd (omega (arith, same))
 counted (spot ∷ spots) (stored ∷ others) same are =
     let at = are 0 spot refl in
     let is : at.0 ≡ stored = sym (same_Some stored at.0 at.1) in
-    let first : same_spot spot ≡ refers stored = ap is_same_form at.2 ∙ same_kept at.0.kept ∙ ap (λ (s : Stored). is_revisit s.kept) is in
+    let first : same_spot spot ≡ refers stored = at.2 ∙ same_kept at.0.kept ∙ ap (λ (s : Stored). is_revisit s.kept) is in
     let rest = counted spots others (omega (arith, same)) (λ k other placed. are (suc k) other placed) in
     sum_by-cons (λ (s : Spot). cond (same_spot s) 1 0) spot spots
     ∙ ap (λ (b : Bool). cond b 1 0 + count_by same_spot spots) first
@@ -81,7 +82,7 @@ counted (spot ∷ spots) (stored ∷ others) same are =
 
 revisits_are : (book : Book) (spots : List Spot) → AreSpotsOf book spots → count_by same_spot spots ≡ count_by refers (captures book)
 revisits_are book spots are =
-    counted spots (captures book) are.count (λ k spot at. let is = are.each k spot at in (is.stored, is.placed, is.form))
+    counted spots (captures book) are.count (λ k spot at. let is = are.each k spot at in (is.stored, is.placed, is.revisit))
 
 -- ---- the index
 
@@ -104,7 +105,7 @@ of_sorted book entries index are same =
 abbrev pub AreParts : {D : Type 0} → Ghosts D → Bool → Journal D → Book → List Spot → Table → List ℕ → List Facts → Type 0
 AreParts d told journal book spots table lengths entries =
     IsInStepWith book spots table lengths × AreSpotsOf book spots × AreEntries book entries × (IsTrue d.tells → AreWithin (texts d journal) spots)
-    × (IsTrue told → ArePlaced (texts d journal) book spots)
+    × (IsTrue told → ArePlaced (texts d journal) book spots) × (IsFalse told → AreHeldWhole book spots)
 
 -- the parts of what was opened, as they are taken out
 pub parts_of : {D : Type 0} (d : Ghosts D) (told : Bool) (opened : Opened D) → IsUsable d told opened
@@ -119,7 +120,7 @@ parts_of d told opened is entries_are journal book spots table entries ej eb es 
     (subst (λ (x : List Spot). AreParts d told opened.journal (book_of g.held) x table ls entries) (sym es)
     (subst (λ (x : Table). AreParts d told opened.journal (book_of g.held) g.spots.items x ls entries) (sym et)
     (subst (λ (x : List Facts). AreParts d told opened.journal (book_of g.held) g.spots.items g.table ls x) (sym ee)
-    (is.steady, is.spots, entries_are, is.within, is.placed)))))
+    (is.steady, is.spots, entries_are, is.within, is.placed, is.made)))))
 
 module _ {D : Type 0} (d : Ghosts D) (told : Bool) (journal : Journal D) (book : Book) (spots : List Spot) (table : Table) (lengths : List ℕ)
     (entries index : List Facts) (parts : AreParts d told journal book spots table lengths entries) (same : IsPermutation entries index) (is : IsIndex index) where
@@ -157,6 +158,7 @@ module _ {D : Type 0} (d : Ghosts D) (told : Bool) (journal : Journal D) (book :
     indexed = is;
     within = parts.3;
     placed = parts.4;
+    made = parts.5;
     known = λ so. of_index;
   }
 
@@ -343,9 +345,10 @@ told_only depths.Whole tells known so = so
 told_only depths.Checkpoints tells None so = absurd (false≢true so)
 told_only depths.Checkpoints tells (Some book) so = so
 
--- what is usable where all is told is so where less is
-pub usable_as : {D : Type 0} (d : Ghosts D) (opened : Opened D) (told : Bool) → (IsTrue told → IsTrue d.tells) → IsUsable d d.tells opened → IsUsable d told opened
-usable_as d opened told tells is = record {
+-- what is usable where all is told is so where less is: each capture was read
+pub usable_as : {D : Type 0} (d : Ghosts D) (opened : Opened D) (told : Bool) → (IsTrue told → IsTrue d.tells) → IsUsable d d.tells opened
+    → AreAllRead opened.gathered.spots.items → IsUsable d told opened
+usable_as d opened told tells is all = record {
   measured = is.measured;
   steady = is.steady;
   spots = is.spots;
@@ -356,4 +359,5 @@ usable_as d opened told tells is = record {
   sound = λ so. is.sound (tells so);
   texts_are = λ so. is.texts_are (tells so);
   placed = λ so. is.placed (tells so);
+  made = λ untold. none_made (book_of opened.gathered.held) opened.gathered.spots.items all;
 }

@@ -22,7 +22,7 @@ use Rattle.archive_volumes.specs.Held.{is_filled}
 use Rattle.archive_core.specs.Holdings.{Holdings, IsArchive}
 use Rattle.archive_core.specs.Rolling.{MayBeRefused, Rolls, WritesNoVolume}
 use Rattle.archive_volumes.specs.Volumes.{HoldsBook, IsMeasured, Makes, muted}
-use Rattle.archive_volumes.proofs.SpotLaws.{GoOn, placed_stay, spots_stay, within_stay}
+use Rattle.archive_volumes.proofs.SpotLaws.{GoOn, made_stay, placed_stay, spots_stay, within_stay}
 
 -- ---- the volumes
 
@@ -96,6 +96,7 @@ stays_archive d entries_stay was journal book is holds measured same grows on = 
   within = λ tells. within_stay (texts d was.journal) (texts d journal) (on tells) was.spots (is.within tells);
   placed = λ told. placed_stay (texts d was.journal) (texts d journal) (on (is.holds.tells told)) was.book book []
       (same ∙ sym (append-nil (captures was.book))) grows was.spots (is.placed told);
+  made = λ untold. made_stay was.book book [] (same ∙ sym (append-nil (captures was.book))) grows was.spots (is.made untold);
   known = λ told. entries_stay was.book book was.index grows same (is.known told);
 }
 

@@ -1,5 +1,5 @@
 -- What an archive holds after a store.
-use Rattle.std.proofs.Common.{◌≡◌, ◌⊎◌, ℕ, ◌+◌, ◌<◌, Bool, true, false, IsTrue, List, [], ◌∷◌, ◌++◌, length, sym, ap, subst, ◌∙◌, ⊎_elim, arith, length-append, if◌then◌else◌, cond}
+use Rattle.std.proofs.Common.{◌≡◌, ◌⊎◌, ℕ, ◌+◌, ◌<◌, Bool, true, false, IsFalse, IsTrue, List, [], ◌∷◌, ◌++◌, length, sym, ap, subst, ◌∙◌, ⊎_elim, arith, length-append, if◌then◌else◌, cond}
 use Rattle.std.specs.Prelude.{Contains, count_by}
 use Rattle.std.proofs.lemmas.List.Sums.{sum_by-append, sum_by-cons}
 use Rattle.capture.specs.Captures.{captures}
@@ -16,7 +16,7 @@ use Rattle.warc_journal.specs.declared.journal.Journal.{Journal}
 use Rattle.archive_shelf.proofs.EntryLaws.{contains_entry}
 use Rattle.archive_shelf.specs.Storing.{is_revisit}
 use Rattle.archive_core.specs.Holdings.{Holdings, IsArchive}
-use Rattle.archive_volumes.specs.Spots.{ArePlaced, AreSpotsOf, AreWithin, whole_from}
+use Rattle.archive_volumes.specs.Spots.{AreHeldWhole, ArePlaced, AreSpotsOf, AreWithin, whole_from}
 use Rattle.archive_volumes.specs.Volumes.{HoldsBook, IsMeasured}
 use Rattle.archive_volumes.specs.declared.spot.Spot.{Spot}
 
@@ -39,9 +39,9 @@ module _ {D : Type 0} (d : Ghosts D) (was : Holdings D) (is : IsArchive d was) (
   pub archive_left : (index : List Facts) (spots : List Spot) → captures now ≡ captures was.book → index ≡ was.index
       → table.kept ≡ whole_from 0 spots → AreSpotsOf now spots
       → (IsTrue d.tells → AreWithin (texts d journal) spots)
-      → (IsTrue was.told → ArePlaced (texts d journal) now spots) → (IsTrue was.told → AreOf now was.index)
+      → (IsTrue was.told → ArePlaced (texts d journal) now spots) → (IsFalse was.told → AreHeldWhole now spots) → (IsTrue was.told → AreOf now was.index)
       → IsArchive d (record was { journal = journal; book = now; table = table; index = index; spots = spots })
-  archive_left index spots same stays kept are within placed known =
+  archive_left index spots same stays kept are within placed made known =
       let count : length (captures now) ≡ length (captures was.book) = ap (λ (l : List Stored). length l) same in
       record {
         holds = holds;
@@ -58,6 +58,7 @@ module _ {D : Type 0} (d : Ghosts D) (was : Holdings D) (is : IsArchive d was) (
         indexed = subst IsIndex (sym stays) is.indexed;
         within = within;
         placed = placed;
+        made = made;
         known = λ told. subst (λ (l : List Facts). AreOf now l) (sym stays) (known told);
       }
 
@@ -68,9 +69,9 @@ module _ {D : Type 0} (d : Ghosts D) (was : Holdings D) (is : IsArchive d was) (
       → IsIndex index → revisits ≡ was.revisits + (if is_revisit stored.kept then 1 else 0)
       → table.kept ≡ whole_from 0 spots → AreSpotsOf now spots
       → (IsTrue d.tells → AreWithin (texts d journal) spots)
-      → (IsTrue was.told → ArePlaced (texts d journal) now spots) → (IsTrue was.told → AreOf now index)
+      → (IsTrue was.told → ArePlaced (texts d journal) now spots) → (IsFalse was.told → AreHeldWhole now spots) → (IsTrue was.told → AreOf now index)
       → IsArchive d (record was { journal = journal; book = now; table = table; index = index; spots = spots; revisits = revisits })
-  archive_stored stored index spots revisits gains not_full entered indexed more kept are within placed known =
+  archive_stored stored index spots revisits gains not_full entered indexed more kept are within placed made known =
       let count : length (captures now) ≡ length (captures was.book) + 1 =
       ap (λ (l : List Stored). length l) gains ∙ length-append (captures was.book) (stored ∷ []) in
       record {
@@ -98,5 +99,6 @@ module _ {D : Type 0} (d : Ghosts D) (was : Holdings D) (is : IsArchive d was) (
         indexed = indexed;
         within = within;
         placed = placed;
+        made = made;
         known = known;
       }

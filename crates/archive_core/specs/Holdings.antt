@@ -1,5 +1,5 @@
 -- What an archive over a disk holds, and what is told of it.
-use Rattle.std.specs.Prelude.{◌≡◌, ℕ, ◌-◌, ◌^◌, ◌<◌, ◌≤◌, Bool, IsTrue, List, length, count_by, Contains}
+use Rattle.std.specs.Prelude.{◌≡◌, ℕ, ◌-◌, ◌^◌, ◌<◌, ◌≤◌, Bool, IsFalse, IsTrue, List, length, count_by, Contains}
 use Rattle.capture.specs.Captures.{captures}
 use Rattle.capture.specs.declared.book.Book.{Book}
 use Rattle.capture.specs.declared.captured.Stored.{Stored}
@@ -14,7 +14,7 @@ use Rattle.warc_journal.specs.declared.journal.Journal.{Journal}
 use Rattle.archive_shelf.specs.Contents.{Contents}
 use Rattle.archive_shelf.specs.Storing.{is_revisit}
 use Rattle.archive_core.specs.Shown.{numbered, numbers_from}
-use Rattle.archive_volumes.specs.Spots.{ArePlaced, AreSpotsOf, AreWithin, whole_from}
+use Rattle.archive_volumes.specs.Spots.{AreHeldWhole, ArePlaced, AreSpotsOf, AreWithin, whole_from}
 use Rattle.archive_volumes.specs.Volumes.{HoldsBook, IsMeasured}
 use Rattle.archive_volumes.specs.declared.spot.Spot.{Spot}
 
@@ -47,7 +47,8 @@ pub record IsCounted {D : Type 0} (held : Holdings D) : Type 0 where
 
 -- What holds of an archive at each call: of every disk what doesn't speak of bytes; where the disk tells what it holds, that what is
 -- read of the captures is within the volumes; and where the book is told, which is only of a disk that tells, that they stand there
--- where it says, and that the index is that of the book.
+-- where it says, and that the index is that of the book. Where it isn't, each capture that a line alone told of and that is no revisit counts
+-- as one that keeps its whole wire.
 pub record IsArchive {D : Type 0} (d : Ghosts D) (held : Holdings D) : Type 0 where
   pub holds : HoldsBook d held.told held.journal held.book
   pub measured : IsMeasured held.journal held.book
@@ -57,6 +58,7 @@ pub record IsArchive {D : Type 0} (d : Ghosts D) (held : Holdings D) : Type 0 wh
   pub indexed : IsIndex held.index
   pub within : IsTrue d.tells → AreWithin (texts d held.journal) held.spots
   pub placed : IsTrue held.told → ArePlaced (texts d held.journal) held.book held.spots
+  pub made : IsFalse held.told → AreHeldWhole held.book held.spots
   pub known : IsTrue held.told → AreOf held.book held.index
 
 -- what is told of an archive

@@ -32,8 +32,13 @@ impl<D: Disk> Archive<D> {
         if number >= count {
             return Err(BringFault::NoSuch { count });
         }
-        self.volumes
-            .bring(&self.told, alloc, self.spots.as_slice(), number)
+        self.volumes.bring(
+            &self.told,
+            alloc,
+            self.spots.as_slice(),
+            &self.table,
+            number,
+        )
     }
 
     /// What holds of an archive at each call. A trait's method has no clause of its own that says it.

@@ -1,4 +1,4 @@
-use Rattle.std.proofs.Common.{rules, ◌≡◌, ◌<◌, ◌≤◌, refl, sym, subst, ◌∙◌, arith}
+use Rattle.std.proofs.Common.{rules, ◌≡◌, ◌<◌, ◌≤◌, List, refl, sym, ap, subst, ◌∙◌, arith}
 use Rattle.std.specs.Prelude.{length}
 use Rattle.capture.specs.Captures.{captures}
 use Rattle.capture.specs.declared.book.Book.{Book}
@@ -7,7 +7,8 @@ use Rattle.archive_shelf.specs.Digests.{GoesByDigest}
 use Rattle.archive_volumes.specs.Bringing.{BringsFrom}
 use Rattle.archive_volumes.specs.Held.{book_of}
 use Rattle.warc_journal.specs.Journals.{texts}
-use Rattle.archive_volumes.specs.Spots.{ArePlaced, AreWithin}
+use Rattle.archive_volumes.specs.Spots.{ArePlaced, AreWithin, whole_from}
+use Rattle.archive_volumes.specs.declared.spot.Spot.{Spot}
 use Rattle.archive_core.specs.Holdings.{Holdings, IsArchive}
 use Rattle.archive_core.specs.Looking.{OnlyLooks}
 use Rattle.archive_core.specs.View.{holdings_of}
@@ -36,6 +37,10 @@ pub bring-requires-clause-within : goal.bring-requires-clause-within
 bring-requires-clause-within g c told =
     subst (AreWithin (texts g.D.Disk c.self.inside.volumes.journal)) (sym c.as_slice.ensures.value)
     (c.self.invariant.within told)
+
+pub bring-requires-clause-table : goal.bring-requires-clause-table
+bring-requires-clause-table g c =
+    c.self.invariant.table ∙ sym (ap (λ (l : List Spot). whole_from 0 l) c.as_slice.ensures.value)
 
 pub invariant_of-self : goal.invariant_of-self
 invariant_of-self g c =

@@ -7,7 +7,7 @@ use Rattle.revisit_table.specs.Table.{numbers_of}
 use Rattle.archive_shelf.specs.Comparing.{IsRight}
 use Rattle.archive_volumes.specs.Choosing.{LooksOn}
 use Rattle.archive_volumes.specs.Held.{book_of}
-use Rattle.archive_volumes.specs.Spots.{ArePlaced, AreWithin, whole_from}
+use Rattle.archive_volumes.specs.Spots.{AreHeldWhole, ArePlaced, AreWithin, whole_from}
 use Rattle.warc_journal.specs.Journals.{texts}
 use Rattle.archive_core.specs.Holdings.{Holdings}
 use Rattle.archive_core.specs.Looking.{OnlyLooks}
@@ -28,6 +28,10 @@ pub look_on_wire-requires-clause-within : goal.look_on_wire-requires-clause-with
 look_on_wire-requires-clause-within g c told =
     subst (AreWithin (texts g.D.Disk c.self.inside.volumes.journal)) (sym c.as_slice.ensures.value)
     (c.self.invariant.within told)
+
+pub look_on_wire-requires-clause-made : goal.look_on_wire-requires-clause-made
+look_on_wire-requires-clause-made g c untold =
+    subst (AreHeldWhole (book_of c.self.inside.volumes.held)) (sym c.as_slice.ensures.value) (c.self.invariant.made untold)
 
 pub invariant_of-self : goal.invariant_of-self
 invariant_of-self g c =

@@ -17,7 +17,7 @@ pub archive_of-requires-clause-usable : goal.archive_of-requires-clause-usable
 archive_of-requires-clause-usable g c =
     subst (λ (told : Bool). IsUsable g.D.Disk told c.in-Ok.opened) (sym c.told_by-told.ensures)
     (laws.usable_as g.D.Disk c.in-Ok.opened (told_at c.args.depth g.D.Disk.tells g.known) (laws.told_only c.args.depth g.D.Disk.tells g.known)
-    c.in-Ok.ensures.opened.usable)
+    c.in-Ok.ensures.opened.usable c.in-Ok.ensures.opened.all_read)
 
 pub archive_of-requires-clause-entries : goal.archive_of-requires-clause-entries
 archive_of-requires-clause-entries g c = c.in-Ok.ensures.opened.entries

@@ -16,7 +16,7 @@ use Rattle.archive_volumes.specs.Entries.{EntersAs, entered}
 use Rattle.archive_volumes.specs.Held.{book_of, stored_in}
 use Rattle.archive_core.specs.Holdings.{Holdings, contents_of}
 use Rattle.archive_core.specs.Looking.{RefersTo}
-use Rattle.archive_volumes.specs.Spots.{ArePlaced, AreSpotsOf, AreWithin, whole_from}
+use Rattle.archive_volumes.specs.Spots.{AreHeldWhole, ArePlaced, AreSpotsOf, AreWithin, whole_from}
 use Rattle.archive_volumes.specs.Ready.{incoming_of}
 use Rattle.archive_core.specs.Stores.{Stores}
 use Rattle.archive_core.specs.View.{holdings_of}
@@ -305,7 +305,9 @@ invariant_of-self-in-Err g c =
     laws.refused_archive g.D.Disk c.storing_has_a_basis.ensures was now (incoming_of c.args.taken.now c.args.digest.now c.args.same) ready u c.record_at-at.result c.len-number.result
     c.record_at-at.ensures number c.in_ok-entry.entry enters (disk_laws g)
     c.commit.new.self.journal (book_of c.commit.new.self.held) c.commit.new.table c.take_back.new.self c.commit.new.spots.items
-    c.commit.ensures.holds c.commit.ensures.measured c.commit.ensures.table c.commit.ensures.spots c.commit.ensures.within c.commit.ensures.placed c.commit.ensures.others
+    c.commit.ensures.holds c.commit.ensures.measured c.commit.ensures.table c.commit.ensures.spots c.commit.ensures.within c.commit.ensures.placed
+    (λ untold. c.commit.ensures.made (subst (λ (l : List Spot). AreHeldWhole (book_of now.held) l) (sym c.reserve_kept.ensures.spots) (u.is.made untold)))
+    c.commit.ensures.others
     c.in-Err.ensures.left back
 
 pub returns-in-Err-clause-stores : goal.returns-in-Err-clause-stores
@@ -340,7 +342,9 @@ returns-in-Err-clause-stores g c =
     (laws.refused_stores g.D.Disk c.storing_has_a_basis.ensures was now (incoming_of c.args.taken.now c.args.digest.now c.args.same) ready u c.record_at-at.result c.len-number.result
     c.record_at-at.ensures number c.in_ok-entry.entry enters (disk_laws g)
     c.commit.new.self.journal (book_of c.commit.new.self.held) c.commit.new.table c.take_back.new.self c.commit.new.spots.items
-    c.commit.ensures.holds c.commit.ensures.measured c.commit.ensures.table c.commit.ensures.spots c.commit.ensures.within c.commit.ensures.placed c.commit.ensures.others
+    c.commit.ensures.holds c.commit.ensures.measured c.commit.ensures.table c.commit.ensures.spots c.commit.ensures.within c.commit.ensures.placed
+    (λ untold. c.commit.ensures.made (subst (λ (l : List Spot). AreHeldWhole (book_of now.held) l) (sym c.reserve_kept.ensures.spots) (u.is.made untold)))
+    c.commit.ensures.others
     c.in-Err.ensures.left back c.in-Err.field-0
     c.in-Err.ensures.writes
     c.in-Err.ensures.faults)
@@ -373,7 +377,9 @@ invariant_of-self-in-Ok g c =
     laws.stored_archive g.D.Disk c.storing_has_a_basis.ensures was now (incoming_of c.args.taken.now c.args.digest.now c.args.same) ready u c.record_at-at.result c.len-number.result
     c.record_at-at.ensures number c.in_ok-entry.entry enters (disk_laws g)
     c.commit.new.self.journal (book_of c.commit.new.self.held) c.commit.new.table c.enter.new.index c.commit.new.spots.items
-    c.commit.ensures.holds c.commit.ensures.measured c.commit.ensures.table c.commit.ensures.spots c.commit.ensures.within c.commit.ensures.placed c.commit.ensures.others
+    c.commit.ensures.holds c.commit.ensures.measured c.commit.ensures.table c.commit.ensures.spots c.commit.ensures.within c.commit.ensures.placed
+    (λ untold. c.commit.ensures.made (subst (λ (l : List Spot). AreHeldWhole (book_of now.held) l) (sym c.reserve_kept.ensures.spots) (u.is.made untold)))
+    c.commit.ensures.others
     (c.self.inside.revisits + c.revisits_in.result) c.in-Ok.ensures.stored c.in_ok-enter.ensures.entered c.enter.ensures.indexed more
 
 pub returns-in-Ok-clause-stores : goal.returns-in-Ok-clause-stores
@@ -407,7 +413,9 @@ returns-in-Ok-clause-stores g c =
     (laws.stored_stores g.D.Disk c.storing_has_a_basis.ensures was now (incoming_of c.args.taken.now c.args.digest.now c.args.same) ready u c.record_at-at.result c.len-number.result
     c.record_at-at.ensures number c.in_ok-entry.entry enters (disk_laws g)
     c.commit.new.self.journal (book_of c.commit.new.self.held) c.commit.new.table c.enter.new.index c.commit.new.spots.items
-    c.commit.ensures.holds c.commit.ensures.measured c.commit.ensures.table c.commit.ensures.spots c.commit.ensures.within c.commit.ensures.placed c.commit.ensures.others
+    c.commit.ensures.holds c.commit.ensures.measured c.commit.ensures.table c.commit.ensures.spots c.commit.ensures.within c.commit.ensures.placed
+    (λ untold. c.commit.ensures.made (subst (λ (l : List Spot). AreHeldWhole (book_of now.held) l) (sym c.reserve_kept.ensures.spots) (u.is.made untold)))
+    c.commit.ensures.others
     (c.self.inside.revisits + c.revisits_in.result) c.in-Ok.ensures.stored c.in_ok-enter.ensures.entered
     c.in-Ok.field-0
     c.in-Ok.ensures.writes
