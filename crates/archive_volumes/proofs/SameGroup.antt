@@ -29,15 +29,15 @@ use Rattle.archive_volumes.specs.Spots.{form_of, is_same_form}
 -- ---- whether a capture is a revisit
 
 -- what is kept goes with what is referred to
-abbrev Goes : Option Reference → Kept → Type 0
+abbrev pub Goes : Option Reference → Kept → Type 0
 Goes same (Wire wire) = same ≡ None
 Goes same (Same number) = same ≢ None
 Goes same (Cut wire) = same ≡ None
 
-some_isnt : (r : Reference) → Some r ≡ None → ⊥
+pub some_isnt : (r : Reference) → Some r ≡ None → ⊥
 some_isnt r e = cc
 
-goes_by_answer : (method head digest : List ℕ) (same : Option Reference) (kept : Kept) → IsAnswer method head digest same kept → Goes same kept
+pub goes_by_answer : (method head digest : List ℕ) (same : Option Reference) (kept : Kept) → IsAnswer method head digest same kept → Goes same kept
 goes_by_answer method head digest same (Wire wire) is = is.0
 goes_by_answer method head digest same (Same number) is = λ none. some_isnt is.1.reference (sym is.1.refers ∙ none)
 goes_by_answer method head digest same (Cut wire) is = is.0
@@ -140,16 +140,16 @@ module _ (book : Book) (sound : IsSound book) (number : ℕ) (bytes : List ℕ) 
   pub digest_is : group.digest ≡ sha1 g.payload
   digest_is = equal.payload_digest
 
-  refers : reference_in group.same ≡ reference_of book.namespace g.same
+  pub refers : reference_in group.same ≡ reference_of book.namespace g.same
   refers = equal.refers ∙ reference_found book.namespace g.same
 
-  goes : Goes (reference_in group.same) group.stored.kept
+  pub goes : Goes (reference_in group.same) group.stored.kept
   goes = goes_by_answer group.stored.method group.stored.head group.digest (reference_in group.same) group.stored.kept is.answer
 
-  goes_in_book : Goes (reference_in group.same) (kept_found g.stored.kept)
+  pub goes_in_book : Goes (reference_in group.same) (kept_found g.stored.kept)
   goes_in_book = subst (λ (s : Option Reference). Goes s (kept_found g.stored.kept)) (sym refers) (goes_by_reference book g.stored.kept g.same g.refers)
 
-  taken : taken_back group.stored ≡ taken_back g.stored
+  pub taken : taken_back group.stored ≡ taken_back g.stored
   taken = one_taken group.stored g.stored (reference_in group.same) group.stored.kept (kept_found g.stored.kept) equal.captures goes goes_in_book
       ∙ taken_found g.stored
 

@@ -1,5 +1,5 @@
 -- The line of a group of a book is that of its capture, and the next group begins where it ends.
-use Rattle.std.proofs.Common.{◌≡◌, ◌≢◌, ℕ, suc, ◌+◌, ◌<◌, ◌≤◌, Bool, List, [], ◌∷◌, ◌++◌, length, get_or, take, Option, Some, None, refl, sym, ap, subst, ◌∙◌, arith, append-nil, length-append}
+use Rattle.std.proofs.Common.{◌≡◌, ℕ, suc, ◌+◌, ◌<◌, ◌≤◌, Bool, List, [], ◌∷◌, ◌++◌, length, get_or, take, Option, Some, None, refl, sym, ap, subst, ◌∙◌, arith, append-nil, length-append}
 use Rattle.std.specs.Prelude.{is_some}
 use Rattle.std.proofs.lemmas.List.{get_or-take, length-take-le}
 use Rattle.std.proofs.lemmas.List.Folds.{length-flat_map-take}
@@ -7,14 +7,13 @@ use Rattle.std.proofs.Math.Seq.{take-suc}
 use Rattle.std.proofs.lemmas.Grind.{flat_map-append}
 use Rattle.std.proofs.lemmas.List.Concat.{flat_map-cons}
 use Rattle.httparse.specs.Grammar.{ResponseHead}
-use Rattle.capture.specs.Captures.{first_number, is_cut, kept_wire, taken_back}
+use Rattle.sha1.specs.Sha1.{sha1}
+use Rattle.capture.specs.Captures.{first_number, taken_back}
 use Rattle.capture.specs.Fields.{NamedValue, named_values}
 use Rattle.capture.specs.Message.{IsResponseHeadText}
-use Rattle.capture.specs.WellFormed.{RespondsTo}
 use Rattle.capture.specs.declared.book.Book.{Book}
 use Rattle.capture.specs.declared.captured.Kept.{Kept}
 use Rattle.capture.specs.declared.captured.Kept.TheVariants.{Wire, Same, Cut}
-use Rattle.capture.specs.declared.captured.Stored.{Stored}
 use Rattle.capture.specs.declared.captured.Taken.{Taken}
 use Rattle.capture.proofs.PayloadLaws.{captures_have_one}
 use Rattle.surt_key.specs.Key.{key_of}
@@ -23,24 +22,21 @@ use Rattle.cdxj_line.specs.declared.line.Line.{Line}
 use Rattle.cdxj_index.specs.OfBook.{IsBefore, IsEntryOf, mime_by}
 use Rattle.cdxj_index.specs.Facts.{Facts}
 use Rattle.cdxj_index.specs.OfLine.{facts_of, line_at}
-use Rattle.warc_scan.specs.Groups.{IsAnswer, IsGroup, reference_in}
+use Rattle.warc_scan.specs.Groups.{IsGroup, reference_in}
 use Rattle.warc_scan.specs.Outlines.{IsOutlineOf}
 use Rattle.warc_scan.specs.declared.group.Group.{Group}
 use Rattle.warc_scan.specs.declared.group.Revisited.{Revisited}
 use Rattle.warc_scan.specs.declared.outline.Outline.{Outline}
 use Rattle.warc_text.proofs.OneTextLaws.{one_group}
-use Rattle.warc_text.proofs.EqualLaws.{equal_groups_are_of_equal_captures}
-use Rattle.warc_text.specs.Books.{IsGroupText, IsVolumeText, RefersBy, joined}
+use Rattle.warc_text.specs.Books.{IsGroupText, IsVolumeText, joined}
 use Rattle.warc_text.specs.Growth.{NumbersHaveOneGroup}
-use Rattle.warc_text.specs.Groups.{AreOfEqualCaptures, AreOneCapture, HasMessages}
 use Rattle.warc_text.specs.Ids.{id_of}
 use Rattle.warc_text.specs.Records.{answer_text, info_text}
 use Rattle.warc_text.specs.References.{Reference, reference_of}
 use Rattle.warc_text.specs.Sound.{IsSound}
 use Rattle.warc_text.specs.declared.id.IdKind.TheVariants as ids
-use Rattle.warc_text.specs.declared.same_of.SameOf.{SameOf}
-use Rattle.volume_scan.proofs.FoundGroups.{as_found, group_found, group_is_found, kept_found, revisited_of}
-use Rattle.volume_scan.proofs.FoundTexts.{found_writable}
+use Rattle.volume_scan.proofs.FoundGroups.{kept_found}
+use Rattle.archive_volumes.proofs.SameGroup.{Goes, digest_is, goes, goes_by_answer, goes_in_book, refers, some_isnt, taken}
 use Rattle.archive_volumes.specs.Entries.{IsAskedOf, IsToldAs, told_facts}
 use Rattle.archive_volumes.specs.declared.entry.RecordAt.{RecordAt}
 use Rattle.archive_volumes.specs.Spots.{form_of, is_same_form}
@@ -49,110 +45,37 @@ use Rattle.volume_lines.specs.OfGroups.{GoesOnBy, IsLineAt, front_of, record_at}
 
 -- ---- whether a capture is a revisit
 
--- what is kept goes with what is referred to
-abbrev Goes : Option Reference → Kept → Type 0
-Goes same (Wire wire) = same ≡ None
-Goes same (Same number) = same ≢ None
-Goes same (Cut wire) = same ≡ None
-
-some_isnt : (r : Reference) → Some r ≡ None → ⊥
-some_isnt r e = cc
-
-goes_by_answer : (method head digest : List ℕ) (same : Option Reference) (kept : Kept) → IsAnswer method head digest same kept → Goes same kept
-goes_by_answer method head digest same (Wire wire) is = is.0
-goes_by_answer method head digest same (Same number) is = λ none. some_isnt is.1.reference (sym is.1.refers ∙ none)
-goes_by_answer method head digest same (Cut wire) is = is.0
-
-goes_by_reference : (book : Book) (kept : Kept) (same : Option SameOf) → RefersBy book kept same → Goes (reference_of book.namespace same) (kept_found kept)
-goes_by_reference book (Wire wire) same is = ap (reference_of book.namespace) is
-goes_by_reference book (Same first) same is = λ none. cc
-goes_by_reference book (Cut wire) same is = ap (reference_of book.namespace) is
-
-one_taken : (a b : Stored) (same : Option Reference) (ka kb : Kept)
-    → AreOneCapture same (taken_back (record a { kept = ka })) (taken_back (record b { kept = kb })) → Goes same ka → Goes same kb
-    → taken_back (record a { kept = ka }) ≡ taken_back (record b { kept = kb })
-one_taken a b None ka kb is goes goes₂ = is
-one_taken a b (Some r) (Wire wire) kb is goes goes₂ = absurd (some_isnt r goes)
-one_taken a b (Some r) (Cut wire) kb is goes goes₂ = absurd (some_isnt r goes)
-one_taken a b (Some r) (Same n) (Wire wire) is goes goes₂ = absurd (some_isnt r goes₂)
-one_taken a b (Some r) (Same n) (Cut wire) is goes goes₂ = absurd (some_isnt r goes₂)
-one_taken a b (Some r) (Same n) (Same m) is goes goes₂ = is
-
 pub revisit_by : (same : Option Reference) (kept : Kept) → Goes same kept → is_some same ≡ is_same_form (form_of kept)
-revisit_by None (Wire wire) goes = refl
-revisit_by (Some r) (Wire wire) goes = absurd (some_isnt r goes)
-revisit_by None (Same n) goes = absurd (goes refl)
-revisit_by (Some r) (Same n) goes = refl
-revisit_by None (Cut wire) goes = refl
-revisit_by (Some r) (Cut wire) goes = absurd (some_isnt r goes)
+revisit_by None (Wire wire) its = refl
+revisit_by (Some r) (Wire wire) its = absurd (some_isnt r its)
+revisit_by None (Same n) its = absurd (its refl)
+revisit_by (Some r) (Same n) its = refl
+revisit_by None (Cut wire) its = refl
+revisit_by (Some r) (Cut wire) its = absurd (some_isnt r its)
 
 mime_same : (same : Option Reference) (a b : Kept) (fields : List NamedValue) → Goes same a → Goes same (kept_found b) → mime_by a fields ≡ mime_by b fields
-mime_same same (Wire v) (Wire w) fields goes goes₂ = refl
-mime_same same (Wire v) (Same n) fields goes goes₂ = absurd (goes₂ goes)
-mime_same same (Wire v) (Cut w) fields goes goes₂ = refl
-mime_same same (Same n) (Wire w) fields goes goes₂ = absurd (goes goes₂)
-mime_same same (Same n) (Same m) fields goes goes₂ = refl
-mime_same same (Same n) (Cut w) fields goes goes₂ = absurd (goes goes₂)
-mime_same same (Cut v) (Wire w) fields goes goes₂ = refl
-mime_same same (Cut v) (Same n) fields goes goes₂ = absurd (goes₂ goes)
-mime_same same (Cut v) (Cut w) fields goes goes₂ = refl
-
--- what is found of a book's capture is that capture
-reference_found : (namespace : List ℕ) (same : Option SameOf) → reference_in (revisited_of namespace same) ≡ reference_of namespace same
-reference_found namespace None = refl
-reference_found namespace (Some s) = refl
-
-taken_by : (stored : Stored) (kept : Kept) → taken_back (record stored { kept = kept_found kept }) ≡ taken_back (record stored { kept = kept })
-taken_by stored (Wire wire) = refl
-taken_by stored (Same number) = refl
-taken_by stored (Cut wire) = refl
-
-taken_found : (stored : Stored) → taken_back (as_found stored) ≡ taken_back stored
-taken_found stored = taken_by stored stored.kept
-
--- ---- the messages of a group
-
-responds_by : (method head digest : List ℕ) (same : Option Reference) (kept : Kept) → IsAnswer method head digest same kept
-    → same ≡ None → RespondsTo (is_cut kept) method head (kept_wire kept)
-responds_by method head digest same (Wire wire) is none = is.1.responds
-responds_by method head digest same (Same number) is none = absurd (some_isnt is.1.reference (sym is.1.refers ∙ none))
-responds_by method head digest same (Cut wire) is none = is.1.responds
-
-messages : (namespace : List ℕ) (number : ℕ) (text : List ℕ) (group : Group) → IsGroup namespace number text group
-    → HasMessages (taken_back group.stored) (reference_in group.same)
-messages namespace number text group is = record {
-  request = is.request;
-  response = responds_by group.stored.method group.stored.head group.digest (reference_in group.same) group.stored.kept is.answer;
-}
+mime_same same (Wire v) (Wire w) fields its their = refl
+mime_same same (Wire v) (Same n) fields its their = absurd (their its)
+mime_same same (Wire v) (Cut w) fields its their = refl
+mime_same same (Same n) (Wire w) fields its their = absurd (its their)
+mime_same same (Same n) (Same m) fields its their = refl
+mime_same same (Same n) (Cut w) fields its their = absurd (its their)
+mime_same same (Cut v) (Wire w) fields its their = refl
+mime_same same (Cut v) (Same n) fields its their = absurd (their its)
+mime_same same (Cut v) (Cut w) fields its their = refl
 
 -- ---- the group of a book's capture
 
 module _ (book : Book) (sound : IsSound book) (number : ℕ) (bytes : List ℕ) (g : IsGroupText book number bytes) (group : Group)
     (is : IsGroup book.namespace number bytes group) where
-  abbrev found : Group
-  found = group_found book sound number bytes g is.short
+  one_taken : taken_back group.stored ≡ taken_back g.stored
+  one_taken = taken book sound number bytes g group is
 
-  found_is : IsGroup book.namespace number bytes found
-  found_is = group_is_found book sound number bytes g is.short
+  one_digest : group.digest ≡ sha1 g.payload
+  one_digest = digest_is book sound number bytes g group is
 
-  equal : AreOfEqualCaptures (taken_back group.stored) (taken_back found.stored) group.digest found.digest (reference_in group.same) (reference_in found.same)
-  equal = equal_groups_are_of_equal_captures book.namespace number (taken_back group.stored) (taken_back found.stored) group.digest found.digest
-      (reference_in group.same) (reference_in found.same) (found_writable book.namespace number bytes group is)
-      (found_writable book.namespace number bytes found found_is) (messages book.namespace number bytes group is)
-      (messages book.namespace number bytes found found_is) (sym is.composed ∙ found_is.composed)
-
-  refers : reference_in group.same ≡ reference_of book.namespace g.same
-  refers = equal.refers ∙ reference_found book.namespace g.same
-
-  goes : Goes (reference_in group.same) group.stored.kept
-  goes = goes_by_answer group.stored.method group.stored.head group.digest (reference_in group.same) group.stored.kept is.answer
-
-  goes_in_book : Goes (reference_in group.same) (kept_found g.stored.kept)
-  goes_in_book = subst (λ (s : Option Reference). Goes s (kept_found g.stored.kept)) (sym refers) (goes_by_reference book g.stored.kept g.same g.refers)
-
-  taken : taken_back group.stored ≡ taken_back g.stored
-  taken = one_taken group.stored g.stored (reference_in group.same) group.stored.kept (kept_found g.stored.kept) equal.captures goes goes_in_book
-      ∙ taken_found g.stored
+  one_reference : reference_in group.same ≡ reference_of book.namespace g.same
+  one_reference = refers book sound number bytes g group is
 
   abbrev Place : ℕ → ℕ → ℕ → List ℕ → Type 0
   Place k at place before = (number ≡ first_number book k + place) × IsBefore book k place before × (at ≡ length before)
@@ -163,21 +86,22 @@ module _ (book : Book) (sound : IsSound book) (number : ℕ) (bytes : List ℕ) 
     text = bytes;
     group = g;
     head = head;
-    parsed = subst (λ (h : List ℕ). IsResponseHeadText h head) (ap (λ (t : Taken). t.head) taken) parsed;
-    keyed = ap key_of (sym (ap (λ (t : Taken). t.uri) taken)) ∙ keyed;
-    date_is = ap (λ (t : Taken). t.date) taken;
+    parsed = subst (λ (h : List ℕ). IsResponseHeadText h head) (ap (λ (t : Taken). t.head) one_taken) parsed;
+    keyed = ap key_of (sym (ap (λ (t : Taken). t.uri) one_taken)) ∙ keyed;
+    date_is = ap (λ (t : Taken). t.date) one_taken;
     number_is = is.number_is;
-    uri_is = ap (λ (t : Taken). t.uri) taken;
-    mime_is = mime_same (reference_in group.same) group.stored.kept g.stored.kept (named_values head.fields) goes goes_in_book;
+    uri_is = ap (λ (t : Taken). t.uri) one_taken;
+    mime_is = mime_same (reference_in group.same) group.stored.kept g.stored.kept (named_values head.fields)
+        (goes book sound number bytes g group is) (goes_in_book book sound number bytes g group is);
     status_is = refl;
-    digest_is = equal.payload_digest;
+    digest_is = one_digest;
     place = place;
     before = before;
     numbered = there.0;
     behind = there.1;
     offset_is = there.2;
     length_is = is.places.first_len
-        ∙ (λ i. length (answer_text (id_of book.namespace ids.Response number) (taken i) (equal.payload_digest i) (refers i)));
+        ∙ (λ i. length (answer_text (id_of book.namespace ids.Response number) (one_taken i) (one_digest i) (one_reference i)));
   }
 
   pub line_is_of : (k at place : ℕ) (before : List ℕ) → Place k at place before → (line : Line) → IsLineAt group k at line → IsLineOf book number line
@@ -186,7 +110,7 @@ module _ (book : Book) (sound : IsSound book) (number : ℕ) (bytes : List ℕ) 
     placed = g.placed;
     entry = subst (λ (l : Line). IsEntryOf book number (facts_of l)) (sym at_line.is)
         (entry k at place before there at_line.head at_line.parsed at_line.key at_line.keyed);
-    method_is = ap (λ (l : Line). l.method) at_line.is ∙ ap (λ (t : Taken). t.method) taken;
+    method_is = ap (λ (l : Line). l.method) at_line.is ∙ ap (λ (t : Taken). t.method) one_taken;
   }
 
 -- ---- where a volume's text has come to
