@@ -1,5 +1,5 @@
--- What was just found of a capture's payload is right of the capture, and stays so while the book does.
-use Rattle.std.proofs.Common.{◌≡◌, [], sym, subst}
+-- What was just found of a capture's payload is right of the capture.
+use Rattle.std.proofs.Common.{◌≡◌, [], subst}
 use Rattle.std.specs.Prelude.{ℕ, Bool, IsTrue, List}
 use Rattle.capture.specs.GrowthLaws.{GrowsFromItself}
 use Rattle.capture.specs.declared.book.Book.{Book}
@@ -21,8 +21,3 @@ pub right_now : FoundServesLater → GrowsFromItself → (tells : Bool) (book : 
 right_now serves itself tells book taken payload asked looked sound has same right =
     serves (with_book tells book) (with_book tells book) taken payload looked (λ told. (sound told).sound) (itself book) has
     (subst (λ (p : List ℕ). IsRight tells book p looked) same right)
-
-pub right_still : (tells : Bool) (was is : Book) (taken : Taken) (looked : Looked) → is ≡ was
-    → ((payload : List ℕ) → IsPayloadOfTaken taken payload → IsRight tells was payload looked)
-    → (payload : List ℕ) → IsPayloadOfTaken taken payload → IsRight tells is payload looked
-right_still tells was is taken looked same right payload has = subst (λ (b : Book). IsRight tells b payload looked) (sym same) (right payload has)

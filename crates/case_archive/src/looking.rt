@@ -78,7 +78,7 @@ fn looked_for<D: Disk>(
 ) -> Result<Looked, StoreFault>
     requires has { IsPayloadOfTaken prepared.now.taken prepared.now.payload }
     requires digest { digest.now ≡ sha1 prepared.now.payload }
-    ensures { IfOk result (λ looked. IsRightOf (contents_of D.tells archive.new) prepared.now.taken looked) }
+    ensures { IfOk result (λ looked. IsRightOf (contents_of archive.new) prepared.now.taken looked) }
 {
     compared_payloads_serve_later();
     growth_keeps_captures();
@@ -98,7 +98,7 @@ fn stored_with<D: Disk>(
 ) -> Result<String, Memory>
     requires prepared { IsPrepared prepared }
     requires digest { digest.now ≡ sha1 prepared.payload }
-    requires right { IsRightOf (contents_of D.tells archive.old) prepared.taken looked }
+    requires right { IsRightOf (contents_of archive.old) prepared.taken looked }
 {
     compared_payloads_serve_later();
     match archive.store_after(alloc, &prepared.taken, digest, looked) {
