@@ -33,7 +33,7 @@ pub record Growing : Type 0 where
 -- ---- what a round leaves
 
 -- the book stayed; or the disk refused a store; or a capture was stored
-data Leaves (terms : Terms) (traces : Traces) : Type 0 where
+pub data Leaves (terms : Terms) (traces : Traces) : Type 0 where
   Stayed : (stays : StaysView terms traces.before traces.after) → Leaves terms traces
   Denied : (e : Exchange) (refused : IsRefusedByDisk terms e traces) → Leaves terms traces
   Stored_it : (e : Exchange) (received : Received) (payload : List ℕ) (passed : IsPassedOn terms e received payload traces) → Leaves terms traces
@@ -65,7 +65,7 @@ failure_leaves terms e ConnectRefused traces h = absurd h
 failure_leaves terms e SecureRefused traces h = absurd h
 failure_leaves terms e CodingRefused traces h = absurd h
 
-decided_leaves : (terms : Terms) (r : Round) (outcome : Outcome) → IsDecided terms r outcome → Leaves terms r.traces
+pub decided_leaves : (terms : Terms) (r : Round) (outcome : Outcome) → IsDecided terms r outcome → Leaves terms r.traces
 decided_leaves terms r Undecided (lacking, inl (begun, idle)) = Stayed idle.untouched
 decided_leaves terms r Undecided (lacking, inr (e, asked, out)) = Stayed out.untouched
 decided_leaves terms r (Refused head refusal) h = Stayed h.1.untouched
@@ -131,7 +131,7 @@ ids_differ laws terms served was (r ∷ rounds) is (lawful, leads, knows, last, 
 
 -- ---- what is shown
 
-leaves_shows : (terms : Terms) (traces : Traces) → Leaves terms traces → Begins traces.before.shown traces.after.shown
+pub leaves_shows : (terms : Terms) (traces : Traces) → Leaves terms traces → Begins traces.before.shown traces.after.shown
 leaves_shows terms traces (Stayed h) = leads_begins terms.alone traces.before.shown traces.after.shown h.shown
 leaves_shows terms traces (Denied e h) = leads_begins terms.alone traces.before.shown traces.after.shown h.shown.shown
 leaves_shows terms traces (Stored_it e received payload h) = past_begins terms.alone h.receipt.number traces.before.shown traces.after.shown h.shown.shown

@@ -20,6 +20,7 @@ mod ReadLaws
 mod RoundLaws
 mod SayLaws
 mod ServeLaws
+mod ShownLaws
 mod StayLaws
 mod StoreLaws
 mod VisitLaws

@@ -23,7 +23,7 @@ use Rattle.session.proofs.GrowingLaws.{Growing, courses_grow, failure_leaves}
 
 -- ---- a round of a course
 
-only_this : {A : Type 0} (a x : A) → Contains (a ∷ []) x → a ≡ x
+pub only_this : {A : Type 0} (a x : A) → Contains (a ∷ []) x → a ≡ x
 only_this a x (k, within, is) = by_place k within is where
   by_place : (k : ℕ) → k < length (a ∷ []) → get_or (a ∷ []) k x ≡ x → a ≡ x
   by_place zero within is = is
@@ -33,7 +33,7 @@ pub record IsIn (terms : Terms) (r : Round) : Type 0 where
   pub served : ℕ
   pub lawful : IsRound terms served r
 
-lawful_in : (terms : Terms) (served : ℕ) (was : View) (rounds : List Round) (is : View) (x : Round) → IsCourse terms served was rounds is
+pub lawful_in : (terms : Terms) (served : ℕ) (was : View) (rounds : List Round) (is : View) (x : Round) → IsCourse terms served was rounds is
     → Contains rounds x → IsIn terms x
 lawful_in terms served was [] is x course there = absurd (omega (arith, there.1))
 lawful_in terms served was (r ∷ rounds) is x (lawful, leads, knows, last, others) there = elim (Contains-append_cases (r ∷ []) rounds x there) [

@@ -1,6 +1,6 @@
 -- What lawful courses promise to those who build on them.
 use Rattle.std.specs.Prelude.{◌≡◌, ◌≢◌, ℕ, List, [], ◌∷◌, Contains, IsTrue, length, ⊤}
-use Rattle.archive_shelf.specs.Answers.{IsByRule}
+use Rattle.archive_shelf.specs.Answers.{IsByRule, IsBrought}
 use Rattle.archive_shelf.specs.Contents.{Begins}
 use Rattle.archive_shelf.specs.Openings.{HasIds}
 use Rattle.archive_shelf.specs.declared.receipt.Receipt.{Receipt}
@@ -18,8 +18,15 @@ use Rattle.session.specs.Exchanges.{Exchange, Passes}
 use Rattle.session.specs.Gains.{gains_of}
 use Rattle.session.specs.Images.{HasAllIds}
 use Rattle.session.specs.Requests.{IsAsked}
-use Rattle.session.specs.Rounds.{Round, Exchanged, IsRound, IsCourse, origin_faults, disk_faults}
+use Rattle.session.specs.Rounds.{Round, Exchanged, IsRound, IsCourse, origin_faults, disk_faults, Visited}
 use Rattle.session.specs.Traces.{Terms, View, CountsMet, IsConsistentView}
+use Rattle.capture.specs.declared.captured.Brought.{Brought}
+use Rattle.capture.specs.declared.refusal.Refusal.TheVariants.{NoSuch}
+use Rattle.cdxj_index.specs.Facts.{Facts}
+use Rattle.cdxj_index.specs.OfBook.{IsEntryOf}
+use Rattle.replay_url.specs.Questions.{Nearest, ForNearest}
+use Rattle.replay_url.specs.declared.form.Form.TheVariants.{Number}
+use Rattle.session.specs.SiteAnswers.{SiteRequest, Refuses, Asks, Reaches, IsReplayed}
 
 -- the book only grows, from round to round and over a course
 abbrev pub CoursesGrow : Type 0
@@ -97,3 +104,17 @@ OtherRoundsStoreNothing =
     (terms : Terms) (served : ℕ) (r : Round)
     → IsRound terms served r → ((e : Exchange) (received : Received) (payload : List ℕ) → r.outcome ≢ Exchanged e (Passes received payload))
     → captures r.traces.after.book ≡ captures r.traces.before.book
+
+-- what is replayed by date is the capture of the entry that was found, also in company
+abbrev pub FoundCapturesAreReplayed : Type 0
+FoundCapturesAreReplayed =
+    (terms : Terms) (q : SiteRequest) (view : View) (sought : Nearest) (brought : Brought)
+    → IsReplayed terms q view (ForNearest sought) brought → IsTrue terms.tells
+    → (entry : Facts) × Reaches q view.shown sought entry × IsEntryOf view.book entry.number entry × IsBrought view.book entry.number brought
+
+-- a number under which an entry was shown is refused in no later round, also in company
+abbrev pub ShownNumbersAreThere : Type 0
+ShownNumbersAreThere =
+    (terms : Terms) (served : ℕ) (was : View) (rounds : List Round) (is : View) (r : Round) (q : SiteRequest) (count : ℕ) (entry : Facts)
+    → IsCourse terms served was rounds is → Contains rounds r → Contains was.shown entry → Asks q (Number entry.number)
+    → r.outcome ≢ Visited q (Refuses (NoSuch entry.number count))

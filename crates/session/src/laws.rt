@@ -1,7 +1,7 @@
 //! What the definitions promise to those who build on them.
 ghost use Rattle.std.specs.Prelude.{◌≡◌};
 ghost use Rattle.session.specs.Complete.{CapturesThatAreThereAreReplayed, RequestsAreNotRefused, ResponsesArePassedOn};
-ghost use Rattle.session.specs.Laws.{CoursesGrow, CoursesShowOn, CoursesCountFaults, CoursesStayConsistent, IdsDifferOnTheWay, OriginsAloneAreDialed, OtherRoundsStoreNothing, PassedOnResponsesStay, StoredCapturesHaveTheirPayload};
+ghost use Rattle.session.specs.Laws.{CoursesGrow, CoursesShowOn, CoursesCountFaults, CoursesStayConsistent, FoundCapturesAreReplayed, IdsDifferOnTheWay, OriginsAloneAreDialed, OtherRoundsStoreNothing, PassedOnResponsesStay, ShownNumbersAreThere, StoredCapturesHaveTheirPayload};
 ghost use Rattle.session.specs.declared.TheConstants.{REQUEST_LIMIT};
 
 use archive_shelf::{leading_books_grow, stored_captures_stand_behind};
@@ -34,6 +34,13 @@ pub fn courses_keep_their_answers()
     leading_books_grow();
     stored_captures_stand_behind();
 }
+
+/// What holds in company as well. What is replayed by date is the capture of the entry that was found, and a number under which an entry
+/// was shown is refused in no later round.
+pub fn shown_captures_stay()
+    ensures replayed { FoundCapturesAreReplayed }
+    ensures there { ShownNumbersAreThere }
+{}
 
 /// A response that was passed on is the archive's last capture, with the payload of the bytes that came, where the book is sound.
 pub fn stored_captures_have_their_payload()

@@ -24,7 +24,7 @@ mod visiting;
 
 pub use laws::{
     courses_keep_their_answers, courses_only_grow, limits_are_these, requests_are_answered,
-    stored_captures_have_their_payload,
+    shown_captures_stay, stored_captures_have_their_payload,
 };
 pub use served::Served;
 pub use serving::serve;

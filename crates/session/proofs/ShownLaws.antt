@@ -1,0 +1,60 @@
+-- What is shown stays, and is replayed.
+use Rattle.std.proofs.Common.{◌≡◌, inl, inr, ℕ, ◌+◌, List, [], ◌∷◌, refl, sym, subst, arith}
+use Rattle.std.specs.Prelude.{Contains}
+use Rattle.std.proofs.lemmas.List.Elements.{Contains-append_left, Contains-append_cases}
+use Rattle.archive_shelf.proofs.CallLaws.{begins_both, leads_begins}
+use Rattle.archive_shelf.specs.Contents.{Begins}
+use Rattle.cdxj_index.specs.Facts.{Facts}
+use Rattle.cdxj_index.specs.OfBook.{IsEntryOf}
+use Rattle.archive_shelf.specs.Answers.{IsBrought}
+use Rattle.replay_url.proofs.OneForm.{one_form}
+use Rattle.replay_url.specs.Address.{parts_at}
+use Rattle.replay_url.specs.declared.form.Form.TheVariants.{Number, Ship}
+use Rattle.session.specs.Laws.{FoundCapturesAreReplayed, ShownNumbersAreThere}
+use Rattle.session.specs.Rounds.{Round, Outcome, IsCourse, IsDecided}
+use Rattle.session.specs.SiteAnswers.{SiteRequest, Asks, IsPast}
+use Rattle.session.specs.Traces.{Terms, View}
+use Rattle.session.proofs.GrowingLaws.{decided_leaves, leaves_shows}
+use Rattle.session.proofs.StayLaws.{IsIn, lawful_in, only_this}
+
+pub found_replayed : FoundCapturesAreReplayed
+found_replayed terms q view sought brought h tells =
+    let found = h.wants.wanted in (
+      found.entry,
+      found.reaches,
+      subst (λ (n : ℕ). IsEntryOf view.book n found.entry) found.number_is (h.agrees tells found.entry found.reaches.nearest.member (sym found.number_is)),
+      subst (λ (n : ℕ). IsBrought view.book n brought) found.number_is (h.brought_is tells),
+    )
+
+-- what was shown before a course is shown in each of its rounds
+shown_in : (terms : Terms) (served : ℕ) (was : View) (rounds : List Round) (is : View) (x : Round) → IsCourse terms served was rounds is
+    → Contains rounds x → Begins was.shown x.traces.before.shown
+shown_in terms served was [] is x course there = absurd (omega (arith, there.1))
+shown_in terms served was (r ∷ rounds) is x (lawful, leads, knows, last, others) there = elim (Contains-append_cases (r ∷ []) rounds x there) [
+  | inl here ↦ subst (λ (y : Round). Begins was.shown y.traces.before.shown) (only_this r x here)
+      (leads_begins terms.alone was.shown r.traces.before.shown leads.shown)
+  | inr later ↦ begins_both was.shown r.traces.before.shown x.traces.before.shown (leads_begins terms.alone was.shown r.traces.before.shown leads.shown)
+      (begins_both r.traces.before.shown r.traces.after.shown x.traces.before.shown (leaves_shows terms r.traces (decided_leaves terms r r.outcome lawful.decided))
+      (shown_in terms (served + 1) r.traces.after rounds is x others later))
+]
+
+still_shown : (a b : List Facts) (entry : Facts) → Begins a b → Contains a entry → Contains b entry
+still_shown a b entry h there = rw h.joined (Contains-append_left a h.rest entry there)
+
+no_piece : {P : Type 0} (n : ℕ) → Number n ≡ Ship n → P
+no_piece n e = let bad : ⊥ = cc in absurd bad
+
+not_past : {P : Type 0} (q : SiteRequest) (view : View) (entry : Facts) → Asks q (Number entry.number) → Contains view.shown entry
+    → IsPast q view entry.number → P
+not_past q view entry asks there (inl (other, past, none)) = absurd (none entry there refl)
+not_past q view entry asks there (inr (other, past)) =
+    let same : Number entry.number ≡ Ship entry.number = one_form (parts_at q.address) (Number entry.number) (Ship entry.number) asks.is other.is in
+    no_piece entry.number same
+
+pub shown_there : ShownNumbersAreThere
+shown_there terms served was rounds is r q count entry course there shown asks refused =
+    let found : IsIn terms r = lawful_in terms served was rounds is r course there in
+    let decided = subst (λ (o : Outcome). IsDecided terms r o) refused found.lawful.decided in
+    not_past q r.traces.before entry asks
+    (still_shown was.shown r.traces.before.shown entry (shown_in terms served was rounds is r course there) shown)
+    decided.1.by.0
