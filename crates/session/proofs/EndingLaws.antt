@@ -9,7 +9,8 @@ use Rattle.outside.specs.declared.gate.Heard.{Heard}
 use Rattle.session.specs.Connection.{Setting, Gained, terms_at, view_at}
 use Rattle.session.specs.steps.Stages.{Stage, IsRemainder}
 use Rattle.session.specs.steps.Endings.{LastIsWhole, LastIsInPart, client_at, heard_now}
-use Rattle.session.specs.Gains.{World, no_gains, gains_by, gains_of}
+use Rattle.session.specs.Gains.{World, gains_of}
+use Rattle.session.specs.steps.Gaining.{no_gains, gains_by}
 use Rattle.session.specs.steps.Reads.{BreaksInside, MeetsEnd, MeetsNoMore}
 use Rattle.session.specs.Rounds.{Round, closes}
 use Rattle.session.specs.Stopping.{Ends, IsLeftOver}

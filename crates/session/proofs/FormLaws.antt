@@ -15,7 +15,7 @@ use Rattle.surt_key.specs.Key.{key_of}
 use Rattle.replay_url.proofs.OneForm.{one_form}
 use Rattle.session.specs.Complete.{IsFaultless, HasShown, HasWanted, IsAnswer, CapturesThatAreThereAreReplayed}
 use Rattle.session.specs.Rounds.{Outcome, Visited, IsDecided, is_disk_fault, disk_fault}
-use Rattle.session.specs.SiteAnswers.{SiteRequest, SiteReply, Refuses, Redirects, Replays, Lists, Finds, Ships, HasNoMore, Asks, FindsNone, IsGateTime, NamesNoTime, IsDated, IsPast, IsRejected, IsSiteReplyBy, date_field, serves_method}
+use Rattle.session.specs.SiteAnswers.{SiteRequest, SiteReply, Refuses, Redirects, Replays, Lists, Finds, Ships, HasNoMore, Asks, FindsNone, IsGateTime, NamesNoTime, IsDated, IsPast, IsRejected, IsSiteReply, date_field, serves_method}
 use Rattle.session.specs.Traces.{Terms, View, Traces, CountsMet}
 use Rattle.session.proofs.CompleteLaws.{rose_not, told_not_untold}
 
@@ -162,7 +162,7 @@ no_rejection terms q CodingRefused traces form tells whole disk asks wanted h = 
 
 answers : (terms : Terms) (q : SiteRequest) (reply : SiteReply) (traces : Traces) (form : Form) → IsTrue terms.tells → IsFaultless traces
     → CountsMet (disk_fault (Visited q reply)) traces.before.disk_faults traces.after.disk_faults
-    → Asks q form → HasWanted traces.before (question_of form) → IsSiteReplyBy terms q reply traces.before → IsAnswer reply
+    → Asks q form → HasWanted traces.before (question_of form) → IsSiteReply terms q reply traces.before → IsAnswer reply
 answers terms q (Refuses refusal) traces form tells whole disk asks wanted h =
     no_rejection terms q refusal traces form tells whole disk asks wanted h
 answers terms q (Redirects other entry) traces form tells whole disk asks wanted h = tt
@@ -176,4 +176,4 @@ pub replayed : CapturesThatAreThereAreReplayed
 replayed terms served r q reply form lawful is tells whole asks wanted =
     answers terms q reply r.traces form tells whole
     (subst (λ (o : Outcome). CountsMet (disk_fault o) r.traces.before.disk_faults r.traces.after.disk_faults) is lawful.disk)
-    asks wanted (subst (λ (o : Outcome). IsDecided terms r o) is lawful.decided).1.by
+    asks wanted (subst (λ (o : Outcome). IsDecided terms r o) is lawful.decided).2

@@ -8,7 +8,8 @@ use Rattle.outside.specs.declared.dialer.Transcript.{Transcript}
 use Rattle.outside.specs.declared.gate.Heard.{Heard}
 use Rattle.session.specs.steps.Endings.{heard_now}
 use Rattle.session.specs.Connection.{Setting, Gained}
-use Rattle.session.specs.Gains.{World, Gains, no_gains, both_gains, GainsOutside}
+use Rattle.session.specs.Gains.{World, Gains, GainsOutside}
+use Rattle.session.specs.steps.Gaining.{no_gains, both_gains}
 use Rattle.session.specs.Traces.{CountsMet}
 
 pub behind_text : (a b text more : List ℕ) → b ≡ a ++ text → b ++ more ≡ a ++ (text ++ more)

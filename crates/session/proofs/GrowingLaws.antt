@@ -74,7 +74,7 @@ decided_leaves terms r (Exchanged e (Fails refusal)) h = elim (failure_leaves te
   | inr refused ↦ Denied e refused
 ]
 decided_leaves terms r (Exchanged e (Passes received payload)) h = Stored_it e received payload h.1
-decided_leaves terms r (Visited q reply) h = Stayed h.1.idle.untouched
+decided_leaves terms r (Visited q reply) h = Stayed h.1.untouched
 
 -- ---- books
 

@@ -22,7 +22,7 @@ use Rattle.session.specs.steps.Answering.{AnswersVisit}
 use Rattle.session.specs.Connection.{Setting, terms_at}
 use Rattle.session.specs.steps.Looking.{FindsNearest, FindsAll, FindsAnswer}
 use Rattle.session.specs.Rounds.{Visited, disk_fault}
-use Rattle.session.specs.SiteAnswers.{SiteRequest, SiteReply, IsSiteReplyBy, IsSiteText}
+use Rattle.session.specs.SiteAnswers.{SiteRequest, SiteReply, IsSiteReply, IsSiteText}
 use Rattle.session.specs.steps.Givens.{Given}
 use Rattle.session.proofs.VisitLaws.{Visits, bring_lacking, one_if, seen_at, visit_answers, undecided}
 
@@ -37,7 +37,7 @@ knows_before alone was is h knows tells =
 
 found_visits : (alone : Bool) (setting : Setting) (q : SiteRequest) (reply : SiteReply) (fault : Bool) (was mid is : Told)
     → LooksOn alone was mid → KnowsBook alone mid.contents → ReadsOn alone fault mid is → disk_fault (Visited q reply) ≡ one_if fault
-    → ((faults : ℕ) → IsSiteReplyBy (terms_at alone setting was) q reply (seen_at mid.contents.shown faults was is))
+    → ((faults : ℕ) → IsSiteReply (terms_at alone setting was) q reply (seen_at mid.contents.shown faults was is))
     → Visits alone setting q reply mid.contents.shown was is
 found_visits alone setting q reply fault was mid is h knows k met by = record {
   fault = fault;
@@ -52,7 +52,7 @@ found_visits alone setting q reply fault was mid is h knows k met by = record {
 pub found_answers : (alone : Bool) (setting : Setting) (q : SiteRequest) (reply : SiteReply) (closes fault : Bool)
     (result : Result Given Memory) (was mid is : Told) → IsEarlier is.crash
     → LooksOn alone was mid → KnowsBook alone mid.contents → ReadsOn alone fault mid is → disk_fault (Visited q reply) ≡ one_if fault
-    → ((faults : ℕ) → IsSiteReplyBy (terms_at alone setting was) q reply (seen_at mid.contents.shown faults was is))
+    → ((faults : ℕ) → IsSiteReply (terms_at alone setting was) q reply (seen_at mid.contents.shown faults was is))
     → IfOk result (λ answer. IsSiteText (terms_at alone setting was) q reply closes answer.text) → IfOk result (λ answer. answer.closes ≡ closes)
     → AnswersVisit alone setting q closes result was is
 found_answers alone setting q reply closes fault result was mid is earlier h knows k met by text closed incoming then now answers links faults closing asked known =
@@ -75,7 +75,7 @@ found_lacking_by alone setting q closes (Err memory) was mid is earlier h knows 
 pub looked_answers : (alone : Bool) (setting : Setting) (q : SiteRequest) (reply : SiteReply) (closes : Bool)
     (result : Result Given Memory) (was is : Told) → IsEarlier is.crash → LooksOn alone was is
     → KnowsBook alone is.contents → disk_fault (Visited q reply) ≡ 0
-    → ((faults : ℕ) → IsSiteReplyBy (terms_at alone setting was) q reply (seen_at is.contents.shown faults was is))
+    → ((faults : ℕ) → IsSiteReply (terms_at alone setting was) q reply (seen_at is.contents.shown faults was is))
     → IfOk result (λ answer. IsSiteText (terms_at alone setting was) q reply closes answer.text) → IfOk result (λ answer. answer.closes ≡ closes)
     → AnswersVisit alone setting q closes result was is
 looked_answers alone setting q reply closes result was is earlier h knows none by text closed =

@@ -7,7 +7,8 @@ use Rattle.capture.specs.declared.book.Book.{Book}
 use Rattle.session.specs.Connection.{Setting, Gained, terms_at, view_at}
 use Rattle.session.specs.steps.Stages.{Stage, IsRemainder, IsMade}
 use Rattle.session.specs.steps.Endings.{client_at, heard_now}
-use Rattle.session.specs.Gains.{World, Gains, no_gains, gains_by}
+use Rattle.session.specs.Gains.{World, Gains}
+use Rattle.session.specs.steps.Gaining.{no_gains, gains_by}
 use Rattle.session.specs.Images.{Deed, NoDeed, deed_of, KeepsImages, OpensBehind}
 use Rattle.capture.specs.declared.refusal.Refusal.{Refusal}
 use Rattle.http_head.specs.declared.head.RequestHead.{RequestHead}

@@ -57,4 +57,4 @@ shown_there terms served was rounds is r q count entry course there shown asks r
     let decided = subst (λ (o : Outcome). IsDecided terms r o) refused found.lawful.decided in
     not_past q r.traces.before entry asks
     (still_shown was.shown r.traces.before.shown entry (shown_in terms served was rounds is r course there) shown)
-    decided.1.by.0
+    decided.2.0

@@ -125,7 +125,7 @@ dialed terms r t Undecided (lacking, inr (e, asked, out)) there = ran_out_dialed
 dialed terms r t (Refused head refusal) h there = nobody r.traces.transcripts t h.1.transcripts there
 dialed terms r t (Exchanged e (Fails refusal)) h there = failure_dialed terms.site r t there terms e refusal h.0 h.1
 dialed terms r t (Exchanged e (Passes received payload)) h there = fetched_from terms.site r t there e received h.0 h.1.fetched
-dialed terms r t (Visited q reply) h there = nobody r.traces.transcripts t h.1.idle.transcripts there
+dialed terms r t (Visited q reply) h there = nobody r.traces.transcripts t h.1.transcripts there
 
 pub origins_dialed : OriginsAloneAreDialed
 origins_dialed terms served was [] is t course there = absurd (omega (arith, there.1))
@@ -159,4 +159,4 @@ others_store_none terms served r lawful other = of r.outcome refl lawful.decided
     | inr refused ↦ denied_stores_none terms exchange r.traces refused
   ]
   of (Exchanged exchange (Passes received payload)) e h = absurd (other exchange received payload e)
-  of (Visited q reply) e h = same h.1.idle.untouched
+  of (Visited q reply) e h = same h.1.untouched

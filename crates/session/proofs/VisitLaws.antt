@@ -30,7 +30,7 @@ use Rattle.session.specs.Connection.{Setting, terms_at}
 use Rattle.session.specs.steps.Declining.{Declines, DeclinesPiece, refusal_by_bring}
 use Rattle.session.specs.Requests.{IsAsked, IsInterim, closes_after, IsBegun}
 use Rattle.session.specs.Rounds.{Round, Visited, IsRound, disk_fault, Undecided}
-use Rattle.session.specs.SiteAnswers.{SiteRequest, SiteReply, Refuses, HasNoMore, Asks, IsReplayed, IsShipped, IsSiteReplyBy, IsSiteText, answers_head, is_of_shown, nothing_text}
+use Rattle.session.specs.SiteAnswers.{SiteRequest, SiteReply, Refuses, HasNoMore, Asks, IsReplayed, IsShipped, IsSiteReply, IsSiteText, answers_head, is_of_shown, nothing_text}
 use Rattle.session.specs.Traces.{Terms, View, CountsMet}
 use Rattle.capture.specs.declared.captured.Brought.{Brought}
 use Rattle.capture.specs.declared.memory.Memory.{Memory}
@@ -61,7 +61,7 @@ pub record Visits (alone : Bool) (setting : Setting) (q : SiteRequest) (reply : 
   pub shows : LeadsShown alone was.contents.shown shown
   pub later : LeadsShown alone shown is.contents.shown
   pub knows : IsTrue was.contents.tells → IsTrue (is_of_shown reply) → Shows alone was.contents.seen shown
-  pub by : (faults : ℕ) → IsSiteReplyBy (terms_at alone setting was) q reply (seen_at shown faults was is)
+  pub by : (faults : ℕ) → IsSiteReply (terms_at alone setting was) q reply (seen_at shown faults was is)
 
 -- a count that stayed
 pub stayed_met : (before now : ℕ) → now ≡ before → CountsMet 0 before now
@@ -147,7 +147,7 @@ pub visit_answered : (alone : Bool) (setting : Setting) (incoming : Incoming) (q
 unfolding visited
 visit_answered alone setting incoming q reply shown answer closes was is then now answers links faults earlier closing asked known h closed text = record {
   makes = visited alone setting incoming q false reply shown answer.text was is then now answers links faults earlier asked known h (record {
-    decided = (asked, record { idle = record { times = refl; transcripts = refl; untouched = record { book = refl; shown = h.later } }; by = h.by faults });
+    decided = (asked, record { times = refl; transcripts = refl; untouched = record { book = refl; shown = h.later } }, h.by faults);
     dialer = none_met faults;
     disk = counts alone setting q reply shown was is h;
     kept = λ lacking. refl;
@@ -167,7 +167,7 @@ pub visit_lacked : (alone : Bool) (setting : Setting) (incoming : Incoming) (q :
     (record { heard = now; answers = answers; links = links; dialer_faults = faults; shelf = is })
 visit_lacked alone setting incoming q reply shown was is then now answers links faults earlier asked known h =
     visited alone setting incoming q true reply shown memory_text was is then now answers links faults earlier asked known h (record {
-      decided = (asked, record { idle = record { times = refl; transcripts = refl; untouched = record { book = refl; shown = h.later } }; by = h.by faults });
+      decided = (asked, record { times = refl; transcripts = refl; untouched = record { book = refl; shown = h.later } }, h.by faults);
       dialer = none_met faults;
       disk = counts alone setting q reply shown was is h;
       kept = λ lacking. refl;
@@ -264,7 +264,7 @@ visit_answers alone setting q reply shown closes (Err memory) was is incoming th
 -- a reply that is no answer from what is shown, and no fault
 at_once : (alone : Bool) (setting : Setting) (q : SiteRequest) (reply : SiteReply) (shelf : Told)
     → disk_fault (Visited q reply) ≡ 0 → is_of_shown reply ≡ false
-    → ((faults : ℕ) → IsSiteReplyBy (terms_at alone setting shelf) q reply (seen_at shelf.contents.shown faults shelf shelf))
+    → ((faults : ℕ) → IsSiteReply (terms_at alone setting shelf) q reply (seen_at shelf.contents.shown faults shelf shelf))
     → Visits alone setting q reply shelf.contents.shown shelf shelf
 at_once alone setting q reply shelf none unshown by = record {
   fault = false;
@@ -298,7 +298,7 @@ lacks_visit alone setting q shelf incoming then now answers links faults earlier
 -- a reply that is decided by what was brought
 brought_visits : (alone : Bool) (setting : Setting) (q : SiteRequest) (reply : SiteReply) (fault : Bool) (was is : Told)
     → ReadsOn alone fault was is → disk_fault (Visited q reply) ≡ one_if fault → is_of_shown reply ≡ false
-    → ((faults : ℕ) → IsSiteReplyBy (terms_at alone setting was) q reply (seen_at is.contents.shown faults was is))
+    → ((faults : ℕ) → IsSiteReply (terms_at alone setting was) q reply (seen_at is.contents.shown faults was is))
     → Visits alone setting q reply is.contents.shown was is
 brought_visits alone setting q reply fault was is h met unshown by = record {
   fault = fault;
@@ -338,7 +338,7 @@ piece_shipped terms q number piece is faults disk asks (there, some, known) same
 pub bring_answers : (alone : Bool) (setting : Setting) (q : SiteRequest) (reply : SiteReply) (closes fault : Bool)
     (result : Result Given Memory) (was is : Told) → IsEarlier is.crash → ReadsOn alone fault was is
     → disk_fault (Visited q reply) ≡ one_if fault → is_of_shown reply ≡ false
-    → ((faults : ℕ) → IsSiteReplyBy (terms_at alone setting was) q reply (seen_at is.contents.shown faults was is))
+    → ((faults : ℕ) → IsSiteReply (terms_at alone setting was) q reply (seen_at is.contents.shown faults was is))
     → IfOk result (λ answer. IsSiteText (terms_at alone setting was) q reply closes answer.text) → IfOk result (λ answer. answer.closes ≡ closes)
     → AnswersVisit alone setting q closes result was is
 bring_answers alone setting q reply closes fault result was is earlier h met unshown by text closed incoming then now answers links faults closing asked known =
@@ -438,7 +438,7 @@ pub refusal_answers : (alone : Bool) (setting : Setting) (q : SiteRequest) (refu
     (result : Result Given Memory) (shelf : Told) → IsEarlier shelf.crash → asks ≡ answers_head q
     → disk_fault (Visited q (Refuses refusal)) ≡ 0 → is_of_shown (Refuses refusal) ≡ false
     → ((faults : ℕ)
-    → IsSiteReplyBy (terms_at alone setting shelf) q (Refuses refusal) (seen_at shelf.contents.shown faults shelf shelf))
+    → IsSiteReply (terms_at alone setting shelf) q (Refuses refusal) (seen_at shelf.contents.shown faults shelf shelf))
     → IfOk result (λ answer. answer.text ≡ refusal_text refusal asks closes) → IfOk result (λ answer. answer.closes ≡ closes)
     → AnswersVisit alone setting q closes result shelf shelf
 refusal_answers alone setting q refusal asks closes result shelf earlier asks_is none unshown by text closed incoming then now answers links faults closing asked known =

@@ -1,5 +1,6 @@
 -- What rounds gain of the outside, and what its objects tell of that.
-use Rattle.std.specs.Prelude.{◌≡◌, ℕ, ◌-◌, ◌^◌, ◌<◌, Bool, List, [], ◌∷◌, ◌++◌, length, IsTrue}
+use Rattle.std.specs.Prelude.{◌≡◌, ℕ, ◌-◌, ◌^◌, ◌<◌, Bool, List, ◌++◌, length, IsTrue}
+use Rattle.std.specs.List.{flat_map}
 use Rattle.archive_shelf.specs.Told.{Told}
 use Rattle.outside.specs.Records.{Links}
 use Rattle.outside.specs.declared.dialer.Transcript.{Transcript}
@@ -12,30 +13,13 @@ pub record Gains : Type 0 where
   pub transcripts : List Transcript
   pub numbers : List ℕ
 
--- nothing was gained
-abbrev pub no_gains : Gains
-no_gains = record { times = []; transcripts = []; numbers = [] }
-
--- one after the other
-abbrev pub both_gains : Gains → Gains → Gains
-both_gains first second = record {
-  times = first.times ++ second.times;
-  transcripts = first.transcripts ++ second.transcripts;
-  numbers = first.numbers ++ second.numbers;
-}
-
--- what a round gained
-abbrev pub gains_by : Round → Gains
-gains_by r = record {
-  times = r.traces.times;
-  transcripts = r.traces.transcripts;
-  numbers = numbers_by r.outcome r.traces.before;
-}
-
--- what rounds gained
+-- what rounds gained, one after the other
 abbrev pub gains_of : List Round → Gains
-gains_of [] = no_gains
-gains_of (r ∷ rounds) = both_gains (gains_by r) (gains_of rounds)
+gains_of rounds = record {
+  times = flat_map (λ r. r.traces.times) rounds;
+  transcripts = flat_map (λ r. r.traces.transcripts) rounds;
+  numbers = flat_map (λ r. numbers_by r.outcome r.traces.before) rounds;
+}
 
 -- What the objects of a connection tell so far: what was heard of the client; the clock's answers; the dialer's log, what is
 -- out of it and its faults; and what is told of the shelf.

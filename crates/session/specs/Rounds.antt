@@ -93,7 +93,7 @@ IsDecided terms r (Refused head refusal) = IsRefused terms.site r.wire head refu
 IsDecided terms r (Exchanged e reply) =
     IsAsked terms.site r.wire e.message (Origin e.target) × IsReply terms e reply r.traces
 IsDecided terms r (Visited q reply) =
-    IsAsked terms.site r.wire q.message (ToSite q.address) × IsSiteReply terms q reply r.traces
+    IsAsked terms.site r.wire q.message (ToSite q.address) × IsIdle terms r.traces × IsSiteReply terms q reply r.traces.before
 
 -- the text of an answer, where memory sufficed
 abbrev pub IsTextOf : Terms → ℕ → Outcome → List ℕ → Type 0

@@ -35,7 +35,7 @@ use Rattle.time_text.specs.Reading.{IsHttpDate}
 use Rattle.time_text.specs.declared.TheConstants.{LATEST}
 use Rattle.timegate.specs.Redirect.{redirect_text}
 use Rattle.timemap.specs.LinkList.{timemap_text}
-use Rattle.session.specs.Traces.{Terms, View, Traces, IsIdle}
+use Rattle.session.specs.Traces.{Terms, View}
 
 -- a request, and what stands behind the site's authority in its target
 pub record SiteRequest : Type 0 where
@@ -226,19 +226,14 @@ pub record IsRedirected (q : SiteRequest) (view : View) (sought : Nearest) (entr
   pub other : names_date sought.named entry.date ≡ false
 
 -- the reply follows from what is seen of the archive
-abbrev pub IsSiteReplyBy : Terms → SiteRequest → SiteReply → View → Type 0
-IsSiteReplyBy terms q (Refuses refusal) view = IsRejected terms q refusal view
-IsSiteReplyBy terms q (Redirects sought entry) view = IsRedirected q view sought entry
-IsSiteReplyBy terms q (Replays question brought) view = IsReplayed terms q view question brought
-IsSiteReplyBy terms q (Lists url entries) view = AreListed q view url entries
-IsSiteReplyBy terms q (Finds query found) view = IsFoundBy q view query found
-IsSiteReplyBy terms q (Ships number piece) view = IsShipped terms q view number piece
-IsSiteReplyBy terms q (HasNoMore number) view = IsNext q view number
-
--- neither clock nor origin is asked, and nothing is stored
-pub record IsSiteReply (terms : Terms) (q : SiteRequest) (reply : SiteReply) (traces : Traces) : Type 0 where
-  pub idle : IsIdle terms traces
-  pub by : IsSiteReplyBy terms q reply traces.before
+abbrev pub IsSiteReply : Terms → SiteRequest → SiteReply → View → Type 0
+IsSiteReply terms q (Refuses refusal) view = IsRejected terms q refusal view
+IsSiteReply terms q (Redirects sought entry) view = IsRedirected q view sought entry
+IsSiteReply terms q (Replays question brought) view = IsReplayed terms q view question brought
+IsSiteReply terms q (Lists url entries) view = AreListed q view url entries
+IsSiteReply terms q (Finds query found) view = IsFoundBy q view query found
+IsSiteReply terms q (Ships number piece) view = IsShipped terms q view number piece
+IsSiteReply terms q (HasNoMore number) view = IsNext q view number
 
 -- the answer is taken from the entries that are shown
 abbrev pub is_of_shown : SiteReply → Bool

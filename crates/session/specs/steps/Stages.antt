@@ -2,7 +2,8 @@
 use Rattle.std.specs.Prelude.{◌≡◌, ◌+◌, ℕ, Bool, false, List, [], ◌∷◌, ◌++◌}
 use Rattle.exchange.specs.Receiving.{StaysAccounted}
 use Rattle.session.specs.Connection.{Setting, Gained, terms_at, view_at}
-use Rattle.session.specs.Gains.{World, gains_by, gains_of}
+use Rattle.session.specs.Gains.{World, gains_of}
+use Rattle.session.specs.steps.Gaining.{gains_by}
 use Rattle.session.specs.Images.{KeepsImages}
 use Rattle.session.specs.Rounds.{Round, IsRound, IsCourse, KnowsBefore, closes, course_wire}
 use Rattle.session.specs.Stopping.{Ends}
