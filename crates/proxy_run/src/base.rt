@@ -1,8 +1,7 @@
 //! The base of a site.
 ghost use Rattle.std.specs.Prelude.{◌≡◌, ◌++◌, codes, string_bytes, IfOk, IsAscii, IsTrue};
-ghost use Rattle.capture.specs.Target as target;
 ghost use Rattle.proxy_run.specs.Base as spec;
-ghost use Rattle.proxy_run.specs.Base.{IsSite, with_slash as base_with_slash};
+ghost use Rattle.proxy_run.specs.Base.{with_slash as base_with_slash};
 
 use capture::{Memory, Site, Text};
 use exchange::{HTTP_PORT, host_of};
@@ -11,7 +10,7 @@ use url::{ParseError, Url};
 
 /// The site of a base, which is an `http` URL without a path, written as it is printed. Every other text has none.
 pub fn site_of_base(alloc: Global, base: &str) -> Result<Option<Site>, Memory>
-    ensures { IfOk result (IsSite base.now) }
+    ensures { IfOk result (λ site. site ≡ spec.site_of base.now) }
 {
     let text = with_slash(alloc, base)?;
     let url = match Url::parse(alloc, text.as_str()) {
@@ -46,9 +45,7 @@ fn is_base(url: &Url, text: &str) -> bool
 /// The site with this base, which is the URL.
 fn site_of_url(alloc: Global, base: &str, url: &Url) -> Result<Site, Memory>
     requires { IsAscii base.now }
-    ensures base { IfOk result (λ site. site.base ≡ base.now) }
-    ensures host { IfOk result (λ site. site.host ≡ target.host_of url.now) }
-    ensures port { IfOk result (λ site. site.port ≡ target.port_of url.now) }
+    ensures { IfOk result (λ site. site ≡ spec.site_by base.now url.now) }
 {
     let port = url.port().unwrap_or(HTTP_PORT);
     Ok(Site {

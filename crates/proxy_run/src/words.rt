@@ -1,6 +1,6 @@
 //! The words of the command line.
 ghost use Rattle.std.specs.Prelude.{◌≡◌, ◌≤◌, IfOk, IfSome};
-ghost use Rattle.proxy_run.specs.Base.{IsSiteAmong};
+ghost use Rattle.proxy_run.specs.Base.{site_among};
 ghost use Rattle.proxy_run.specs.Words as spec;
 ghost use Rattle.proxy_run.specs.Words.{texts};
 ghost use Rattle.warc_text.specs.Ids.{IsUuid};
@@ -123,7 +123,7 @@ pub fn is_import(words: &[&str]) -> bool
 
 /// The site that a server has clients come to: that of the third word, where there is one and it is a base.
 pub fn site_of(alloc: Global, words: &[&str]) -> Result<Option<Site>, Memory>
-    ensures { IfOk result (IsSiteAmong (texts words.now)) }
+    ensures { IfOk result (λ site. site ≡ site_among (texts words.now)) }
 {
     match words.get(2) {
         Some(base) => site_of_base(alloc, base),
