@@ -9,7 +9,9 @@ pub mod FillLaws
 pub mod FindingLaws
 pub mod FuseLaws
 pub mod IndexLaws
+pub mod KeepingLaws
 pub mod MatchLaws
+pub mod MissingLaws
 pub mod NamespaceLaws
 pub mod NextLaws
 pub mod PayloadLaws
@@ -20,6 +22,9 @@ pub mod ReopenLaws
 pub mod RollLaws
 pub mod ShelfLaws
 pub mod ShownLaws
+pub mod SettlingLaws
 pub mod SortLaws
 pub mod StoredLaws
+pub mod SupplyingLaws
 pub mod TellingLaws
+pub mod WalkingLaws

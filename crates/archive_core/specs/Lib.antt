@@ -5,7 +5,9 @@ pub mod Looking
 pub mod Matching
 pub mod Reopening
 pub mod Rolling
+pub mod Settling
 pub mod Shown
 pub mod Stores
 pub mod Told
 pub mod View
+pub mod steps

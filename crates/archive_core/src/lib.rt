@@ -7,9 +7,11 @@ mod finding;
 mod index;
 mod knowing;
 mod laws;
+mod missing;
 mod piece;
 mod reopen;
 mod rolling;
+mod settling;
 mod shelf;
 mod storing;
 

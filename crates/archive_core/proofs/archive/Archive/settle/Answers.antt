@@ -1,0 +1,24 @@
+use Rattle.std.proofs.Common.{subst}
+use Rattle.warc_journal.specs.Journals.{disk_of}
+use Rattle.archive_volumes.proofs.ChangeLaws.{DiskLaws}
+use Rattle.archive_core.specs.Holdings.{Holdings}
+use Rattle.archive_core.specs.Settling.{SettlesOn}
+use Rattle.archive_core.specs.View.{holdings_of}
+use Rattle.archive_core.proofs.SettlingLaws.{over, settled_archive, settles_on}
+use Rattle.archive_core.proofs.archive.Archive.settle.Given.{Over}
+use Rattle.archive_core.proofs.archive.Archive.settle.Goals as goal
+
+-- what is asked of the disk
+disk_laws : (g : Over) → DiskLaws g.D.Disk
+disk_laws g = record { earlier = g.met.D.Disk.earlier; now_counts = g.met.D.Disk.now_counts; now_only = g.met.D.Disk.now_only }
+
+pub invariant_of-self : goal.invariant_of-self
+invariant_of-self g c =
+    settled_archive g.D.Disk (disk_laws g) (holdings_of c.self.inside) c.self.inside.volumes c.settle_volumes.new.volumes c.settle_volumes.ensures.keeps c.self.invariant
+
+pub returns : goal.returns
+returns g c =
+    let new = c.settle_volumes.new.volumes in
+    subst (λ (held : Holdings _). SettlesOn g.D.Disk held (over (holdings_of c.self.inside) new) c.settle_volumes.result) c.self.view_is
+    (settles_on g.D.Disk (disk_laws g) (holdings_of c.self.inside) c.self.inside.volumes new c.settle_volumes.ensures.keeps c.self.invariant
+    (λ tells. g.met.D.Disk.reading_is_image (disk_of new.journal) tells) c.settle_volumes.result c.settle_volumes.ensures.went c.settle_volumes.ensures.faults)

@@ -1,0 +1,62 @@
+use Rattle.std.proofs.Common.{sym, subst, refl, IsTrue}
+use Rattle.checkpoint.specs.OfVolume.{AreLinesOf}
+use Rattle.disk_model.specs.declared.disk.Disk.{Ghosts}
+use Rattle.warc_journal.specs.Journals.{disk_of}
+use Rattle.archive_volumes.proofs.ChangeLaws.{DiskLaws}
+use Rattle.archive_volumes.specs.Bringing.{OnlyReads}
+use Rattle.archive_volumes.specs.Held.{book_of}
+use Rattle.archive_volumes.specs.declared.volumes.Volumes.{Volumes}
+use Rattle.archive_core.specs.steps.Supplying.{IsStill}
+use Rattle.archive_core.proofs.KeepingLaws.{keeps_beside, keeps_reads, keeps_then, warc_supplied}
+use Rattle.archive_core.proofs.SupplyingLaws.{goes_refused, goes_supplied, went_past, went_still}
+use Rattle.archive_core.proofs.settling.settle_volume.Given.{Over}
+use Rattle.archive_core.proofs.settling.settle_volume.Goals as goal
+
+-- what is asked of the disk
+disk_laws : (g : Over) → DiskLaws g.D.Disk
+disk_laws g = record { earlier = g.met.D.Disk.earlier; now_counts = g.met.D.Disk.now_counts; now_only = g.met.D.Disk.now_only }
+
+-- reading lines leaves the disk as it was
+still : {D : Type 0} (d : Ghosts D) (old new : Volumes D) → IsTrue d.tells → OnlyReads d old new → IsStill d (disk_of old.journal) (disk_of new.journal)
+still d old new tells reads = record { reading = reads.reading tells; quiet = reads.quiet }
+
+pub returns-in-Ok-Some-clause-keeps : goal.returns-in-Ok-Some-clause-keeps
+returns-in-Ok-Some-clause-keeps g c =
+    let reads = c.in-Ok-Some.ensures.reads in
+    let mid = c.lines_of.new.volumes in
+    let new = record mid { journal = c.supply.new.journal } in
+    keeps_then g.D.Disk (disk_laws g) c.args.told.now.value c.args.volumes.now mid new
+    (keeps_reads g.D.Disk (disk_laws g) c.args.told.now.value c.args.volumes.now mid reads c.requires.holds)
+    (keeps_beside g.D.Disk (disk_laws g) c.args.told.now.value mid new refl c.supply.ensures.extent
+    (λ tells. warc_supplied g.D.Disk c.args.facts.volume c.as_slice.result.now (disk_of mid.journal) (disk_of new.journal) c.supply.result (c.supply.ensures.supplies tells))
+    (reads.holds c.args.told.now.value c.requires.holds))
+
+pub returns-in-Ok-Some-clause-went : goal.returns-in-Ok-Some-clause-went
+returns-in-Ok-Some-clause-went g c = λ tells from n went.
+    let reads = c.in-Ok-Some.ensures.reads in
+    let mid = c.lines_of.new.volumes in
+    let book = book_of c.args.volumes.now.held in
+    goes_supplied g.D.Disk (disk_laws g) tells c.args.told.now.value book from c.args.facts.volume n c.as_slice.result.now
+    (disk_of mid.journal) (disk_of c.supply.new.journal) c.supply.result c.volumes_have_one_list_of_lines.ensures.one c.requires.sealed
+    (λ so. subst (AreLinesOf book c.args.facts.volume) (sym c.as_slice.ensures.value)
+    (rw c.in-Ok-Some.field-0-is at (c.in-Ok-Some.ensures.exact so)))
+    (g.met.D.Disk.reading_is_image (disk_of c.supply.new.journal) tells)
+    (went_still g.D.Disk (disk_laws g) tells c.args.told.now.value book from c.args.facts.volume n (disk_of c.args.volumes.now.journal) (disk_of mid.journal)
+    (still g.D.Disk c.args.volumes.now mid tells reads) went)
+    (c.supply.ensures.supplies tells)
+
+pub returns-in-Ok-None-clause-went : goal.returns-in-Ok-None-clause-went
+returns-in-Ok-None-clause-went g c = λ tells from n went.
+    let mid = c.lines_of.new.volumes in
+    let book = book_of c.args.volumes.now.held in
+    went_past g.D.Disk (disk_laws g) tells c.args.told.now.value book from c.args.facts.volume n (disk_of mid.journal)
+    (λ so. rw c.in-Ok-None.field-0-is at (c.in-Ok-None.ensures.exact so))
+    (went_still g.D.Disk (disk_laws g) tells c.args.told.now.value book from c.args.facts.volume n (disk_of c.args.volumes.now.journal) (disk_of mid.journal)
+    (still g.D.Disk c.args.volumes.now mid tells c.in-Ok-None.ensures.reads) went)
+
+pub returns-in-Err-clause-went : goal.returns-in-Err-clause-went
+returns-in-Err-clause-went g c = λ tells from n went.
+    let mid = c.lines_of.new.volumes in
+    let book = book_of c.args.volumes.now.held in
+    goes_refused g.D.Disk (disk_laws g) tells c.args.told.now.value book from c.args.facts.volume n (disk_of c.args.volumes.now.journal) (disk_of mid.journal)
+    c.fault_of.result (still g.D.Disk c.args.volumes.now mid tells c.in-Err.ensures.reads) went

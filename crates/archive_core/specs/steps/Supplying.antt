@@ -1,0 +1,61 @@
+-- How the checkpoints of volumes are written one behind the other.
+use Rattle.std.specs.Prelude.{◌≡◌, ℕ, ◌+◌, ◌-◌, ◌<◌, ◌≤◌, Bool, true, false, IsTrue, length, Result, Ok, Err}
+use Rattle.capture.specs.declared.book.Book.{Book}
+use Rattle.disk_model.specs.Crash.{Leaves}
+use Rattle.disk_model.specs.Image.{file_count}
+use Rattle.disk_model.specs.declared.disk.Disk.{Ghosts}
+use Rattle.disk_model.specs.declared.kind.Kind.TheVariants.{Cdxj}
+use Rattle.warc_journal.specs.Extents.{warc_files}
+use Rattle.warc_journal.specs.Journals.{disk_of, extent_of}
+use Rattle.checkpoint.specs.Checkpoints.{checkpoint_of}
+use Rattle.checkpoint.specs.declared.fault.CheckpointFault.{CheckpointFault}
+use Rattle.checkpoint.specs.declared.fault.CheckpointFault.TheVariants as checkpoints
+use Rattle.archive_volumes.specs.Held.{book_of}
+use Rattle.archive_volumes.specs.Volumes.{HoldsBook, IsQuiet, crash_of}
+use Rattle.archive_volumes.specs.declared.part.ReadFault.{ReadFault}
+use Rattle.archive_volumes.specs.declared.part.ReadFault.TheVariants as reads
+use Rattle.archive_volumes.specs.declared.volumes.Volumes.{Volumes}
+use Rattle.archive_core.specs.Settling.{HasCheckpoint, HasWithout, LeavesCheckpoints, OpensNoMore}
+
+-- the fault of reading, as that of a checkpoint
+abbrev pub checkpoint_fault_of : ReadFault → CheckpointFault
+checkpoint_fault_of reads.DiskFault = checkpoints.DiskFault
+checkpoint_fault_of reads.Memory = checkpoints.Memory
+
+-- the volumes stay, and the book that they hold; nothing is opened that wasn't before
+pub record KeepsVolumes {D : Type 0} (d : Ghosts D) (told : Bool) (old new : Volumes D) : Type 0 where
+  pub held : new.held ≡ old.held
+  pub extent : extent_of new.journal ≡ extent_of old.journal
+  pub warc : IsTrue d.tells → warc_files (d.reading (disk_of new.journal)) ≡ warc_files (d.reading (disk_of old.journal))
+  pub holds : HoldsBook d told new.journal (book_of new.held)
+  pub opens : OpensNoMore (crash_of d (disk_of old.journal)) (crash_of d (disk_of new.journal))
+
+-- a read gives what it gave, and nothing more is left
+pub record IsStill {D : Type 0} (d : Ghosts D) (old new : D) : Type 0 where
+  pub reading : d.reading new ≡ d.reading old
+  pub quiet : IsQuiet d old new
+
+-- The first volumes were gone through, from one state of the disk on: so many of their checkpoints were missing, and were written. The files
+-- of the other volumes are as they were.
+pub record Went {D : Type 0} (d : Ghosts D) (told : Bool) (book : Book) (k n : ℕ) (from now : D) : Type 0 where
+  pub left : LeavesCheckpoints d told book from now
+  pub ahead : (j : ℕ) → k ≤ j → checkpoint_of (d.reading now) j ≡ checkpoint_of (d.reading from) j
+  pub settled : IsTrue told → Leaves (d.images now) (λ image. (j : ℕ) → j < k → HasCheckpoint book j image)
+  pub there : IsTrue told → k ≤ file_count (d.reading now) Cdxj
+  pub counted : IsTrue told → HasWithout (λ j. HasCheckpoint book j (d.reading from)) k n
+  pub none : n ≡ 0 → IsStill d from now
+
+-- one volume more was gone through, or it was refused
+abbrev pub GoesTo : {D : Type 0} → Ghosts D → Bool → Book → ℕ → ℕ → D → D → Result Bool CheckpointFault → Type 0
+GoesTo d told book k n from new (Ok true) = Went d told book (k + 1) (n + 1) from new
+GoesTo d told book k n from new (Ok false) = Went d told book (k + 1) n from new
+GoesTo d told book k n from new (Err fault) = LeavesCheckpoints d told book from new
+
+-- and so it goes on wherever it began
+abbrev pub GoesOnBy : {D : Type 0} → Ghosts D → Bool → Book → ℕ → D → D → Result Bool CheckpointFault → Type 0
+GoesOnBy {D} d told book k old new result = (from : D) (n : ℕ) → Went d told book k n from old → GoesTo d told book k n from new result
+
+-- all volumes but the last were gone through, or it was refused
+abbrev pub GoesThrough : {D : Type 0} → Ghosts D → Bool → Book → D → D → Result ℕ CheckpointFault → Type 0
+GoesThrough d told book old new (Ok n) = Went d told book (length book.volumes - 1) n old new
+GoesThrough d told book old new (Err fault) = LeavesCheckpoints d told book old new

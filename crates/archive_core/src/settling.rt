@@ -1,0 +1,110 @@
+//! How the checkpoints of sealed volumes are written.
+ghost use Rattle.std.specs.Prelude.{◌≡◌, ◌+◌, ◌<◌, ◌^◌, IsTrue, length, if◌then◌else◌};
+ghost use Rattle.warc_journal.specs.Journals.{disk_of, texts};
+ghost use Rattle.checkpoint.specs.Faults.{CountsDisk};
+ghost use Rattle.archive_volumes.specs.Held.{book_of};
+ghost use Rattle.archive_volumes.specs.Spots.{AreSpotsOf, ArePlaced, AreWithin};
+ghost use Rattle.archive_volumes.specs.Volumes.{HoldsBook, IsMeasured};
+ghost use Rattle.volume_lines.specs.OfGroups.{IsFactsOf};
+ghost use Rattle.archive_core.specs.Settling.{SettlesOn};
+ghost use Rattle.archive_core.specs.steps.Supplying.{GoesOnBy, GoesThrough, KeepsVolumes, checkpoint_fault_of};
+
+use crate::Archive;
+use crate::missing::supply;
+use archive_volumes::{ReadFault, Spot, VolumeFacts, Volumes};
+use checkpoint::{CheckpointFault, volumes_have_one_list_of_lines};
+use disk_model::Disk;
+use shown::Shown;
+use std::alloc::Global;
+use volume_lines::lines_of;
+
+impl<D: Disk> Archive<D> {
+    /// Writes the checkpoint of each sealed volume, of each but the last, that has none yet. How many it wrote.
+    ///
+    /// The lines are read back from the volumes' records. A volume in which there is damage is passed over; a disk that tells what it
+    /// holds has none. Refused, the checkpoints that were finished stay.
+    pub fn settle(&mut self, alloc: Global) -> Result<u32, CheckpointFault>
+        ensures { SettlesOn D.Disk self.old self.new result }
+    {
+        settle_volumes(&self.told, alloc, &mut self.volumes, self.spots.as_slice())
+    }
+}
+
+/// Writes the checkpoints of the volumes but the last, one behind the other. How many were written.
+fn settle_volumes<D: Disk>(
+    told: &Shown<bool>,
+    alloc: Global,
+    volumes: &mut Volumes<D>,
+    spots: &[Spot],
+) -> Result<u32, CheckpointFault>
+    requires holds { HoldsBook D.Disk told.now.value volumes.old.journal (book_of volumes.old.held) }
+    requires measured { IsMeasured volumes.old.journal (book_of volumes.old.held) }
+    requires spots { AreSpotsOf (book_of volumes.old.held) spots.now }
+    requires within { IsTrue D.tells → AreWithin (texts D.Disk volumes.old.journal) spots.now }
+    requires placed { IsTrue told.now.value → ArePlaced (texts D.Disk volumes.old.journal) (book_of volumes.old.held) spots.now }
+    requires few { length spots.now + 1 < 2 ^ 32 }
+    ensures keeps { KeepsVolumes D.Disk told.now.value volumes.old volumes.new }
+    ensures went { IsTrue D.tells → GoesThrough D.Disk told.now.value (book_of volumes.old.held)
+        (disk_of volumes.old.journal) (disk_of volumes.new.journal) result }
+    ensures faults { CountsDisk (D.faults (disk_of volumes.old.journal)) (D.faults (disk_of volumes.new.journal)) result }
+{
+    let facts = volumes.held.facts(alloc)?;
+    let mut written = 0;
+    let mut done = 0;
+    'volumes: while done + 1 < facts.len() {
+        let wrote = settle_volume(told, alloc, volumes, spots, facts[done])?;
+        written += one_if(wrote);
+        done += 1;
+    }
+    Ok(written)
+}
+
+/// How many were written, by whether it was.
+fn one_if(wrote: bool) -> u32
+    ensures { result ≡ (if wrote then 1 else 0) }
+{
+    match wrote {
+        true => 1,
+        false => 0,
+    }
+}
+
+/// Writes the checkpoint of a volume, where it isn't there. Whether it was written.
+fn settle_volume<D: Disk>(
+    told: &Shown<bool>,
+    alloc: Global,
+    volumes: &mut Volumes<D>,
+    spots: &[Spot],
+    facts: VolumeFacts,
+) -> Result<bool, CheckpointFault>
+    requires holds { HoldsBook D.Disk told.now.value volumes.old.journal (book_of volumes.old.held) }
+    requires measured { IsMeasured volumes.old.journal (book_of volumes.old.held) }
+    requires spots { AreSpotsOf (book_of volumes.old.held) spots.now }
+    requires within { IsTrue D.tells → AreWithin (texts D.Disk volumes.old.journal) spots.now }
+    requires placed { IsTrue told.now.value → ArePlaced (texts D.Disk volumes.old.journal) (book_of volumes.old.held) spots.now }
+    requires there { IsFactsOf (book_of volumes.old.held) facts }
+    requires some { 0 < facts.count }
+    requires small { facts.first + facts.count < 2 ^ 32 }
+    requires sealed { facts.volume + 1 < length (book_of volumes.old.held).volumes }
+    ensures keeps { KeepsVolumes D.Disk told.now.value volumes.old volumes.new }
+    ensures went { IsTrue D.tells → GoesOnBy D.Disk told.now.value (book_of volumes.old.held) facts.volume
+        (disk_of volumes.old.journal) (disk_of volumes.new.journal) result }
+    ensures faults { CountsDisk (D.faults (disk_of volumes.old.journal)) (D.faults (disk_of volumes.new.journal)) result }
+{
+    volumes_have_one_list_of_lines();
+    match lines_of(told, alloc, volumes, spots, facts) {
+        Ok(Some(lines)) => supply(alloc, &mut volumes.journal, facts.volume, lines.as_slice()),
+        Ok(None) => Ok(false),
+        Err(fault) => Err(fault_of(fault)),
+    }
+}
+
+/// The fault of reading, as that of a checkpoint.
+fn fault_of(fault: ReadFault) -> CheckpointFault
+    ensures { result ≡ checkpoint_fault_of fault }
+{
+    match fault {
+        ReadFault::DiskFault => CheckpointFault::DiskFault,
+        ReadFault::Memory => CheckpointFault::Memory,
+    }
+}
