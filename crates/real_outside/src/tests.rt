@@ -1,6 +1,7 @@
 //! Rows over file systems and networks of records, and over the system's own.
 
 mod accepting;
+mod disk_steps;
 mod durability;
 mod loopback;
 mod real_folder;

@@ -1,79 +1,66 @@
 //! What the folder asks of the file system, in which order, and what a call that fails leaves.
 //! No case can say it: a case plays over a disk in memory, which asks no file system.
+use super::disk_steps::{Step, taken};
 use super::recorded_files::{NEVER, NO_VOLUME, Plan, RecordedFiles, TWO_VOLUMES};
 use super::written::{Written, check, joined, written};
 use crate::file_system::Lock;
 use crate::folder_disk::FolderDisk;
-use disk_model::{Disk, Kind};
+use disk_model::Disk;
+use disk_model::Kind::Warc;
 use std::alloc::Global;
 use std::io::ErrorKind;
 use std::process::Abort;
 
-/// One call of the disk, on Warc files.
-#[derive(Clone, Copy)]
-enum Step {
-    Files,
-    Create,
-    Len(u32),
-    /// Two bytes from the second on.
-    Read(u32),
-    /// Three bytes from the first on.
-    Write(u32),
-    /// To one byte.
-    Cut(u32),
-    Sync(u32),
-}
+const FILES: Step = Step::Files(Warc);
 
-use Step::{Create, Cut, Files, Len, Read, Sync, Write};
+const CREATE: Step = Step::Create(Warc);
 
-/// Takes one step. The count of faults says whether it failed.
-fn take(disk: &mut FolderDisk<RecordedFiles>, step: Step) {
-    let mut into = [0u8; 2];
-    let _ok = match step {
-        Files => disk.files(Kind::Warc).is_ok(),
-        Create => disk.create(Kind::Warc).is_ok(),
-        Len(file) => disk.len(Kind::Warc, file).is_ok(),
-        Read(file) => disk.read(Kind::Warc, file, 1, &mut into).is_ok(),
-        Write(file) => disk.write_at(Kind::Warc, file, 0, b"abc").is_ok(),
-        Cut(file) => disk.cut(Kind::Warc, file, 1).is_ok(),
-        Sync(file) => disk.sync(Kind::Warc, file).is_ok(),
-    };
-}
+/// The length of the file of this number.
+const LEN_0: Step = Step::Len(Warc, 0);
 
-/// The first call that is written down, or none where the causes of faults are; which calls fail and how; what is done; and
-/// in parts the calls that are made then, and behind them how many steps failed.
-type Row = (
-    usize,
-    [(usize, ErrorKind); 2],
-    &'static [Step],
-    &'static [&'static str],
-);
+const LEN_1: Step = Step::Len(Warc, 1);
+
+/// Two bytes from the second on.
+const READ_0: Step = Step::Read(Warc, 0, 1, b"\0\0");
+
+const READ_1: Step = Step::Read(Warc, 1, 1, b"\0\0");
+
+/// Three bytes from the first on.
+const WRITE_0: Step = Step::Write(Warc, 0, 0, b"abc");
+
+const WRITE_1: Step = Step::Write(Warc, 1, 0, b"abc");
+
+const WRITE_2: Step = Step::Write(Warc, 2, 0, b"abc");
+
+/// To one byte.
+const CUT_0: Step = Step::Cut(Warc, 0, 1);
+
+const CUT_1: Step = Step::Cut(Warc, 1, 1);
+
+const SYNC_0: Step = Step::Sync(Warc, 0);
+
+const SYNC_1: Step = Step::Sync(Warc, 1);
+
+const SYNC_2: Step = Step::Sync(Warc, 2);
+
+/// What the file system holds, which of its calls fail and how and which are written down; how the folder is held; what is
+/// done; and in parts the calls that are made then, and behind them how many steps failed.
+type Row = (Plan, Lock, &'static [Step], &'static [&'static str]);
 
 /// What is called where the folder is held so, and how many steps failed.
 fn played(alloc: Global, plan: Plan, lock: Lock, steps: &[Step]) -> Written {
     let mut disk = FolderDisk::new(RecordedFiles::new(plan), alloc, lock);
     for step in steps {
-        take(&mut disk, *step);
+        let _told = taken(&mut disk, *step);
     }
     let faults = written(disk.faults());
     joined(disk.system().calls, faults.as_str())
 }
 
-/// The plan of a row.
-fn planned(plan: Plan, from: usize, fails: [(usize, ErrorKind); 2]) -> Plan {
-    Plan {
-        from,
-        fails,
-        tells: from == CAUSES,
-        ..plan
-    }
-}
-
 /// Asserts that rows are called so.
-fn check_rows<R: Abort>(rt: &R, alloc: Global, plan: Plan, lock: Lock, rows: &[Row]) {
-    for (from, fails, steps, want) in rows {
-        let plan = planned(plan, *from, *fails);
-        check(rt, played(alloc, plan, lock, steps), whole(want).as_str());
+fn check_rows<R: Abort>(rt: &R, alloc: Global, rows: &[Row]) {
+    for (plan, lock, steps, want) in rows {
+        check(rt, played(alloc, *plan, *lock, steps), whole(want).as_str());
     }
 }
 
@@ -123,17 +110,24 @@ const READ: &str =
 const SHARED: &str =
     "open to read archive;share archive;look at archive;look for archive;list archive;";
 
-/// No call is written down, and the causes of faults are.
-const CAUSES: usize = usize::MAX;
-
 /// What has no folder at first.
 const NO_FOLDER: (usize, ErrorKind) = (0, ErrorKind::NotFound);
 
+/// A folder of two volumes, of whose calls none is written down, and the causes of faults are.
+const TELLING: Plan = Plan {
+    from: usize::MAX,
+    tells: true,
+    ..TWO_VOLUMES
+};
+
 /// A file is durable before it is told.
 static DURABLE: [Row; 1] = [(
-    0,
-    [NO_FOLDER, NEVER],
-    &[Files, Create, Write(0), Sync(0), Create],
+    Plan {
+        fails: [NO_FOLDER, NEVER],
+        ..NO_VOLUME
+    },
+    Lock::Alone,
+    &[FILES, CREATE, WRITE_0, SYNC_0, CREATE],
     &[
         FOLDER_MADE,
         "list archive;list archive;",
@@ -144,8 +138,11 @@ static DURABLE: [Row; 1] = [(
     ],
 )];
 
-/// Each call that fails once while a file is made, and in parts all that is done behind it.
-static FAILING: [(usize, &[&str]); 16] = [
+/// A call that fails once while a file is made, and in parts all that is done behind it.
+type Failing = (usize, &'static [&'static str]);
+
+/// Each such call.
+static FAILING: [Failing; 16] = [
     (0, &["open to read archive;", EMPTY, MADE, STORED]),
     (1, &["lock archive;", EMPTY, MADE, STORED]),
     (2, &["may write archive;", EMPTY, MADE, STORED]),
@@ -202,33 +199,63 @@ static FAILING: [(usize, &[&str]); 16] = [
     (15, &["look for archive/vol-000000.warc;", "1"]),
 ];
 
-#[test]
-fn makes_files_in_this_order(rt: HostRuntime) {
-    check_rows(&rt, rt.alloc(), NO_VOLUME, Lock::Alone, &DURABLE);
-    for (number, want) in &FAILING {
-        let plan = planned(NO_VOLUME, *number, [(*number, ErrorKind::Other), NEVER]);
-        let steps = [Files, Create, Write(0), Sync(0)];
-        let calls = played(rt.alloc(), plan, Lock::Alone, &steps);
-        check(&rt, calls, whole(want).as_str());
+/// Asserts what is done behind each call that fails.
+fn check_failing<R: Abort>(rt: &R, alloc: Global, rows: &[Failing]) {
+    for (number, want) in rows {
+        let plan = Plan {
+            from: *number,
+            fails: [(*number, ErrorKind::Other), NEVER],
+            ..NO_VOLUME
+        };
+        let calls = played(alloc, plan, Lock::Alone, &[FILES, CREATE, WRITE_0, SYNC_0]);
+        check(rt, calls, whole(want).as_str());
     }
 }
 
+#[test]
+fn makes_files_in_this_order(rt: HostRuntime) {
+    check_rows(&rt, rt.alloc(), &DURABLE);
+    check_failing(&rt, rt.alloc(), &FAILING);
+}
+
+/// Two volumes of one byte.
+const ONE_BYTE: Plan = Plan {
+    len: 1,
+    ..TWO_VOLUMES
+};
+
+/// Two volumes of which two bytes are read or written at once.
+const TWO_AT_ONCE: Plan = Plan {
+    most: 2,
+    ..TWO_VOLUMES
+};
+
+/// Two volumes whose paths lead to other files from call 14 on.
+const MOVES_AT_14: Plan = Plan {
+    moved_from: 14,
+    ..TWO_VOLUMES
+};
+
+/// Two volumes whose paths lead to other files from call 13 on.
+const MOVES_AT_13: Plan = Plan {
+    moved_from: 13,
+    ..TWO_VOLUMES
+};
+
+/// Two volumes whose paths lead to other files from call 4 on.
+const MOVES_AT_4: Plan = Plan {
+    moved_from: 4,
+    ..TWO_VOLUMES
+};
+
 /// What is asked of the files of two volumes.
-static FILES: [Row; 3] = [
+static OPEN: [Row; 8] = [
     // Two files stay open with their lengths.
     (
-        0,
-        [NEVER, NEVER],
+        TWO_VOLUMES,
+        Lock::Alone,
         &[
-            Files,
-            Write(1),
-            Sync(1),
-            Sync(1),
-            Read(0),
-            Len(0),
-            Read(1),
-            Cut(1),
-            Read(1),
+            FILES, WRITE_1, SYNC_1, SYNC_1, READ_0, LEN_0, READ_1, CUT_1, READ_1,
         ],
         &[
             OPENED,
@@ -240,164 +267,181 @@ static FILES: [Row; 3] = [
     ),
     // A file that is there where a file is made is another's, and nothing more is asked of the folder.
     (
-        7,
-        [(8, ErrorKind::AlreadyExists), NEVER],
-        &[Files, Create, Files, Create, Read(0)],
+        Plan {
+            from: 7,
+            fails: [(8, ErrorKind::AlreadyExists), NEVER],
+            ..TWO_VOLUMES
+        },
+        Lock::Alone,
+        &[FILES, CREATE, FILES, CREATE, READ_0],
         &["look for archive;create vol-000002.warc;", "4"],
     ),
     // A folder that is gone holds no files, which isn't said of one that this process has.
     (
-        14,
-        [(14, ErrorKind::NotFound), (15, ErrorKind::NotFound)],
-        &[Files, Write(0), Sync(0), Files, Files],
+        Plan {
+            from: 14,
+            fails: [(14, ErrorKind::NotFound), (15, ErrorKind::NotFound)],
+            ..TWO_VOLUMES
+        },
+        Lock::Alone,
+        &[FILES, WRITE_0, SYNC_0, FILES, FILES],
         &[
             "look for archive/vol-000000.warc;look for archive;look for archive;list archive;may write archive/vol-000001.warc;",
             "2",
         ],
     ),
+    // No open file goes stale: a file that was made is the one that is written, and what is written to another goes there. What
+    // was written is read also behind the end that the file had when it was opened to be read.
+    (
+        Plan {
+            from: 7,
+            ..ONE_BYTE
+        },
+        Lock::Alone,
+        &[
+            FILES, LEN_0, WRITE_0, READ_0, CREATE, WRITE_2, SYNC_2, WRITE_1,
+        ],
+        &[
+            "look for archive;open to read vol-000000.warc;look at vol-000000.warc;",
+            REOPENED,
+            ONE_WRITE,
+            "read 2 at 1 of vol-000000.warc;look for archive;create vol-000002.warc;look at vol-000002.warc;sync all vol-000002.warc;sync folder archive;sync folder .;look for archive/vol-000002.warc;write 3 at 0 of vol-000002.warc;sync data vol-000002.warc;look for archive/vol-000002.warc;look for archive;open to write vol-000001.warc;look at vol-000001.warc;write 3 at 0 of vol-000001.warc;",
+            "0",
+        ],
+    ),
+    // Short reads and writes go on, and so do interrupted ones.
+    (
+        Plan {
+            from: 10,
+            fails: [(10, ErrorKind::Interrupted), (13, ErrorKind::Interrupted)],
+            ..TWO_AT_ONCE
+        },
+        Lock::Alone,
+        &[FILES, WRITE_0, READ_0],
+        &[
+            "write 2 at 0 of vol-000000.warc;write 2 at 0 of vol-000000.warc;write 1 at 2 of vol-000000.warc;read 2 at 1 of vol-000000.warc;read 2 at 1 of vol-000000.warc;",
+            "0",
+        ],
+    ),
+    // Nothing that is done in a folder that was moved or replaced is acknowledged, and nothing is done in the other. Paths lead
+    // to others from the fifteenth call on,
+    (
+        Plan {
+            from: 7,
+            ..MOVES_AT_14
+        },
+        Lock::Alone,
+        &[FILES, WRITE_0, SYNC_0, SYNC_0, FILES, CREATE, READ_0],
+        &[
+            REOPENED,
+            ONE_WRITE,
+            "sync data vol-000000.warc;sync folder archive;sync folder .;look for archive/vol-000000.warc;look for archive;look for archive;look for archive;look for archive;",
+            "5",
+        ],
+    ),
+    // from the fourteenth on,
+    (
+        Plan {
+            from: 7,
+            ..MOVES_AT_13
+        },
+        Lock::Alone,
+        &[FILES, CREATE, FILES],
+        &[
+            "look for archive;create vol-000002.warc;look at vol-000002.warc;sync all vol-000002.warc;sync folder archive;sync folder .;look for archive/vol-000002.warc;look for archive;",
+            "2",
+        ],
+    ),
+    // and from the fifth on.
+    (
+        Plan {
+            from: 7,
+            ..MOVES_AT_4
+        },
+        Lock::Alone,
+        &[FILES, FILES],
+        &["may write archive;look at archive;look for archive;", "2"],
+    ),
 ];
-
-/// No open file goes stale: a file that was made is the one that is written, and what is written to another goes there. What
-/// was written is read also behind the end that the file had when it was opened to be read.
-static STALE: [Row; 1] = [(
-    7,
-    [NEVER, NEVER],
-    &[
-        Files,
-        Len(0),
-        Write(0),
-        Read(0),
-        Create,
-        Write(2),
-        Sync(2),
-        Write(1),
-    ],
-    &[
-        "look for archive;open to read vol-000000.warc;look at vol-000000.warc;",
-        REOPENED,
-        ONE_WRITE,
-        "read 2 at 1 of vol-000000.warc;look for archive;create vol-000002.warc;look at vol-000002.warc;sync all vol-000002.warc;sync folder archive;sync folder .;look for archive/vol-000002.warc;write 3 at 0 of vol-000002.warc;sync data vol-000002.warc;look for archive/vol-000002.warc;look for archive;open to write vol-000001.warc;look at vol-000001.warc;write 3 at 0 of vol-000001.warc;",
-        "0",
-    ],
-)];
-
-/// Short reads and writes go on, and so do interrupted ones.
-static SHORT: [Row; 1] = [(
-    10,
-    [(10, ErrorKind::Interrupted), (13, ErrorKind::Interrupted)],
-    &[Files, Write(0), Read(0)],
-    &[
-        "write 2 at 0 of vol-000000.warc;write 2 at 0 of vol-000000.warc;write 1 at 2 of vol-000000.warc;read 2 at 1 of vol-000000.warc;read 2 at 1 of vol-000000.warc;",
-        "0",
-    ],
-)];
-
-/// Nothing that is done in a folder that was moved or replaced is acknowledged, and nothing is done in the other. Paths lead
-/// to others from the fifteenth call on,
-static MOVED_LATE: [Row; 1] = [(
-    7,
-    [NEVER, NEVER],
-    &[Files, Write(0), Sync(0), Sync(0), Files, Create, Read(0)],
-    &[
-        REOPENED,
-        ONE_WRITE,
-        "sync data vol-000000.warc;sync folder archive;sync folder .;look for archive/vol-000000.warc;look for archive;look for archive;look for archive;look for archive;",
-        "5",
-    ],
-)];
-
-/// from the fourteenth on,
-static MOVED: [Row; 1] = [(
-    7,
-    [NEVER, NEVER],
-    &[Files, Create, Files],
-    &[
-        "look for archive;create vol-000002.warc;look at vol-000002.warc;sync all vol-000002.warc;sync folder archive;sync folder .;look for archive/vol-000002.warc;look for archive;",
-        "2",
-    ],
-)];
-
-/// and from the fifth on.
-static MOVED_AT_ONCE: [Row; 1] = [(
-    7,
-    [NEVER, NEVER],
-    &[Files, Files],
-    &["may write archive;look at archive;look for archive;", "2"],
-)];
 
 #[test]
 fn keeps_files_open_and_notices_others(rt: HostRuntime) {
-    let (alloc, alone) = (rt.alloc(), Lock::Alone);
-    check_rows(&rt, alloc, TWO_VOLUMES, alone, &FILES);
-    check_rows(
-        &rt,
-        alloc,
-        Plan {
-            len: 1,
-            ..TWO_VOLUMES
-        },
-        alone,
-        &STALE,
-    );
-    check_rows(
-        &rt,
-        alloc,
-        Plan {
-            most: 2,
-            ..TWO_VOLUMES
-        },
-        alone,
-        &SHORT,
-    );
-    check_rows(&rt, alloc, moved_from(14), alone, &MOVED_LATE);
-    check_rows(&rt, alloc, moved_from(13), alone, &MOVED);
-    check_rows(&rt, alloc, moved_from(4), alone, &MOVED_AT_ONCE);
+    check_rows(&rt, rt.alloc(), &OPEN);
 }
 
-/// Two volumes whose paths lead to other files from a call on.
-fn moved_from(call: usize) -> Plan {
-    Plan {
-        moved_from: call,
-        ..TWO_VOLUMES
-    }
-}
+/// A link that leads nowhere in the folder's place.
+const LINK: Plan = Plan {
+    linked: true,
+    ..TWO_VOLUMES
+};
 
-/// Who can't write is refused at once.
-static REFUSED: [Row; 6] = [
+/// A folder with one volume.
+const ONE_VOLUME: Plan = Plan {
+    names: ["vol-000000.warc", "", ""],
+    ..NO_VOLUME
+};
+
+/// A folder with a file of the other kind.
+const ONE_CDXJ: Plan = Plan {
+    names: ["", "vol-000000.cdxj", ""],
+    ..NO_VOLUME
+};
+
+/// A folder without its second volume.
+const A_GAP: Plan = Plan {
+    names: ["vol-000000.warc", "vol-000002.warc", ""],
+    ..NO_VOLUME
+};
+
+/// What opens the folder, and who is refused.
+static OPENING: [Row; 15] = [
+    // Who can't write is refused at once.
     (
-        0,
-        [(1, ErrorKind::WouldBlock), NEVER],
-        &[Files, Files],
+        Plan {
+            fails: [(1, ErrorKind::WouldBlock), NEVER],
+            ..TWO_VOLUMES
+        },
+        Lock::Alone,
+        &[FILES, FILES],
         &["open to read archive;lock archive;", OPENED, "1"],
     ),
     (
-        0,
-        [(1, ErrorKind::Unsupported), (3, ErrorKind::Unsupported)],
-        &[Files, Files],
+        Plan {
+            fails: [(1, ErrorKind::Unsupported), (3, ErrorKind::Unsupported)],
+            ..TWO_VOLUMES
+        },
+        Lock::Alone,
+        &[FILES, FILES],
         &[
             "open to read archive;lock archive;open to read archive;lock archive;",
             "2",
         ],
     ),
     (
-        0,
-        [
-            (2, ErrorKind::PermissionDenied),
-            (5, ErrorKind::ReadOnlyFilesystem),
-        ],
-        &[Files, Files],
+        Plan {
+            fails: [
+                (2, ErrorKind::PermissionDenied),
+                (5, ErrorKind::ReadOnlyFilesystem),
+            ],
+            ..TWO_VOLUMES
+        },
+        Lock::Alone,
+        &[FILES, FILES],
         &[
             "open to read archive;lock archive;may write archive;open to read archive;lock archive;may write archive;",
             "2",
         ],
     ),
     (
-        0,
-        [
-            (6, ErrorKind::PermissionDenied),
-            (9, ErrorKind::ReadOnlyFilesystem),
-        ],
-        &[Files, Files],
+        Plan {
+            fails: [
+                (6, ErrorKind::PermissionDenied),
+                (9, ErrorKind::ReadOnlyFilesystem),
+            ],
+            ..TWO_VOLUMES
+        },
+        Lock::Alone,
+        &[FILES, FILES],
         &[
             OPENED,
             "look for archive;list archive;may write archive/vol-000001.warc;",
@@ -405,9 +449,12 @@ static REFUSED: [Row; 6] = [
         ],
     ),
     (
-        0,
-        [NO_FOLDER, (2, ErrorKind::PermissionDenied)],
-        &[Files, Files],
+        Plan {
+            fails: [NO_FOLDER, (2, ErrorKind::PermissionDenied)],
+            ..TWO_VOLUMES
+        },
+        Lock::Alone,
+        &[FILES, FILES],
         &[
             "open to read archive;is a link archive;may write .;",
             OPENED,
@@ -415,203 +462,196 @@ static REFUSED: [Row; 6] = [
         ],
     ),
     (
-        0,
-        [
-            (0, ErrorKind::PermissionDenied),
-            (1, ErrorKind::NotADirectory),
-        ],
-        &[Files, Files],
+        Plan {
+            fails: [
+                (0, ErrorKind::PermissionDenied),
+                (1, ErrorKind::NotADirectory),
+            ],
+            ..TWO_VOLUMES
+        },
+        Lock::Alone,
+        &[FILES, FILES],
         &["open to read archive;open to read archive;", "2"],
     ),
-];
-
-/// Who reads shares the folder and writes nothing, also where the lock is refused once.
-static READING: [Row; 3] = [
+    // Who reads shares the folder and writes nothing, also where the lock is refused once.
     (
-        0,
-        [(1, ErrorKind::Unsupported), NEVER],
-        &[Files, Read(0), Sync(0), Write(0), Cut(0), Create],
+        Plan {
+            fails: [(1, ErrorKind::Unsupported), NEVER],
+            ..TWO_VOLUMES
+        },
+        Lock::Shared,
+        &[FILES, READ_0, SYNC_0, WRITE_0, CUT_0, CREATE],
         &[SHARED, READ, "3"],
     ),
     (
-        0,
-        [(1, ErrorKind::WouldBlock), NEVER],
-        &[Files, Files, Read(0), Sync(0), Create],
+        Plan {
+            fails: [(1, ErrorKind::WouldBlock), NEVER],
+            ..TWO_VOLUMES
+        },
+        Lock::Shared,
+        &[FILES, FILES, READ_0, SYNC_0, CREATE],
         &["open to read archive;share archive;", SHARED, READ, "2"],
     ),
     (
-        0,
-        [(1, ErrorKind::Other), NEVER],
-        &[Files, Files],
+        Plan {
+            fails: [(1, ErrorKind::Other), NEVER],
+            ..TWO_VOLUMES
+        },
+        Lock::Shared,
+        &[FILES, FILES],
         &["open to read archive;share archive;", SHARED, "1"],
     ),
-];
-
-/// A link that leads nowhere is no archive without files, for who reads neither.
-static LINKED: [Row; 1] = [(
-    0,
-    [NO_FOLDER, NEVER],
-    &[Files],
-    &["open to read archive;is a link archive;", "1"],
-)];
-
-/// Files that another process made are never touched: no call comes behind the list that has one. Where the list can't be
-/// read it is read again.
-static LATE: [Row; 2] = [
+    // A link that leads nowhere is no archive without files, for who reads neither.
     (
-        0,
-        [NO_FOLDER, NEVER],
-        &[
-            Files,
-            Create,
-            Files,
-            Create,
-            Read(0),
-            Write(0),
-            Cut(0),
-            Sync(0),
-        ],
+        Plan {
+            fails: [NO_FOLDER, NEVER],
+            ..LINK
+        },
+        Lock::Alone,
+        &[FILES],
+        &["open to read archive;is a link archive;", "1"],
+    ),
+    (
+        Plan {
+            fails: [NO_FOLDER, NEVER],
+            ..LINK
+        },
+        Lock::Shared,
+        &[FILES],
+        &["open to read archive;is a link archive;", "1"],
+    ),
+    // Files that another process made are never touched: no call comes behind the list that has one. Where the list can't be
+    // read it is read again.
+    (
+        Plan {
+            fails: [NO_FOLDER, NEVER],
+            ..ONE_VOLUME
+        },
+        Lock::Alone,
+        &[FILES, CREATE, FILES, CREATE, READ_0, WRITE_0, CUT_0, SYNC_0],
         &[FOLDER_MADE, "list archive;", "7"],
     ),
     (
-        0,
-        [NO_FOLDER, (9, ErrorKind::Other)],
-        &[
-            Files,
-            Create,
-            Files,
-            Create,
-            Read(0),
-            Write(0),
-            Cut(0),
-            Sync(0),
-        ],
+        Plan {
+            fails: [NO_FOLDER, (9, ErrorKind::Other)],
+            ..ONE_VOLUME
+        },
+        Lock::Alone,
+        &[FILES, CREATE, FILES, CREATE, READ_0, WRITE_0, CUT_0, SYNC_0],
         &[
             FOLDER_MADE,
             "list archive;look for archive;list archive;",
             "7",
         ],
     ),
+    // The same where the files are of the other kind.
+    (
+        Plan {
+            fails: [NO_FOLDER, NEVER],
+            ..ONE_CDXJ
+        },
+        Lock::Alone,
+        &[FILES, CREATE, FILES, CREATE, READ_0, WRITE_0, CUT_0, SYNC_0],
+        &[FOLDER_MADE, "list archive;list archive;", "7"],
+    ),
+    // A number that is missing makes no smaller count.
+    (
+        Plan { from: 5, ..A_GAP },
+        Lock::Alone,
+        &[FILES, CREATE],
+        &["list archive;look for archive;list archive;", "2"],
+    ),
 ];
-
-/// The same where the files are of the other kind.
-static LATE_CDXJ: [Row; 1] = [(
-    0,
-    [NO_FOLDER, NEVER],
-    &[
-        Files,
-        Create,
-        Files,
-        Create,
-        Read(0),
-        Write(0),
-        Cut(0),
-        Sync(0),
-    ],
-    &[FOLDER_MADE, "list archive;list archive;", "7"],
-)];
-
-/// A number that is missing makes no smaller count.
-static GAP: [Row; 1] = [(
-    5,
-    [NEVER, NEVER],
-    &[Files, Create],
-    &["list archive;look for archive;list archive;", "2"],
-)];
-
-/// A folder with these names.
-fn named(names: [&'static str; 3]) -> Plan {
-    Plan { names, ..NO_VOLUME }
-}
 
 #[test]
 fn opens_the_folder_in_this_order(rt: HostRuntime) {
-    let (alloc, alone) = (rt.alloc(), Lock::Alone);
-    check_rows(&rt, alloc, TWO_VOLUMES, alone, &REFUSED);
-    check_rows(&rt, alloc, TWO_VOLUMES, Lock::Shared, &READING);
-    let linked = Plan {
-        linked: true,
-        ..TWO_VOLUMES
-    };
-    check_rows(&rt, alloc, linked, alone, &LINKED);
-    check_rows(&rt, alloc, linked, Lock::Shared, &LINKED);
-    check_rows(&rt, alloc, named(["vol-000000.warc", "", ""]), alone, &LATE);
-    check_rows(
-        &rt,
-        alloc,
-        named(["", "vol-000000.cdxj", ""]),
-        alone,
-        &LATE_CDXJ,
-    );
-    check_rows(
-        &rt,
-        alloc,
-        named(["vol-000000.warc", "vol-000002.warc", ""]),
-        alone,
-        &GAP,
-    );
+    check_rows(&rt, rt.alloc(), &OPENING);
 }
 
 /// The cause of each fault is told.
 static TOLD: [Row; 9] = [
     (
-        CAUSES,
-        [(1, ErrorKind::WouldBlock), NEVER],
-        &[Files],
+        Plan {
+            fails: [(1, ErrorKind::WouldBlock), NEVER],
+            ..TELLING
+        },
+        Lock::Alone,
+        &[FILES],
         &[
             "archive: count files: another process has the archive;",
             "1",
         ],
     ),
     (
-        CAUSES,
-        [(5, ErrorKind::StorageFull), NEVER],
-        &[Files],
+        Plan {
+            fails: [(5, ErrorKind::StorageFull), NEVER],
+            ..TELLING
+        },
+        Lock::Alone,
+        &[FILES],
         &["archive: count files: no storage space;", "1"],
     ),
     (
-        CAUSES,
-        [(8, ErrorKind::StorageFull), NEVER],
-        &[Files, Create],
+        Plan {
+            fails: [(8, ErrorKind::StorageFull), NEVER],
+            ..TELLING
+        },
+        Lock::Alone,
+        &[FILES, CREATE],
         &["archive: make a file: no storage space;", "1"],
     ),
     (
-        CAUSES,
-        [(8, ErrorKind::StorageFull), NEVER],
-        &[Files, Len(1)],
+        Plan {
+            fails: [(8, ErrorKind::StorageFull), NEVER],
+            ..TELLING
+        },
+        Lock::Alone,
+        &[FILES, LEN_1],
         &[
             "archive/vol-000001.warc: ask for its length: no storage space;",
             "1",
         ],
     ),
     (
-        CAUSES,
-        [(10, ErrorKind::StorageFull), NEVER],
-        &[Files, Read(1)],
+        Plan {
+            fails: [(10, ErrorKind::StorageFull), NEVER],
+            ..TELLING
+        },
+        Lock::Alone,
+        &[FILES, READ_1],
         &["archive/vol-000001.warc: read: no storage space;", "1"],
     ),
     (
-        CAUSES,
-        [(10, ErrorKind::StorageFull), NEVER],
-        &[Files, Write(0)],
+        Plan {
+            fails: [(10, ErrorKind::StorageFull), NEVER],
+            ..TELLING
+        },
+        Lock::Alone,
+        &[FILES, WRITE_0],
         &["archive/vol-000000.warc: write: no storage space;", "1"],
     ),
     (
-        CAUSES,
-        [(10, ErrorKind::StorageFull), NEVER],
-        &[Files, Cut(0)],
+        Plan {
+            fails: [(10, ErrorKind::StorageFull), NEVER],
+            ..TELLING
+        },
+        Lock::Alone,
+        &[FILES, CUT_0],
         &["archive/vol-000000.warc: cut: no storage space;", "1"],
     ),
     (
-        CAUSES,
-        [(10, ErrorKind::StorageFull), NEVER],
-        &[Files, Sync(0), Sync(0)],
+        Plan {
+            fails: [(10, ErrorKind::StorageFull), NEVER],
+            ..TELLING
+        },
+        Lock::Alone,
+        &[FILES, SYNC_0, SYNC_0],
         &["archive/vol-000000.warc: sync: no storage space;", "1"],
     ),
-    (CAUSES, [NEVER, NEVER], &[Files, Write(0), Sync(0)], &["0"]),
+    (TELLING, Lock::Alone, &[FILES, WRITE_0, SYNC_0], &["0"]),
 ];
 
 #[test]
 fn the_cause_of_each_fault_is_told(rt: HostRuntime) {
-    check_rows(&rt, rt.alloc(), TWO_VOLUMES, Lock::Alone, &TOLD);
+    check_rows(&rt, rt.alloc(), &TOLD);
 }

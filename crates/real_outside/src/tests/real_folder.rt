@@ -1,25 +1,20 @@
 //! The folder `archive` over the system's files.
 //! No case can say it: a case has a disk in memory, and no folder is shared there.
+use super::disk_steps;
+use super::disk_steps::taken;
+use super::written::{Written, check, then};
 use crate::file_system::Lock;
 use crate::folder_disk::FolderDisk;
 use crate::system_files::c_path_of;
 use disk_model::Kind::{Cdxj, Warc};
-use disk_model::{Disk, Kind};
+use outside::Failed;
 use std::fs;
 use std::process::Abort;
 
 /// One call of a process's disk, or what somebody does to the folder.
 #[derive(Clone, Copy)]
 enum Step {
-    Files(Kind),
-    Create(Kind),
-    Len(Kind, u32),
-    /// Five bytes from a place on, which are these.
-    Read(Kind, u32, u64, &'static [u8]),
-    Write(Kind, u32, u64, &'static [u8]),
-    Cut(Kind, u32, u64),
-    Sync(Kind, u32),
-    Faults,
+    Calls(disk_steps::Step),
     /// A folder is made in the archive's whose name isn't UTF-8.
     MakesOddName,
     /// A file is removed by hand.
@@ -32,58 +27,23 @@ enum Step {
     RemovesAll,
 }
 
-use Step::{
-    Create, Cut, Faults, Files, Holds, Len, MakesOddName, Puts, Read, Removes, RemovesAll, Sync,
-    Write,
-};
+use Step::{Calls, Holds, MakesOddName, Puts, Removes, RemovesAll};
+use disk_steps::Step::{Create, Cut, Faults, Files, Len, Read, Sync, Write};
 
-/// What a call answers that tells no number.
-const DONE: Option<u64> = Some(0);
-
-/// What a call answers that was done or not.
-fn number_if(done: bool) -> Option<u64> {
-    if done { DONE } else { None }
-}
-
-/// A number as the rows have it.
-fn widened(number: Option<u32>) -> Option<u64> {
-    match number {
-        Some(number) => Some(u64::from(number)),
-        None => None,
-    }
+/// What is answered where something was done, or wasn't.
+fn done_if(done: bool) -> Result<usize, Failed> {
+    if done { Ok(0) } else { Err(Failed) }
 }
 
 /// Takes one step.
-fn answer_of(rt: HostRuntime, disk: &mut FolderDisk<HostRuntime>, step: Step) -> Option<u64> {
+fn take(rt: HostRuntime, disk: &mut FolderDisk<HostRuntime>, step: Step) -> Result<usize, Failed> {
     match step {
-        Files(kind) => widened(disk.files(kind).ok()),
-        Create(kind) => widened(disk.create(kind).ok()),
-        Len(kind, file) => disk.len(kind, file).ok(),
-        Read(kind, file, at, want) => read_of(disk, kind, file, at, want),
-        Write(kind, file, at, bytes) => number_if(disk.write_at(kind, file, at, bytes).is_ok()),
-        Cut(kind, file, len) => number_if(disk.cut(kind, file, len).is_ok()),
-        Sync(kind, file) => number_if(disk.sync(kind, file).is_ok()),
-        Faults => Some(disk.faults()),
-        MakesOddName => number_if(makes_a_name_that_is_no_text()),
-        Removes(path) => number_if(fs::remove_file(&rt, path).is_ok()),
-        Puts(path, text) => number_if(fs::write(&rt, path, text).is_ok()),
-        Holds(path, text) => number_if(holds(rt, path, text)),
-        RemovesAll => number_if(fs::remove_dir_all(&rt, "archive").is_ok()),
-    }
-}
-
-/// What a read of five bytes from a place on answers: 0 where they are these, and 1 where they are others.
-fn read_of(
-    disk: &mut FolderDisk<HostRuntime>,
-    kind: Kind,
-    file: u32,
-    at: u64,
-    want: &[u8],
-) -> Option<u64> {
-    let mut into = [0u8; 5];
-    match disk.read(kind, file, at, &mut into) {
-        Ok(()) => Some(u64::from(into.as_slice() != want)),
-        Err(_) => None,
+        Calls(step) => taken(disk, step),
+        MakesOddName => done_if(makes_a_name_that_is_no_text()),
+        Removes(path) => done_if(fs::remove_file(&rt, path).is_ok()),
+        Puts(path, text) => done_if(fs::write(&rt, path, text).is_ok()),
+        Holds(path, text) => done_if(holds(rt, path, text)),
+        RemovesAll => done_if(fs::remove_dir_all(&rt, "archive").is_ok()),
     }
 }
 
@@ -103,14 +63,17 @@ fn makes_a_name_that_is_no_text() -> bool {
     }
 }
 
-/// A step, and the number that it answers: 0 where it tells none, and none at all where it fails.
-type Row = (Step, Option<u64>);
+/// Steps of one process, and what they answer: a number, or 0 where a step tells none.
+type Scene = (&'static [Step], &'static str);
 
-/// Asserts that each step answers so.
-fn check<R: Abort>(abort: &R, rt: HostRuntime, disk: &mut FolderDisk<HostRuntime>, rows: &[Row]) {
-    for (number, (step, want)) in rows.iter().enumerate() {
-        assert_eq!(abort; answer_of(rt, disk, *step), *want, "row {number}");
+/// Asserts that the steps of a scene answer so.
+fn plays<R: Abort>(abort: &R, rt: HostRuntime, disk: &mut FolderDisk<HostRuntime>, scene: &Scene) {
+    let (steps, want) = scene;
+    let mut told = Written::new();
+    for step in *steps {
+        told = then(told, take(rt, disk, *step));
     }
+    check(abort, told, want);
 }
 
 const FIRST_PATH: &str = "archive/vol-000000.warc";
@@ -118,93 +81,111 @@ const FIRST_PATH: &str = "archive/vol-000000.warc";
 const THIRD_PATH: &str = "archive/vol-000002.warc";
 
 /// What an empty folder takes.
-static FIRST: [Row; 9] = [
-    (Files(Warc), Some(0)),
-    (Create(Warc), Some(0)),
-    (Create(Cdxj), Some(0)),
-    (Create(Warc), Some(1)),
-    (Write(Warc, 0, 0, b"hello world"), DONE),
-    (Write(Warc, 1, 0, b"second"), DONE),
-    (Write(Warc, 0, 6, b"folder"), DONE),
-    (Len(Warc, 0), Some(12)),
-    (Read(Warc, 0, 4, b"o fol"), DONE),
-];
+static FIRST: Scene = (
+    &[
+        Calls(Files(Warc)),
+        Calls(Create(Warc)),
+        Calls(Create(Cdxj)),
+        Calls(Create(Warc)),
+        Calls(Write(Warc, 0, 0, b"hello world")),
+        Calls(Write(Warc, 1, 0, b"second")),
+        Calls(Write(Warc, 0, 6, b"folder")),
+        Calls(Len(Warc, 0)),
+        Calls(Read(Warc, 0, 4, b"o fol")),
+    ],
+    "0;0;0;1;0;0;0;12;0;",
+);
 
 /// A cut, and then what isn't there.
-static CUT: [Row; 9] = [
-    (Cut(Warc, 0, 5), DONE),
-    (Sync(Warc, 0), DONE),
-    (Faults, Some(0)),
-    (Read(Warc, 0, 1, b"ello"), None),
-    (Write(Warc, 0, 6, b"x"), None),
-    (Cut(Warc, 0, 6), None),
-    (Len(Cdxj, 1), None),
-    (Sync(Warc, 2), None),
-    (Faults, Some(5)),
-];
+static CUT: Scene = (
+    &[
+        Calls(Cut(Warc, 0, 5)),
+        Calls(Sync(Warc, 0)),
+        Calls(Faults),
+        Calls(Read(Warc, 0, 1, b"ello?")),
+        Calls(Write(Warc, 0, 6, b"x")),
+        Calls(Cut(Warc, 0, 6)),
+        Calls(Len(Cdxj, 1)),
+        Calls(Sync(Warc, 2)),
+        Calls(Faults),
+    ],
+    "0;0;0;failed;failed;failed;failed;failed;5;",
+);
 
 /// What a second process is answered, also one that reads.
-static LOCKED: [Row; 2] = [(Files(Warc), None), (Len(Warc, 1), None)];
+static LOCKED: Scene = (&[Calls(Files(Warc)), Calls(Len(Warc, 1))], "failed;failed;");
 
 /// What processes find that read at once.
-static READERS: [Row; 5] = [
-    (Files(Warc), Some(2)),
-    (Read(Warc, 0, 0, b"hello"), DONE),
-    (Sync(Warc, 0), DONE),
-    (Write(Warc, 0, 0, b"x"), None),
-    (Create(Warc), None),
-];
+static READERS: Scene = (
+    &[
+        Calls(Files(Warc)),
+        Calls(Read(Warc, 0, 0, b"hello")),
+        Calls(Sync(Warc, 0)),
+        Calls(Write(Warc, 0, 0, b"x")),
+        Calls(Create(Warc)),
+    ],
+    "2;0;0;failed;failed;",
+);
 
 /// What another run finds: beside a name that isn't UTF-8, where another file was put in the place of one, where the last
 /// file was removed by hand, and where the whole folder was. A file that is open can be written then.
-static LATER: [Row; 18] = [
-    (MakesOddName, DONE),
-    (Files(Warc), Some(2)),
-    (Files(Cdxj), Some(1)),
-    (Len(Warc, 1), Some(6)),
-    (Sync(Warc, 0), DONE),
-    (Create(Warc), Some(2)),
-    (Holds(FIRST_PATH, "hello"), DONE),
-    (Removes(FIRST_PATH), DONE),
-    (Puts(FIRST_PATH, "other"), DONE),
-    (Sync(Warc, 0), None),
-    (Removes(THIRD_PATH), DONE),
-    (Files(Warc), None),
-    (Sync(Warc, 2), None),
-    (RemovesAll, DONE),
-    (Sync(Warc, 0), None),
-    (Files(Warc), None),
-    (Create(Warc), None),
-    (Len(Warc, 1), None),
-];
+static LATER: Scene = (
+    &[
+        MakesOddName,
+        Calls(Files(Warc)),
+        Calls(Files(Cdxj)),
+        Calls(Len(Warc, 1)),
+        Calls(Sync(Warc, 0)),
+        Calls(Create(Warc)),
+        Holds(FIRST_PATH, "hello"),
+        Removes(FIRST_PATH),
+        Puts(FIRST_PATH, "other"),
+        Calls(Sync(Warc, 0)),
+        Removes(THIRD_PATH),
+        Calls(Files(Warc)),
+        Calls(Sync(Warc, 2)),
+        RemovesAll,
+        Calls(Sync(Warc, 0)),
+        Calls(Files(Warc)),
+        Calls(Create(Warc)),
+        Calls(Len(Warc, 1)),
+    ],
+    "0;2;1;6;0;2;0;0;0;failed;0;failed;failed;0;failed;failed;failed;failed;",
+);
 
 /// What who found no folder is answered.
-static NONE: [Row; 1] = [(Files(Warc), Some(0))];
+static NONE: Scene = (&[Calls(Files(Warc))], "0;");
 
 /// The same where another made it, and stores in it.
-static TAKEN: [Row; 1] = [(Create(Warc), None)];
+static TAKEN: Scene = (&[Calls(Create(Warc))], "failed;");
 
 /// The same when that one has ended. Nothing of its files is touched.
-static LATE: [Row; 6] = [
-    (Create(Warc), None),
-    (Create(Warc), None),
-    (Files(Warc), None),
-    (Cut(Warc, 0, 0), None),
-    (Faults, Some(5)),
-    (Holds(FIRST_PATH, "hello folder"), DONE),
-];
+static LATE: Scene = (
+    &[
+        Calls(Create(Warc)),
+        Calls(Create(Warc)),
+        Calls(Files(Warc)),
+        Calls(Cut(Warc, 0, 0)),
+        Calls(Faults),
+        Holds(FIRST_PATH, "hello folder"),
+    ],
+    "failed;failed;failed;failed;5;0;",
+);
 
 /// What is answered where a file was put there by hand.
-static PUT: [Row; 8] = [
-    (Files(Warc), Some(2)),
-    (Puts(THIRD_PATH, "theirs"), DONE),
-    (Create(Warc), None),
-    (Files(Warc), None),
-    (Cut(Warc, 2, 0), None),
-    (Len(Warc, 2), None),
-    (Holds(THIRD_PATH, "theirs"), DONE),
-    (RemovesAll, DONE),
-];
+static PUT: Scene = (
+    &[
+        Calls(Files(Warc)),
+        Puts(THIRD_PATH, "theirs"),
+        Calls(Create(Warc)),
+        Calls(Files(Warc)),
+        Calls(Cut(Warc, 2, 0)),
+        Calls(Len(Warc, 2)),
+        Holds(THIRD_PATH, "theirs"),
+        RemovesAll,
+    ],
+    "2;0;failed;failed;failed;failed;0;0;",
+);
 
 /// A disk in the folder, of a process that has it so.
 fn disk_as(rt: HostRuntime, lock: Lock) -> FolderDisk<HostRuntime> {
@@ -214,30 +195,30 @@ fn disk_as(rt: HostRuntime, lock: Lock) -> FolderDisk<HostRuntime> {
 /// What one process after the other finds, and what one is answered whose folder is removed.
 fn keeps_numbered_files<R: Abort>(abort: &R, rt: HostRuntime) {
     let mut disk = disk_as(rt, Lock::Alone);
-    check(abort, rt, &mut disk, &FIRST);
-    check(abort, rt, &mut disk, &CUT);
+    plays(abort, rt, &mut disk, &FIRST);
+    plays(abort, rt, &mut disk, &CUT);
     let mut later = disk_as(rt, Lock::Alone);
-    check(abort, rt, &mut later, &LOCKED);
+    plays(abort, rt, &mut later, &LOCKED);
     let mut reader = disk_as(rt, Lock::Shared);
-    check(abort, rt, &mut reader, &LOCKED);
+    plays(abort, rt, &mut reader, &LOCKED);
     drop(disk);
-    check(abort, rt, &mut reader, &READERS);
-    check(abort, rt, &mut disk_as(rt, Lock::Shared), &READERS);
-    check(abort, rt, &mut later, &LOCKED);
+    plays(abort, rt, &mut reader, &READERS);
+    plays(abort, rt, &mut disk_as(rt, Lock::Shared), &READERS);
+    plays(abort, rt, &mut later, &LOCKED);
     drop(reader);
-    check(abort, rt, &mut later, &LATER);
+    plays(abort, rt, &mut later, &LATER);
 }
 
 /// What is answered to who found no folder, and to who didn't make what is in its folder.
 fn touches_no_file_of_another<R: Abort>(abort: &R, rt: HostRuntime) {
     let mut waiting = disk_as(rt, Lock::Alone);
-    check(abort, rt, &mut waiting, &NONE);
+    plays(abort, rt, &mut waiting, &NONE);
     let mut other = disk_as(rt, Lock::Alone);
-    check(abort, rt, &mut other, &FIRST);
-    check(abort, rt, &mut waiting, &TAKEN);
+    plays(abort, rt, &mut other, &FIRST);
+    plays(abort, rt, &mut waiting, &TAKEN);
     drop(other);
-    check(abort, rt, &mut waiting, &LATE);
-    check(abort, rt, &mut disk_as(rt, Lock::Alone), &PUT);
+    plays(abort, rt, &mut waiting, &LATE);
+    plays(abort, rt, &mut disk_as(rt, Lock::Alone), &PUT);
 }
 
 // One test, since there is one folder.

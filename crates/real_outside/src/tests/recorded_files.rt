@@ -1,5 +1,5 @@
 //! A file system of records: it writes each call down, fails at one of them, and holds nothing.
-ghost use Rattle.std.specs.Prelude.{false, []};
+ghost use Rattle.std.specs.Prelude.{◌≡◌, false, [], IfOk};
 
 use super::written::{Written, called, cause, joined, numbered, written};
 use crate::causes::Causes;
@@ -85,6 +85,16 @@ impl RecordedFiles {
         }
         Ok(())
     }
+
+    /// The same for a call that answers something.
+    fn answer<T: Drop>(&mut self, call: &str, of: &str, answer: T) -> io::Result<T>
+        ensures { IfOk result (λ it. it ≡ answer) }
+    {
+        match self.call(call, of) {
+            Ok(()) => Ok(answer),
+            Err(error) => Err(error),
+        }
+    }
 }
 
 /// A call about so many bytes at a place of a file.
@@ -145,8 +155,7 @@ impl FileSystem for RecordedFiles {
             Access::Update => "open to write",
             Access::New => "create",
         };
-        self.call(word, name)?;
-        Ok(written(name))
+        self.answer(word, name, written(name))
     }
 
     fn lock(&mut self, file: &Written, lock: Lock) -> io::Result<()> {
@@ -163,34 +172,31 @@ impl FileSystem for RecordedFiles {
 
     fn found(&mut self, file: &Written) -> io::Result<Found> {
         let name = file.as_str();
-        self.call("look at", name)?;
-        Ok(Found {
+        let found = Found {
             identity: identity_of(name, 0),
             len: self.plan.len,
-        })
+        };
+        self.answer("look at", name, found)
     }
 
     fn identity_at(&mut self, path: &str) -> io::Result<Identity> {
         let moved = u64::from(self.made >= self.plan.moved_from);
-        self.call("look for", path)?;
-        Ok(identity_of(name_of(path), moved))
+        self.answer("look for", path, identity_of(name_of(path), moved))
     }
 
     fn is_link(&mut self, path: &str) -> io::Result<bool> {
-        self.call("is a link", path)?;
-        Ok(self.plan.linked)
+        let linked = self.plan.linked;
+        self.answer("is a link", path, linked)
     }
 
     fn read_at(&mut self, file: &Written, into: &mut [u8], at: u64) -> io::Result<usize> {
         let n = into.len().min(self.plan.most);
-        self.call(at_place("read", n, at).as_str(), file.as_str())?;
-        Ok(n)
+        self.answer(at_place("read", n, at).as_str(), file.as_str(), n)
     }
 
     fn write_at(&mut self, file: &Written, piece: &[u8], at: u64) -> io::Result<usize> {
         let n = piece.len().min(self.plan.most);
-        self.call(at_place("write", n, at).as_str(), file.as_str())?;
-        Ok(n)
+        self.answer(at_place("write", n, at).as_str(), file.as_str(), n)
     }
 
     fn set_len(&mut self, file: &Written, len: u64) -> io::Result<()> {
