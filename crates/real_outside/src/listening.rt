@@ -93,9 +93,10 @@ fn port_in(digits: &str) -> Option<u16> {
 #[cfg(test)]
 mod tests {
     use super::*;
+    use crate::tests::site::site_at;
     use crate::tests::written::{Written, check, written};
-    use capture::Text;
     use std::env::FillError;
+    use std::process::Abort;
 
     /// An environment in which the variable has this text, or isn't there.
     #[derive(Clone, Copy)]
@@ -107,14 +108,16 @@ mod tests {
         }
 
         fn var(&self, name: &str, buf: &mut [u8]) -> Result<usize, FillError> {
-            let text = match self.0 {
-                Some(text) if name == LISTEN => text.as_bytes(),
-                _ => return Err(FillError::NotPresent),
+            if name != LISTEN {
+                return Err(FillError::NotPresent);
+            }
+            let Some(text) = self.0 else {
+                return Err(FillError::NotPresent);
             };
             let Some(front) = buf.get_mut(..text.len()) else {
                 return Err(FillError::TooLong);
             };
-            front.copy_from_slice(text);
+            front.copy_from_slice(text.as_bytes());
             Ok(text.len())
         }
 
@@ -141,32 +144,33 @@ mod tests {
         (Some(""), "nowhere"),
     ];
 
-    /// The site at port 8080 of `[::1]`.
-    fn site(alloc: Global) -> Result<Site, Memory> {
-        Ok(Site {
-            base: Text::from_str(alloc, "http://[::1]:8080")?,
-            host: Text::from_str(alloc, "[::1]")?,
-            port: 8080,
-        })
-    }
-
     /// Where that program listens, printed.
     fn listens(alloc: Global, says: Option<&'static str>) -> Written {
-        let Ok(site) = site(alloc) else {
+        let Ok(site) = site_at(alloc, "[::1]", 8080) else {
             return Written::new();
         };
-        match where_to_listen(&(Says(says), alloc), &site) {
+        printed(where_to_listen(&(Says(says), alloc), &site))
+    }
+
+    /// An address, printed.
+    fn printed(answer: Result<Option<Address>, Memory>) -> Written {
+        match answer {
             Ok(Some(address)) => written(address),
             Ok(None) => written("nowhere"),
             Err(_) => Written::new(),
         }
     }
 
+    /// Asserts where a program listens.
+    fn check_rows<R: Abort>(rt: &R, alloc: Global, rows: &[(Option<&'static str>, &str)]) {
+        for (says, want) in rows {
+            check(rt, listens(alloc, *says), want);
+        }
+    }
+
     // No case can say it: a case has no environment.
     #[test]
     fn listens_where_the_environment_says(rt: HostRuntime) {
-        for (says, want) in &ROWS {
-            check(&rt, listens(rt.alloc(), *says), want);
-        }
+        check_rows(&rt, rt.alloc(), &ROWS);
     }
 }

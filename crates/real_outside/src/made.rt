@@ -173,75 +173,72 @@ where
 #[cfg(test)]
 mod tests {
     use super::*;
-    use capture::Text;
+    use crate::tests::loopback::free_port;
+    use crate::tests::site::site_at;
+    use crate::tests::written::{Written, check, written};
     use outside::Dialer;
-    use std::alloc::Global;
-    use std::net::{Ipv4Addr, TcpListener};
 
-    /// The site whose clients come in at a port of the loopback. Its base isn't asked here.
-    fn site(alloc: Global, port: u16) -> Result<Site, Memory> {
-        Ok(Site {
-            base: Text::empty(alloc),
-            host: Text::from_str(alloc, "127.0.0.1")?,
-            port,
-        })
-    }
-
-    /// A port of the system's choice at which nobody listens any more.
-    fn free_port(rt: HostRuntime) -> Option<u16> {
-        let listener = TcpListener::bind(&rt, (Ipv4Addr::LOCALHOST, 0)).ok()?;
-        Some(listener.local_addr().ok()?.port())
-    }
-
-    /// A server of 16 members at that port.
+    /// A server of 16 members at a port of the loopback.
     fn made_at(rt: &HostRuntime, port: u16) -> Option<Made<HostRuntime>> {
-        let site = site(rt.alloc(), port).ok()?;
+        let site = site_at(rt.alloc(), "127.0.0.1", port).ok()?;
         make(rt, Ends::Network(Some(site)), Lock::Alone, 16).ok()
     }
 
-    /// How many members its crew has, whether its gate was refused, and where that listens.
-    fn told(made: &Made<HostRuntime>) -> (usize, bool, Option<SocketAddr>) {
-        let gate = &made.gate;
-        (made.members.len(), gate.was_refused(), gate.own_address())
-    }
-
-    /// How many clients each member sees while the gate has one.
-    fn clients_seen(made: &Made<HostRuntime>) -> Option<u64> {
-        let RealGate::Tcp { gate, .. } = &made.gate else {
-            return None;
-        };
-        let _client = gate.places().of_client().ok()?;
-        let mut seen = 0;
-        for (dialer, _) in &made.members {
-            if let RealDialer::Tcp { dialer, .. } = dialer {
-                seen = dialer.places().clients().saturating_add(seen);
-            }
+    /// How many clients a member sees.
+    fn clients_seen<R: Network>(dialer: &RealDialer<R>) -> u64 {
+        match dialer {
+            RealDialer::Echo { .. } => 0,
+            RealDialer::Tcp { dialer, .. } => dialer.places().clients(),
         }
-        Some(seen)
     }
 
-    /// Whether a member connects to the port at which the gate listens.
-    fn loops(made: &mut Made<HostRuntime>, port: u16) -> bool {
-        for (dialer, _) in made.members.iter_mut() {
+    /// How many clients the members see together, and how many of them connect to a port.
+    fn asked(
+        members: &mut [(RealDialer<HostRuntime>, RealClock<HostRuntime>)],
+        port: u16,
+    ) -> (u64, u64) {
+        let mut seen = 0u64;
+        let mut connected = 0u64;
+        for (dialer, _) in members {
+            seen = seen.saturating_add(clients_seen(dialer));
             if dialer.dial("127.0.0.1", port).is_ok() {
-                return true;
+                connected = connected.saturating_add(1);
             }
         }
-        false
+        (seen, connected)
+    }
+
+    /// How many members a server's crew has, whether its gate was refused, and where that listens; and while the gate has a
+    /// client, how many its members see, and how many of them connect to the port at which the gate listens.
+    fn told(made: &mut Made<HostRuntime>, port: u16) -> Written {
+        let client = match &made.gate {
+            RealGate::Once { .. } => None,
+            RealGate::Tcp { gate, .. } => gate.places().of_client().ok(),
+        };
+        let (seen, connected) = asked(made.members.as_mut_slice(), port);
+        drop(client);
+        let (members, refused) = (made.members.len(), made.gate.was_refused());
+        let own = match made.gate.own_address() {
+            Some(own) => written(own),
+            None => Written::new(),
+        };
+        let own = own.as_str();
+        written(format_args!("{members} {refused} {own} {seen} {connected}"))
+    }
+
+    /// The same of a server at a port.
+    fn serves(rt: HostRuntime, port: u16) -> Written {
+        match made_at(&rt, port) {
+            Some(mut made) => told(&mut made, port),
+            None => Written::new(),
+        }
     }
 
     // No case can say it: a case is served over objects in memory, and not over these.
     #[test]
     fn makes_a_server(rt: HostRuntime) {
-        let Some(port) = free_port(rt) else {
-            panic!(rt; "no port");
-        };
-        let Some(mut made) = made_at(&rt, port) else {
-            panic!(rt; "no memory");
-        };
-        let own = SocketAddr::from((Ipv4Addr::LOCALHOST, port));
-        assert_eq!(rt; told(&made), (16, false, Some(own)));
-        assert_eq!(rt; clients_seen(&made), Some(16));
-        assert!(rt; !loops(&mut made, port));
+        let port = free_port(rt);
+        let want = written(format_args!("16 false 127.0.0.1:{port} 16 0"));
+        check(&rt, serves(rt, port), want.as_str());
     }
 }

@@ -3,10 +3,11 @@
 mod accepting;
 mod disk_steps;
 mod durability;
-mod loopback;
+pub(crate) mod loopback;
 mod real_folder;
 mod recorded_files;
 mod recorded_network;
+pub(crate) mod site;
 mod streaming;
 mod waiting;
 pub(crate) mod written;
