@@ -45,6 +45,7 @@ fn millis_of(time: SystemTime) -> u64
 #[cfg(test)]
 mod tests {
     use super::*;
+    use crate::tests::written::{check, written};
     use std::io;
     use std::io::ErrorKind;
     use std::time::Duration;
@@ -80,9 +81,11 @@ mod tests {
         let fixed = shown(Shows(Some(1_700_000_000_500_999)));
         let stopped = shown(Shows(None));
         let real = shown(rt);
-        assert_eq!(rt;
-            [fixed, stopped, real],
-            [1_700_000_000_500, u64::MAX, real.max(YEARS.0).min(YEARS.1)]
+        let in_time = real == real.max(YEARS.0).min(YEARS.1);
+        check(
+            &rt,
+            written(format_args!("{fixed} {stopped} {in_time}")),
+            "1700000000500 18446744073709551615 true",
         );
     }
 }

@@ -156,24 +156,31 @@ fn files_of_others() -> io::Error {
 #[cfg(test)]
 mod tests {
     use super::*;
+    use crate::tests::written::{check, written};
+    use std::process::Abort;
 
     /// Linux's numbers of errors, and whether they say that a file system has no locks: ENOLCK, ENOSYS, EOPNOTSUPP, and
     /// EIO, EAGAIN and EINTR.
-    static NUMBERS: [(i32, bool); 6] = [
-        (37, true),
-        (38, true),
-        (95, true),
-        (5, false),
-        (11, false),
-        (4, false),
+    static NUMBERS: [(i32, &str); 6] = [
+        (37, "true"),
+        (38, "true"),
+        (95, "true"),
+        (5, "false"),
+        (11, "false"),
+        (4, "false"),
     ];
+
+    /// Asserts what each number says.
+    fn check_rows<R: Abort>(rt: &R, rows: &[(i32, &str)]) {
+        for (number, want) in rows {
+            let error = io::Error::from_raw_os_error(*number);
+            check(rt, written(is_want_of_locks(&error)), want);
+        }
+    }
 
     // No case can say it: a case has a disk in memory, which nobody locks.
     #[test]
     fn want_of_locks_is_known(rt: HostRuntime) {
-        for (number, want) in &NUMBERS {
-            let error = io::Error::from_raw_os_error(*number);
-            assert_eq!(rt; is_want_of_locks(&error), *want);
-        }
+        check_rows(&rt, &NUMBERS);
     }
 }

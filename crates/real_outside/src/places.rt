@@ -118,26 +118,28 @@ impl Drop for Place {
 #[cfg(test)]
 mod tests {
     use super::*;
+    use crate::tests::written::{Written, check, joined, written};
 
-    /// The clients, and whether one waits.
-    fn told(places: &Places, place: &Place) -> (u64, bool) {
-        (places.clients(), place.is_crowded())
+    /// What was told before, and behind it how many clients there are, and whether one waits.
+    fn told(before: Written, places: &Places, place: &Place) -> Written {
+        let (clients, waits) = (places.clients(), place.is_crowded());
+        joined(before, written(format_args!("{clients} {waits};")).as_str())
     }
 
     /// What is told to an origin, or to the first of them, at each step of two clients.
-    fn steps(places: &Places) -> io::Result<[(u64, bool); 5]> {
+    fn steps(places: &Places) -> io::Result<Written> {
         let origin = places.of_origin()?;
-        let none = told(places, &origin);
+        let none = told(Written::new(), places, &origin);
         let mut first = places.of_client()?;
         let second = places.of_client()?;
-        let both = told(places, &origin);
+        let both = told(none, places, &origin);
         first.serve();
         first.serve();
-        let one_waits = told(places, &first);
+        let one_waits = told(both, places, &first);
         drop(second);
-        let one_left = told(places, &first);
+        let one_left = told(one_waits, places, &first);
         drop(first);
-        Ok([none, both, one_waits, one_left, told(places, &origin)])
+        Ok(told(one_left, places, &origin))
     }
 
     // No case can say it: the links of a case have no places.
@@ -146,7 +148,7 @@ mod tests {
         let Ok(places) = Places::new(rt.alloc()) else {
             panic!(rt; "no memory");
         };
-        let want = [(0, false), (2, true), (2, true), (1, false), (0, false)];
-        assert_eq!(rt; steps(&places).ok(), Some(want));
+        let told = steps(&places).unwrap_or(Written::new());
+        check(&rt, told, "0 false;2 true;2 true;1 false;0 false;");
     }
 }

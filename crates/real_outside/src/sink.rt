@@ -50,6 +50,7 @@ impl<R: Print + StandardStreams + Causes> Sink for RealSink<R> {
 #[cfg(test)]
 mod tests {
     use super::*;
+    use crate::tests::written::{answered, check, then};
 
     // No case can say it: what a case prints is kept in memory, and goes to no standard stream.
     #[test]
@@ -62,7 +63,7 @@ mod tests {
             stream: rt.standard_error(),
             faults: 0,
         };
-        let written = (out.write(b"output\n"), error.write(b"error\n"));
-        assert_eq!(rt; written, (Ok(7), Ok(6)));
+        let told = then(answered(out.write(b"output\n")), error.write(b"error\n"));
+        check(&rt, told, "7;6;");
     }
 }

@@ -146,38 +146,39 @@ pub(crate) fn c_path_of(path: &[u8]) -> io::Result<[u8; PATH_MAX]>
 #[cfg(test)]
 mod tests {
     use super::*;
+    use crate::tests::written::{Written, check, written};
 
     /// Which errors of entries are passed over: of a name that isn't UTF-8, of one that is too long (ENAMETOOLONG has the
     /// same kind), and of a list that breaks off.
-    fn passed_over() -> [bool; 3] {
+    fn passed_over() -> Written {
         let no_text = pass_over(io::Error::from(ErrorKind::InvalidFilename)).is_ok();
         let too_long = pass_over(io::Error::from_raw_os_error(36)).is_ok();
-        [
-            no_text,
-            too_long,
-            pass_over(io::Error::from_raw_os_error(5)).is_ok(),
-        ]
+        let breaks_off = pass_over(io::Error::from_raw_os_error(5)).is_ok();
+        written(format_args!("{no_text} {too_long} {breaks_off}"))
     }
 
     /// Whether a folder may be written, and one that isn't there, where root can't write either.
-    fn writable(rt: &mut HostRuntime) -> [bool; 2] {
+    fn writable(rt: &mut HostRuntime) -> Written {
         let here = rt.check_writable(".").is_ok();
-        [here, rt.check_writable("/no/such/folder").is_ok()]
+        let nowhere = rt.check_writable("/no/such/folder").is_ok();
+        written(format_args!("{here} {nowhere}"))
     }
 
     /// Whether a link of the system's, a folder and nothing are links.
-    fn links(rt: &mut HostRuntime) -> [bool; 3] {
+    fn links(rt: &mut HostRuntime) -> Written {
         let link = rt.is_link("/proc/self").unwrap_or(false);
         let folder = rt.is_link(".").unwrap_or(true);
-        [link, folder, rt.is_link("/no/such/link").unwrap_or(true)]
+        let nothing = rt.is_link("/no/such/link").unwrap_or(true);
+        written(format_args!("{link} {folder} {nothing}"))
     }
 
     /// Which syncs of what can't be synced are refused, so that they are the system's: of data, of a whole file and of a
     /// folder.
-    fn refused_syncs(rt: &mut HostRuntime, file: &File) -> [bool; 3] {
+    fn refused_syncs(rt: &mut HostRuntime, file: &File) -> Written {
         let data = rt.sync_data(file).is_err();
         let all = rt.sync_all(file).is_err();
-        [data, all, rt.sync_folder("/proc").is_err()]
+        let folder = rt.sync_folder("/proc").is_err();
+        written(format_args!("{data} {all} {folder}"))
     }
 
     // No case can say it: the disk of a case is in memory, lists no names and has no links.
@@ -187,15 +188,11 @@ mod tests {
             panic!(rt; "no file");
         };
         let syncs = refused_syncs(&mut rt, &null);
+        drop(null);
         let (writable, links) = (writable(&mut rt), links(&mut rt));
-        assert_eq!(rt;
-            (passed_over(), writable, links, syncs),
-            (
-                [true, false, false],
-                [true, false],
-                [true, false, false],
-                [true, true, true]
-            )
-        );
+        check(&rt, syncs, "true true true");
+        check(&rt, writable, "true false");
+        check(&rt, links, "true false false");
+        check(&rt, passed_over(), "true false false");
     }
 }

@@ -65,10 +65,12 @@ pub(crate) fn files_of<F: FileSystem>(
 #[cfg(test)]
 mod tests {
     use super::*;
+    use crate::tests::written::{Written, check, written};
+    use std::process::Abort;
 
     /// Names in a folder, and how many Warc files they are.
-    static FOLDERS: [([&str; 4], Option<u32>); 6] = [
-        (["", "", "", ""], Some(0)),
+    static FOLDERS: [([&str; 4], &str); 6] = [
+        (["", "", "", ""], "0"),
         (
             [
                 "lock",
@@ -76,7 +78,7 @@ mod tests {
                 "vol-00000.warc",
                 "vol-+00001.warc",
             ],
-            Some(0),
+            "0",
         ),
         (
             [
@@ -85,10 +87,10 @@ mod tests {
                 "vol-000000.warc",
                 "vol-000001.warc",
             ],
-            Some(3),
+            "3",
         ),
-        (["vol-000000.warc", "vol-000002.warc", "", ""], None),
-        (["vol-000001.warc", "", "", ""], None),
+        (["vol-000000.warc", "vol-000002.warc", "", ""], "a gap"),
+        (["vol-000001.warc", "", "", ""], "a gap"),
         (
             [
                 "vol-000000.warc",
@@ -96,26 +98,34 @@ mod tests {
                 "vol-000000.warc~",
                 "Vol-000001.warc",
             ],
-            Some(1),
+            "1",
         ),
     ];
 
     /// How many Warc files these names are. Where memory is wanting it is more than any row has.
-    fn total_of(alloc: Global, names: &[&str]) -> Option<u32> {
+    fn total_of(alloc: Global, names: &[&str]) -> Written {
         let mut tally = Tally::new(alloc, Kind::Warc);
         for name in names {
             if tally.add(name).is_err() {
-                return Some(u32::MAX);
+                return written(u32::MAX);
             }
         }
-        tally.total()
+        match tally.total() {
+            Some(total) => written(total),
+            None => written("a gap"),
+        }
+    }
+
+    /// Asserts how many files each folder has.
+    fn check_rows<R: Abort>(rt: &R, alloc: Global, rows: &[([&str; 4], &str)]) {
+        for (names, want) in rows {
+            check(rt, total_of(alloc, names), want);
+        }
     }
 
     // No case can say it: the disk of a case counts its files, and lists no names.
     #[test]
     fn counts_names_in_any_order(rt: HostRuntime) {
-        for (names, want) in &FOLDERS {
-            assert_eq!(rt; total_of(rt.alloc(), names), *want);
-        }
+        check_rows(&rt, rt.alloc(), &FOLDERS);
     }
 }

@@ -1,7 +1,7 @@
 //! What a gate does when an accept fails, where it listens, and what a dial tries.
 //! No case can say it: the gate and the dialer of a case ask no network.
 use super::recorded_network::{Comes, LIMITS, Peer, Plan, QUIET, RecordedNetwork, address};
-use super::written::{Written, check, written};
+use super::written::{Written, check, joined, written};
 use crate::accept_faults::is_memory;
 use crate::listening::Address;
 use crate::own_address::leads_back;
@@ -11,6 +11,7 @@ use crate::tcp::gate::TcpGate;
 use capture::Memory;
 use std::alloc::Global;
 use std::io;
+use std::process::Abort;
 
 const SILENT: Comes = Comes::Connection(Peer::Silent);
 
@@ -21,12 +22,16 @@ const REFUSED: Comes = Comes::Error(111);
 const NO_MEMORY: Comes = Comes::Error(12);
 
 /// The word for what came.
-fn word_of<T>(came: &io::Result<T>) -> &'static str {
+fn word_of<T: Drop>(came: io::Result<T>) -> &'static str {
     match came {
         Ok(_) => "connection",
-        Err(error) if is_memory(error) => "memory",
-        Err(_) => "failed",
+        Err(error) => word_of_failure(&error),
     }
+}
+
+/// The word for why nothing came.
+fn word_of_failure(error: &io::Error) -> &'static str {
+    if is_memory(error) { "memory" } else { "failed" }
 }
 
 /// A host, in brackets where it is an IPv6 address, and a port.
@@ -44,12 +49,11 @@ fn gate_at(alloc: Global, at: Site, plan: Plan) -> Result<TcpGate<RecordedNetwor
 
 /// What two accepts of a gate ask of its network, what came of them, and whether the gate was refused.
 fn accepted(gate: &mut TcpGate<RecordedNetwork>) -> Written {
-    let first = word_of(&gate.accept());
-    let second = word_of(&gate.accept());
+    let first = word_of(gate.accept());
+    let second = word_of(gate.accept());
     let refused = gate.was_refused();
-    let calls = gate.network().calls;
-    let calls = calls.as_str();
-    written(format_args!("{calls} {first} {second} {refused}"))
+    let came = written(format_args!(" {first} {second} {refused}"));
+    joined(gate.network().calls, came.as_str())
 }
 
 /// The same of a gate at a site, which listens before where it is bound.
@@ -65,19 +69,23 @@ fn gives(alloc: Global, at: Site, binds: bool, plan: Plan) -> Written {
 
 /// What two dials ask of a network, and what came of them, where the program listens at its own address or doesn't.
 fn dials(alloc: Global, own: Option<u8>, plan: Plan) -> Written {
-    let Ok(places) = Places::new(alloc) else {
-        return Written::new();
-    };
     let own = match own {
         Some(last) => Some(address(last)),
         None => None,
     };
-    let mut dialer = TcpDialer::new(RecordedNetwork::new(plan), places, LIMITS, own);
-    let first = word_of(&dialer.dial("[::1]", 80));
-    let second = word_of(&dialer.dial("[::1]", 80));
-    let calls = dialer.network().calls;
-    let calls = calls.as_str();
-    written(format_args!("{calls} {first} {second}"))
+    let network = RecordedNetwork::new(plan);
+    match Places::new(alloc) {
+        Ok(places) => dialed(&mut TcpDialer::new(network, places, LIMITS, own)),
+        Err(_) => Written::new(),
+    }
+}
+
+/// The same of a dialer.
+fn dialed(dialer: &mut TcpDialer<RecordedNetwork>) -> Written {
+    let first = word_of(dialer.dial("[::1]", 80));
+    let second = word_of(dialer.dial("[::1]", 80));
+    let came = written(format_args!(" {first} {second}"));
+    joined(dialer.network().calls, came.as_str())
 }
 
 const AGAIN: &str = "listen a.test 8080;accept;accept;accept; connection connection false";
@@ -171,22 +179,28 @@ static ADDRESSES: [(Site, Plan, &str); 7] = [
     ),
 ];
 
-#[test]
-fn listens_and_accepts(rt: HostRuntime) {
-    for (comes, want) in &FAILED_ACCEPTS {
+/// Asserts what is asked after each accept's error.
+fn check_accepts<R: Abort>(rt: &R, alloc: Global, rows: &[(&'static [Comes], &str)]) {
+    for (comes, want) in rows {
         let plan = Plan {
             comes: *comes,
             ..QUIET
         };
-        check(
-            &rt,
-            gives(rt.alloc(), Some(("a.test", 8080)), false, plan),
-            want,
-        );
+        check(rt, gives(alloc, Some(("a.test", 8080)), false, plan), want);
     }
-    for (at, plan, want) in &ADDRESSES {
-        check(&rt, gives(rt.alloc(), *at, true, *plan), want);
+}
+
+/// Asserts what is asked and given at each address.
+fn check_addresses<R: Abort>(rt: &R, alloc: Global, rows: &[(Site, Plan, &str)]) {
+    for (at, plan, want) in rows {
+        check(rt, gives(alloc, *at, true, *plan), want);
     }
+}
+
+#[test]
+fn listens_and_accepts(rt: HostRuntime) {
+    check_accepts(&rt, rt.alloc(), &FAILED_ACCEPTS);
+    check_addresses(&rt, rt.alloc(), &ADDRESSES);
 }
 
 /// The last number of the program's own address, what is at each address of a host, and what is asked and comes.
@@ -266,40 +280,53 @@ static DIALS: [(Option<u8>, Plan, &str); 10] = [
     ),
 ];
 
-#[test]
-fn dials_each_address_in_turn(rt: HostRuntime) {
-    for (own, plan, want) in &DIALS {
-        check(&rt, dials(rt.alloc(), *own, *plan), want);
+/// Asserts what each dial asks, and what comes.
+fn check_dials<R: Abort>(rt: &R, alloc: Global, rows: &[(Option<u8>, Plan, &str)]) {
+    for (own, plan, want) in rows {
+        check(rt, dials(alloc, *own, *plan), want);
     }
 }
 
+#[test]
+fn dials_each_address_in_turn(rt: HostRuntime) {
+    check_dials(&rt, rt.alloc(), &DIALS);
+}
+
 /// Two addresses, and whether a connection to the first comes to a listener at the second.
-static LOOPS: [(&str, &str, bool); 12] = [
-    ("127.0.0.1:80", "127.0.0.1:80", true),
-    ("127.0.0.1:81", "127.0.0.1:80", false),
-    ("127.0.0.2:80", "127.0.0.1:80", false),
-    ("0.0.0.0:80", "127.0.0.1:80", true),
-    ("[::]:80", "[::1]:80", true),
-    ("[::]:80", "127.0.0.1:80", false),
-    ("[::ffff:127.0.0.1]:80", "127.0.0.1:80", true),
-    ("10.0.0.1:80", "0.0.0.0:80", true),
-    ("10.0.0.2:80", "0.0.0.0:80", false),
-    ("[::1]:80", "0.0.0.0:80", false),
-    ("10.0.0.1:80", "[::]:80", true),
-    ("10.0.0.1:80", "[::1]:80", false),
+static LOOPS: [(&str, &str, &str); 12] = [
+    ("127.0.0.1:80", "127.0.0.1:80", "true"),
+    ("127.0.0.1:81", "127.0.0.1:80", "false"),
+    ("127.0.0.2:80", "127.0.0.1:80", "false"),
+    ("0.0.0.0:80", "127.0.0.1:80", "true"),
+    ("[::]:80", "[::1]:80", "true"),
+    ("[::]:80", "127.0.0.1:80", "false"),
+    ("[::ffff:127.0.0.1]:80", "127.0.0.1:80", "true"),
+    ("10.0.0.1:80", "0.0.0.0:80", "true"),
+    ("10.0.0.2:80", "0.0.0.0:80", "false"),
+    ("[::1]:80", "0.0.0.0:80", "false"),
+    ("10.0.0.1:80", "[::]:80", "true"),
+    ("10.0.0.1:80", "[::1]:80", "false"),
 ];
 
-/// Whether a connection to the first address comes to the second. `None` where one of them is no address.
-fn comes_back(first: &str, second: &str) -> Option<bool> {
-    let mut network = RecordedNetwork::new(QUIET);
-    let to = first.parse().ok()?;
-    let own = second.parse().ok()?;
-    Some(leads_back(&mut network, to, own))
+/// Whether a connection to the first address comes to the second. Nothing where one of them is no address.
+fn comes_back(first: &str, second: &str) -> Written {
+    let Ok(to) = first.parse() else {
+        return Written::new();
+    };
+    let Ok(own) = second.parse() else {
+        return Written::new();
+    };
+    written(leads_back(&mut RecordedNetwork::new(QUIET), to, own))
+}
+
+/// Asserts whether each connection comes back.
+fn check_loops<R: Abort>(rt: &R, rows: &[(&str, &str, &str)]) {
+    for (to, own, want) in rows {
+        check(rt, comes_back(to, own), want);
+    }
 }
 
 #[test]
 fn knows_its_own_address(rt: HostRuntime) {
-    for (to, own, want) in &LOOPS {
-        assert_eq!(rt; comes_back(to, own), Some(*want));
-    }
+    check_loops(&rt, &LOOPS);
 }

@@ -1,5 +1,5 @@
 //! A network of records: it gives what a test lists, and writes each call down.
-ghost use Rattle.std.specs.Prelude.{◌≤◌, length, IfOk};
+ghost use Rattle.std.specs.Prelude.{◌≡◌, ◌≤◌, length, IfOk};
 
 use super::written::{Written, called, cause, joined, numbered, written};
 use crate::causes::Causes;
@@ -52,6 +52,8 @@ pub(crate) enum Peer {
     TakesBytes,
     /// It can't be given limits of time.
     Odd,
+    /// So many calls fail so, and then each gives or takes so many bytes at once.
+    Fails(u32, ErrorKind, usize),
 }
 
 /// A socket that waits for nobody: what would wait moves its clock on, by its limit at most.
@@ -98,6 +100,19 @@ impl RecordedSocket {
     }
 }
 
+impl RecordedSocket {
+    /// What a call answers whose peer fails so often and so, and then gives or takes so many bytes.
+    fn failing(&mut self, often: u32, kind: ErrorKind, n: usize, most: usize) -> io::Result<usize>
+        ensures { IfOk result (λ m. m ≤ most) }
+    {
+        if often == 0 {
+            return Ok(n.min(most));
+        }
+        self.peer = Peer::Fails(often - 1, kind, n);
+        Err(Error::from(kind))
+    }
+}
+
 impl Read for RecordedSocket {
     fn read(&mut self, buf: &mut [u8]) -> io::Result<usize> {
         self.call("read");
@@ -110,6 +125,7 @@ impl Read for RecordedSocket {
             Peer::SendsOnce(n) if !begun => (0, n),
             Peer::Ended => (0, 0),
             Peer::Reset => return Err(Error::from(ErrorKind::ConnectionReset)),
+            Peer::Fails(often, kind, n) => return self.failing(often, kind, n, buf.len()),
             _ => (u64::MAX, 0),
         };
         self.after(millis, self.read_limit, n.min(buf.len()))
@@ -123,6 +139,7 @@ impl Write for RecordedSocket {
         let (millis, n) = match self.peer {
             Peer::TakesNothing => (u64::MAX, 0),
             Peer::TakesBytes => (1_900, buf.len().min(1)),
+            Peer::Fails(often, kind, n) => return self.failing(often, kind, n, buf.len()),
             _ => (0, buf.len()),
         };
         self.after(millis, self.write_limit, n)
@@ -256,6 +273,15 @@ impl RecordedNetwork {
     }
 }
 
+/// Puts the addresses of a host, as many as there is room for.
+fn put_addresses(found: &mut [SocketAddr])
+    ensures { length found.new ≡ length found.old }
+{
+    for (place, last) in found.iter_mut().zip(1..=LAST) {
+        *place = address(last);
+    }
+}
+
 impl Causes for RecordedNetwork {
     fn tell<D: Display + Drop>(&mut self, what: D, call: &str, error: &io::Error) {
         if self.plan.tells {
@@ -293,14 +319,12 @@ impl Network for RecordedNetwork {
 
     fn find(&mut self, host: &str, port: u16, found: &mut [SocketAddr]) -> io::Result<usize> {
         self.call(numbered(called("find", host).as_str(), u64::from(port)).as_str());
-        if let Some(number) = self.plan.refuses {
-            return Err(Error::from_raw_os_error(number));
-        }
         let many = found.len().min(self.plan.many);
-        for (place, last) in found.iter_mut().zip(1..=LAST) {
-            *place = address(last);
+        put_addresses(found);
+        match self.plan.refuses {
+            Some(number) => Err(Error::from_raw_os_error(number)),
+            None => Ok(many),
         }
-        Ok(many)
     }
 
     fn connect(&mut self, address: SocketAddr, millis: u64) -> io::Result<RecordedSocket> {

@@ -1,69 +1,28 @@
 //! How standard streams are read and written that a signal interrupts or that are set not to wait.
 //! No case can say it: the input of a case is all there, its output takes all, and no signal comes.
-ghost use Rattle.std.specs.Prelude.{◌≤◌, IfOk};
-
-use super::recorded_network::{QUIET, RecordedNetwork};
-use super::written::{Written, answered, check, written};
+use super::recorded_network::{Peer, QUIET, RecordedNetwork, RecordedSocket};
+use super::written::{Written, answered, check, joined, then};
 use crate::streams::{EndingInput, print_when_taken, read_some, write_some};
-use std::io;
-use std::io::{ErrorKind, Read, Write};
-
-/// A stream whose calls fail so often, and then give or take so much.
-#[derive(Clone, Copy)]
-struct Stream {
-    often: u32,
-    kind: ErrorKind,
-    then: usize,
-}
-
-impl Stream {
-    fn answer(&mut self, most: usize) -> io::Result<usize>
-        ensures { IfOk result (λ n. n ≤ most) }
-    {
-        if self.often == 0 {
-            return Ok(self.then.min(most));
-        }
-        self.often -= 1;
-        Err(io::Error::from(self.kind))
-    }
-}
-
-impl Read for Stream {
-    fn read(&mut self, buf: &mut [u8]) -> io::Result<usize> {
-        self.answer(buf.len())
-    }
-}
-
-impl Write for Stream {
-    fn write(&mut self, buf: &[u8]) -> io::Result<usize> {
-        self.answer(buf.len())
-    }
-
-    fn flush(&mut self) -> io::Result<()> {
-        Ok(())
-    }
-}
+use std::io::ErrorKind;
+use std::process::Abort;
 
 /// What two reads of a standard input ask of a network, and what they answer.
-fn reads(stream: Stream) -> Written {
+fn reads(stream: RecordedSocket) -> Written {
     let mut network = RecordedNetwork::new(QUIET);
     let mut input = EndingInput::new(stream);
     let mut into = [0u8; 4];
     let first = answered(input.read_when_there(&mut network, &mut into));
-    let second = answered(input.read_when_there(&mut network, &mut into));
-    let (calls, first, second) = (network.calls.as_str(), first.as_str(), second.as_str());
-    written(format_args!("{calls} {first}{second}"))
+    let both = then(first, input.read_when_there(&mut network, &mut into));
+    joined(joined(network.calls, " "), both.as_str())
 }
 
 /// The same, and what one read and one write answer that don't wait.
-fn calls_of(stream: Stream) -> Written {
-    let waited = reads(stream);
+fn calls_of(stream: RecordedSocket) -> Written {
+    let waited = joined(reads(stream), " ");
     let mut from = stream;
-    let came = answered(read_some(&mut from, &mut [0u8; 4]));
+    let came = joined(then(waited, read_some(&mut from, &mut [0u8; 4])), " ");
     let mut to = stream;
-    let went = answered(write_some(&mut to, b"four"));
-    let (waited, came, went) = (waited.as_str(), came.as_str(), went.as_str());
-    written(format_args!("{waited} {came} {went}"))
+    then(came, write_some(&mut to, b"four"))
 }
 
 /// How often a call fails and how, how much comes or is taken then, and what is asked and answered.
@@ -90,20 +49,20 @@ static ROWS: [(u32, ErrorKind, usize, &str); 6] = [
 /// answers.
 fn writes(piece: &[u8]) -> Written {
     let mut network = RecordedNetwork::new(QUIET);
-    let taken = answered(print_when_taken(&mut network, piece));
-    let (calls, taken) = (network.calls.as_str(), taken.as_str());
-    written(format_args!("{calls} {taken}"))
+    let taken = print_when_taken(&mut network, piece);
+    then(joined(network.calls, " "), taken)
+}
+
+/// Asserts what is asked and answered in each row.
+fn check_rows<R: Abort>(rt: &R, rows: &[(u32, ErrorKind, usize, &str)]) {
+    for (often, kind, then, want) in rows {
+        let peer = Peer::Fails(*often, *kind, *then);
+        check(rt, calls_of(RecordedSocket::new(peer)), want);
+    }
 }
 
 #[test]
 fn what_has_not_come_yet_is_no_fault(rt: HostRuntime) {
-    for (often, kind, then, want) in &ROWS {
-        let stream = Stream {
-            often: *often,
-            kind: *kind,
-            then: *then,
-        };
-        check(&rt, calls_of(stream), want);
-    }
+    check_rows(&rt, &ROWS);
     check(&rt, writes(b"four"), "pause 10;pause 10; 3;");
 }

@@ -1,7 +1,7 @@
 //! How long links wait, and what a connection still reads when it ends.
 //! No case can say it: the links of a case hold all their bytes, and no time goes by.
 use super::recorded_network::{LIMITS, Peer, RecordedSocket};
-use super::written::{Written, check, then, written};
+use super::written::{Written, check, joined, then, written};
 use crate::limits;
 use crate::limits::Limits;
 use crate::places::{Place, Places};
@@ -9,6 +9,7 @@ use crate::tcp::link::TcpLink;
 use std::alloc::Global;
 use std::io;
 use std::io::ErrorKind;
+use std::process::Abort;
 
 /// One call of a link.
 #[derive(Clone, Copy)]
@@ -106,14 +107,21 @@ fn connection(
 }
 
 /// What is called of the socket of a row, what the steps answer, how many milliseconds go by, and the causes that are told.
-fn waited(alloc: Global, row: &Row) -> Option<Written> {
+fn waited(alloc: Global, row: &Row) -> Written {
     let (who, crowded, peer, steps, _) = row;
-    let mut beside = connection(alloc, *who, *crowded, *peer, &LIMITS).ok()?;
-    let answers = answers_of(&mut beside.link, steps);
-    let socket = beside.link.socket();
-    let (calls, causes, millis) = (socket.calls, socket.causes, socket.millis);
-    let (calls, answers, causes) = (calls.as_str(), answers.as_str(), causes.as_str());
-    Some(written(format_args!("{calls} {answers} {millis}{causes}")))
+    match connection(alloc, *who, *crowded, *peer, &LIMITS) {
+        Ok(mut beside) => told(&mut beside.link, steps),
+        Err(_) => Written::new(),
+    }
+}
+
+/// The same of a link.
+fn told(link: &mut TcpLink<RecordedSocket>, steps: &[Step]) -> Written {
+    let answers = answers_of(link, steps);
+    let socket = link.socket();
+    let millis = written(format_args!(" {}", socket.millis));
+    let told = joined(joined(socket.calls, " "), answers.as_str());
+    joined(joined(told, millis.as_str()), socket.causes.as_str())
 }
 
 static ROWS: [Row; 26] = [
@@ -301,14 +309,16 @@ static ROWS: [Row; 26] = [
     ),
 ];
 
+/// Asserts what is called and answered in each row.
+fn check_rows<R: Abort>(rt: &R, alloc: Global, rows: &[Row]) {
+    for row in rows {
+        check(rt, waited(alloc, row), row.4);
+    }
+}
+
 #[test]
 fn each_wait_has_its_limit(rt: HostRuntime) {
-    for row in &ROWS {
-        match waited(rt.alloc(), row) {
-            Some(told) => check(&rt, told, row.4),
-            None => panic!(rt; "no memory"),
-        }
-    }
+    check_rows(&rt, rt.alloc(), &ROWS);
 }
 
 /// Who is at the other end, whether another connection waits to be read, what the peer does, what is done once and what is
@@ -350,8 +360,9 @@ static LASTING: [Lasting; 12] = [
 /// More calls than succeed on any of these connections.
 const CALLS: u32 = 1_000;
 
-/// The milliseconds at which a step fails that is taken again and again.
-fn millis_to_failure(link: &mut TcpLink<RecordedSocket>, step: Step) -> u64 {
+/// The milliseconds at which a step fails that is taken again and again behind others.
+fn millis_to_failure(link: &mut TcpLink<RecordedSocket>, steps: &[Step], step: Step) -> u64 {
+    let _answers = answers_of(link, steps);
     for _ in 0..CALLS {
         if take(link, step).is_err() {
             break;
@@ -360,17 +371,24 @@ fn millis_to_failure(link: &mut TcpLink<RecordedSocket>, step: Step) -> u64 {
     link.socket().millis
 }
 
-/// How long the program stays on the connection of a row.
-fn lasts(alloc: Global, row: &Lasting) -> Option<u64> {
+/// How long the program stays on the connection of a row, or 0 where there is no memory.
+fn lasts(alloc: Global, row: &Lasting) -> u64 {
     let (who, crowded, peer, steps, last, _) = row;
-    let mut beside = connection(alloc, *who, *crowded, *peer, &limits::LIMITS).ok()?;
-    let _answers = answers_of(&mut beside.link, steps);
-    Some(millis_to_failure(&mut beside.link, *last))
+    match connection(alloc, *who, *crowded, *peer, &limits::LIMITS) {
+        Ok(mut beside) => millis_to_failure(&mut beside.link, steps, *last),
+        Err(_) => 0,
+    }
+}
+
+/// Asserts how long the program stays on the connection of each row.
+fn check_lasting<R: Abort>(rt: &R, alloc: Global, rows: &[Lasting]) {
+    for row in rows {
+        let want = written(row.5);
+        check(rt, written(lasts(alloc, row)), want.as_str());
+    }
 }
 
 #[test]
 fn nobody_holds_a_worker_for_long(rt: HostRuntime) {
-    for row in &LASTING {
-        assert_eq!(rt; lasts(rt.alloc(), row), Some(row.5));
-    }
+    check_lasting(&rt, rt.alloc(), &LASTING);
 }
