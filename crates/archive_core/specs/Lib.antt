@@ -3,6 +3,7 @@ pub mod Holdings
 pub mod Known
 pub mod Looking
 pub mod Matching
+pub mod NextPieces
 pub mod Reopening
 pub mod Rolling
 pub mod Settling
