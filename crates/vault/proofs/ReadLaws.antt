@@ -5,8 +5,10 @@ use Rattle.capture.specs.declared.book.Book.{Book}
 use Rattle.capture.specs.declared.captured.Brought.{Brought}
 use Rattle.capture.specs.declared.limits.Limits.{Limits}
 use Rattle.warc_text.specs.Sound.{IsSound}
-use Rattle.archive_shelf.specs.Answers.{Brings, IsBrought, IsNamed, KeepsPayloadOf, is_bring_fault}
+use Rattle.archive_shelf.specs.Answers.{Brings, IsBrought, IsNamed, KeepsPayloadOf, NamesKeeper, is_bring_fault}
 use Rattle.archive_shelf.specs.Comparing.{IsRight}
+use Rattle.archive_shelf.specs.Digests.{GoesByDigest, PieceGoesByDigest}
+use Rattle.archive_shelf.specs.Pieces.{GivesPiece, IsPiece, IsSomePiece, is_piece_fault}
 use Rattle.archive_shelf.specs.declared.fault.BringFault.{BringFault}
 use Rattle.archive_shelf.specs.declared.fault.BringFault.TheVariants as brings
 use Rattle.archive_shelf.specs.declared.fault.StoreFault.{StoreFault}
@@ -19,7 +21,7 @@ use Rattle.history_lock.specs.Seen.{Adds, All}
 use Rattle.vault.specs.Guarded.{Stands}
 use Rattle.vault.specs.History.{by_of, told_book, told_in, told_limits}
 use Rattle.vault.specs.Noting.{failing}
-use Rattle.vault.specs.Turns.{AddsFaultAlone, BringsIt, Compares}
+use Rattle.vault.specs.Turns.{AddsFaultAlone, BringsIt, Compares, GivesIt}
 use Rattle.vault.specs.declared.noted.Noted.{Noted}
 use Rattle.vault.proofs.HistoryLaws.{begun_append, limits_append, told_append}
 
@@ -71,6 +73,19 @@ module _ {D : Type 0} (by : ℕ) (history : List Noted) (was is : Holdings D) (s
   )
   brings_told tells number (Err brings.Memory) h = tt
 
+  gives_told : (tells : Bool) (number : ℕ) (result : Result (List ℕ) BringFault) → GivesPiece (contents_of tells is) number result
+      → GivesPiece (told_in tells history) number result
+  gives_told tells number (Ok bytes) h = (
+    subst (λ (b : Book). number < length (captures b)) to h.0,
+    subst (λ (b : Book). IsSomePiece b number bytes) to h.1,
+    λ told. subst (λ (b : Book). IsPiece b number bytes) to (h.2 told),
+  )
+  gives_told tells number (Err (brings.NoSuch count)) h = (h.0 ∙ ap (λ (b : Book). length (captures b)) to, h.1)
+  gives_told tells number (Err brings.DiskFault) h = subst (λ (b : Book). number < length (captures b)) to h
+  gives_told tells number (Err (brings.Damaged at kept found)) h =
+      (subst (λ (b : Book). number < length (captures b)) to h.0, h.1, h.2)
+  gives_told tells number (Err brings.Memory) h = tt
+
   looks_told : (tells : Bool) (payload : List ℕ) (result : Result Looked StoreFault) → Looks (contents_of tells is) payload result
       → Looks (told_in tells history) payload result
   looks_told tells payload (Ok looked) h = (
@@ -101,9 +116,10 @@ module _ {D : Type 0} (by : ℕ) (history : List Noted) (was is : Holdings D) (s
 
   -- a turn that brought a capture, or failed to
   pub all_brought : (tells : Bool) (number : ℕ) (result : Result Brought BringFault) (after : List Noted)
-      → Brings (contents_of tells is) number result → (IsTrue tells → IsSound is.book) → after ≡ history ++ failing by (is_bring_fault result)
+      → Brings (contents_of tells is) number result → NamesKeeper is.book number result → GoesByDigest is.book number result
+      → (IsTrue tells → IsSound is.book) → after ≡ history ++ failing by (is_bring_fault result)
       → Stands after is × Adds by_of by history after (λ added. BringsIt tells number history added result)
-  all_brought tells number result after brought sound joined = (
+  all_brought tells number result after brought names digests sound joined = (
     subst (λ (l : List Noted). Stands l is) (sym joined) (read_stands (is_bring_fault result)),
     record {
       added = failing by (is_bring_fault result);
@@ -111,8 +127,30 @@ module _ {D : Type 0} (by : ℕ) (history : List Noted) (was is : Holdings D) (s
       of_pass = all_failing by (is_bring_fault result);
       done = record {
         brings = brings_told tells number result brought;
+        names = subst (λ (b : Book). NamesKeeper b number result) to names;
+        digests = subst (λ (b : Book). GoesByDigest b number result) to digests;
         adds = adds_fault by (is_bring_fault result);
         sound = sound_then tells (is_bring_fault result) sound;
+      };
+    },
+  )
+
+  -- a turn that gave a capture as a piece, or failed to
+  pub all_given : (tells : Bool) (number : ℕ) (result : Result (List ℕ) BringFault) (after : List Noted)
+      → GivesPiece (contents_of tells is) number result → PieceGoesByDigest is.book number result → (IsTrue tells → IsSound is.book)
+      → after ≡ history ++ failing by (is_piece_fault result)
+      → Stands after is × Adds by_of by history after (λ added. GivesIt tells number history added result)
+  all_given tells number result after given digests sound joined = (
+    subst (λ (l : List Noted). Stands l is) (sym joined) (read_stands (is_piece_fault result)),
+    record {
+      added = failing by (is_piece_fault result);
+      is_before_and_added = joined;
+      of_pass = all_failing by (is_piece_fault result);
+      done = record {
+        gives = gives_told tells number result given;
+        digests = subst (λ (b : Book). PieceGoesByDigest b number result) to digests;
+        adds = adds_fault by (is_piece_fault result);
+        sound = sound_then tells (is_piece_fault result) sound;
       };
     },
   )

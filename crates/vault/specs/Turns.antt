@@ -4,8 +4,10 @@ use Rattle.capture.specs.Captures.{captures, HasPayload}
 use Rattle.capture.specs.declared.captured.Brought.{Brought}
 use Rattle.capture.specs.declared.captured.Taken.{Taken}
 use Rattle.warc_text.specs.Sound.{IsSound}
-use Rattle.archive_shelf.specs.Answers.{Brings, HasVolumeAlone, IsByRule, IsDamaged, IsFull, IsNotFull, is_bring_fault}
+use Rattle.archive_shelf.specs.Answers.{Brings, HasVolumeAlone, IsByRule, IsDamaged, IsFull, IsNotFull, NamesKeeper, is_bring_fault}
 use Rattle.archive_shelf.specs.Comparing.{CanRefer}
+use Rattle.archive_shelf.specs.Digests.{GoesByDigest, PieceGoesByDigest}
+use Rattle.archive_shelf.specs.Pieces.{GivesPiece, is_piece_fault}
 use Rattle.archive_shelf.specs.Storing.{Gains, as_stored}
 use Rattle.archive_shelf.specs.declared.fault.BringFault.{BringFault}
 use Rattle.archive_shelf.specs.declared.fault.StoreFault.{StoreFault}
@@ -109,7 +111,16 @@ pub record Compares (tells : Bool) (payload : List ℕ) (found added : List Note
 -- A turn that brings a capture.
 pub record BringsIt (tells : Bool) (number : ℕ) (found added : List Noted) (result : Result Brought BringFault) : Type 0 where
   pub brings : Brings (told_in tells found) number result
+  pub names : NamesKeeper (told_book found) number result
+  pub digests : GoesByDigest (told_book found) number result
   pub adds : AddsFaultAlone (is_bring_fault result) added
+  pub sound : IsTrue tells → IsSound (told_book (found ++ added))
+
+-- A turn that gives a capture as a piece.
+pub record GivesIt (tells : Bool) (number : ℕ) (found added : List Noted) (result : Result (List ℕ) BringFault) : Type 0 where
+  pub gives : GivesPiece (told_in tells found) number result
+  pub digests : PieceGoesByDigest (told_book found) number result
+  pub adds : AddsFaultAlone (is_piece_fault result) added
   pub sound : IsTrue tells → IsSound (told_book (found ++ added))
 
 -- ---- a whole store

@@ -8,6 +8,7 @@ mod keeping;
 mod laws;
 mod noted;
 mod noting;
+mod piece;
 #[cfg(test)]
 mod tests;
 mod vault;

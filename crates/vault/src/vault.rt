@@ -7,16 +7,17 @@ ghost use Rattle.history_lock.specs.Known.{IsSamePass};
 ghost use Rattle.history_lock.specs.Seen.{Shows, Turn};
 ghost use Rattle.vault.specs.History.{IsBegun, by_of, told_in};
 ghost use Rattle.vault.specs.Passes.{IsLeft, IsMade};
-ghost use Rattle.vault.specs.Turns.{BringsIt, Commits, Compares, StoresBy};
+ghost use Rattle.vault.specs.Turns.{BringsIt, Commits, Compares, GivesIt, StoresBy};
 
 use crate::bring::Bring;
 use crate::commit::Commit;
 use crate::compare::Compare;
 use crate::keeping::Keeping;
 use crate::noted::Noted;
+use crate::piece::Piece;
 use archive_core::{Archive, compared_payloads_serve_later, payload_of_taken};
 use archive_shelf::{BringFault, Looked, Receipt, StoreFault};
-use capture::{Brought, Digest, Memory, Taken, growth_keeps_captures};
+use capture::{Brought, Bytes, Digest, Memory, Taken, growth_keeps_captures};
 use digest32::payload_digest;
 use disk_model::Disk;
 use history_lock::{HistoryLock, Pass};
@@ -164,6 +165,24 @@ impl<D: Disk> Vault<D> {
         ensures begun { IsBegun pass.old.seen → IsBegun pass.new.seen }
     {
         self.lock.turn(rt, pass, Bring { alloc, number })
+    }
+
+    /// Gives a capture as a piece: its group as it stands in its volume, with the volume's warcinfo before it where the capture is the
+    /// first of that. May wait.
+    #[tactic(auto, using(crate::proofs::HistoryLaws::turn_begun))]
+    pub fn piece<R: Wait>(
+        &self,
+        rt: &R,
+        alloc: Global,
+        pass: &mut VaultPass,
+        number: u32,
+    ) -> Result<Bytes, BringFault>
+        requires pass { pass.old.lock ≡ self.now }
+        ensures turn { Turn by_of pass.old pass.new.seen (λ found added. GivesIt D.tells number found added result) }
+        ensures same { IsSamePass pass.old pass.new }
+        ensures begun { IsBegun pass.old.seen → IsBegun pass.new.seen }
+    {
+        self.lock.turn(rt, pass, Piece { alloc, number })
     }
 
     /// One pass for two, with the number of the first and the numbers of both. It has seen the longer of the two histories, in which

@@ -14,7 +14,7 @@ invariant_of-self-2 g c =
     (all_brought c.args.by (values c.self.inside.history.items) c.self.inside.archive c.bring-answer.new.self c.self.invariant
     c.bring-answer.ensures.reads.stays.seen (ap (λ (now : Contents). now.limits) c.bring-answer.ensures.reads.stays.others)
     g.D.Disk.tells c.args.number c.bring-answer.result (values c.note_fault.new.history.items) c.bring-answer.ensures.brings
-    c.bring-answer.ensures.shows.consistent.sound
+    c.bring-answer.ensures.names c.bring-answer.ensures.digests c.bring-answer.ensures.shows.consistent.sound
     (joined_by c.self.inside.history.items c.reserve.new.self.items c.note_fault.new.history.items c.args.by c.is_disk_fault.result _
     c.reserve.ensures.items c.is_disk_fault.ensures c.note_fault.ensures)).0
 
@@ -25,6 +25,6 @@ returns g c =
     (all_brought c.args.by (values c.self.inside.history.items) c.self.inside.archive c.bring-answer.new.self c.self.invariant
     c.bring-answer.ensures.reads.stays.seen (ap (λ (now : Contents). now.limits) c.bring-answer.ensures.reads.stays.others)
     g.D.Disk.tells c.args.number c.bring-answer.result (values c.note_fault.new.history.items) c.bring-answer.ensures.brings
-    c.bring-answer.ensures.shows.consistent.sound
+    c.bring-answer.ensures.names c.bring-answer.ensures.digests c.bring-answer.ensures.shows.consistent.sound
     (joined_by c.self.inside.history.items c.reserve.new.self.items c.note_fault.new.history.items c.args.by c.is_disk_fault.result _
     c.reserve.ensures.items c.is_disk_fault.ensures c.note_fault.ensures)).1

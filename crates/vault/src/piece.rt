@@ -1,0 +1,69 @@
+//! A turn that gives a capture as a piece.
+ghost use Rattle.std.specs.Prelude.{◌≡◌};
+ghost use Rattle.archive_shelf.specs.Pieces.{is_piece_fault};
+ghost use Rattle.history_lock.specs.Seen.{Adds};
+ghost use Rattle.vault.specs.History.{by_of};
+ghost use Rattle.vault.specs.Turns.{GivesIt};
+
+use crate::keeping::Keeping;
+use crate::noting::note_fault;
+use archive_shelf::{BringFault, Shelf};
+use capture::Bytes;
+use disk_model::Disk;
+use history_lock::Work;
+use std::alloc::Global;
+
+/// The number of a capture that is asked for as a piece.
+#[derive(Drop)]
+pub(crate) struct Piece {
+    pub(crate) alloc: Global,
+    pub(crate) number: u32,
+}
+
+impl<D: Disk> Work<Keeping<D>> for Piece {
+    ghost use Rattle.vault.specs.Turns.{GivesIt};
+
+    type Reply = Result<Bytes, BringFault>;
+
+    ghost ready = { λ work found. Unit {0} };
+
+    ghost does = { λ work by found added reply. GivesIt D.tells work.number found added reply };
+
+    fn act(self, by: u32, value: &mut Keeping<D>) -> Result<Bytes, BringFault> {
+        value.piece(by, self.alloc, self.number)
+    }
+}
+
+impl<D: Disk> Keeping<D> {
+    /// Gives a capture as a piece to the pass of this number. Room in the history is made first.
+    pub(crate) fn piece(&mut self, by: u32, alloc: Global, number: u32) -> Result<Bytes, BringFault>
+        ensures { Adds by_of by self.old.history self.new.history (λ added. GivesIt D.tells number self.old.history added result) }
+    {
+        self.archive.shows_its_book();
+        if self.history.reserve(1).is_err() {
+            return Err(BringFault::Memory);
+        }
+        let answer = self.archive.piece(alloc, number);
+        note_fault(&mut self.history, by, is_disk_fault(&answer));
+        answer
+    }
+}
+
+/// Whether the disk failed.
+fn is_disk_fault(answer: &Result<Bytes, BringFault>) -> bool
+    ensures { result ≡ is_piece_fault answer.now }
+{
+    match answer {
+        Ok(_) => false,
+        Err(BringFault::NoSuch { count: _ }) => false,
+        Err(BringFault::DiskFault) => true,
+        Err(
+            BringFault::Damaged {
+                number: _,
+                kept: _,
+                found: _,
+            },
+        ) => false,
+        Err(BringFault::Memory) => false,
+    }
+}
