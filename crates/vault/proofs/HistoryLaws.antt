@@ -12,7 +12,7 @@ use Rattle.vault.specs.declared.noted.Kind.{Kind}
 use Rattle.vault.specs.declared.noted.Kind.TheVariants.{Opened, Began, Stored, Failed}
 use Rattle.vault.specs.declared.noted.Noted.{Noted}
 
-after_append : (book : Book) (xs ys : List Noted) → book_after book (xs ++ ys) ≡ book_after (book_after book xs) ys
+pub after_append : (book : Book) (xs ys : List Noted) → book_after book (xs ++ ys) ≡ book_after (book_after book xs) ys
 after_append book [] ys = refl
 after_append book (x ∷ xs) ys = after_append (after_kind book x.kind) xs ys
 

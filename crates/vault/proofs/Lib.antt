@@ -4,6 +4,8 @@ pub mod CommitLaws
 pub mod ReadLaws
 pub mod StoreLaws
 pub mod OwnLaws
+pub mod OrderlyLaws
+pub mod SharingLaws
 pub mod Moving
 pub mod PassLaws
 pub mod FittingLaws

@@ -12,7 +12,7 @@ apart_by numbers n m true is other none = absurd (other (eqb-true n m is))
 apart_by numbers n m false is other none = none
 
 -- a number that is none of these isn't among them
-not_among : (numbers : List ℕ) (n : ℕ) → Apart n numbers → is_among numbers n ≡ false
+pub not_among : (numbers : List ℕ) (n : ℕ) → Apart n numbers → is_among numbers n ≡ false
 not_among [] n apart = refl
 not_among (m ∷ numbers) n apart = apart_by numbers n m (nat_eq n m) refl apart.0 (not_among numbers n apart.1)
 

@@ -4,3 +4,5 @@ pub mod Noting
 pub mod Guarded
 pub mod Passes
 pub mod Own
+pub mod Orderly
+pub mod Sharing

@@ -13,6 +13,8 @@ mod piece;
 mod tests;
 mod vault;
 
-pub use laws::own_entries_stay;
+pub use laws::{
+    histories_are_shared_out, own_entries_stay, passes_stay_orderly, shown_histories_go_on,
+};
 pub use noted::{Kind, Noted};
 pub use vault::{Vault, VaultPass};

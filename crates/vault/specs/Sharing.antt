@@ -1,0 +1,68 @@
+-- How the passes of a vault share out what its last history tells.
+use Rattle.std.specs.Prelude.{◌≡◌, ℕ, ◌+◌, ◌≤◌, List, [], ◌∷◌, ◌++◌, length, slice_get, IfSome, sum_by, flat_map, IsPermutation}
+use Rattle.std.specs.List.{range_with_len}
+use Rattle.std.specs.List.Sorted.{IsStrictlyIncreasing}
+use Rattle.capture.specs.Captures.{captures}
+use Rattle.capture.specs.Growth.{Grows}
+use Rattle.capture.specs.declared.book.Book.{Book}
+use Rattle.history_lock.specs.Known.{Known}
+use Rattle.history_lock.specs.Seen.{Shows}
+use Rattle.vault.specs.History.{by_of, told_book}
+use Rattle.vault.specs.Orderly.{IsOrderly, NamePasses}
+use Rattle.vault.specs.Own.{count_faults, own_captures, own_entries, own_faults}
+use Rattle.vault.specs.declared.noted.Noted.{Noted}
+
+-- how many faults were met since the archive was given
+abbrev pub faults_since : List Noted → ℕ
+faults_since [] = 0
+faults_since (first ∷ others) = count_faults others
+
+-- The pass is orderly, it has this number alone, out of so many, and the history shows what it has seen.
+pub record HasPart (book : Book) (passes number : ℕ) (history : List Noted) (pass : Known Noted) : Type 0 where
+  pub count : pass.passes ≡ passes
+  pub numbers : pass.numbers ≡ number ∷ []
+  pub orderly : IsOrderly book pass
+  pub shows : Shows by_of pass.passes pass.numbers pass.seen history
+
+-- The entries that a pass has seen as its own are all that the history has under its number. Their captures stand in the book that the
+-- history tells, under the numbers that they had when they were stored, in that order.
+pub record HasItsOwn (history : List Noted) (pass : Known Noted) : Type 0 where
+  pub entries : own_entries pass.numbers history ≡ own_entries pass.numbers pass.seen
+  pub captures : own_captures pass.numbers history ≡ own_captures pass.numbers pass.seen
+  pub rise : IsStrictlyIncreasing (own_captures pass.numbers pass.seen)
+  pub grown : Grows (told_book pass.seen) (told_book history)
+
+-- how many captures all passes stored
+abbrev pub all_stored : List (Known Noted) → ℕ
+all_stored passes = sum_by (λ pass. length (own_captures pass.numbers pass.seen)) passes
+
+-- Each entry of the history, but the first, is one of a pass. The captures that the passes stored are together just those which the book
+-- told has behind the ones of the book that was given, each once; and what faults were met are theirs.
+pub record IsSharedOut (book : Book) (passes : List (Known Noted)) (history : List Noted) : Type 0 where
+  pub named : NamePasses (length passes) history
+  pub own : (k : ℕ) → IfSome (slice_get passes k) (HasItsOwn history)
+  pub grown : Grows book (told_book history)
+  pub count : length (captures (told_book history)) ≡ length (captures book) + all_stored passes
+  pub once : IsPermutation (flat_map (λ pass. own_captures pass.numbers pass.seen) passes)
+      (range_with_len (length (captures book)) (all_stored passes))
+  pub faults : faults_since history ≡ sum_by (λ pass. own_faults pass.numbers pass.seen) passes
+
+-- So it is with a history that shows what all passes of a vault have seen.
+abbrev pub HistoriesAreSharedOut : Type 0
+HistoriesAreSharedOut =
+    (book : Book) (passes : List (Known Noted)) (history : List Noted) → 1 ≤ length passes
+    → ((k : ℕ) → IfSome (slice_get passes k) (HasPart book (length passes) (k + 1) history)) → IsSharedOut book passes history
+
+-- ---- histories that were shown one after the other
+
+-- what is shown of what is shown
+abbrev pub ShowingGoesOn : Type 0
+ShowingGoesOn =
+    (passes : ℕ) (numbers : List ℕ) (seen later last : List Noted) → Shows by_of passes numbers seen later
+    → Shows by_of passes numbers later last → Shows by_of passes numbers seen last
+
+-- what is shown of two passes in one
+abbrev pub PartsAreShown : Type 0
+PartsAreShown =
+    (passes : ℕ) (numbers others : List ℕ) (seen history : List Noted) → Shows by_of passes (numbers ++ others) seen history
+    → Shows by_of passes numbers seen history × Shows by_of passes others seen history
