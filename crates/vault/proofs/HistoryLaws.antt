@@ -30,7 +30,7 @@ begun_append [] ys begun = absurd begun
 begun_append (x ∷ xs) ys begun = tt
 
 kind_grows : GrowsFromItself → (book : Book) (kind : Kind) → Grows book (after_kind book kind)
-kind_grows itself book (Opened held limits) = itself book
+kind_grows itself book (Opened held limits told list) = itself book
 kind_grows itself book (Began at) = volume_grows book at
 kind_grows itself book (Stored taken same) = capture_grows book (as_stored taken.value same)
 kind_grows itself book Failed = itself book

@@ -8,4 +8,12 @@ pub mod OrderlyLaws
 pub mod SharingLaws
 pub mod Moving
 pub mod PassLaws
+pub mod TellingLaws
 pub mod FittingLaws
+pub mod GatherLaws
+pub mod ItemLaws
+pub mod PublishLaws
+pub mod SeatLaws
+pub mod JoinLaws
+pub mod ShowingLaws
+pub mod AtLaws

@@ -12,7 +12,14 @@ use Rattle.archive_volumes.specs.contracts.held.Shadow as shadow
 use Rattle.archive_volumes.specs.contracts.stored_ghost.StoredGhost as stored
 use Rattle.archive_volumes.specs.contracts.volumes.Volumes as volumes
 use Rattle.archive_core.specs.contracts.archive.Archive as archive
+use Rattle.history_lock.proofs.pass.Pass.TheSendSync as pass
+use Rattle.index_snapshot.proofs.publisher.Publisher.TheSendSync as publisher
+use Rattle.index_snapshot.proofs.viewer.Viewer.TheSendSync as viewer
+use Rattle.index_snapshot.proofs.note.Note.TheSendSync as note
+use Rattle.vault.specs.contracts.item.Item as item
 use Rattle.vault.specs.contracts.keeping.Keeping as keeping
+use Rattle.vault.specs.contracts.pass.VaultPass as seated
+use Rattle.vault.specs.contracts.published.Published as published
 
 pub stored_send : IsSend stored.the_row
 stored_send = search (sendable, crosses) depth 40
@@ -31,3 +38,12 @@ archive_send D g s = let a = volumes_send D s in let i = index.the_send in let t
 
 pub keeping_send : (D : RattleType) (g : Ghosts D.Denot) → IsSend D → IsSend (keeping.the_row D g)
 keeping_send D g s = let a = archive_send D g s in search (sendable, crosses) depth 40
+
+pub item_send : IsSend item.the_row
+item_send = let a = held_send in let i = index.the_send in search (sendable, crosses) depth 40
+
+pub published_send : (D : RattleType) (g : Ghosts D.Denot) → IsSend D → IsSend (published.the_row D g)
+published_send D g s = let a = keeping_send D g s in let i = item_send in let p = publisher.the_send in search (sendable, crosses) depth 40
+
+pub pass_send : IsSend seated.the_row
+pass_send = let i = item_send in let v = viewer.the_send in let n = note.the_send in let p = pass.the_send in search (sendable, crosses) depth 40

@@ -1,7 +1,12 @@
 -- What lies behind a vault's lock.
-use Rattle.std.specs.Prelude.{◌≡◌, List}
+use Rattle.std.specs.Prelude.{◌≡◌, ℕ, ◌+◌, ◌<◌, ◌≤◌, Bool, true, List, length}
+use Rattle.capture.specs.Captures.{captures}
+use Rattle.capture.specs.Growth.{Grows}
 use Rattle.archive_core.specs.Holdings.{Holdings}
-use Rattle.vault.specs.History.{IsBegun, told_book, told_limits}
+use Rattle.index_snapshot.specs.Publishing.{Print}
+use Rattle.vault.specs.History.{IsBegun, Names, is_told, told_book, told_limits}
+use Rattle.vault.specs.Items.{AreItems, last_book, tells_in}
+use Rattle.vault.specs.declared.item.Item.{Item}
 use Rattle.vault.specs.declared.noted.Noted.{Noted}
 
 -- the history, and what the archive holds
@@ -14,3 +19,21 @@ pub record Stands {D : Type 0} (history : List Noted) (holdings : Holdings D) : 
   pub begun : IsBegun history
   pub book : holdings.book ≡ told_book history
   pub limits : holdings.limits ≡ told_limits history
+
+-- these, the list that is published, and whether that has the archive's book
+pub record Publication (D : Type 0) : Type 0 where
+  pub kept : Guarded D
+  pub print : Print Item
+  pub whole : Bool
+
+-- The history names the list, whose last book is the archive's, or lacks of that one capture at most. So many captures were appended.
+pub record Publishes {D : Type 0} (tells : Bool) (history : List Noted) (holdings : Holdings D) (print : Print Item) (whole : Bool) (appended : ℕ) : Type 0 where
+  pub named : Names history print.of
+  pub told : is_told history ≡ tells
+  pub list_told : tells_in print.full ≡ tells
+  pub fits : AreItems print.full
+  pub some : 0 < length print.full
+  pub grows : Grows (last_book print.full) holdings.book
+  pub count : length (captures (last_book print.full)) ≡ appended
+  pub few : length (captures holdings.book) ≤ appended + 1
+  pub same : whole ≡ true → last_book print.full ≡ holdings.book

@@ -1,10 +1,11 @@
 -- The history of a vault: the archive as it was given, and what the turns of its passes added. It tells one book.
-use Rattle.std.specs.Prelude.{◌≡◌, ℕ, Bool, List, [], ◌∷◌}
+use Rattle.std.specs.Prelude.{◌≡◌, ℕ, Bool, false, List, [], ◌∷◌}
 use Rattle.capture.specs.declared.book.Book.{Book}
 use Rattle.capture.specs.declared.limits.Limits.{Limits}
 use Rattle.archive_shelf.specs.Contents.{Contents}
 use Rattle.archive_shelf.specs.Storing.{as_stored, empty_book, with_capture, with_volume}
 use Rattle.archive_volumes.specs.Held.{book_of}
+use Rattle.logbook.specs.Pages.{Book as LogBook}
 use Rattle.vault.specs.declared.noted.Kind.{Kind}
 use Rattle.vault.specs.declared.noted.Kind.TheVariants.{Opened, Began, Stored, Failed}
 use Rattle.vault.specs.declared.noted.Noted.{Noted}
@@ -17,7 +18,7 @@ by_of noted = noted.by
 
 -- the book after an entry that isn't the first
 abbrev pub after_kind : Book → Kind → Book
-after_kind book (Opened held limits) = book
+after_kind book (Opened held limits told list) = book
 after_kind book (Began at) = with_volume book at
 after_kind book (Stored taken same) = with_capture book (as_stored taken.value same)
 after_kind book Failed = book
@@ -29,7 +30,7 @@ book_after book (noted ∷ others) = book_after (after_kind book noted.kind) oth
 
 -- the book that the archive had when it was given
 abbrev pub opened_book : Kind → Book
-opened_book (Opened held limits) = book_of held.value
+opened_book (Opened held limits told list) = book_of held.value
 opened_book (Began at) = empty_book []
 opened_book (Stored taken same) = empty_book []
 opened_book Failed = empty_book []
@@ -42,7 +43,7 @@ told_book (noted ∷ others) = book_after (opened_book noted.kind) others
 -- ---- the limits
 
 abbrev pub limits_by : Kind → Limits
-limits_by (Opened held limits) = limits
+limits_by (Opened held limits told list) = limits
 limits_by (Began at) = record { volume_bytes = 0; captures = 0 }
 limits_by (Stored taken same) = record { volume_bytes = 0; captures = 0 }
 limits_by Failed = record { volume_bytes = 0; captures = 0 }
@@ -51,6 +52,36 @@ limits_by Failed = record { volume_bytes = 0; captures = 0 }
 abbrev pub told_limits : List Noted → Limits
 told_limits [] = record { volume_bytes = 0; captures = 0 }
 told_limits (noted ∷ others) = limits_by noted.kind
+
+-- ---- whether the disk tells what it holds
+
+abbrev pub tells_by : Kind → Bool
+tells_by (Opened held limits told list) = told.value
+tells_by (Began at) = false
+tells_by (Stored taken same) = false
+tells_by Failed = false
+
+-- as the first entry says
+abbrev pub is_told : List Noted → Bool
+is_told [] = false
+is_told (noted ∷ others) = tells_by noted.kind
+
+-- ---- the list that is published
+
+abbrev pub NamesIn : Kind → LogBook → Type 0
+NamesIn (Opened held limits told list) log = list.value.of ≡ log
+NamesIn (Began at) log = ⊥
+NamesIn (Stored taken same) log = ⊥
+NamesIn Failed log = ⊥
+
+-- the first entry names the list
+abbrev pub Names : List Noted → LogBook → Type 0
+Names [] log = ⊥
+Names (noted ∷ others) log = NamesIn noted.kind log
+
+-- a history names the list that an earlier one names
+abbrev pub KeepsNames : List Noted → List Noted → Type 0
+KeepsNames was is = (log : LogBook) → Names was log → Names is log
 
 -- ---- what is told of a history
 

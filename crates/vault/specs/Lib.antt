@@ -1,3 +1,5 @@
+pub mod Items
+pub mod Taking
 pub mod History
 pub mod Turns
 pub mod Noting
@@ -6,3 +8,6 @@ pub mod Passes
 pub mod Own
 pub mod Orderly
 pub mod Sharing
+pub mod Company
+pub mod Listing
+pub mod Finding

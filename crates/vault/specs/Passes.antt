@@ -1,16 +1,25 @@
 -- The passes of a vault.
-use Rattle.std.specs.Prelude.{◌≡◌, ℕ, List}
+use Rattle.std.specs.Prelude.{◌≡◌, ℕ, Bool, IsTrue, List}
 use Rattle.capture.specs.declared.book.Book.{Book}
 use Rattle.capture.specs.declared.limits.Limits.{Limits}
+use Rattle.cdxj_index.specs.OfBook.{AreEntries}
 use Rattle.history_lock.specs.Known.{Known, LockId, newcomer}
 use Rattle.history_lock.specs.Seen.{Shows}
-use Rattle.vault.specs.History.{IsBegun, IsOpening, by_of, told_book, told_limits}
+use Rattle.vault.specs.History.{IsBegun, IsOpening, by_of, is_told, told_book, told_limits}
+use Rattle.vault.specs.Company.{Passing}
+use Rattle.vault.specs.Items.{shown_in}
 use Rattle.vault.specs.declared.noted.Noted.{Noted}
 
 -- the pass with this number as it is made: it has seen that the archive was given, with this book and these limits
 pub record IsMade (lock : LockId) (passes number : ℕ) (book : Book) (limits : Limits) (pass : Known Noted) : Type 0 where
   pub is : pass ≡ newcomer lock passes number pass.seen
   pub opens : IsOpening book limits pass.seen
+
+-- with what it has seen by date: where the disk tells what it holds, these are the book's entries
+pub record IsNew (tells : Bool) (lock : LockId) (passes number : ℕ) (book : Book) (limits : Limits) (pass : Passing) : Type 0 where
+  pub made : IsMade lock passes number book limits pass.known
+  pub told : is_told pass.known.seen ≡ tells
+  pub shows : IsTrue tells → AreEntries book (shown_in pass.shown.items)
 
 -- what is left when a vault is closed: the book and the limits of some history that the pass had seen the beginning of
 pub record IsLeft (pass : Known Noted) (book : Book) (limits : Limits) : Type 0 where

@@ -27,7 +27,7 @@ use Rattle.vault.specs.declared.noted.Noted.{Noted}
 
 -- the entry tells that this capture was stored, which refers to that one
 abbrev pub IsStoring : Taken → Option ℕ → Kind → Type 0
-IsStoring taken same (Opened held limits) = ⊥
+IsStoring taken same (Opened held limits told list) = ⊥
 IsStoring taken same (Began at) = ⊥
 IsStoring taken same (Stored stored as_same) = (stored.value ≡ taken) × (as_same ≡ same)
 IsStoring taken same Failed = ⊥
@@ -143,3 +143,11 @@ StoresBy tells taken was is result =
     ((result ≡ Err stores.Memory) × (is ≡ was))
     ⊎ (((fault : StoreFault) × (result ≡ Err fault) × IsRefusedEarly tells taken was is fault)
     ⊎ IsCommitted tells taken was is result)
+
+-- a store that ends so may have changed the book
+abbrev pub changes : Result Receipt StoreFault → Bool
+changes (Ok receipt) = true
+changes (Err (stores.Full count limit)) = false
+changes (Err stores.DiskFault) = true
+changes (Err (stores.Damaged number kept digest)) = false
+changes (Err stores.Memory) = false

@@ -2,11 +2,13 @@
 ghost use Rattle.std.specs.Prelude.{◌≡◌};
 ghost use Rattle.archive_shelf.specs.Answers.{is_bring_fault};
 ghost use Rattle.history_lock.specs.Seen.{Adds};
-ghost use Rattle.vault.specs.History.{by_of};
+ghost use Rattle.vault.specs.History.{by_of, is_told};
 ghost use Rattle.vault.specs.Turns.{BringsIt};
 
 use crate::keeping::Keeping;
+use crate::listed::Listed;
 use crate::noting::note_fault;
+use crate::published::Published;
 use archive_shelf::{BringFault, Shelf};
 use capture::Brought;
 use disk_model::Disk;
@@ -20,17 +22,22 @@ pub(crate) struct Bring {
     pub(crate) number: u32,
 }
 
-impl<D: Disk> Work<Keeping<D>> for Bring {
+impl<D: Disk> Work<Published<D>> for Bring {
+    ghost use Rattle.std.specs.Prelude.{◌++◌};
+    ghost use Rattle.vault.specs.History.{is_told};
+    ghost use Rattle.vault.specs.Listing.{IsListed};
     ghost use Rattle.vault.specs.Turns.{BringsIt};
 
-    type Reply = Result<Brought, BringFault>;
+    type Reply = (Result<Brought, BringFault>, Listed);
 
     ghost ready = { λ work found. Unit {0} };
 
-    ghost does = { λ work by found added reply. BringsIt D.tells work.number found added reply };
+    ghost does = { λ work by found added reply. BringsIt (is_told found) work.number found added reply.0 × IsListed (found ++ added) reply.1.note reply.1.whole };
 
-    fn act(self, by: u32, value: &mut Keeping<D>) -> Result<Brought, BringFault> {
-        value.bring(by, self.alloc, self.number)
+    #[tactic(auto, using(crate::proofs::TellingLaws::adds_listed))]
+    fn act(self, by: u32, value: &mut Published<D>) -> (Result<Brought, BringFault>, Listed) {
+        let answer = value.bring(by, self.alloc, self.number);
+        (answer, value.tell())
     }
 }
 

@@ -7,20 +7,25 @@ ghost use Rattle.archive_core.specs.Looking.{IsDigestOf, IsRightOf};
 ghost use Rattle.archive_core.specs.Stores.{Stores};
 ghost use Rattle.archive_core.specs.Told.{told_of};
 ghost use Rattle.history_lock.specs.Seen.{Adds};
-ghost use Rattle.vault.specs.History.{by_of, told_in};
+ghost use Rattle.vault.specs.History.{by_of, is_told, told_in};
 ghost use Rattle.vault.specs.Turns.{Commits};
 
 use crate::keeping::Keeping;
+use crate::listed::Listed;
 use crate::noting::note_store;
+use crate::published::Published;
 use archive_core::Archive;
 use archive_shelf::{Looked, Receipt, StoreFault};
 use capture::{Digest, Taken};
 use disk_model::Disk;
 use history_lock::Work;
 use std::alloc::Global;
+use std::sync::Wait;
 
 /// A capture that is to be stored, whose payload was looked for before: as far as `looked` says, or not at all.
-pub(crate) struct Commit<'t> {
+pub(crate) struct Commit<'a, 't, R> {
+    /// A publication may wait for readers.
+    pub(crate) rt: &'a R,
     pub(crate) alloc: Global,
     pub(crate) taken: &'t Taken,
     /// The digest of its payload.
@@ -28,26 +33,32 @@ pub(crate) struct Commit<'t> {
     pub(crate) looked: Looked,
 }
 
-impl<'t, D: Disk> Work<Keeping<D>> for Commit<'t> {
+impl<'a, 't, R: Wait, D: Disk> Work<Published<D>> for Commit<'a, 't, R> {
     ghost use Rattle.warc_text.specs.Fits.{Fits};
     ghost use Rattle.archive_core.specs.Looking.{IsDigestOf, IsRightOf};
-    ghost use Rattle.vault.specs.History.{told_in};
+    ghost use Rattle.std.specs.Prelude.{◌++◌};
+    ghost use Rattle.vault.specs.History.{is_told, told_in};
+    ghost use Rattle.vault.specs.Listing.{IsListed};
     ghost use Rattle.vault.specs.Turns.{Commits};
 
-    type Reply = Result<Receipt, StoreFault>;
+    type Reply = (Result<Receipt, StoreFault>, Listed);
 
-    ghost ready = { λ work found. Fits work.taken.now × IsDigestOf work.taken.now work.digest × IsRightOf (told_in D.tells found) work.taken.now work.looked };
+    ghost ready = { λ work found. Fits work.taken.now × IsDigestOf work.taken.now work.digest × IsRightOf (told_in (is_told found) found) work.taken.now work.looked };
 
-    ghost does = { λ work by found added reply. Commits D.tells work.taken.now found added reply };
+    ghost does = { λ work by found added reply. Commits (is_told found) work.taken.now found added reply.0 × IsListed (found ++ added) reply.1.note reply.1.whole };
 
-    fn act(self, by: u32, value: &mut Keeping<D>) -> Result<Receipt, StoreFault> {
+    #[tactic(auto, using(crate::proofs::TellingLaws::adds_listed))]
+    fn act(self, by: u32, value: &mut Published<D>) -> (Result<Receipt, StoreFault>, Listed) {
         let Commit {
+            rt,
             alloc,
             taken,
             digest,
             looked,
         } = self;
-        value.commit(by, alloc, taken, &digest, looked)
+        let answer = value.store(by, alloc, taken, &digest, looked);
+        value.show(rt);
+        (answer, value.tell())
     }
 }
 

@@ -3,11 +3,13 @@ ghost use Rattle.std.specs.Prelude.{◌≡◌};
 ghost use Rattle.sha1.specs.Sha1.{sha1};
 ghost use Rattle.history_lock.specs.Seen.{Adds};
 ghost use Rattle.archive_volumes.specs.Choosing.{is_look_fault};
-ghost use Rattle.vault.specs.History.{by_of};
+ghost use Rattle.vault.specs.History.{by_of, is_told};
 ghost use Rattle.vault.specs.Turns.{Compares};
 
 use crate::keeping::Keeping;
+use crate::listed::Listed;
 use crate::noting::note_fault;
+use crate::published::Published;
 use archive_shelf::{Looked, StoreFault};
 use capture::Digest;
 use disk_model::Disk;
@@ -21,24 +23,28 @@ pub(crate) struct Compare<'p> {
     pub(crate) digest: Digest,
 }
 
-impl<'p, D: Disk> Work<Keeping<D>> for Compare<'p> {
-    ghost use Rattle.std.specs.Prelude.{◌≡◌};
+impl<'p, D: Disk> Work<Published<D>> for Compare<'p> {
+    ghost use Rattle.std.specs.Prelude.{◌≡◌, ◌++◌};
     ghost use Rattle.sha1.specs.Sha1.{sha1};
+    ghost use Rattle.vault.specs.History.{is_told};
+    ghost use Rattle.vault.specs.Listing.{IsListed};
     ghost use Rattle.vault.specs.Turns.{Compares};
 
-    type Reply = Result<Looked, StoreFault>;
+    type Reply = (Result<Looked, StoreFault>, Listed);
 
     ghost ready = { λ work found. work.digest ≡ sha1 work.payload.now };
 
-    ghost does = { λ work by found added reply. Compares D.tells work.payload.now found added reply };
+    ghost does = { λ work by found added reply. Compares (is_told found) work.payload.now found added reply.0 × IsListed (found ++ added) reply.1.note reply.1.whole };
 
-    fn act(self, by: u32, value: &mut Keeping<D>) -> Result<Looked, StoreFault> {
+    #[tactic(auto, using(crate::proofs::TellingLaws::adds_listed))]
+    fn act(self, by: u32, value: &mut Published<D>) -> (Result<Looked, StoreFault>, Listed) {
         let Compare {
             alloc,
             payload,
             digest,
         } = self;
-        value.compare(by, alloc, payload, &digest)
+        let answer = value.compare(by, alloc, payload, &digest);
+        (answer, value.tell())
     }
 }
 

@@ -1,13 +1,19 @@
 //! What lies behind a vault's lock.
-ghost use Rattle.std.specs.Prelude.{◌≡◌, IfErr, IfOk};
+ghost use Rattle.std.specs.Prelude.{◌≡◌, IfErr, IfOk, IsTrue, length};
+ghost use Rattle.capture.specs.Captures.{captures};
+ghost use Rattle.warc_text.specs.Sound.{IsSound};
 ghost use Rattle.vault.specs.Guarded.{Stands};
-ghost use Rattle.vault.specs.History.{IsOpening};
+ghost use Rattle.vault.specs.History.{IsOpening, Names, is_told, told_book};
+ghost use Rattle.vault.specs.Taking.{TakesItem};
 
+use crate::gathering::{item_of, tells};
+use crate::item::Item;
 use crate::noted::{Kind, Noted};
 use crate::noting::note;
 use archive_core::Archive;
+use capture::Memory;
 use disk_model::Disk;
-use history_lock::Told;
+use index_snapshot::{Note, Place};
 use std::alloc::Global;
 use std::marker::Model;
 use std::snapshot::Snapshot;
@@ -30,31 +36,64 @@ impl<D: Disk> Model for Keeping<D> {
     ghost invariant = { λ k. Stands (map (λ s. s.value) k.history.items) k.archive };
 }
 
-impl<D: Disk> Told for Keeping<D> {
-    type Entry = Noted;
-
-    ghost list = { λ k. k.history };
-
-    ghost by = { λ noted. noted.by };
-
-    fn told(&self) -> u64 {
-        self.history.len() as u64
-    }
-}
-
 impl<D: Disk> Keeping<D> {
-    /// An archive, to which no turn has added anything. At `Err` there was no memory.
-    pub(crate) fn begin(alloc: Global, archive: Archive<D>) -> Result<Keeping<D>, Archive<D>>
+    /// An archive, to which no turn has added anything, with the list that is published. At `Err` there was no memory.
+    pub(crate) fn begin(
+        alloc: Global,
+        archive: Archive<D>,
+        list: &Note<Item>,
+    ) -> Result<Keeping<D>, Archive<D>>
         ensures opens { IfOk result (λ keeping. IsOpening archive.book archive.limits keeping.history) }
+        ensures told { IfOk result (λ keeping. is_told keeping.history ≡ D.tells) }
+        ensures names { IfOk result (λ keeping. Names keeping.history list.now.of) }
         ensures holds { IfOk result (λ keeping. keeping.holdings ≡ archive) }
         ensures err { IfErr result (λ back. back ≡ archive) }
     {
         let Ok(mut history) = Vec::with_capacity(alloc, 1) else {
             return Err(archive);
         };
+        let told = tells(&archive);
         let held = Snapshot::of(archive.held());
-        history.push_reserved(note(0, Kind::Opened(held, archive.limits())));
+        history.push_reserved(note(
+            0,
+            Kind::Opened(held, archive.limits(), told, Snapshot::of(list)),
+        ));
         Ok(Keeping { archive, history })
+    }
+
+    /// How many entries the history has.
+    pub(crate) fn told(&self) -> u64
+        ensures { result ≡ length self.now.history }
+    {
+        self.history.len() as u64
+    }
+
+    /// How many captures there are.
+    pub(crate) fn count(&self) -> u32
+        ensures { result ≡ length (captures self.now.holdings.book) }
+    {
+        self.archive.counts().captures
+    }
+
+    /// What is appended to the list of the capture with this number, if there is one, and of the book as it is.
+    pub(crate) fn item(&self, alloc: Global, number: u32) -> Result<(Item, Place), Memory>
+        ensures { IfOk result (λ r. TakesItem D.tells self.now.holdings number r.0 r.1) }
+    {
+        item_of(alloc, &self.archive, number)
+    }
+
+    /// The archive has the book and the limits that the history tells.
+    pub(crate) fn stands(&self)
+        ensures { Stands self.now.history self.now.holdings }
+    {
+        let _ = &self.archive;
+    }
+
+    /// Where the disk tells what it holds, the book that the history tells is sound.
+    pub(crate) fn stays_sound(&self)
+        ensures { IsTrue D.tells → IsSound (told_book self.now.history) }
+    {
+        self.archive.shows_its_book();
     }
 
     /// The archive.

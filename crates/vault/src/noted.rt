@@ -1,13 +1,17 @@
 //! The entries of a vault's history, of which only clauses know.
+use crate::item::Item;
 use archive_volumes::Held;
 use capture::{Limits, Taken};
+use index_snapshot::Note;
+use shown::Shown;
 use std::snapshot::Snapshot;
 
 /// What an entry of the history tells.
 #[derive(Drop)]
 pub enum Kind {
-    /// The archive was given to the vault, with this book and these limits. It is the first entry.
-    Opened(Snapshot<Held>, Limits),
+    /// The archive was given to the vault, with this book and these limits; whether its disk tells what it holds; and the list that is
+    /// published. It is the first entry.
+    Opened(Snapshot<Held>, Limits, Shown<bool>, Snapshot<Note<Item>>),
     /// A volume was begun, at this time in milliseconds since 1970.
     Began(u64),
     /// A capture was stored, which refers to the one with this number, if to any.

@@ -6,7 +6,9 @@ ghost use Rattle.vault.specs.History.{by_of};
 ghost use Rattle.vault.specs.Turns.{GivesIt};
 
 use crate::keeping::Keeping;
+use crate::listed::Listed;
 use crate::noting::note_fault;
+use crate::published::Published;
 use archive_shelf::{BringFault, Shelf};
 use capture::Bytes;
 use disk_model::Disk;
@@ -20,17 +22,22 @@ pub(crate) struct Piece {
     pub(crate) number: u32,
 }
 
-impl<D: Disk> Work<Keeping<D>> for Piece {
+impl<D: Disk> Work<Published<D>> for Piece {
+    ghost use Rattle.std.specs.Prelude.{◌++◌};
+    ghost use Rattle.vault.specs.History.{is_told};
+    ghost use Rattle.vault.specs.Listing.{IsListed};
     ghost use Rattle.vault.specs.Turns.{GivesIt};
 
-    type Reply = Result<Bytes, BringFault>;
+    type Reply = (Result<Bytes, BringFault>, Listed);
 
     ghost ready = { λ work found. Unit {0} };
 
-    ghost does = { λ work by found added reply. GivesIt D.tells work.number found added reply };
+    ghost does = { λ work by found added reply. GivesIt (is_told found) work.number found added reply.0 × IsListed (found ++ added) reply.1.note reply.1.whole };
 
-    fn act(self, by: u32, value: &mut Keeping<D>) -> Result<Bytes, BringFault> {
-        value.piece(by, self.alloc, self.number)
+    #[tactic(auto, using(crate::proofs::TellingLaws::adds_listed))]
+    fn act(self, by: u32, value: &mut Published<D>) -> (Result<Bytes, BringFault>, Listed) {
+        let answer = value.piece(by, self.alloc, self.number);
+        (answer, value.tell())
     }
 }
 

@@ -4,11 +4,12 @@ mod fitting;
 ghost use Rattle.std.specs.Prelude.{◌≡◌, IfOk};
 ghost use Rattle.std.specs.List.{All};
 ghost use Rattle.warc_text.specs.Fits.{Fits};
-ghost use Rattle.vault.specs.History.{IsBegun};
 
-use crate::vault::{Vault, VaultPass};
+use crate::at::At;
+use crate::pass::VaultPass;
+use crate::vault::Vault;
 use archive_core::Archive;
-use archive_shelf::Depth;
+use archive_shelf::{Depth, Finder};
 use capture::{Limits, Taken};
 use disk_model::{Disk, MemoryDisk};
 use fitting::fitting;
@@ -17,26 +18,27 @@ use std::process::Abort;
 use std::sync::Wait;
 use std::test::*;
 use std::thread::{Threads, join};
+use surt_key::key_of_address;
 
 const HEAD: &[u8] = b"HTTP/1.1 204 No Content\r\n\r\n";
 
-// A vault with two passes.
-fn begun<D: Disk>(
+// A vault with three passes.
+fn begun<R: Wait, D: Disk>(
+    rt: &R,
     alloc: Global,
     archive: Archive<D>,
 ) -> Result<(Vault<D>, Vec<VaultPass>), Archive<D>>
-    ensures { IfOk result (λ r. All (λ p. (p.lock ≡ r.0) × IsBegun p.seen) r.1.items) }
+    ensures { IfOk result (λ r. All (λ p. p.known.lock ≡ r.0) r.1.items) }
 {
-    let made = Vault::new(alloc, archive, 2)?;
+    let made = Vault::new(alloc, rt, archive, 3)?;
     Ok(made)
 }
 
 // One of the passes.
 fn take_pass<R: Abort, D: Disk>(rt: &R, vault: &Vault<D>, passes: &mut Vec<VaultPass>) -> VaultPass
-    requires { All (λ p. (p.lock ≡ vault.now) × IsBegun p.seen) passes.old.items }
-    ensures lock { result.lock ≡ vault.now }
-    ensures begun { IsBegun result.seen }
-    ensures others { All (λ p. (p.lock ≡ vault.now) × IsBegun p.seen) passes.new.items }
+    requires { All (λ p. p.known.lock ≡ vault.now) passes.old.items }
+    ensures lock { result.known.lock ≡ vault.now }
+    ensures others { All (λ p. p.known.lock ≡ vault.now) passes.new.items }
 {
     passes.pop().expect(rt, "a pass is left")
 }
@@ -49,10 +51,9 @@ fn stored<R: Wait, D: Disk>(
     mut pass: VaultPass,
     taken: &Taken,
 ) -> (VaultPass, bool)
-    requires pass { pass.lock ≡ vault.now }
-    requires begun { IsBegun pass.seen }
+    requires pass { pass.known.lock ≡ vault.now }
     requires fits { Fits taken.now }
-    ensures { result.0.lock ≡ vault.now }
+    ensures { result.0.known.lock ≡ vault.now }
 {
     let answer = vault.store(rt, alloc, &mut pass, taken);
     (pass, answer.is_ok())
@@ -68,21 +69,43 @@ fn stored_beside<R: Threads + Wait + Sync, D: Disk + Send>(
     second: VaultPass,
     other: &Taken,
 ) -> ((VaultPass, bool), (VaultPass, bool))
-    requires first { (first.lock ≡ vault.now) × IsBegun first.seen × Fits one.now }
-    requires second { (second.lock ≡ vault.now) × IsBegun second.seen × Fits other.now }
-    ensures { (result.0.0.lock ≡ vault.now) × (result.1.0.lock ≡ vault.now) }
+    requires first { (first.known.lock ≡ vault.now) × Fits one.now }
+    requires second { (second.known.lock ≡ vault.now) × Fits other.now }
+    ensures { (result.0.0.known.lock ≡ vault.now) × (result.1.0.known.lock ≡ vault.now) }
 {
     join(
         rt,
         move || -> (VaultPass, bool)
-            requires { (first.lock ≡ vault.now) × IsBegun first.seen × Fits one.now }
-            ensures { result.0.lock ≡ vault.entry.now }
+            requires { (first.known.lock ≡ vault.now) × Fits one.now }
+            ensures { result.0.known.lock ≡ vault.entry.now }
         { stored(rt, alloc, vault, first, one) },
         move || -> (VaultPass, bool)
-            requires { (second.lock ≡ vault.now) × IsBegun second.seen × Fits other.now }
-            ensures { result.0.lock ≡ vault.entry.now }
+            requires { (second.known.lock ≡ vault.now) × Fits other.now }
+            ensures { result.0.known.lock ≡ vault.entry.now }
         { stored(rt, alloc, vault, second, other) },
     )
+}
+
+// Whether a pass finds a capture of an address by date.
+fn found_by_date<R: Abort, D: Disk>(
+    rt: &R,
+    alloc: Global,
+    vault: &Vault<D>,
+    pass: VaultPass,
+    address: &[u8],
+) -> (VaultPass, bool)
+    requires { pass.known.lock ≡ vault.now }
+    ensures { result.0.known.lock ≡ vault.now }
+{
+    let Ok(keyed) = key_of_address(alloc, address) else {
+        panic!(rt; "no key")
+    };
+    let mut at = At::new(rt, vault, pass);
+    let found = match at.by_date(alloc, &keyed.key, 1_700_000_000_000) {
+        Ok(found) => found.is_some(),
+        Err(_) => false,
+    };
+    (at.into_pass(), found)
 }
 
 #[test]
@@ -104,14 +127,20 @@ fn both_stored<R: Threads + Wait + Abort + Sync>(rt: &R, alloc: Global) {
         b"http://a.test/2",
         b"GET /2 HTTP/1.1\r\nHost: a.test\r\n\r\n",
     );
-    let Ok((vault, mut passes)) = begun(alloc, opened(rt, alloc)) else {
+    let Ok((vault, mut passes)) = begun(rt, alloc, opened(rt, alloc)) else {
         panic!(rt; "no memory")
     };
     let first = take_pass(rt, &vault, &mut passes);
     let second = take_pass(rt, &vault, &mut passes);
+    let third = take_pass(rt, &vault, &mut passes);
     let (first, second) = stored_beside(rt, alloc, &vault, first, &one, second, &other);
     assert!(rt; first.1 && second.1);
-    let all = vault.join(first.0, second.0);
+    // The third pass took no turn, and finds by date what the others stored.
+    let third = found_by_date(rt, alloc, &vault, third, b"http://a.test/1");
+    assert!(rt; third.1);
+    let third = found_by_date(rt, alloc, &vault, third.0, b"http://a.test/2");
+    assert!(rt; third.1);
+    let all = vault.join(vault.join(first.0, second.0), third.0);
     let archive = vault.close(rt, all);
     assert!(rt; archive.counts().captures == 2);
 }

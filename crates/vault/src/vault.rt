@@ -1,20 +1,25 @@
 //! The vault, and the turns of its passes.
-ghost use Rattle.std.specs.Prelude.{◌≡◌, ◌⊎◌, ℕ, ◌+◌, ◌≤◌, ◌++◌, List, length, slice_get, IfOk, IfErr, IfSome};
+ghost use Rattle.std.specs.Prelude.{◌≡◌, ◌⊎◌, ℕ, ◌+◌, ◌<◌, ◌≤◌, ◌++◌, List, [], length, slice_get, IfOk, IfErr, IfSome};
+ghost use mathlib.Core.List.{IsPrefix};
 ghost use Rattle.sha1.specs.Sha1.{sha1};
 ghost use Rattle.warc_text.specs.Fits.{Fits};
 ghost use Rattle.archive_core.specs.Looking.{IsDigestOf, IsRightOf};
 ghost use Rattle.history_lock.specs.Known.{IsSamePass};
 ghost use Rattle.history_lock.specs.Seen.{Shows, Turn};
-ghost use Rattle.vault.specs.History.{IsBegun, by_of, told_in};
-ghost use Rattle.vault.specs.Passes.{IsLeft, IsMade};
+ghost use Rattle.vault.specs.History.{IsBegun, KeepsNames, by_of, is_told, told_in};
+ghost use Rattle.vault.specs.Listing.{IsListed};
+ghost use Rattle.vault.specs.Passes.{IsLeft, IsNew};
 ghost use Rattle.vault.specs.Turns.{BringsIt, Commits, Compares, GivesIt, StoresBy};
 
 use crate::bring::Bring;
 use crate::commit::Commit;
 use crate::compare::Compare;
-use crate::keeping::Keeping;
+use crate::flush::Flush;
+use crate::listed::{Listed, longer};
 use crate::noted::Noted;
+use crate::pass::{VaultPass, seat_all};
 use crate::piece::Piece;
+use crate::published::Published;
 use archive_core::{Archive, compared_payloads_serve_later, payload_of_taken};
 use archive_shelf::{BringFault, Looked, Receipt, StoreFault};
 use capture::{Brought, Bytes, Digest, Memory, Taken, growth_keeps_captures};
@@ -25,12 +30,9 @@ use std::alloc::Global;
 use std::marker::Model;
 use std::sync::Wait;
 
-/// The right to take turns at one vault. It knows the history that it saw last, and nothing of the disk.
-pub type VaultPass = Pass<Noted>;
-
 /// An archive that several passes share. It isn't `Drop`: end it by `close`. A clause sees which lock it is.
 pub struct Vault<D: Disk> {
-    lock: HistoryLock<Keeping<D>>,
+    lock: HistoryLock<Published<D>>,
 }
 
 impl<D: Disk> Model for Vault<D> {
@@ -42,31 +44,39 @@ impl<D: Disk> Model for Vault<D> {
 }
 
 impl<D: Disk> Vault<D> {
-    /// A vault round an archive, and so many passes, with the numbers from 1 on. Each has seen that the archive was given. At `Err`
-    /// there was no memory, and the archive comes back as it was.
-    pub fn new(
+    /// A vault round an archive, and so many passes, with the numbers from 1 on. Each has seen that the archive was given, and shows
+    /// its captures by date. At `Err` there was no memory, and the archive comes back as it was. May wait.
+    pub fn new<R: Wait>(
         alloc: Global,
+        rt: &R,
         archive: Archive<D>,
         passes: u32,
     ) -> Result<(Vault<D>, Vec<VaultPass>), Archive<D>>
-        requires { 1 ≤ passes }
+        requires { (0 < passes) × (passes ≤ 17) }
         ensures count { IfOk result (λ r. length r.1.items ≡ passes) }
-        ensures each { IfOk result (λ r. (k : ℕ) → IfSome (slice_get r.1.items k) (λ p. IsMade r.0 passes (k + 1) archive.book archive.limits p)) }
+        ensures each { IfOk result (λ r. (k : ℕ) → IfSome (slice_get r.1.items k) (λ p. IsNew D.tells r.0 passes (k + 1) archive.book archive.limits p)) }
         ensures err { IfErr result (λ back. back ≡ archive) }
     {
-        let keeping = match Keeping::begin(alloc, archive) {
-            Ok(keeping) => keeping,
+        let Ok(mut room) = Vec::with_capacity(alloc, passes as usize) else {
+            return Err(archive);
+        };
+        let (published, mut viewers) = match Published::begin(alloc, rt, archive, passes) {
+            Ok(made) => made,
             Err(archive) => return Err(archive),
         };
-        match HistoryLock::new(alloc, keeping, passes) {
-            Ok((lock, made)) => Ok((Vault { lock }, made)),
-            Err(keeping) => Err(keeping.into_archive()),
+        growth_keeps_captures();
+        let listed = published.tell();
+        match HistoryLock::new(alloc, published, passes) {
+            Ok((lock, made)) => {
+                seat_all(made, &mut viewers, &listed, &mut room);
+                Ok((Vault { lock }, room))
+            }
+            Err(published) => Err(published.into_archive(rt)),
         }
     }
 
-    /// Stores a capture, in two turns: the first one looks for its payload among all captures, the second one stores it and
-    /// looks only at those that came since. May wait.
-    #[tactic(auto, using(crate::proofs::StoreLaws::no_memory, crate::proofs::StoreLaws::refused_early, crate::proofs::StoreLaws::committed_later))]
+    /// Stores a capture, in two turns: the first one looks for its payload among all captures, the second one stores it, looks only
+    /// at those that came since, and publishes it. May wait.
     pub fn store<R: Wait>(
         &self,
         rt: &R,
@@ -74,12 +84,38 @@ impl<D: Disk> Vault<D> {
         pass: &mut VaultPass,
         taken: &Taken,
     ) -> Result<Receipt, StoreFault>
-        requires pass { pass.old.lock ≡ self.now }
-        requires begun { IsBegun pass.old.seen }
+        requires pass { pass.old.known.lock ≡ self.now }
         requires fits { Fits taken.now }
-        ensures stores { StoresBy D.tells taken.now pass.old pass.new result }
+        ensures stores { StoresBy (is_told pass.old.known.seen) taken.now pass.old.known pass.new.known result }
+        ensures same { IsSamePass pass.old.known pass.new.known }
+        ensures shown { pass.new.shown ≡ pass.old.shown }
+    {
+        let VaultPass {
+            known,
+            viewer: _,
+            listed,
+        } = pass;
+        self.store_by(rt, alloc, known, listed, taken)
+    }
+
+    /// Stores a capture for what the lock knows of a pass. May wait.
+    #[tactic(auto, using(crate::proofs::StoreLaws::no_memory, crate::proofs::StoreLaws::refused_early, crate::proofs::StoreLaws::committed_later))]
+    fn store_by<R: Wait>(
+        &self,
+        rt: &R,
+        alloc: Global,
+        pass: &mut Pass<Noted>,
+        listed: &mut Listed,
+        taken: &Taken,
+    ) -> Result<Receipt, StoreFault>
+        requires pass { pass.old.lock ≡ self.now }
+        requires listed { IsListed pass.old.seen listed.old.note listed.old.whole }
+        requires fits { Fits taken.now }
+        ensures stores { StoresBy (is_told pass.old.seen) taken.now pass.old pass.new result }
         ensures same { IsSamePass pass.old pass.new }
-        ensures begun { IsBegun pass.new.seen }
+        ensures listed { IsListed pass.new.seen listed.new.note listed.new.whole }
+        ensures names { KeepsNames pass.old.seen pass.new.seen }
+        ensures told { is_told pass.new.seen ≡ is_told pass.old.seen }
     {
         compared_payloads_serve_later();
         growth_keeps_captures();
@@ -88,70 +124,80 @@ impl<D: Disk> Vault<D> {
             Err(Memory) => return Err(StoreFault::Memory),
         };
         let digest = payload_digest(payload.as_slice());
-        match self.compare(rt, alloc, pass, payload.as_slice(), digest) {
+        match self.compare(rt, alloc, pass, listed, payload.as_slice(), digest) {
             Ok(looked) => {
                 // No memory is held while the second turn is waited for.
                 drop(payload);
-                self.commit(rt, alloc, pass, taken, digest, looked)
+                self.commit(rt, alloc, pass, listed, taken, digest, looked)
             }
             Err(fault) => Err(fault),
         }
     }
 
     /// Looks for a payload, in a turn that stores nothing. May wait.
-    #[tactic(auto, using(crate::proofs::HistoryLaws::turn_begun))]
     fn compare<R: Wait>(
         &self,
         rt: &R,
         alloc: Global,
-        pass: &mut VaultPass,
+        pass: &mut Pass<Noted>,
+        listed: &mut Listed,
         payload: &[u8],
         digest: Digest,
     ) -> Result<Looked, StoreFault>
         requires pass { pass.old.lock ≡ self.now }
+        requires begun { IsBegun pass.old.seen }
         requires digest { digest ≡ sha1 payload.now }
-        ensures turn { Turn by_of pass.old pass.new.seen (λ found added. Compares D.tells payload.now found added result) }
+        ensures turn { Turn by_of pass.old pass.new.seen (λ found added. Compares (is_told pass.old.seen) payload.now found added result) }
         ensures same { IsSamePass pass.old pass.new }
-        ensures begun { IsBegun pass.old.seen → IsBegun pass.new.seen }
+        ensures listed { IsListed pass.new.seen listed.new.note listed.new.whole }
+        ensures names { KeepsNames pass.old.seen pass.new.seen }
+        ensures told { is_told pass.new.seen ≡ is_told pass.old.seen }
     {
         let work = Compare {
             alloc,
             payload,
             digest,
         };
-        self.lock.turn(rt, pass, work)
+        let (answer, told) = self.lock.turn(rt, pass, work);
+        *listed = told;
+        answer
     }
 
     /// Stores a capture whose payload was looked for. May wait.
-    #[tactic(auto, using(crate::proofs::HistoryLaws::turn_begun))]
     fn commit<R: Wait>(
         &self,
         rt: &R,
         alloc: Global,
-        pass: &mut VaultPass,
+        pass: &mut Pass<Noted>,
+        listed: &mut Listed,
         taken: &Taken,
         digest: Digest,
         looked: Looked,
     ) -> Result<Receipt, StoreFault>
         requires pass { pass.old.lock ≡ self.now }
+        requires begun { IsBegun pass.old.seen }
         requires fits { Fits taken.now }
         requires digest { IsDigestOf taken.now digest }
-        requires right { (found : List Noted) → Shows by_of pass.old.passes pass.old.numbers pass.old.seen found → IsRightOf (told_in D.tells found) taken.now looked }
-        ensures turn { Turn by_of pass.old pass.new.seen (λ found added. Commits D.tells taken.now found added result) }
+        requires right { (found : List Noted) → Shows by_of pass.old.passes pass.old.numbers pass.old.seen found → IsRightOf (told_in (is_told pass.old.seen) found) taken.now looked }
+        ensures turn { Turn by_of pass.old pass.new.seen (λ found added. Commits (is_told pass.old.seen) taken.now found added result) }
         ensures same { IsSamePass pass.old pass.new }
-        ensures begun { IsBegun pass.old.seen → IsBegun pass.new.seen }
+        ensures listed { IsListed pass.new.seen listed.new.note listed.new.whole }
+        ensures names { KeepsNames pass.old.seen pass.new.seen }
+        ensures told { is_told pass.new.seen ≡ is_told pass.old.seen }
     {
         let work = Commit {
+            rt,
             alloc,
             taken,
             digest,
             looked,
         };
-        self.lock.turn(rt, pass, work)
+        let (answer, told) = self.lock.turn(rt, pass, work);
+        *listed = told;
+        answer
     }
 
     /// Brings a capture. May wait.
-    #[tactic(auto, using(crate::proofs::HistoryLaws::turn_begun))]
     pub fn bring<R: Wait>(
         &self,
         rt: &R,
@@ -159,17 +205,43 @@ impl<D: Disk> Vault<D> {
         pass: &mut VaultPass,
         number: u32,
     ) -> Result<Brought, BringFault>
-        requires pass { pass.old.lock ≡ self.now }
-        ensures turn { Turn by_of pass.old pass.new.seen (λ found added. BringsIt D.tells number found added result) }
-        ensures same { IsSamePass pass.old pass.new }
-        ensures begun { IsBegun pass.old.seen → IsBegun pass.new.seen }
+        requires pass { pass.old.known.lock ≡ self.now }
+        ensures turn { Turn by_of pass.old.known pass.new.known.seen (λ found added. BringsIt (is_told pass.old.known.seen) number found added result) }
+        ensures same { IsSamePass pass.old.known pass.new.known }
+        ensures shown { pass.new.shown ≡ pass.old.shown }
     {
-        self.lock.turn(rt, pass, Bring { alloc, number })
+        let VaultPass {
+            known,
+            viewer: _,
+            listed,
+        } = pass;
+        self.bring_by(rt, alloc, known, listed, number)
+    }
+
+    /// Brings a capture for what the lock knows of a pass. May wait.
+    fn bring_by<R: Wait>(
+        &self,
+        rt: &R,
+        alloc: Global,
+        pass: &mut Pass<Noted>,
+        listed: &mut Listed,
+        number: u32,
+    ) -> Result<Brought, BringFault>
+        requires pass { pass.old.lock ≡ self.now }
+        requires begun { IsBegun pass.old.seen }
+        ensures turn { Turn by_of pass.old pass.new.seen (λ found added. BringsIt (is_told pass.old.seen) number found added result) }
+        ensures same { IsSamePass pass.old pass.new }
+        ensures listed { IsListed pass.new.seen listed.new.note listed.new.whole }
+        ensures names { KeepsNames pass.old.seen pass.new.seen }
+        ensures told { is_told pass.new.seen ≡ is_told pass.old.seen }
+    {
+        let (answer, told) = self.lock.turn(rt, pass, Bring { alloc, number });
+        *listed = told;
+        answer
     }
 
     /// Gives a capture as a piece: its group as it stands in its volume, with the volume's warcinfo before it where the capture is the
     /// first of that. May wait.
-    #[tactic(auto, using(crate::proofs::HistoryLaws::turn_begun))]
     pub fn piece<R: Wait>(
         &self,
         rt: &R,
@@ -177,35 +249,110 @@ impl<D: Disk> Vault<D> {
         pass: &mut VaultPass,
         number: u32,
     ) -> Result<Bytes, BringFault>
-        requires pass { pass.old.lock ≡ self.now }
-        ensures turn { Turn by_of pass.old pass.new.seen (λ found added. GivesIt D.tells number found added result) }
-        ensures same { IsSamePass pass.old pass.new }
-        ensures begun { IsBegun pass.old.seen → IsBegun pass.new.seen }
+        requires pass { pass.old.known.lock ≡ self.now }
+        ensures turn { Turn by_of pass.old.known pass.new.known.seen (λ found added. GivesIt (is_told pass.old.known.seen) number found added result) }
+        ensures same { IsSamePass pass.old.known pass.new.known }
+        ensures shown { pass.new.shown ≡ pass.old.shown }
     {
-        self.lock.turn(rt, pass, Piece { alloc, number })
+        let VaultPass {
+            known,
+            viewer: _,
+            listed,
+        } = pass;
+        self.piece_by(rt, alloc, known, listed, number)
+    }
+
+    /// Gives a capture as a piece to what the lock knows of a pass. May wait.
+    fn piece_by<R: Wait>(
+        &self,
+        rt: &R,
+        alloc: Global,
+        pass: &mut Pass<Noted>,
+        listed: &mut Listed,
+        number: u32,
+    ) -> Result<Bytes, BringFault>
+        requires pass { pass.old.lock ≡ self.now }
+        requires begun { IsBegun pass.old.seen }
+        ensures turn { Turn by_of pass.old pass.new.seen (λ found added. GivesIt (is_told pass.old.seen) number found added result) }
+        ensures same { IsSamePass pass.old pass.new }
+        ensures listed { IsListed pass.new.seen listed.new.note listed.new.whole }
+        ensures names { KeepsNames pass.old.seen pass.new.seen }
+        ensures told { is_told pass.new.seen ≡ is_told pass.old.seen }
+    {
+        let (answer, told) = self.lock.turn(rt, pass, Piece { alloc, number });
+        *listed = told;
+        answer
+    }
+
+    /// Publishes what is stored, as far as there was no memory for that before. May wait, also for readers.
+    pub fn flush<R: Wait>(&self, rt: &R, alloc: Global, pass: &mut VaultPass)
+        requires pass { pass.old.known.lock ≡ self.now }
+        ensures turn { Turn by_of pass.old.known pass.new.known.seen (λ found added. added ≡ []) }
+        ensures same { IsSamePass pass.old.known pass.new.known }
+        ensures shown { pass.new.shown ≡ pass.old.shown }
+    {
+        let VaultPass {
+            known,
+            viewer: _,
+            listed,
+        } = pass;
+        self.flush_by(rt, alloc, known, listed);
+    }
+
+    /// The same for what the lock knows of a pass.
+    fn flush_by<R: Wait>(&self, rt: &R, alloc: Global, pass: &mut Pass<Noted>, listed: &mut Listed)
+        requires pass { pass.old.lock ≡ self.now }
+        requires begun { IsBegun pass.old.seen }
+        ensures turn { Turn by_of pass.old pass.new.seen (λ found added. added ≡ []) }
+        ensures same { IsSamePass pass.old pass.new }
+        ensures listed { IsListed pass.new.seen listed.new.note listed.new.whole }
+        ensures names { KeepsNames pass.old.seen pass.new.seen }
+        ensures told { is_told pass.new.seen ≡ is_told pass.old.seen }
+    {
+        let told = self.lock.turn(rt, pass, Flush { rt, alloc });
+        *listed = told;
     }
 
     /// One pass for two, with the number of the first and the numbers of both. It has seen the longer of the two histories, in which
-    /// behind the other there is no entry of that other's pass.
+    /// behind the other there is no entry of that other's pass, and by date all that both have seen.
     pub fn join(&self, pass: VaultPass, other: VaultPass) -> VaultPass
-        requires pass { pass.lock ≡ self.now }
-        requires other { other.lock ≡ self.now }
-        ensures of_vault { result.lock ≡ self.now }
-        ensures numbers { (result.number ≡ pass.number) × (result.numbers ≡ pass.numbers ++ other.numbers) × (result.passes ≡ pass.passes) }
-        ensures one { (result.seen ≡ pass.seen) ⊎ (result.seen ≡ other.seen) }
-        ensures pass { Shows by_of pass.passes pass.numbers pass.seen result.seen }
-        ensures other { Shows by_of pass.passes other.numbers other.seen result.seen }
+        requires pass { pass.known.lock ≡ self.now }
+        requires other { other.known.lock ≡ self.now }
+        ensures of_vault { result.known.lock ≡ self.now }
+        ensures numbers { (result.known.number ≡ pass.known.number) × (result.known.numbers ≡ pass.known.numbers ++ other.known.numbers) × (result.known.passes ≡ pass.known.passes) }
+        ensures one { (result.known.seen ≡ pass.known.seen) ⊎ (result.known.seen ≡ other.known.seen) }
+        ensures pass { Shows by_of pass.known.passes pass.known.numbers pass.known.seen result.known.seen }
+        ensures other { Shows by_of pass.known.passes other.known.numbers other.known.seen result.known.seen }
+        ensures shown { IsPrefix pass.shown.items result.shown.items × IsPrefix other.shown.items result.shown.items }
     {
-        self.lock.join(pass, other)
+        let VaultPass {
+            known,
+            viewer,
+            listed,
+        } = pass;
+        let VaultPass {
+            known: other,
+            viewer: seen,
+            listed: told,
+        } = other;
+        let known = self.lock.join(known, other);
+        let mut viewer = viewer;
+        viewer.learn(&seen.note());
+        VaultPass {
+            known,
+            viewer,
+            listed: longer(listed, told),
+        }
     }
 
     /// Takes a last turn, and gives the archive back. Some history begins with all that the pass had seen, and has behind that entries of
-    /// other passes alone; the archive has the book and the limits that it tells. May wait. Passes that are left can't be used any more.
+    /// other passes alone; the archive has the book and the limits that it tells. May wait, also for readers. Passes that are left can't be
+    /// used any more.
     pub fn close<R: Wait>(self, rt: &R, pass: VaultPass) -> Archive<D>
-        requires { pass.lock ≡ self }
-        ensures { IsLeft pass result.book result.limits }
+        requires { pass.known.lock ≡ self }
+        ensures { IsLeft pass.known result.book result.limits }
     {
         let Vault { lock } = self;
-        lock.close(rt, pass).into_archive()
+        lock.close(rt, pass.into_known()).into_archive(rt)
     }
 }

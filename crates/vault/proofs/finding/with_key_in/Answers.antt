@@ -1,0 +1,16 @@
+use Rattle.std.proofs.Common.{sym, subst, ◌∙◌}
+use Rattle.std.specs.Prelude.{bytes_eq}
+use Rattle.index_snapshot.specs.Edges.{Edge}
+use Rattle.archive_shelf.specs.Queries.{ArePicked}
+use Rattle.vault.specs.Items.{shown_in}
+use Rattle.vault.specs.declared.item.Item.{Item}
+use Rattle.vault.proofs.ShowingLaws.{if_ok, picked_shown}
+use Rattle.vault.proofs.finding.with_key_in.Goals as goal
+
+pub returns-in-Ok-with_key-clause-found : goal.returns-in-Ok-with_key-clause-found
+returns-in-Ok-with_key-clause-found c =
+    if_ok c.all_copied.result _ _ (λ entries is. record {
+      picked = subst (λ (e : Edge Item). ArePicked (λ e. bytes_eq c.args.key.now e.key) (shown_in e.items) entries.items) (sym c.leave.ensures)
+          (picked_shown c.growth_keeps_captures.ensures.keeps c.in-Ok.view.items c.index.ensures.fits c.index.result.now c.in-Ok-with_key.ensures.indexed c.index.ensures.has
+          (λ e. bytes_eq c.args.key.now e.key) entries.items (is ∙ c.as_slice.ensures.value ∙ c.in-Ok-with_key.ensures.found));
+    }) c.all_copied.ensures
