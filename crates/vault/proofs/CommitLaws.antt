@@ -21,13 +21,13 @@ use Rattle.archive_core.specs.Holdings.{Holdings, contents_of}
 use Rattle.archive_core.specs.Stores.{Stores}
 use Rattle.history_lock.specs.Seen.{Adds, All}
 use Rattle.vault.specs.Guarded.{Stands}
-use Rattle.vault.specs.History.{after_kind, book_after, by_of, told_book, told_limits}
+use Rattle.vault.specs.History.{after_kind, book_after, by_of, is_told, told_book, told_limits}
 use Rattle.vault.specs.Noting.{IsNoteOf, Notes, Noting, beginning, failing}
 use Rattle.vault.specs.Turns.{BeginsAtMost, CommitAnswers, Commits, IsStoring}
 use Rattle.vault.specs.declared.noted.Kind.{Kind}
 use Rattle.vault.specs.declared.noted.Kind.TheVariants.{Opened, Began, Stored, Failed}
 use Rattle.vault.specs.declared.noted.Noted.{Noted}
-use Rattle.vault.proofs.HistoryLaws.{begun_append, limits_append, told_append}
+use Rattle.vault.proofs.HistoryLaws.{as_told, begun_append, limits_append, told_append, told_stays}
 
 -- ---- whether a volume was begun
 
@@ -117,12 +117,13 @@ pub record Committed {D : Type 0} (tells : Bool) (by : ℕ) (taken : Taken) (his
   pub answers : CommitAnswers tells taken history added result
 
 module _ {D : Type 0} (tells : Bool) (by : ℕ) (taken : Taken) (history : List Noted) (was is : Holdings D) (stands : Stands history was)
-    (began : Bool) (counted : Tells was.book is.book began) (limits_is : is.limits ≡ was.limits) where
+    (began : Bool) (counted : Tells was.book is.book began) (limits_is : is.limits ≡ was.limits) (told_is : is.told ≡ was.told) where
   goes_on : (added : List Noted) → is.book ≡ book_after (told_book history) added → Stands (history ++ added) is
   goes_on added book = record {
     begun = begun_append history added stands.begun;
     book = book ∙ sym (told_append history added stands.begun);
     limits = limits_is ∙ (stands.limits ∙ sym (limits_append history added stands.begun));
+    told = told_is ∙ (stands.told ∙ sym (told_stays history added stands.begun));
   }
 
   -- with another added list that is the same
@@ -136,7 +137,7 @@ module _ {D : Type 0} (tells : Bool) (by : ℕ) (taken : Taken) (history : List 
   stays result same answers = record { stands = goes_on [] (same ∙ stands.book); of_pass = tt; answers = answers }
 
   stored_so : (receipt : Receipt) (noted : Noted) → IsNoteOf by taken receipt.same_as noted
-      → StoreLeaves true taken (contents_of tells was) (contents_of tells is) (Ok receipt)
+      → StoreLeaves true taken (as_told tells was) (as_told tells is) (Ok receipt)
       → Committed tells by taken history (beginning by taken.date began ++ noted ∷ []) is (Ok receipt)
   stored_so receipt noted note left =
       let added : List Noted = beginning by taken.date began ++ noted ∷ [] in
@@ -181,7 +182,7 @@ module _ {D : Type 0} (tells : Bool) (by : ℕ) (taken : Taken) (history : List 
       (subst (λ (l : Limits). HasVolumeAlone tells l.volume_bytes (told_book history) taken is.book) stands.limits
       (subst (λ (b : Book). HasVolumeAlone tells was.limits.volume_bytes b taken is.book) from more)))
 
-  failed_so : StoreLeaves true taken (contents_of tells was) (contents_of tells is) (Err stores.DiskFault)
+  failed_so : StoreLeaves true taken (as_told tells was) (as_told tells is) (Err stores.DiskFault)
       → Committed tells by taken history (beginning by taken.date began ++ failing by true) is (Err stores.DiskFault)
   failed_so left =
       let noted : Noted = record { by = by; kind = Failed } in
@@ -205,7 +206,7 @@ module _ {D : Type 0} (tells : Bool) (by : ℕ) (taken : Taken) (history : List 
         };
       }
 
-  full_so : (count limit : ℕ) → StoreLeaves true taken (contents_of tells was) (contents_of tells is) (Err (stores.Full count limit))
+  full_so : (count limit : ℕ) → StoreLeaves true taken (as_told tells was) (as_told tells is) (Err (stores.Full count limit))
       → Committed tells by taken history [] is (Err (stores.Full count limit))
   full_so count limit left =
       let to : is.book ≡ told_book history = left.0.seen ∙ stands.book in
@@ -218,7 +219,7 @@ module _ {D : Type 0} (tells : Bool) (by : ℕ) (taken : Taken) (history : List 
       )
 
   damaged_so : (number : ℕ) (kept : List ℕ) (found : Option (List ℕ))
-      → StoreLeaves true taken (contents_of tells was) (contents_of tells is) (Err (stores.Damaged number kept found))
+      → StoreLeaves true taken (as_told tells was) (as_told tells is) (Err (stores.Damaged number kept found))
       → Committed tells by taken history [] is (Err (stores.Damaged number kept found))
   damaged_so number kept found left =
       let to : is.book ≡ told_book history = left.0.seen ∙ stands.book in
@@ -232,7 +233,7 @@ module _ {D : Type 0} (tells : Bool) (by : ℕ) (taken : Taken) (history : List 
 
   -- what was noted of the answer, whatever that is
   pub committed : (result : Result Receipt StoreFault) (added : List Noted) → Notes by taken began result added
-      → StoreLeaves true taken (contents_of tells was) (contents_of tells is) result
+      → StoreLeaves true taken (as_told tells was) (as_told tells is) result
       → Committed tells by taken history added is result
   committed (Ok receipt) added notes left =
       with_list (beginning by taken.date began ++ notes.0 ∷ []) added (Ok receipt) notes.1 (stored_so receipt notes.0 notes.2 left)
@@ -244,29 +245,44 @@ module _ {D : Type 0} (tells : Bool) (by : ℕ) (taken : Taken) (history : List 
       with_list [] added (Err (stores.Damaged number kept found)) notes (damaged_so number kept found left)
   committed (Err stores.Memory) added notes left = with_list [] added (Err stores.Memory) notes (stays (Err stores.Memory) left.seen refl)
 
--- limits stay through a store
-limits_left : {D : Type 0} (tells : Bool) (taken : Taken) (was is : Holdings D) (result : Result Receipt StoreFault)
-    → StoreLeaves true taken (contents_of tells was) (contents_of tells is) result → is.limits ≡ was.limits
-limits_left tells taken was is (Ok receipt) left = ap (λ (c : Contents). c.limits) left.others
-limits_left tells taken was is (Err (stores.Full count limit)) left = ap (λ (c : Contents). c.limits) left.0.others
-limits_left tells taken was is (Err stores.DiskFault) left = ap (λ (c : Contents). c.limits) left.others
-limits_left tells taken was is (Err (stores.Damaged number kept found)) left = ap (λ (c : Contents). c.limits) left.0.others
-limits_left tells taken was is (Err stores.Memory) left = ap (λ (c : Contents). c.limits) left.others
+-- limits stay through a store, and what is told
+limits_left : {D : Type 0} (taken : Taken) (was is : Holdings D) (result : Result Receipt StoreFault)
+    → StoreLeaves true taken (contents_of was) (contents_of is) result → is.limits ≡ was.limits
+limits_left taken was is (Ok receipt) left = ap (λ (c : Contents). c.limits) left.others
+limits_left taken was is (Err (stores.Full count limit)) left = ap (λ (c : Contents). c.limits) left.0.others
+limits_left taken was is (Err stores.DiskFault) left = ap (λ (c : Contents). c.limits) left.others
+limits_left taken was is (Err (stores.Damaged number kept found)) left = ap (λ (c : Contents). c.limits) left.0.others
+limits_left taken was is (Err stores.Memory) left = ap (λ (c : Contents). c.limits) left.others
+
+tells_left : {D : Type 0} (taken : Taken) (was is : Holdings D) (result : Result Receipt StoreFault)
+    → StoreLeaves true taken (contents_of was) (contents_of is) result → is.told ≡ was.told
+tells_left taken was is (Ok receipt) left = ap (λ (c : Contents). c.tells) left.others
+tells_left taken was is (Err (stores.Full count limit)) left = ap (λ (c : Contents). c.tells) left.0.others
+tells_left taken was is (Err stores.DiskFault) left = ap (λ (c : Contents). c.tells) left.others
+tells_left taken was is (Err (stores.Damaged number kept found)) left = ap (λ (c : Contents). c.tells) left.0.others
+tells_left taken was is (Err stores.Memory) left = ap (λ (c : Contents). c.tells) left.others
 
 module _ {D : Type 0} (d : Ghosts D) (by : ℕ) (taken : Taken) (history after : List Noted) (was is : Holdings D)
     (result : Result Receipt StoreFault) (began : Bool) (stands : Stands history was) where
   -- a store that was made, noted
-  pub all_committed : Stores d was is taken result → Tells was.book is.book began → (IsTrue d.tells → IsSound is.book)
+  pub all_committed : Stores d was is taken result → Tells was.book is.book began → (IsTrue is.told → IsSound is.book)
       → Noting history after (λ added. Notes by taken began result added)
-      → Stands after is × Adds by_of by history after (λ added. Commits d.tells taken history added result)
+      → Stands after is × Adds by_of by history after (λ added. Commits (is_told history) taken history added result)
   all_committed store counted sound noting =
-      let left = store.told.leaves in
-      let c = committed d.tells by taken history was is stands began counted (limits_left d.tells taken was is result left) result noting.added noting.done left in (
+      let told_is : is.told ≡ was.told = tells_left taken was is result store.told.leaves in
+      let left : StoreLeaves true taken (as_told (is_told history) was) (as_told (is_told history) is) result =
+      subst (λ (t : Bool). StoreLeaves true taken (as_told t was) (as_told t is) result) stands.told
+      (subst (λ (t : Bool). StoreLeaves true taken (contents_of was) (as_told t is) result) told_is store.told.leaves) in
+      let c = committed (is_told history) by taken history was is stands began counted (limits_left taken was is result store.told.leaves) told_is
+      result noting.added noting.done left in (
         subst (λ (l : List Noted). Stands l is) (sym noting.joined) c.stands,
         record {
           added = noting.added;
           is_before_and_added = noting.joined;
           of_pass = c.of_pass;
-          done = record { answers = c.answers; sound = λ told. subst IsSound c.stands.book (sound told) };
+          done = record {
+            answers = c.answers;
+            sound = λ told. subst IsSound c.stands.book (sound (subst (λ (t : Bool). IsTrue t) (sym (told_is ∙ stands.told)) told));
+          };
         },
       )

@@ -1,13 +1,15 @@
 -- Histories that go on.
-use Rattle.std.proofs.Common.{◌≡◌, List, [], ◌∷◌, ◌++◌, refl, sym, subst}
+use Rattle.std.proofs.Common.{◌≡◌, Bool, List, [], ◌∷◌, ◌++◌, refl, sym, subst}
 use Rattle.capture.specs.Growth.{Grows}
 use Rattle.capture.specs.GrowthLaws.{GrowsFromItself, GrowthGoesOn}
 use Rattle.capture.specs.declared.book.Book.{Book}
+use Rattle.archive_shelf.specs.Contents.{Contents}
 use Rattle.archive_shelf.specs.Storing.{as_stored}
 use Rattle.archive_shelf.proofs.StoringLaws.{capture_grows, volume_grows}
 use Rattle.history_lock.specs.Known.{Known}
 use Rattle.history_lock.specs.Seen.{Turn}
-use Rattle.vault.specs.History.{IsBegun, after_kind, by_of, book_after, opened_book, told_book, told_limits}
+use Rattle.archive_core.specs.Holdings.{Holdings, contents_of}
+use Rattle.vault.specs.History.{IsBegun, after_kind, by_of, book_after, is_told, opened_book, told_book, told_limits}
 use Rattle.vault.specs.declared.noted.Kind.{Kind}
 use Rattle.vault.specs.declared.noted.Kind.TheVariants.{Opened, Began, Stored, Failed}
 use Rattle.vault.specs.declared.noted.Noted.{Noted}
@@ -24,6 +26,14 @@ told_append (x ∷ xs) ys begun = after_append (opened_book x.kind) xs ys
 pub limits_append : (xs ys : List Noted) → IsBegun xs → told_limits (xs ++ ys) ≡ told_limits xs
 limits_append [] ys begun = absurd begun
 limits_append (x ∷ xs) ys begun = refl
+
+pub told_stays : (xs ys : List Noted) → IsBegun xs → is_told (xs ++ ys) ≡ is_told xs
+told_stays [] ys begun = absurd begun
+told_stays (x ∷ xs) ys begun = refl
+
+-- what an archive is told, if it were told so
+abbrev pub as_told : {D : Type 0} → Bool → Holdings D → Contents
+as_told told held = record (contents_of held) { tells = told }
 
 pub begun_append : (xs ys : List Noted) → IsBegun xs → IsBegun (xs ++ ys)
 begun_append [] ys begun = absurd begun

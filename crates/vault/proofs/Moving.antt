@@ -12,6 +12,7 @@ use Rattle.archive_volumes.specs.contracts.held.Shadow as shadow
 use Rattle.archive_volumes.specs.contracts.stored_ghost.StoredGhost as stored
 use Rattle.archive_volumes.specs.contracts.volumes.Volumes as volumes
 use Rattle.archive_core.specs.contracts.archive.Archive as archive
+use Rattle.shown.specs.contracts.shown.Shown as shown
 use Rattle.history_lock.proofs.pass.Pass.TheSendSync as pass
 use Rattle.index_snapshot.proofs.publisher.Publisher.TheSendSync as publisher
 use Rattle.index_snapshot.proofs.viewer.Viewer.TheSendSync as viewer
@@ -33,8 +34,11 @@ held_send = let a = shadow_send in search (sendable, crosses) depth 40
 pub volumes_send : (D : RattleType) → IsSend D → IsSend (volumes.the_row D)
 volumes_send D s = let a = held_send in let j = journal.the_send D s in search (sendable, crosses) depth 40
 
+pub shown_send : (T : RattleType) → IsSend (shown.the_row T)
+shown_send T = search (sendable, crosses) depth 40
+
 pub archive_send : (D : RattleType) (g : Ghosts D.Denot) → IsSend D → IsSend (archive.the_row D g)
-archive_send D g s = let a = volumes_send D s in let i = index.the_send in let t = digests.the_send in let p = spot.the_send in search (sendable, crosses) depth 40
+archive_send D g s = let a = volumes_send D s in let i = index.the_send in let t = digests.the_send in let p = spot.the_send in let w = shown_send in search (sendable, crosses) depth 40
 
 pub keeping_send : (D : RattleType) (g : Ghosts D.Denot) → IsSend D → IsSend (keeping.the_row D g)
 keeping_send D g s = let a = archive_send D g s in search (sendable, crosses) depth 40

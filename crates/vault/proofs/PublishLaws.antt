@@ -39,7 +39,7 @@ use Rattle.vault.specs.declared.item.Item.{Item}
 use Rattle.vault.specs.declared.noted.Kind.{Kind}
 use Rattle.vault.specs.declared.noted.Kind.TheVariants.{Failed}
 use Rattle.vault.specs.declared.noted.Noted.{Noted}
-use Rattle.vault.proofs.HistoryLaws.{told_append, told_grows}
+use Rattle.vault.proofs.HistoryLaws.{told_append, told_grows, told_stays}
 use Rattle.vault.proofs.ItemLaws.{all_below, all_of_last, behind_joined, last_joined, none_above, sorted_place}
 
 -- ---- an item more
@@ -171,10 +171,6 @@ pub names_append : (xs ys : List Noted) (log : LogBook) → Names xs log → Nam
 names_append [] ys log names = absurd names
 names_append (x ∷ xs) ys log names = names
 
-pub told_stays : (xs ys : List Noted) → IsBegun xs → is_told (xs ++ ys) ≡ is_told xs
-told_stays [] ys begun = absurd begun
-told_stays (x ∷ xs) ys begun = refl
-
 pub names_begun : (history : List Noted) (log : LogBook) → Names history log → IsBegun history
 names_begun [] log names = absurd names
 names_begun (x ∷ xs) log names = tt
@@ -227,17 +223,17 @@ not_true : (b : Bool) → not b ≡ true → b ≡ false
 not_true true is = absurd (cc is)
 not_true false is = refl
 
-module _ (itself : GrowsFromItself) (goes_on : GrowthGoesOn) {D : Type 0} (tells : Bool) (history after : List Noted) (held now : Holdings D)
+module _ (itself : GrowsFromItself) (goes_on : GrowthGoesOn) {D : Type 0} (history after : List Noted) (held now : Holdings D)
     (print : Print Item) (appended : ℕ) (was : Stands history held) (is : Stands after now) (added : List Noted) (joined : after ≡ history ++ added) where
   -- the book is the same
-  pub publishes_same : (whole : Bool) → Publishes tells history held print whole appended → told_book (history ++ added) ≡ told_book history
-      → Publishes tells after now print whole appended
+  pub publishes_same : (whole : Bool) → Publishes (is_told history) history held print whole appended → told_book (history ++ added) ≡ told_book history
+      → Publishes (is_told after) after now print whole appended
   publishes_same whole p same =
       let book : now.book ≡ held.book = is.book ∙ (ap told_book joined ∙ (same ∙ sym was.book)) in
       record {
         named = subst (λ (l : List Noted). Names l print.of) (sym joined) (names_append history added print.of p.named);
-        told = ap is_told joined ∙ (told_stays history added was.begun ∙ p.told);
-        list_told = p.list_told;
+        told = refl;
+        list_told = p.list_told ∙ sym (ap is_told joined ∙ told_stays history added was.begun);
         fits = p.fits;
         some = p.some;
         grows = subst (λ (b : Book). Grows (last_book print.full) b) (sym book) p.grows;
@@ -246,15 +242,15 @@ module _ (itself : GrowsFromItself) (goes_on : GrowthGoesOn) {D : Type 0} (tells
         same = λ t. p.same t ∙ sym book;
       }
 
-  pub publishes_after : (taken : Taken) (t : Bool) (result : Result Receipt StoreFault) (whole : Bool) → Publishes tells history held print true appended
-      → CommitAnswers t taken history added result → whole ≡ not (changes result) → Publishes tells after now print whole appended
+  pub publishes_after : (taken : Taken) (t : Bool) (result : Result Receipt StoreFault) (whole : Bool) → Publishes (is_told history) history held print true appended
+      → CommitAnswers t taken history added result → whole ≡ not (changes result) → Publishes (is_told after) after now print whole appended
   publishes_after taken t result whole p answers whole_is =
       let last : last_book print.full ≡ told_book history = p.same refl ∙ was.book in
       let book : now.book ≡ told_book (history ++ added) = is.book ∙ ap told_book joined in
       record {
         named = subst (λ (l : List Noted). Names l print.of) (sym joined) (names_append history added print.of p.named);
-        told = ap is_told joined ∙ (told_stays history added was.begun ∙ p.told);
-        list_told = p.list_told;
+        told = refl;
+        list_told = p.list_told ∙ sym (ap is_told joined ∙ told_stays history added was.begun);
         fits = p.fits;
         some = p.some;
         grows = subst (λ (b : Book). Grows b now.book) (sym last) (subst (λ (b : Book). Grows (told_book history) b) (sym book) (told_grows itself goes_on history added was.begun));

@@ -19,11 +19,11 @@ use Rattle.archive_core.specs.Holdings.{Holdings, contents_of}
 use Rattle.archive_core.specs.Looking.{Looks}
 use Rattle.history_lock.specs.Seen.{Adds, All}
 use Rattle.vault.specs.Guarded.{Stands}
-use Rattle.vault.specs.History.{by_of, told_book, told_in, told_limits}
+use Rattle.vault.specs.History.{by_of, is_told, told_book, told_in, told_limits}
 use Rattle.vault.specs.Noting.{failing}
 use Rattle.vault.specs.Turns.{AddsFaultAlone, BringsIt, Compares, GivesIt}
 use Rattle.vault.specs.declared.noted.Noted.{Noted}
-use Rattle.vault.proofs.HistoryLaws.{begun_append, limits_append, told_append}
+use Rattle.vault.proofs.HistoryLaws.{as_told, begun_append, limits_append, told_append, told_stays}
 
 -- ---- what a fault adds
 
@@ -36,12 +36,15 @@ all_failing by true = (refl, tt)
 all_failing by false = tt
 
 module _ {D : Type 0} (by : ℕ) (history : List Noted) (was is : Holdings D) (stands : Stands history was) (book_is : is.book ≡ was.book)
-    (limits_is : is.limits ≡ was.limits) where
+    (limits_is : is.limits ≡ was.limits) (told_is : is.told ≡ was.told) where
   to : is.book ≡ told_book history
   to = book_is ∙ stands.book
 
   limits_to : is.limits ≡ told_limits history
   limits_to = limits_is ∙ stands.limits
+
+  told_to : is.told ≡ is_told history
+  told_to = told_is ∙ stands.told
 
   told_then : (failed : Bool) → told_book (history ++ failing by failed) ≡ told_book history
   told_then true = told_append history (failing by true) stands.begun
@@ -52,9 +55,10 @@ module _ {D : Type 0} (by : ℕ) (history : List Noted) (was is : Holdings D) (s
     begun = begun_append history (failing by failed) stands.begun;
     book = to ∙ sym (told_then failed);
     limits = limits_to ∙ sym (limits_append history (failing by failed) stands.begun);
+    told = told_to ∙ sym (told_stays history (failing by failed) stands.begun);
   }
 
-  brings_told : (tells : Bool) (number : ℕ) (result : Result Brought BringFault) → Brings (contents_of tells is) number result
+  brings_told : (tells : Bool) (number : ℕ) (result : Result Brought BringFault) → Brings (as_told tells is) number result
       → Brings (told_in tells history) number result
   brings_told tells number (Ok brought) h = (
     subst (λ (b : Book). number < length (captures b)) to h.0,
@@ -73,7 +77,7 @@ module _ {D : Type 0} (by : ℕ) (history : List Noted) (was is : Holdings D) (s
   )
   brings_told tells number (Err brings.Memory) h = tt
 
-  gives_told : (tells : Bool) (number : ℕ) (result : Result (List ℕ) BringFault) → GivesPiece (contents_of tells is) number result
+  gives_told : (tells : Bool) (number : ℕ) (result : Result (List ℕ) BringFault) → GivesPiece (as_told tells is) number result
       → GivesPiece (told_in tells history) number result
   gives_told tells number (Ok bytes) h = (
     subst (λ (b : Book). number < length (captures b)) to h.0,
@@ -86,7 +90,7 @@ module _ {D : Type 0} (by : ℕ) (history : List Noted) (was is : Holdings D) (s
       (subst (λ (b : Book). number < length (captures b)) to h.0, h.1, h.2)
   gives_told tells number (Err brings.Memory) h = tt
 
-  looks_told : (tells : Bool) (payload : List ℕ) (result : Result Looked StoreFault) → Looks (contents_of tells is) payload result
+  looks_told : (tells : Bool) (payload : List ℕ) (result : Result Looked StoreFault) → Looks (as_told tells is) payload result
       → Looks (told_in tells history) payload result
   looks_told tells payload (Ok looked) h = (
     subst (λ (l : Limits). length (captures (told_book history)) < l.captures) limits_to
@@ -111,64 +115,65 @@ module _ {D : Type 0} (by : ℕ) (history : List Noted) (was is : Holdings D) (s
   )
   looks_told tells payload (Err stores.Memory) h = tt
 
-  sound_then : (tells failed : Bool) → (IsTrue tells → IsSound is.book) → IsTrue tells → IsSound (told_book (history ++ failing by failed))
-  sound_then tells failed sound told = subst IsSound (to ∙ sym (told_then failed)) (sound told)
+  sound_then : (failed : Bool) → (IsTrue is.told → IsSound is.book) → IsTrue (is_told history) → IsSound (told_book (history ++ failing by failed))
+  sound_then failed sound told =
+      subst IsSound (to ∙ sym (told_then failed)) (sound (subst (λ (t : Bool). IsTrue t) (sym told_to) told))
 
   -- a turn that brought a capture, or failed to
-  pub all_brought : (tells : Bool) (number : ℕ) (result : Result Brought BringFault) (after : List Noted)
-      → Brings (contents_of tells is) number result → NamesKeeper is.book number result → GoesByDigest is.book number result
-      → (IsTrue tells → IsSound is.book) → after ≡ history ++ failing by (is_bring_fault result)
-      → Stands after is × Adds by_of by history after (λ added. BringsIt tells number history added result)
-  all_brought tells number result after brought names digests sound joined = (
+  pub all_brought : (number : ℕ) (result : Result Brought BringFault) (after : List Noted)
+      → Brings (contents_of is) number result → NamesKeeper is.book number result → GoesByDigest is.book number result
+      → (IsTrue is.told → IsSound is.book) → after ≡ history ++ failing by (is_bring_fault result)
+      → Stands after is × Adds by_of by history after (λ added. BringsIt (is_told history) number history added result)
+  all_brought number result after brought names digests sound joined = (
     subst (λ (l : List Noted). Stands l is) (sym joined) (read_stands (is_bring_fault result)),
     record {
       added = failing by (is_bring_fault result);
       is_before_and_added = joined;
       of_pass = all_failing by (is_bring_fault result);
       done = record {
-        brings = brings_told tells number result brought;
+        brings = brings_told (is_told history) number result (subst (λ (t : Bool). Brings (as_told t is) number result) told_to brought);
         names = subst (λ (b : Book). NamesKeeper b number result) to names;
         digests = subst (λ (b : Book). GoesByDigest b number result) to digests;
         adds = adds_fault by (is_bring_fault result);
-        sound = sound_then tells (is_bring_fault result) sound;
+        sound = sound_then (is_bring_fault result) sound;
       };
     },
   )
 
   -- a turn that gave a capture as a piece, or failed to
-  pub all_given : (tells : Bool) (number : ℕ) (result : Result (List ℕ) BringFault) (after : List Noted)
-      → GivesPiece (contents_of tells is) number result → PieceGoesByDigest is.book number result → (IsTrue tells → IsSound is.book)
+  pub all_given : (number : ℕ) (result : Result (List ℕ) BringFault) (after : List Noted)
+      → GivesPiece (contents_of is) number result → PieceGoesByDigest is.book number result → (IsTrue is.told → IsSound is.book)
       → after ≡ history ++ failing by (is_piece_fault result)
-      → Stands after is × Adds by_of by history after (λ added. GivesIt tells number history added result)
-  all_given tells number result after given digests sound joined = (
+      → Stands after is × Adds by_of by history after (λ added. GivesIt (is_told history) number history added result)
+  all_given number result after given digests sound joined = (
     subst (λ (l : List Noted). Stands l is) (sym joined) (read_stands (is_piece_fault result)),
     record {
       added = failing by (is_piece_fault result);
       is_before_and_added = joined;
       of_pass = all_failing by (is_piece_fault result);
       done = record {
-        gives = gives_told tells number result given;
+        gives = gives_told (is_told history) number result (subst (λ (t : Bool). GivesPiece (as_told t is) number result) told_to given);
         digests = subst (λ (b : Book). PieceGoesByDigest b number result) to digests;
         adds = adds_fault by (is_piece_fault result);
-        sound = sound_then tells (is_piece_fault result) sound;
+        sound = sound_then (is_piece_fault result) sound;
       };
     },
   )
 
   -- a turn that looked for a payload, or failed to
-  pub all_compared : (tells : Bool) (payload : List ℕ) (result : Result Looked StoreFault) (after : List Noted)
-      → Looks (contents_of tells is) payload result → (IsTrue tells → IsSound is.book) → after ≡ history ++ failing by (is_look_fault result)
-      → Stands after is × Adds by_of by history after (λ added. Compares tells payload history added result)
-  all_compared tells payload result after looked sound joined = (
+  pub all_compared : (payload : List ℕ) (result : Result Looked StoreFault) (after : List Noted)
+      → Looks (contents_of is) payload result → (IsTrue is.told → IsSound is.book) → after ≡ history ++ failing by (is_look_fault result)
+      → Stands after is × Adds by_of by history after (λ added. Compares (is_told history) payload history added result)
+  all_compared payload result after looked sound joined = (
     subst (λ (l : List Noted). Stands l is) (sym joined) (read_stands (is_look_fault result)),
     record {
       added = failing by (is_look_fault result);
       is_before_and_added = joined;
       of_pass = all_failing by (is_look_fault result);
       done = record {
-        looks = looks_told tells payload result looked;
+        looks = looks_told (is_told history) payload result (subst (λ (t : Bool). Looks (as_told t is) payload result) told_to looked);
         adds = adds_fault by (is_look_fault result);
-        sound = sound_then tells (is_look_fault result) sound;
+        sound = sound_then (is_look_fault result) sound;
       };
     },
   )

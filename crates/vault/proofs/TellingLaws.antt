@@ -9,8 +9,8 @@ use Rattle.vault.specs.History.{IsBegun, KeepsNames, Names, by_of, is_told}
 use Rattle.vault.specs.Listing.{IsListed}
 use Rattle.vault.specs.declared.item.Item.{Item}
 use Rattle.vault.specs.declared.noted.Noted.{Noted}
-use Rattle.vault.proofs.HistoryLaws.{begun_append}
-use Rattle.vault.proofs.PublishLaws.{names_append, told_stays}
+use Rattle.vault.proofs.HistoryLaws.{begun_append, told_stays}
+use Rattle.vault.proofs.PublishLaws.{names_append}
 
 -- what was added, and the list as it stands then
 pub adds_listed : (by : ℕ) (before after : List Noted) (does : List Noted → Type 0) (note : Edge Item) (whole : Bool) → Adds by_of by before after does → IsListed after note whole

@@ -14,11 +14,12 @@ pub record Guarded (D : Type 0) : Type 0 where
   pub history : List Noted
   pub holdings : Holdings D
 
--- the archive has the book and the limits that the history tells
+-- the archive has the book and the limits that the history tells, and is told of that book where it says so
 pub record Stands {D : Type 0} (history : List Noted) (holdings : Holdings D) : Type 0 where
   pub begun : IsBegun history
   pub book : holdings.book ≡ told_book history
   pub limits : holdings.limits ≡ told_limits history
+  pub told : holdings.told ≡ is_told history
 
 -- these, the list that is published, and whether that has the archive's book
 pub record Publication (D : Type 0) : Type 0 where

@@ -49,7 +49,7 @@ impl<D: Disk> Keeping<D> {
         alloc: Global,
         number: u32,
     ) -> Result<Brought, BringFault>
-        ensures { Adds by_of by self.old.history self.new.history (λ added. BringsIt D.tells number self.old.history added result) }
+        ensures { Adds by_of by self.old.history self.new.history (λ added. BringsIt (is_told self.old.history) number self.old.history added result) }
     {
         self.archive.shows_its_book();
         if self.history.reserve(1).is_err() {

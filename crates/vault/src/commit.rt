@@ -72,7 +72,7 @@ fn stored<D: Disk>(
 ) -> (Result<Receipt, StoreFault>, bool)
     requires fits { Fits taken.now }
     requires digest { IsDigestOf taken.now digest.now }
-    requires right { IsRightOf (contents_of D.tells archive.old) taken.now looked }
+    requires right { IsRightOf (contents_of archive.old) taken.now looked }
     ensures stores { Stores D.Disk archive.old archive.new taken.now result.0 }
     ensures began { MatchBool result.1 (length archive.new.book.volumes ≢ length archive.old.book.volumes) (length archive.new.book.volumes ≡ length archive.old.book.volumes) }
     ensures shows { ShowsItsBook true (told_of D.Disk archive.new) }
@@ -96,8 +96,8 @@ impl<D: Disk> Keeping<D> {
     ) -> Result<Receipt, StoreFault>
         requires fits { Fits taken.now }
         requires digest { IsDigestOf taken.now digest.now }
-        requires right { IsRightOf (told_in D.tells self.old.history) taken.now looked }
-        ensures { Adds by_of by self.old.history self.new.history (λ added. Commits D.tells taken.now self.old.history added result) }
+        requires right { IsRightOf (told_in (is_told self.old.history) self.old.history) taken.now looked }
+        ensures { Adds by_of by self.old.history self.new.history (λ added. Commits (is_told self.old.history) taken.now self.old.history added result) }
     {
         self.archive.shows_its_book();
         if self.history.reserve(2).is_err() {

@@ -58,7 +58,7 @@ impl<D: Disk> Keeping<D> {
         digest: &Digest,
     ) -> Result<Looked, StoreFault>
         requires { digest.now ≡ sha1 payload.now }
-        ensures { Adds by_of by self.old.history self.new.history (λ added. Compares D.tells payload.now self.old.history added result) }
+        ensures { Adds by_of by self.old.history self.new.history (λ added. Compares (is_told self.old.history) payload.now self.old.history added result) }
     {
         self.archive.shows_its_book();
         if self.history.reserve(1).is_err() {

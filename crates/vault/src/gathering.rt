@@ -16,9 +16,9 @@ use shown::Shown;
 use std::alloc::Global;
 use std::snapshot::Snapshot;
 
-/// Whether the disk tells what it holds, which clauses alone know.
+/// Whether it is told what the book of the archive has, which clauses alone know.
 pub(crate) fn tells<D: Disk>(archive: &Archive<D>) -> Shown<bool>
-    ensures { result.value ≡ D.tells }
+    ensures { result.value ≡ archive.now.told }
 {
     Shown::told_by(archive)
 }
@@ -52,7 +52,7 @@ pub(crate) fn item_of<D: Disk>(
     archive: &Archive<D>,
     number: u32,
 ) -> Result<(Item, Place), Memory>
-    ensures { IfOk result (λ r. TakesItem D.tells archive.now number r.0 r.1) }
+    ensures { IfOk result (λ r. TakesItem archive.now.told archive.now number r.0 r.1) }
 {
     let place = place_of(alloc, archive, number)?;
     archive.shows_its_book();
@@ -66,7 +66,7 @@ pub(crate) fn item_of<D: Disk>(
 
 /// An index of all entries that the archive shows.
 pub(crate) fn gathered<D: Disk>(alloc: Global, archive: &Archive<D>) -> Result<Index, Memory>
-    ensures { IfOk result (λ index. IsGathered D.tells archive.now.book index) }
+    ensures { IfOk result (λ index. IsGathered archive.now.told archive.now.book index) }
 {
     let index = gathered_by_number(alloc, archive)?;
     archive.shows_its_book();
@@ -107,8 +107,8 @@ fn put<D: Disk>(
 
 /// The first item of the list, with the entries of this index.
 pub(crate) fn first_item<D: Disk>(archive: &Archive<D>, index: &Index) -> Item
-    requires { IsGathered D.tells archive.now.book index.now }
-    ensures told { result.told.value ≡ D.tells }
+    requires { IsGathered archive.now.told archive.now.book index.now }
+    ensures told { result.told.value ≡ archive.now.told }
     ensures book { book_in result ≡ archive.now.book }
     ensures entries { brings_of result ≡ index.now }
 {

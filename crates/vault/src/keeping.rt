@@ -44,7 +44,7 @@ impl<D: Disk> Keeping<D> {
         list: &Note<Item>,
     ) -> Result<Keeping<D>, Archive<D>>
         ensures opens { IfOk result (λ keeping. IsOpening archive.book archive.limits keeping.history) }
-        ensures told { IfOk result (λ keeping. is_told keeping.history ≡ D.tells) }
+        ensures told { IfOk result (λ keeping. is_told keeping.history ≡ archive.told) }
         ensures names { IfOk result (λ keeping. Names keeping.history list.now.of) }
         ensures holds { IfOk result (λ keeping. keeping.holdings ≡ archive) }
         ensures err { IfErr result (λ back. back ≡ archive) }
@@ -77,7 +77,7 @@ impl<D: Disk> Keeping<D> {
 
     /// What is appended to the list of the capture with this number, if there is one, and of the book as it is.
     pub(crate) fn item(&self, alloc: Global, number: u32) -> Result<(Item, Place), Memory>
-        ensures { IfOk result (λ r. TakesItem D.tells self.now.holdings number r.0 r.1) }
+        ensures { IfOk result (λ r. TakesItem (is_told self.now.history) self.now.holdings number r.0 r.1) }
     {
         item_of(alloc, &self.archive, number)
     }
@@ -89,9 +89,9 @@ impl<D: Disk> Keeping<D> {
         let _ = &self.archive;
     }
 
-    /// Where the disk tells what it holds, the book that the history tells is sound.
+    /// Where the book is told, the book that the history tells is sound.
     pub(crate) fn stays_sound(&self)
-        ensures { IsTrue D.tells → IsSound (told_book self.now.history) }
+        ensures { IsTrue (is_told self.now.history) → IsSound (told_book self.now.history) }
     {
         self.archive.shows_its_book();
     }

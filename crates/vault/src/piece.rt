@@ -2,7 +2,7 @@
 ghost use Rattle.std.specs.Prelude.{◌≡◌};
 ghost use Rattle.archive_shelf.specs.Pieces.{is_piece_fault};
 ghost use Rattle.history_lock.specs.Seen.{Adds};
-ghost use Rattle.vault.specs.History.{by_of};
+ghost use Rattle.vault.specs.History.{by_of, is_told};
 ghost use Rattle.vault.specs.Turns.{GivesIt};
 
 use crate::keeping::Keeping;
@@ -44,7 +44,7 @@ impl<D: Disk> Work<Published<D>> for Piece {
 impl<D: Disk> Keeping<D> {
     /// Gives a capture as a piece to the pass of this number. Room in the history is made first.
     pub(crate) fn piece(&mut self, by: u32, alloc: Global, number: u32) -> Result<Bytes, BringFault>
-        ensures { Adds by_of by self.old.history self.new.history (λ added. GivesIt D.tells number self.old.history added result) }
+        ensures { Adds by_of by self.old.history self.new.history (λ added. GivesIt (is_told self.old.history) number self.old.history added result) }
     {
         self.archive.shows_its_book();
         if self.history.reserve(1).is_err() {

@@ -39,12 +39,13 @@ pub(crate) struct Published<D: Disk> {
 
 impl<D: Disk> Model for Published<D> {
     ghost use Rattle.vault.specs.Guarded.{Publication, Publishes};
+    ghost use Rattle.vault.specs.History.{is_told};
 
     ghost Value = { Publication D };
 
     ghost view = { λ p. record { kept = p.keeping; print = p.publisher; whole = p.whole } };
 
-    ghost invariant = { λ p. Publishes D.tells p.keeping.history p.keeping.holdings p.publisher p.whole p.appended };
+    ghost invariant = { λ p. Publishes (is_told p.keeping.history) p.keeping.history p.keeping.holdings p.publisher p.whole p.appended };
 }
 
 impl<D: Disk> Told for Published<D> {
@@ -67,7 +68,7 @@ fn publisher_of<R: Wait, D: Disk>(
     readers: u32,
 ) -> Result<(Publisher<Item, Books>, Vec<Viewer<Item, Books>>), Memory>
     requires readers { (0 < readers) × (readers ≤ 17) }
-    ensures told { IfOk result (λ r. tells_in r.0.full ≡ D.tells) }
+    ensures told { IfOk result (λ r. tells_in r.0.full ≡ archive.now.told) }
     ensures fits { IfOk result (λ r. AreItems r.0.full × (0 < length r.0.full)) }
     ensures book { IfOk result (λ r. last_book r.0.full ≡ archive.now.book) }
     ensures all { IfOk result (λ r. r.0.published ≡ r.0.full) }
@@ -89,9 +90,9 @@ impl<D: Disk> Published<D> {
     ) -> Result<(Published<D>, Vec<Viewer<Item, Books>>), Archive<D>>
         requires readers { (0 < readers) × (readers ≤ 17) }
         ensures opens { IfOk result (λ r. IsOpening archive.book archive.limits r.0.kept.history) }
-        ensures told { IfOk result (λ r. is_told r.0.kept.history ≡ D.tells) }
+        ensures told { IfOk result (λ r. is_told r.0.kept.history ≡ archive.told) }
         ensures book { IfOk result (λ r. (r.0.whole ≡ true) × (last_book r.0.print.full ≡ archive.book)) }
-        ensures fits { IfOk result (λ r. AreItems r.0.print.full × (r.0.print.published ≡ r.0.print.full) × (tells_in r.0.print.full ≡ D.tells)) }
+        ensures fits { IfOk result (λ r. AreItems r.0.print.full × (r.0.print.published ≡ r.0.print.full) × (tells_in r.0.print.full ≡ archive.told)) }
         ensures viewers { IfOk result (λ r. (length r.1.items ≡ readers) × All (λ v. v ≡ edge_of r.0.print) r.1.items) }
         ensures holds { IfOk result (λ r. r.0.kept.holdings ≡ archive) }
         ensures err { IfErr result (λ back. back ≡ archive) }

@@ -54,7 +54,7 @@ impl<D: Disk> Vault<D> {
     ) -> Result<(Vault<D>, Vec<VaultPass>), Archive<D>>
         requires { (0 < passes) × (passes ≤ 17) }
         ensures count { IfOk result (λ r. length r.1.items ≡ passes) }
-        ensures each { IfOk result (λ r. (k : ℕ) → IfSome (slice_get r.1.items k) (λ p. IsNew D.tells r.0 passes (k + 1) archive.book archive.limits p)) }
+        ensures each { IfOk result (λ r. (k : ℕ) → IfSome (slice_get r.1.items k) (λ p. IsNew archive.told r.0 passes (k + 1) archive.book archive.limits p)) }
         ensures err { IfErr result (λ back. back ≡ archive) }
     {
         let Ok(mut room) = Vec::with_capacity(alloc, passes as usize) else {

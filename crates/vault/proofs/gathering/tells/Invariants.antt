@@ -2,4 +2,4 @@
 use Rattle.vault.proofs.gathering.tells.Given as goal
 
 abbrev pub ghost-told_by : goal.ghost-told_by
-ghost-told_by g a = g.D.Disk.tells
+ghost-told_by g a = a.from.now.told

@@ -1,10 +1,10 @@
 -- A capture was stored, or not.
-use Rattle.std.proofs.Common.{List, sym, subst}
+use Rattle.std.proofs.Common.{Bool, List, sym, subst}
 use Rattle.capture.specs.declared.book.Book.{Book}
 use Rattle.archive_shelf.specs.Comparing.{IsRight}
 use Rattle.history_lock.specs.Seen.{Adds}
 use Rattle.vault.specs.Guarded.{Guarded}
-use Rattle.vault.specs.History.{by_of, told_book}
+use Rattle.vault.specs.History.{by_of, is_told, told_book}
 use Rattle.vault.specs.Noting.{Notes}
 use Rattle.vault.specs.Turns.{Commits}
 use Rattle.vault.specs.declared.noted.Noted.{Noted}
@@ -14,9 +14,10 @@ use Rattle.vault.proofs.keeping.Keeping.commit.Goals as goal
 
 pub stored-answer-requires-clause-right : goal.stored-answer-requires-clause-right
 stored-answer-requires-clause-right g c = λ payload has.
-    subst (λ (b : Book). IsRight g.D.Disk.tells b payload c.args.looked) (sym c.self.invariant.book)
-    (subst (λ (kept : Guarded _). IsRight g.D.Disk.tells (told_book kept.history) payload c.args.looked) (sym c.self.view_is)
-    (c.requires.right payload has))
+    subst (λ (t : Bool). IsRight t c.self.inside.archive.book payload c.args.looked) (sym c.self.invariant.told)
+    (subst (λ (b : Book). IsRight (is_told (values c.self.inside.history.items)) b payload c.args.looked) (sym c.self.invariant.book)
+    (subst (λ (kept : Guarded _). IsRight (is_told kept.history) (told_book kept.history) payload c.args.looked) (sym c.self.view_is)
+    (c.requires.right payload has)))
 
 pub invariant_of-self-2 : goal.invariant_of-self-2
 invariant_of-self-2 g c =
@@ -30,7 +31,7 @@ invariant_of-self-2 g c =
 pub returns : goal.returns
 returns g c =
     subst (λ (kept : Guarded _). Adds by_of c.args.by kept.history (values c.note_store.new.history.items)
-    (λ added. Commits g.D.Disk.tells c.args.taken.now kept.history added c.stored-answer.result.0)) c.self.view_is
+    (λ added. Commits (is_told kept.history) c.args.taken.now kept.history added c.stored-answer.result.0)) c.self.view_is
     (all_committed g.D.Disk c.args.by c.args.taken.now (values c.self.inside.history.items) (values c.note_store.new.history.items)
     c.self.inside.archive c.stored-answer.new.archive c.stored-answer.result.0 c.stored-answer.result.1 c.self.invariant
     c.stored-answer.ensures.stores c.stored-answer.ensures.began c.stored-answer.ensures.shows.consistent.sound

@@ -3,7 +3,7 @@ use Rattle.std.proofs.Common.{ap, subst}
 use Rattle.archive_core.specs.Holdings.{Holdings}
 use Rattle.history_lock.specs.Seen.{Adds}
 use Rattle.vault.specs.Guarded.{Guarded}
-use Rattle.vault.specs.History.{by_of}
+use Rattle.vault.specs.History.{by_of, is_told}
 use Rattle.vault.specs.Turns.{Compares}
 use Rattle.vault.proofs.NotingLaws.{joined_by, values}
 use Rattle.vault.proofs.ReadLaws.{all_compared}
@@ -14,7 +14,8 @@ invariant_of-self-2 g c =
     (all_compared c.args.by (values c.self.inside.history.items) c.self.inside.archive c.compare-answer.new.self c.self.invariant
     (ap (λ (held : Holdings _). held.book) c.compare-answer.ensures.only_looks.others)
     (ap (λ (held : Holdings _). held.limits) c.compare-answer.ensures.only_looks.others)
-    g.D.Disk.tells c.args.payload.now c.compare-answer.result (values c.note_fault.new.history.items) c.compare-answer.ensures.looks
+    (ap (λ (held : Holdings _). held.told) c.compare-answer.ensures.only_looks.others)
+    c.args.payload.now c.compare-answer.result (values c.note_fault.new.history.items) c.compare-answer.ensures.looks
     c.shows_its_book-2.ensures.shows.consistent.sound
     (joined_by c.self.inside.history.items c.reserve.new.self.items c.note_fault.new.history.items c.args.by c.is_disk_fault.result _
     c.reserve.ensures.items c.is_disk_fault.ensures c.note_fault.ensures)).0
@@ -22,11 +23,12 @@ invariant_of-self-2 g c =
 pub returns : goal.returns
 returns g c =
     subst (λ (kept : Guarded _). Adds by_of c.args.by kept.history (values c.note_fault.new.history.items)
-    (λ added. Compares g.D.Disk.tells c.args.payload.now kept.history added c.compare-answer.result)) c.self.view_is
+    (λ added. Compares (is_told kept.history) c.args.payload.now kept.history added c.compare-answer.result)) c.self.view_is
     (all_compared c.args.by (values c.self.inside.history.items) c.self.inside.archive c.compare-answer.new.self c.self.invariant
     (ap (λ (held : Holdings _). held.book) c.compare-answer.ensures.only_looks.others)
     (ap (λ (held : Holdings _). held.limits) c.compare-answer.ensures.only_looks.others)
-    g.D.Disk.tells c.args.payload.now c.compare-answer.result (values c.note_fault.new.history.items) c.compare-answer.ensures.looks
+    (ap (λ (held : Holdings _). held.told) c.compare-answer.ensures.only_looks.others)
+    c.args.payload.now c.compare-answer.result (values c.note_fault.new.history.items) c.compare-answer.ensures.looks
     c.shows_its_book-2.ensures.shows.consistent.sound
     (joined_by c.self.inside.history.items c.reserve.new.self.items c.note_fault.new.history.items c.args.by c.is_disk_fault.result _
     c.reserve.ensures.items c.is_disk_fault.ensures c.note_fault.ensures)).1

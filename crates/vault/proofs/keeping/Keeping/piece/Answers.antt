@@ -3,7 +3,7 @@ use Rattle.std.proofs.Common.{ap, subst}
 use Rattle.archive_shelf.specs.Contents.{Contents}
 use Rattle.history_lock.specs.Seen.{Adds}
 use Rattle.vault.specs.Guarded.{Guarded}
-use Rattle.vault.specs.History.{by_of}
+use Rattle.vault.specs.History.{by_of, is_told}
 use Rattle.vault.specs.Turns.{GivesIt}
 use Rattle.vault.proofs.NotingLaws.{joined_by, values}
 use Rattle.vault.proofs.ReadLaws.{all_given}
@@ -13,7 +13,7 @@ pub invariant_of-self-2 : goal.invariant_of-self-2
 invariant_of-self-2 g c =
     (all_given c.args.by (values c.self.inside.history.items) c.self.inside.archive c.piece-answer.new.self c.self.invariant
     c.piece-answer.ensures.reads.stays.seen (ap (λ (now : Contents). now.limits) c.piece-answer.ensures.reads.stays.others)
-    g.D.Disk.tells c.args.number c.piece-answer.result (values c.note_fault.new.history.items) c.piece-answer.ensures.gives
+    (ap (λ (now : Contents). now.tells) c.piece-answer.ensures.reads.stays.others) c.args.number c.piece-answer.result (values c.note_fault.new.history.items) c.piece-answer.ensures.gives
     c.piece-answer.ensures.digests c.piece-answer.ensures.shows.consistent.sound
     (joined_by c.self.inside.history.items c.reserve.new.self.items c.note_fault.new.history.items c.args.by c.is_disk_fault.result _
     c.reserve.ensures.items c.is_disk_fault.ensures c.note_fault.ensures)).0
@@ -21,10 +21,10 @@ invariant_of-self-2 g c =
 pub returns : goal.returns
 returns g c =
     subst (λ (kept : Guarded _). Adds by_of c.args.by kept.history (values c.note_fault.new.history.items)
-    (λ added. GivesIt g.D.Disk.tells c.args.number kept.history added c.piece-answer.result)) c.self.view_is
+    (λ added. GivesIt (is_told kept.history) c.args.number kept.history added c.piece-answer.result)) c.self.view_is
     (all_given c.args.by (values c.self.inside.history.items) c.self.inside.archive c.piece-answer.new.self c.self.invariant
     c.piece-answer.ensures.reads.stays.seen (ap (λ (now : Contents). now.limits) c.piece-answer.ensures.reads.stays.others)
-    g.D.Disk.tells c.args.number c.piece-answer.result (values c.note_fault.new.history.items) c.piece-answer.ensures.gives
+    (ap (λ (now : Contents). now.tells) c.piece-answer.ensures.reads.stays.others) c.args.number c.piece-answer.result (values c.note_fault.new.history.items) c.piece-answer.ensures.gives
     c.piece-answer.ensures.digests c.piece-answer.ensures.shows.consistent.sound
     (joined_by c.self.inside.history.items c.reserve.new.self.items c.note_fault.new.history.items c.args.by c.is_disk_fault.result _
     c.reserve.ensures.items c.is_disk_fault.ensures c.note_fault.ensures)).1

@@ -1,4 +1,4 @@
-use Rattle.std.proofs.Common.{Bool, subst, sym}
+use Rattle.std.proofs.Common.{subst}
 use Rattle.history_lock.specs.Seen.{Adds}
 use Rattle.vault.specs.Guarded.{Publication}
 use Rattle.vault.specs.History.{by_of, is_told}
@@ -7,7 +7,7 @@ use Rattle.vault.proofs.PublishLaws.{fault_added, publishes_same}
 use Rattle.vault.proofs.published.Published.compare.Goals as goal
 
 pub invariant_of-self : goal.invariant_of-self
-invariant_of-self g c = publishes_same c.growth_keeps_captures.ensures.itself c.growth_keeps_captures.ensures.steps g.D.Disk.tells c.self.inside.keeping.history
+invariant_of-self g c = publishes_same c.growth_keeps_captures.ensures.itself c.growth_keeps_captures.ensures.steps c.self.inside.keeping.history
     c.compare-answer.new.self.history c.self.inside.keeping.holdings c.compare-answer.new.self.holdings c.self.inside.publisher c.self.inside.appended c.stands.ensures
     c.stands-2.ensures c.compare-answer.ensures.added c.compare-answer.ensures.is_before_and_added c.self.inside.whole c.self.invariant
     (fault_added c.self.inside.keeping.history c.stands.ensures.begun _ c.compare-answer.ensures.added c.compare-answer.ensures.done.adds)
@@ -15,6 +15,4 @@ invariant_of-self g c = publishes_same c.growth_keeps_captures.ensures.itself c.
 pub returns : goal.returns
 returns g c =
     subst (λ (p : Publication _). Adds by_of c.args.by p.kept.history c.compare-answer.new.self.history
-    (λ added. Compares (is_told p.kept.history) c.args.payload.now p.kept.history added c.compare-answer.result)) c.self.view_is
-    (subst (λ (t : Bool). Adds by_of c.args.by c.self.inside.keeping.history c.compare-answer.new.self.history
-    (λ added. Compares t c.args.payload.now c.self.inside.keeping.history added c.compare-answer.result)) (sym c.self.invariant.told) c.compare-answer.ensures)
+    (λ added. Compares (is_told p.kept.history) c.args.payload.now p.kept.history added c.compare-answer.result)) c.self.view_is c.compare-answer.ensures

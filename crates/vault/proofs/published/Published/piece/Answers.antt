@@ -1,4 +1,4 @@
-use Rattle.std.proofs.Common.{Bool, subst, sym}
+use Rattle.std.proofs.Common.{subst}
 use Rattle.history_lock.specs.Seen.{Adds}
 use Rattle.vault.specs.Guarded.{Publication}
 use Rattle.vault.specs.History.{by_of, is_told}
@@ -7,7 +7,7 @@ use Rattle.vault.proofs.PublishLaws.{fault_added, publishes_same}
 use Rattle.vault.proofs.published.Published.piece.Goals as goal
 
 pub invariant_of-self : goal.invariant_of-self
-invariant_of-self g c = publishes_same c.growth_keeps_captures.ensures.itself c.growth_keeps_captures.ensures.steps g.D.Disk.tells c.self.inside.keeping.history
+invariant_of-self g c = publishes_same c.growth_keeps_captures.ensures.itself c.growth_keeps_captures.ensures.steps c.self.inside.keeping.history
     c.piece-answer.new.self.history c.self.inside.keeping.holdings c.piece-answer.new.self.holdings c.self.inside.publisher c.self.inside.appended c.stands.ensures
     c.stands-2.ensures c.piece-answer.ensures.added c.piece-answer.ensures.is_before_and_added c.self.inside.whole c.self.invariant
     (fault_added c.self.inside.keeping.history c.stands.ensures.begun _ c.piece-answer.ensures.added c.piece-answer.ensures.done.adds)
@@ -15,6 +15,4 @@ invariant_of-self g c = publishes_same c.growth_keeps_captures.ensures.itself c.
 pub returns : goal.returns
 returns g c =
     subst (λ (p : Publication _). Adds by_of c.args.by p.kept.history c.piece-answer.new.self.history
-    (λ added. GivesIt (is_told p.kept.history) c.args.number p.kept.history added c.piece-answer.result)) c.self.view_is
-    (subst (λ (t : Bool). Adds by_of c.args.by c.self.inside.keeping.history c.piece-answer.new.self.history
-    (λ added. GivesIt t c.args.number c.self.inside.keeping.history added c.piece-answer.result)) (sym c.self.invariant.told) c.piece-answer.ensures)
+    (λ added. GivesIt (is_told p.kept.history) c.args.number p.kept.history added c.piece-answer.result)) c.self.view_is c.piece-answer.ensures
