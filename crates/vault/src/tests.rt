@@ -86,26 +86,37 @@ fn stored_beside<R: Threads + Wait + Sync, D: Disk + Send>(
     )
 }
 
-// Whether a pass finds a capture of an address by date.
-fn found_by_date<R: Abort, D: Disk>(
+// Whether a pass finds a capture of each of these addresses by date.
+fn finds_both<R: Abort, D: Disk>(
     rt: &R,
     alloc: Global,
     vault: &Vault<D>,
     pass: VaultPass,
-    address: &[u8],
-) -> (VaultPass, bool)
+    first: &[u8],
+    second: &[u8],
+) -> bool
     requires { pass.known.lock ≡ vault.now }
-    ensures { result.0.known.lock ≡ vault.now }
 {
+    let mut at = At::new(rt, vault, pass);
+    let one = found_by_date(rt, alloc, &mut at, first);
+    let other = found_by_date(rt, alloc, &mut at, second);
+    one && other
+}
+
+// Whether a capture of an address is found by date.
+fn found_by_date<'a, R: Abort, D: Disk>(
+    rt: &R,
+    alloc: Global,
+    at: &mut At<'a, R, D>,
+    address: &[u8],
+) -> bool {
     let Ok(keyed) = key_of_address(alloc, address) else {
         panic!(rt; "no key")
     };
-    let mut at = At::new(rt, vault, pass);
-    let found = match at.by_date(alloc, &keyed.key, 1_700_000_000_000) {
+    match at.by_date(alloc, &keyed.key, 1_700_000_000_000) {
         Ok(found) => found.is_some(),
         Err(_) => false,
-    };
-    (at.into_pass(), found)
+    }
 }
 
 #[test]
@@ -136,11 +147,17 @@ fn both_stored<R: Threads + Wait + Abort + Sync>(rt: &R, alloc: Global) {
     let (first, second) = stored_beside(rt, alloc, &vault, first, &one, second, &other);
     assert!(rt; first.1 && second.1);
     // The third pass took no turn, and finds by date what the others stored.
-    let third = found_by_date(rt, alloc, &vault, third, b"http://a.test/1");
-    assert!(rt; third.1);
-    let third = found_by_date(rt, alloc, &vault, third.0, b"http://a.test/2");
-    assert!(rt; third.1);
-    let all = vault.join(vault.join(first.0, second.0), third.0);
+    assert!(rt;
+        finds_both(
+            rt,
+            alloc,
+            &vault,
+            third,
+            b"http://a.test/1",
+            b"http://a.test/2"
+        )
+    );
+    let all = vault.join(first.0, second.0);
     let archive = vault.close(rt, all);
     assert!(rt; archive.counts().captures == 2);
 }
