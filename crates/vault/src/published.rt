@@ -178,7 +178,8 @@ impl<D: Disk> Published<D> {
         self.keeping.stands();
         let answer = self.keeping.commit(by, alloc, taken, digest, looked);
         self.keeping.stands();
-        self.whole = !may_change(&answer);
+        let changed = may_change(&answer);
+        self.whole = !changed;
         answer
     }
 

@@ -19,10 +19,10 @@ invariant_of-self g c =
     c.commit-answer.new.self.history c.self.inside.keeping.holdings c.commit-answer.new.self.holdings c.self.inside.publisher c.self.inside.appended
     c.stands.ensures c.stands-2.ensures c.commit-answer.ensures.added c.commit-answer.ensures.is_before_and_added c.args.taken.now
     (is_told c.self.inside.keeping.history)
-    c.commit-answer.result (not c.may_change.result)
+    c.commit-answer.result (not c.may_change-changed.result)
     (subst (λ (b : Bool). Publishes (is_told c.self.inside.keeping.history) c.self.inside.keeping.history c.self.inside.keeping.holdings c.self.inside.publisher b c.self.inside.appended)
     at_first c.self.invariant)
-    c.commit-answer.ensures.done.answers (ap not c.may_change.ensures)
+    c.commit-answer.ensures.done.answers (ap not c.may_change-changed.ensures)
 
 pub returns : goal.returns
 returns g c =
