@@ -7,6 +7,7 @@ use Rattle.sha1.specs.Sha1.{sha1}
 use Rattle.capture.specs.Captures.{captures, taken_back, HasPayload}
 use Rattle.capture.specs.Faults.{CountsFaults}
 use Rattle.capture.specs.Message.{IsResponseHeadText}
+use Rattle.capture.specs.Growth.{Grows}
 use Rattle.capture.specs.declared.book.Book.{Book}
 use Rattle.capture.specs.declared.captured.Stored.{Stored}
 use Rattle.capture.specs.declared.captured.Taken.{Taken}
@@ -16,6 +17,7 @@ use Rattle.cdxj_index.specs.Facts.{Facts}
 use Rattle.cdxj_index.specs.OfBook.{AreOf}
 use Rattle.cdxj_index.specs.Order.{with_entry, without}
 use Rattle.cdxj_index.specs.Queries.{IsIndex}
+use Rattle.disk_model.specs.Crash.{Leaves}
 use Rattle.disk_model.specs.declared.disk.Disk.{Ghosts}
 use Rattle.httparse.specs.Grammar as grammar
 use Rattle.revisit_table.specs.Table.{Table}
@@ -41,6 +43,8 @@ use Rattle.archive_shelf.specs.declared.receipt.Receipt.{Receipt}
 use Rattle.archive_core.specs.Basis.{StoringBasis}
 use Rattle.archive_volumes.specs.Entries.{EntersAs, IsEntryAt, entered}
 use Rattle.archive_volumes.specs.Held.{book_of, stored_in}
+use Rattle.archive_core.proofs.FinishedLaws.{ready_grows, room_grows}
+use Rattle.archive_core.specs.Finished.{FirstAreFinished}
 use Rattle.archive_core.specs.Holdings.{AreLimits, Holdings, IsArchive, contents_of}
 use Rattle.archive_core.specs.Looking.{IsDigestOf, RefersTo}
 use Rattle.archive_volumes.specs.Ready.{CanCommit, Incoming, IsReady, record_in}
@@ -70,7 +74,7 @@ use Rattle.archive_volumes.proofs.WayLaws.{by_rule, group_with, needed_by, room_
 
 module _ {D : Type 0} (d : Ghosts D) (was is : Holdings D) (journal_is : is.journal ≡ was.journal) (book_is : is.book ≡ was.book)
     (index_is : is.index ≡ was.index) (limits_is : is.limits ≡ was.limits) (found_is : is.found ≡ was.found)
-    (told_is : is.told ≡ was.told) where
+    (told_is : is.told ≡ was.told) (settled_is : is.settled ≡ was.settled) where
   pub memory_archive : IsArchive d was → is.spots ≡ was.spots → is.table.kept ≡ was.table.kept → is.revisits ≡ was.revisits → IsArchive d is
   memory_archive archive spots_are kept revisits_are =
       let count : length (captures is.book) ≡ length (captures was.book) = ap (λ (b : Book). length (captures b)) book_is in
@@ -85,6 +89,7 @@ module _ {D : Type 0} (d : Ghosts D) (was is : Holdings D) (journal_is : is.jour
           found = omega (arith, count, archive.counted.found, found_is);
           below = λ entry has. omega (arith, count, archive.counted.below entry (subst (λ (l : List Facts). Contains l entry) index_is has));
           limits = subst AreLimits (sym limits_is) archive.counted.limits;
+          sealed = omega (arith, archive.counted.sealed, settled_is, ap (λ (b : Book). length b.volumes) book_is);
         };
         spots = subst (λ (l : List Spot). AreSpotsOf is.book l) (sym spots_are) (subst (λ (b : Book). AreSpotsOf b was.spots) (sym book_is) archive.spots);
         table = kept ∙ archive.table ∙ sym (ap (λ (l : List Spot). whole_from 0 l) spots_are);
@@ -97,6 +102,9 @@ module _ {D : Type 0} (d : Ghosts D) (was is : Holdings D) (journal_is : is.jour
         made = λ untold. subst (λ (l : List Spot). AreHeldWhole is.book l) (sym spots_are)
             (subst (λ (b : Book). AreHeldWhole b was.spots) (sym book_is) (archive.made (sym told_is ∙ untold)));
         known = λ told. subst (λ (l : List Facts). AreOf is.book l) (sym index_is) (subst (λ (b : Book). AreOf b was.index) (sym book_is) (archive.known (sym told_is ∙ told)));
+        settled = λ told. subst (λ (n : ℕ). Leaves (d.images (disk_of is.journal)) (FirstAreFinished is.book n)) (sym settled_is)
+            (subst (λ (b : Book). Leaves (d.images (disk_of is.journal)) (FirstAreFinished b was.settled)) (sym book_is)
+            (subst (λ (j : Journal D). Leaves (d.images (disk_of j)) (FirstAreFinished was.book was.settled)) (sym journal_is) (archive.settled (sym told_is ∙ told))));
       }
 
   opened_by : (t : ℕ) (x : Book) → (told_of d is).crash.openings t x → (told_of d was).crash.openings t x
@@ -416,9 +424,12 @@ module _ {D : Type 0} (d : Ghosts D) (basis : StoringBasis) (was : Holdings D) (
             (λ (more : after ≡ room). ap (λ (b : Book). captures b) more ∙ room_captures book ready.prepared)
             left
 
-        pub refused_archive : IsArchive d (record was { journal = journal; book = after; table = table; index = index; spots = spots })
-        refused_archive =
-            archive_left d (in_volumes was now) u.is journal after table holds measured index spots captures_stay index_stays table_is spots_are within placed made
+        pub refused_archive : {T E : Type 0} (fault : E)
+            → Writes {T = T} {E = E} (muted was.told d) (disk_of now.journal) (disk_of journal) (book_of now.held) (with_prepared (book_of now.held) ready.prepared)
+            (with_capture (with_prepared (book_of now.held) ready.prepared) (stored_in ready.stored)) after (Err fault)
+            → IsArchive d (record was { journal = journal; book = after; table = table; index = index; spots = spots })
+        refused_archive fault writes =
+            archive_left d (in_volumes was now) u.is journal after table holds measured (room_grows book after ready.prepared left) writes.kept index spots captures_stay index_stays table_is spots_are within placed made
             (λ told. known_left basis.stay basis.itself book after ready.prepared was.index left (u.is.known told))
 
         pub refused_stores : {T E : Type 0} (fault : E)
@@ -478,10 +489,14 @@ module _ {D : Type 0} (d : Ghosts D) (basis : StoringBasis) (was : Holdings D) (
         gains : captures after ≡ captures book ++ stored ∷ []
         gains = ap (λ (b : Book). captures b) stored_is ∙ room_gains book ready.prepared stored some
 
-        pub stored_archive : IsIndex index → revisits ≡ was.revisits + (if is_some incoming.same then 1 else 0)
+        pub stored_archive : {T E : Type 0} (value : T)
+            → Writes {T = T} {E = E} (muted was.told d) (disk_of now.journal) (disk_of journal) (book_of now.held) (with_prepared (book_of now.held) ready.prepared)
+            (with_capture (with_prepared (book_of now.held) ready.prepared) (stored_in ready.stored)) after (Ok value)
+            → IsIndex index → revisits ≡ was.revisits + (if is_some incoming.same then 1 else 0)
             → IsArchive d (record was { journal = journal; book = after; table = table; index = index; spots = spots; revisits = revisits })
-        stored_archive indexed more =
-            archive_stored d (in_volumes was now) u.is journal after table holds measured stored index spots revisits gains u.not_full
+        stored_archive value writes indexed more =
+            archive_stored d (in_volumes was now) u.is journal after table holds measured
+            (subst (Grows book) (sym with_it) (ready_grows book ready.prepared (stored_in ready.stored))) writes.kept stored index spots revisits gains u.not_full
             (subst (λ (l : List Facts). (l ≡ was.index) ⊎ ((e : Facts) × (e.number ≡ number) × (l ≡ with_entry e was.index))) (sym index_is)
             (entered_by number entry was.index numbered_so))
             indexed

@@ -15,7 +15,7 @@ pub fused_is : (held : Holdings MemoryDisk) (calls : ℕ) → IsArchive ghosts h
 fused_is held calls is = record {
   holds = record { tells = is.holds.tells; in_step = is.holds.in_step; texts_are = is.holds.texts_are; sound = is.holds.sound; near = is.holds.near };
   measured = record { count = is.measured.count; filled = is.measured.filled; ends = is.measured.ends; begins = is.measured.begins };
-  counted = record { few = is.counted.few; revisits = is.counted.revisits; found = is.counted.found; below = is.counted.below; limits = is.counted.limits };
+  counted = record { few = is.counted.few; revisits = is.counted.revisits; found = is.counted.found; below = is.counted.below; limits = is.counted.limits; sealed = is.counted.sealed };
   spots = is.spots;
   table = is.table;
   indexed = is.indexed;
@@ -23,4 +23,5 @@ fused_is held calls is = record {
   placed = is.placed;
   made = is.made;
   known = is.known;
+  settled = is.settled;
 }

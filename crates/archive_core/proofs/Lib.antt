@@ -7,6 +7,7 @@ pub mod ExitLaws
 pub mod FaultLaws
 pub mod FillLaws
 pub mod FindingLaws
+pub mod FinishedLaws
 pub mod FuseLaws
 pub mod IndexLaws
 pub mod KeepingLaws

@@ -1,10 +1,12 @@
 -- An archive after a call that only reads its disk.
 use Rattle.std.proofs.Common.{◌≡◌, ℕ, ◌<◌, ◌≤◌, IsTrue, List, Result, Ok, Err, sym, ap, subst, ◌∙◌, arith}
 use Rattle.std.specs.Prelude.{count_by, length}
+use Rattle.capture.proofs.GrowthLaws.{grows_from_itself}
 use Rattle.capture.specs.Captures.{captures}
 use Rattle.capture.specs.declared.book.Book.{Book}
 use Rattle.capture.specs.declared.captured.Brought.{Brought}
 use Rattle.cdxj_index.specs.OfBook.{AreOf, IsEntryOf}
+use Rattle.disk_model.specs.Crash.{Leaves}
 use Rattle.disk_model.specs.Image.{Image}
 use Rattle.disk_model.specs.declared.disk.Disk.{Ghosts}
 use Rattle.warc_journal.specs.Extents.{texts_in, warc_files}
@@ -18,6 +20,8 @@ use Rattle.archive_shelf.specs.declared.fault.BringFault.{BringFault}
 use Rattle.archive_shelf.specs.declared.fault.BringFault.TheVariants as brings
 use Rattle.archive_volumes.specs.Bringing.{BringsFrom, OnlyReads}
 use Rattle.archive_volumes.specs.Held.{book_of}
+use Rattle.archive_core.proofs.FinishedLaws.{first_stay}
+use Rattle.archive_core.specs.Finished.{FirstAreFinished}
 use Rattle.archive_core.specs.Holdings.{Holdings, IsArchive, contents_of}
 use Rattle.archive_core.specs.Looking.{OnlyLooks}
 use Rattle.archive_volumes.specs.Spots.{AreHeldWhole, ArePlaced, AreSpotsOf, AreWithin}
@@ -51,6 +55,7 @@ module _ {D : Type 0} (d : Ghosts D) (held : Holdings D) (old new : Volumes D)
       found = omega (arith, is.counted.found, ap (λ (b : Book). length (captures b)) same_book);
       below = λ entry has. omega (arith, is.counted.below entry has, ap (λ (b : Book). length (captures b)) same_book);
       limits = is.counted.limits;
+      sealed = omega (arith, is.counted.sealed, ap (λ (b : Book). length b.volumes) same_book);
     };
     spots = subst (λ (b : Book). AreSpotsOf b held.spots) (sym same_book) is.spots;
     table = is.table;
@@ -60,6 +65,10 @@ module _ {D : Type 0} (d : Ghosts D) (held : Holdings D) (old new : Volumes D)
         (subst (λ (all : List (List ℕ)). ArePlaced all held.book held.spots) (sym (same_texts (is.holds.tells told))) (is.placed told));
     made = λ untold. subst (λ (b : Book). AreHeldWhole b held.spots) (sym same_book) (is.made untold);
     known = λ told. subst (λ (b : Book). AreOf b held.index) (sym same_book) (is.known told);
+    settled = λ told. subst (λ (b : Book). Leaves (d.images (disk_of new.journal)) (FirstAreFinished b held.settled)) (sym same_book)
+        (first_stay d held.told (disk_of held.journal) (disk_of new.journal) held.book held.book held.settled (grows_from_itself held.book) is.counted.sealed
+        (quiet_muted d held.told is.holds.tells (disk_of held.journal) (disk_of new.journal)
+        (subst (λ (j : Journal D). IsQuiet d (disk_of j) (disk_of new.journal)) (sym journal_is) reads.quiet)).kept is.settled told);
   }
 
   pub looks : (IsTrue held.told → IsTrue d.tells) → OnlyLooks d held (record held { journal = new.journal; book = book_of new.held })

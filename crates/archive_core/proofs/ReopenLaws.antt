@@ -141,6 +141,7 @@ module _ {D : Type 0} (d : Ghosts D) (told : Bool) (journal : Journal D) (book :
         limits = limits;
         found = found;
         revisits = revisits;
+        settled = 0;
         told = told;
       })
   made_archive limits found revisits holds measured are_limits found_is revisits_is = record {
@@ -152,6 +153,7 @@ module _ {D : Type 0} (d : Ghosts D) (told : Bool) (journal : Journal D) (book :
       found = omega (arith, found_is, parts.0.count);
       below = λ entry has. slice_get_within (captures book) entry.number (of_index.each entry has).group.stored (of_index.each entry has).group.placed;
       limits = are_limits;
+      sealed = omega arith;
     };
     spots = parts.1;
     table = parts.0.table_is;
@@ -160,6 +162,7 @@ module _ {D : Type 0} (d : Ghosts D) (told : Bool) (journal : Journal D) (book :
     placed = parts.4;
     made = parts.5;
     known = λ so. of_index;
+    settled = λ so image left k less. absurd (omega (arith, less));
   }
 
 -- ---- what isn't refused

@@ -13,15 +13,17 @@ use Rattle.warc_journal.specs.Extents.{cdxj_files}
 use Rattle.warc_journal.specs.Journals.{disk_of, last_len, texts}
 use Rattle.warc_journal.specs.declared.journal.Journal.{Journal}
 use Rattle.warc_text.specs.Records.{info_text}
+use Rattle.archive_shelf.specs.Openings.{KeepsCheckpoints}
 use Rattle.archive_shelf.specs.Entering.{EntriesStayAll}
 use Rattle.archive_shelf.proofs.StoringLaws.{captures_stay, volume_grows}
 use Rattle.archive_shelf.specs.Storing.{is_revisit, new_volume, rolled_in, with_volume}
 use Rattle.archive_shelf.specs.declared.fault.RollFault.{RollFault}
 use Rattle.archive_shelf.specs.declared.fault.RollFault.TheVariants as rolls
 use Rattle.archive_volumes.specs.Held.{is_filled}
+use Rattle.archive_core.proofs.FinishedLaws.{first_stay, sealed_later}
 use Rattle.archive_core.specs.Holdings.{Holdings, IsArchive}
 use Rattle.archive_core.specs.Rolling.{MayBeRefused, Rolls, WritesNoVolume}
-use Rattle.archive_volumes.specs.Volumes.{HoldsBook, IsMeasured, Makes, muted}
+use Rattle.archive_volumes.specs.Volumes.{HoldsBook, IsMeasured, Makes, crash_of, muted}
 use Rattle.archive_volumes.proofs.SpotLaws.{GoOn, made_stay, placed_stay, spots_stay, within_stay}
 
 -- ---- the volumes
@@ -78,9 +80,10 @@ texts_stay was = record { count = omega arith; rest = λ k. []; each = λ k less
 -- an archive stays one where its volumes go on and no capture is gained
 pub stays_archive : {D : Type 0} (d : Ghosts D) → EntriesStayAll → (was : Holdings D) (journal : Journal D) (book : Book)
     → IsArchive d was → HoldsBook d was.told journal book → IsMeasured journal book → captures book ≡ captures was.book → Grows was.book book
+    → KeepsCheckpoints (crash_of (muted was.told d) (disk_of was.journal)) (crash_of (muted was.told d) (disk_of journal))
     → (IsTrue d.tells → GoOn (texts d was.journal) (texts d journal))
     → IsArchive d (record was { journal = journal; book = book })
-stays_archive d entries_stay was journal book is holds measured same grows on = record {
+stays_archive d entries_stay was journal book is holds measured same grows kept on = record {
   holds = holds;
   measured = measured;
   counted = record {
@@ -89,6 +92,7 @@ stays_archive d entries_stay was journal book is holds measured same grows on = 
     found = omega (arith, is.counted.found, ap length same);
     below = λ entry has. omega (arith, is.counted.below entry has, ap length same);
     limits = is.counted.limits;
+    sealed = sealed_later was.book book was.settled grows is.counted.sealed;
   };
   spots = spots_stay was.book book same grows was.spots is.spots;
   table = is.table;
@@ -98,6 +102,7 @@ stays_archive d entries_stay was journal book is holds measured same grows on = 
       (same ∙ sym (append-nil (captures was.book))) grows was.spots (is.placed told);
   made = λ untold. made_stay was.book book [] (same ∙ sym (append-nil (captures was.book))) grows was.spots (is.made untold);
   known = λ told. entries_stay was.book book was.index grows same (is.known told);
+  settled = first_stay d was.told (disk_of was.journal) (disk_of journal) was.book book was.settled grows is.counted.sealed kept is.settled;
 }
 
 -- ---- a roll
@@ -174,21 +179,23 @@ module _ {D : Type 0} (d : Ghosts D) (was : Holdings D) (now : ℕ) where
     }
 
     pub begun_archive : EntriesStayAll → IsArchive d was → HoldsBook d was.told journal book → IsMeasured journal book
+        → KeepsCheckpoints (crash_of (muted was.told d) (disk_of was.journal)) (crash_of (muted was.told d) (disk_of journal))
         → book ≡ with_volume was.book now → (info : List ℕ) → (IsTrue d.tells → texts d journal ≡ texts d was.journal ++ info ∷ [])
         → IsArchive d (record was { journal = journal; book = book })
-    begun_archive entries_stay is holds measured with_it info goes_on =
+    begun_archive entries_stay is holds measured kept with_it info goes_on =
         stays_archive d entries_stay was journal book is holds measured
         (ap (λ (b : Book). captures b) with_it ∙ captures_stay was.book.volumes now)
-        (subst (λ (b : Book). Grows was.book b) (sym with_it) (volume_grows was.book now))
+        (subst (λ (b : Book). Grows was.book b) (sym with_it) (volume_grows was.book now)) kept
         (λ told. subst (λ (after : List (List ℕ)). GoOn (texts d was.journal) after) (sym (goes_on told)) (texts_go_on (texts d was.journal) info))
 
     pub refused_archive : EntriesStayAll → Grows was.book was.book → IsArchive d was → HoldsBook d was.told journal book → IsMeasured journal book
+        → KeepsCheckpoints (crash_of (muted was.told d) (disk_of was.journal)) (crash_of (muted was.told d) (disk_of journal))
         → book ≡ was.book → (IsTrue d.tells → texts d journal ≡ texts d was.journal)
         → IsArchive d (record was { journal = journal; book = book })
-    refused_archive entries_stay itself is holds measured same stays =
+    refused_archive entries_stay itself is holds measured kept same stays =
         stays_archive d entries_stay was journal book is holds measured
         (ap (λ (b : Book). captures b) same)
-        (subst (λ (b : Book). Grows was.book b) (sym same) itself)
+        (subst (λ (b : Book). Grows was.book b) (sym same) itself) kept
         (λ told. subst (λ (after : List (List ℕ)). GoOn (texts d was.journal) after) (sym (stays told)) (texts_stay (texts d was.journal)))
 
 -- what is said of a journal and a book is said of the same ones

@@ -1,6 +1,7 @@
 -- An archive whose checkpoints were written.
-use Rattle.std.proofs.Common.{◌≡◌, ℕ, IsTrue, List, Result, Ok, Err, sym, ap, subst, arith}
-use Rattle.std.specs.Prelude.{IfOk}
+use Rattle.std.proofs.Common.{◌≡◌, ℕ, ◌-◌, IsTrue, List, length, Result, Ok, Err, sym, ap, subst, arith}
+use Rattle.std.specs.Prelude.{IfOk, OnOk}
+use Rattle.disk_model.specs.Crash.{Leaves}
 use Rattle.disk_model.specs.declared.disk.Disk.{Ghosts}
 use Rattle.warc_journal.specs.Journals.{disk_of}
 use Rattle.warc_journal.specs.declared.extent.Extent.{Extent}
@@ -12,30 +13,49 @@ use Rattle.archive_volumes.specs.Spots.{ArePlaced, AreWithin}
 use Rattle.archive_volumes.specs.Volumes.{HoldsBook, IsMeasured}
 use Rattle.archive_volumes.specs.declared.held.Held.{Held}
 use Rattle.archive_volumes.specs.declared.volumes.Volumes.{Volumes}
+use Rattle.archive_core.specs.Finished.{FirstAreFinished, HasCheckpoint}
 use Rattle.archive_core.specs.Holdings.{Holdings, IsArchive}
 use Rattle.archive_core.specs.Looking.{OnlyLooks}
-use Rattle.archive_core.specs.Settling.{LeavesCheckpoints, Settles, SettlesOn}
-use Rattle.archive_core.specs.steps.Supplying.{GoesThrough, IsStill, KeepsVolumes}
+use Rattle.archive_core.specs.Settling.{HasWithout, LeavesCheckpoints, Settles, SettlesOn}
+use Rattle.archive_core.specs.steps.Supplying.{GoesThrough, IsStill, KeepsVolumes, KnowsMore}
 use Rattle.archive_core.proofs.KeepingLaws.{measured_kept, opens_told, quiet_told, texts_kept}
 
 answer : Result ℕ CheckpointFault → ℕ
 answer (Ok n) = n
 answer (Err fault) = 1
 
--- the archive, by what it holds beside its volumes
-abbrev pub over : {D : Type 0} → Holdings D → Volumes D → Holdings D
-over base volumes = record base { journal = volumes.journal; book = book_of volumes.held }
+-- the archive, by what it holds beside its volumes, and how many checkpoints are known to be finished
+abbrev pub over : {D : Type 0} → Holdings D → Volumes D → ℕ → Holdings D
+over base volumes settled = record base { journal = volumes.journal; book = book_of volumes.held; settled = settled }
 
-module _ {D : Type 0} (d : Ghosts D) (laws : DiskLaws d) (base : Holdings D) (old new : Volumes D) (keeps : KeepsVolumes d base.told old new)
-    (is : IsArchive d (over base old)) where
-  other_book : over base new ≡ record base { journal = new.journal; book = book_of old.held }
-  other_book = ap (λ (h : Held). record base { journal = new.journal; book = book_of h }) keeps.held
+on_ok : {P Q : Type 0} (r : Result ℕ CheckpointFault) → (P → Q) → OnOk r P → OnOk r Q
+on_ok (Ok n) gives p = gives p
+on_ok (Err fault) gives p = tt
 
-  pub settled_archive : IsArchive d (over base new)
+module _ {D : Type 0} (d : Ghosts D) (laws : DiskLaws d) (base : Holdings D) (old new : Volumes D) (known now : ℕ)
+    (keeps : KeepsVolumes d base.told old new) (is : IsArchive d (over base old known)) (result : Result ℕ CheckpointFault)
+    (went : IsTrue d.tells → GoesThrough d base.told (book_of old.held) now (disk_of old.journal) (disk_of new.journal) result)
+    (knows : KnowsMore (book_of old.held) known now result) where
+  other_book : over base new now ≡ record base { journal = new.journal; book = book_of old.held; settled = now }
+  other_book = ap (λ (h : Held). record base { journal = new.journal; book = book_of h; settled = now }) keeps.held
+
+  first : (r : Result ℕ CheckpointFault) → GoesThrough d base.told (book_of old.held) now (disk_of old.journal) (disk_of new.journal) r
+      → IsTrue base.told → Leaves (d.images (disk_of new.journal)) (FirstAreFinished (book_of old.held) now)
+  first (Ok n) through told = through.settled told
+  first (Err fault) through told = through.settled told
+
+  pub settled_archive : IsArchive d (over base new now)
   settled_archive = subst (IsArchive d) (sym other_book) (record {
     holds = subst (λ (h : Held). HoldsBook d base.told new.journal (book_of h)) keeps.held keeps.holds;
     measured = subst (λ (h : Held). IsMeasured new.journal (book_of h)) keeps.held (measured_kept d laws base.told old new keeps is.measured);
-    counted = record { few = is.counted.few; revisits = is.counted.revisits; found = is.counted.found; below = is.counted.below; limits = is.counted.limits };
+    counted = record {
+      few = is.counted.few;
+      revisits = is.counted.revisits;
+      found = is.counted.found;
+      below = is.counted.below;
+      limits = is.counted.limits;
+      sealed = knows.within;
+    };
     spots = is.spots;
     table = is.table;
     indexed = is.indexed;
@@ -44,27 +64,28 @@ module _ {D : Type 0} (d : Ghosts D) (laws : DiskLaws d) (base : Holdings D) (ol
         (sym (texts_kept d laws base.told old new keeps (is.holds.tells told))) (is.placed told);
     known = is.known;
     made = is.made;
+    settled = λ told. first result (went (is.holds.tells told)) told;
   })
 
+  left : (r : Result ℕ CheckpointFault) → GoesThrough d base.told (book_of old.held) now (disk_of old.journal) (disk_of new.journal) r
+      → LeavesCheckpoints d base.told (book_of old.held) (disk_of old.journal) (disk_of new.journal)
+  left (Ok n) through = through.left
+  left (Err fault) through = through.left
+
   module _ (reads : IsTrue d.tells → d.images (disk_of new.journal) (d.reading (disk_of new.journal))) where
-    left : (result : Result ℕ CheckpointFault) → GoesThrough d base.told (book_of old.held) (disk_of old.journal) (disk_of new.journal) result
-        → LeavesCheckpoints d base.told (book_of old.held) (disk_of old.journal) (disk_of new.journal)
-    left (Ok n) went = went.left
-    left (Err fault) went = went
-
-    settles : (result : Result ℕ CheckpointFault) → IsTrue base.told
-        → GoesThrough d base.told (book_of old.held) (disk_of old.journal) (disk_of new.journal) result
-        → IfOk result (Settles d (book_of old.held) (disk_of old.journal) (disk_of new.journal))
-    settles (Ok n) told went = record {
-      reading = λ k less. went.settled told (d.reading (disk_of new.journal)) (reads (is.holds.tells told)) k (omega (arith, less));
-      images = λ image now k less. went.settled told image now k (omega (arith, less));
-      number = went.counted told;
+    settles : (r : Result ℕ CheckpointFault) → IsTrue base.told → KnowsMore (book_of old.held) known now r
+        → GoesThrough d base.told (book_of old.held) now (disk_of old.journal) (disk_of new.journal) r
+        → IfOk r (Settles d (book_of old.held) (disk_of old.journal) (disk_of new.journal))
+    settles (Ok n) told more through = record {
+      reading = λ k less. through.settled told (d.reading (disk_of new.journal)) (reads (is.holds.tells told)) k (omega (arith, less, more.all));
+      images = λ image left k less. through.settled told image left k (omega (arith, less, more.all));
+      number = subst (λ (k : ℕ). HasWithout (λ j. HasCheckpoint (book_of old.held) j (d.reading (disk_of old.journal))) k n) more.all (through.counted told);
     }
-    settles (Err fault) told went = tt
+    settles (Err fault) told more through = tt
 
-    looks : (IsTrue d.tells → IsStill d (disk_of old.journal) (disk_of new.journal)) → OnlyLooks d (over base old) (over base new)
+    looks : (IsTrue d.tells → IsStill d (disk_of old.journal) (disk_of new.journal)) → OnlyLooks d (over base old known) (over base new known)
     looks still = record {
-      others = other_book;
+      others = ap (λ (h : Held). record base { journal = new.journal; book = book_of h; settled = known }) keeps.held;
       ends = ap (λ (e : Extent). e.end) keeps.extent;
       reading = λ tells. (still tells).reading;
       unwritten = record {
@@ -73,23 +94,25 @@ module _ {D : Type 0} (d : Ghosts D) (laws : DiskLaws d) (base : Holdings D) (ol
       };
     }
 
-    none : (result : Result ℕ CheckpointFault)
-        → (IsTrue d.tells → GoesThrough d base.told (book_of old.held) (disk_of old.journal) (disk_of new.journal) result) → result ≡ Ok 0
-        → OnlyLooks d (over base old) (over base new)
+    none : (r : Result ℕ CheckpointFault)
+        → (IsTrue d.tells → GoesThrough d base.told (book_of old.held) now (disk_of old.journal) (disk_of new.journal) r) → r ≡ Ok 0
+        → OnlyLooks d (over base old known) (over base new known)
     unfolding answer
-    none (Ok n) went same = looks (λ tells. (went tells).none (ap answer same))
-    none (Err fault) went same = absurd (omega (arith, ap answer same))
+    none (Ok n) through same = looks (λ tells. (through tells).none (ap answer same))
+    none (Err fault) through same = absurd (omega (arith, ap answer same))
 
-    pub settles_on : (result : Result ℕ CheckpointFault)
-        → (IsTrue d.tells → GoesThrough d base.told (book_of old.held) (disk_of old.journal) (disk_of new.journal) result)
+    pub settles_on : (known ≡ length (book_of old.held).volumes - 1 → OnOk result (new ≡ old))
         → CountsDisk (d.faults (disk_of old.journal)) (d.faults (disk_of new.journal)) result
-        → SettlesOn d (over base old) (over base new) result
-    settles_on result went faults = record {
+        → SettlesOn d (over base old known) (over base new now) result
+    settles_on unasked faults = record {
       others = other_book;
+      known = knows.more;
+      all = knows.all;
+      unasked = λ all. on_ok result (λ same. ap (λ (v : Volumes D). v.journal) same) (unasked all);
       extent = keeps.extent;
       faults = faults;
       leaves = λ tells. left result (went tells);
       opens = opens_told d base.told is.holds.tells (disk_of old.journal) (disk_of new.journal) keeps.opens;
-      settles = λ told. settles result told (went (is.holds.tells told));
+      settles = λ told. settles result told knows (went (is.holds.tells told));
       none = none result went;
     }

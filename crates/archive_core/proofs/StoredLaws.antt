@@ -3,6 +3,7 @@ use Rattle.std.proofs.Common.{◌≡◌, ◌⊎◌, ℕ, ◌+◌, ◌<◌, Bool,
 use Rattle.std.specs.Prelude.{Contains, count_by}
 use Rattle.std.proofs.lemmas.List.Sums.{sum_by-append, sum_by-cons}
 use Rattle.capture.specs.Captures.{captures}
+use Rattle.capture.specs.Growth.{Grows}
 use Rattle.capture.specs.declared.book.Book.{Book}
 use Rattle.capture.specs.declared.captured.Stored.{Stored}
 use Rattle.cdxj_index.specs.Facts.{Facts}
@@ -11,13 +12,15 @@ use Rattle.cdxj_index.specs.Order.{with_entry}
 use Rattle.cdxj_index.specs.Queries.{IsIndex}
 use Rattle.disk_model.specs.declared.disk.Disk.{Ghosts}
 use Rattle.revisit_table.specs.Table.{Table}
-use Rattle.warc_journal.specs.Journals.{texts}
+use Rattle.warc_journal.specs.Journals.{disk_of, texts}
 use Rattle.warc_journal.specs.declared.journal.Journal.{Journal}
 use Rattle.archive_shelf.proofs.EntryLaws.{contains_entry}
+use Rattle.archive_shelf.specs.Openings.{KeepsCheckpoints}
 use Rattle.archive_shelf.specs.Storing.{is_revisit}
+use Rattle.archive_core.proofs.FinishedLaws.{first_stay, sealed_later}
 use Rattle.archive_core.specs.Holdings.{Holdings, IsArchive}
 use Rattle.archive_volumes.specs.Spots.{AreHeldWhole, ArePlaced, AreSpotsOf, AreWithin, whole_from}
-use Rattle.archive_volumes.specs.Volumes.{HoldsBook, IsMeasured}
+use Rattle.archive_volumes.specs.Volumes.{HoldsBook, IsMeasured, crash_of, muted}
 use Rattle.archive_volumes.specs.declared.spot.Spot.{Spot}
 
 one_more : (b : Bool) (n : ℕ) → n + (cond b 1 0 + 0) ≡ n + (if b then 1 else 0)
@@ -34,7 +37,8 @@ revisits_more all stored =
     ∙ one_more (is_revisit stored.kept) (count_by (λ (s : Stored). is_revisit s.kept) all)
 
 module _ {D : Type 0} (d : Ghosts D) (was : Holdings D) (is : IsArchive d was) (journal : Journal D) (now : Book) (table : Table)
-    (holds : HoldsBook d was.told journal now) (measured : IsMeasured journal now) where
+    (holds : HoldsBook d was.told journal now) (measured : IsMeasured journal now) (grows : Grows was.book now)
+    (left : KeepsCheckpoints (crash_of (muted was.told d) (disk_of was.journal)) (crash_of (muted was.told d) (disk_of journal))) where
   -- a book with the same captures is held: nothing was stored, but a volume may have been begun
   pub archive_left : (index : List Facts) (spots : List Spot) → captures now ≡ captures was.book → index ≡ was.index
       → table.kept ≡ whole_from 0 spots → AreSpotsOf now spots
@@ -52,6 +56,7 @@ module _ {D : Type 0} (d : Ghosts D) (was : Holdings D) (is : IsArchive d was) (
           found = omega (arith, count, is.counted.found);
           below = λ entry has. omega (arith, count, is.counted.below entry (subst (λ (l : List Facts). Contains l entry) stays has));
           limits = is.counted.limits;
+          sealed = sealed_later was.book now was.settled grows is.counted.sealed;
         };
         spots = are;
         table = kept;
@@ -60,6 +65,7 @@ module _ {D : Type 0} (d : Ghosts D) (was : Holdings D) (is : IsArchive d was) (
         placed = placed;
         made = made;
         known = λ told. subst (λ (l : List Facts). AreOf now l) (sym stays) (known told);
+        settled = first_stay d was.told (disk_of was.journal) (disk_of journal) was.book now was.settled grows is.counted.sealed left is.settled;
       }
 
   -- a capture more is held
@@ -93,6 +99,7 @@ module _ {D : Type 0} (d : Ghosts D) (was : Holdings D) (is : IsArchive d was) (
               (contains_entry new.0 was.index entry (subst (λ (l : List Facts). Contains l entry) new.2 has)))
               entered;
           limits = is.counted.limits;
+          sealed = sealed_later was.book now was.settled grows is.counted.sealed;
         };
         spots = are;
         table = kept;
@@ -101,4 +108,5 @@ module _ {D : Type 0} (d : Ghosts D) (was : Holdings D) (is : IsArchive d was) (
         placed = placed;
         made = made;
         known = known;
+        settled = first_stay d was.told (disk_of was.journal) (disk_of journal) was.book now was.settled grows is.counted.sealed left is.settled;
       }

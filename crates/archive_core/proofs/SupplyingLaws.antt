@@ -1,9 +1,9 @@
 -- The checkpoints of volumes, written one behind the other: what that leaves on a disk.
-use Rattle.std.proofs.Common.{◌≡◌, ◌≢◌, ◌⊎◌, ℕ, zero, suc, ◌+◌, ◌<◌, ◌≤◌, Bool, true, false, IsTrue, List, [], length, get_or, Result, Ok, Err, refl, sym, ap, subst, ◌∙◌, inl, inr, ⊎_elim, arith}
+use Rattle.std.proofs.Common.{◌≡◌, ◌≢◌, ◌⊎◌, ℕ, zero, suc, ◌+◌, ◌<◌, ◌≤◌, Bool, true, false, IsTrue, List, length, Result, Ok, Err, refl, sym, ap, subst, ◌∙◌, inl, inr, ⊎_elim, arith}
 use Rattle.std.proofs.lemmas.Bool.{cases_order}
 use Rattle.capture.specs.declared.book.Book.{Book}
 use Rattle.disk_model.specs.Crash.{Leaves}
-use Rattle.disk_model.specs.Image.{Image, file_count, file_of}
+use Rattle.disk_model.specs.Image.{Image, file_count}
 use Rattle.disk_model.proofs.MomentLaws.{now_has}
 use Rattle.disk_model.specs.declared.disk.Disk.{Ghosts}
 use Rattle.disk_model.specs.declared.kind.Kind.TheVariants.{Cdxj}
@@ -17,29 +17,11 @@ use Rattle.checkpoint.specs.Putting.{HasPut, HoldsCheckpoint, IsBeside, IsWritte
 use Rattle.checkpoint.specs.declared.fault.CheckpointFault.{CheckpointFault}
 use Rattle.archive_volumes.proofs.ChangeLaws.{DiskLaws, quiet_by}
 use Rattle.archive_volumes.proofs.StoreLaws.{quiet_itself, quiet_on}
+use Rattle.archive_core.proofs.FinishedLaws.{has_still, same_checkpoint, same_count}
 use Rattle.archive_core.proofs.MissingLaws.{is_there}
-use Rattle.archive_core.specs.Settling.{GoesWith, HasCheckpoint, HasWithout, IsMissing, IsSupplied, LeavesCheckpoints, StaysFinished, Supplies, WritesMissing}
-use Rattle.archive_core.specs.steps.Supplying.{GoesTo, IsStill, Went}
-
--- ---- images with the same checkpoints
-
-pub same_checkpoint : (a b : Image) → cdxj_files a ≡ cdxj_files b → (k : ℕ) → checkpoint_of a k ≡ checkpoint_of b k
-unfolding file_of
-same_checkpoint a b same k = ap (λ (files : List (List ℕ)). get_or files k []) same
-
-same_count : (a b : Image) → cdxj_files a ≡ cdxj_files b → file_count a Cdxj ≡ file_count b Cdxj
-same_count a b same = ap (λ (files : List (List ℕ)). length files) same
-
-has_still : (book : Book) (k : ℕ) (before image : Image) → checkpoint_of image k ≡ checkpoint_of before k → file_count before Cdxj ≤ file_count image Cdxj
-    → HasCheckpoint book k before → HasCheckpoint book k image
-has_still book k before image same count has = record {
-  lines = has.lines;
-  holds = record {
-    there = omega (arith, has.holds.there, count);
-    finished = subst (λ (bytes : List ℕ). IsCheckpoint k has.lines bytes) (sym same) has.holds.finished;
-  };
-  are = has.are;
-}
+use Rattle.archive_core.specs.Finished.{FirstAreFinished, HasCheckpoint}
+use Rattle.archive_core.specs.Settling.{GoesWith, HasWithout, IsMissing, IsSupplied, LeavesCheckpoints, StaysFinished, Supplies, WritesMissing}
+use Rattle.archive_core.specs.steps.Supplying.{GoesTo, IsStill, Stopped, Went}
 
 -- ---- checkpoints that go with those from before
 
@@ -130,6 +112,16 @@ pub misses_one : (P : ℕ → Type 0) (k n : ℕ) → (P k → ⊥) → HasWitho
 misses_one P k n hasnt so_far =
     subst (λ (m : ℕ). HasWithout P m (n + 1)) (one_more k) (subst (HasWithout P (suc k)) (one_more n) (inr (hasnt, so_far)))
 
+-- where all have P, none hasn't
+none_without : (P : ℕ → Type 0) (k : ℕ) → ((j : ℕ) → j < k → P j) → HasWithout P k 0
+none_without P zero all = refl
+none_without P (suc k) all = (all k (omega arith), none_without P k (λ j less. all j (omega (arith, less))))
+
+-- where the first checkpoints are finished, their files are there
+all_there : (book : Book) (image : Image) (k : ℕ) → FirstAreFinished book k image → k ≤ file_count image Cdxj
+all_there book image zero first = omega arith
+all_there book image (suc k) first = omega (arith, (first k (omega arith)).holds.there)
+
 -- ---- on a disk
 
 module _ {D : Type 0} (d : Ghosts D) (laws : DiskLaws d) (tells : IsTrue d.tells) where
@@ -215,6 +207,9 @@ module _ {D : Type 0} (d : Ghosts D) (laws : DiskLaws d) (tells : IsTrue d.tells
       none = went.none;
     }
 
+    stopped_at : (k n : ℕ) (now : D) → Went d told book k n from now → Stopped d told book k from now
+    stopped_at k n now went = record { left = went.left; settled = went.settled }
+
     below_or_at : (j k : ℕ) → j < k + 1 → (j < k) ⊎ (j ≡ k)
     below_or_at j k less = ⊎_elim (λ e. inr e) (λ other. inl (⊎_elim (λ l. l) (λ m. absurd (omega (arith, less, m))) other)) (cases_order j k)
 
@@ -263,20 +258,27 @@ module _ {D : Type 0} (d : Ghosts D) (laws : DiskLaws d) (tells : IsTrue d.tells
         }
 
         -- it was written, or that was refused
-        pub left_writes : LeavesCheckpoints d told book from new
+        left_writes : LeavesCheckpoints d told book from new
         left_writes = left_put k lines mid new missed writes.puts went.left
+
+        -- those before it stay finished
+        first_put : IsTrue told → Leaves (d.images new) (FirstAreFinished book k)
+        first_put so image now j less = ⊎_elim
+            (λ was. went.settled so image was j less)
+            (λ has. has_still book j has.before image (has.beside.others j (λ e. omega (arith, less, e)))
+            (count_rises told book (d.reading from) k lines missed (file_count has.before Cdxj) (file_count image Cdxj) has.beside.count)
+            (went.settled so has.before has.was j less))
+            (put_images k lines mid new writes.puts image now)
+
+        pub stopped_writes : Stopped d told book k from new
+        stopped_writes = record { left = left_writes; settled = first_put }
 
         pub went_written : Leaves (d.images new) (HoldsCheckpoint k lines) → d.images new (d.reading new) → Went d told book (k + 1) (n + 1) from new
         went_written only read = record {
           left = left_writes;
           ahead = λ j le. writes.puts.reading.others j (λ e. omega (arith, le, e)) ∙ went.ahead j (omega (arith, le));
           settled = λ so image now j less. ⊎_elim
-              (λ l. ⊎_elim
-              (λ was. went.settled so image was j l)
-              (λ has. has_still book j has.before image (has.beside.others j (λ e. omega (arith, l, e)))
-              (count_rises told book (d.reading from) k lines missed (file_count has.before Cdxj) (file_count image Cdxj) has.beside.count)
-              (went.settled so has.before has.was j l))
-              (put_images k lines mid new writes.puts image now))
+              (first_put so image now j)
               (λ e. subst (λ (m : ℕ). HasCheckpoint book m image) (sym e) (record { lines = lines; holds = only image now; are = are so }))
               (below_or_at j k less);
           there = λ so. omega (arith, (only (d.reading new) read).there);
@@ -292,26 +294,27 @@ module _ {D : Type 0} (d : Ghosts D) (laws : DiskLaws d) (tells : IsTrue d.tells
         went_written k n lines mid new are went one sealed supplied.0 supplied.1 read
     goes_supplied k n lines mid new (Ok false) one sealed are read went supplied = went_kept k n lines mid new are went supplied.0 supplied.1
     goes_supplied k n lines mid new (Err fault) one sealed are read went supplied = ⊎_elim
-        (λ rests. left_still mid new (still_by mid new rests) went.left)
-        (λ writes. left_writes k n lines mid new are went one sealed writes)
+        (λ rests. stopped_at k n new (went_still k n mid new (still_by mid new rests) went))
+        (λ writes. stopped_writes k n lines mid new are went one sealed writes)
         supplied
 
     -- refused before anything was written
     pub goes_refused : (k n : ℕ) (mid new : D) (fault : CheckpointFault) → IsStill d mid new → Went d told book k n from mid
         → GoesTo d told book k n from new (Err fault)
-    goes_refused k n mid new fault still went = left_still mid new still went.left
+    goes_refused k n mid new fault still went = stopped_at k n new (went_still k n mid new still went)
 
-  -- at first none was gone through
-  pub went_none : (told : Bool) (book : Book) (from : D) → Went d told book 0 0 from from
-  went_none told book from = record {
+  -- at first those were gone through that are known to be finished
+  pub went_none : (told : Bool) (book : Book) (k : ℕ) (from : D) → d.images from (d.reading from)
+      → (IsTrue told → Leaves (d.images from) (FirstAreFinished book k)) → Went d told book k 0 from from
+  went_none told book k from read first = record {
     left = record {
       warc = refl;
-      reading = λ k. inl refl;
+      reading = λ j. inl refl;
       images = λ image now. record { before = image; was = now; goes = goes_itself told book (d.reading from) image };
     };
     ahead = λ j le. refl;
-    settled = λ so image now j less. absurd (omega (arith, less));
-    there = λ so. omega arith;
-    counted = λ so. refl;
+    settled = first;
+    there = λ so. all_there book (d.reading from) k (first so (d.reading from) read);
+    counted = λ so. none_without (λ j. HasCheckpoint book j (d.reading from)) k (first so (d.reading from) read);
     none = λ zero_is. record { reading = refl; quiet = quiet_itself d laws from };
   }

@@ -10,8 +10,8 @@ use Rattle.archive_volumes.specs.declared.volume_facts.VolumeFacts.{VolumeFacts}
 use Rattle.disk_model.specs.declared.disk.Disk.{Ghosts}
 use Rattle.checkpoint.specs.declared.fault.CheckpointFault.{CheckpointFault}
 use Rattle.volume_lines.specs.OfGroups.{IsFactsOf}
-use Rattle.archive_core.specs.Settling.{LeavesCheckpoints}
-use Rattle.archive_core.specs.steps.Supplying.{GoesOnBy, Went}
+use Rattle.archive_core.proofs.FinishedLaws.{volume_at}
+use Rattle.archive_core.specs.steps.Supplying.{GoesOnBy, Stopped, Went}
 
 pub many_facts : (volumes : List Volume) (volume first : ℕ) → length (facts_from volume first volumes) ≡ length volumes
 many_facts [] volume first = refl
@@ -51,12 +51,6 @@ captures_within (w ∷ ws) (suc k) v at = omega (
   length-append w.captures (captures_in (take k ws)),
   length-append w.captures (captures_in ws),
 )
-
--- the volume at a place
-volume_at : (volumes : List Volume) (k : ℕ) → k < length volumes → (v : Volume) × (slice_get volumes k ≡ Some v)
-volume_at [] k less = absurd (omega (arith, less))
-volume_at (v ∷ vs) zero less = (v, refl)
-volume_at (v ∷ vs) (suc k) less = volume_at vs k (omega (arith, less))
 
 -- what is told of a sealed volume
 pub record IsSealedFact (book : Book) (k : ℕ) (facts : VolumeFacts) : Type 0 where
@@ -122,5 +116,5 @@ module _ {D : Type 0} (d : Ghosts D) (told : Bool) (was now : Book) (same : now 
       let none : n ≡ n + more = omega (arith, is) in
       subst (λ (m : ℕ). Went d told was (k + 1) m from new) none (goes (Ok false) by from n went)
 
-  pub goes_no_further : (fault : CheckpointFault) → GoesOnBy d told now volume old new (Err fault) → LeavesCheckpoints d told was from new
+  pub goes_no_further : (fault : CheckpointFault) → GoesOnBy d told now volume old new (Err fault) → Stopped d told was k from new
   goes_no_further fault by = goes (Err fault) by from n went

@@ -7,19 +7,22 @@ use Rattle.capture.specs.declared.limits.Limits.{Limits}
 use Rattle.cdxj_index.specs.Facts.{Facts}
 use Rattle.cdxj_index.specs.OfBook.{AreOf}
 use Rattle.cdxj_index.specs.Queries.{IsIndex}
+use Rattle.disk_model.specs.Crash.{Leaves}
 use Rattle.disk_model.specs.declared.disk.Disk.{Ghosts}
 use Rattle.revisit_table.specs.Table.{Table}
-use Rattle.warc_journal.specs.Journals.{texts}
+use Rattle.warc_journal.specs.Journals.{disk_of, texts}
 use Rattle.warc_journal.specs.declared.journal.Journal.{Journal}
 use Rattle.archive_shelf.specs.Contents.{Contents}
 use Rattle.archive_shelf.specs.Storing.{is_revisit}
+use Rattle.archive_core.specs.Finished.{FirstAreFinished}
 use Rattle.archive_core.specs.Shown.{numbered, numbers_from}
 use Rattle.archive_volumes.specs.Spots.{AreHeldWhole, ArePlaced, AreSpotsOf, AreWithin, whole_from}
 use Rattle.archive_volumes.specs.Volumes.{HoldsBook, IsMeasured}
 use Rattle.archive_volumes.specs.declared.spot.Spot.{Spot}
 
 -- What an archive holds: the journal of its volumes and their book, the index, the table of digests, what is kept of each
--- capture, its limits, how many captures it found when it was opened, how many refer to another one, and whether it is told what
+-- capture, its limits, how many captures it found when it was opened, how many refer to another one, how many of the first volumes are
+-- known to have a finished checkpoint, and whether it is told what
 -- the book has.
 pub record Holdings (D : Type 0) : Type 0 where
   pub journal : Journal D
@@ -30,6 +33,7 @@ pub record Holdings (D : Type 0) : Type 0 where
   pub limits : Limits
   pub found : ℕ
   pub revisits : ℕ
+  pub settled : ℕ
   pub told : Bool
 
 -- limits under which all numbers and lengths of an archive can be written down
@@ -44,6 +48,7 @@ pub record IsCounted {D : Type 0} (held : Holdings D) : Type 0 where
   pub found : held.found ≤ length (captures held.book)
   pub below : (entry : Facts) → Contains held.index entry → entry.number < length (captures held.book)
   pub limits : AreLimits held.limits
+  pub sealed : held.settled ≤ length held.book.volumes - 1
 
 -- What holds of an archive at each call: of every disk what doesn't speak of bytes; where the disk tells what it holds, that what is
 -- read of the captures is within the volumes; and where the book is told, which is only of a disk that tells, that they stand there
@@ -60,6 +65,7 @@ pub record IsArchive {D : Type 0} (d : Ghosts D) (held : Holdings D) : Type 0 wh
   pub placed : IsTrue held.told → ArePlaced (texts d held.journal) held.book held.spots
   pub made : IsFalse held.told → AreHeldWhole held.book held.spots
   pub known : IsTrue held.told → AreOf held.book held.index
+  pub settled : IsTrue held.told → Leaves (d.images (disk_of held.journal)) (FirstAreFinished held.book held.settled)
 
 -- what is told of an archive
 abbrev pub contents_of : {D : Type 0} → Holdings D → Contents

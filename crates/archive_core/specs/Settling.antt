@@ -1,5 +1,5 @@
 -- What it leaves to write the checkpoints of sealed volumes: of each volume but the last.
-use Rattle.std.specs.Prelude.{◌≡◌, ◌⊎◌, ℕ, zero, suc, ◌+◌, ◌-◌, ◌<◌, ◌≤◌, Bool, true, false, IsTrue, List, length, IfOk, Result, Ok, Err}
+use Rattle.std.specs.Prelude.{◌≡◌, ◌⊎◌, ℕ, zero, suc, ◌+◌, ◌-◌, ◌<◌, ◌≤◌, Bool, true, false, IsTrue, List, length, IfOk, OnOk, Result, Ok, Err}
 use Rattle.capture.specs.Tails.{IsRest}
 use Rattle.capture.specs.declared.book.Book.{Book}
 use Rattle.disk_model.specs.Crash.{Leaves}
@@ -15,6 +15,7 @@ use Rattle.checkpoint.specs.OfVolume.{AreLinesOf}
 use Rattle.checkpoint.specs.Putting.{HoldsCheckpoint, Puts, commit_byte}
 use Rattle.checkpoint.specs.declared.fault.CheckpointFault.{CheckpointFault}
 use Rattle.archive_shelf.specs.Openings.{CrashStates, Moves, StaysCovered}
+use Rattle.archive_core.specs.Finished.{HasCheckpoint, IsSettled}
 use Rattle.archive_core.specs.Holdings.{Holdings}
 use Rattle.archive_core.specs.Looking.{OnlyLooks}
 use Rattle.archive_core.specs.Told.{told_of}
@@ -45,16 +46,6 @@ Supplies d volume lines old new (Ok false) =
 Supplies d volume lines old new (Err fault) = Rests d old new ⊎ WritesMissing d volume lines old new
 
 -- ---- the checkpoints of a book
-
--- the checkpoint of the book's volume is finished in the image: it has the lines of just that volume's captures
-pub record HasCheckpoint (book : Book) (k : ℕ) (image : Image) : Type 0 where
-  pub lines : List Line
-  pub holds : HoldsCheckpoint k lines image
-  pub are : AreLinesOf book k lines
-
--- each sealed volume's is
-abbrev pub IsSettled : Book → Image → Type 0
-IsSettled book image = (k : ℕ) → k + 1 < length book.volumes → HasCheckpoint book k image
 
 -- a finished checkpoint of the volume; where the book is told, with the lines of the book's volume
 pub record IsFinishedFor (told : Bool) (book : Book) (k : ℕ) (bytes : List ℕ) : Type 0 where
@@ -110,13 +101,17 @@ pub record Settles {D : Type 0} (d : Ghosts D) (book : Book) (old new : D) (n : 
   pub images : Leaves (d.images new) (IsSettled book)
   pub number : HasWithout (λ k. HasCheckpoint book k (d.reading old)) (length book.volumes - 1) n
 
--- What a call leaves that writes the checkpoints which are missing, and answers how many it wrote. All of the archive stays but its disk, and
--- nothing is opened that wasn't before; where it wrote none, the disk stays.
+-- What a call leaves that writes the checkpoints which are missing, and answers how many it wrote. All of the archive stays but its disk and
+-- how many checkpoints are known to be finished, of which none is forgotten; after success all are. Nothing is opened that wasn't before. Where
+-- it wrote none, the disk stays; and it isn't asked where all were known.
 pub record SettlesOn {D : Type 0} (d : Ghosts D) (was is : Holdings D) (result : Result ℕ CheckpointFault) : Type 0 where
-  pub others : is ≡ record was { journal = is.journal }
+  pub others : is ≡ record was { journal = is.journal; settled = is.settled }
+  pub known : was.settled ≤ is.settled
+  pub all : OnOk result (is.settled ≡ length was.book.volumes - 1)
+  pub unasked : was.settled ≡ length was.book.volumes - 1 → OnOk result (is.journal ≡ was.journal)
   pub extent : extent_of is.journal ≡ extent_of was.journal
   pub faults : CountsDisk (d.faults (disk_of was.journal)) (d.faults (disk_of is.journal)) result
   pub leaves : IsTrue d.tells → LeavesCheckpoints d was.told was.book (disk_of was.journal) (disk_of is.journal)
   pub opens : OpensNoMore (told_of d was).crash (told_of d is).crash
   pub settles : IsTrue was.told → IfOk result (Settles d was.book (disk_of was.journal) (disk_of is.journal))
-  pub none : result ≡ Ok 0 → OnlyLooks d was is
+  pub none : result ≡ Ok 0 → OnlyLooks d was (record is { settled = was.settled })

@@ -13,5 +13,6 @@ holdings_of inside = record {
   limits = inside.limits;
   found = inside.found;
   revisits = inside.revisits;
+  settled = inside.settled;
   told = inside.told.value;
 }

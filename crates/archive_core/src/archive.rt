@@ -40,6 +40,8 @@ pub struct Archive<D: Disk> {
     pub(crate) found: u32,
     /// How many captures refer to an earlier one.
     pub(crate) revisits: u32,
+    /// How many of the first volumes were settled: where the book is told, their checkpoints are finished.
+    pub(crate) settled: u32,
     /// Whether it is told what the book has.
     pub(crate) told: Shown<bool>,
 }
@@ -152,6 +154,7 @@ impl Archive<MemoryDisk> {
             limits: self.limits,
             found: self.found,
             revisits: self.revisits,
+            settled: self.settled,
             told: self.told,
         }
     }

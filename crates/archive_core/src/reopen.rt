@@ -79,6 +79,7 @@ pub(crate) fn archive_of<D: Disk>(
         limits,
         found,
         revisits,
+        settled: 0,
         told,
     })
 }

@@ -1,13 +1,15 @@
 //! How the checkpoints of sealed volumes are written.
-ghost use Rattle.std.specs.Prelude.{◌≡◌, ◌+◌, ◌<◌, ◌^◌, IsTrue, length, if◌then◌else◌};
+ghost use Rattle.std.specs.Prelude.{◌≡◌, ◌≤◌, ◌+◌, ◌-◌, ◌<◌, ◌^◌, IsTrue, OnOk, length, if◌then◌else◌};
+ghost use Rattle.disk_model.specs.Crash.{Leaves};
 ghost use Rattle.warc_journal.specs.Journals.{disk_of, texts};
 ghost use Rattle.checkpoint.specs.Faults.{CountsDisk};
 ghost use Rattle.archive_volumes.specs.Held.{book_of};
 ghost use Rattle.archive_volumes.specs.Spots.{AreSpotsOf, ArePlaced, AreWithin};
 ghost use Rattle.archive_volumes.specs.Volumes.{HoldsBook, IsMeasured};
 ghost use Rattle.volume_lines.specs.OfGroups.{IsFactsOf};
+ghost use Rattle.archive_core.specs.Finished.{FirstAreFinished};
 ghost use Rattle.archive_core.specs.Settling.{SettlesOn};
-ghost use Rattle.archive_core.specs.steps.Supplying.{GoesOnBy, GoesThrough, KeepsVolumes, checkpoint_fault_of};
+ghost use Rattle.archive_core.specs.steps.Supplying.{GoesOnBy, GoesThrough, KeepsVolumes, KnowsMore, checkpoint_fault_of};
 
 use crate::Archive;
 use crate::missing::supply;
@@ -21,21 +23,29 @@ use volume_lines::lines_of;
 impl<D: Disk> Archive<D> {
     /// Writes the checkpoint of each sealed volume, of each but the last, that has none yet. How many it wrote.
     ///
-    /// The lines are read back from the volumes' records. A volume in which there is damage is passed over; a disk that tells what it
-    /// holds has none. Refused, the checkpoints that were finished stay.
+    /// The lines are read back from the volumes' records, of each volume once. One in which there is damage is passed over; a disk that
+    /// tells what it holds has none. Refused, the checkpoints that were finished stay.
     pub fn settle(&mut self, alloc: Global) -> Result<u32, CheckpointFault>
         ensures { SettlesOn D.Disk self.old self.new result }
     {
-        settle_volumes(&self.told, alloc, &mut self.volumes, self.spots.as_slice())
+        settle_volumes(
+            &self.told,
+            alloc,
+            &mut self.volumes,
+            self.spots.as_slice(),
+            &mut self.settled,
+        )
     }
 }
 
-/// Writes the checkpoints of the volumes but the last, one behind the other. How many were written.
+/// Writes the checkpoints of the volumes but the last, one behind the other, from the first one on that isn't known to be settled. How many
+/// were written.
 fn settle_volumes<D: Disk>(
     told: &Shown<bool>,
     alloc: Global,
     volumes: &mut Volumes<D>,
     spots: &[Spot],
+    settled: &mut u32,
 ) -> Result<u32, CheckpointFault>
     requires holds { HoldsBook D.Disk told.now.value volumes.old.journal (book_of volumes.old.held) }
     requires measured { IsMeasured volumes.old.journal (book_of volumes.old.held) }
@@ -43,18 +53,21 @@ fn settle_volumes<D: Disk>(
     requires within { IsTrue D.tells → AreWithin (texts D.Disk volumes.old.journal) spots.now }
     requires placed { IsTrue told.now.value → ArePlaced (texts D.Disk volumes.old.journal) (book_of volumes.old.held) spots.now }
     requires few { length spots.now + 1 < 2 ^ 32 }
+    requires sealed { settled.old ≤ length (book_of volumes.old.held).volumes - 1 }
+    requires first { IsTrue told.now.value → Leaves (D.images (disk_of volumes.old.journal)) (FirstAreFinished (book_of volumes.old.held) settled.old) }
     ensures keeps { KeepsVolumes D.Disk told.now.value volumes.old volumes.new }
-    ensures went { IsTrue D.tells → GoesThrough D.Disk told.now.value (book_of volumes.old.held)
+    ensures went { IsTrue D.tells → GoesThrough D.Disk told.now.value (book_of volumes.old.held) settled.new
         (disk_of volumes.old.journal) (disk_of volumes.new.journal) result }
+    ensures knows { KnowsMore (book_of volumes.old.held) settled.old settled.new result }
+    ensures unasked { settled.old ≡ length (book_of volumes.old.held).volumes - 1 → OnOk result (volumes.new ≡ volumes.old) }
     ensures faults { CountsDisk (D.faults (disk_of volumes.old.journal)) (D.faults (disk_of volumes.new.journal)) result }
 {
     let facts = volumes.held.facts(alloc)?;
     let mut written = 0;
-    let mut done = 0;
-    'volumes: while done + 1 < facts.len() {
-        let wrote = settle_volume(told, alloc, volumes, spots, facts[done])?;
+    'volumes: while *settled as usize + 1 < facts.len() {
+        let wrote = settle_volume(told, alloc, volumes, spots, facts[*settled as usize])?;
         written += one_if(wrote);
-        done += 1;
+        *settled += 1;
     }
     Ok(written)
 }

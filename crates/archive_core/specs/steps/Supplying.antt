@@ -1,5 +1,5 @@
 -- How the checkpoints of volumes are written one behind the other.
-use Rattle.std.specs.Prelude.{◌≡◌, ℕ, ◌+◌, ◌-◌, ◌<◌, ◌≤◌, Bool, true, false, IsTrue, length, Result, Ok, Err}
+use Rattle.std.specs.Prelude.{◌≡◌, ℕ, ◌+◌, ◌-◌, ◌≤◌, Bool, true, false, IsTrue, length, OnOk, Result, Ok, Err}
 use Rattle.capture.specs.declared.book.Book.{Book}
 use Rattle.disk_model.specs.Crash.{Leaves}
 use Rattle.disk_model.specs.Image.{file_count}
@@ -15,7 +15,8 @@ use Rattle.archive_volumes.specs.Volumes.{HoldsBook, IsQuiet, crash_of}
 use Rattle.archive_volumes.specs.declared.part.ReadFault.{ReadFault}
 use Rattle.archive_volumes.specs.declared.part.ReadFault.TheVariants as reads
 use Rattle.archive_volumes.specs.declared.volumes.Volumes.{Volumes}
-use Rattle.archive_core.specs.Settling.{HasCheckpoint, HasWithout, LeavesCheckpoints, OpensNoMore}
+use Rattle.archive_core.specs.Finished.{FirstAreFinished, HasCheckpoint}
+use Rattle.archive_core.specs.Settling.{HasWithout, LeavesCheckpoints, OpensNoMore}
 
 -- the fault of reading, as that of a checkpoint
 abbrev pub checkpoint_fault_of : ReadFault → CheckpointFault
@@ -40,22 +41,33 @@ pub record IsStill {D : Type 0} (d : Ghosts D) (old new : D) : Type 0 where
 pub record Went {D : Type 0} (d : Ghosts D) (told : Bool) (book : Book) (k n : ℕ) (from now : D) : Type 0 where
   pub left : LeavesCheckpoints d told book from now
   pub ahead : (j : ℕ) → k ≤ j → checkpoint_of (d.reading now) j ≡ checkpoint_of (d.reading from) j
-  pub settled : IsTrue told → Leaves (d.images now) (λ image. (j : ℕ) → j < k → HasCheckpoint book j image)
+  pub settled : IsTrue told → Leaves (d.images now) (FirstAreFinished book k)
   pub there : IsTrue told → k ≤ file_count (d.reading now) Cdxj
   pub counted : IsTrue told → HasWithout (λ j. HasCheckpoint book j (d.reading from)) k n
   pub none : n ≡ 0 → IsStill d from now
+
+-- it was refused: those that were finished stay
+pub record Stopped {D : Type 0} (d : Ghosts D) (told : Bool) (book : Book) (k : ℕ) (from now : D) : Type 0 where
+  pub left : LeavesCheckpoints d told book from now
+  pub settled : IsTrue told → Leaves (d.images now) (FirstAreFinished book k)
 
 -- one volume more was gone through, or it was refused
 abbrev pub GoesTo : {D : Type 0} → Ghosts D → Bool → Book → ℕ → ℕ → D → D → Result Bool CheckpointFault → Type 0
 GoesTo d told book k n from new (Ok true) = Went d told book (k + 1) (n + 1) from new
 GoesTo d told book k n from new (Ok false) = Went d told book (k + 1) n from new
-GoesTo d told book k n from new (Err fault) = LeavesCheckpoints d told book from new
+GoesTo d told book k n from new (Err fault) = Stopped d told book k from new
 
 -- and so it goes on wherever it began
 abbrev pub GoesOnBy : {D : Type 0} → Ghosts D → Bool → Book → ℕ → D → D → Result Bool CheckpointFault → Type 0
 GoesOnBy {D} d told book k old new result = (from : D) (n : ℕ) → Went d told book k n from old → GoesTo d told book k n from new result
 
--- all volumes but the last were gone through, or it was refused
-abbrev pub GoesThrough : {D : Type 0} → Ghosts D → Bool → Book → D → D → Result ℕ CheckpointFault → Type 0
-GoesThrough d told book old new (Ok n) = Went d told book (length book.volumes - 1) n old new
-GoesThrough d told book old new (Err fault) = LeavesCheckpoints d told book old new
+-- all volumes but the last were gone through, or it was refused when so many were
+abbrev pub GoesThrough : {D : Type 0} → Ghosts D → Bool → Book → ℕ → D → D → Result ℕ CheckpointFault → Type 0
+GoesThrough d told book k old new (Ok n) = Went d told book k n old new
+GoesThrough d told book k old new (Err fault) = Stopped d told book k old new
+
+-- how many are known to be finished: none is forgotten, and after success all are
+pub record KnowsMore {T E : Type 0} (book : Book) (was is : ℕ) (result : Result T E) : Type 0 where
+  pub more : was ≤ is
+  pub within : is ≤ length book.volumes - 1
+  pub all : OnOk result (is ≡ length book.volumes - 1)

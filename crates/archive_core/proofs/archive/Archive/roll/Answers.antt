@@ -1,23 +1,32 @@
 use Rattle.std.specs.Prelude.{Result, ⊤}
-use Rattle.std.proofs.Common.{◌++◌, ◌∷◌, [], ℕ, length, true, refl, Ok, Err, subst, sym, ap, ◌∙◌, arith}
+use Rattle.std.proofs.Common.{Bool, ◌≡◌, ◌++◌, ◌∷◌, [], ℕ, length, true, refl, Ok, Err, subst, sym, ap, ◌∙◌, arith}
 use Rattle.capture.specs.Faults.{CountsFaults}
 use Rattle.capture.specs.declared.book.Book.{Book}
+use Rattle.disk_model.specs.declared.disk.Disk.{Ghosts}
 use Rattle.warc_journal.specs.Extents.{cdxj_files}
 use Rattle.warc_journal.specs.Journals.{disk_of, last_len, texts, volumes}
 use Rattle.warc_journal.specs.declared.fault.DiskFault.{DiskFault}
 use Rattle.warc_journal.specs.declared.journal.Journal.{Journal}
 use Rattle.warc_text.specs.Records.{info_text}
 use Rattle.archive_shelf.specs.Gaining.{AreFilled}
+use Rattle.archive_shelf.specs.Openings.{KeepsCheckpoints}
 use Rattle.archive_shelf.specs.Storing.{with_volume}
 use Rattle.archive_shelf.specs.declared.fault.RollFault.TheVariants as rolls
 use Rattle.archive_volumes.specs.Held.{book_of}
 use Rattle.archive_core.specs.Holdings.{Holdings}
 use Rattle.archive_core.specs.Rolling.{Rolls}
 use Rattle.archive_core.specs.View.{holdings_of}
-use Rattle.archive_volumes.specs.Volumes.{HoldsBook, Makes, muted}
+use Rattle.archive_volumes.specs.Volumes.{HoldsBook, Makes, crash_of, muted}
 use Rattle.archive_shelf.proofs.GainingSoundness.{filled_count}
 use Rattle.archive_core.proofs.RollLaws as laws
 use Rattle.archive_core.proofs.archive.Archive.roll.Goals as goal
+
+-- what a crash leaves of checkpoints is kept, also from where the volume was prepared
+kept_from : {D : Type 0} (d : Ghosts D) (told : Bool) (j k new : Journal D) → j ≡ k
+    → KeepsCheckpoints (crash_of (muted told d) (disk_of j)) (crash_of (muted told d) (disk_of new))
+    → KeepsCheckpoints (crash_of (muted told d) (disk_of k)) (crash_of (muted told d) (disk_of new))
+kept_from d told j k new same kept =
+    subst (λ (x : Journal _). KeepsCheckpoints (crash_of (muted told d) (disk_of x)) (crash_of (muted told d) (disk_of new))) same kept
 
 pub returns-then-not-is_filled : goal.returns-then-not-is_filled
 returns-then-not-is_filled g c =
@@ -53,6 +62,7 @@ invariant_of-self-in_err-begin g c =
     c.entries_gain_what_is_stored.ensures.same
     (c.leading_books_grow.ensures.grows true (book_of c.self.inside.volumes.held) (book_of c.self.inside.volumes.held) refl)
     c.self.invariant c.begin.ensures.holds c.begin.ensures.measured
+    (kept_from g.D.Disk c.self.inside.told.value c.prepare.new.self.journal c.self.inside.volumes.journal c.begin.new.self.journal same.journal c.begin.ensures.makes.kept)
     (c.in_err-begin.ensures.book ∙ same.book)
     (λ told. c.in_err-begin.ensures.texts told ∙ ap (λ (j : Journal _). texts g.D.Disk j) same.journal)
 
@@ -81,6 +91,7 @@ invariant_of-self-2 g c =
     (sym c.is_filled.ensures ∙ c.if-not-is_filled.false)
     (λ told. c.begin.ensures.others told ∙ ap (λ (j : Journal _). cdxj_files (g.D.Disk.reading (disk_of j))) same.journal)
     c.entries_gain_what_is_stored.ensures.same c.self.invariant c.begin.ensures.holds c.begin.ensures.measured
+    (kept_from g.D.Disk c.self.inside.told.value c.prepare.new.self.journal c.self.inside.volumes.journal c.begin.new.self.journal same.journal c.begin.ensures.makes.kept)
     (c.in_ok-begin.ensures.book ∙ ap (λ (b : Book). with_volume b c.in_ok-prepared.prepared.shadow.born) same.book
     ∙ ap (λ (n : ℕ). with_volume (book_of c.self.inside.volumes.held) n) same.born)
     c.in_ok-prepared.prepared.info

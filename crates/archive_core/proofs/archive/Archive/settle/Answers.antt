@@ -14,11 +14,13 @@ disk_laws g = record { earlier = g.met.D.Disk.earlier; now_counts = g.met.D.Disk
 
 pub invariant_of-self : goal.invariant_of-self
 invariant_of-self g c =
-    settled_archive g.D.Disk (disk_laws g) (holdings_of c.self.inside) c.self.inside.volumes c.settle_volumes.new.volumes c.settle_volumes.ensures.keeps c.self.invariant
+    settled_archive g.D.Disk (disk_laws g) (holdings_of c.self.inside) c.self.inside.volumes c.settle_volumes.new.volumes c.self.inside.settled c.settle_volumes.new.settled
+    c.settle_volumes.ensures.keeps c.self.invariant c.settle_volumes.result c.settle_volumes.ensures.went c.settle_volumes.ensures.knows
 
 pub returns : goal.returns
 returns g c =
     let new = c.settle_volumes.new.volumes in
-    subst (λ (held : Holdings _). SettlesOn g.D.Disk held (over (holdings_of c.self.inside) new) c.settle_volumes.result) c.self.view_is
-    (settles_on g.D.Disk (disk_laws g) (holdings_of c.self.inside) c.self.inside.volumes new c.settle_volumes.ensures.keeps c.self.invariant
-    (λ tells. g.met.D.Disk.reading_is_image (disk_of new.journal) tells) c.settle_volumes.result c.settle_volumes.ensures.went c.settle_volumes.ensures.faults)
+    subst (λ (held : Holdings _). SettlesOn g.D.Disk held (over (holdings_of c.self.inside) new c.settle_volumes.new.settled) c.settle_volumes.result) c.self.view_is
+    (settles_on g.D.Disk (disk_laws g) (holdings_of c.self.inside) c.self.inside.volumes new c.self.inside.settled c.settle_volumes.new.settled
+    c.settle_volumes.ensures.keeps c.self.invariant c.settle_volumes.result c.settle_volumes.ensures.went c.settle_volumes.ensures.knows
+    (λ tells. g.met.D.Disk.reading_is_image (disk_of new.journal) tells) c.settle_volumes.ensures.unasked c.settle_volumes.ensures.faults)

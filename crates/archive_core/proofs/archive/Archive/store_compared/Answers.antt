@@ -234,7 +234,7 @@ commit-requires-clause-few g c =
 pub invariant_of-self : goal.invariant_of-self
 invariant_of-self g c =
     let was : Holdings _ = holdings_of c.self.inside in
-    laws.memory_archive g.D.Disk was (record was { journal = c.self.inside.volumes.journal; book = book_of c.self.inside.volumes.held; table = c.reserve_kept.new.table; index = c.self.inside.index; spots = c.reserve_kept.new.spots.items }) refl refl refl refl refl refl
+    laws.memory_archive g.D.Disk was (record was { journal = c.self.inside.volumes.journal; book = book_of c.self.inside.volumes.held; table = c.reserve_kept.new.table; index = c.self.inside.index; spots = c.reserve_kept.new.spots.items }) refl refl refl refl refl refl refl
     c.self.invariant c.reserve_kept.ensures.spots c.reserve_kept.ensures.table refl
 
 pub returns-in_err-reserve_kept-clause-stores : goal.returns-in_err-reserve_kept-clause-stores
@@ -242,12 +242,12 @@ returns-in_err-reserve_kept-clause-stores g c =
     let was : Holdings _ = holdings_of c.self.inside in
     let is : Holdings _ = record was { journal = c.self.inside.volumes.journal; book = book_of c.self.inside.volumes.held; table = c.reserve_kept.new.table; index = c.self.inside.index; spots = c.reserve_kept.new.spots.items } in
     subst (λ (held : Holdings _). Stores g.D.Disk held is c.args.taken.now c.from_residual.result) c.self.view_is
-    (laws.memory_exit g.D.Disk was is refl refl refl refl refl refl c.args.taken.now c.from_residual.result c.from_residual.ensures.1)
+    (laws.memory_exit g.D.Disk was is refl refl refl refl refl refl refl c.args.taken.now c.from_residual.result c.from_residual.ensures.1)
 
 pub invariant_of-self-in_err-ready : goal.invariant_of-self-in_err-ready
 invariant_of-self-in_err-ready g c =
     let was : Holdings _ = holdings_of c.self.inside in
-    laws.memory_archive g.D.Disk was (record was { journal = c.make_ready.new.self.journal; book = book_of c.make_ready.new.self.held; table = c.reserve_kept.new.table; index = c.self.inside.index; spots = c.reserve_kept.new.spots.items }) c.make_ready.ensures.journal c.make_ready.ensures.book refl refl refl refl
+    laws.memory_archive g.D.Disk was (record was { journal = c.make_ready.new.self.journal; book = book_of c.make_ready.new.self.held; table = c.reserve_kept.new.table; index = c.self.inside.index; spots = c.reserve_kept.new.spots.items }) c.make_ready.ensures.journal c.make_ready.ensures.book refl refl refl refl refl
     c.self.invariant c.reserve_kept.ensures.spots c.reserve_kept.ensures.table refl
 
 pub returns-in_err-ready-clause-stores : goal.returns-in_err-ready-clause-stores
@@ -255,12 +255,12 @@ returns-in_err-ready-clause-stores g c =
     let was : Holdings _ = holdings_of c.self.inside in
     let is : Holdings _ = record was { journal = c.make_ready.new.self.journal; book = book_of c.make_ready.new.self.held; table = c.reserve_kept.new.table; index = c.self.inside.index; spots = c.reserve_kept.new.spots.items } in
     subst (λ (held : Holdings _). Stores g.D.Disk held is c.args.taken.now c.from_residual-in_err-ready.result) c.self.view_is
-    (laws.memory_exit g.D.Disk was is c.make_ready.ensures.journal c.make_ready.ensures.book refl refl refl refl c.args.taken.now c.from_residual-in_err-ready.result c.from_residual-in_err-ready.ensures.1)
+    (laws.memory_exit g.D.Disk was is c.make_ready.ensures.journal c.make_ready.ensures.book refl refl refl refl refl c.args.taken.now c.from_residual-in_err-ready.result c.from_residual-in_err-ready.ensures.1)
 
 pub invariant_of-self-in_err-entry : goal.invariant_of-self-in_err-entry
 invariant_of-self-in_err-entry g c =
     let was : Holdings _ = holdings_of c.self.inside in
-    laws.memory_archive g.D.Disk was (record was { journal = c.make_ready.new.self.journal; book = book_of c.make_ready.new.self.held; table = c.reserve_kept.new.table; index = c.self.inside.index; spots = c.reserve_kept.new.spots.items }) c.make_ready.ensures.journal c.make_ready.ensures.book refl refl refl refl
+    laws.memory_archive g.D.Disk was (record was { journal = c.make_ready.new.self.journal; book = book_of c.make_ready.new.self.held; table = c.reserve_kept.new.table; index = c.self.inside.index; spots = c.reserve_kept.new.spots.items }) c.make_ready.ensures.journal c.make_ready.ensures.book refl refl refl refl refl
     c.self.invariant c.reserve_kept.ensures.spots c.reserve_kept.ensures.table refl
 
 pub returns-in_err-entry-clause-stores : goal.returns-in_err-entry-clause-stores
@@ -268,12 +268,12 @@ returns-in_err-entry-clause-stores g c =
     let was : Holdings _ = holdings_of c.self.inside in
     let is : Holdings _ = record was { journal = c.make_ready.new.self.journal; book = book_of c.make_ready.new.self.held; table = c.reserve_kept.new.table; index = c.self.inside.index; spots = c.reserve_kept.new.spots.items } in
     subst (λ (held : Holdings _). Stores g.D.Disk held is c.args.taken.now c.from_residual-in_err-entry.result) c.self.view_is
-    (laws.memory_exit g.D.Disk was is c.make_ready.ensures.journal c.make_ready.ensures.book refl refl refl refl c.args.taken.now c.from_residual-in_err-entry.result c.from_residual-in_err-entry.ensures.1)
+    (laws.memory_exit g.D.Disk was is c.make_ready.ensures.journal c.make_ready.ensures.book refl refl refl refl refl c.args.taken.now c.from_residual-in_err-entry.result c.from_residual-in_err-entry.ensures.1)
 
 pub invariant_of-self-in_err-enter : goal.invariant_of-self-in_err-enter
 invariant_of-self-in_err-enter g c =
     let was : Holdings _ = holdings_of c.self.inside in
-    laws.memory_archive g.D.Disk was (record was { journal = c.make_ready.new.self.journal; book = book_of c.make_ready.new.self.held; table = c.reserve_kept.new.table; index = c.enter.new.index; spots = c.reserve_kept.new.spots.items }) c.make_ready.ensures.journal c.make_ready.ensures.book c.in_err-enter.ensures.refused refl refl refl
+    laws.memory_archive g.D.Disk was (record was { journal = c.make_ready.new.self.journal; book = book_of c.make_ready.new.self.held; table = c.reserve_kept.new.table; index = c.enter.new.index; spots = c.reserve_kept.new.spots.items }) c.make_ready.ensures.journal c.make_ready.ensures.book c.in_err-enter.ensures.refused refl refl refl refl
     c.self.invariant c.reserve_kept.ensures.spots c.reserve_kept.ensures.table refl
 
 pub returns-in_err-enter-clause-stores : goal.returns-in_err-enter-clause-stores
@@ -281,7 +281,7 @@ returns-in_err-enter-clause-stores g c =
     let was : Holdings _ = holdings_of c.self.inside in
     let is : Holdings _ = record was { journal = c.make_ready.new.self.journal; book = book_of c.make_ready.new.self.held; table = c.reserve_kept.new.table; index = c.enter.new.index; spots = c.reserve_kept.new.spots.items } in
     subst (λ (held : Holdings _). Stores g.D.Disk held is c.args.taken.now c.from_residual-in_err-enter.result) c.self.view_is
-    (laws.memory_exit g.D.Disk was is c.make_ready.ensures.journal c.make_ready.ensures.book c.in_err-enter.ensures.refused refl refl refl c.args.taken.now c.from_residual-in_err-enter.result c.from_residual-in_err-enter.ensures.1)
+    (laws.memory_exit g.D.Disk was is c.make_ready.ensures.journal c.make_ready.ensures.book c.in_err-enter.ensures.refused refl refl refl refl c.args.taken.now c.from_residual-in_err-enter.result c.from_residual-in_err-enter.ensures.1)
 
 pub invariant_of-self-in-Err : goal.invariant_of-self-in-Err
 invariant_of-self-in-Err g c =
@@ -308,7 +308,7 @@ invariant_of-self-in-Err g c =
     c.commit.ensures.holds c.commit.ensures.measured c.commit.ensures.table c.commit.ensures.spots c.commit.ensures.within c.commit.ensures.placed
     (λ untold. c.commit.ensures.made (subst (λ (l : List Spot). AreHeldWhole (book_of now.held) l) (sym c.reserve_kept.ensures.spots) (u.is.made untold)))
     c.commit.ensures.others
-    c.in-Err.ensures.left back
+    c.in-Err.ensures.left back c.in-Err.field-0 c.in-Err.ensures.writes
 
 pub returns-in-Err-clause-stores : goal.returns-in-Err-clause-stores
 returns-in-Err-clause-stores g c =
@@ -380,7 +380,8 @@ invariant_of-self-in-Ok g c =
     c.commit.ensures.holds c.commit.ensures.measured c.commit.ensures.table c.commit.ensures.spots c.commit.ensures.within c.commit.ensures.placed
     (λ untold. c.commit.ensures.made (subst (λ (l : List Spot). AreHeldWhole (book_of now.held) l) (sym c.reserve_kept.ensures.spots) (u.is.made untold)))
     c.commit.ensures.others
-    (c.self.inside.revisits + c.revisits_in.result) c.in-Ok.ensures.stored c.in_ok-enter.ensures.entered c.enter.ensures.indexed more
+    (c.self.inside.revisits + c.revisits_in.result) c.in-Ok.ensures.stored c.in_ok-enter.ensures.entered c.in-Ok.field-0 c.in-Ok.ensures.writes
+    c.enter.ensures.indexed more
 
 pub returns-in-Ok-clause-stores : goal.returns-in-Ok-clause-stores
 returns-in-Ok-clause-stores g c =

@@ -20,7 +20,7 @@ returns-in_err-check_room g c =
 
 pub returns-in_err-framing : goal.returns-in_err-framing
 returns-in_err-framing g c =
-    memory_exit g.D.Disk c.args.self.now c.args.self.now refl refl refl refl refl refl c.args.taken.now c.from_residual-in_err-framing.result
+    memory_exit g.D.Disk c.args.self.now c.args.self.now refl refl refl refl refl refl refl c.args.taken.now c.from_residual-in_err-framing.result
     c.from_residual-in_err-framing.ensures.1
 
 pub same_by-requires-clause-digest : goal.same_by-requires-clause-digest
