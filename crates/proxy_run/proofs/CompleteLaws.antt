@@ -36,10 +36,10 @@ use Rattle.warc_text.specs.StandsFor.{FilesStandForNoVolume, FilesStandForOneBoo
 
 -- ---- counts and what was printed
 
-not_risen : (before now : ℕ) → IsSteady before now → Rose before now → ⊥
+pub not_risen : (before now : ℕ) → IsSteady before now → Rose before now → ⊥
 not_risen before now steady rose = grind (arith, steady.same, steady.below, rose)
 
-printed_or_lacked : {O : Type 0} (sinks : Sinks O) (told : Status) (text : List ℕ) (was is : O) (status : Status)
+pub printed_or_lacked : {O : Type 0} (sinks : Sinks O) (told : Status) (text : List ℕ) (was is : O) (status : Status)
     → IsSteady (sinks.faults was) (sinks.faults is) → Prints sinks told text was is status ⊎ LacksMemory sinks was is status
     → (status ≡ told) ⊎ (status ≡ Memory)
 printed_or_lacked sinks told text was is status steady (inl (inl all)) = inl all.status_is
@@ -81,7 +81,7 @@ lacks_memory sinks asked image book before now out_was out_is status stands none
 lacks_memory sinks asked image book before now out_was out_is status stands none steady faults.Memory damage other counts (inr lacked) = lacked.status_is
 
 module _ {D G L P N M C O : Type 0} (kinds : Kinds D G L P N M C O) where
-  refused_for_memory : (asked : Option (List ℕ)) (was is : Objects D G (List (N × C)) O) (status : Status) → IsTrue kinds.disks.tells
+  pub refused_for_memory : (asked : Option (List ℕ)) (was is : Objects D G (List (N × C)) O) (status : Status) → IsTrue kinds.disks.tells
       → IsReady asked (kinds.disks.reading was.disk)
       → ((other : List ℕ) → HoldsOther (warc_files (kinds.disks.reading was.disk)) asked other → ⊥)
       → NoFaults kinds was is → Refuses kinds asked was is status → status ≡ Memory

@@ -9,6 +9,9 @@ mod NextLaws
 mod OpeningLaws
 mod PipeLaws
 mod RunLaws
+mod SoundVolumes
 mod TakingLaws
 mod TrialLaws
+mod VerifiedLaws
+mod VerifyLaws
 mod WordsLemmas

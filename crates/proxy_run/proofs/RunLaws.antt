@@ -10,11 +10,12 @@ use Rattle.proxy_run.specs.Printing.{Prints}
 use Rattle.proxy_run.specs.Runs.{Runs}
 use Rattle.proxy_run.specs.Texts.{usage}
 use Rattle.proxy_run.specs.Trials.{Tries}
+use Rattle.proxy_run.specs.Verifies.{IsVerified}
 use Rattle.proxy_run.specs.Words.{asked_of}
 use Rattle.proxy_run.specs.declared.status.Status.{Status}
 use Rattle.proxy_run.specs.declared.status.Status.TheVariants.{Words}
 use Rattle.proxy_run.specs.declared.words.Command.{Command}
-use Rattle.proxy_run.specs.declared.words.Command.TheVariants.{Check, Import, Pipe, Trial}
+use Rattle.proxy_run.specs.declared.words.Command.TheVariants.{Check, Import, Pipe, Trial, Verify}
 
 -- ---- the first member
 
@@ -44,6 +45,20 @@ module _ {D G L P N M C O : Type 0} (kinds : Kinds D G L P N M C O) (found : Opt
   runs_check command was disk out status is_command is_check result =
       subst (λ f. Runs kinds f was (record was { disk = disk; out = out }) status) (sym (is_command ∙ ap (λ (c : Command). Some c) is_check))
       (checked was disk out status result)
+
+  verified_in : (workers : ℕ) (was : Objects D G (List (N × C)) O) (disk : D) (out : O) (status : Status)
+      → IsVerified kinds.disks kinds.sinks was.disk disk was.out out status ⊎ IsNotOpened kinds.disks kinds.sinks None was.disk disk was.out out status
+      → Runs kinds (Some (Verify workers)) was (record was { disk = disk; out = out }) status
+  verified_in workers was disk out status (inl verified) = inl (record { verified = verified; untouched = refl })
+  verified_in workers was disk out status (inr refused) = inr (record { refused = refused; untouched = refl })
+
+  pub runs_verify : (command : Command) (workers : ℕ) (was : Objects D G (List (N × C)) O) (disk : D) (out : O) (status : Status) → found ≡ Some command
+      → command ≡ Verify workers
+      → IsVerified kinds.disks kinds.sinks was.disk disk was.out out status ⊎ IsNotOpened kinds.disks kinds.sinks None was.disk disk was.out out status
+      → Runs kinds found was (record was { disk = disk; out = out }) status
+  runs_verify command workers was disk out status is_command is_verify result =
+      subst (λ f. Runs kinds f was (record was { disk = disk; out = out }) status) (sym (is_command ∙ ap (λ (c : Command). Some c) is_verify))
+      (verified_in workers was disk out status result)
 
   tried_in : (count seed : ℕ) (was : Objects D G (List (N × C)) O) (disk : D) (out : O) (status : Status) → Tries kinds.sinks count seed was.out out status
       → disk ≡ was.disk → Runs kinds (Some (Trial count seed)) was (record was { disk = disk; out = out }) status

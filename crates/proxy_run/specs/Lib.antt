@@ -13,4 +13,6 @@ pub mod Serving
 pub mod steps
 pub mod Texts
 pub mod Trials
+pub mod Verified
+pub mod Verifies
 pub mod Words

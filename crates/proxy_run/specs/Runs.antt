@@ -7,10 +7,11 @@ use Rattle.proxy_run.specs.Pipes.{Pipes, Refuses}
 use Rattle.proxy_run.specs.Printing.{Prints}
 use Rattle.proxy_run.specs.Texts.{usage}
 use Rattle.proxy_run.specs.Trials.{Tries}
+use Rattle.proxy_run.specs.Verifies.{IsVerified}
 use Rattle.proxy_run.specs.declared.status.Status.{Status}
 use Rattle.proxy_run.specs.declared.status.Status.TheVariants as status
 use Rattle.proxy_run.specs.declared.words.Command.{Command}
-use Rattle.proxy_run.specs.declared.words.Command.TheVariants.{Check, Import, Pipe, Trial}
+use Rattle.proxy_run.specs.declared.words.Command.TheVariants.{Check, Import, Pipe, Trial, Verify}
 
 module _ {D G L P N M C O : Type 0} (kinds : Kinds D G L P N M C O) where
   -- the words ask for nothing: the usage was printed, and nothing else was touched
@@ -39,10 +40,16 @@ module _ {D G L P N M C O : Type 0} (kinds : Kinds D G L P N M C O) where
     pub tried : Tries kinds.sinks count seed was.out is.out result
     pub untouched : is ≡ record was { out = is.out }
 
-  -- by what the words ask for
+  -- the bytes of the archive's volumes were checked; neither gate nor crew was touched
+  pub record Verifies (was is : Objects D G (List (N × C)) O) (result : Status) : Type 0 where
+    pub verified : IsVerified kinds.disks kinds.sinks was.disk is.disk was.out is.out result
+    pub untouched : is ≡ record was { disk = is.disk; out = is.out }
+
+  -- By what the words ask for. Of a check of bytes it doesn't depend on how many workers made it.
   abbrev pub Runs : Option Command → Objects D G (List (N × C)) O → Objects D G (List (N × C)) O → Status → Type 0
   Runs None was is result = Misspells was is result
   Runs (Some (Pipe namespace)) was is result = HasPiped namespace was is result ⊎ Refuses kinds (Some namespace) was is result
   Runs (Some (Import namespace)) was is result = HasTakenIn namespace was is result ⊎ Refuses kinds (Some namespace) was is result
   Runs (Some Check) was is result = HasChecked was is result ⊎ Refuses kinds None was is result
   Runs (Some (Trial count seed)) was is result = HasTried count seed was is result
+  Runs (Some (Verify workers)) was is result = Verifies was is result ⊎ Refuses kinds None was is result

@@ -5,7 +5,7 @@ use Rattle.std.specs.Str.{bytes_eq}
 use Rattle.std.specs.Str.Parse.{digits_value}
 use Rattle.uuid.specs.Text.{parsed, hyphenated_text, lower}
 use Rattle.proxy_run.specs.declared.words.Command.{Command}
-use Rattle.proxy_run.specs.declared.words.Command.TheVariants.{Check, Import, Pipe, Trial}
+use Rattle.proxy_run.specs.declared.words.Command.TheVariants.{Check, Import, Pipe, Trial, Verify}
 
 -- the texts of words
 abbrev pub texts : List (Bor (List ℕ)) → List (List ℕ)
@@ -34,24 +34,25 @@ is_import (word ∷ words) = bytes_eq word (codes "import")
 abbrev pub command_of_one : List ℕ → Option Command
 command_of_one name = if bytes_eq name (codes "check") then Some Check else None
 
+-- how many there are: one or more, up to a greatest number
+abbrev pub count_of : (most : ℕ) → List ℕ → Option ℕ
+count_of most text = option_and_then (λ n. if nat_le 1 n then Some n else None) (number_of most text)
+
 -- what two words ask for
 abbrev pub command_of_two : List ℕ → List ℕ → Option Command
-command_of_two name namespace =
-    if bytes_eq name (codes "pipe") then option_map (λ u. Pipe u) (namespace_of namespace)
-    else (if bytes_eq name (codes "import") then option_map (λ u. Import u) (namespace_of namespace) else None)
-
--- how many exchanges a trial has: one or more
-abbrev pub count_of : List ℕ → Option ℕ
-count_of text = option_and_then (λ n. if nat_le 1 n then Some n else None) (number_of 20000 text)
+command_of_two name second =
+    if bytes_eq name (codes "pipe") then option_map (λ u. Pipe u) (namespace_of second)
+    else (if bytes_eq name (codes "import") then option_map (λ u. Import u) (namespace_of second)
+    else (if bytes_eq name (codes "verify") then option_map (λ n. Verify n) (count_of 16 second) else None))
 
 -- what three words ask for
 abbrev pub command_of_three : (name count seed : List ℕ) → Option Command
 command_of_three name count seed =
     if bytes_eq name (codes "trial")
-    then option_and_then (λ n. option_map (λ s. Trial n s) (number_of (2 ^ 64 - 1) seed)) (count_of count)
+    then option_and_then (λ n. option_map (λ s. Trial n s) (number_of (2 ^ 64 - 1) seed)) (count_of 20000 count)
     else None
 
--- what the words ask for: `check` alone, `pipe` or `import` and a namespace, or `trial`, a count and a number
+-- What the words ask for: `check` alone, `pipe` or `import` and a namespace, `verify` and a number of workers, or `trial`, a count and a number.
 abbrev pub command_of : List (List ℕ) → Option Command
 command_of [] = None
 command_of (name ∷ []) = command_of_one name
@@ -65,3 +66,12 @@ asked_of Check = None
 asked_of (Import namespace) = Some namespace
 asked_of (Pipe namespace) = Some namespace
 asked_of (Trial count seed) = None
+asked_of (Verify workers) = None
+
+-- how many workers a command has, if it says so
+abbrev pub workers_of : Command → Option ℕ
+workers_of Check = None
+workers_of (Import namespace) = None
+workers_of (Pipe namespace) = None
+workers_of (Trial count seed) = None
+workers_of (Verify workers) = Some workers

@@ -1,6 +1,7 @@
 //! What runs promise to those who build on them.
 ghost use Rattle.proxy_run.specs.Complete.{CapturesComeBack, ChecksAreAnswered, ImportsAreAnswered, ImportsLeaveReady, PipesAreAnswered, PipesLeaveReady};
 ghost use Rattle.proxy_run.specs.Objects.{kinds_of};
+ghost use Rattle.proxy_run.specs.Verified.{SoundVolumesVerify, VerifiesAreAnswered};
 
 use disk_model::Disk;
 use outside::{Clock, Dialer, Gate, Sink};
@@ -20,3 +21,10 @@ pub fn ready_archives_are_served<D: Disk, G: Gate, N: Dialer, C: Clock, O: Sink>
 {
     files_stand_for_one_book();
 }
+
+/// Where what a read gives stands for a sound book, `verify` finds no volume of it damaged; and where no count of faults rises it goes
+/// well, or memory ran out.
+pub fn sound_archives_verify<D: Disk, G: Gate, N: Dialer, C: Clock, O: Sink>()
+    ensures sound { SoundVolumesVerify }
+    ensures done { VerifiesAreAnswered (kinds_of D.Disk G.Gate N.Dialer C.Clock O.Sink G.Link.tells N.Link.tells) }
+{}

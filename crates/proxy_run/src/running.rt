@@ -10,6 +10,7 @@ use crate::piping::pipe;
 use crate::printing::print_as;
 use crate::status::Status;
 use crate::trying::trial;
+use crate::verifying::verify;
 use crate::words;
 use crate::words::Command;
 use disk_model::Disk;
@@ -41,8 +42,8 @@ pub struct Ran<D> {
 /// member's dialer and clock, and hangs it up; NS is the archive's namespace, a UUID in lower case with hyphens. What the client is
 /// given of an origin stands on the disk first. `import NS` opens the archive, reads the gate's first connection to its end, and stores
 /// the captures of the WARC file that it gave. `check` opens the archive and prints how much it holds. `trial COUNT NUMBER`
-/// stores so many exchanges of the load with that number in memory, brings them back, and prints how much that is. All other words print
-/// the usage.
+/// stores so many exchanges of the load with that number in memory, brings them back, and prints how much that is. `verify WORKERS`
+/// checks the bytes of the archive's volumes by so many workers, 1 to 16, and prints the verdicts. All other words print the usage.
 ///
 /// Nothing is required of the disk. What is claimed of an archive is claimed of the book for which the disk stands, and each disk that
 /// is handed back stands for one.
@@ -85,5 +86,6 @@ where
             pipe(alloc, command, disk, gate, member, out)
         }
         Command::Trial(count, seed) => trial(alloc, count, seed, disk, out),
+        Command::Verify(workers) => verify(rt, alloc, workers, disk, out),
     }
 }

@@ -103,7 +103,7 @@ fn disk_fault_text(alloc: Global) -> Result<Vec<u8>, Memory>
 
 /// The name of a file of the archive: `vol-`, its number in six digits or more, and its kind.
 #[tactic(auto, using(crate::proofs::FileNames::padded_to_six), unfolding(crate::specs::Texts::file_name))]
-fn file_name(alloc: Global, kind: Kind, file: u32) -> Result<String, AllocError>
+pub fn file_name(alloc: Global, kind: Kind, file: u32) -> Result<String, AllocError>
     ensures { IfOk result (λ name. string_bytes name ≡ spec.file_name kind file) }
 {
     let ending = ending_of(kind);

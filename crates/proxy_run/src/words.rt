@@ -1,5 +1,5 @@
 //! The words of the command line.
-ghost use Rattle.std.specs.Prelude.{◌≡◌, ◌≤◌, IfOk, IfSome};
+ghost use Rattle.std.specs.Prelude.{◌≡◌, ◌<◌, ◌≤◌, IfOk, IfSome};
 ghost use Rattle.proxy_run.specs.Base.{site_among};
 ghost use Rattle.proxy_run.specs.Words as spec;
 ghost use Rattle.proxy_run.specs.Words.{texts};
@@ -12,7 +12,10 @@ use std::alloc::Global;
 use uuid::Uuid;
 
 /// The greatest number of exchanges that a trial may have.
-const MOST: u64 = 20_000;
+const EXCHANGES: u32 = 20_000;
+
+/// The greatest number of workers.
+const WORKERS: u32 = 16;
 
 /// What the words ask for.
 #[derive(Clone, Copy, Debug, PartialEq, Eq)]
@@ -25,12 +28,15 @@ pub enum Command {
     Pipe(Uuid),
     /// Store so many exchanges of the load with this number.
     Trial(u32, u64),
+    /// Check the bytes of the archive by so many workers.
+    Verify(u32),
 }
 
 /// What the words ask for, where they ask for something.
 pub fn command_of(words: &[&str]) -> Option<Command>
     ensures value { result ≡ spec.command_of (texts words.now) }
     ensures uuid { IfSome result (λ command. IfSome (spec.asked_of command) IsUuid) }
+    ensures workers { IfSome result (λ command. IfSome (spec.workers_of command) (λ n. (0 < n) × (n ≤ 16))) }
 {
     if words.len() == 1 {
         return command_of_one(words[0]);
@@ -47,6 +53,7 @@ pub fn command_of(words: &[&str]) -> Option<Command>
 fn command_of_one(name: &str) -> Option<Command>
     ensures value { result ≡ spec.command_of_one name.now }
     ensures uuid { IfSome result (λ command. IfSome (spec.asked_of command) IsUuid) }
+    ensures workers { IfSome result (λ command. IfSome (spec.workers_of command) (λ n. (0 < n) × (n ≤ 16))) }
 {
     if name == "check" {
         return Some(Command::Check);
@@ -54,21 +61,28 @@ fn command_of_one(name: &str) -> Option<Command>
     None
 }
 
-fn command_of_two(name: &str, namespace: &str) -> Option<Command>
-    ensures value { result ≡ spec.command_of_two name.now namespace.now }
+fn command_of_two(name: &str, second: &str) -> Option<Command>
+    ensures value { result ≡ spec.command_of_two name.now second.now }
     ensures uuid { IfSome result (λ command. IfSome (spec.asked_of command) IsUuid) }
+    ensures workers { IfSome result (λ command. IfSome (spec.workers_of command) (λ n. (0 < n) × (n ≤ 16))) }
 {
     if name == "pipe" {
-        return match namespace_of(namespace) {
+        return match namespace_of(second) {
             Some(namespace) => Some(Command::Pipe(namespace)),
             None => None,
         };
     }
-    if name != "import" {
+    if name == "import" {
+        return match namespace_of(second) {
+            Some(namespace) => Some(Command::Import(namespace)),
+            None => None,
+        };
+    }
+    if name != "verify" {
         return None;
     }
-    match namespace_of(namespace) {
-        Some(namespace) => Some(Command::Import(namespace)),
+    match count_of(second, WORKERS) {
+        Some(workers) => Some(Command::Verify(workers)),
         None => None,
     }
 }
@@ -76,11 +90,12 @@ fn command_of_two(name: &str, namespace: &str) -> Option<Command>
 fn command_of_three(name: &str, count: &str, seed: &str) -> Option<Command>
     ensures value { result ≡ spec.command_of_three name.now count.now seed.now }
     ensures uuid { IfSome result (λ command. IfSome (spec.asked_of command) IsUuid) }
+    ensures workers { IfSome result (λ command. IfSome (spec.workers_of command) (λ n. (0 < n) × (n ≤ 16))) }
 {
     if name != "trial" {
         return None;
     }
-    match count_of(count) {
+    match count_of(count, EXCHANGES) {
         Some(count) => match number_of(seed, u64::MAX) {
             Some(seed) => Some(Command::Trial(count, seed)),
             None => None,
@@ -98,6 +113,7 @@ pub fn asked_of(command: Command) -> Option<Uuid>
         Command::Import(namespace) => Some(namespace),
         Command::Pipe(namespace) => Some(namespace),
         Command::Trial(_, _) => None,
+        Command::Verify(_) => None,
     }
 }
 
@@ -149,11 +165,12 @@ fn namespace_of(text: &str) -> Option<Uuid>
     }
 }
 
-/// How many exchanges a trial has, as it is written in decimal.
-fn count_of(text: &str) -> Option<u32>
-    ensures { result ≡ spec.count_of text.now }
+/// How many there are, one or more, as it is written in decimal.
+fn count_of(text: &str, most: u32) -> Option<u32>
+    ensures value { result ≡ spec.count_of most text.now }
+    ensures within { IfSome result (λ count. (0 < count) × (count ≤ most)) }
 {
-    match number_of(text, MOST) {
+    match number_of(text, u64::from(most)) {
         Some(count) => {
             if count >= 1 {
                 return Some(count as u32);

@@ -1,8 +1,9 @@
 -- By what the words ask for.
-use Rattle.std.proofs.Common.{◌<◌, length, sym, ◌∙◌, arith}
-use Rattle.std.specs.Prelude.{drop, set}
+use Rattle.std.proofs.Common.{◌<◌, ◌≤◌, length, sym, subst, ◌∙◌, arith}
+use Rattle.std.specs.Prelude.{IfSome, drop, set}
 use Rattle.proxy_run.specs.Objects.{kinds_of, objects_of}
-use Rattle.proxy_run.proofs.RunLaws.{first_is, first_set, runs_check, runs_import, runs_none, runs_pipe, runs_trial}
+use Rattle.proxy_run.specs.Words.{workers_of}
+use Rattle.proxy_run.proofs.RunLaws.{first_is, first_set, runs_check, runs_import, runs_none, runs_pipe, runs_trial, runs_verify}
 use Rattle.proxy_run.proofs.running.run.Goals as goal
 
 pub returns-in_default : goal.returns-in_default
@@ -44,3 +45,13 @@ returns-in-Trial g c =
     runs_trial (kinds_of g.D.Disk g.G.Gate g.N.Dialer g.C.Clock g.O.Sink g.G.Link.Link.tells g.N.Link.Link.tells) _ c.in-Some.command _ _
     (objects_of c.args.disk c.args.gate.now c.args.crew.now.members.items c.args.out.now) c.trial.result.disk c.trial.new.out
     c.trial.result.status (sym c.command_of.ensures.value ∙ c.in-Some.is) c.in-Trial.is c.trial.ensures.tries c.trial.ensures.same_disk
+
+pub verify-requires : goal.verify-requires
+verify-requires g c =
+    (c.type_bounds.sync-R, subst (λ command. IfSome (workers_of command) (λ n. (0 < n) × (n ≤ 16))) c.in-Verify.is c.in-Some.ensures.workers)
+
+pub returns-in-Verify : goal.returns-in-Verify
+returns-in-Verify g c =
+    runs_verify (kinds_of g.D.Disk g.G.Gate g.N.Dialer g.C.Clock g.O.Sink g.G.Link.Link.tells g.N.Link.Link.tells) _ c.in-Some.command c.in-Verify.workers
+    (objects_of c.args.disk c.args.gate.now c.args.crew.now.members.items c.args.out.now) c.verify.result.disk c.verify.new.out
+    c.verify.result.status (sym c.command_of.ensures.value ∙ c.in-Some.is) c.in-Verify.is c.verify.ensures

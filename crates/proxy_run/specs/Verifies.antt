@@ -1,0 +1,109 @@
+-- What the command `verify` leaves.
+use Rattle.std.specs.Prelude.{◌≡◌, ◌⊎◌, ℕ, suc, Bool, true, false, nat_eq, ◌||◌, List, [], ◌∷◌, ◌++◌, codes, decimal, length, map, All, None, IsTrue}
+use Rattle.std.specs.List.{flat_map}
+use Rattle.archive_shelf.specs.Contents.{Contents}
+use Rattle.archive_volumes.specs.Facts.{facts_of}
+use Rattle.archive_volumes.specs.declared.volume_facts.VolumeFacts.{VolumeFacts}
+use Rattle.capture.specs.Faults.{Rose}
+use Rattle.disk_model.specs.Image.{Image, file_of}
+use Rattle.disk_model.specs.declared.disk.Disk.{Ghosts as Disks}
+use Rattle.disk_model.specs.declared.kind.Kind.TheVariants.{Warc}
+use Rattle.fixity.specs.Verdicts.{IsVerdict, Volume, volume_of}
+use Rattle.fixity.specs.declared.verdict.Verdict.{Verdict}
+use Rattle.fixity.specs.declared.verdict.Verdict.TheVariants.{Sound, Damaged}
+use Rattle.httparse.specs.Ascii.{line_feed}
+use Rattle.outside.specs.declared.sink.Sink.{Ghosts as Sinks}
+use Rattle.proxy_run.specs.Opening.{IsOpened}
+use Rattle.proxy_run.specs.Printing.{LacksMemory, Prints}
+use Rattle.proxy_run.specs.Texts.{file_name}
+use Rattle.proxy_run.specs.declared.status.Status.{Status}
+use Rattle.proxy_run.specs.declared.status.Status.TheVariants.{Archive, Done}
+
+-- ---- what is printed
+
+-- how long a sound volume is, without an unfinished tail
+unfoldable pub sound_text : ℕ → List ℕ
+sound_text bytes = codes " sound " ++ decimal bytes
+
+-- where the damage of a volume begins
+unfoldable pub damaged_text : ℕ → List ℕ
+damaged_text place = codes " damaged " ++ decimal place
+
+abbrev pub verdict_text : Verdict → List ℕ
+verdict_text (Sound bytes) = sound_text bytes
+verdict_text (Damaged place) = damaged_text place
+
+-- the line of a volume
+unfoldable pub verdict_line : ℕ → Verdict → List ℕ
+verdict_line volume verdict = file_name Warc volume ++ verdict_text verdict ++ (line_feed ∷ [])
+
+-- ---- the verdicts
+
+-- a volume that was checked, as its archive knows it, with the verdict on its bytes
+pub record Checked : Type 0 where
+  pub facts : VolumeFacts
+  pub verdict : Verdict
+
+abbrev pub facts_in : List Checked → List VolumeFacts
+facts_in checked = map (λ (c : Checked). c.facts) checked
+
+-- their lines, in order
+abbrev pub lines_of : List Checked → List ℕ
+lines_of checked = flat_map (λ (c : Checked). verdict_line c.facts.volume c.verdict) checked
+
+abbrev pub is_damaged : Verdict → Bool
+is_damaged (Sound bytes) = false
+is_damaged (Damaged place) = true
+
+-- one of them is damaged
+abbrev pub has_damage : List Checked → Bool
+has_damage [] = false
+has_damage (c ∷ checked) = is_damaged c.verdict || has_damage checked
+
+abbrev pub status_by : Bool → Status
+status_by true = Archive
+status_by false = Done
+
+-- what is due in a volume, of so many that an archive of this namespace has: of its last one a tail isn't
+abbrev pub due_in : (namespace : List ℕ) → (count : ℕ) → VolumeFacts → Volume
+due_in namespace count facts = volume_of facts.volume namespace facts.first facts.count (nat_eq (suc facts.volume) count)
+
+-- the verdict is the one on the bytes of the volume's file
+abbrev pub IsRight : (namespace : List ℕ) → (count : ℕ) → Image → Checked → Type 0
+IsRight namespace count image c = IsVerdict (due_in namespace count c.facts) (file_of image Warc c.facts.volume) c.verdict
+
+-- ---- the command
+
+-- The verdicts on volumes of this namespace are those on the bytes that a read gives.
+abbrev pub AreRight : {D : Type 0} → Disks D → (namespace : List ℕ) → (volumes : List VolumeFacts) → D → List Checked → Type 0
+AreRight disks namespace volumes was checked = IsTrue disks.tells → All (IsRight namespace (length volumes) (disks.reading was)) checked
+
+module _ {D O : Type 0} (disks : Disks D) (sinks : Sinks O) (namespace : List ℕ) (volumes : List VolumeFacts) (was is : D) (out_was out_is : O)
+    (status : Status) where
+  -- Each of the volumes was checked, in order, and its line printed.
+  pub record ChecksAll : Type 0 where
+    pub checked : List Checked
+    pub all : facts_in checked ≡ volumes
+    pub right : AreRight disks namespace volumes was checked
+    pub same_faults : disks.faults is ≡ disks.faults was
+    pub printed : Prints sinks (status_by (has_damage checked)) (lines_of checked) out_was out_is status
+
+  -- The disk failed behind the check of the first of them, whose lines were printed before that was told.
+  pub record BreaksOff : Type 0 where
+    pub checked : List Checked
+    pub rest : List VolumeFacts
+    pub front : facts_in checked ++ rest ≡ volumes
+    pub right : AreRight disks namespace volumes was checked
+    pub rose : Rose (disks.faults was) (disks.faults is)
+    pub printed : Prints sinks Archive (lines_of checked ++ codes "disk fault\n") out_was out_is status
+
+  -- one of the two, or there was no memory
+  abbrev pub ChecksVolumes : Type 0
+  ChecksVolumes = ChecksAll ⊎ BreaksOff ⊎ LacksMemory sinks out_was out_is status
+
+-- The archive was opened, and its volumes were checked. A read gives what it gave.
+pub record IsVerified {D O : Type 0} (disks : Disks D) (sinks : Sinks O) (was is : D) (out_was out_is : O) (status : Status) : Type 0 where
+  pub now : Contents
+  pub opened : IsOpened disks None was now
+  pub reading : IsTrue disks.tells → disks.reading is ≡ disks.reading was
+  pub checked : ChecksVolumes disks sinks now.seen.namespace (facts_of now.seen) was is out_was out_is status

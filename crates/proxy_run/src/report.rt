@@ -1,0 +1,95 @@
+//! What a check of an archive's volumes has found so far, and how that is told.
+ghost use Rattle.std.specs.Prelude.{◌≡◌, ◌++◌, ◌||◌, [], false, OnOk};
+ghost use Rattle.proxy_run.specs.Verifies as spec;
+
+use crate::status::Status;
+use crate::texts::file_name;
+use capture::{Memory, put_all, put_number};
+use disk_model::Kind;
+use fixity::Verdict;
+use std::alloc::Global;
+
+/// What a check has found so far.
+#[derive(Debug, Drop)]
+pub struct Report {
+    /// A line for each volume that was checked.
+    pub lines: Vec<u8>,
+    /// Whether one of them is damaged.
+    pub damaged: bool,
+}
+
+impl Report {
+    /// Nothing yet.
+    pub fn new(alloc: Global) -> Report
+        ensures lines { result.lines.items ≡ [] }
+        ensures damaged { result.damaged ≡ false }
+    {
+        Report {
+            lines: Vec::new(alloc),
+            damaged: false,
+        }
+    }
+
+    /// Notes the verdict on a volume.
+    pub fn note(&mut self, volume: u32, verdict: Verdict) -> Result<(), Memory>
+        ensures lines { OnOk result (self.new.lines.items ≡ self.old.lines.items ++ spec.verdict_line volume verdict) }
+        ensures damaged { OnOk result (self.new.damaged ≡ (spec.is_damaged verdict || self.old.damaged)) }
+    {
+        put_line(&mut self.lines, volume, verdict)?;
+        match verdict {
+            Verdict::Sound { .. } => {}
+            Verdict::Damaged { .. } => self.damaged = true,
+        }
+        Ok(())
+    }
+
+    /// The status that tells of it.
+    pub fn status(&self) -> Status
+        ensures { result ≡ spec.status_by self.now.damaged }
+    {
+        if self.damaged {
+            Status::Archive
+        } else {
+            Status::Done
+        }
+    }
+}
+
+/// Puts the line of a volume: the name of its file, and the verdict on it.
+#[tactic(auto, unfolding(crate::specs::Verifies::verdict_line))]
+fn put_line(out: &mut Vec<u8>, volume: u32, verdict: Verdict) -> Result<(), Memory>
+    ensures { OnOk result (out.new.items ≡ out.old.items ++ spec.verdict_line volume verdict) }
+{
+    let name = file_name(*out.allocator(), Kind::Warc, volume)?;
+    put_all(out, name.as_str().as_bytes())?;
+    put_verdict(out, verdict)?;
+    put_all(out, b"\n")
+}
+
+/// Puts a verdict.
+fn put_verdict(out: &mut Vec<u8>, verdict: Verdict) -> Result<(), Memory>
+    ensures { OnOk result (out.new.items ≡ out.old.items ++ spec.verdict_text verdict) }
+{
+    match verdict {
+        Verdict::Sound { bytes } => put_sound(out, bytes),
+        Verdict::Damaged { place } => put_damaged(out, place),
+    }
+}
+
+/// Puts how long a sound volume is.
+#[tactic(auto, unfolding(crate::specs::Verifies::sound_text))]
+fn put_sound(out: &mut Vec<u8>, bytes: u64) -> Result<(), Memory>
+    ensures { OnOk result (out.new.items ≡ out.old.items ++ spec.sound_text bytes) }
+{
+    put_all(out, b" sound ")?;
+    put_number(out, bytes)
+}
+
+/// Puts where the damage of a volume begins.
+#[tactic(auto, unfolding(crate::specs::Verifies::damaged_text))]
+fn put_damaged(out: &mut Vec<u8>, place: u64) -> Result<(), Memory>
+    ensures { OnOk result (out.new.items ≡ out.old.items ++ spec.damaged_text place) }
+{
+    put_all(out, b" damaged ")?;
+    put_number(out, place)
+}
