@@ -4,7 +4,7 @@ use Rattle.std.specs.Str.{bytes_eq}
 use Rattle.real_outside.specs.declared.file_system.Lock.{Lock}
 use Rattle.real_outside.specs.declared.file_system.Lock.TheVariants.{Alone, Shared}
 
--- `check` shares it with others that read, and all else has it alone.
+-- `check` and `verify` share it with others that read, and all else has it alone.
 abbrev pub lock_of : List (List ℕ) → Lock
 lock_of [] = Alone
-lock_of (word ∷ words) = if bytes_eq word (codes "check") then Shared else Alone
+lock_of (word ∷ words) = if bytes_eq word (codes "check") then Shared else (if bytes_eq word (codes "verify") then Shared else Alone)

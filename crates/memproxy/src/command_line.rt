@@ -68,17 +68,19 @@ where
     made
 }
 
-/// How the words have the program hold its archive: `check` only reads it, all else may write.
+/// How the words have the program hold its archive: `check` and `verify` only read it, all else may write.
 pub(crate) fn lock_of(words: &[&str]) -> Lock
     ensures { result ≡ spec.lock_of (map (λ word. word.now) words.now) }
 {
     match words.first() {
         Some(word) => {
             if *word == "check" {
-                Lock::Shared
-            } else {
-                Lock::Alone
+                return Lock::Shared;
             }
+            if *word == "verify" {
+                return Lock::Shared;
+            }
+            Lock::Alone
         }
         None => Lock::Alone,
     }
