@@ -7,7 +7,7 @@ pub enum Status {
     Done = 0,
     /// 1: the words are none of the forms.
     Words = 1,
-    /// 2: the archive wasn't opened.
+    /// 2: the archive wasn't opened, not all of an import was stored, or the check of its bytes found damage or was stopped by the disk.
     Archive = 2,
     /// 3: the gate, the output or the one connection failed, or that ended inside a message.
     Outside = 3,
