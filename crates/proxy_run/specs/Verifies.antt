@@ -64,7 +64,7 @@ abbrev pub status_by : Bool → Status
 status_by true = Archive
 status_by false = Done
 
--- what is due in a volume, of so many that an archive of this namespace has: of its last one a tail isn't
+-- what is due in a volume, of so many that an archive of this namespace has; behind the last one alone a tail may stand
 abbrev pub due_in : (namespace : List ℕ) → (count : ℕ) → VolumeFacts → Volume
 due_in namespace count facts = volume_of facts.volume namespace facts.first facts.count (nat_eq (suc facts.volume) count)
 
