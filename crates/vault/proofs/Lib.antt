@@ -17,3 +17,4 @@ pub mod SeatLaws
 pub mod JoinLaws
 pub mod ShowingLaws
 pub mod AtLaws
+pub mod MemberLaws

@@ -9,5 +9,6 @@ pub mod Own
 pub mod Orderly
 pub mod Sharing
 pub mod Company
+pub mod Members
 pub mod Listing
 pub mod Finding

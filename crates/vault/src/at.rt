@@ -6,8 +6,10 @@ ghost use Rattle.archive_shelf.specs.Told.{KnowsBook};
 ghost use Rattle.vault.specs.Company.{contents_at};
 ghost use Rattle.vault.specs.Finding.{AreOfKey, AreStarting};
 ghost use Rattle.vault.specs.Items.{shown_in};
+ghost use Rattle.vault.specs.Members.{IsMember};
 
 use crate::finding::{find_key, find_nearest, find_starting};
+use crate::naming::Naming;
 use crate::pass::VaultPass;
 use crate::vault::Vault;
 use archive_shelf::Finder;
@@ -15,45 +17,62 @@ use capture::{Memory, growth_keeps_captures};
 use cdxj_index::Entry;
 use disk_model::Disk;
 use std::alloc::Global;
-use std::marker::Model;
+use std::marker::{Model, PhantomData};
 use surt_key::Key;
 
-/// A pass at its vault. A contract sees it as the pass.
+/// A pass at the vault of this name. A contract sees it as the pass.
 #[derive(Drop)]
-pub struct At<'a, R, D: Disk> {
+pub struct At<'a, R, D: Disk, J: Naming> {
     rt: &'a R,
     vault: &'a Vault<D>,
     pass: VaultPass,
+    of: PhantomData<J>,
 }
 
-impl<'a, R, D: Disk> Model for At<'a, R, D> {
+impl<'a, R, D: Disk, J: Naming> Model for At<'a, R, D, J> {
     ghost use Rattle.std.specs.Prelude.{◌≡◌};
     ghost use Rattle.vault.specs.Company.{Passing};
+    ghost use Rattle.vault.specs.Members.{IsMember};
 
     ghost Value = { Passing };
 
     ghost view = { λ a. a.pass };
 
-    ghost invariant = { λ a. a.pass.known.lock ≡ a.vault.now };
+    ghost invariant = { λ a. (a.vault.now ≡ J.vault.lock) × IsMember J.vault a.pass.known };
 }
 
-impl<'a, R, D: Disk> At<'a, R, D> {
-    /// The pass at this vault.
-    pub fn new(rt: &'a R, vault: &'a Vault<D>, pass: VaultPass) -> At<'a, R, D>
-        requires { pass.known.lock ≡ vault.now }
+impl<'a, R, D: Disk, J: Naming> At<'a, R, D, J> {
+    /// The pass at its vault.
+    pub fn new(rt: &'a R, vault: &'a Vault<D>, pass: VaultPass) -> At<'a, R, D, J>
+        requires vault { vault.now ≡ J.vault.lock }
+        requires member { IsMember J.vault pass.known }
         ensures { result ≡ pass }
     {
-        At { rt, vault, pass }
+        At {
+            rt,
+            vault,
+            pass,
+            of: PhantomData,
+        }
     }
 
-    /// The pass.
+    /// The number that the entries of its turns name.
+    pub fn number(&self) -> u32
+        ensures { result ≡ self.now.known.number }
+    {
+        self.pass.number()
+    }
+
+    /// The pass, which is one of the vault of this name.
     pub fn into_pass(self) -> VaultPass
-        ensures { result ≡ self.entry }
+        ensures same { result ≡ self.entry }
+        ensures member { IsMember J.vault result.known }
     {
         let At {
             rt: _,
             vault: _,
             pass,
+            of: _,
         } = self;
         pass
     }
@@ -109,7 +128,7 @@ impl VaultPass {
     }
 }
 
-impl<'a, R, D: Disk> Finder for At<'a, R, D> {
+impl<'a, R, D: Disk, J: Naming> Finder for At<'a, R, D, J> {
     ghost use Rattle.std.specs.Prelude.{false};
     ghost use Rattle.vault.specs.Company.{told_at};
 
@@ -121,17 +140,17 @@ impl<'a, R, D: Disk> Finder for At<'a, R, D> {
 
     ghost covered_later = { λ a t s le all. all };
 
-    #[tactic(auto, using(crate::proofs::AtLaws::looks_on))]
+    #[tactic(auto, using(crate::proofs::AtLaws::looks_on, crate::proofs::MemberLaws::member_same))]
     fn by_date(&mut self, _alloc: Global, key: &Key, time: u64) -> Result<Option<Entry>, Memory> {
         self.pass.nearest(key, time)
     }
 
-    #[tactic(auto, using(crate::proofs::AtLaws::looks_on))]
+    #[tactic(auto, using(crate::proofs::AtLaws::looks_on, crate::proofs::MemberLaws::member_same))]
     fn map(&mut self, alloc: Global, key: &Key) -> Result<Vec<Entry>, Memory> {
         self.pass.with_key(alloc, key)
     }
 
-    #[tactic(auto, using(crate::proofs::AtLaws::looks_on))]
+    #[tactic(auto, using(crate::proofs::AtLaws::looks_on, crate::proofs::MemberLaws::member_same))]
     fn starting(&mut self, alloc: Global, start: &Key) -> Result<Vec<Entry>, Memory> {
         self.pass.starting(alloc, start)
     }

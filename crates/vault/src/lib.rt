@@ -12,6 +12,7 @@ mod item;
 mod keeping;
 mod laws;
 mod listed;
+mod naming;
 mod noted;
 mod noting;
 mod pass;
@@ -26,6 +27,7 @@ pub use item::{Books, Entries, Item};
 pub use laws::{
     histories_are_shared_out, own_entries_stay, passes_stay_orderly, shown_histories_go_on,
 };
+pub use naming::{Naming, Unnamed};
 pub use noted::{Kind, Noted};
 pub use pass::VaultPass;
 pub use vault::Vault;

@@ -34,6 +34,13 @@ impl Model for VaultPass {
 }
 
 impl VaultPass {
+    /// The number that the entries of its turns name.
+    pub fn number(&self) -> u32
+        ensures { result ≡ self.now.known.number }
+    {
+        self.known.number()
+    }
+
     /// What the lock knows of it.
     pub(crate) fn into_known(self) -> Pass<Noted>
         ensures { result ≡ self.known }

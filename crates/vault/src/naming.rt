@@ -1,0 +1,71 @@
+//! Vaults by their names.
+ghost use Rattle.std.specs.Prelude.{◌≡◌, ◌<◌, ◌≤◌, IfErr, IfOk};
+ghost use Rattle.vault.specs.Members.{AreNewMembers};
+
+use crate::pass::VaultPass;
+use crate::vault::Vault;
+use archive_core::Archive;
+use disk_model::Disk;
+use std::alloc::Global;
+use std::marker::{Brand, Model};
+use std::sync::Wait;
+
+/// Which vault it is. Each call of a program picks it.
+pub trait Naming {
+    ghost use Rattle.vault.specs.Members.{VaultName};
+
+    ghost vault: { VaultName };
+}
+
+impl Naming for Brand {
+    ghost use Rattle.vault.specs.Members.{no_vault};
+
+    ghost vault = { no_vault };
+}
+
+/// A vault with its passes, to which no name was given yet. A contract sees the name that it may have. It isn't `Drop`: give it a name.
+pub struct Unnamed<D: Disk> {
+    vault: Vault<D>,
+    passes: Vec<VaultPass>,
+}
+
+impl<D: Disk> Model for Unnamed<D> {
+    ghost use Rattle.vault.specs.Members.{AreNewMembers, VaultName, name_of};
+
+    ghost Value = { VaultName };
+
+    ghost view = { λ u. name_of u.vault u.passes.items };
+
+    ghost invariant = { λ u. AreNewMembers (name_of u.vault u.passes.items) u.passes.items };
+}
+
+impl<D: Disk> Unnamed<D> {
+    /// A vault round an archive, and so many passes. At `Err` there was no memory, and the archive comes back as it was. May wait.
+    pub fn new<R: Wait>(
+        alloc: Global,
+        rt: &R,
+        archive: Archive<D>,
+        passes: u32,
+    ) -> Result<Unnamed<D>, Archive<D>>
+        requires { (0 < passes) × (passes ≤ 17) }
+        ensures passes { IfOk result (λ u. u.passes ≡ passes) }
+        ensures archive { IfOk result (λ u. (u.book ≡ archive.book) × (u.limits ≡ archive.limits) × (u.tells ≡ archive.told)) }
+        ensures err { IfErr result (λ back. back ≡ archive) }
+    {
+        archive.shows_its_book();
+        match Vault::new(alloc, rt, archive, passes) {
+            Ok((vault, passes)) => Ok(Unnamed { vault, passes }),
+            Err(archive) => Err(archive),
+        }
+    }
+
+    /// The vault and its passes, in the order of their numbers, under a name.
+    pub fn named<J: Naming>(self) -> (Vault<D>, Vec<VaultPass>)
+        requires { self ≡ J.vault }
+        ensures vault { result.0 ≡ J.vault.lock }
+        ensures passes { AreNewMembers J.vault result.1.items }
+    {
+        let Unnamed { vault, passes } = self;
+        (vault, passes)
+    }
+}
