@@ -18,3 +18,6 @@ pub mod JoinLaws
 pub mod ShowingLaws
 pub mod AtLaws
 pub mod MemberLaws
+pub mod ShelfLaws
+pub mod BringLaws
+pub mod StoredLaws

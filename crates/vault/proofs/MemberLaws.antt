@@ -1,16 +1,31 @@
 -- Passes of a vault: as they are made, and as they stay.
-use Rattle.std.proofs.Common.{◌≡◌, ℕ, zero, suc, ◌+◌, ◌<◌, ◌≤◌, Bool, IsTrue, List, [], ◌∷◌, length, sym, ap, subst, ◌∙◌, arith}
+use Rattle.std.proofs.Common.{◌≡◌, ℕ, zero, suc, ◌+◌, ◌<◌, ◌≤◌, Bool, false, IsTrue, List, [], ◌∷◌, ◌++◌, length, Result, sym, ap, subst, ◌∙◌, arith}
 use Rattle.std.specs.Prelude.{IfSome, slice_get}
 use Rattle.capture.specs.declared.book.Book.{Book}
 use Rattle.capture.specs.declared.limits.Limits.{Limits}
+use Rattle.capture.specs.declared.captured.Brought.{Brought}
+use Rattle.capture.specs.declared.captured.Taken.{Taken}
 use Rattle.warc_text.specs.Sound.{IsSound}
-use Rattle.history_lock.specs.Known.{Known, LockId}
-use Rattle.vault.specs.Company.{Passing}
-use Rattle.vault.specs.History.{IsOpening, told_book, told_limits}
+use Rattle.archive_shelf.specs.Answers.{NamesKeeper, is_bring_fault, is_store_fault}
+use Rattle.archive_shelf.specs.Digests.{GoesByDigest, PieceGoesByDigest}
+use Rattle.archive_shelf.specs.Pieces.{GivesPiece, is_piece_fault}
+use Rattle.archive_shelf.specs.Told.{ReadsOn, ShowsItsBook, StoresOn}
+use Rattle.archive_shelf.specs.declared.fault.BringFault.{BringFault}
+use Rattle.archive_shelf.specs.declared.fault.StoreFault.{StoreFault}
+use Rattle.archive_shelf.specs.declared.receipt.Receipt.{Receipt}
+use Rattle.history_lock.specs.Known.{IsSamePass, Known, LockId}
+use Rattle.history_lock.specs.Seen.{Turn}
+use Rattle.vault.specs.Company.{Passing, contents_at, told_at}
+use Rattle.vault.specs.History.{IsBegun, IsOpening, by_of, is_told, told_book, told_in, told_limits}
 use Rattle.vault.specs.Members.{AreNewMembers, IsMember, IsNewMember, VaultName, name_of}
+use Rattle.vault.specs.Orderly.{IsOrderly}
 use Rattle.vault.specs.Passes.{IsNew}
+use Rattle.vault.specs.Turns.{AddsFaultAlone, BringsIt, GivesIt, StoresBy}
 use Rattle.vault.specs.declared.noted.Noted.{Noted}
-use Rattle.vault.proofs.OrderlyLaws.{new_are_orderly}
+use Rattle.vault.proofs.BringLaws.{gives_as}
+use Rattle.vault.proofs.OrderlyLaws.{fault_at_most, named_begun, new_are_orderly, reads_keep, stores_keep}
+use Rattle.vault.proofs.ShelfLaws.{Leaves, number_if, one_if, read_book, read_turn, reads_on, shows_book}
+use Rattle.vault.proofs.StoredLaws.{store_left, store_sound, stores_on}
 
 pub member_same : (vault : VaultName) (was is : Known Noted) → is ≡ was → IsMember vault was → IsMember vault is
 member_same vault was is same member = subst (λ (p : Known Noted). IsMember vault p) (sym same) member
@@ -79,3 +94,89 @@ module _ (tells : Bool) (lock : LockId) (passes : ℕ) (book : Book) (limits : L
       each = λ k. within_by (IsNew tells lock passes (k + 1) book limits) (IsNewMember named_so (k + 1)) made k
           (λ p less new. new_member sound (k + 1) (omega arith) (omega (arith, less, count)) p new) (each k);
     })
+
+-- ---- as they stay
+
+pub member_begun : (vault : VaultName) (pass : Known Noted) → IsMember vault pass → IsBegun pass.seen
+member_begun vault pass member = named_begun pass.passes pass.seen member.orderly.named
+
+module _ (vault : VaultName) (was is : Known Noted) (same : IsSamePass was is) (member : IsMember vault was) where
+  stays_member : (stored : List ℕ) (faults : ℕ) → IsOrderly vault.book is → Leaves was.numbers was.seen is.seen stored faults
+      → (IsTrue (is_told was.seen) → IsSound (told_book is.seen)) → IsMember vault is
+  stays_member stored faults orderly leaves sound = record {
+    lock_is = same.0 ∙ member.lock_is;
+    count = same.3 ∙ member.count;
+    alone = same.2 ∙ (member.alone ∙ ap (λ (n : ℕ). n ∷ []) (sym same.1));
+    orderly = orderly;
+    limits_are = leaves.limits ∙ member.limits_are;
+    told = leaves.told ∙ member.told;
+    sound = λ t. sound (subst (λ (b : Bool). IsTrue b) (sym member.told) t);
+  }
+
+  was_sound : IsTrue (is_told was.seen) → IsSound (told_book was.seen)
+  was_sound t = member.sound (subst (λ (b : Bool). IsTrue b) member.told t)
+
+  pub member_stored : (taken : Taken) (result : Result Receipt StoreFault) → StoresBy (is_told was.seen) taken was is result → IsMember vault is
+  member_stored taken result stores =
+      stays_member (number_if result) (one_if (is_store_fault result))
+      (stores_keep vault.book (is_told was.seen) taken was is result same stores member.orderly)
+      (store_left taken was is (member_begun vault was member) member.alone result stores)
+      (store_sound taken was is (member_begun vault was member) member.alone result stores was_sound)
+
+  pub member_read : (does : List Noted → List Noted → Type 0) (failed : Bool) → Turn by_of was is.seen does
+      → ((found added : List Noted) → does found added → AddsFaultAlone failed added)
+      → ((found added : List Noted) → does found added → IsTrue (is_told was.seen) → IsSound (told_book (found ++ added))) → IsMember vault is
+  member_read does failed turn fault sound =
+      stays_member [] (one_if failed)
+      (reads_keep vault.book was is same (fault_at_most was is.seen does turn (λ found added done. (failed, fault found added done))) member.orderly)
+      (read_turn was is.seen does (member_begun vault was member) member.alone turn failed fault)
+      (λ t. subst (λ (l : List Noted). IsSound (told_book l)) (sym turn.adds.is_before_and_added) (sound turn.found turn.adds.added turn.adds.done t))
+
+-- ---- as shelves
+
+pub at_shows : (vault : VaultName) (is : Passing) → IsMember vault is.known → ShowsItsBook false (told_at is)
+at_shows vault is member = shows_book is (λ t. member.sound (subst (λ (b : Bool). IsTrue b) member.told t))
+
+module _ (vault : VaultName) (was is : Passing) (same : IsSamePass was.known is.known) (shown : is.shown ≡ was.shown) (member : IsMember vault was.known) where
+  pub at_stores : (taken : Taken) (result : Result Receipt StoreFault) → StoresBy (is_told was.known.seen) taken was.known is.known result
+      → StoresOn false taken (told_at was) (told_at is) result
+  at_stores taken result stores = stores_on taken was is same shown (member_begun vault was.known member) member.alone result stores
+
+  module _ (number : ℕ) (result : Result Brought BringFault)
+      (turn : Turn by_of was.known is.known.seen (λ found added. BringsIt (is_told was.known.seen) number found added result)) where
+    pub bring_member : IsMember vault is.known
+    bring_member = member_read vault was.known is.known same member _ (is_bring_fault result) turn (λ found added done. done.adds) (λ found added done. done.sound)
+
+    pub bring_reads : ReadsOn false (is_bring_fault result) (told_at was) (told_at is)
+    bring_reads =
+        reads_on was is same shown (is_bring_fault result)
+        (read_turn was.known is.known.seen _ (member_begun vault was.known member) member.alone turn (is_bring_fault result) (λ found added done. done.adds))
+
+    bring_book : told_book is.known.seen ≡ told_book turn.found
+    bring_book = read_book was.known is.known.seen _ (member_begun vault was.known member) member.alone turn (is_bring_fault result) (λ found added done. done.adds)
+
+    pub bring_names : NamesKeeper (told_book is.known.seen) number result
+    bring_names = subst (λ (b : Book). NamesKeeper b number result) (sym bring_book) turn.adds.done.names
+
+    pub bring_digests : GoesByDigest (told_book is.known.seen) number result
+    bring_digests = subst (λ (b : Book). GoesByDigest b number result) (sym bring_book) turn.adds.done.digests
+
+  module _ (number : ℕ) (result : Result (List ℕ) BringFault)
+      (turn : Turn by_of was.known is.known.seen (λ found added. GivesIt (is_told was.known.seen) number found added result)) where
+    pub piece_member : IsMember vault is.known
+    piece_member = member_read vault was.known is.known same member _ (is_piece_fault result) turn (λ found added done. done.adds) (λ found added done. done.sound)
+
+    piece_leaves : Leaves was.known.numbers was.known.seen is.known.seen [] (one_if (is_piece_fault result))
+    piece_leaves = read_turn was.known is.known.seen _ (member_begun vault was.known member) member.alone turn (is_piece_fault result) (λ found added done. done.adds)
+
+    pub piece_reads : ReadsOn false (is_piece_fault result) (told_at was) (told_at is)
+    piece_reads = reads_on was is same shown (is_piece_fault result) piece_leaves
+
+    piece_book : told_book is.known.seen ≡ told_book turn.found
+    piece_book = read_book was.known is.known.seen _ (member_begun vault was.known member) member.alone turn (is_piece_fault result) (λ found added done. done.adds)
+
+    pub piece_gives : GivesPiece (contents_at is) number result
+    piece_gives = gives_as (told_in (is_told was.known.seen) turn.found) (contents_at is) piece_book piece_leaves.told number result turn.adds.done.gives
+
+    pub piece_digests : PieceGoesByDigest (told_book is.known.seen) number result
+    piece_digests = subst (λ (b : Book). PieceGoesByDigest b number result) (sym piece_book) turn.adds.done.digests

@@ -16,7 +16,7 @@ pub not_among : (numbers : List ℕ) (n : ℕ) → Apart n numbers → is_among 
 not_among [] n apart = refl
 not_among (m ∷ numbers) n apart = apart_by numbers n m (nat_eq n m) refl apart.0 (not_among numbers n apart.1)
 
-none_own : (passes : ℕ) (numbers : List ℕ) (more : List Noted) → All (IsOther by_of passes numbers) more → own_entries numbers more ≡ []
+pub none_own : (passes : ℕ) (numbers : List ℕ) (more : List Noted) → All (IsOther by_of passes numbers) more → own_entries numbers more ≡ []
 none_own passes numbers [] others = refl
 none_own passes numbers (noted ∷ more) others =
     ap (λ (b : Bool). if b then noted ∷ own_entries numbers more else own_entries numbers more) (not_among numbers noted.by others.0.0)
@@ -28,7 +28,7 @@ own_by : (numbers : List ℕ) (x : Noted) (xs ys : List Noted) (b : Bool) → ow
 own_by numbers x xs ys true is = ap (λ (l : List Noted). x ∷ l) is
 own_by numbers x xs ys false is = is
 
-own_append : (numbers : List ℕ) (xs ys : List Noted) → own_entries numbers (xs ++ ys) ≡ own_entries numbers xs ++ own_entries numbers ys
+pub own_append : (numbers : List ℕ) (xs ys : List Noted) → own_entries numbers (xs ++ ys) ≡ own_entries numbers xs ++ own_entries numbers ys
 own_append numbers [] ys = refl
 own_append numbers (x ∷ xs) ys = own_by numbers x xs ys (is_among numbers x.by) (own_append numbers xs ys)
 

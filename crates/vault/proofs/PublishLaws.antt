@@ -32,7 +32,7 @@ use Rattle.logbook.specs.Pages.{Book as LogBook}
 use Rattle.vault.specs.Guarded.{Publishes, Stands}
 use Rattle.vault.specs.History.{IsBegun, Names, after_kind, is_told, told_book}
 use Rattle.vault.specs.Items.{AreItems, GoesBehind, book_in, brings_of, last_book, tells_in}
-use Rattle.vault.specs.Listing.{HasBook, IsListed}
+use Rattle.vault.specs.Listing.{HasBook, IsCurrent, IsListed}
 use Rattle.vault.specs.Taking.{IsGathered, TakesItem}
 use Rattle.vault.specs.Turns.{AddsFaultAlone, CommitAnswers, changes}
 use Rattle.vault.specs.declared.item.Item.{Item}
@@ -272,6 +272,14 @@ listed_now tells history held print whole appended p stands note note_is =
       named = p.named;
       told = p.list_told ∙ sym p.told;
       book = λ t. has_book history print.full p.some (p.same t ∙ stands.book);
+    })
+
+pub current_now : {D : Type 0} (tells : Bool) (history : List Noted) (held : Holdings D) (print : Print Item) (whole : Bool) (appended : ℕ)
+    → Publishes tells history held print whole appended → Stands history held → (note : Edge Item) → note ≡ full_of print → IsCurrent history note.items
+current_now tells history held print whole appended p stands note note_is =
+    subst (λ (n : Edge Item). IsCurrent history n.items) (sym note_is) (record {
+      fits = p.fits;
+      grows = subst (λ (b : Book). Grows (last_book print.full) b) stands.book p.grows;
     })
 
 pub opens_so : (tells : Bool) (book : Book) (index : List Facts) (item : Item) → IsGathered tells book index → item.told.value ≡ tells → book_in item ≡ book

@@ -72,7 +72,7 @@ parts_shown passes numbers others seen history shows = (
 
 -- ---- a pass's captures stay
 
-behind_append : (numbers : List ℕ) (book : Book) (xs ys : List Noted)
+pub behind_append : (numbers : List ℕ) (book : Book) (xs ys : List Noted)
     → own_behind numbers book (xs ++ ys) ≡ own_behind numbers book xs ++ own_behind numbers (book_after book xs) ys
 behind_append numbers book [] ys = refl
 behind_append numbers book (x ∷ xs) ys =
@@ -80,7 +80,7 @@ behind_append numbers book (x ∷ xs) ys =
     ap (λ (l : List ℕ). own ++ l) (behind_append numbers (after_kind book x.kind) xs ys)
     ∙ sym (append_assoc own (own_behind numbers (after_kind book x.kind) xs) (own_behind numbers (book_after (after_kind book x.kind) xs) ys))
 
-none_behind : (passes : ℕ) (numbers : List ℕ) (book : Book) (more : List Noted) → All (IsOther by_of passes numbers) more → own_behind numbers book more ≡ []
+pub none_behind : (passes : ℕ) (numbers : List ℕ) (book : Book) (more : List Noted) → All (IsOther by_of passes numbers) more → own_behind numbers book more ≡ []
 none_behind passes numbers book [] others = refl
 none_behind passes numbers book (noted ∷ more) others =
     ap (λ (b : Bool). (if b then number_by (length (captures book)) noted.kind else []) ++ own_behind numbers (after_kind book noted.kind) more)
@@ -158,7 +158,7 @@ captures_rise numbers (first ∷ others) placed =
 
 -- ---- one of a range of numbers
 
-among_one : (n j : ℕ) (b : Bool) → nat_eq j n ≡ b → is_among (n ∷ []) j ≡ b
+pub among_one : (n j : ℕ) (b : Bool) → nat_eq j n ≡ b → is_among (n ∷ []) j ≡ b
 among_one n j true is = ap (λ (b : Bool). if b then true else false) is
 among_one n j false is = ap (λ (b : Bool). if b then true else false) is
 

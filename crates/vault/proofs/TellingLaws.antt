@@ -6,7 +6,7 @@ use Rattle.history_lock.specs.Known.{Known}
 use Rattle.history_lock.specs.Seen.{Adds, Shows, Turn}
 use Rattle.index_snapshot.specs.Edges.{Edge}
 use Rattle.vault.specs.History.{IsBegun, KeepsNames, Names, by_of, is_told}
-use Rattle.vault.specs.Listing.{IsListed}
+use Rattle.vault.specs.Listing.{IsCurrent, IsListed}
 use Rattle.vault.specs.declared.item.Item.{Item}
 use Rattle.vault.specs.declared.noted.Noted.{Noted}
 use Rattle.vault.proofs.HistoryLaws.{begun_append, told_stays}
@@ -20,6 +20,19 @@ adds_listed by before after does note whole adds listed = record {
   is_before_and_added = adds.is_before_and_added;
   of_pass = adds.of_pass;
   done = (adds.done, subst (λ (l : List Noted). IsListed l note whole) adds.is_before_and_added listed);
+}
+
+-- what was added, and the list as it stands then, from whose last book the archive's has grown
+pub adds_current : (by : ℕ) (before after : List Noted) (does : List Noted → Type 0) (note : Edge Item) (whole : Bool) → Adds by_of by before after does → IsListed after note whole
+    → IsCurrent after note.items → Adds by_of by before after (λ added. (does added × IsCurrent (before ++ added) note.items) × IsListed (before ++ added) note whole)
+adds_current by before after does note whole adds listed current = record {
+  added = adds.added;
+  is_before_and_added = adds.is_before_and_added;
+  of_pass = adds.of_pass;
+  done = (
+    (adds.done, subst (λ (l : List Noted). IsCurrent l note.items) adds.is_before_and_added current),
+    subst (λ (l : List Noted). IsListed l note whole) adds.is_before_and_added listed,
+  );
 }
 
 -- nothing was added

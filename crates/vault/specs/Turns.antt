@@ -10,6 +10,7 @@ use Rattle.archive_shelf.specs.Digests.{GoesByDigest, PieceGoesByDigest}
 use Rattle.archive_shelf.specs.Pieces.{GivesPiece, is_piece_fault}
 use Rattle.archive_shelf.specs.Storing.{Gains, as_stored}
 use Rattle.archive_shelf.specs.declared.fault.BringFault.{BringFault}
+use Rattle.archive_shelf.specs.declared.fault.BringFault.TheVariants as brings
 use Rattle.archive_shelf.specs.declared.fault.StoreFault.{StoreFault}
 use Rattle.archive_shelf.specs.declared.fault.StoreFault.TheVariants as stores
 use Rattle.archive_shelf.specs.declared.looked.Looked.{Looked}
@@ -122,6 +123,15 @@ pub record GivesIt (tells : Bool) (number : ℕ) (found added : List Noted) (res
   pub digests : PieceGoesByDigest (told_book found) number result
   pub adds : AddsFaultAlone (is_piece_fault result) added
   pub sound : IsTrue tells → IsSound (told_book (found ++ added))
+
+-- the answer of such a turn, where what is shown by date is known to go with it, and else want of memory in place of what would say something of that
+abbrev pub held_back : Bool → Result Brought BringFault → Result Brought BringFault
+held_back true answer = answer
+held_back false (Ok brought) = Err brings.Memory
+held_back false (Err (brings.NoSuch count)) = Err brings.Memory
+held_back false (Err brings.DiskFault) = Err brings.DiskFault
+held_back false (Err (brings.Damaged number kept digest)) = Err (brings.Damaged number kept digest)
+held_back false (Err brings.Memory) = Err brings.Memory
 
 -- ---- a whole store
 

@@ -23,9 +23,9 @@ use surt_key::Key;
 /// A pass at the vault of this name. A contract sees it as the pass.
 #[derive(Drop)]
 pub struct At<'a, R, D: Disk, J: Naming> {
-    rt: &'a R,
-    vault: &'a Vault<D>,
-    pass: VaultPass,
+    pub(crate) rt: &'a R,
+    pub(crate) vault: &'a Vault<D>,
+    pub(crate) pass: VaultPass,
     of: PhantomData<J>,
 }
 

@@ -3,7 +3,7 @@ ghost use Rattle.std.specs.Prelude.{◌≡◌};
 ghost use Rattle.archive_shelf.specs.Answers.{is_bring_fault};
 ghost use Rattle.history_lock.specs.Seen.{Adds};
 ghost use Rattle.vault.specs.History.{by_of, is_told};
-ghost use Rattle.vault.specs.Turns.{BringsIt};
+ghost use Rattle.vault.specs.Turns.{BringsIt, held_back};
 
 use crate::keeping::Keeping;
 use crate::listed::Listed;
@@ -25,16 +25,16 @@ pub(crate) struct Bring {
 impl<D: Disk> Work<Published<D>> for Bring {
     ghost use Rattle.std.specs.Prelude.{◌++◌};
     ghost use Rattle.vault.specs.History.{is_told};
-    ghost use Rattle.vault.specs.Listing.{IsListed};
+    ghost use Rattle.vault.specs.Listing.{IsCurrent, IsListed};
     ghost use Rattle.vault.specs.Turns.{BringsIt};
 
     type Reply = (Result<Brought, BringFault>, Listed);
 
     ghost ready = { λ work found. Unit {0} };
 
-    ghost does = { λ work by found added reply. BringsIt (is_told found) work.number found added reply.0 × IsListed (found ++ added) reply.1.note reply.1.whole };
+    ghost does = { λ work by found added reply. (BringsIt (is_told found) work.number found added reply.0 × IsCurrent (found ++ added) reply.1.note.items) × IsListed (found ++ added) reply.1.note reply.1.whole };
 
-    #[tactic(auto, using(crate::proofs::TellingLaws::adds_listed))]
+    #[tactic(auto, using(crate::proofs::TellingLaws::adds_current))]
     fn act(self, by: u32, value: &mut Published<D>) -> (Result<Brought, BringFault>, Listed) {
         let answer = value.bring(by, self.alloc, self.number);
         (answer, value.tell())
@@ -77,5 +77,34 @@ fn is_disk_fault(answer: &Result<Brought, BringFault>) -> bool
             },
         ) => false,
         Err(BringFault::Memory) => false,
+    }
+}
+
+/// The answer, where what is shown by date is known to go with it. Else there is said to be no memory, where it would say something of that.
+pub(crate) fn hold_back(
+    answer: Result<Brought, BringFault>,
+    agrees: bool,
+) -> Result<Brought, BringFault>
+    ensures { result ≡ held_back agrees answer }
+{
+    if agrees {
+        return answer;
+    }
+    match answer {
+        Ok(_) => Err(BringFault::Memory),
+        Err(BringFault::NoSuch { count: _ }) => Err(BringFault::Memory),
+        Err(BringFault::DiskFault) => Err(BringFault::DiskFault),
+        Err(
+            BringFault::Damaged {
+                number,
+                kept,
+                found,
+            },
+        ) => Err(BringFault::Damaged {
+            number,
+            kept,
+            found,
+        }),
+        Err(BringFault::Memory) => Err(BringFault::Memory),
     }
 }

@@ -18,6 +18,7 @@ mod noting;
 mod pass;
 mod piece;
 mod published;
+mod shelf;
 #[cfg(test)]
 mod tests;
 mod vault;

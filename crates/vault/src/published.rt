@@ -9,7 +9,7 @@ ghost use Rattle.index_snapshot.specs.Publishing.{edge_of, full_of};
 ghost use Rattle.vault.specs.Guarded.{Stands};
 ghost use Rattle.vault.specs.History.{IsOpening, by_of, is_told, told_in};
 ghost use Rattle.vault.specs.Items.{AreItems, last_book, tells_in};
-ghost use Rattle.vault.specs.Listing.{IsListed};
+ghost use Rattle.vault.specs.Listing.{IsCurrent, IsListed};
 ghost use Rattle.vault.specs.Turns.{BringsIt, Commits, Compares, GivesIt, changes};
 
 use crate::gathering::{first_item, gathered};
@@ -150,6 +150,7 @@ impl<D: Disk> Published<D> {
     /// All that was appended.
     pub(crate) fn tell(&self) -> Listed
         ensures listed { IsListed self.now.kept.history result.note result.whole }
+        ensures current { IsCurrent self.now.kept.history result.note.items }
         ensures note { result.note ≡ full_of self.now.print }
     {
         self.keeping.stands();

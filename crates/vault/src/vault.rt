@@ -3,18 +3,21 @@ ghost use Rattle.std.specs.Prelude.{◌≡◌, ◌⊎◌, ℕ, ◌+◌, ◌<◌,
 ghost use mathlib.Core.List.{IsPrefix};
 ghost use Rattle.sha1.specs.Sha1.{sha1};
 ghost use Rattle.warc_text.specs.Fits.{Fits};
+ghost use Rattle.archive_shelf.specs.Answers.{Brings};
 ghost use Rattle.archive_core.specs.Looking.{IsDigestOf, IsRightOf};
 ghost use Rattle.history_lock.specs.Known.{IsSamePass};
 ghost use Rattle.history_lock.specs.Seen.{Shows, Turn};
-ghost use Rattle.vault.specs.History.{IsBegun, KeepsNames, by_of, is_told, told_in};
-ghost use Rattle.vault.specs.Listing.{IsListed};
+ghost use Rattle.vault.specs.History.{IsBegun, KeepsNames, Names, by_of, is_told, told_in};
+ghost use Rattle.vault.specs.Company.{contents_at};
+ghost use Rattle.vault.specs.Listing.{IsCurrent, IsListed};
 ghost use Rattle.vault.specs.Passes.{IsLeft, IsNew};
 ghost use Rattle.vault.specs.Turns.{BringsIt, Commits, Compares, GivesIt, StoresBy};
 
-use crate::bring::Bring;
+use crate::bring::{Bring, hold_back};
 use crate::commit::Commit;
 use crate::compare::Compare;
 use crate::flush::Flush;
+use crate::item::Item;
 use crate::listed::{Listed, longer};
 use crate::noted::Noted;
 use crate::pass::{VaultPass, seat_all};
@@ -26,6 +29,7 @@ use capture::{Brought, Bytes, Digest, Memory, Taken, growth_keeps_captures};
 use digest32::payload_digest;
 use disk_model::Disk;
 use history_lock::{HistoryLock, Pass};
+use index_snapshot::Note;
 use std::alloc::Global;
 use std::marker::Model;
 use std::sync::Wait;
@@ -207,18 +211,48 @@ impl<D: Disk> Vault<D> {
     ) -> Result<Brought, BringFault>
         requires pass { pass.old.known.lock ≡ self.now }
         ensures turn { Turn by_of pass.old.known pass.new.known.seen (λ found added. BringsIt (is_told pass.old.known.seen) number found added result) }
+        ensures brings { Brings (contents_at pass.new) number result }
         ensures same { IsSamePass pass.old.known pass.new.known }
         ensures shown { pass.new.shown ≡ pass.old.shown }
     {
+        growth_keeps_captures();
         let VaultPass {
             known,
-            viewer: _,
+            viewer,
             listed,
         } = pass;
-        self.bring_by(rt, alloc, known, listed, number)
+        let note = viewer.note();
+        self.bring_beside(rt, alloc, known, listed, &note, number)
     }
 
-    /// Brings a capture for what the lock knows of a pass. May wait.
+    /// Brings a capture for what the lock knows of a pass. What is shown by date has to go with it, so the list that was seen is compared with
+    /// the one that the turn tells of. May wait.
+    fn bring_beside<R: Wait>(
+        &self,
+        rt: &R,
+        alloc: Global,
+        pass: &mut Pass<Noted>,
+        listed: &mut Listed,
+        shown: &Note<Item>,
+        number: u32,
+    ) -> Result<Brought, BringFault>
+        requires pass { pass.old.lock ≡ self.now }
+        requires begun { IsBegun pass.old.seen }
+        requires names { Names pass.old.seen shown.now.of }
+        ensures turn { Turn by_of pass.old pass.new.seen (λ found added. BringsIt (is_told pass.old.seen) number found added result) }
+        ensures brings { Brings (contents_at (record { known = pass.new; shown = shown.now })) number result }
+        ensures same { IsSamePass pass.old pass.new }
+        ensures listed { IsListed pass.new.seen listed.new.note listed.new.whole }
+        ensures names { KeepsNames pass.old.seen pass.new.seen }
+        ensures told { is_told pass.new.seen ≡ is_told pass.old.seen }
+    {
+        growth_keeps_captures();
+        let answer = self.bring_by(rt, alloc, pass, listed, number);
+        let agrees = shown.begins(&listed.note);
+        hold_back(answer, agrees)
+    }
+
+    /// Takes the turn. May wait.
     fn bring_by<R: Wait>(
         &self,
         rt: &R,
@@ -229,7 +263,7 @@ impl<D: Disk> Vault<D> {
     ) -> Result<Brought, BringFault>
         requires pass { pass.old.lock ≡ self.now }
         requires begun { IsBegun pass.old.seen }
-        ensures turn { Turn by_of pass.old pass.new.seen (λ found added. BringsIt (is_told pass.old.seen) number found added result) }
+        ensures turn { Turn by_of pass.old pass.new.seen (λ found added. BringsIt (is_told pass.old.seen) number found added result × IsCurrent (found ++ added) listed.new.note.items) }
         ensures same { IsSamePass pass.old pass.new }
         ensures listed { IsListed pass.new.seen listed.new.note listed.new.whole }
         ensures names { KeepsNames pass.old.seen pass.new.seen }

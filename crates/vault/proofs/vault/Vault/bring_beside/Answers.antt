@@ -1,0 +1,34 @@
+-- The answer is held back where the list that was seen isn't the beginning of the one that the turn tells of.
+use Rattle.std.proofs.Common.{sym, subst}
+use Rattle.std.specs.Prelude.{Result}
+use Rattle.archive_shelf.specs.Answers.{Brings}
+use Rattle.archive_shelf.specs.declared.fault.BringFault.{BringFault}
+use Rattle.capture.specs.declared.captured.Brought.{Brought}
+use Rattle.history_lock.specs.Seen.{Turn}
+use Rattle.vault.specs.Company.{contents_at}
+use Rattle.vault.specs.History.{by_of, is_told}
+use Rattle.vault.specs.Turns.{BringsIt}
+use Rattle.vault.proofs.BringLaws.{names_one, prefix_if, turn_brings, turn_held}
+use Rattle.vault.proofs.vault.Vault.bring_beside.Goals as goal
+
+pub begins-agrees-requires : goal.begins-agrees-requires
+begins-agrees-requires g c =
+    names_one c.bring_by-answer.new.pass.seen c.args.shown.now.of c.bring_by-answer.new.listed.note.of
+    (c.bring_by-answer.ensures.names c.args.shown.now.of c.requires.names) c.bring_by-answer.ensures.listed.named
+
+pub returns-clause-turn : goal.returns-clause-turn
+returns-clause-turn g c =
+    subst (λ (r : Result Brought BringFault). Turn by_of c.args.pass.now c.bring_by-answer.new.pass.seen
+    (λ found added. BringsIt (is_told c.args.pass.now.seen) c.args.number found added r)) (sym c.hold_back.ensures)
+    (turn_held c.growth_keeps_captures.ensures.keeps c.args.pass.now c.bring_by-answer.new.pass c.args.number c.bring_by-answer.new.listed.note c.args.shown.now
+    c.bring_by-answer.new.listed.whole c.begins-agrees.result c.bring_by-answer.result c.requires.begun c.bring_by-answer.ensures.listed c.bring_by-answer.ensures.told
+    c.bring_by-answer.ensures.turn)
+
+pub returns-clause-brings : goal.returns-clause-brings
+returns-clause-brings g c =
+    subst (λ (r : Result Brought BringFault). Brings (contents_at (record { known = c.bring_by-answer.new.pass; shown = c.args.shown.now })) c.args.number r)
+    (sym c.hold_back.ensures)
+    (turn_brings c.growth_keeps_captures.ensures.keeps c.args.pass.now c.bring_by-answer.new.pass c.args.number c.bring_by-answer.new.listed.note c.args.shown.now
+    c.bring_by-answer.new.listed.whole c.begins-agrees.result c.bring_by-answer.result c.requires.begun c.bring_by-answer.ensures.listed c.bring_by-answer.ensures.told
+    c.bring_by-answer.ensures.turn
+    (prefix_if c.begins-agrees.result c.args.shown.now.items c.bring_by-answer.new.listed.note.items c.begins-agrees.ensures))
