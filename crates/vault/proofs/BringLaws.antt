@@ -4,7 +4,6 @@ use mathlib.Core.List.{IsPrefix}
 use mathlib.Core.Bool.{true≢false}
 use Rattle.std.specs.Prelude.{Contains, MatchBool}
 use Rattle.capture.specs.Captures.{captures}
-use Rattle.capture.specs.Growth.{Grows}
 use Rattle.capture.specs.GrowthLaws.{GrowthKeepsCaptures}
 use Rattle.capture.specs.declared.book.Book.{Book}
 use Rattle.capture.specs.declared.captured.Brought.{Brought}
@@ -13,7 +12,7 @@ use Rattle.cdxj_index.specs.OfBook.{IsEntryOf}
 use Rattle.cdxj_index.proofs.Members.{Among-append_left, among_from_contains, contains_from_among}
 use Rattle.archive_shelf.specs.Answers.{AgreesAt, Brings, IsBrought, IsDamaged, IsNamed, KeepsPayloadOf, NamesKeeper, ShowsNone, is_bring_fault}
 use Rattle.archive_shelf.specs.Contents.{Contents}
-use Rattle.archive_shelf.specs.Digests.{GoesByDigest, PieceGoesByDigest}
+use Rattle.archive_shelf.specs.Digests.{GoesByDigest}
 use Rattle.archive_shelf.specs.Pieces.{GivesPiece, IsPiece, IsSomePiece}
 use Rattle.archive_shelf.specs.declared.fault.BringFault.{BringFault}
 use Rattle.archive_shelf.specs.declared.fault.BringFault.TheVariants as brings
@@ -23,7 +22,7 @@ use Rattle.history_lock.specs.Seen.{Turn}
 use Rattle.index_snapshot.specs.Edges.{Edge}
 use Rattle.index_snapshot.specs.Entries.{entries_in}
 use Rattle.logbook.specs.Pages.{Book as LogBook}
-use Rattle.vault.specs.Company.{Passing, contents_at}
+use Rattle.vault.specs.Company.{contents_at}
 use Rattle.vault.specs.History.{IsBegun, Names, NamesIn, by_of, is_told, told_book, told_in}
 use Rattle.vault.specs.Items.{brings_of, last_book, shown_in, tells_in}
 use Rattle.vault.specs.Listing.{IsCurrent, IsListed}

@@ -1,6 +1,7 @@
 -- Passes of a vault: as they are made, and as they stay.
 use Rattle.std.proofs.Common.{◌≡◌, ℕ, zero, suc, ◌+◌, ◌<◌, ◌≤◌, Bool, false, IsTrue, List, [], ◌∷◌, ◌++◌, length, Result, sym, ap, subst, ◌∙◌, arith}
-use Rattle.std.specs.Prelude.{IfSome, slice_get}
+use Rattle.std.specs.Prelude.{IfSome, Option, None, Some, slice_get}
+use Rattle.std.specs.List as list
 use Rattle.capture.specs.declared.book.Book.{Book}
 use Rattle.capture.specs.declared.limits.Limits.{Limits}
 use Rattle.capture.specs.declared.captured.Brought.{Brought}
@@ -24,6 +25,7 @@ use Rattle.vault.specs.Turns.{AddsFaultAlone, BringsIt, GivesIt, StoresBy}
 use Rattle.vault.specs.declared.noted.Noted.{Noted}
 use Rattle.vault.proofs.BringLaws.{gives_as}
 use Rattle.vault.proofs.OrderlyLaws.{fault_at_most, named_begun, new_are_orderly, reads_keep, stores_keep}
+use Rattle.vault.proofs.PassLaws.{all_of}
 use Rattle.vault.proofs.ShelfLaws.{Leaves, number_if, one_if, read_book, read_turn, reads_on, shows_book}
 use Rattle.vault.proofs.StoredLaws.{store_left, store_sound, stores_on}
 
@@ -94,6 +96,14 @@ module _ (tells : Bool) (lock : LockId) (passes : ℕ) (book : Book) (limits : L
       each = λ k. within_by (IsNew tells lock passes (k + 1) book limits) (IsNewMember named_so (k + 1)) made k
           (λ p less new. new_member sound (k + 1) (omega arith) (omega (arith, less, count)) p new) (each k);
     })
+
+member_if : (vault : VaultName) (number : ℕ) (pass : Option Passing) → IfSome pass (IsNewMember vault number) → IfSome pass (λ p. IsMember vault p.known)
+member_if vault number None new = tt
+member_if vault number (Some p) new = new.member
+
+pub members_all : (vault : VaultName) (passes : List Passing) → AreNewMembers vault passes → list.All (λ (p : Passing). IsMember vault p.known) passes
+members_all vault passes new =
+    all_of (λ (p : Passing). IsMember vault p.known) passes (λ k. member_if vault (k + 1) (slice_get passes k) (new.each k))
 
 -- ---- as they stay
 

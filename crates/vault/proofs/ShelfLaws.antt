@@ -1,5 +1,5 @@
 -- What a call of a pass leaves, as of one of many shelves over an archive.
-use Rattle.std.proofs.Common.{◌≡◌, ◌⊎◌, ℕ, ◌+◌, ◌<◌, ◌≤◌, Bool, true, false, IsTrue, if◌then◌else◌, List, [], ◌∷◌, ◌++◌, length, Result, Ok, Err, refl, sym, ap, subst, ◌∙◌, inl, inr, eq-eqb, arith}
+use Rattle.std.proofs.Common.{◌≡◌, ℕ, ◌+◌, Bool, true, false, IsTrue, if◌then◌else◌, List, [], ◌∷◌, ◌++◌, length, Result, Ok, Err, refl, sym, ap, subst, ◌∙◌, inl, eq-eqb, arith}
 use mathlib.Core.Bool.{true≢false}
 use Rattle.std.specs.Prelude.{Option}
 use Rattle.std.proofs.lemmas.List.{append-nil}
@@ -18,7 +18,7 @@ use Rattle.archive_shelf.specs.declared.fault.StoreFault.TheVariants as stores
 use Rattle.archive_shelf.specs.declared.receipt.Receipt.{Receipt}
 use Rattle.archive_shelf.proofs.StoringLaws.{captures_stay}
 use Rattle.history_lock.specs.Known.{IsSamePass, Known}
-use Rattle.history_lock.specs.Seen.{All, IsOther, Shows, Turn}
+use Rattle.history_lock.specs.Seen.{All, Shows, Turn}
 use Rattle.index_snapshot.specs.Edges.{Edge}
 use Rattle.vault.specs.Company.{Passing, contents_at, told_at}
 use Rattle.vault.specs.History.{IsBegun, after_kind, book_after, by_of, is_told, opened_book, told_book, told_limits}

@@ -1,44 +1,49 @@
-//! Two passes in two threads. No case can say it: a case has one thread.
+//! Passes beside each other, in two threads and as shelves. No case can say it: a case has one thread.
 mod fitting;
 
-ghost use Rattle.std.specs.Prelude.{◌≡◌, IfOk};
+ghost use Rattle.std.specs.Prelude.{◌≡◌};
 ghost use Rattle.std.specs.List.{All};
 ghost use Rattle.warc_text.specs.Fits.{Fits};
+ghost use Rattle.vault.specs.Members.{IsMember};
 
 use crate::at::At;
+use crate::naming::{Naming, Unnamed};
 use crate::pass::VaultPass;
 use crate::vault::Vault;
 use archive_core::Archive;
-use archive_shelf::{Depth, Finder};
+use archive_shelf::{Depth, Finder, Receipt, Shelf, StoreFault};
 use capture::{Limits, Taken};
 use disk_model::{Disk, MemoryDisk};
 use fitting::fitting;
 use std::alloc::Global;
+use std::marker::Brand;
 use std::process::Abort;
 use std::sync::Wait;
 use std::test::*;
 use std::thread::{Threads, join};
 use surt_key::key_of_address;
 
+const FIRST: &[u8] = b"http://a.test/1";
+
+const SECOND: &[u8] = b"http://a.test/2";
+
 const HEAD: &[u8] = b"HTTP/1.1 204 No Content\r\n\r\n";
 
-// A vault with three passes.
-fn begun<R: Wait, D: Disk>(
-    rt: &R,
-    alloc: Global,
-    archive: Archive<D>,
-) -> Result<(Vault<D>, Vec<VaultPass>), Archive<D>>
-    ensures { IfOk result (λ r. All (λ p. p.known.lock ≡ r.0) r.1.items) }
+// The vault and its passes.
+fn begun<J: Naming, D: Disk>(unnamed: Unnamed<D>) -> (Vault<D>, Vec<VaultPass>)
+    requires { unnamed ≡ J.vault }
+    ensures vault { result.0 ≡ J.vault.lock }
+    ensures passes { All (λ p. IsMember J.vault p.known) result.1.items }
 {
-    let made = Vault::new(alloc, rt, archive, 3)?;
-    Ok(made)
+    unnamed.named::<J>()
 }
 
 // One of the passes.
-fn take_pass<R: Abort, D: Disk>(rt: &R, vault: &Vault<D>, passes: &mut Vec<VaultPass>) -> VaultPass
-    requires { All (λ p. p.known.lock ≡ vault.now) passes.old.items }
-    ensures lock { result.known.lock ≡ vault.now }
-    ensures others { All (λ p. p.known.lock ≡ vault.now) passes.new.items }
+fn take_pass<J: Naming, R: Abort>(rt: &R, passes: &mut Vec<VaultPass>) -> VaultPass
+    requires { All (λ p. IsMember J.vault p.known) passes.old.items }
+    ensures member { IsMember J.vault result.known }
+    ensures lock { result.known.lock ≡ J.vault.lock }
+    ensures others { All (λ p. IsMember J.vault p.known) passes.new.items }
 {
     passes.pop().expect(rt, "a pass is left")
 }
@@ -87,7 +92,7 @@ fn stored_beside<R: Threads + Wait + Sync, D: Disk + Send>(
 }
 
 // Whether a pass finds a capture of each of these addresses by date.
-fn finds_both<R: Abort, D: Disk>(
+fn finds_both<J: Naming, R: Abort, D: Disk>(
     rt: &R,
     alloc: Global,
     vault: &Vault<D>,
@@ -95,19 +100,20 @@ fn finds_both<R: Abort, D: Disk>(
     first: &[u8],
     second: &[u8],
 ) -> bool
-    requires { pass.known.lock ≡ vault.now }
+    requires vault { vault.now ≡ J.vault.lock }
+    requires pass { IsMember J.vault pass.known }
 {
-    let mut at = At::new(rt, vault, pass);
+    let mut at: At<R, D, J> = At::new(rt, vault, pass);
     let one = found_by_date(rt, alloc, &mut at, first);
     let other = found_by_date(rt, alloc, &mut at, second);
     one && other
 }
 
 // Whether a capture of an address is found by date.
-fn found_by_date<'a, R: Abort, D: Disk>(
+fn found_by_date<'a, J: Naming, R: Abort, D: Disk>(
     rt: &R,
     alloc: Global,
-    at: &mut At<'a, R, D>,
+    at: &mut At<'a, R, D, J>,
     address: &[u8],
 ) -> bool {
     let Ok(keyed) = key_of_address(alloc, address) else {
@@ -126,40 +132,111 @@ fn two_passes_store_in_two_threads(rt: HostRuntime) -> Result<(), Fail> {
 }
 
 fn both_stored<R: Threads + Wait + Abort + Sync>(rt: &R, alloc: Global) {
-    let one = capture_of(
-        rt,
-        alloc,
-        b"http://a.test/1",
-        b"GET /1 HTTP/1.1\r\nHost: a.test\r\n\r\n",
-    );
-    let other = capture_of(
-        rt,
-        alloc,
-        b"http://a.test/2",
-        b"GET /2 HTTP/1.1\r\nHost: a.test\r\n\r\n",
-    );
-    let Ok((vault, mut passes)) = begun(rt, alloc, opened(rt, alloc)) else {
+    let (one, other) = both_captures(rt, alloc);
+    let Ok(unnamed) = Unnamed::new(alloc, rt, opened(rt, alloc), 3) else {
         panic!(rt; "no memory")
     };
-    let first = take_pass(rt, &vault, &mut passes);
-    let second = take_pass(rt, &vault, &mut passes);
-    let third = take_pass(rt, &vault, &mut passes);
-    let (first, second) = stored_beside(rt, alloc, &vault, first, &one, second, &other);
+    stored_in_threads::<Brand, R, MemoryDisk>(rt, alloc, unnamed, &one, &other);
+}
+
+fn stored_in_threads<J: Naming, R: Threads + Wait + Abort + Sync, D: Disk + Send + Drop>(
+    rt: &R,
+    alloc: Global,
+    unnamed: Unnamed<D>,
+    one: &Taken,
+    other: &Taken,
+)
+    requires name { unnamed ≡ J.vault }
+    requires fits { Fits one.now × Fits other.now }
+{
+    let (vault, mut passes) = begun::<J, D>(unnamed);
+    let first = take_pass::<J, R>(rt, &mut passes);
+    let second = take_pass::<J, R>(rt, &mut passes);
+    let third = take_pass::<J, R>(rt, &mut passes);
+    let (first, second) = stored_beside(rt, alloc, &vault, first, one, second, other);
     assert!(rt; first.1 && second.1);
     // The third pass took no turn, and finds by date what the others stored.
-    assert!(rt;
-        finds_both(
-            rt,
-            alloc,
-            &vault,
-            third,
-            b"http://a.test/1",
-            b"http://a.test/2"
-        )
-    );
+    assert!(rt; finds_both::<J, R, D>(rt, alloc, &vault, third, FIRST, SECOND));
     let all = vault.join(first.0, second.0);
     let archive = vault.close(rt, all);
     assert!(rt; archive.counts().captures == 2);
+}
+
+#[test]
+fn shelves_find_and_bring_what_others_stored(rt: HostRuntime) -> Result<(), Fail> {
+    both_shelved(&rt, rt.alloc());
+    Ok(())
+}
+
+fn both_shelved<R: Wait + Abort>(rt: &R, alloc: Global) {
+    let (one, other) = both_captures(rt, alloc);
+    let Ok(unnamed) = Unnamed::new(alloc, rt, opened(rt, alloc), 2) else {
+        panic!(rt; "no memory")
+    };
+    stored_by_shelves::<Brand, R, MemoryDisk>(rt, alloc, unnamed, &one, &other);
+}
+
+// Each of two shelves stores a capture, and finds and brings that of the other.
+fn stored_by_shelves<J: Naming, R: Wait + Abort, D: Disk + Drop>(
+    rt: &R,
+    alloc: Global,
+    unnamed: Unnamed<D>,
+    one: &Taken,
+    other: &Taken,
+)
+    requires name { unnamed ≡ J.vault }
+    requires fits { Fits one.now × Fits other.now }
+{
+    let (vault, mut passes) = begun::<J, D>(unnamed);
+    let second = take_pass::<J, R>(rt, &mut passes);
+    let first = take_pass::<J, R>(rt, &mut passes);
+    let mut first: At<R, D, J> = At::new(rt, &vault, first);
+    let mut second: At<R, D, J> = At::new(rt, &vault, second);
+    assert!(rt; first.number() == 1 && second.number() == 2);
+    assert!(rt; number_of(first.store(alloc, one)) == 0);
+    assert!(rt; number_of(second.store(alloc, other)) == 1);
+    assert!(rt; found_by_date(rt, alloc, &mut second, FIRST));
+    assert!(rt; found_by_date(rt, alloc, &mut first, SECOND));
+    assert!(rt; brings_it(alloc, &mut second, 0, FIRST));
+    assert!(rt; brings_it(alloc, &mut first, 1, SECOND));
+    let all = vault.join(first.into_pass(), second.into_pass());
+    let archive = vault.close(rt, all);
+    assert!(rt; archive.counts().captures == 2);
+}
+
+// The number that a store answered.
+fn number_of(answer: Result<Receipt, StoreFault>) -> u32 {
+    match answer {
+        Ok(receipt) => receipt.number,
+        Err(_) => u32::MAX,
+    }
+}
+
+// Whether a capture of this address is brought.
+fn brings_it<'a, J: Naming, R: Wait, D: Disk>(
+    alloc: Global,
+    at: &mut At<'a, R, D, J>,
+    number: u32,
+    address: &[u8],
+) -> bool {
+    match at.bring(alloc, number) {
+        Ok(brought) => brought.uri.as_slice() == address,
+        Err(_) => false,
+    }
+}
+
+// Two captures of two addresses.
+fn both_captures<R: Abort>(rt: &R, alloc: Global) -> (Taken, Taken)
+    ensures { Fits result.0 × Fits result.1 }
+{
+    let one = capture_of(rt, alloc, FIRST, b"GET /1 HTTP/1.1\r\nHost: a.test\r\n\r\n");
+    let other = capture_of(
+        rt,
+        alloc,
+        SECOND,
+        b"GET /2 HTTP/1.1\r\nHost: a.test\r\n\r\n",
+    );
+    (one, other)
 }
 
 // A capture that may be stored.

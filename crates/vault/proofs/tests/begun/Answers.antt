@@ -1,6 +1,5 @@
-use Rattle.std.specs.Prelude.{slice_get}
-use Rattle.vault.proofs.PassLaws.{all_of, made_of}
+use Rattle.vault.proofs.MemberLaws.{members_all}
 use Rattle.vault.proofs.tests.begun.Goals as goal
 
-pub returns : goal.returns
-returns g c = all_of _ c.in_ok-made.made.1.items (λ k. made_of _ _ _ _ _ _ (slice_get c.in_ok-made.made.1.items k) (c.in_ok-made.ensures.each k))
+pub returns-clause-passes : goal.returns-clause-passes
+returns-clause-passes g c = members_all g.J.Naming.vault c.named.result.1.items c.named.ensures.passes
