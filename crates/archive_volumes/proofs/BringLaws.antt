@@ -19,10 +19,11 @@ use Rattle.capture.specs.declared.captured.Kept.{Kept}
 use Rattle.capture.specs.declared.captured.Kept.TheVariants.{Wire, Same, Cut}
 use Rattle.capture.specs.declared.captured.Stored.{Stored}
 use Rattle.capture.specs.declared.framing.Framing.{Framing}
+use Rattle.disk_model.proofs.MomentLaws.{joined}
 use Rattle.disk_model.specs.Image.{Image}
 use Rattle.disk_model.specs.declared.disk.Disk.{Ghosts}
 use Rattle.warc_journal.specs.Extents.{texts_in, warc_files}
-use Rattle.warc_journal.specs.Journals.{disk_of, extent_of, texts}
+use Rattle.warc_journal.specs.Journals.{Rests, disk_of, extent_of, texts}
 use Rattle.warc_journal.specs.declared.extent.Extent.{Extent}
 use Rattle.warc_text.specs.Sound.{IsSound}
 use Rattle.archive_shelf.specs.Answers.{IsBrought, IsDamaged, IsNamed, IsReplayable, KeepsPayloadOf}
@@ -53,11 +54,19 @@ quiet_then d old mid new first second = record {
   kept = λ files has. first.kept files (second.kept files has);
 }
 
+rests_then : {D : Type 0} (d : Ghosts D) (old mid new : D) → Rests d old mid → Rests d mid new → Rests d old new
+rests_then d old mid new first second = record {
+  read = second.read ∙ first.read;
+  crash = λ image there. first.crash image (second.crash image there);
+  leaves = joined d.moment d.images_since old mid new (λ image. ⊥) first.leaves second.leaves;
+}
+
 pub reads_then : {D : Type 0} (d : Ghosts D) (old mid new : Volumes D) → OnlyReads d old mid → OnlyReads d mid new → OnlyReads d old new
 reads_then d old mid new first second = record {
   held = second.held ∙ first.held;
   extent = second.extent ∙ first.extent;
   reading = λ told. second.reading told ∙ first.reading told;
+  rests = λ told. rests_then d (disk_of old.journal) (disk_of mid.journal) (disk_of new.journal) (first.rests told) (second.rests told);
   in_step = λ in_step. second.in_step (first.in_step in_step);
   holds = λ told holds. second.holds told (first.holds told holds);
   measured = λ measured. second.measured (first.measured measured);

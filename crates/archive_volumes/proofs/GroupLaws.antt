@@ -22,6 +22,12 @@ pub if_ok_so : {T E : Type 0} (P Q : T → Type 0) (result : Result T E) → IfO
 if_ok_so P Q (Ok value) is so = so value is
 if_ok_so P Q (Err e) is so = tt
 
+-- what two things are known of
+pub if_ok_both : {T E : Type 0} (P Q R : T → Type 0) (result : Result T E) → IfOk result P → IfOk result Q → ((value : T) → P value → Q value → R value)
+    → IfOk result R
+if_ok_both P Q R (Ok value) first second so = so value first second
+if_ok_both P Q R (Err e) first second so = tt
+
 -- what is read at an index stands there
 pub got : (spots : List Spot) (k : ℕ) (spot : Spot) → k < length spots → spot ≡ get_or spots k spot → slice_get spots k ≡ Some spot
 got spots k spot within is = slice_get-get_or spots k spot within ∙ ap Some (sym is)

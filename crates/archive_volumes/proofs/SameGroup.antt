@@ -120,6 +120,18 @@ referred r = record { id = r.id; uri = r.uri; date = r.date }
 same_reference : (a b : Reference) → Some a ≡ Some b → a ≡ b
 same_reference a b e = cc
 
+-- what goes with one reference is a revisit, or isn't
+one_form : (same : Option Reference) (a b : Kept) → Goes same a → Goes same b → is_same_form (form_of a) ≡ is_same_form (form_of b)
+one_form same (Wire wire) (Wire other) goes goes₂ = refl
+one_form same (Wire wire) (Cut other) goes goes₂ = refl
+one_form same (Wire wire) (Same number) goes goes₂ = absurd (goes₂ goes)
+one_form same (Cut wire) (Wire other) goes goes₂ = refl
+one_form same (Cut wire) (Cut other) goes goes₂ = refl
+one_form same (Cut wire) (Same number) goes goes₂ = absurd (goes₂ goes)
+one_form same (Same number) (Wire wire) goes goes₂ = absurd (goes goes₂)
+one_form same (Same number) (Cut wire) goes goes₂ = absurd (goes goes₂)
+one_form same (Same number) (Same other) goes goes₂ = refl
+
 -- ---- the group of a book's capture
 
 module _ (book : Book) (sound : IsSound book) (number : ℕ) (bytes : List ℕ) (g : IsGroupText book number bytes) (group : Group)
@@ -152,6 +164,9 @@ module _ (book : Book) (sound : IsSound book) (number : ℕ) (bytes : List ℕ) 
   pub taken : taken_back group.stored ≡ taken_back g.stored
   taken = one_taken group.stored g.stored (reference_in group.same) group.stored.kept (kept_found g.stored.kept) equal.captures goes goes_in_book
       ∙ taken_found g.stored
+
+  pub same_forms : is_same_form (form_of group.stored.kept) ≡ is_same_form (form_of g.stored.kept)
+  same_forms = one_form (reference_in group.same) group.stored.kept (kept_found g.stored.kept) goes goes_in_book ∙ unfound g.stored.kept
 
   -- the group of a capture that keeps its wire
   pub is_own : (head payload : List ℕ) (cut : Bool) → head ≡ group.stored.head

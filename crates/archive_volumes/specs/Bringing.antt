@@ -6,7 +6,7 @@ use Rattle.capture.specs.Captures.{IsPayloadOf}
 use Rattle.capture.specs.declared.book.Book.{Book}
 use Rattle.capture.specs.declared.captured.Brought.{Brought}
 use Rattle.disk_model.specs.declared.disk.Disk.{Ghosts}
-use Rattle.warc_journal.specs.Journals.{IsInStep, disk_of, extent_of}
+use Rattle.warc_journal.specs.Journals.{IsInStep, Rests, disk_of, extent_of}
 use Rattle.archive_shelf.specs.Answers.{IsBrought, IsDamaged, IsNamed, IsReplayable, KeepsPayloadOf}
 use Rattle.archive_shelf.specs.declared.fault.BringFault.{BringFault}
 use Rattle.archive_shelf.specs.declared.fault.BringFault.TheVariants as brings
@@ -23,11 +23,13 @@ use Rattle.archive_volumes.specs.declared.payload.ReadBack.TheVariants as back
 use Rattle.archive_volumes.specs.declared.spot.Spot.{Spot}
 use Rattle.archive_volumes.specs.declared.volumes.Volumes.{Volumes}
 
--- The volumes hold the book that they held, a read gives what it gave, and nothing more may be opened.
+-- The volumes hold the book that they held, and nothing more may be opened. Where the disk tells, a read gives what it gave, and a crash leaves
+-- at each moment what it might have left before.
 pub record OnlyReads {D : Type 0} (d : Ghosts D) (old new : Volumes D) : Type 0 where
   pub held : new.held ≡ old.held
   pub extent : extent_of new.journal ≡ extent_of old.journal
   pub reading : IsTrue d.tells → d.reading (disk_of new.journal) ≡ d.reading (disk_of old.journal)
+  pub rests : IsTrue d.tells → Rests d (disk_of old.journal) (disk_of new.journal)
   pub in_step : (IsTrue d.tells → IsInStep d old.journal) → IsTrue d.tells → IsInStep d new.journal
   pub holds : (told : Bool) → HoldsBook d told old.journal (book_of old.held) → HoldsBook d told new.journal (book_of new.held)
   pub measured : IsMeasured old.journal (book_of old.held) → IsMeasured new.journal (book_of new.held)

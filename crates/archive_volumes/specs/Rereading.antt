@@ -1,8 +1,10 @@
 -- A capture of which a line alone told, read whole by its place.
-use Rattle.std.specs.Prelude.{◌≡◌, ◌≢◌, ◌⊎◌, ℕ, ◌^◌, ◌<◌, Bool, true, false, IsSomeAnd, List, ◌++◌, length, slice_get, get_or, Option, Some, None}
+use Rattle.std.specs.Prelude.{◌≡◌, ◌≢◌, ◌⊎◌, ℕ, ◌^◌, ◌<◌, Bool, true, false, if◌then◌else◌, IsSomeAnd, List, ◌++◌, length, slice_get, get_or, Option, Some, None, ⊤}
+use Rattle.std.specs.Str.{bytes_eq}
 use Rattle.sha1.specs.Sha1.{sha1}
 use Rattle.capture.specs.Captures.{captures, is_cut, kept_wire, HasPayload, IsPayloadOf}
 use Rattle.capture.specs.declared.book.Book.{Book}
+use Rattle.capture.specs.declared.captured.Brought.{Brought}
 use Rattle.capture.specs.declared.captured.Kept.TheVariants.{Same}
 use Rattle.capture.specs.declared.captured.Stored.{Stored}
 use Rattle.warc_scan.specs.Answers.{BeginsWithGroup}
@@ -14,7 +16,7 @@ use Rattle.warc_text.specs.declared.id.IdKind.TheVariants.{Response}
 use Rattle.archive_shelf.specs.Comparing.{KeepsWire}
 use Rattle.archive_volumes.specs.Bringing.{AreOf}
 use Rattle.archive_volumes.specs.Decoding.{IsHead}
-use Rattle.archive_volumes.specs.Spots.{form_of, is_same_form}
+use Rattle.archive_volumes.specs.Spots.{form_of, is_same_form, is_told_form, part, text_at}
 use Rattle.archive_volumes.specs.declared.payload.ReadBack.{ReadBack}
 use Rattle.archive_volumes.specs.declared.payload.ReadBack.TheVariants as back
 use Rattle.archive_volumes.specs.declared.reread.Reread.{Reread}
@@ -38,19 +40,84 @@ IsReread digest (reread.Own head payload cut) = IsHead head true × (sha1 payloa
 IsReread digest (reread.Same head same) = IsHead head true
 IsReread digest (reread.Damaged found) = found ≢ Some digest
 
--- what is read of a group, where the line told this digest
-abbrev pub IsRereadBy : Group → List ℕ → Reread → Type 0
-IsRereadBy group digest (reread.Own head payload cut) =
+-- what is kept of a capture is what was stored, but for the digest
+pub record IsStoredOf (stored : Stored) (spot : Spot) : Type 0 where
+  pub method : stored.method ≡ spot.method
+  pub uri : stored.uri ≡ spot.uri
+  pub date : stored.date ≡ spot.date
+  pub revisit : is_same_form (form_of stored.kept) ≡ is_same_form spot.form
+
+-- a group tells what is kept of its capture
+pub record IsAsKept (group : Group) (spot : Spot) : Type 0 where
+  pub digest : group.digest ≡ spot.digest
+  pub stored : IsStoredOf group.stored spot
+
+-- what a group tells by another digest than the one that is kept; none where the digest is the same one
+abbrev pub other_digest : List ℕ → List ℕ → Option (List ℕ)
+other_digest found kept = if bytes_eq found kept then None else Some found
+
+-- what is read of a group, where this is kept of its capture: nothing of one that doesn't tell it
+abbrev pub IsRereadBy : Group → Spot → Reread → Type 0
+IsRereadBy group spot (reread.Own head payload cut) =
     (head ≡ group.stored.head) × HasPayload cut group.stored.method group.stored.head (kept_wire group.stored.kept) payload
-    × (cut ≡ is_cut group.stored.kept) × (is_same_form (form_of group.stored.kept) ≡ false)
-IsRereadBy group digest (reread.Same head same) = (head ≡ group.stored.head) × (group.same ≡ Some same)
-IsRereadBy group digest (reread.Damaged found) = group.digest ≢ digest
+    × (cut ≡ is_cut group.stored.kept) × (is_same_form (form_of group.stored.kept) ≡ false) × IsAsKept group spot
+IsRereadBy group spot (reread.Same head same) = (head ≡ group.stored.head) × (group.same ≡ Some same) × IsAsKept group spot
+IsRereadBy group spot (reread.Damaged found) = (IsAsKept group spot → ⊥) × (found ≡ other_digest group.digest spot.digest)
 
 -- bytes begin with a group of which this is read, or with none
-abbrev pub IsRereadIn : List ℕ → ℕ → List ℕ → List ℕ → Reread → Type 0
-IsRereadIn namespace number bytes digest read =
-    ((group : Group) × BeginsWithGroup namespace number bytes group × IsRereadBy group digest read)
-    ⊎ ((group : Group) → BeginsWithGroup namespace number bytes group → ⊥)
+abbrev pub IsRereadIn : List ℕ → ℕ → List ℕ → Spot → Reread → Type 0
+IsRereadIn namespace number bytes spot read =
+    ((group : Group) × BeginsWithGroup namespace number bytes group × IsRereadBy group spot read)
+    ⊎ (((group : Group) → BeginsWithGroup namespace number bytes group → ⊥) × (read ≡ reread.Damaged None))
+
+-- ---- where the disk tells, whatever is told of the book
+
+-- the bytes of a capture's volume from its place on
+abbrev pub from_place : List (List ℕ) → Spot → ℕ → List ℕ
+from_place texts spot long = part (text_at texts spot.volume) spot.at long
+
+-- this is read of the bytes that stand at the capture's place
+pub record IsRereadThere (texts : List (List ℕ)) (namespace : List ℕ) (number : ℕ) (spot : Spot) (read : Reread) : Type 0 where
+  pub long : ℕ
+  pub is : IsRereadIn namespace number (from_place texts spot long) spot read
+
+-- a group with the capture's number stands at its place, and tells what is kept of it
+pub record StandsThere (texts : List (List ℕ)) (namespace : List ℕ) (number : ℕ) (spot : Spot) (group : Group) : Type 0 where
+  pub long : ℕ
+  pub begins : BeginsWithGroup namespace number (from_place texts spot long) group
+  pub as_kept : IsAsKept group spot
+
+-- a group's capture keeps its wire, and these are its head and its payload
+pub record IsOwnIn (group : Group) (head payload : List ℕ) : Type 0 where
+  pub head_is : head ≡ group.stored.head
+  pub own : is_same_form (form_of group.stored.kept) ≡ false
+  pub has : HasPayload (is_cut group.stored.kept) group.stored.method group.stored.head (kept_wire group.stored.kept) payload
+
+-- what was read of a capture that is to keep its wire is what the group tells that stands there
+abbrev pub IsBackThere : List (List ℕ) → List ℕ → ℕ → Spot → ReadBack → Type 0
+IsBackThere texts namespace number spot (back.Right head payload) = (group : Group) × StandsThere texts namespace number spot group × IsOwnIn group head payload
+IsBackThere texts namespace number spot (back.Damaged found) = ⊤
+
+-- a group tells of its capture what is brought: the payload, where it keeps its wire
+pub record IsBroughtOf (group : Group) (brought : Brought) : Type 0 where
+  pub method : brought.method ≡ group.stored.method
+  pub uri : brought.uri ≡ group.stored.uri
+  pub date : brought.date ≡ group.stored.date
+  pub head : brought.head ≡ group.stored.head
+  pub payload : is_same_form (form_of group.stored.kept) ≡ false
+      → HasPayload (is_cut group.stored.kept) group.stored.method group.stored.head (kept_wire group.stored.kept) brought.payload
+
+-- of a capture of which a line alone told what the group tells is brought that stands at its place
+abbrev pub IsBroughtThere : List (List ℕ) → List ℕ → ℕ → Spot → Brought → Type 0
+IsBroughtThere texts namespace number spot brought =
+    is_told_form spot.form ≡ true → (group : Group) × StandsThere texts namespace number spot group × IsBroughtOf group brought
+
+-- of a capture of which a line alone told a group stands at its place that tells what is kept of it, and keeps a whole wire with this payload
+abbrev pub IsChosenThere : List (List ℕ) → List ℕ → List Spot → List ℕ → ℕ → Type 0
+IsChosenThere texts namespace spots payload number =
+    (spot : Spot) → slice_get spots number ≡ Some spot → is_told_form spot.form ≡ true
+    → (group : Group) × StandsThere texts namespace number spot group
+    × HasPayload false group.stored.method group.stored.head (kept_wire group.stored.kept) payload
 
 -- ---- where the book is told
 

@@ -9,6 +9,7 @@ ghost use Rattle.archive_shelf.specs.declared.fault.BringFault.TheVariants.{Dama
 ghost use Rattle.archive_volumes.specs.Bringing.{BringsFrom, OnlyReads, brought_of};
 ghost use Rattle.archive_volumes.specs.Digests.{GoesByKeeper, GoesByKept, GoesByLine, GoesByOwn};
 ghost use Rattle.archive_volumes.specs.Held.{book_of};
+ghost use Rattle.archive_volumes.specs.Rereading.{IsBroughtThere};
 ghost use Rattle.archive_volumes.specs.Spots.{AreSpotsOf, ArePlaced, AreWithin, is_same_form, whole_from};
 ghost use Rattle.archive_volumes.specs.Volumes.{HoldsBook, IsMeasured};
 ghost use Rattle.archive_volumes.specs.declared.spot.Form.TheVariants as forms;
@@ -70,6 +71,8 @@ impl<D: Disk> Volumes<D> {
         requires own { (spot : SpotValue) → slice_get spots.now number ≡ Some spot → is_same_form spot.form ≡ false }
         ensures brings { BringsFrom told.now.value (book_of self.old.held) number result }
         ensures digest { (spot : SpotValue) → slice_get spots.now number ≡ Some spot → GoesByOwn number spot.digest result }
+        ensures there { IsTrue D.tells → (spot : SpotValue) → slice_get spots.now number ≡ Some spot
+            → IfOk result (IsBroughtThere (texts D.Disk self.old.journal) (book_of self.old.held).namespace number spot) }
         ensures reads { OnlyReads D.Disk self.old self.new }
         ensures faults { CountsIf (is_bring_fault result) (D.faults (disk_of self.old.journal)) (D.faults (disk_of self.new.journal)) }
     {
@@ -150,6 +153,8 @@ impl<D: Disk> Volumes<D> {
         requires rising { IsStrictlyIncreasing candidates.now }
         ensures brings { BringsFrom told.now.value (book_of self.old.held) number result }
         ensures digest { (spot : SpotValue) → slice_get spots.now number ≡ Some spot → GoesByLine number spot.digest result }
+        ensures there { IsTrue D.tells → (spot : SpotValue) → slice_get spots.now number ≡ Some spot
+            → IfOk result (IsBroughtThere (texts D.Disk self.old.journal) (book_of self.old.held).namespace number spot) }
         ensures reads { OnlyReads D.Disk self.old self.new }
         ensures faults { CountsIf (is_bring_fault result) (D.faults (disk_of self.old.journal)) (D.faults (disk_of self.new.journal)) }
     {
@@ -190,6 +195,8 @@ impl<D: Disk> Volumes<D> {
         ensures brings { BringsFrom told.now.value (book_of self.old.held) number result }
         ensures names { NamesKeeper (book_of self.old.held) number result }
         ensures kept { GoesByKept spots.now number result }
+        ensures there { IsTrue D.tells → (spot : SpotValue) → slice_get spots.now number ≡ Some spot
+            → IfOk result (IsBroughtThere (texts D.Disk self.old.journal) (book_of self.old.held).namespace number spot) }
         ensures digests { GoesByDigest (book_of self.old.held) number result }
         ensures reads { OnlyReads D.Disk self.old self.new }
         ensures faults { CountsIf (is_bring_fault result) (D.faults (disk_of self.old.journal)) (D.faults (disk_of self.new.journal)) }

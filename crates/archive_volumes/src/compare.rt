@@ -1,5 +1,5 @@
 //! Which capture has a payload. Candidates are those with its digest; their payloads are compared as the disk has them.
-ghost use Rattle.std.specs.Prelude.{◌≡◌, ◌↔◌, ℕ, List, [], ◌+◌, ◌^◌, ◌<◌, Option, false, nat_le, filter, IsFalse, IsTrue, IfOk, Some, length, slice_get};
+ghost use Rattle.std.specs.Prelude.{◌≡◌, ◌↔◌, ℕ, List, [], ◌+◌, ◌^◌, ◌<◌, Option, false, nat_le, filter, IsFalse, IsTrue, IfOk, IfSome, None, Some, length, slice_get};
 ghost use Rattle.std.specs.List.Sorted.{IsStrictlyIncreasing};
 ghost use Rattle.sha1.specs.Sha1.{sha1};
 ghost use Rattle.capture.specs.Body.{IsWire};
@@ -12,6 +12,7 @@ ghost use Rattle.archive_volumes.specs.Bringing.{IsKept, OnlyReads, is_read_faul
 ghost use Rattle.archive_volumes.specs.Choosing.{Asks, Chooses, Compares, ComparesWith, IsComparison, LooksOn, MayBeWhole, MayBeWholeAt, NoneDamagedBelow, is_look_fault};
 ghost use Rattle.archive_volumes.specs.Decoding.{HoldsPayload, is_plain as spec_plain};
 ghost use Rattle.archive_volumes.specs.Held.{book_of};
+ghost use Rattle.archive_volumes.specs.Rereading.{IsChosenThere};
 ghost use Rattle.archive_volumes.specs.Spots.{AreHeldWhole, AreSpotsOf, ArePlaced, AreWithin, HasPlace, is_cut_form, whole_from, wire_in};
 ghost use Rattle.archive_volumes.specs.Volumes.{HoldsBook, IsMeasured};
 ghost use Rattle.archive_volumes.specs.declared.spot.Form.TheVariants as forms;
@@ -229,6 +230,8 @@ impl<D: Disk> Volumes<D> {
         requires whole { MayBeWholeAt spots.now number }
         requires form { (spot : SpotValue) → slice_get spots.now number ≡ Some spot → spot.form ≡ forms.Told false }
         ensures asks { (payload : List ℕ) → IsPayload false framing wire.now payload → Asks told.now.value (book_of self.old.held) number payload result }
+        ensures there { IsTrue D.tells → (payload : List ℕ) → IsPayload false framing wire.now payload → IfOk result (λ has. IsTrue has
+            → IsChosenThere (texts D.Disk self.old.journal) (book_of self.old.held).namespace spots.now payload number) }
         ensures reads { OnlyReads D.Disk self.old self.new }
         ensures faults { CountsIf (is_look_fault result) (D.faults (disk_of self.old.journal)) (D.faults (disk_of self.new.journal)) }
     {
@@ -272,6 +275,8 @@ impl<D: Disk> Volumes<D> {
         requires made { IsFalse told.now.value → AreHeldWhole (book_of self.old.held) spots.now }
         requires whole { MayBeWholeAt spots.now number }
         ensures asks { (payload : List ℕ) → IsPayload false framing wire.now payload → Asks told.now.value (book_of self.old.held) number payload result }
+        ensures there { IsTrue D.tells → (payload : List ℕ) → IsPayload false framing wire.now payload → IfOk result (λ has. IsTrue has
+            → IsChosenThere (texts D.Disk self.old.journal) (book_of self.old.held).namespace spots.now payload number) }
         ensures reads { OnlyReads D.Disk self.old self.new }
         ensures faults { CountsIf (is_look_fault result) (D.faults (disk_of self.old.journal)) (D.faults (disk_of self.new.journal)) }
     {
@@ -311,6 +316,8 @@ impl<D: Disk> Volumes<D> {
         requires whole { MayBeWhole spots.now candidates.now }
         ensures chooses { (payload : List ℕ) → IsPayload false framing wire.now payload
             → Chooses told.now.value (book_of self.old.held) candidates.now payload result }
+        ensures there { IsTrue D.tells → (payload : List ℕ) → IsPayload false framing wire.now payload → IfOk result (λ found. IfSome found
+            (IsChosenThere (texts D.Disk self.old.journal) (book_of self.old.held).namespace spots.now payload)) }
         ensures reads { OnlyReads D.Disk self.old self.new }
         ensures faults { CountsIf (is_look_fault result) (D.faults (disk_of self.old.journal)) (D.faults (disk_of self.new.journal)) }
     {
@@ -349,6 +356,9 @@ impl<D: Disk> Volumes<D> {
         requires right { (payload : List ℕ) → IsPayload false framing wire.now payload → IsRight told.now.value (book_of self.old.held) payload looked }
         ensures looks { (payload : List ℕ) → IsPayload false framing wire.now payload → LooksOn told.now.value (book_of self.old.held) payload result }
         ensures since { NoneDamagedBelow looked.upto result }
+        ensures there { IsTrue D.tells → (payload : List ℕ) → IsPayload false framing wire.now payload → looked.same ≡ None
+            → IfOk result (λ now. IfSome now.same
+            (IsChosenThere (texts D.Disk self.old.journal) (book_of self.old.held).namespace spots.now payload)) }
         ensures reads { OnlyReads D.Disk self.old self.new }
         ensures faults { CountsIf (is_look_fault result) (D.faults (disk_of self.old.journal)) (D.faults (disk_of self.new.journal)) }
     {

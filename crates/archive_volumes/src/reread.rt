@@ -1,5 +1,5 @@
 //! A capture of which a line alone told, read whole by its place.
-ghost use Rattle.std.specs.Prelude.{◌≡◌, ◌<◌, ◌^◌, ℕ, List, IfOk, IsTrue, Some, false, length, slice_get};
+ghost use Rattle.std.specs.Prelude.{◌≡◌, ◌<◌, ◌^◌, ℕ, List, IfOk, IsFalse, IsTrue, Some, false, true, length, slice_get};
 ghost use Rattle.capture.specs.Captures.{HasPayload};
 ghost use Rattle.warc_journal.specs.Journals.{disk_of, texts};
 ghost use Rattle.warc_scan.specs.Groups.{IsGroup};
@@ -7,8 +7,8 @@ ghost use Rattle.warc_scan.specs.declared.group.Revisited.{Revisited as Revisite
 ghost use Rattle.archive_shelf.specs.Answers.{CountsIf};
 ghost use Rattle.archive_volumes.specs.Bringing.{IsChecked, IsReadRight, OnlyReads, is_read_fault};
 ghost use Rattle.archive_volumes.specs.Held.{book_of};
-ghost use Rattle.archive_volumes.specs.Rereading.{IsReread, IsRereadBy, IsRereadIn, IsRereadOf, own_by};
-ghost use Rattle.archive_volumes.specs.Spots.{AreSpotsOf, ArePlaced, AreWithin, is_same_form};
+ghost use Rattle.archive_volumes.specs.Rereading.{IsBackThere, IsReread, IsRereadBy, IsRereadIn, IsRereadOf, IsRereadThere, IsStoredOf, own_by};
+ghost use Rattle.archive_volumes.specs.Spots.{AreSpotsOf, ArePlaced, AreWithin, is_same_form, is_told_form};
 ghost use Rattle.archive_volumes.specs.Volumes.{HoldsBook, IsMeasured};
 ghost use Rattle.archive_volumes.specs.declared.reread.Reread.TheVariants.{Own as OwnRead, Same as SameRead};
 ghost use Rattle.archive_volumes.specs.declared.spot.Spot.{Spot as SpotValue};
@@ -16,7 +16,7 @@ ghost use Rattle.archive_volumes.specs.declared.spot.Spot.{Spot as SpotValue};
 use crate::decode::{framing_behind, payload_in};
 use crate::part::ReadFault;
 use crate::payload::ReadBack;
-use crate::spot::Spot;
+use crate::spot::{Spot, form_kept};
 use crate::volumes::Volumes;
 use capture::{Bytes, Digest, Kept, Memory, Stored, Text, wires_have_one_payload};
 use disk_model::Disk;
@@ -39,7 +39,8 @@ pub(crate) enum Reread {
         head: Bytes,
         same: Revisited,
     },
-    /// Its group tells this other digest, or no group with its number stands there (`None`).
+    /// Its group tells this other digest; or no group with its number stands there, or one of another target, date or method, or which is a
+    /// revisit where it isn't to be one (`None`).
     Damaged(Option<Digest>),
 }
 
@@ -61,11 +62,28 @@ fn own(alloc: Global, method: &Text, head: Bytes, wire: Bytes, cut: bool) -> Res
     }
 }
 
-/// What a group tells of its capture, if its digest is the one that is kept.
-fn reread_of(alloc: Global, group: Group, kept: &Digest) -> Result<Reread, Memory>
+/// Whether this is kept of a capture that was stored, but for the digest.
+fn is_stored_of(stored: &Stored, spot: &Spot) -> bool
+    ensures met { IsTrue result → IsStoredOf stored.now spot.now }
+    ensures missed { IsFalse result → IsStoredOf stored.now spot.now → ⊥ }
+{
+    if stored.date != spot.date {
+        return false;
+    }
+    if stored.uri != spot.uri {
+        return false;
+    }
+    if stored.method != spot.method {
+        return false;
+    }
+    form_kept(&stored.kept).is_same() == spot.form.is_same()
+}
+
+/// What a group tells of its capture, if it tells what is kept of that.
+fn reread_of(alloc: Global, group: Group, spot: &Spot) -> Result<Reread, Memory>
     requires is { (namespace : List ℕ) × (number : ℕ) × (text : List ℕ) × IsGroup namespace number text group }
-    ensures read { IfOk result (IsReread kept.now) }
-    ensures by { IfOk result (IsRereadBy group kept.now) }
+    ensures read { IfOk result (IsReread spot.now.digest) }
+    ensures by { IfOk result (IsRereadBy group spot.now) }
 {
     let Group {
         number: _,
@@ -78,8 +96,11 @@ fn reread_of(alloc: Global, group: Group, kept: &Digest) -> Result<Reread, Memor
         first_len: _,
         len: _,
     } = group;
-    if digest != *kept {
+    if digest != spot.digest {
         return Ok(Reread::Damaged(Some(digest)));
+    }
+    if !is_stored_of(&stored, spot) {
+        return Ok(Reread::Damaged(None));
     }
     let Stored {
         method,
@@ -112,13 +133,13 @@ fn reread_in(
     bytes: &[u8],
     namespace: &Uuid,
     number: u32,
-    kept: &Digest,
+    spot: &Spot,
 ) -> Result<Reread, Memory>
-    ensures read { IfOk result (IsReread kept.now) }
-    ensures by { IfOk result (IsRereadIn namespace.now number bytes.now kept.now) }
+    ensures read { IfOk result (IsReread spot.now.digest) }
+    ensures by { IfOk result (IsRereadIn namespace.now number bytes.now spot.now) }
 {
     match next_group(alloc, bytes, false, namespace, number) {
-        GroupStep::Group(group) => reread_of(alloc, group, kept),
+        GroupStep::Group(group) => reread_of(alloc, group, spot),
         GroupStep::End => Ok(Reread::Damaged(None)),
         GroupStep::Unfinished => Ok(Reread::Damaged(None)),
         GroupStep::Damaged => Ok(Reread::Damaged(None)),
@@ -159,13 +180,15 @@ impl<D: Disk> Volumes<D> {
         requires within { IsTrue D.tells → AreWithin (texts D.Disk self.old.journal) spots.now }
         requires placed { IsTrue told.now.value → ArePlaced (texts D.Disk self.old.journal) (book_of self.old.held) spots.now }
         ensures read { (spot : SpotValue) → slice_get spots.now number ≡ Some spot → IfOk result (IsReread spot.digest) }
+        ensures there { IsTrue D.tells → (spot : SpotValue) → slice_get spots.now number ≡ Some spot
+            → IfOk result (IsRereadThere (texts D.Disk self.old.journal) (book_of self.old.held).namespace number spot) }
         ensures right { IsTrue told.now.value → IfOk result (IsRereadOf (book_of self.old.held) number) }
         ensures reads { OnlyReads D.Disk self.old self.new }
         ensures faults { CountsIf (is_read_fault result) (D.faults (disk_of self.old.journal)) (D.faults (disk_of self.new.journal)) }
     {
         let bytes = self.read_text(told, alloc, spots, number)?;
-        let kept = spots[number as usize].digest;
-        let read = reread_in(alloc, bytes.as_slice(), &self.held.namespace, number, &kept)?;
+        let spot = &spots[number as usize];
+        let read = reread_in(alloc, bytes.as_slice(), &self.held.namespace, number, spot)?;
         Ok(read)
     }
 
@@ -185,6 +208,8 @@ impl<D: Disk> Volumes<D> {
         requires placed { IsTrue told.now.value → ArePlaced (texts D.Disk self.old.journal) (book_of self.old.held) spots.now }
         requires own { (spot : SpotValue) → slice_get spots.now number ≡ Some spot → is_same_form spot.form ≡ false }
         ensures checked { (spot : SpotValue) → slice_get spots.now number ≡ Some spot → IfOk result (IsChecked spot.digest) }
+        ensures there { IsTrue D.tells → (spot : SpotValue) → slice_get spots.now number ≡ Some spot → is_told_form spot.form ≡ true
+            → IfOk result (IsBackThere (texts D.Disk self.old.journal) (book_of self.old.held).namespace number spot) }
         ensures right { IsTrue told.now.value → IfOk result (IsReadRight (book_of self.old.held) number) }
         ensures reads { OnlyReads D.Disk self.old self.new }
         ensures faults { CountsIf (is_read_fault result) (D.faults (disk_of self.old.journal)) (D.faults (disk_of self.new.journal)) }

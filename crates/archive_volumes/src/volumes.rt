@@ -6,7 +6,7 @@ ghost use Rattle.capture.specs.Tails.{IsCommitted};
 ghost use Rattle.disk_model.specs.Crash.{Leaves};
 ghost use Rattle.time_text.specs.Texts.{InRange};
 ghost use Rattle.warc_journal.specs.Extents.{cdxj_files, warc_files};
-ghost use Rattle.warc_journal.specs.Journals.{IsInStep, disk_of, extent_of, last_len, texts, volumes};
+ghost use Rattle.warc_journal.specs.Journals.{IsInStep, Rests, disk_of, extent_of, last_len, texts, volumes};
 ghost use Rattle.warc_journal.specs.Texts.{Hold, with_more};
 ghost use Rattle.warc_text.specs.Books.{AreVolumeTexts, IsGroupText};
 ghost use Rattle.warc_text.specs.Sound.{IsSound};
@@ -166,6 +166,7 @@ impl<D: Disk> Volumes<D> {
         ensures held { self.new.held ≡ self.old.held }
         ensures extent { extent_of self.new.journal ≡ extent_of self.old.journal }
         ensures reading { IsTrue D.tells → D.reading (disk_of self.new.journal) ≡ D.reading (disk_of self.old.journal) }
+        ensures rests { IsTrue D.tells → Rests D.Disk (disk_of self.old.journal) (disk_of self.new.journal) }
         ensures texts { IsTrue D.tells → texts D.Disk self.new.journal ≡ texts D.Disk self.old.journal }
         ensures in_step { IsTrue D.tells → IsInStep D.Disk self.new.journal }
         ensures holds { (told : Bool) → HoldsBook D.Disk told self.old.journal (book_of self.old.held)

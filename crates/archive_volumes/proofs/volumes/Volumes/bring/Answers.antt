@@ -1,3 +1,5 @@
+use Rattle.archive_volumes.proofs.RereadLaws.{untold_there}
+use Rattle.warc_journal.specs.Journals.{texts}
 use Rattle.std.proofs.Common.{Bool, ℕ, List, ap, ◌∙◌, arith}
 use Rattle.revisit_table.specs.Table.{numbers_of}
 use Rattle.archive_volumes.proofs.BringLaws.{refers_to}
@@ -166,3 +168,10 @@ returns-then-revisit-clause-digests g c =
     let here = got c.args.spots.now c.args.number spot c.requires.below c.index-spots-number.is in
     let its = c.requires.spots.each c.args.number spot here in
     line_digests book c.args.number spot its (ap is_told_form c.in-Told.is) c.bring_told.result (c.bring_told.ensures.digest spot here)
+
+pub returns-in-Same-clause-there : goal.returns-in-Same-clause-there
+returns-in-Same-clause-there g c tells other at =
+    let spot = c.index-spots-number.result in
+    let here = got c.args.spots.now c.args.number spot c.requires.below c.index-spots-number.is in
+    untold_there (texts g.D.Disk c.args.self.now.journal) (book_of c.args.self.now.held).namespace c.args.number other
+    (ap is_told_form (form_at c.args.spots.now c.args.number spot other here at ∙ c.in-Same.is)) c.bring_same.result

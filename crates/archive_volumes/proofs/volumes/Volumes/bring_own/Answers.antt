@@ -1,10 +1,14 @@
+use Rattle.archive_volumes.specs.declared.spot.Spot.{Spot}
+use Rattle.archive_volumes.proofs.RereadLaws.{own_brought_there}
+use Rattle.archive_volumes.specs.Rereading.{IsBackThere, IsBroughtThere}
+use Rattle.warc_journal.specs.Journals.{texts}
 use Rattle.std.proofs.Common.{IsTrue, Ok, refl, sym, subst, inl, arith}
 use Rattle.std.specs.Prelude.{slice_get, ◌≡◌, Some}
 use Rattle.capture.specs.declared.captured.Brought.{Brought}
 use Rattle.archive_volumes.proofs.BringLaws.{damaged, named, own_brought, replayable}
-use Rattle.archive_volumes.proofs.DigestLaws.{own_goes}
+use Rattle.archive_volumes.proofs.DigestLaws.{own_goes, one_spot}
 use Rattle.archive_volumes.proofs.GroupLaws.{got}
-use Rattle.archive_volumes.specs.Bringing.{AreOf, BringsFrom, IsChecked, IsReadRight}
+use Rattle.archive_volumes.specs.Bringing.{AreOf, BringsFrom, IsChecked, IsReadRight, brought_of}
 use Rattle.archive_volumes.specs.Digests.{GoesByOwn}
 use Rattle.archive_volumes.specs.Held.{book_of}
 use Rattle.archive_volumes.specs.Spots.{IsSpotOf}
@@ -47,3 +51,15 @@ pub returns-in-Damaged-clause-digest : goal.returns-in-Damaged-clause-digest
 returns-in-Damaged-clause-digest g c other at =
     own_goes c.args.spots.now c.args.number c.index-spots-number.result other
     (got c.args.spots.now c.args.number c.index-spots-number.result c.requires.below c.index-spots-number.is) at c.in-Damaged.found
+
+pub returns-in_ok-brought-in-Right-clause-there : goal.returns-in_ok-brought-in-Right-clause-there
+returns-in_ok-brought-in-Right-clause-there g c tells other at =
+    let spot = c.index-spots-number.result in
+    let all = texts g.D.Disk c.args.self.now.journal in
+    let namespace = (book_of c.args.self.now.held).namespace in
+    let here : slice_get c.args.spots.now c.args.number ≡ Some spot = got c.args.spots.now c.args.number spot c.requires.below c.index-spots-number.is in
+    subst (IsBroughtThere all namespace c.args.number other) (sym c.in_ok-brought-in-Right.ensures)
+    (subst (λ (s : Spot). IsBroughtThere all namespace c.args.number s (brought_of spot c.in-Right.head c.in-Right.payload))
+    (one_spot c.args.spots.now c.args.number spot other here at)
+    (own_brought_there all namespace c.args.number spot c.in-Right.head c.in-Right.payload
+    (λ told. subst (IsBackThere all namespace c.args.number spot) c.in-Right.is (c.in_ok-read.ensures.there tells spot here told))))

@@ -1,3 +1,6 @@
+use Rattle.archive_volumes.specs.declared.spot.Spot.{Spot}
+use Rattle.archive_volumes.specs.Spots.{is_same_form}
+use Rattle.archive_volumes.proofs.RereadLaws.{same_brought_there}
 use Rattle.std.proofs.Common.{◌≡◌, true, ℕ, Bool, IsTrue, List, Option, None, Ok, Err, Result, refl, sym, ap, subst, inl, arith}
 use Rattle.std.specs.Prelude.{IfSome}
 use Rattle.sha1.specs.Sha1.{sha1}
@@ -8,14 +11,14 @@ use Rattle.archive_shelf.specs.declared.fault.BringFault.{BringFault}
 use Rattle.archive_shelf.specs.declared.fault.BringFault.TheVariants as brings
 use Rattle.archive_volumes.proofs.BringLaws.{damaged, named, no_digest, placed_on, reads_then, replayable, spots_on, within_on}
 use Rattle.archive_volumes.proofs.ChooseLaws.{numbers_digest, numbers_whole}
-use Rattle.archive_volumes.proofs.DigestLaws.{line_goes}
+use Rattle.archive_volumes.proofs.DigestLaws.{line_goes, one_spot}
 use Rattle.archive_volumes.proofs.GroupLaws.{got}
 use Rattle.archive_volumes.proofs.OriginalLaws.{first_told, no_own, told_brought}
-use Rattle.archive_volumes.specs.Bringing.{BringsFrom}
+use Rattle.archive_volumes.specs.Bringing.{BringsFrom, brought_of}
 use Rattle.archive_volumes.specs.Decoding.{IsHead}
 use Rattle.archive_volumes.specs.Digests.{GoesByLine}
 use Rattle.archive_volumes.specs.Held.{book_of}
-use Rattle.archive_volumes.specs.Rereading.{HasItsPayload, IsFirstTold, IsReread, IsRereadOf, IsSameOf}
+use Rattle.archive_volumes.specs.Rereading.{HasItsPayload, IsFirstTold, IsReread, IsRereadOf, IsSameOf, IsBroughtThere, IsRereadThere}
 use Rattle.archive_volumes.specs.declared.reread.Reread.{Reread}
 use Rattle.archive_volumes.proofs.volumes.Volumes.bring_told.Goals as goal
 
@@ -147,3 +150,15 @@ returns-in_err-payload-in-Same-clause-reads g c =
 pub returns-in_err-brought-in-Some-clause-reads : goal.returns-in_err-brought-in-Some-clause-reads
 returns-in_err-brought-in-Some-clause-reads g c =
     reads_then g.D.Disk c.args.self.now c.reread.new.self c.original_payload.new.self c.reread.ensures.reads c.original_payload.ensures.reads
+
+pub returns-in-Some-clause-there : goal.returns-in-Some-clause-there
+returns-in-Some-clause-there g c tells other at =
+    let spot = c.index-spots-number.result in
+    let all = texts g.D.Disk c.args.self.now.journal in
+    let namespace = (book_of c.args.self.now.held).namespace in
+    let here = got c.args.spots.now c.args.number spot c.requires.below c.index-spots-number.is in
+    subst (IsBroughtThere all namespace c.args.number other) (sym c.in_ok-brought-in-Some.ensures)
+    (subst (λ (s : Spot). IsBroughtThere all namespace c.args.number s (brought_of spot c.in-Same.head c.in-Some.payload))
+    (one_spot c.args.spots.now c.args.number spot other here at)
+    (same_brought_there all namespace c.args.number spot c.in-Same.head c.in-Some.payload c.in-Same.same (ap is_same_form (c.requires.form spot here))
+    (subst (IsRereadThere all namespace c.args.number spot) c.in-Same.is (c.in_ok-read.ensures.there tells spot here))))

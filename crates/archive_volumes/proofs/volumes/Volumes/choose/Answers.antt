@@ -1,3 +1,4 @@
+use Rattle.archive_volumes.proofs.RereadLaws.{chosen_on}
 use Rattle.std.proofs.Common.{false, Ok, get_or, refl, ap, subst, ◌∙◌, arith}
 use Rattle.capture.specs.declared.book.Book.{Book}
 use Rattle.archive_shelf.specs.Comparing.{HasWhole}
@@ -56,3 +57,8 @@ loop-candidate-preserved g c =
 pub returns-clause-chooses : goal.returns-clause-chooses
 returns-clause-chooses g c payload is told k less =
     c.loop-candidate.invariant.none payload is told k (omega (arith, less, c.loop-candidate-test.false))
+
+pub returns-then-has-clause-there : goal.returns-then-has-clause-there
+returns-then-has-clause-there g c tells payload is =
+    chosen_on g.D.Disk c.args.self.now c.loop-candidate.self c.loop-candidate.invariant.reads tells c.args.spots.now payload _
+    (c.in_ok-has.ensures.there tells payload is c.if-has.true)

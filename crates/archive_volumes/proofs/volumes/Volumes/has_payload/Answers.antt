@@ -1,3 +1,4 @@
+use Rattle.std.proofs.lemmas.Bool.{false≢true}
 use Rattle.std.proofs.Common.{◌≡◌, IsTrue, false, refl, sym, ap, subst, ◌∙◌}
 use Rattle.std.proofs.lemmas.Option.{same_Some}
 use Rattle.warc_journal.specs.Journals.{texts}
@@ -73,3 +74,11 @@ returns-in-Damaged-clause-asks g c payload is =
       damaged c.args.told.now.value c.index-spots-number.result.digest c.in-Damaged.found never
           (subst (λ (r : Compared). IsComparison c.index-spots-number.result.digest payload r) c.in-Damaged.is (c.in_ok-answer.ensures.comparison payload is)),
     )
+
+pub returns-in-Same-clause-there : goal.returns-in-Same-clause-there
+returns-in-Same-clause-there g c tells payload is has other at told =
+    let book = book_of c.args.self.now.held in
+    let spot = c.index-spots-number.result in
+    let here = got c.args.spots.now c.args.number spot (its_bound book c.args.spots.now c.requires.spots c.args.number c.requires.whole) c.index-spots-number.is in
+    let read : is_told_form spot.form ≡ false = sym c.is_told.ensures ∙ c.if-is_told.false in
+    absurd (false≢true (sym read ∙ ap (λ (s : Spot). is_told_form s.form) (same_Some spot other (sym here ∙ at)) ∙ told))

@@ -1,3 +1,4 @@
+use Rattle.warc_journal.specs.Journals.{texts}
 use Rattle.std.proofs.Common.{Bool, Err, IsTrue, subst}
 use Rattle.std.specs.Prelude.{IsFalse}
 use Rattle.archive_shelf.specs.Comparing.{KeepsWire}
@@ -5,11 +6,12 @@ use Rattle.archive_shelf.specs.declared.fault.StoreFault.TheVariants as stores
 use Rattle.archive_volumes.proofs.AskLaws.{cut_asked, damage_asked, revisit_asked, whole_asked}
 use Rattle.archive_volumes.proofs.ChooseLaws.{its_bound, its_own}
 use Rattle.archive_volumes.proofs.GroupLaws.{got}
-use Rattle.archive_volumes.proofs.RereadLaws.{no_revisit}
+use Rattle.archive_volumes.proofs.RereadLaws.{no_revisit, own_chosen_there}
 use Rattle.archive_volumes.specs.Choosing.{Asks}
 use Rattle.archive_volumes.specs.Held.{book_of}
-use Rattle.archive_volumes.specs.Rereading.{IsOwnOf, IsReread, IsRereadOf}
+use Rattle.archive_volumes.specs.Rereading.{IsOwnOf, IsReread, IsRereadOf, IsRereadThere}
 use Rattle.archive_volumes.specs.declared.reread.Reread.{Reread}
+use Rattle.archive_volumes.specs.declared.reread.Reread.TheVariants as reread
 use Rattle.archive_volumes.specs.declared.spot.Spot.{Spot}
 use Rattle.archive_volumes.proofs.volumes.Volumes.has_told_payload.Goals as goal
 
@@ -71,3 +73,13 @@ returns-in-Damaged-clause-asks g c payload is =
     (damage_asked c.args.told.now.value book c.args.number payload spot.digest c.in-Damaged.found
     (λ told. subst (λ (r : Reread). IsRereadOf book c.args.number r) c.in-Damaged.is (right told))
     (subst (λ (r : Reread). IsReread spot.digest r) c.in-Damaged.is (c.in_ok-read.ensures.read spot here)))
+
+pub returns-in-Own-default-default-false-clause-there : goal.returns-in-Own-default-default-false-clause-there
+returns-in-Own-default-default-false-clause-there g c tells payload is has other at told =
+    let all = texts g.D.Disk c.args.self.now.journal in
+    let namespace = (book_of c.args.self.now.held).namespace in
+    own_chosen_there all namespace c.args.number other c.in-Own-default-default-false.head c.in-Own-default-default-false.payload payload
+    ((rw c.as_slice.ensures at (c.has_bytes.ensures payload is)).0 has)
+    (subst (λ (b : Bool). IsRereadThere all namespace c.args.number other (reread.Own c.in-Own-default-default-false.head c.in-Own-default-default-false.payload b))
+    c.in-Own-default-default-false.cut-test
+    (subst (λ (r : Reread). IsRereadThere all namespace c.args.number other r) c.in-Own-default-default-false.is (c.in_ok-read.ensures.there tells other at)))

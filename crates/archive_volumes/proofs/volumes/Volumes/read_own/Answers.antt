@@ -1,8 +1,11 @@
-use Rattle.std.proofs.Common.{◌≡◌, false, sym, subst, ◌∙◌}
+use Rattle.archive_volumes.specs.Rereading.{IsBackThere}
+use Rattle.warc_journal.specs.Journals.{texts}
+use Rattle.std.proofs.lemmas.Bool.{false≢true}
+use Rattle.std.proofs.Common.{◌≡◌, false, sym, subst, ◌∙◌, ap}
 use Rattle.std.specs.Prelude.{IfOk}
 use Rattle.archive_volumes.proofs.DigestLaws.{one_spot}
 use Rattle.archive_volumes.proofs.GroupLaws.{got}
-use Rattle.archive_volumes.proofs.RereadLaws.{own_checked, own_right}
+use Rattle.archive_volumes.proofs.RereadLaws.{own_checked, own_right, own_there}
 use Rattle.archive_volumes.specs.Bringing.{IsChecked, IsReadRight}
 use Rattle.archive_volumes.specs.Held.{book_of}
 use Rattle.archive_volumes.specs.Spots.{is_told_form}
@@ -49,3 +52,17 @@ returns-clause-right g c told =
     let read : is_told_form spot.form ≡ false = sym c.is_told.ensures ∙ c.if-is_told.false in
     c.read_back.ensures.right c.args.number (c.requires.holds.tells told)
     (record { is = its; placed = (c.requires.placed told).each c.args.number spot here; own = c.requires.own spot here; read = read })
+
+pub returns-then-is_told-clause-there : goal.returns-then-is_told-clause-there
+returns-then-is_told-clause-there g c tells other at told =
+    let all = texts g.D.Disk c.args.self.now.journal in
+    let book = book_of c.args.self.now.held in
+    subst (IsBackThere all book.namespace c.args.number other) (sym c.own_read.ensures)
+    (own_there all book.namespace c.args.number other c.in_ok-read.read (c.in_ok-read.ensures.there tells other at))
+
+pub returns-clause-there : goal.returns-clause-there
+returns-clause-there g c tells other at told =
+    let spot = c.index-spots-number.result in
+    let here = got c.args.spots.now c.args.number spot c.requires.below c.index-spots-number.is in
+    let read : is_told_form spot.form ≡ false = sym c.is_told.ensures ∙ c.if-is_told.false in
+    absurd (false≢true (sym read ∙ ap (λ (s : Spot). is_told_form s.form) (one_spot c.args.spots.now c.args.number spot other here at) ∙ told))

@@ -2,11 +2,13 @@ use Rattle.std.proofs.Common.{◌≡◌, ◌<◌, ◌+◌, ◌≤◌, ℕ, List,
 use Rattle.std.specs.Prelude.{length, slice_get}
 use Rattle.warc_journal.specs.Journals.{texts}
 use Rattle.archive_volumes.proofs.BringLaws.{reads_then, texts_stay}
-use Rattle.archive_volumes.proofs.GroupLaws.{got, if_ok_so}
+use Rattle.archive_volumes.proofs.DigestLaws.{one_spot}
+use Rattle.archive_volumes.proofs.GroupLaws.{got, if_ok_both, if_ok_so}
 use Rattle.archive_volumes.proofs.KeptGroupLaws.{begins_is, there, within}
 use Rattle.archive_volumes.specs.Held.{book_of}
-use Rattle.archive_volumes.specs.Rereading.{BeginWithText}
+use Rattle.archive_volumes.specs.Rereading.{BeginWithText, from_place}
 use Rattle.archive_volumes.specs.Spots.{part, text_at}
+use Rattle.archive_volumes.specs.declared.spot.Spot.{Spot}
 use Rattle.archive_volumes.proofs.volumes.Volumes.read_text.Goals as goal
 
 pub read_part-requires-clause-there : goal.read_part-requires-clause-there
@@ -46,3 +48,16 @@ returns-clause-begins g c told =
 pub returns-clause-reads : goal.returns-clause-reads
 returns-clause-reads g c =
     reads_then g.D.Disk c.args.self.now c.group_end.new.self c.read_part.new.self c.group_end.ensures.reads c.read_part.ensures.reads
+
+pub returns-clause-bytes : goal.returns-clause-bytes
+returns-clause-bytes g c tells other at =
+    let old = c.args.self.now in
+    let spot = c.index-spots-number.result in
+    let all = texts g.D.Disk old.journal in
+    let here : slice_get c.args.spots.now c.args.number ≡ Some spot = got c.args.spots.now c.args.number spot c.requires.below c.index-spots-number.is in
+    let same = texts_stay g.D.Disk old c.group_end.new.self c.group_end.ensures.reads tells in
+    let one : spot ≡ other = one_spot c.args.spots.now c.args.number spot other here at in
+    if_ok_both _ _ (λ bytes. bytes.items ≡ from_place all other (length bytes.items)) c.read_part.result (c.read_part.ensures.bytes tells)
+    c.read_part.ensures.length
+    (λ bytes is long. is ∙ ap (λ (t : List (List ℕ)). part (text_at t spot.volume) spot.at c.saturating_sub.result) same
+    ∙ ap (from_place all spot) (sym long) ∙ ap (λ (s : Spot). from_place all s (length bytes.items)) one)
