@@ -1,6 +1,7 @@
 -- The line of a group of a book is that of its capture, and the next group begins where it ends.
 use Rattle.std.proofs.Common.{◌≡◌, ℕ, suc, ◌+◌, ◌<◌, ◌≤◌, Bool, List, [], ◌∷◌, ◌++◌, length, get_or, take, Option, Some, None, refl, sym, ap, subst, ◌∙◌, arith, append-nil, length-append}
-use Rattle.std.specs.Prelude.{is_some}
+use Rattle.std.specs.Prelude.{IfSome, is_some}
+use Rattle.std.proofs.lemmas.Option.{same_Some}
 use Rattle.std.proofs.lemmas.List.{get_or-take, length-take-le}
 use Rattle.std.proofs.lemmas.List.Folds.{length-flat_map-take}
 use Rattle.std.proofs.Math.Seq.{take-suc}
@@ -14,6 +15,7 @@ use Rattle.capture.specs.Message.{IsResponseHeadText}
 use Rattle.capture.specs.declared.book.Book.{Book}
 use Rattle.capture.specs.declared.captured.Kept.{Kept}
 use Rattle.capture.specs.declared.captured.Kept.TheVariants.{Wire, Same, Cut}
+use Rattle.capture.specs.declared.captured.Stored.{Stored}
 use Rattle.capture.specs.declared.captured.Taken.{Taken}
 use Rattle.capture.proofs.PayloadLaws.{captures_have_one}
 use Rattle.surt_key.specs.Key.{key_of}
@@ -39,9 +41,11 @@ use Rattle.volume_scan.proofs.FoundGroups.{kept_found}
 use Rattle.archive_volumes.proofs.SameGroup.{Goes, digest_is, goes, goes_by_answer, goes_in_book, refers, some_isnt, taken}
 use Rattle.archive_volumes.specs.Entries.{IsAskedOf, IsToldAs, told_facts}
 use Rattle.archive_volumes.specs.declared.entry.RecordAt.{RecordAt}
-use Rattle.archive_volumes.specs.Spots.{form_of, is_same_form}
+use Rattle.archive_volumes.specs.Spots.{IsPlaced, IsSpotOf, form_of, is_same_form}
+use Rattle.archive_volumes.specs.declared.spot.Spot.{Spot}
 use Rattle.checkpoint.specs.OfVolume.{IsLineOf}
 use Rattle.volume_lines.specs.OfGroups.{GoesOnBy, IsLineAt, front_of, record_at}
+use Rattle.volume_lines.specs.OfSpots.{TellsSpot}
 
 -- ---- whether a capture is a revisit
 
@@ -174,6 +178,32 @@ goes_on {book} {k} is sound place at number within number_is here bytes g group 
           (line_is_of book sound number bytes g group found k at place (front_of is place) (number_is, before is place within, here) line at_line);
       ends = omega (arith, here, len_is, found.places.len, ap length same, longer is place within);
     }
+
+-- the line of a book's capture tells what is kept of that
+pub line_tells : (book : Book) (texts : List (List ℕ)) (number : ℕ) (spot : Spot) (line : Line) → IsSpotOf book number spot → IsPlaced texts book number spot
+    → IsLineOf book number line → TellsSpot spot line
+line_tells book texts number spot line its placed is =
+    let own = is.entry.group in
+    let one : own.stored ≡ its.stored = same_Some own.stored its.stored (sym own.placed ∙ its.placed) in
+    let stored : is.stored ≡ its.stored = same_Some is.stored its.stored (sym is.placed ∙ its.placed) in
+    record {
+      url = is.entry.uri_is ∙ ap (λ (s : Stored). s.uri) one ∙ sym its.uri;
+      date = is.entry.date_is ∙ ap (λ (s : Stored). s.date) one ∙ sym its.date;
+      method = is.method_is ∙ ap (λ (s : Stored). s.method) stored ∙ sym its.method;
+      digest = is.entry.digest_is ∙ ap sha1 (captures_have_one book number own.payload placed.payload
+          (record { stored = own.stored; placed = own.placed; by_kept = own.payload_is }) placed.has) ∙ sym placed.digest;
+    }
+
+-- what holds of a line that is kept holds of what is answered
+pub kept_can : {F : Type 0} (line_in : F → Line) (P Q : Line → Type 0) (found : Option F) (line : Line)
+    → IfSome found (λ f. (line_in f ≡ line) × Q (line_in f)) → P line → IfSome found (λ f. P (line_in f))
+kept_can line_in P Q None line some has = tt
+kept_can line_in P Q (Some f) line some has = subst P (sym some.0) has
+
+pub kept_only : {F : Type 0} (line_in : F → Line) (line : Line) (Q : Line → Type 0) (found : Option F)
+    → IfSome found (λ f. (line_in f ≡ line) × Q (line_in f)) → IfSome found (λ f. Q (line_in f))
+kept_only line_in line Q None some = tt
+kept_only line_in line Q (Some f) some = some.1
 
 -- and its group ends with the text at the latest
 pub ends_within : {book : Book} {k : ℕ} {text : List ℕ} (is : IsVolumeText book k text) → (place at number : ℕ)

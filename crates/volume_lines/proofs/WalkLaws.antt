@@ -1,13 +1,13 @@
 -- The lines of a volume, as they are read one behind the other, and sorted.
 use Rattle.std.proofs.Common.{◌≡◌, ◌⊎◌, ℕ, zero, suc, ◌+◌, ◌<◌, ◌≤◌, List, [], ◌∷◌, ◌++◌, length, get_or, refl, sym, ap, subst, ◌∙◌, ⊎_elim, inl, inr, arith, length-append}
 use Rattle.std.proofs.Math.ListN.{get_or-append}
-use Rattle.std.specs.Prelude.{◌-◌, Contains, IsSomeAnd, Option}
+use Rattle.std.specs.Prelude.{◌-◌, Contains, IfSome, IsSomeAnd, Option, Some, slice_get}
 use Rattle.std.proofs.lemmas.List.Folds.{length-flat_map-take}
 use Rattle.std.proofs.lemmas.Option.{get_or_from_slice_get, same_Some, slice_get_within}
 use Rattle.std.specs.Cmp.{nat_cmp_is}
 use Rattle.std.specs.declared.cmp.Ordering.TheVariants.{Less}
 use Rattle.std.specs.List.Sorted.{IsPermutation, IsStrictlySortedBy}
-use Rattle.std.proofs.lemmas.List.Sorted.{Contains-permutation, IsPermutation-sym}
+use Rattle.std.proofs.lemmas.List.Sorted.{Contains-permutation, IsPermutation-sym, length_permutation}
 use Rattle.std.proofs.Math.Seq.{get_or-append_seam}
 use Rattle.capture.specs.Captures.{captures, first_number}
 use Rattle.capture.specs.declared.book.Book.{Book}
@@ -19,9 +19,11 @@ use Rattle.warc_text.specs.Books.{AreVolumeTexts, IsVolumeText}
 use Rattle.archive_volumes.specs.Held.{book_of}
 use Rattle.archive_volumes.specs.Spots.{text_at}
 use Rattle.archive_volumes.specs.declared.held.Held.{Held}
+use Rattle.archive_volumes.specs.declared.spot.Spot.{Spot}
 use Rattle.checkpoint.specs.Checkpoints.{AreLinesFor, line_order}
 use Rattle.checkpoint.specs.OfVolume.{AreLinesOf, IsLineOf}
 use Rattle.volume_lines.specs.OfGroups.{CanBeIn, GoesOnBy, IsFactsOf, front_of, line_numbers}
+use Rattle.volume_lines.specs.OfSpots.{AreLinesOfSpots, TellsKept}
 
 -- So many lines of a volume were read, whose first capture has this number: each is of the capture at its place.
 pub record HasWalked (k first : ℕ) (lines : List Line) (done : ℕ) : Type 0 where
@@ -32,6 +34,10 @@ pub record HasWalked (k first : ℕ) (lines : List Line) (done : ℕ) : Type 0 w
 pub record HasTold {book : Book} {k : ℕ} {text : List ℕ} (is : IsVolumeText book k text) (lines : List Line) (done at : ℕ) : Type 0 where
   pub here : at ≡ length (front_of is done)
   pub each : (j : ℕ) (d : Line) → j < done → IsLineOf book (first_number book k + j) (get_or lines j d)
+
+-- Whatever the disk tells, each tells what is kept of the capture at its place.
+abbrev pub HaveTold : List Spot → ℕ → List Line → ℕ → Type 0
+HaveTold spots first lines done = (j : ℕ) (d : Line) → j < done → TellsKept spots (first + j) (get_or lines j d)
 
 -- ---- one line more
 
@@ -63,6 +69,14 @@ walked_more k first lines after line done is fits pushed =
           (λ b. is.fit j d (omega (arith, b, is.count)))
           (λ e. subst (λ (n : ℕ). CanBeIn k (first + n) line) (sym (e ∙ is.count)) fits);
     })
+
+pub kept_next : (spots : List Spot) (first : ℕ) (lines after : List Line) (line : Line) (number : ℕ) → first ≤ number → length lines ≡ number - first
+    → HaveTold spots first lines (number - first) → TellsKept spots number line → after ≡ lines ++ line ∷ [] → HaveTold spots first after (number + 1 - first)
+kept_next spots first lines after line number from count told tells pushed =
+    subst (λ (l : List Line). HaveTold spots first l (number + 1 - first)) (sym pushed)
+    (λ j d less. at_or_before (TellsKept spots (first + j)) lines line j d (omega (arith, less, count, from))
+    (λ b. told j d (omega (arith, b, count)))
+    (λ e. subst (λ (n : ℕ). TellsKept spots n line) (omega (arith, e, count, from)) tells))
 
 pub told_none : {book : Book} {k : ℕ} {text : List ℕ} (is : IsVolumeText book k text) (lines : List Line) (at : ℕ) → at ≡ length (front_of is 0)
     → HasTold is lines 0 at
@@ -130,6 +144,22 @@ module _ (k first : ℕ) (lines sorted : List Line) (done : ℕ) (is : HasWalked
     writable = λ j d less. (fits (get_or sorted j d) (has_at sorted j d less)).1.writable;
     of_volume = λ j d less. (fits (get_or sorted j d) (has_at sorted j d less)).1.of_volume;
     in_order = in_order;
+  }
+
+  pub lines_of_spots : (spots : List Spot) → HaveTold spots first lines done → AreLinesOfSpots spots first done sorted
+  lines_of_spots spots told = record {
+    count_is = omega (arith, length_permutation lines sorted same, is.count);
+    each = λ line has.
+        let at = from line has in
+        let number : line.number ≡ first + at.0 = ap (λ (l : Line). l.number) (sym at.2) ∙ (is.fit at.0 line at.1).number_is in (
+          omega (arith, number),
+          omega (arith, number, at.1),
+          subst (λ (n : ℕ). TellsKept spots n line) (sym number) (subst (TellsKept spots (first + at.0)) at.2 (told at.0 line at.1)),
+        );
+    all = λ place less.
+        let any : Line = line_in lines (omega (arith, less, is.count)) in
+        let line : Line = get_or lines place any in
+        (line, Contains-permutation lines sorted line same (has_at lines place any (omega (arith, less, is.count))), (is.fit place any less).number_is);
   }
 
   pub lines_of_volume : {book : Book} {text : List ℕ} (t : IsVolumeText book k text) (at : ℕ) → HasTold t lines done at → first ≡ first_number book k

@@ -1,1 +1,2 @@
 pub mod OfGroups
+pub mod OfSpots

@@ -11,7 +11,9 @@ ghost use Rattle.archive_volumes.specs.Volumes.{HoldsBook, IsMeasured};
 ghost use Rattle.checkpoint.specs.Checkpoints.{AreLinesFor};
 ghost use Rattle.checkpoint.specs.OfVolume.{AreLinesOf};
 ghost use Rattle.volume_lines.specs.OfGroups.{CanBeIn, GoesOnBy, IsFactsOf, front_of};
+ghost use Rattle.volume_lines.specs.OfSpots.{AreLinesOfSpots, TellsKept};
 
+use crate::kept::if_kept;
 use crate::line::line_of;
 use crate::sort::sort_lines;
 use archive_volumes::{KeptGroup, ReadFault, Spot, VolumeFacts, Volumes};
@@ -32,7 +34,7 @@ struct Walk<'s> {
 }
 
 /// The line of the capture with this number, whose group begins at this place, and where the group ends. None where no such group is
-/// there, it doesn't end within the text, or its target has no key.
+/// there, it doesn't end within the text, it doesn't tell what is kept of the capture, or its target has no key.
 fn line_at<D: Disk>(
     told: &Shown<bool>,
     alloc: Global,
@@ -48,6 +50,7 @@ fn line_at<D: Disk>(
     requires placed { IsTrue told.now.value → ArePlaced (texts D.Disk volumes.old.journal) (book_of volumes.old.held) walk.spots.now }
     requires below { number < length walk.spots.now }
     ensures fit { IfOk result (λ found. IfSome found (λ f. CanBeIn walk.entry.volume number f.0)) }
+    ensures kept { IfOk result (λ found. IfSome found (λ f. TellsKept walk.entry.spots.now number f.0)) }
     ensures exact { IsTrue told.now.value → (place : ℕ) (text : List ℕ) (is : IsVolumeText (book_of volumes.old.held) walk.entry.volume text)
         → number ≡ first_number (book_of volumes.old.held) walk.entry.volume + place → place < length is.groups → at ≡ length (front_of is place)
         → length text ≤ walk.entry.end
@@ -67,7 +70,7 @@ fn line_at<D: Disk>(
         return Ok(None);
     }
     match line_of(alloc, outline, walk.volume, at)? {
-        Some(line) => Ok(Some((line, at + len))),
+        Some(line) => Ok(if_kept(line, walk.spots, number, at + len)),
         None => Ok(None),
     }
 }
@@ -81,8 +84,8 @@ fn keep(lines: &mut Vec<Line>, line: Line) -> Result<(), Memory>
 }
 
 /// The lines of a volume's captures, of those whose spots these are, in the order of a checkpoint. They are read back from the
-/// volume's groups, one behind the other. None where a capture's group isn't there any more, doesn't end with the text, or has a
-/// target without a key.
+/// volume's groups, one behind the other. None where a capture's group isn't there any more, doesn't tell what is kept of the capture, doesn't end
+/// with the text, or has a target without a key.
 pub fn lines_of<D: Disk>(
     told: &Shown<bool>,
     alloc: Global,
@@ -99,6 +102,7 @@ pub fn lines_of<D: Disk>(
     requires some { 0 < volume.count }
     requires small { volume.first + volume.count < 2 ^ 32 }
     ensures fit { IfOk result (λ lines. IfSome lines (λ lines. AreLinesFor volume.volume lines.items)) }
+    ensures of_spots { IfOk result (λ lines. IfSome lines (λ lines. AreLinesOfSpots spots.now volume.first volume.count lines.items)) }
     ensures exact { IsTrue told.now.value → IfOk result (λ found. IsSomeAnd found (λ lines. AreLinesOf (book_of volumes.old.held) volume.volume lines.items)) }
     ensures reads { OnlyReads D.Disk volumes.old volumes.new }
     ensures faults { CountsIf (is_read_fault result) (D.faults (disk_of volumes.old.journal)) (D.faults (disk_of volumes.new.journal)) }

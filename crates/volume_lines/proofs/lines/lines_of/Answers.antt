@@ -1,10 +1,11 @@
-use Rattle.std.proofs.Common.{◌-◌, ◌≤◌, ℕ, List, length, ◌∙◌, arith}
+use Rattle.std.proofs.Common.{◌-◌, ◌≤◌, ℕ, List, length, ◌∙◌, subst, arith}
 use Rattle.cdxj_line.specs.declared.line.Line.{Line}
 use Rattle.warc_journal.specs.Journals.{texts}
 use Rattle.archive_volumes.proofs.BringLaws.{reads_then}
 use Rattle.archive_volumes.specs.Held.{book_of}
 use Rattle.archive_volumes.specs.Spots.{text_at}
-use Rattle.volume_lines.proofs.WalkLaws.{all_of, facts_within, goes_from, lines_fit, lines_of_volume, numbered, text_of, told_next, walked_next}
+use Rattle.volume_lines.proofs.WalkLaws.{all_of, facts_within, goes_from, kept_next, lines_fit, lines_of_spots, lines_of_volume, numbered, text_of, told_next, walked_next}
+use Rattle.volume_lines.specs.OfSpots.{AreLinesOfSpots}
 use Rattle.volume_lines.proofs.lines.lines_of.Goals as goal
 
 pub line_at-requires-clause-below : goal.line_at-requires-clause-below
@@ -46,6 +47,8 @@ captures-preserved g c =
       to = omega (arith, c.captures-test.true);
       walked = walked_next c.args.volume.volume first c.captures-2.lines.items c.keep.new.lines.items line number inv.from inv.walked
           (rw c.in-Some.is at c.in_ok-line.ensures.fit) c.in_ok-keep.ensures;
+      kept = kept_next c.args.spots.now first c.captures-2.lines.items c.keep.new.lines.items line number inv.from inv.walked.count inv.kept
+          (rw c.in-Some.is at c.in_ok-line.ensures.kept) c.in_ok-keep.ensures;
       told = λ tells text is ends.
           let told = inv.told tells text is ends in
           told_next is first c.captures-2.lines.items c.keep.new.lines.items line number c.captures-2.at c.in-Some.next inv.from inv.walked.count told
@@ -64,6 +67,15 @@ returns-clause-fit g c =
     let inv = c.captures-2.invariant in
     lines_fit c.args.volume.volume c.args.volume.first c.captures-2.lines.items c.sort_lines.new.lines.items (c.captures-2.number - c.args.volume.first) inv.walked
     c.sort_lines.ensures.same c.sort_lines.ensures.in_order (omega (arith, c.captures-test.false, c.requires.some))
+
+pub returns-clause-of_spots : goal.returns-clause-of_spots
+returns-clause-of_spots g c =
+    let inv = c.captures-2.invariant in
+    let facts = c.args.volume in
+    let done : ℕ = c.captures-2.number - facts.first in
+    subst (λ (n : ℕ). AreLinesOfSpots c.args.spots.now facts.first n c.sort_lines.new.lines.items) (omega (arith, c.captures-test.false, inv.to))
+    (lines_of_spots facts.volume facts.first c.captures-2.lines.items c.sort_lines.new.lines.items done inv.walked
+    c.sort_lines.ensures.same c.sort_lines.ensures.in_order c.args.spots.now inv.kept)
 
 pub returns-clause-exact : goal.returns-clause-exact
 returns-clause-exact g c = λ tells.

@@ -3,7 +3,7 @@ use Rattle.warc_journal.specs.Journals.{disk_of}
 use Rattle.warc_text.specs.Books.{IsVolumeText}
 use Rattle.archive_volumes.specs.Bringing.{OnlyReads}
 use Rattle.archive_volumes.specs.Held.{book_of}
-use Rattle.volume_lines.proofs.WalkLaws.{HasTold, HasWalked}
+use Rattle.volume_lines.proofs.WalkLaws.{HasTold, HasWalked, HaveTold}
 use Rattle.volume_lines.proofs.lines.lines_of.Given as goal
 
 abbrev pub invariant-captures : goal.invariant-captures
@@ -14,6 +14,7 @@ invariant-captures g l =
       from : l.fn.volume.first ≤ l.number;
       to : l.number ≤ l.number-end;
       walked : HasWalked l.fn.volume.volume l.fn.volume.first l.lines.items (l.number - l.fn.volume.first);
+      kept : HaveTold l.fn.spots l.fn.volume.first l.lines.items (l.number - l.fn.volume.first);
       told : IsTrue l.fn.told.value → (text : List ℕ) (is : IsVolumeText (book_of l.fn.volumes.held) l.fn.volume.volume text)
           → length text ≤ l.walk.end → HasTold is l.lines.items (l.number - l.fn.volume.first) l.at;
     }
