@@ -1,5 +1,5 @@
 -- A store whose payload is compared first: what only reads the disk, and then a store or a refusal.
-use Rattle.std.proofs.Common.{◌≡◌, ℕ, ◌<◌, true, length, Option, Result, Ok, Err, refl, sym, ap, subst, inl}
+use Rattle.std.proofs.Common.{◌≡◌, ℕ, ◌<◌, true, length, Option, Result, Ok, Err, IsTrue, refl, sym, ap, subst, ◌∙◌, inl}
 use Rattle.std.specs.Prelude.{IsErrAnd, ⊤}
 use Rattle.capture.specs.Captures.{captures}
 use Rattle.capture.specs.declared.captured.Taken.{Taken}
@@ -40,6 +40,7 @@ full_stores d laws was taken (stores.Full count limit) full = record {
   };
   just = tt;
   fills = tt;
+  bytes = λ tells. ((λ none. refl), refl);
 }
 full_stores d laws was taken stores.DiskFault full = absurd full
 full_stores d laws was taken (stores.Damaged at kept found) full = absurd full
@@ -54,7 +55,8 @@ full_exit d laws was taken fault (Err other) is full =
     subst (λ (f : StoreFault). Stores d was was taken (Err f)) (sym is) (full_stores d laws was taken fault full)
 
 module _ {D : Type 0} (d : Ghosts D) (laws : DiskLaws d) (was : Holdings D) (journal : Journal D) (taken : Taken)
-    (unwritten : WritesNothing true (told_of d was) (told_of d (record was { journal = journal }))) where
+    (unwritten : WritesNothing true (told_of d was) (told_of d (record was { journal = journal })))
+    (read : IsTrue d.tells → d.reading (disk_of journal) ≡ d.reading (disk_of was.journal)) where
   abbrev looked : Holdings D
   looked = record was { journal = journal }
 
@@ -72,6 +74,7 @@ module _ {D : Type 0} (d : Ghosts D) (laws : DiskLaws d) (was : Holdings D) (jou
     };
     just = tt;
     fills = tt;
+    bytes = λ tells. ((λ none. read tells), ap (λ (image : Image). cdxj_files image) (read tells));
   }
 
   fault_by : length (captures was.book) < was.limits.captures → (fault : StoreFault)
@@ -96,6 +99,10 @@ module _ {D : Type 0} (d : Ghosts D) (laws : DiskLaws d) (was : Holdings D) (jou
         stored.told;
     just = stored.just;
     fills = fills_after was is journal taken ends result stored.fills;
+    bytes = λ tells. (
+      λ none. (stored.bytes tells).0 none ∙ read tells,
+      (stored.bytes tells).1 ∙ ap (λ (image : Image). cdxj_files image) (read tells),
+    );
   }
 
 -- what only looked is known by its journal
@@ -107,7 +114,7 @@ known_by {D} d was mid looks =
 pub stores_after : {D : Type 0} (d : Ghosts D) (laws : DiskLaws d) (was mid is : Holdings D) (taken : Taken) (result : Result Receipt StoreFault)
     → OnlyLooks d was mid → d.faults (disk_of mid.journal) ≡ d.faults (disk_of was.journal) → Stores d mid is taken result → Stores d was is taken result
 stores_after {D} d laws was mid is taken result looks steady stored =
-    then_by d laws was mid.journal taken (known_by d was mid looks) steady looks.ends is result
+    then_by d laws was mid.journal taken (known_by d was mid looks) looks.reading steady looks.ends is result
     (subst (λ (held : Holdings D). Stores d held is taken result) looks.others stored)
 
 pub fault_after : {D : Type 0} (d : Ghosts D) (laws : DiskLaws d) (was mid : Holdings D) (taken : Taken) (fault : StoreFault)
@@ -116,7 +123,7 @@ pub fault_after : {D : Type 0} (d : Ghosts D) (laws : DiskLaws d) (was mid : Hol
     → Stores d was mid taken (Err fault)
 fault_after {D} d laws was mid taken fault looks not_full answer counts =
     subst (λ (held : Holdings D). Stores d was held taken (Err fault)) (sym looks.others)
-    (fault_by d laws was mid.journal taken (known_by d was mid looks) not_full fault
+    (fault_by d laws was mid.journal taken (known_by d was mid looks) looks.reading not_full fault
     (subst (λ (held : Holdings D). LooksFor (contents_of held) taken (Err fault)) looks.others answer) counts)
 
 -- and the same where a `?` hands the fault out

@@ -146,6 +146,8 @@ module _ {D : Type 0} (d : Ghosts D) (was is : Holdings D) (journal_is : is.jour
     };
     just = tt;
     fills = tt;
+    bytes = λ tells.
+        ((λ none. ap (λ (j : Journal D). d.reading (disk_of j)) journal_is), ap (λ (j : Journal D). cdxj_files (d.reading (disk_of j))) journal_is);
   }
 
   -- what a `?` hands out is want of memory
@@ -477,6 +479,7 @@ module _ {D : Type 0} (d : Ghosts D) (basis : StoringBasis) (was : Holdings D) (
               };
               just = tt;
               fills = tt;
+              bytes = λ tells. ((λ none. absurd none), others tells);
             }
 
       -- ---- with the capture
@@ -567,6 +570,7 @@ module _ {D : Type 0} (d : Ghosts D) (basis : StoringBasis) (was : Holdings D) (
                 };
               };
               just = λ told image now. subst (HasJust image) (sym with_it) (writes.just told image now);
+              bytes = λ tells. ((λ none. absurd none), others tells);
               fills = subst (λ (same : Option ℕ). FillsVolumes (in_volumes was now) is incoming.taken same) (sym same_is)
                   (fills_by (in_volumes was now) is now incoming.taken incoming.same u.payload ready.group refl refl u.has u.ready_is.group ready.prepared
                   u.ready_is.room u.ready_is.born u.ready_is.decided stored_is ends);

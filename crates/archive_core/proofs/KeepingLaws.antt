@@ -17,6 +17,7 @@ use Rattle.warc_text.specs.StandsFor.{StandsFor}
 use Rattle.cdxj_line.specs.declared.line.Line.{Line}
 use Rattle.checkpoint.specs.Putting.{HasPut, Puts}
 use Rattle.checkpoint.specs.declared.fault.CheckpointFault.{CheckpointFault}
+use Rattle.checkpoint.specs.declared.fault.CheckpointFault.TheVariants as checkpoints
 use Rattle.archive_shelf.specs.Openings.{ImageStandsFor}
 use Rattle.archive_volumes.proofs.ChangeLaws.{DiskLaws, moment_told}
 use Rattle.archive_volumes.specs.Bringing.{OnlyReads}
@@ -60,7 +61,9 @@ module _ {D : Type 0} (d : Ghosts D) where
       → StaysWarc d old new
   warc_supplied volume lines old new (Ok true) supplied = warc_puts volume lines old new supplied.0.puts
   warc_supplied volume lines old new (Ok false) supplied = warc_rests old new supplied.0
-  warc_supplied volume lines old new (Err fault) supplied = ⊎_elim (warc_rests old new) (λ writes. warc_puts volume lines old new writes.puts) supplied
+  warc_supplied volume lines old new (Err checkpoints.DiskFault) supplied =
+      ⊎_elim (warc_rests old new) (λ writes. warc_puts volume lines old new writes.puts) supplied
+  warc_supplied volume lines old new (Err checkpoints.Memory) supplied = warc_rests old new supplied
 
   module _ (laws : DiskLaws d) where
     opens_beside : (old new : D) → (IsTrue d.tells → StaysWarc d old new) → OpensNoMore (crash_of d old) (crash_of d new)

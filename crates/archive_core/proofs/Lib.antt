@@ -26,6 +26,7 @@ pub mod ReopenLaws
 pub mod RollLaws
 pub mod ShelfLaws
 pub mod ShownLaws
+pub mod SettledLaws
 pub mod SettlingLaws
 pub mod SortLaws
 pub mod StoredLaws

@@ -1,6 +1,6 @@
 -- The payload of a new capture, and what it refers to.
 use Rattle.std.proofs.Common.{◌≡◌, ℕ, ◌<◌, Bool, true, false, IsTrue, List, length, Option, Some, None, Result, Ok, Err, refl, sym, ap, subst, ◌∙◌, arith}
-use Rattle.std.specs.Prelude.{IfOk, IfSome, IsErrAnd}
+use Rattle.std.specs.Prelude.{IfSome, IsErrAnd}
 use Rattle.sha1.specs.Sha1.{sha1}
 use Rattle.capture.specs.BodyLaws.{BodiesHaveAPayload, CutWiresHaveAPayload, WiresHaveOnePayload}
 use Rattle.capture.specs.Body.{IsWire}

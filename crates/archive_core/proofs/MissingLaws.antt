@@ -1,22 +1,27 @@
 -- Whether the checkpoint of a volume is missing.
 use Rattle.std.proofs.Common.{◌≡◌, ◌≤◌, ◌<◌, ◌⊎◌, ◌↔◌, ℕ, Bool, true, false, not, IsTrue, List, length, refl, sym, ap, subst, inl, inr, arith}
 use Rattle.std.specs.Bool.{Decides}
+use Rattle.std.specs.Prelude.{IsErrAnd, Result, Ok, Err}
 use Rattle.std.proofs.lemmas.Bool.{cases_order, false≢true}
 use Rattle.std.proofs.lemmas.Bool.Decides.{Decides-and, Decides-eqb, Decides-like}
 use Rattle.std.proofs.lemmas.Slice.Eq.{bytes_eq-Decides}
 use Rattle.disk_model.specs.Crash.{Leaves}
+use Rattle.disk_model.proofs.MomentLaws.{joined, weakened}
 use Rattle.disk_model.specs.Image.{Image, file_count}
 use Rattle.disk_model.specs.declared.disk.Disk.{Ghosts}
 use Rattle.disk_model.specs.declared.kind.Kind.TheVariants.{Cdxj}
+use Rattle.warc_journal.specs.Journals.{Rests}
 use Rattle.cdxj_line.specs.declared.line.Line.{Line}
 use Rattle.cdxj_line.specs.contracts.line.LinePartialEq.TheImpl as line
 use Rattle.checkpoint.specs.Checkpoints.{IsCheckpoint, checkpoint_of}
-use Rattle.checkpoint.specs.Putting.{HoldsCheckpoint}
+use Rattle.checkpoint.specs.Putting.{HasPut, HoldsCheckpoint, IsBeside, Puts}
+use Rattle.checkpoint.specs.declared.fault.CheckpointFault.{CheckpointFault}
+use Rattle.checkpoint.specs.declared.fault.CheckpointFault.TheVariants as checkpoints
 use Rattle.checkpoint.specs.Reading.{HasCheckpointOf}
 use Rattle.checkpoint.proofs.Missing.{missing_file}
 use Rattle.checkpoint.proofs.ReadingLaws.{one_list}
 use Rattle.checkpoint.proofs.WritingLaws.{is_committed}
-use Rattle.archive_core.specs.Settling.{IsDue}
+use Rattle.archive_core.specs.Settling.{IsDue, Supplies}
 
 -- the parts of two lines are the same
 abbrev HasParts : Line → Line → Type 0
@@ -91,3 +96,34 @@ due_by_found d volume lines found old new false is left tells = (
   omega (arith, is_there volume found (d.reading old) is),
   λ other. absurd (false≢true (tells.1 (one_list volume volume found lines (checkpoint_of (d.reading old) volume) is other).1)),
 )
+
+-- ---- what is written after it was looked for
+
+put_after : {D : Type 0} (d : Ghosts D) (volume : ℕ) (lines : List Line) (old mid new : D) → Rests d old mid → Puts d volume lines mid new
+    → Puts d volume lines old new
+put_after d volume lines old mid new rests puts = record {
+  leaves = joined d.moment d.images_since old mid new (HasPut volume lines (d.images old))
+      (weakened d.moment d.images_since old mid (λ image. ⊥) (HasPut volume lines (d.images old)) (λ image none. absurd none) rests.leaves)
+      (weakened d.moment d.images_since mid new (HasPut volume lines (d.images mid)) (HasPut volume lines (d.images old))
+      (λ image has. record { before = has.before; was = rests.crash has.before has.was; beside = has.beside; own = has.own }) puts.leaves);
+  reading = subst (λ (i : Image). IsBeside volume i (d.reading new)) rests.read puts.reading;
+}
+
+-- refused: for want of memory nothing was written
+pub refused_by : {D : Type 0} (d : Ghosts D) (volume : ℕ) (lines : List Line) (old mid new : D) (fault : CheckpointFault) → Rests d old mid
+    → (IsCheckpoint volume lines (checkpoint_of (d.reading old) volume) → ⊥) → Puts d volume lines mid new → (fault ≡ checkpoints.Memory → new ≡ mid)
+    → Supplies d volume lines old new (Err fault)
+refused_by d volume lines old mid new checkpoints.DiskFault rests missing puts memory =
+    inr (record { missing = missing; puts = put_after d volume lines old mid new rests puts })
+refused_by {D} d volume lines old mid new checkpoints.Memory rests missing puts memory = subst (λ (n : D). Rests d old n) (sym (memory refl)) rests
+
+pub rests_refused : {D : Type 0} (d : Ghosts D) (volume : ℕ) (lines : List Line) (old new : D) (fault : CheckpointFault) → Rests d old new
+    → Supplies d volume lines old new (Err fault)
+rests_refused d volume lines old new checkpoints.DiskFault rests = inl rests
+rests_refused d volume lines old new checkpoints.Memory rests = rests
+
+-- what a `?` hands out is the same fault
+pub same_fault : (P : Result Bool CheckpointFault → Type 0) (fault : CheckpointFault) (result : Result Bool CheckpointFault)
+    → IsErrAnd result (λ f. f ≡ fault) → P (Err fault) → P result
+same_fault P fault (Ok wrote) is p = absurd is
+same_fault P fault (Err f) is p = subst (λ (g : CheckpointFault). P (Err g)) (sym is) p

@@ -3,11 +3,12 @@ use Rattle.std.proofs.Common.{◌≡◌, ℕ, ◌-◌, IsTrue, List, length, Res
 use Rattle.std.specs.Prelude.{IfOk, OnOk}
 use Rattle.disk_model.specs.Crash.{Leaves}
 use Rattle.disk_model.specs.declared.disk.Disk.{Ghosts}
-use Rattle.warc_journal.specs.Journals.{disk_of}
+use Rattle.warc_journal.specs.Journals.{Rests, disk_of}
 use Rattle.warc_journal.specs.declared.extent.Extent.{Extent}
 use Rattle.checkpoint.specs.Faults.{CountsDisk}
 use Rattle.checkpoint.specs.declared.fault.CheckpointFault.{CheckpointFault}
-use Rattle.archive_volumes.proofs.ChangeLaws.{DiskLaws}
+use Rattle.checkpoint.specs.declared.fault.CheckpointFault.TheVariants as checkpoints
+use Rattle.archive_volumes.proofs.ChangeLaws.{DiskLaws, quiet_by}
 use Rattle.archive_volumes.specs.Held.{book_of}
 use Rattle.archive_volumes.specs.Spots.{ArePlaced, AreWithin}
 use Rattle.archive_volumes.specs.Volumes.{HoldsBook, IsMeasured}
@@ -16,8 +17,8 @@ use Rattle.archive_volumes.specs.declared.volumes.Volumes.{Volumes}
 use Rattle.archive_core.specs.Finished.{FirstAreFinished, HasCheckpoint}
 use Rattle.archive_core.specs.Holdings.{Holdings, IsArchive}
 use Rattle.archive_core.specs.Looking.{OnlyLooks}
-use Rattle.archive_core.specs.Settling.{HasWithout, LeavesCheckpoints, Settles, SettlesOn}
-use Rattle.archive_core.specs.steps.Supplying.{GoesThrough, IsStill, KeepsVolumes, KnowsMore}
+use Rattle.archive_core.specs.Settling.{HasWithout, IsAsBefore, LeavesCheckpoints, Settles, SettlesOn, reach}
+use Rattle.archive_core.specs.steps.Supplying.{GoesThrough, KeepsVolumes, KnowsMore}
 use Rattle.archive_core.proofs.KeepingLaws.{measured_kept, opens_told, quiet_told, texts_kept}
 
 answer : Result ℕ CheckpointFault → ℕ
@@ -34,12 +35,12 @@ on_ok (Err fault) gives p = tt
 
 module _ {D : Type 0} (d : Ghosts D) (laws : DiskLaws d) (base : Holdings D) (old new : Volumes D) (known now : ℕ)
     (keeps : KeepsVolumes d base.told old new) (is : IsArchive d (over base old known)) (result : Result ℕ CheckpointFault)
-    (went : IsTrue d.tells → GoesThrough d base.told (book_of old.held) now (disk_of old.journal) (disk_of new.journal) result)
+    (went : IsTrue d.tells → GoesThrough d base.told (book_of old.held) base.spots now (disk_of old.journal) (disk_of new.journal) result)
     (knows : KnowsMore (book_of old.held) known now result) where
   other_book : over base new now ≡ record base { journal = new.journal; book = book_of old.held; settled = now }
   other_book = ap (λ (h : Held). record base { journal = new.journal; book = book_of h; settled = now }) keeps.held
 
-  first : (r : Result ℕ CheckpointFault) → GoesThrough d base.told (book_of old.held) now (disk_of old.journal) (disk_of new.journal) r
+  first : (r : Result ℕ CheckpointFault) → GoesThrough d base.told (book_of old.held) base.spots now (disk_of old.journal) (disk_of new.journal) r
       → IsTrue base.told → Leaves (d.images (disk_of new.journal)) (FirstAreFinished (book_of old.held) now)
   first (Ok n) through told = through.settled told
   first (Err fault) through told = through.settled told
@@ -67,14 +68,15 @@ module _ {D : Type 0} (d : Ghosts D) (laws : DiskLaws d) (base : Holdings D) (ol
     settled = λ told. first result (went (is.holds.tells told)) told;
   })
 
-  left : (r : Result ℕ CheckpointFault) → GoesThrough d base.told (book_of old.held) now (disk_of old.journal) (disk_of new.journal) r
-      → LeavesCheckpoints d base.told (book_of old.held) (disk_of old.journal) (disk_of new.journal)
+  left : (r : Result ℕ CheckpointFault) → GoesThrough d base.told (book_of old.held) base.spots now (disk_of old.journal) (disk_of new.journal) r
+      → LeavesCheckpoints d base.told (book_of old.held) base.spots (reach now r) (disk_of old.journal) (disk_of new.journal)
   left (Ok n) through = through.left
-  left (Err fault) through = through.left
+  left (Err checkpoints.DiskFault) through = through.left
+  left (Err checkpoints.Memory) through = through.left
 
   module _ (reads : IsTrue d.tells → d.images (disk_of new.journal) (d.reading (disk_of new.journal))) where
     settles : (r : Result ℕ CheckpointFault) → IsTrue base.told → KnowsMore (book_of old.held) known now r
-        → GoesThrough d base.told (book_of old.held) now (disk_of old.journal) (disk_of new.journal) r
+        → GoesThrough d base.told (book_of old.held) base.spots now (disk_of old.journal) (disk_of new.journal) r
         → IfOk r (Settles d (book_of old.held) (disk_of old.journal) (disk_of new.journal))
     settles (Ok n) told more through = record {
       reading = λ k less. through.settled told (d.reading (disk_of new.journal)) (reads (is.holds.tells told)) k (omega (arith, less, more.all));
@@ -83,19 +85,28 @@ module _ {D : Type 0} (d : Ghosts D) (laws : DiskLaws d) (base : Holdings D) (ol
     }
     settles (Err fault) told more through = tt
 
-    looks : (IsTrue d.tells → IsStill d (disk_of old.journal) (disk_of new.journal)) → OnlyLooks d (over base old known) (over base new known)
+    -- how many files are others than before
+    wrote : (r : Result ℕ CheckpointFault) → KnowsMore (book_of old.held) known now r
+        → GoesThrough d base.told (book_of old.held) base.spots now (disk_of old.journal) (disk_of new.journal) r
+        → IfOk r (HasWithout (IsAsBefore (d.reading (disk_of old.journal)) (d.reading (disk_of new.journal))) (length (book_of old.held).volumes - 1))
+    wrote (Ok n) more through =
+        subst (λ (k : ℕ). HasWithout (IsAsBefore (d.reading (disk_of old.journal)) (d.reading (disk_of new.journal))) k n) more.all through.wrote
+    wrote (Err fault) more through = tt
+
+    looks : (IsTrue d.tells → Rests d (disk_of old.journal) (disk_of new.journal)) → OnlyLooks d (over base old known) (over base new known)
     looks still = record {
       others = ap (λ (h : Held). record base { journal = new.journal; book = book_of h; settled = known }) keeps.held;
       ends = ap (λ (e : Extent). e.end) keeps.extent;
-      reading = λ tells. (still tells).reading;
+      reading = λ tells. (still tells).read;
       unwritten = record {
-        reading = λ alone told. (still (is.holds.tells told)).reading;
-        crash = quiet_told d base.told is.holds.tells (disk_of old.journal) (disk_of new.journal) (λ tells. (still tells).quiet);
+        reading = λ alone told. (still (is.holds.tells told)).read;
+        crash = quiet_told d base.told is.holds.tells (disk_of old.journal) (disk_of new.journal)
+            (λ tells. quiet_by d laws (disk_of old.journal) (disk_of new.journal) still);
       };
     }
 
     none : (r : Result ℕ CheckpointFault)
-        → (IsTrue d.tells → GoesThrough d base.told (book_of old.held) now (disk_of old.journal) (disk_of new.journal) r) → r ≡ Ok 0
+        → (IsTrue d.tells → GoesThrough d base.told (book_of old.held) base.spots now (disk_of old.journal) (disk_of new.journal) r) → r ≡ Ok 0
         → OnlyLooks d (over base old known) (over base new known)
     unfolding answer
     none (Ok n) through same = looks (λ tells. (through tells).none (ap answer same))
@@ -108,10 +119,13 @@ module _ {D : Type 0} (d : Ghosts D) (laws : DiskLaws d) (base : Holdings D) (ol
       others = other_book;
       known = knows.more;
       all = knows.all;
+      few = knows.few;
       unasked = λ all. on_ok result (λ same. ap (λ (v : Volumes D). v.journal) same) (unasked all);
       extent = keeps.extent;
       faults = faults;
       leaves = λ tells. left result (went tells);
+      wrote = λ tells. wrote result knows (went tells);
+      first = λ told. first result (went (is.holds.tells told)) told;
       opens = opens_told d base.told is.holds.tells (disk_of old.journal) (disk_of new.journal) keeps.opens;
       settles = λ told. settles result told knows (went (is.holds.tells told));
       none = none result went;

@@ -4,67 +4,68 @@ use Rattle.std.proofs.lemmas.Bool.{cases_order}
 use Rattle.capture.specs.declared.book.Book.{Book}
 use Rattle.disk_model.specs.Crash.{Leaves}
 use Rattle.disk_model.specs.Image.{Image, file_count}
-use Rattle.disk_model.proofs.MomentLaws.{now_has}
+use Rattle.disk_model.proofs.MomentLaws.{joined, none_added, now_has, weakened}
 use Rattle.disk_model.specs.declared.disk.Disk.{Ghosts}
 use Rattle.disk_model.specs.declared.kind.Kind.TheVariants.{Cdxj}
-use Rattle.warc_journal.specs.Extents.{cdxj_files, warc_files}
+use Rattle.warc_journal.specs.Extents.{warc_files}
 use Rattle.warc_journal.specs.Journals.{Rests}
-use Rattle.warc_journal.specs.Laws.{HasCdxjOf}
 use Rattle.cdxj_line.specs.declared.line.Line.{Line}
 use Rattle.checkpoint.specs.Checkpoints.{IsCheckpoint, checkpoint_of}
-use Rattle.checkpoint.specs.OfVolume.{AreLinesOf, VolumesHaveOneListOfLines}
+use Rattle.checkpoint.specs.OfVolume.{VolumesHaveOneListOfLines}
 use Rattle.checkpoint.specs.Putting.{HasPut, HoldsCheckpoint, IsBeside, IsWrittenFrom, Puts}
 use Rattle.checkpoint.specs.declared.fault.CheckpointFault.{CheckpointFault}
-use Rattle.archive_volumes.proofs.ChangeLaws.{DiskLaws, quiet_by}
-use Rattle.archive_volumes.proofs.StoreLaws.{quiet_itself, quiet_on}
-use Rattle.archive_core.proofs.FinishedLaws.{has_still, same_checkpoint, same_count}
+use Rattle.checkpoint.specs.declared.fault.CheckpointFault.TheVariants as checkpoints
+use Rattle.archive_volumes.proofs.ChangeLaws.{DiskLaws}
+use Rattle.archive_volumes.specs.declared.spot.Spot.{Spot}
+use Rattle.archive_core.proofs.FinishedLaws.{has_still}
 use Rattle.archive_core.proofs.MissingLaws.{is_there}
 use Rattle.archive_core.specs.Finished.{FirstAreFinished, HasCheckpoint}
-use Rattle.archive_core.specs.Settling.{GoesWith, HasWithout, IsMissing, IsSupplied, LeavesCheckpoints, StaysFinished, Supplies, WritesMissing}
-use Rattle.archive_core.specs.steps.Supplying.{GoesTo, IsStill, Stopped, Went}
+use Rattle.archive_core.specs.Settling.{AreLinesFrom, GoesWith, HasSupplied, HasWithout, IsAsBefore, IsMissing, IsSupplied, LeavesCheckpoints, StaysFinished, Supplies, WritesMissing}
+use Rattle.archive_core.specs.steps.Supplying.{GoesTo, Stopped, Went}
 
 -- ---- checkpoints that go with those from before
 
-pub goes_itself : (told : Bool) (book : Book) (first image : Image) → GoesWith told book first image image
-goes_itself told book first image = record { each = λ k. inl refl; no_fewer = omega arith; no_more = inl refl }
+pub goes_itself : (told : Bool) (book : Book) (spots : List Spot) (upto : ℕ) (first image : Image) → GoesWith told book spots upto first image image
+goes_itself told book spots upto first image = record { warc = refl; each = λ k. inl refl; no_fewer = omega arith; no_more = inl refl }
 
-goes_still : (told : Bool) (book : Book) (first before mid image : Image) → cdxj_files image ≡ cdxj_files mid → GoesWith told book first before mid
-    → GoesWith told book first before image
-goes_still told book first before mid image same goes = record {
-  each = λ k. ⊎_elim
-      (λ e. inl (same_checkpoint image mid same k ∙ e))
-      (λ s. inr (subst (IsSupplied told book first k) (sym (same_checkpoint image mid same k)) s))
-      (goes.each k);
-  no_fewer = omega (arith, goes.no_fewer, same_count image mid same);
-  no_more = ⊎_elim (λ e. inl (same_count image mid same ∙ e)) (λ l. inr (omega (arith, l, same_count image mid same))) goes.no_more;
+-- more volumes may have been gone through
+goes_wider : (told : Bool) (book : Book) (spots : List Spot) (upto more : ℕ) (first before image : Image) → upto ≤ more
+    → GoesWith told book spots upto first before image → GoesWith told book spots more first before image
+goes_wider told book spots upto more first before image le goes = record {
+  warc = goes.warc;
+  each = λ k. ⊎_elim (λ e. inl e) (λ s. inr (omega (arith, le, s.0), s.1)) (goes.each k);
+  no_fewer = goes.no_fewer;
+  no_more = goes.no_more;
 }
 
--- a volume's checkpoint is written, which was missing at first
-pub record Missed (told : Bool) (book : Book) (first : Image) (k : ℕ) (lines : List Line) : Type 0 where
-  pub missed : IsMissing told book first k
-  pub are : IsTrue told → AreLinesOf book k lines
+supplied_wider : (told : Bool) (book : Book) (spots : List Spot) (upto more : ℕ) (first : Image) (images : Image → Type 0) (image : Image) → upto ≤ more
+    → HasSupplied told book spots upto first images image → HasSupplied told book spots more first images image
+supplied_wider told book spots upto more first images image le has = record {
+  before = has.before;
+  was = has.was;
+  goes = goes_wider told book spots upto more first has.before image le has.goes;
+}
 
-module _ (told : Bool) (book : Book) (first : Image) (k : ℕ) (lines : List Line) (is : Missed told book first k lines) where
-  own_put : (before mid image : Image) → IsWrittenFrom k lines mid image
-      → (checkpoint_of mid k ≡ checkpoint_of before k) ⊎ IsSupplied told book first k (checkpoint_of mid k)
-      → (checkpoint_of image k ≡ checkpoint_of before k) ⊎ IsSupplied told book first k (checkpoint_of image k)
-  own_put before mid image (inl same) was = ⊎_elim
-      (λ e. inl (same ∙ e))
-      (λ s. inr (subst (IsSupplied told book first k) (sym same) s))
-      was
-  own_put before mid image (inr (inl rest)) was = inr (record { missed = is.missed; own = inl rest })
-  own_put before mid image (inr (inr done)) was = inr (record {
-    missed = is.missed;
-    own = inr (record { lines = lines; finished = done; are = is.are });
-  })
+count_rises : (k m i : ℕ) → (i ≡ m) ⊎ ((m ≡ k) × (i ≡ k + 1)) → m ≤ i
+count_rises k m i (inl e) = omega (arith, e)
+count_rises k m i (inr e) = omega (arith, e.0, e.1)
 
-  other_put : (before mid image : Image) (j : ℕ) → checkpoint_of image j ≡ checkpoint_of mid j
-      → (checkpoint_of mid j ≡ checkpoint_of before j) ⊎ IsSupplied told book first j (checkpoint_of mid j)
-      → (checkpoint_of image j ≡ checkpoint_of before j) ⊎ IsSupplied told book first j (checkpoint_of image j)
+module _ (told : Bool) (book : Book) (spots : List Spot) (upto : ℕ) (first : Image) (k : ℕ) (lines : List Line)
+    (is : IsMissing told book spots first k lines) (within : k < upto) where
+  -- what stands in the file of a volume, as it was or as it is supplied
+  abbrev Stands : Image → Image → ℕ → Type 0
+  Stands before image j = (checkpoint_of image j ≡ checkpoint_of before j) ⊎ ((j < upto) × IsSupplied told book spots first j (checkpoint_of image j))
+
+  other_put : (before mid image : Image) (j : ℕ) → checkpoint_of image j ≡ checkpoint_of mid j → Stands before mid j → Stands before image j
   other_put before mid image j same was = ⊎_elim
       (λ e. inl (same ∙ e))
-      (λ s. inr (subst (IsSupplied told book first j) (sym same) s))
+      (λ s. inr (s.0, subst (IsSupplied told book spots first j) (sym same) s.1))
       was
+
+  own_put : (before mid image : Image) → IsWrittenFrom k lines mid image → Stands before mid k → Stands before image k
+  own_put before mid image (inl same) was = other_put before mid image k same was
+  own_put before mid image (inr (inl rest)) was = inr (within, record { lines = lines; missed = is; own = inl rest })
+  own_put before mid image (inr (inr done)) was = inr (within, record { lines = lines; missed = is; own = inr done })
 
   apart_below : (j : ℕ) → j < k → j ≢ k
   apart_below j less same = omega (arith, less, same)
@@ -75,26 +76,27 @@ module _ (told : Bool) (book : Book) (first : Image) (k : ℕ) (lines : List Lin
   counted_more : (b m i : ℕ) → (i ≡ m) ⊎ ((m ≡ k) × (i ≡ k + 1)) → (m ≡ b) ⊎ (m < length book.volumes) → (i ≡ b) ⊎ (i < length book.volumes)
   counted_more b m i (inl e) (inl f) = inl (e ∙ f)
   counted_more b m i (inl e) (inr l) = inr (omega (arith, e, l))
-  counted_more b m i (inr e) was = inr (omega (arith, e.1, is.missed.sealed))
+  counted_more b m i (inr e) was = inr (omega (arith, e.1, is.sealed))
 
-  count_rises : (m i : ℕ) → (i ≡ m) ⊎ ((m ≡ k) × (i ≡ k + 1)) → m ≤ i
-  count_rises m i (inl e) = omega (arith, e)
-  count_rises m i (inr e) = omega (arith, e.0, e.1)
-
-  goes_put : (before mid image : Image) → IsBeside k mid image → IsWrittenFrom k lines mid image → GoesWith told book first before mid
-      → GoesWith told book first before image
+  goes_put : (before mid image : Image) → IsBeside k mid image → IsWrittenFrom k lines mid image → GoesWith told book spots upto first before mid
+      → GoesWith told book spots upto first before image
   goes_put before mid image beside own goes = record {
+    warc = beside.warc ∙ goes.warc;
     each = λ j. each j (cases_order j k);
-    no_fewer = omega (arith, goes.no_fewer, count_rises (file_count mid Cdxj) (file_count image Cdxj) beside.count);
+    no_fewer = omega (arith, goes.no_fewer, count_rises k (file_count mid Cdxj) (file_count image Cdxj) beside.count);
     no_more = counted_more (file_count before Cdxj) (file_count mid Cdxj) (file_count image Cdxj) beside.count goes.no_more;
   }
     where
-      each : (j : ℕ) → (j ≡ k) ⊎ ((j < k) ⊎ (k < j)) → (checkpoint_of image j ≡ checkpoint_of before j) ⊎ IsSupplied told book first j (checkpoint_of image j)
-      each j (inl same) =
-          subst (λ (n : ℕ). (checkpoint_of image n ≡ checkpoint_of before n) ⊎ IsSupplied told book first n (checkpoint_of image n)) (sym same)
-          (own_put before mid image own (goes.each k))
+      each : (j : ℕ) → (j ≡ k) ⊎ ((j < k) ⊎ (k < j)) → Stands before image j
+      each j (inl same) = subst (Stands before image) (sym same) (own_put before mid image own (goes.each k))
       each j (inr (inl less)) = other_put before mid image j (beside.others j (apart_below j less)) (goes.each j)
       each j (inr (inr more)) = other_put before mid image j (beside.others j (apart_above j more)) (goes.each j)
+
+  supplied_put : (images mids : Image → Type 0) → ((mid : Image) → mids mid → HasSupplied told book spots upto first images mid) → (image : Image)
+      → HasPut k lines mids image → HasSupplied told book spots upto first images image
+  supplied_put images mids so_far image has =
+      let before = so_far has.before has.was in
+      record { before = before.before; was = before.was; goes = goes_put before.before has.before image has.beside has.own before.goes }
 
 -- ---- how many were missing
 
@@ -112,6 +114,16 @@ pub misses_one : (P : ℕ → Type 0) (k n : ℕ) → (P k → ⊥) → HasWitho
 misses_one P k n hasnt so_far =
     subst (λ (m : ℕ). HasWithout P m (n + 1)) (one_more k) (subst (HasWithout P (suc k)) (one_more n) (inr (hasnt, so_far)))
 
+-- what has P has Q, and the other way round
+counts_so : (P Q : ℕ → Type 0) (k n : ℕ) → ((j : ℕ) → j < k → P j → Q j) → ((j : ℕ) → j < k → Q j → P j) → HasWithout P k n → HasWithout Q k n
+counts_so P Q zero n to back has = has
+counts_so P Q (suc k) zero to back has =
+    (to k (omega arith) has.0, counts_so P Q k zero (λ j l. to j (omega (arith, l))) (λ j l. back j (omega (arith, l))) has.1)
+counts_so P Q (suc k) (suc n) to back has = ⊎_elim
+    (λ own. inl (to k (omega arith) own.0, counts_so P Q k (suc n) (λ j l. to j (omega (arith, l))) (λ j l. back j (omega (arith, l))) own.1))
+    (λ other. inr (λ q. other.0 (back k (omega arith) q), counts_so P Q k n (λ j l. to j (omega (arith, l))) (λ j l. back j (omega (arith, l))) other.1))
+    has
+
 -- where all have P, none hasn't
 none_without : (P : ℕ → Type 0) (k : ℕ) → ((j : ℕ) → j < k → P j) → HasWithout P k 0
 none_without P zero all = refl
@@ -122,16 +134,24 @@ all_there : (book : Book) (image : Image) (k : ℕ) → FirstAreFinished book k 
 all_there book image zero first = omega arith
 all_there book image (suc k) first = omega (arith, (first k (omega arith)).holds.there)
 
+-- where the book is told, it had no finished checkpoint of its lines
+missing_in_book : (told : Bool) (book : Book) (spots : List Spot) (first : Image) (k : ℕ) (lines : List Line) → VolumesHaveOneListOfLines → IsTrue told
+    → IsMissing told book spots first k lines → HasCheckpoint book k first → ⊥
+missing_in_book told book spots first k lines one so is has = is.missing
+    (subst (λ (all : List Line). IsCheckpoint k all (checkpoint_of first k)) (one book k has.lines lines has.are (is.own.are so)) has.holds.finished)
+
 -- ---- on a disk
 
 module _ {D : Type 0} (d : Ghosts D) (laws : DiskLaws d) (tells : IsTrue d.tells) where
-  still_images : (old new : D) → IsStill d old new → Leaves (d.images new) (HasCdxjOf (d.images old))
-  still_images old new still image now =
-      let was = still.quiet.kept (cdxj_files image) (record { told = tells; image = image; left = now; are = refl }) in
-      record { before = was.image; was = was.left; same = sym was.are }
+  rests_none : (at : D) → Rests d at at
+  rests_none at = record { read = refl; crash = λ image now. now; leaves = none_added d.moment d.images_since at (λ image. ⊥) }
 
-  pub still_by : (old new : D) → Rests d old new → IsStill d old new
-  still_by old new rests = record { reading = rests.read; quiet = quiet_by d laws old new (λ told. rests) }
+  rests_then : (old mid new : D) → Rests d old mid → Rests d mid new → Rests d old new
+  rests_then old mid new run next = record {
+    read = next.read ∙ run.read;
+    crash = λ image now. run.crash image (next.crash image now);
+    leaves = joined d.moment d.images_since old mid new (λ image. ⊥) run.leaves next.leaves;
+  }
 
   put_images : (volume : ℕ) (lines : List Line) (old new : D) → Puts d volume lines old new → (image : Image) → d.images new image
       → d.images old image ⊎ HasPut volume lines (d.images old) image
@@ -139,95 +159,111 @@ module _ {D : Type 0} (d : Ghosts D) (laws : DiskLaws d) (tells : IsTrue d.tells
       now_has d.moment d.images_since old new (d.images old) (HasPut volume lines (d.images old)) (d.images new)
       (λ i left. laws.now_counts new (d.moment old) i puts.leaves.later left) (laws.now_only old) puts.leaves image now
 
-  module _ (told : Bool) (book : Book) (from : D) where
-    left_still : (mid new : D) → IsStill d mid new → LeavesCheckpoints d told book from mid → LeavesCheckpoints d told book from new
-    left_still mid new still left = record {
-      warc = ap warc_files still.reading ∙ left.warc;
+  module _ (told : Bool) (book : Book) (spots : List Spot) (from : D) where
+    abbrev Supplied : ℕ → Image → Type 0
+    Supplied upto = HasSupplied told book spots upto (d.reading from) (d.images from)
+
+    -- what a read gives of a checkpoint: what it gave, or it was missing
+    abbrev Reads : ℕ → D → ℕ → Type 0
+    Reads upto new j = (checkpoint_of (d.reading new) j ≡ checkpoint_of (d.reading from) j)
+        ⊎ ((j < upto) × (lines : List Line) × IsMissing told book spots (d.reading from) j lines)
+
+    left_wider : (upto more : ℕ) (now : D) → upto ≤ more → LeavesCheckpoints d told book spots upto from now
+        → LeavesCheckpoints d told book spots more from now
+    left_wider upto more now le left = record {
+      warc = left.warc;
+      reading = λ k. ⊎_elim (λ e. inl e) (λ m. inr (omega (arith, le, m.0), m.1, m.2)) (left.reading k);
+      leaves = weakened d.moment d.images_since from now (Supplied upto) (Supplied more)
+          (λ image has. supplied_wider told book spots upto more (d.reading from) (d.images from) image le has) left.leaves;
+      images = λ image now. supplied_wider told book spots upto more (d.reading from) (d.images from) image le (left.images image now);
+    }
+
+    left_still : (upto : ℕ) (mid new : D) → Rests d mid new → LeavesCheckpoints d told book spots upto from mid
+        → LeavesCheckpoints d told book spots upto from new
+    left_still upto mid new rests left = record {
+      warc = ap warc_files rests.read ∙ left.warc;
       reading = λ k. ⊎_elim
-          (λ e. inl (ap (λ (i : Image). checkpoint_of i k) still.reading ∙ e))
+          (λ e. inl (ap (λ (i : Image). checkpoint_of i k) rests.read ∙ e))
           (λ m. inr m)
           (left.reading k);
-      images = λ image now.
-          let at = still_images mid new still image now in
-          let has = left.images at.before at.was in
-          record { before = has.before; was = has.was; goes = goes_still told book (d.reading from) has.before at.before image at.same has.goes };
+      leaves = joined d.moment d.images_since from mid new (Supplied upto) left.leaves
+          (weakened d.moment d.images_since mid new (λ image. ⊥) (Supplied upto) (λ image none. absurd none) rests.leaves);
+      images = λ image now. left.images image (rests.crash image now);
     }
 
-    left_put : (k : ℕ) (lines : List Line) (mid new : D) → Missed told book (d.reading from) k lines → Puts d k lines mid new
-        → LeavesCheckpoints d told book from mid → LeavesCheckpoints d told book from new
-    left_put k lines mid new is puts left = record {
+    left_put : (upto k : ℕ) (lines : List Line) (mid new : D) → IsMissing told book spots (d.reading from) k lines → k < upto → Puts d k lines mid new
+        → LeavesCheckpoints d told book spots upto from mid → LeavesCheckpoints d told book spots upto from new
+    left_put upto k lines mid new is within puts left = record {
       warc = puts.reading.warc ∙ left.warc;
       reading = λ j. read j (cases_order j k);
-      images = λ image now. ⊎_elim
-          (left.images image)
-          (λ has.
-          let before = left.images has.before has.was in
-          record {
-            before = before.before;
-            was = before.was;
-            goes = goes_put told book (d.reading from) k lines is before.before has.before image has.beside has.own before.goes;
-          })
-          (put_images k lines mid new puts image now);
+      leaves = joined d.moment d.images_since from mid new (Supplied upto) left.leaves
+          (weakened d.moment d.images_since mid new (HasPut k lines (d.images mid)) (Supplied upto) put puts.leaves);
+      images = λ image now. ⊎_elim (left.images image) (put image) (put_images k lines mid new puts image now);
     }
       where
-        apart : (j : ℕ) → j ≢ k
-            → (checkpoint_of (d.reading new) j ≡ checkpoint_of (d.reading from) j) ⊎ IsMissing told book (d.reading from) j
+        put : (image : Image) → HasPut k lines (d.images mid) image → Supplied upto image
+        put = supplied_put told book spots upto (d.reading from) k lines is within (d.images from) (d.images mid) left.images
+
+        apart : (j : ℕ) → j ≢ k → Reads upto new j
         apart j other = ⊎_elim (λ e. inl (puts.reading.others j other ∙ e)) (λ m. inr m) (left.reading j)
 
-        read : (j : ℕ) → (j ≡ k) ⊎ ((j < k) ⊎ (k < j))
-            → (checkpoint_of (d.reading new) j ≡ checkpoint_of (d.reading from) j) ⊎ IsMissing told book (d.reading from) j
-        read j (inl same) = inr (subst (IsMissing told book (d.reading from)) (sym same) is.missed)
+        read : (j : ℕ) → (j ≡ k) ⊎ ((j < k) ⊎ (k < j)) → Reads upto new j
+        read j (inl same) = subst (Reads upto new) (sym same) (inr (within, lines, is))
         read j (inr (inl less)) = apart j (λ e. omega (arith, less, e))
         read j (inr (inr more)) = apart j (λ e. omega (arith, more, e))
 
     -- ---- one volume
 
-    pub went_still : (k n : ℕ) (mid new : D) → IsStill d mid new → Went d told book k n from mid → Went d told book k n from new
-    went_still k n mid new still went = record {
-      left = left_still mid new still went.left;
-      ahead = λ j le. ap (λ (i : Image). checkpoint_of i j) still.reading ∙ went.ahead j le;
-      settled = λ so image now j less.
-          let at = still_images mid new still image now in
-          has_still book j at.before image (same_checkpoint image at.before at.same j) (omega (arith, same_count image at.before at.same)) (went.settled so at.before at.was j less);
-      there = λ so. omega (arith, went.there so, ap (λ (i : Image). file_count i Cdxj) still.reading);
+    -- those that are as they were stay so
+    wrote_still : (k n : ℕ) (mid new : D) → d.reading new ≡ d.reading mid → HasWithout (IsAsBefore (d.reading from) (d.reading mid)) k n
+        → HasWithout (IsAsBefore (d.reading from) (d.reading new)) k n
+    wrote_still k n mid new same = subst (λ (i : Image). HasWithout (IsAsBefore (d.reading from) i) k n) (sym same)
+
+    pub went_still : (k n : ℕ) (mid new : D) → Rests d mid new → Went d told book spots k n from mid → Went d told book spots k n from new
+    went_still k n mid new rests went = record {
+      left = left_still k mid new rests went.left;
+      ahead = λ j le. ap (λ (i : Image). checkpoint_of i j) rests.read ∙ went.ahead j le;
+      settled = λ so image now. went.settled so image (rests.crash image now);
+      there = λ so. omega (arith, went.there so, ap (λ (i : Image). file_count i Cdxj) rests.read);
       counted = went.counted;
-      none = λ zero_is.
-          let so_far = went.none zero_is in
-          record { reading = still.reading ∙ so_far.reading; quiet = quiet_on d laws from mid new so_far.quiet still.quiet };
+      wrote = wrote_still k n mid new rests.read went.wrote;
+      none = λ zero_is. rests_then from mid new (went.none zero_is) rests;
     }
 
-    -- nothing is known of the book, so nothing has to be said
-    pub went_past : (k n : ℕ) (mid : D) → (IsTrue told → ⊥) → Went d told book k n from mid → Went d told book (k + 1) n from mid
+    -- nothing is known of the book, so no more has to be said than that it is as it was
+    pub went_past : (k n : ℕ) (mid : D) → (IsTrue told → ⊥) → Went d told book spots k n from mid → Went d told book spots (k + 1) n from mid
     went_past k n mid untold went = record {
-      left = went.left;
+      left = left_wider k (k + 1) mid (omega arith) went.left;
       ahead = λ j le. went.ahead j (omega (arith, le));
       settled = λ so. absurd (untold so);
       there = λ so. absurd (untold so);
       counted = λ so. absurd (untold so);
+      wrote = counts_one (IsAsBefore (d.reading from) (d.reading mid)) k n (went.ahead k (omega arith)) went.wrote;
       none = went.none;
     }
 
-    stopped_at : (k n : ℕ) (now : D) → Went d told book k n from now → Stopped d told book k from now
-    stopped_at k n now went = record { left = went.left; settled = went.settled }
+    -- refused before anything was written
+    stopped_at : (k n : ℕ) (fault : CheckpointFault) (now : D) → Went d told book spots k n from now → Stopped d told book spots k fault from now
+    stopped_at k n checkpoints.DiskFault now went = record { left = left_wider k (k + 1) now (omega arith) went.left; settled = went.settled }
+    stopped_at k n checkpoints.Memory now went = record { left = went.left; settled = went.settled }
 
     below_or_at : (j k : ℕ) → j < k + 1 → (j < k) ⊎ (j ≡ k)
     below_or_at j k less = ⊎_elim (λ e. inr e) (λ other. inl (⊎_elim (λ l. l) (λ m. absurd (omega (arith, less, m))) other)) (cases_order j k)
 
-    module _ (k n : ℕ) (lines : List Line) (mid new : D) (are : IsTrue told → AreLinesOf book k lines) (went : Went d told book k n from mid) where
+    module _ (k n : ℕ) (lines : List Line) (mid new : D) (own : AreLinesFrom told book spots k lines) (went : Went d told book spots k n from mid) where
       -- it was finished
-      pub went_kept : Rests d mid new → (k ≤ file_count (d.reading mid) Cdxj → StaysFinished d k lines mid new) → Went d told book (k + 1) n from new
+      pub went_kept : Rests d mid new → (k ≤ file_count (d.reading mid) Cdxj → StaysFinished d k lines mid new) → Went d told book spots (k + 1) n from new
       went_kept rests stays =
-          let still = still_by mid new rests in
-          let so_far = went_still k n mid new still went in
+          let so_far = went_still k n mid new rests went in
           record {
-            left = so_far.left;
+            left = left_wider k (k + 1) new (omega arith) so_far.left;
             ahead = λ j le. so_far.ahead j (omega (arith, le));
             settled = λ so image now j less. ⊎_elim
                 (λ l. so_far.settled so image now j l)
                 (λ e. subst (λ (m : ℕ). HasCheckpoint book m image) (sym e)
-                (record { lines = lines; holds = (stays (went.there so)).is image now; are = are so }))
+                (record { lines = lines; holds = (stays (went.there so)).is image now; are = own.are so }))
                 (below_or_at j k less);
-            there = λ so. omega (arith, (stays (went.there so)).was.there, ap (λ (i : Image). file_count i Cdxj) still.reading);
+            there = λ so. omega (arith, (stays (went.there so)).was.there, ap (λ (i : Image). file_count i Cdxj) rests.read);
             counted = λ so. counts_one (λ j. HasCheckpoint book j (d.reading from)) k n
                 (record {
                   lines = lines;
@@ -235,9 +271,10 @@ module _ {D : Type 0} (d : Ghosts D) (laws : DiskLaws d) (tells : IsTrue d.tells
                     there = first_there (stays (went.there so)).was;
                     finished = subst (λ (bytes : List ℕ). IsCheckpoint k lines bytes) (went.ahead k (omega arith)) (stays (went.there so)).was.finished;
                   };
-                  are = are so;
+                  are = own.are so;
                 })
                 (went.counted so);
+            wrote = counts_one (IsAsBefore (d.reading from) (d.reading new)) k n (so_far.ahead k (omega arith)) so_far.wrote;
             none = so_far.none;
           }
         where
@@ -246,75 +283,84 @@ module _ {D : Type 0} (d : Ghosts D) (laws : DiskLaws d) (tells : IsTrue d.tells
               (subst (λ (bytes : List ℕ). IsCheckpoint k lines bytes) (went.ahead k (omega arith)) was.finished)
 
       module _ (one : VolumesHaveOneListOfLines) (sealed : k + 1 < length book.volumes) (writes : WritesMissing d k lines mid new) where
-        missed : Missed told book (d.reading from) k lines
+        missed : IsMissing told book spots (d.reading from) k lines
         missed = record {
-          missed = record {
-            sealed = sealed;
-            missing = λ so has. writes.missing
-                (subst (λ (bytes : List ℕ). IsCheckpoint k lines bytes) (sym (went.ahead k (omega arith)))
-                (subst (λ (all : List Line). IsCheckpoint k all (checkpoint_of (d.reading from) k)) (one book k has.lines lines has.are (are so)) has.holds.finished));
-          };
-          are = are;
+          sealed = sealed;
+          own = own;
+          missing = λ was. writes.missing (subst (λ (bytes : List ℕ). IsCheckpoint k lines bytes) (sym (went.ahead k (omega arith))) was);
         }
 
         -- it was written, or that was refused
-        left_writes : LeavesCheckpoints d told book from new
-        left_writes = left_put k lines mid new missed writes.puts went.left
+        left_writes : LeavesCheckpoints d told book spots (k + 1) from new
+        left_writes = left_put (k + 1) k lines mid new missed (omega arith) writes.puts (left_wider k (k + 1) mid (omega arith) went.left)
 
         -- those before it stay finished
         first_put : IsTrue told → Leaves (d.images new) (FirstAreFinished book k)
         first_put so image now j less = ⊎_elim
             (λ was. went.settled so image was j less)
             (λ has. has_still book j has.before image (has.beside.others j (λ e. omega (arith, less, e)))
-            (count_rises told book (d.reading from) k lines missed (file_count has.before Cdxj) (file_count image Cdxj) has.beside.count)
+            (count_rises k (file_count has.before Cdxj) (file_count image Cdxj) has.beside.count)
             (went.settled so has.before has.was j less))
             (put_images k lines mid new writes.puts image now)
 
-        pub stopped_writes : Stopped d told book k from new
+        pub stopped_writes : Stopped d told book spots k checkpoints.DiskFault from new
         stopped_writes = record { left = left_writes; settled = first_put }
 
-        pub went_written : Leaves (d.images new) (HoldsCheckpoint k lines) → d.images new (d.reading new) → Went d told book (k + 1) (n + 1) from new
+        -- those before it are as they were where they were so
+        wrote_put : HasWithout (IsAsBefore (d.reading from) (d.reading mid)) k n → HasWithout (IsAsBefore (d.reading from) (d.reading new)) k n
+        wrote_put = counts_so (IsAsBefore (d.reading from) (d.reading mid)) (IsAsBefore (d.reading from) (d.reading new)) k n
+            (λ j less e. writes.puts.reading.others j (λ s. omega (arith, less, s)) ∙ e)
+            (λ j less e. sym (writes.puts.reading.others j (λ s. omega (arith, less, s))) ∙ e)
+
+        pub went_written : Leaves (d.images new) (HoldsCheckpoint k lines) → d.images new (d.reading new) → Went d told book spots (k + 1) (n + 1) from new
         went_written only read = record {
           left = left_writes;
           ahead = λ j le. writes.puts.reading.others j (λ e. omega (arith, le, e)) ∙ went.ahead j (omega (arith, le));
           settled = λ so image now j less. ⊎_elim
               (first_put so image now j)
-              (λ e. subst (λ (m : ℕ). HasCheckpoint book m image) (sym e) (record { lines = lines; holds = only image now; are = are so }))
+              (λ e. subst (λ (m : ℕ). HasCheckpoint book m image) (sym e) (record { lines = lines; holds = only image now; are = own.are so }))
               (below_or_at j k less);
           there = λ so. omega (arith, (only (d.reading new) read).there);
-          counted = λ so. misses_one (λ j. HasCheckpoint book j (d.reading from)) k n (missed.missed.missing so) (went.counted so);
+          counted = λ so. misses_one (λ j. HasCheckpoint book j (d.reading from)) k n
+              (missing_in_book told book spots (d.reading from) k lines one so missed) (went.counted so);
+          wrote = misses_one (IsAsBefore (d.reading from) (d.reading new)) k n
+              (λ same. missed.missing (subst (λ (bytes : List ℕ). IsCheckpoint k lines bytes) same (only (d.reading new) read).finished)) (wrote_put went.wrote);
           none = λ zero_is. absurd (omega (arith, zero_is));
         }
 
     -- a volume more, by what was done of its checkpoint
     pub goes_supplied : (k n : ℕ) (lines : List Line) (mid new : D) (result : Result Bool CheckpointFault) → VolumesHaveOneListOfLines
-        → k + 1 < length book.volumes → (IsTrue told → AreLinesOf book k lines) → d.images new (d.reading new) → Went d told book k n from mid
-        → Supplies d k lines mid new result → GoesTo d told book k n from new result
-    goes_supplied k n lines mid new (Ok true) one sealed are read went supplied =
-        went_written k n lines mid new are went one sealed supplied.0 supplied.1 read
-    goes_supplied k n lines mid new (Ok false) one sealed are read went supplied = went_kept k n lines mid new are went supplied.0 supplied.1
-    goes_supplied k n lines mid new (Err fault) one sealed are read went supplied = ⊎_elim
-        (λ rests. stopped_at k n new (went_still k n mid new (still_by mid new rests) went))
-        (λ writes. stopped_writes k n lines mid new are went one sealed writes)
+        → k + 1 < length book.volumes → AreLinesFrom told book spots k lines → d.images new (d.reading new) → Went d told book spots k n from mid
+        → Supplies d k lines mid new result → GoesTo d told book spots k n from new result
+    goes_supplied k n lines mid new (Ok true) one sealed own read went supplied =
+        went_written k n lines mid new own went one sealed supplied.0 supplied.1 read
+    goes_supplied k n lines mid new (Ok false) one sealed own read went supplied = went_kept k n lines mid new own went supplied.0 supplied.1
+    goes_supplied k n lines mid new (Err checkpoints.DiskFault) one sealed own read went supplied = ⊎_elim
+        (λ rests. stopped_at k n checkpoints.DiskFault new (went_still k n mid new rests went))
+        (λ writes. stopped_writes k n lines mid new own went one sealed writes)
         supplied
+    goes_supplied k n lines mid new (Err checkpoints.Memory) one sealed own read went supplied =
+        stopped_at k n checkpoints.Memory new (went_still k n mid new supplied went)
 
     -- refused before anything was written
-    pub goes_refused : (k n : ℕ) (mid new : D) (fault : CheckpointFault) → IsStill d mid new → Went d told book k n from mid
-        → GoesTo d told book k n from new (Err fault)
-    goes_refused k n mid new fault still went = stopped_at k n new (went_still k n mid new still went)
+    pub goes_refused : (k n : ℕ) (mid new : D) (fault : CheckpointFault) → Rests d mid new → Went d told book spots k n from mid
+        → GoesTo d told book spots k n from new (Err fault)
+    goes_refused k n mid new fault rests went = stopped_at k n fault new (went_still k n mid new rests went)
 
   -- at first those were gone through that are known to be finished
-  pub went_none : (told : Bool) (book : Book) (k : ℕ) (from : D) → d.images from (d.reading from)
-      → (IsTrue told → Leaves (d.images from) (FirstAreFinished book k)) → Went d told book k 0 from from
-  went_none told book k from read first = record {
+  pub went_none : (told : Bool) (book : Book) (spots : List Spot) (k : ℕ) (from : D) → d.images from (d.reading from)
+      → (IsTrue told → Leaves (d.images from) (FirstAreFinished book k)) → Went d told book spots k 0 from from
+  went_none told book spots k from read first = record {
     left = record {
       warc = refl;
       reading = λ j. inl refl;
-      images = λ image now. record { before = image; was = now; goes = goes_itself told book (d.reading from) image };
+      leaves = none_added d.moment d.images_since from (HasSupplied told book spots k (d.reading from) (d.images from));
+      images = λ image now. record { before = image; was = now; goes = goes_itself told book spots k (d.reading from) image };
     };
     ahead = λ j le. refl;
     settled = first;
     there = λ so. all_there book (d.reading from) k (first so (d.reading from) read);
     counted = λ so. none_without (λ j. HasCheckpoint book j (d.reading from)) k (first so (d.reading from) read);
-    none = λ zero_is. record { reading = refl; quiet = quiet_itself d laws from };
+    wrote = none_without (IsAsBefore (d.reading from) (d.reading from)) k (λ j less. refl);
+    none = λ zero_is. rests_none from;
   }

@@ -1,15 +1,20 @@
 -- The volumes of a book, one after the other.
 use Rattle.std.proofs.Common.{◌≡◌, ℕ, zero, suc, ◌+◌, ◌<◌, ◌≤◌, List, [], ◌∷◌, length, get_or, take, Bool, true, false, if◌then◌else◌, Some, Result, Ok, Err, refl, sym, ap, subst, ◌∙◌, length-append, arith}
-use Rattle.std.specs.Prelude.{IsErrAnd, slice_get, slice_index_or}
+use Rattle.std.specs.Prelude.{IsErrAnd, IsTrue, slice_get, slice_index_or}
 use Rattle.std.proofs.lemmas.Option.{same_Some}
 use Rattle.capture.specs.Captures.{captures, captures_in, first_number}
 use Rattle.capture.specs.declared.book.Book.{Book}
 use Rattle.capture.specs.declared.book.Volume.{Volume}
 use Rattle.archive_volumes.specs.Facts.{facts_from, facts_of}
+use Rattle.archive_volumes.specs.declared.spot.Spot.{Spot}
 use Rattle.archive_volumes.specs.declared.volume_facts.VolumeFacts.{VolumeFacts}
 use Rattle.disk_model.specs.declared.disk.Disk.{Ghosts}
 use Rattle.checkpoint.specs.declared.fault.CheckpointFault.{CheckpointFault}
+use Rattle.cdxj_line.specs.declared.line.Line.{Line}
+use Rattle.checkpoint.specs.OfVolume.{AreLinesOf}
 use Rattle.volume_lines.specs.OfGroups.{IsFactsOf}
+use Rattle.volume_lines.specs.OfSpots.{AreLinesOfSpots}
+use Rattle.archive_core.specs.Settling.{AreLinesFrom}
 use Rattle.archive_core.proofs.FinishedLaws.{volume_at}
 use Rattle.archive_core.specs.steps.Supplying.{GoesOnBy, Stopped, Went}
 
@@ -91,6 +96,18 @@ found_fact was now same facts k f all found filled less =
     (subst (IsSealedFact was k) (sym (found ∙ ap (λ (l : List VolumeFacts). slice_index_or l k f) all))
     (sealed_fact was k f filled (omega (arith, less, ap (λ (l : List VolumeFacts). length l) all))))
 
+-- the lines of a volume of which this is told
+pub lines_from : (told : Bool) (book : Book) (spots : List Spot) (facts : VolumeFacts) → IsFactsOf book facts → (lines : List Line)
+    → AreLinesOfSpots spots facts.first facts.count lines → (IsTrue told → AreLinesOf book facts.volume lines)
+    → AreLinesFrom told book spots facts.volume lines
+lines_from told book spots facts of lines kept are = record {
+  of = of.of;
+  placed = of.placed;
+  kept = subst (λ (n : ℕ). AreLinesOfSpots spots n (length of.of.captures) lines) of.first
+      (subst (λ (n : ℕ). AreLinesOfSpots spots facts.first n lines) of.count kept);
+  are = are;
+}
+
 -- ---- one volume after the other
 
 pub one_at_most : (b : Bool) (n : ℕ) → n ≡ (if b then 1 else 0) → n ≤ 1
@@ -103,18 +120,18 @@ pub at_exit : (P : Result ℕ CheckpointFault → Type 0) (fault : CheckpointFau
 at_exit P fault (Ok n) is p = absurd is
 at_exit P fault (Err f) is p = subst (λ (g : CheckpointFault). P (Err g)) (sym is) p
 
-module _ {D : Type 0} (d : Ghosts D) (told : Bool) (was now : Book) (same : now ≡ was) (k n volume : ℕ) (number : volume ≡ k) (from old new : D)
-    (went : Went d told was k n from old) where
-  goes : (result : Result Bool CheckpointFault) → GoesOnBy d told now volume old new result → GoesOnBy d told was k old new result
-  goes result by = subst (λ (m : ℕ). GoesOnBy d told was m old new result) number
-      (subst (λ (b : Book). GoesOnBy d told b volume old new result) same by)
+module _ {D : Type 0} (d : Ghosts D) (told : Bool) (was now : Book) (same : now ≡ was) (spots : List Spot) (k n volume : ℕ) (number : volume ≡ k)
+    (from old new : D) (went : Went d told was spots k n from old) where
+  goes : (result : Result Bool CheckpointFault) → GoesOnBy d told now spots volume old new result → GoesOnBy d told was spots k old new result
+  goes result by = subst (λ (m : ℕ). GoesOnBy d told was spots m old new result) number
+      (subst (λ (b : Book). GoesOnBy d told b spots volume old new result) same by)
 
-  pub goes_next : (wrote : Bool) (more : ℕ) → more ≡ (if wrote then 1 else 0) → GoesOnBy d told now volume old new (Ok wrote)
-      → Went d told was (k + 1) (n + more) from new
-  goes_next true more is by = subst (λ (m : ℕ). Went d told was (k + 1) (n + m) from new) (sym is) (goes (Ok true) by from n went)
+  pub goes_next : (wrote : Bool) (more : ℕ) → more ≡ (if wrote then 1 else 0) → GoesOnBy d told now spots volume old new (Ok wrote)
+      → Went d told was spots (k + 1) (n + more) from new
+  goes_next true more is by = subst (λ (m : ℕ). Went d told was spots (k + 1) (n + m) from new) (sym is) (goes (Ok true) by from n went)
   goes_next false more is by =
       let none : n ≡ n + more = omega (arith, is) in
-      subst (λ (m : ℕ). Went d told was (k + 1) m from new) none (goes (Ok false) by from n went)
+      subst (λ (m : ℕ). Went d told was spots (k + 1) m from new) none (goes (Ok false) by from n went)
 
-  pub goes_no_further : (fault : CheckpointFault) → GoesOnBy d told now volume old new (Err fault) → Stopped d told was k from new
+  pub goes_no_further : (fault : CheckpointFault) → GoesOnBy d told now spots volume old new (Err fault) → Stopped d told was spots k fault from new
   goes_no_further fault by = goes (Err fault) by from n went

@@ -1,4 +1,5 @@
 pub mod Basis
+pub mod Bringing
 pub mod Finished
 pub mod Holdings
 pub mod Known

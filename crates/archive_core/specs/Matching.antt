@@ -1,5 +1,5 @@
 -- The framing of a new capture, and which capture has a payload, of all that there are.
-use Rattle.std.specs.Prelude.{ℕ, ◌<◌, Bool, List, length, Option, Some, None, Result, Ok, Err, ⊤}
+use Rattle.std.specs.Prelude.{ℕ, ◌<◌, Bool, List, length, Option, Result, Ok, Err, ⊤}
 use Rattle.capture.specs.Body.{IsWire}
 use Rattle.capture.specs.Captures.{captures, HasPayload}
 use Rattle.capture.specs.Payload.{IsPayload}

@@ -1,9 +1,12 @@
 -- What it leaves to write the checkpoints of sealed volumes: of each volume but the last.
-use Rattle.std.specs.Prelude.{◌≡◌, ◌⊎◌, ℕ, zero, suc, ◌+◌, ◌-◌, ◌<◌, ◌≤◌, Bool, true, false, IsTrue, List, length, IfOk, OnOk, Result, Ok, Err}
+use Rattle.std.specs.Prelude.{◌≡◌, ◌⊎◌, ℕ, zero, suc, ◌+◌, ◌-◌, ◌<◌, ◌≤◌, Bool, true, false, IsTrue, List, length, slice_get, Some, IfOk, OnOk, Result, Ok, Err}
 use Rattle.capture.specs.Tails.{IsRest}
+use Rattle.capture.specs.Captures.{first_number}
 use Rattle.capture.specs.declared.book.Book.{Book}
+use Rattle.capture.specs.declared.book.Volume.{Volume}
 use Rattle.disk_model.specs.Crash.{Leaves}
 use Rattle.disk_model.specs.Image.{Image, file_count}
+use Rattle.disk_model.specs.Moments.{AddsOnly}
 use Rattle.disk_model.specs.declared.disk.Disk.{Ghosts}
 use Rattle.disk_model.specs.declared.kind.Kind.TheVariants.{Cdxj}
 use Rattle.warc_journal.specs.Extents.{warc_files}
@@ -14,8 +17,11 @@ use Rattle.checkpoint.specs.Faults.{CountsDisk}
 use Rattle.checkpoint.specs.OfVolume.{AreLinesOf}
 use Rattle.checkpoint.specs.Putting.{HoldsCheckpoint, Puts, commit_byte}
 use Rattle.checkpoint.specs.declared.fault.CheckpointFault.{CheckpointFault}
+use Rattle.checkpoint.specs.declared.fault.CheckpointFault.TheVariants as checkpoints
 use Rattle.archive_shelf.specs.Openings.{CrashStates, Moves, StaysCovered}
-use Rattle.archive_core.specs.Finished.{HasCheckpoint, IsSettled}
+use Rattle.archive_volumes.specs.declared.spot.Spot.{Spot}
+use Rattle.volume_lines.specs.OfSpots.{AreLinesOfSpots}
+use Rattle.archive_core.specs.Finished.{FirstAreFinished, HasCheckpoint, HasNoOther, IsSettled}
 use Rattle.archive_core.specs.Holdings.{Holdings}
 use Rattle.archive_core.specs.Looking.{OnlyLooks}
 use Rattle.archive_core.specs.Told.{told_of}
@@ -38,43 +44,54 @@ pub record WritesMissing {D : Type 0} (d : Ghosts D) (volume : ℕ) (lines : Lis
   pub missing : IsCheckpoint volume lines (checkpoint_of (d.reading old) volume) → ⊥
   pub puts : Puts d volume lines old new
 
--- whether it was written: where it wasn't, nothing was
+-- whether it was written: where it wasn't, nothing was, and for want of memory nothing is
 abbrev pub Supplies : {D : Type 0} → Ghosts D → ℕ → List Line → D → D → Result Bool CheckpointFault → Type 0
 Supplies d volume lines old new (Ok true) = WritesMissing d volume lines old new × Leaves (d.images new) (HoldsCheckpoint volume lines)
 Supplies d volume lines old new (Ok false) =
     Rests d old new × (volume ≤ file_count (d.reading old) Cdxj → StaysFinished d volume lines old new)
-Supplies d volume lines old new (Err fault) = Rests d old new ⊎ WritesMissing d volume lines old new
+Supplies d volume lines old new (Err checkpoints.DiskFault) = Rests d old new ⊎ WritesMissing d volume lines old new
+Supplies d volume lines old new (Err checkpoints.Memory) = Rests d old new
 
 -- ---- the checkpoints of a book
 
--- a finished checkpoint of the volume; where the book is told, with the lines of the book's volume
-pub record IsFinishedFor (told : Bool) (book : Book) (k : ℕ) (bytes : List ℕ) : Type 0 where
-  pub lines : List Line
-  pub finished : IsCheckpoint k lines bytes
+-- The lines of a volume: they tell what is kept of its captures, one for each; where the book is told, they are those of the book's volume.
+pub record AreLinesFrom (told : Bool) (book : Book) (spots : List Spot) (k : ℕ) (lines : List Line) : Type 0 where
+  pub of : Volume
+  pub placed : slice_get book.volumes k ≡ Some of
+  pub kept : AreLinesOfSpots spots (first_number book k) (length of.captures) lines
   pub are : IsTrue told → AreLinesOf book k lines
 
--- a sealed volume whose checkpoint was missing at first
-pub record IsMissing (told : Bool) (book : Book) (first : Image) (k : ℕ) : Type 0 where
+-- a sealed volume with these lines, whose checkpoint wasn't finished with them at first
+pub record IsMissing (told : Bool) (book : Book) (spots : List Spot) (first : Image) (k : ℕ) (lines : List Line) : Type 0 where
   pub sealed : k + 1 < length book.volumes
-  pub missing : IsTrue told → HasCheckpoint book k first → ⊥
+  pub own : AreLinesFrom told book spots k lines
+  pub missing : IsCheckpoint k lines (checkpoint_of first k) → ⊥
 
--- what stands in the file of such a volume: it is unfinished, or finished
-pub record IsSupplied (told : Bool) (book : Book) (first : Image) (k : ℕ) (bytes : List ℕ) : Type 0 where
-  pub missed : IsMissing told book first k
-  pub own : IsRest commit_byte bytes ⊎ IsFinishedFor told book k bytes
+-- what stands in the file of such a volume: it is unfinished, or finished with its lines
+pub record IsSupplied (told : Bool) (book : Book) (spots : List Spot) (first : Image) (k : ℕ) (bytes : List ℕ) : Type 0 where
+  pub lines : List Line
+  pub missed : IsMissing told book spots first k lines
+  pub own : IsRest commit_byte bytes ⊎ IsCheckpoint k lines bytes
 
--- An image's checkpoints beside those of an image from before: each is as it was, or was missing at first and is unfinished or finished. No
--- file is there but for volumes of the book, and none is gone.
-pub record GoesWith (told : Bool) (book : Book) (first before image : Image) : Type 0 where
-  pub each : (k : ℕ) → (checkpoint_of image k ≡ checkpoint_of before k) ⊎ IsSupplied told book first k (checkpoint_of image k)
+-- An image's checkpoints beside those of an image from before, with the same Warc files: each is as it was, or is of one of so many first
+-- volumes, was missing at first, and is unfinished or finished. No file is there but for volumes of the book, and none is gone.
+pub record GoesWith (told : Bool) (book : Book) (spots : List Spot) (upto : ℕ) (first before image : Image) : Type 0 where
+  pub warc : warc_files image ≡ warc_files before
+  pub each : (k : ℕ) → (checkpoint_of image k ≡ checkpoint_of before k) ⊎ ((k < upto) × IsSupplied told book spots first k (checkpoint_of image k))
   pub no_fewer : file_count before Cdxj ≤ file_count image Cdxj
   pub no_more : (file_count image Cdxj ≡ file_count before Cdxj) ⊎ (file_count image Cdxj < length book.volumes)
 
--- an image whose checkpoints go with those of an image from before
-pub record HasSupplied (told : Bool) (book : Book) (first : Image) (images : Image → Type 0) (image : Image) : Type 0 where
+-- an image that goes with one from before
+pub record HasSupplied (told : Bool) (book : Book) (spots : List Spot) (upto : ℕ) (first : Image) (images : Image → Type 0) (image : Image) : Type 0 where
   pub before : Image
   pub was : images before
-  pub goes : GoesWith told book first before image
+  pub goes : GoesWith told book spots upto first before image
+
+-- a book's checkpoints stay right: where those of an image were, those of one that goes with it are
+abbrev pub KeepsSettled : Type 0
+KeepsSettled =
+    (book : Book) (spots : List Spot) (upto : ℕ) (first before image : Image) → GoesWith true book spots upto first before image
+    → HasNoOther book before → HasNoOther book image
 
 -- nothing more may be opened, at whatever moment a crash stops the call
 pub record OpensNoMore (was is : CrashStates) : Type 0 where
@@ -88,12 +105,25 @@ HasWithout P zero n = n ≡ 0
 HasWithout P (suc k) zero = P k × HasWithout P k zero
 HasWithout P (suc k) (suc n) = (P k × HasWithout P k (suc n)) ⊎ ((P k → ⊥) × HasWithout P k n)
 
--- Checkpoints were written, or it was refused. Of each disk that tells, whatever is told of the book: the volumes' files are as they were, the
--- checkpoints that weren't missing too, and in each image, of which a read gives one, all go with what might have been left before.
-pub record LeavesCheckpoints {D : Type 0} (d : Ghosts D) (told : Bool) (book : Book) (old new : D) : Type 0 where
+-- The checkpoints of so many of the first volumes were written where they were missing. Of each disk that tells, whatever is told of the book:
+-- the volumes' files are as they were, and so are the checkpoints that weren't missing and those of the other volumes. At each moment, and once
+-- it is done, a crash leaves what it might have left before, or an image that goes with such a one.
+pub record LeavesCheckpoints {D : Type 0} (d : Ghosts D) (told : Bool) (book : Book) (spots : List Spot) (upto : ℕ) (old new : D) : Type 0 where
   pub warc : warc_files (d.reading new) ≡ warc_files (d.reading old)
-  pub reading : (k : ℕ) → (checkpoint_of (d.reading new) k ≡ checkpoint_of (d.reading old) k) ⊎ IsMissing told book (d.reading old) k
-  pub images : Leaves (d.images new) (HasSupplied told book (d.reading old) (d.images old))
+  pub reading : (k : ℕ) → (checkpoint_of (d.reading new) k ≡ checkpoint_of (d.reading old) k)
+      ⊎ ((k < upto) × (lines : List Line) × IsMissing told book spots (d.reading old) k lines)
+  pub leaves : AddsOnly d.moment d.images_since old new (HasSupplied told book spots upto (d.reading old) (d.images old))
+  pub images : Leaves (d.images new) (HasSupplied told book spots upto (d.reading old) (d.images old))
+
+-- how many of the first volumes may have been written, where so many were gone through: one more where the disk failed
+abbrev pub reach : ℕ → Result ℕ CheckpointFault → ℕ
+reach settled (Ok n) = settled
+reach settled (Err checkpoints.DiskFault) = settled + 1
+reach settled (Err checkpoints.Memory) = settled
+
+-- a read gives the checkpoint that it gave
+abbrev pub IsAsBefore : Image → Image → ℕ → Type 0
+IsAsBefore was is k = checkpoint_of is k ≡ checkpoint_of was k
 
 -- All checkpoints are finished, in what a read gives and in each image, and just so many were missing.
 pub record Settles {D : Type 0} (d : Ghosts D) (book : Book) (old new : D) (n : ℕ) : Type 0 where
@@ -101,17 +131,23 @@ pub record Settles {D : Type 0} (d : Ghosts D) (book : Book) (old new : D) (n : 
   pub images : Leaves (d.images new) (IsSettled book)
   pub number : HasWithout (λ k. HasCheckpoint book k (d.reading old)) (length book.volumes - 1) n
 
--- What a call leaves that writes the checkpoints which are missing, and answers how many it wrote. All of the archive stays but its disk and
--- how many checkpoints are known to be finished, of which none is forgotten; after success all are. Nothing is opened that wasn't before. Where
--- it wrote none, the disk stays; and it isn't asked where all were known.
+-- What a call leaves that writes the checkpoints which are missing, and answers how many it wrote, which is how many files are others than
+-- before. All of the archive stays but its disk and how many checkpoints are known to be finished, of which none is forgotten; after success all
+-- are. Where the book is told, so many are finished in each image, also where it was refused. Nothing is opened that wasn't before. Where it
+-- wrote none, the disk stays; and it isn't asked where all were known.
 pub record SettlesOn {D : Type 0} (d : Ghosts D) (was is : Holdings D) (result : Result ℕ CheckpointFault) : Type 0 where
   pub others : is ≡ record was { journal = is.journal; settled = is.settled }
   pub known : was.settled ≤ is.settled
   pub all : OnOk result (is.settled ≡ length was.book.volumes - 1)
+  pub few : IfOk result (λ n. was.settled + n ≤ is.settled)
   pub unasked : was.settled ≡ length was.book.volumes - 1 → OnOk result (is.journal ≡ was.journal)
   pub extent : extent_of is.journal ≡ extent_of was.journal
   pub faults : CountsDisk (d.faults (disk_of was.journal)) (d.faults (disk_of is.journal)) result
-  pub leaves : IsTrue d.tells → LeavesCheckpoints d was.told was.book (disk_of was.journal) (disk_of is.journal)
+  pub leaves : IsTrue d.tells
+      → LeavesCheckpoints d was.told was.book was.spots (reach is.settled result) (disk_of was.journal) (disk_of is.journal)
+  pub wrote : IsTrue d.tells → IfOk result
+      (HasWithout (IsAsBefore (d.reading (disk_of was.journal)) (d.reading (disk_of is.journal))) (length was.book.volumes - 1))
+  pub first : IsTrue was.told → Leaves (d.images (disk_of is.journal)) (FirstAreFinished was.book is.settled)
   pub opens : OpensNoMore (told_of d was).crash (told_of d is).crash
   pub settles : IsTrue was.told → IfOk result (Settles d was.book (disk_of was.journal) (disk_of is.journal))
   pub none : result ≡ Ok 0 → OnlyLooks d was (record is { settled = was.settled })

@@ -1,11 +1,11 @@
 -- What storing a capture leaves of an archive in which nobody else stores.
-use Rattle.std.specs.Prelude.{◌≡◌, ℕ, ◌+◌, Bool, true, if◌then◌else◌, List, length, IfOk, OnOk, Option, Result, Ok, Err}
+use Rattle.std.specs.Prelude.{◌≡◌, ℕ, ◌+◌, Bool, true, if◌then◌else◌, IsTrue, List, length, IfOk, OnOk, Option, Result, Ok, Err}
 use Rattle.capture.specs.Captures.{captures, HasPayload}
 use Rattle.capture.specs.declared.captured.Taken.{Taken}
 use Rattle.disk_model.specs.declared.disk.Disk.{Ghosts}
 use Rattle.warc_journal.specs.Journals.{disk_of, last_len}
 use Rattle.warc_text.specs.Records.{info_text}
-use Rattle.archive_shelf.specs.Answers.{IsFull, IsNotFull}
+use Rattle.archive_shelf.specs.Answers.{IsFull, IsNotFull, LeavesReading}
 use Rattle.archive_shelf.specs.Contents.{Contents}
 use Rattle.archive_shelf.specs.Storing.{as_stored, with_capture, with_volume}
 use Rattle.archive_shelf.specs.Told.{StoresOn}
@@ -46,3 +46,5 @@ pub record Stores {D : Type 0} (d : Ghosts D) (was is : Holdings D) (taken : Tak
   -- once it is stored, the files of the volumes are just the texts of the book, in each image, where that is told
   pub just : OnOk result (LeavesJust (muted is.told d) (disk_of is.journal) is.book)
   pub fills : IfOk result (λ receipt. FillsVolumes was is taken receipt.same_as)
+  -- where the disk tells, whatever is told of the book: nothing written, a read gives what it gave, and it gives the same checkpoints in any case
+  pub bytes : IsTrue d.tells → LeavesReading (d.reading (disk_of was.journal)) (d.reading (disk_of is.journal)) result

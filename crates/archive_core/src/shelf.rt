@@ -4,7 +4,9 @@ ghost use Rattle.warc_journal.specs.Journals.{disk_of};
 ghost use Rattle.archive_shelf.specs.Answers.{Brings, CountsIf, NamesKeeper, is_bring_fault};
 ghost use Rattle.archive_shelf.specs.Digests.{GoesByDigest};
 ghost use Rattle.archive_shelf.specs.Told.{ShowsItsBook};
+ghost use Rattle.archive_volumes.specs.Digests.{GoesByKept};
 ghost use Rattle.archive_volumes.specs.Volumes.{OpensNear};
+ghost use Rattle.archive_core.specs.Bringing.{BringsAsThere};
 ghost use Rattle.archive_core.specs.Holdings.{IsArchive, contents_of};
 ghost use Rattle.archive_core.specs.Looking.{OnlyLooks};
 ghost use Rattle.archive_core.specs.Told.{told_of};
@@ -16,14 +18,12 @@ use disk_model::Disk;
 use std::alloc::Global;
 
 impl<D: Disk> Archive<D> {
-    /// The capture with this number, with its payload as it was received.
-    pub(crate) fn bring_numbered(
-        &mut self,
-        alloc: Global,
-        number: u32,
-    ) -> Result<Brought, BringFault>
+    /// The capture with this number, with its payload as it was received. It is what `bring` of the shelf answers, with all that is said of it.
+    pub fn bring_numbered(&mut self, alloc: Global, number: u32) -> Result<Brought, BringFault>
         ensures brings { Brings (contents_of self.new) number result }
         ensures names { NamesKeeper self.new.book number result }
+        ensures kept { GoesByKept self.old.spots number result }
+        ensures there { BringsAsThere D.Disk self.old number result }
         ensures digests { GoesByDigest self.new.book number result }
         ensures looks { OnlyLooks D.Disk self.old self.new }
         ensures faults { CountsIf (is_bring_fault result) (D.faults (disk_of self.old.journal)) (D.faults (disk_of self.new.journal)) }

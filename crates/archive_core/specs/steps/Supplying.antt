@@ -1,22 +1,23 @@
 -- How the checkpoints of volumes are written one behind the other.
-use Rattle.std.specs.Prelude.{◌≡◌, ℕ, ◌+◌, ◌-◌, ◌≤◌, Bool, true, false, IsTrue, length, OnOk, Result, Ok, Err}
+use Rattle.std.specs.Prelude.{◌≡◌, ℕ, ◌+◌, ◌-◌, ◌≤◌, Bool, true, false, IsTrue, List, length, IfOk, OnOk, Result, Ok, Err}
 use Rattle.capture.specs.declared.book.Book.{Book}
 use Rattle.disk_model.specs.Crash.{Leaves}
 use Rattle.disk_model.specs.Image.{file_count}
 use Rattle.disk_model.specs.declared.disk.Disk.{Ghosts}
 use Rattle.disk_model.specs.declared.kind.Kind.TheVariants.{Cdxj}
 use Rattle.warc_journal.specs.Extents.{warc_files}
-use Rattle.warc_journal.specs.Journals.{disk_of, extent_of}
+use Rattle.warc_journal.specs.Journals.{Rests, disk_of, extent_of}
 use Rattle.checkpoint.specs.Checkpoints.{checkpoint_of}
 use Rattle.checkpoint.specs.declared.fault.CheckpointFault.{CheckpointFault}
 use Rattle.checkpoint.specs.declared.fault.CheckpointFault.TheVariants as checkpoints
 use Rattle.archive_volumes.specs.Held.{book_of}
-use Rattle.archive_volumes.specs.Volumes.{HoldsBook, IsQuiet, crash_of}
+use Rattle.archive_volumes.specs.Volumes.{HoldsBook, crash_of}
 use Rattle.archive_volumes.specs.declared.part.ReadFault.{ReadFault}
 use Rattle.archive_volumes.specs.declared.part.ReadFault.TheVariants as reads
+use Rattle.archive_volumes.specs.declared.spot.Spot.{Spot}
 use Rattle.archive_volumes.specs.declared.volumes.Volumes.{Volumes}
 use Rattle.archive_core.specs.Finished.{FirstAreFinished, HasCheckpoint}
-use Rattle.archive_core.specs.Settling.{HasWithout, LeavesCheckpoints, OpensNoMore}
+use Rattle.archive_core.specs.Settling.{HasWithout, IsAsBefore, LeavesCheckpoints, OpensNoMore, reach}
 
 -- the fault of reading, as that of a checkpoint
 abbrev pub checkpoint_fault_of : ReadFault → CheckpointFault
@@ -31,43 +32,41 @@ pub record KeepsVolumes {D : Type 0} (d : Ghosts D) (told : Bool) (old new : Vol
   pub holds : HoldsBook d told new.journal (book_of new.held)
   pub opens : OpensNoMore (crash_of d (disk_of old.journal)) (crash_of d (disk_of new.journal))
 
--- a read gives what it gave, and nothing more is left
-pub record IsStill {D : Type 0} (d : Ghosts D) (old new : D) : Type 0 where
-  pub reading : d.reading new ≡ d.reading old
-  pub quiet : IsQuiet d old new
-
 -- The first volumes were gone through, from one state of the disk on: so many of their checkpoints were missing, and were written. The files
 -- of the other volumes are as they were.
-pub record Went {D : Type 0} (d : Ghosts D) (told : Bool) (book : Book) (k n : ℕ) (from now : D) : Type 0 where
-  pub left : LeavesCheckpoints d told book from now
+pub record Went {D : Type 0} (d : Ghosts D) (told : Bool) (book : Book) (spots : List Spot) (k n : ℕ) (from now : D) : Type 0 where
+  pub left : LeavesCheckpoints d told book spots k from now
   pub ahead : (j : ℕ) → k ≤ j → checkpoint_of (d.reading now) j ≡ checkpoint_of (d.reading from) j
   pub settled : IsTrue told → Leaves (d.images now) (FirstAreFinished book k)
   pub there : IsTrue told → k ≤ file_count (d.reading now) Cdxj
   pub counted : IsTrue told → HasWithout (λ j. HasCheckpoint book j (d.reading from)) k n
-  pub none : n ≡ 0 → IsStill d from now
+  pub wrote : HasWithout (IsAsBefore (d.reading from) (d.reading now)) k n
+  pub none : n ≡ 0 → Rests d from now
 
--- it was refused: those that were finished stay
-pub record Stopped {D : Type 0} (d : Ghosts D) (told : Bool) (book : Book) (k : ℕ) (from now : D) : Type 0 where
-  pub left : LeavesCheckpoints d told book from now
+-- it was refused when so many were gone through: those that were finished stay
+pub record Stopped {D : Type 0} (d : Ghosts D) (told : Bool) (book : Book) (spots : List Spot) (k : ℕ) (fault : CheckpointFault) (from now : D) : Type 0 where
+  pub left : LeavesCheckpoints d told book spots (reach k (Err fault)) from now
   pub settled : IsTrue told → Leaves (d.images now) (FirstAreFinished book k)
 
 -- one volume more was gone through, or it was refused
-abbrev pub GoesTo : {D : Type 0} → Ghosts D → Bool → Book → ℕ → ℕ → D → D → Result Bool CheckpointFault → Type 0
-GoesTo d told book k n from new (Ok true) = Went d told book (k + 1) (n + 1) from new
-GoesTo d told book k n from new (Ok false) = Went d told book (k + 1) n from new
-GoesTo d told book k n from new (Err fault) = Stopped d told book k from new
+abbrev pub GoesTo : {D : Type 0} → Ghosts D → Bool → Book → List Spot → ℕ → ℕ → D → D → Result Bool CheckpointFault → Type 0
+GoesTo d told book spots k n from new (Ok true) = Went d told book spots (k + 1) (n + 1) from new
+GoesTo d told book spots k n from new (Ok false) = Went d told book spots (k + 1) n from new
+GoesTo d told book spots k n from new (Err fault) = Stopped d told book spots k fault from new
 
 -- and so it goes on wherever it began
-abbrev pub GoesOnBy : {D : Type 0} → Ghosts D → Bool → Book → ℕ → D → D → Result Bool CheckpointFault → Type 0
-GoesOnBy {D} d told book k old new result = (from : D) (n : ℕ) → Went d told book k n from old → GoesTo d told book k n from new result
+abbrev pub GoesOnBy : {D : Type 0} → Ghosts D → Bool → Book → List Spot → ℕ → D → D → Result Bool CheckpointFault → Type 0
+GoesOnBy {D} d told book spots k old new result =
+    (from : D) (n : ℕ) → Went d told book spots k n from old → GoesTo d told book spots k n from new result
 
 -- all volumes but the last were gone through, or it was refused when so many were
-abbrev pub GoesThrough : {D : Type 0} → Ghosts D → Bool → Book → ℕ → D → D → Result ℕ CheckpointFault → Type 0
-GoesThrough d told book k old new (Ok n) = Went d told book k n old new
-GoesThrough d told book k old new (Err fault) = Stopped d told book k old new
+abbrev pub GoesThrough : {D : Type 0} → Ghosts D → Bool → Book → List Spot → ℕ → D → D → Result ℕ CheckpointFault → Type 0
+GoesThrough d told book spots k old new (Ok n) = Went d told book spots k n old new
+GoesThrough d told book spots k old new (Err fault) = Stopped d told book spots k fault old new
 
--- how many are known to be finished: none is forgotten, and after success all are
-pub record KnowsMore {T E : Type 0} (book : Book) (was is : ℕ) (result : Result T E) : Type 0 where
+-- how many are known to be finished: none is forgotten, and after success all are; no more were written than were gone through
+pub record KnowsMore {E : Type 0} (book : Book) (was is : ℕ) (result : Result ℕ E) : Type 0 where
   pub more : was ≤ is
   pub within : is ≤ length book.volumes - 1
   pub all : OnOk result (is ≡ length book.volumes - 1)
+  pub few : IfOk result (λ n. was + n ≤ is)

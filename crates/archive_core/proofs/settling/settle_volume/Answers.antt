@@ -1,24 +1,18 @@
-use Rattle.std.proofs.Common.{sym, subst, refl, IsTrue}
+use Rattle.std.proofs.Common.{sym, subst, refl}
 use Rattle.checkpoint.specs.OfVolume.{AreLinesOf}
-use Rattle.disk_model.specs.declared.disk.Disk.{Ghosts}
 use Rattle.warc_journal.specs.Journals.{disk_of}
 use Rattle.archive_volumes.proofs.ChangeLaws.{DiskLaws}
-use Rattle.archive_volumes.specs.Bringing.{OnlyReads}
 use Rattle.archive_volumes.specs.Held.{book_of}
-use Rattle.archive_volumes.specs.declared.volumes.Volumes.{Volumes}
-use Rattle.archive_core.specs.steps.Supplying.{IsStill}
+use Rattle.volume_lines.specs.OfSpots.{AreLinesOfSpots}
 use Rattle.archive_core.proofs.KeepingLaws.{keeps_beside, keeps_reads, keeps_then, warc_supplied}
 use Rattle.archive_core.proofs.SupplyingLaws.{goes_refused, goes_supplied, went_past, went_still}
+use Rattle.archive_core.proofs.WalkingLaws.{lines_from}
 use Rattle.archive_core.proofs.settling.settle_volume.Given.{Over}
 use Rattle.archive_core.proofs.settling.settle_volume.Goals as goal
 
 -- what is asked of the disk
 disk_laws : (g : Over) → DiskLaws g.D.Disk
 disk_laws g = record { earlier = g.met.D.Disk.earlier; now_counts = g.met.D.Disk.now_counts; now_only = g.met.D.Disk.now_only }
-
--- reading lines leaves the disk as it was
-still : {D : Type 0} (d : Ghosts D) (old new : Volumes D) → IsTrue d.tells → OnlyReads d old new → IsStill d (disk_of old.journal) (disk_of new.journal)
-still d old new tells reads = record { reading = reads.reading tells; quiet = reads.quiet }
 
 pub returns-in-Ok-Some-clause-keeps : goal.returns-in-Ok-Some-clause-keeps
 returns-in-Ok-Some-clause-keeps g c =
@@ -36,27 +30,30 @@ returns-in-Ok-Some-clause-went g c = λ tells from n went.
     let reads = c.in-Ok-Some.ensures.reads in
     let mid = c.lines_of.new.volumes in
     let book = book_of c.args.volumes.now.held in
-    goes_supplied g.D.Disk (disk_laws g) tells c.args.told.now.value book from c.args.facts.volume n c.as_slice.result.now
+    goes_supplied g.D.Disk (disk_laws g) tells c.args.told.now.value book c.args.spots.now from c.args.facts.volume n c.as_slice.result.now
     (disk_of mid.journal) (disk_of c.supply.new.journal) c.supply.result c.volumes_have_one_list_of_lines.ensures.one c.requires.sealed
+    (lines_from c.args.told.now.value book c.args.spots.now c.args.facts c.requires.there c.as_slice.result.now
+    (subst (AreLinesOfSpots c.args.spots.now c.args.facts.first c.args.facts.count) (sym c.as_slice.ensures.value)
+    (rw c.in-Ok-Some.field-0-is at c.in-Ok-Some.ensures.of_spots))
     (λ so. subst (AreLinesOf book c.args.facts.volume) (sym c.as_slice.ensures.value)
-    (rw c.in-Ok-Some.field-0-is at (c.in-Ok-Some.ensures.exact so)))
+    (rw c.in-Ok-Some.field-0-is at (c.in-Ok-Some.ensures.exact so))))
     (g.met.D.Disk.reading_is_image (disk_of c.supply.new.journal) tells)
-    (went_still g.D.Disk (disk_laws g) tells c.args.told.now.value book from c.args.facts.volume n (disk_of c.args.volumes.now.journal) (disk_of mid.journal)
-    (still g.D.Disk c.args.volumes.now mid tells reads) went)
+    (went_still g.D.Disk (disk_laws g) tells c.args.told.now.value book c.args.spots.now from c.args.facts.volume n (disk_of c.args.volumes.now.journal) (disk_of mid.journal)
+    (reads.rests tells) went)
     (c.supply.ensures.supplies tells)
 
 pub returns-in-Ok-None-clause-went : goal.returns-in-Ok-None-clause-went
 returns-in-Ok-None-clause-went g c = λ tells from n went.
     let mid = c.lines_of.new.volumes in
     let book = book_of c.args.volumes.now.held in
-    went_past g.D.Disk (disk_laws g) tells c.args.told.now.value book from c.args.facts.volume n (disk_of mid.journal)
+    went_past g.D.Disk (disk_laws g) tells c.args.told.now.value book c.args.spots.now from c.args.facts.volume n (disk_of mid.journal)
     (λ so. rw c.in-Ok-None.field-0-is at (c.in-Ok-None.ensures.exact so))
-    (went_still g.D.Disk (disk_laws g) tells c.args.told.now.value book from c.args.facts.volume n (disk_of c.args.volumes.now.journal) (disk_of mid.journal)
-    (still g.D.Disk c.args.volumes.now mid tells c.in-Ok-None.ensures.reads) went)
+    (went_still g.D.Disk (disk_laws g) tells c.args.told.now.value book c.args.spots.now from c.args.facts.volume n (disk_of c.args.volumes.now.journal) (disk_of mid.journal)
+    (c.in-Ok-None.ensures.reads.rests tells) went)
 
 pub returns-in-Err-clause-went : goal.returns-in-Err-clause-went
 returns-in-Err-clause-went g c = λ tells from n went.
     let mid = c.lines_of.new.volumes in
     let book = book_of c.args.volumes.now.held in
-    goes_refused g.D.Disk (disk_laws g) tells c.args.told.now.value book from c.args.facts.volume n (disk_of c.args.volumes.now.journal) (disk_of mid.journal)
-    c.fault_of.result (still g.D.Disk c.args.volumes.now mid tells c.in-Err.ensures.reads) went
+    goes_refused g.D.Disk (disk_laws g) tells c.args.told.now.value book c.args.spots.now from c.args.facts.volume n (disk_of c.args.volumes.now.journal) (disk_of mid.journal)
+    c.fault_of.result (c.in-Err.ensures.reads.rests tells) went

@@ -64,9 +64,9 @@ returns-in_err-wrote-clause-went g c = λ tells.
     let same = ap book_of c.volumes.invariant.keeps.held in
     let number = (found_fact book (book_of c.volumes.volumes.held) same c.in_ok-facts.facts.items
     c.volumes.settled c.index.result.now c.in_ok-facts.ensures c.index.ensures c.requires.measured.filled test).volume_is in
-    at_exit (λ (r : Result ℕ CheckpointFault). GoesThrough g.D.Disk c.args.told.now.value book c.volumes.settled (disk_of c.args.volumes.now.journal) (disk_of c.settle_volume.new.volumes.journal) r)
+    at_exit (λ (r : Result ℕ CheckpointFault). GoesThrough g.D.Disk c.args.told.now.value book c.args.spots.now c.volumes.settled (disk_of c.args.volumes.now.journal) (disk_of c.settle_volume.new.volumes.journal) r)
     _ c.from_residual-in_err-wrote.result c.from_residual-in_err-wrote.ensures.1
-    (goes_no_further g.D.Disk c.args.told.now.value book (book_of c.volumes.volumes.held) same c.volumes.settled c.volumes.written c.index.result.now.volume number
+    (goes_no_further g.D.Disk c.args.told.now.value book (book_of c.volumes.volumes.held) same c.args.spots.now c.volumes.settled c.volumes.written c.index.result.now.volume number
     (disk_of c.args.volumes.now.journal) (disk_of c.volumes.volumes.journal) (disk_of c.settle_volume.new.volumes.journal) (c.volumes.invariant.went tells)
     c.in_err-wrote.field-0.0 (c.in_err-wrote.ensures.went tells))
 
@@ -97,7 +97,7 @@ volumes-preserved g c =
     record {
       keeps = keeps_then g.D.Disk (disk_laws g) c.args.told.now.value c.args.volumes.now c.volumes.volumes c.settle_volume.new.volumes
           c.volumes.invariant.keeps c.in_ok-wrote.ensures.keeps;
-      went = λ tells. goes_next g.D.Disk c.args.told.now.value book (book_of c.volumes.volumes.held) same c.volumes.settled c.volumes.written c.index.result.now.volume number
+      went = λ tells. goes_next g.D.Disk c.args.told.now.value book (book_of c.volumes.volumes.held) same c.args.spots.now c.volumes.settled c.volumes.written c.index.result.now.volume number
           (disk_of c.args.volumes.now.journal) (disk_of c.volumes.volumes.journal) (disk_of c.settle_volume.new.volumes.journal) (c.volumes.invariant.went tells)
           c.in_ok-wrote.wrote c.one_if-written.result c.one_if-written.ensures (c.in_ok-wrote.ensures.went tells);
       faults = c.in_ok-wrote.ensures.faults ∙ c.volumes.invariant.faults;
@@ -110,7 +110,7 @@ volumes-preserved g c =
 pub volumes-init : goal.volumes-init
 volumes-init g c = record {
   keeps = keeps_itself g.D.Disk (disk_laws g) c.args.told.now.value c.args.volumes.now c.requires.holds;
-  went = λ tells. went_none g.D.Disk (disk_laws g) tells c.args.told.now.value (book_of c.args.volumes.now.held) c.args.settled.now (disk_of c.args.volumes.now.journal)
+  went = λ tells. went_none g.D.Disk (disk_laws g) tells c.args.told.now.value (book_of c.args.volumes.now.held) c.args.spots.now c.args.settled.now (disk_of c.args.volumes.now.journal)
       (g.met.D.Disk.reading_is_image (disk_of c.args.volumes.now.journal) tells) c.requires.first;
   faults = refl;
   within = omega (arith, c.requires.sealed, ap (λ (l : List VolumeFacts). length l) c.in_ok-facts.ensures ∙ many_facts (book_of c.args.volumes.now.held).volumes 0 0);
@@ -124,7 +124,7 @@ returns-in_err-wrote-clause-knows g c =
     let all : length c.in_ok-facts.facts.items ≡ length (book_of c.args.volumes.now.held).volumes =
     ap (λ (l : List VolumeFacts). length l) c.in_ok-facts.ensures ∙ many_facts (book_of c.args.volumes.now.held).volumes 0 0 in
     at_exit (KnowsMore (book_of c.args.volumes.now.held) c.args.settled.now c.volumes.settled) _ c.from_residual-in_err-wrote.result c.from_residual-in_err-wrote.ensures.1
-    (record { more = c.volumes.invariant.more; within = omega (arith, c.volumes.invariant.within, all); all = tt })
+    (record { more = c.volumes.invariant.more; within = omega (arith, c.volumes.invariant.within, all); all = tt; few = tt })
 
 pub overflow_add-settled-in-volumes : goal.overflow_add-settled-in-volumes
 overflow_add-settled-in-volumes g c =
@@ -141,6 +141,7 @@ returns-clause-knows g c =
       more = c.volumes.invariant.more;
       within = omega (arith, c.volumes.invariant.within, all);
       all = omega (arith, c.volumes.invariant.within, all, c.volumes-test.false, c.len.ensures, c.in_ok-facts.facts.ok.0);
+      few = c.volumes.invariant.few;
     }
 
 pub returns-clause-unasked : goal.returns-clause-unasked

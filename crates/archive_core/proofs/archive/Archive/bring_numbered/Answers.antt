@@ -1,14 +1,16 @@
 use Rattle.std.proofs.Common.{rules, ◌≡◌, ◌<◌, ◌≤◌, List, refl, sym, ap, subst, ◌∙◌, arith}
-use Rattle.std.specs.Prelude.{length}
+use Rattle.std.specs.Prelude.{length, slice_get}
 use Rattle.capture.specs.Captures.{captures}
 use Rattle.capture.specs.declared.book.Book.{Book}
 use Rattle.archive_shelf.specs.Answers.{NamesKeeper}
 use Rattle.archive_shelf.specs.Digests.{GoesByDigest}
 use Rattle.archive_volumes.specs.Bringing.{BringsFrom}
+use Rattle.archive_volumes.specs.Digests.{GoesByKept}
 use Rattle.archive_volumes.specs.Held.{book_of}
 use Rattle.warc_journal.specs.Journals.{texts}
 use Rattle.archive_volumes.specs.Spots.{ArePlaced, AreWithin, whole_from}
 use Rattle.archive_volumes.specs.declared.spot.Spot.{Spot}
+use Rattle.archive_core.specs.Bringing.{BringsAsThere}
 use Rattle.archive_core.specs.Holdings.{Holdings, IsArchive}
 use Rattle.archive_core.specs.Looking.{OnlyLooks}
 use Rattle.archive_core.specs.View.{holdings_of}
@@ -70,3 +72,13 @@ pub returns-clause-looks : goal.returns-clause-looks
 returns-clause-looks g c =
     subst (λ (held : Holdings _). OnlyLooks g.D.Disk held (record (holdings_of c.self.inside) { journal = c.bring.new.self.journal; book = book_of c.bring.new.self.held })) c.self.view_is
     (laws.looks g.D.Disk (holdings_of c.self.inside) c.self.inside.volumes c.bring.new.self refl refl c.bring.ensures.reads c.self.invariant.holds.tells)
+
+pub returns-clause-kept : goal.returns-clause-kept
+returns-clause-kept g c =
+    subst (λ (held : Holdings _). GoesByKept held.spots c.args.number c.bring.result) c.self.view_is
+    (subst (λ (l : List Spot). GoesByKept l c.args.number c.bring.result) c.as_slice.ensures.value c.bring.ensures.kept)
+
+pub returns-clause-there : goal.returns-clause-there
+returns-clause-there g c =
+    subst (λ (held : Holdings _). BringsAsThere g.D.Disk held c.args.number c.bring.result) c.self.view_is
+    (λ tells spot at. c.bring.ensures.there tells spot (ap (λ (l : List Spot). slice_get l c.args.number) c.as_slice.ensures.value ∙ at))

@@ -1,5 +1,5 @@
-use Rattle.std.proofs.Common.{rules, ◌≡◌, ◌<◌, refl, sym, subst, ◌∙◌, arith}
-use Rattle.std.specs.Prelude.{length}
+use Rattle.std.proofs.Common.{rules, ◌≡◌, ◌<◌, List, refl, sym, ap, subst, ◌∙◌, arith}
+use Rattle.std.specs.Prelude.{length, slice_get}
 use Rattle.capture.specs.Captures.{captures}
 use Rattle.capture.specs.declared.book.Book.{Book}
 use Rattle.archive_shelf.specs.Digests.{PieceGoesByDigest}
@@ -7,6 +7,8 @@ use Rattle.archive_volumes.specs.Held.{book_of}
 use Rattle.archive_volumes.specs.KeptGroups.{GivesPieceFrom}
 use Rattle.warc_journal.specs.Journals.{texts}
 use Rattle.archive_volumes.specs.Spots.{ArePlaced, AreWithin}
+use Rattle.archive_volumes.specs.declared.spot.Spot.{Spot}
+use Rattle.archive_core.specs.Bringing.{PieceTellsKept}
 use Rattle.archive_core.specs.Holdings.{Holdings}
 use Rattle.archive_core.specs.Looking.{OnlyLooks}
 use Rattle.archive_core.specs.View.{holdings_of}
@@ -57,3 +59,8 @@ pub returns-clause-looks : goal.returns-clause-looks
 returns-clause-looks g c =
     subst (λ (held : Holdings _). OnlyLooks g.D.Disk held (record (holdings_of c.self.inside) { journal = c.piece.new.self.journal; book = book_of c.piece.new.self.held })) c.self.view_is
     (laws.looks g.D.Disk (holdings_of c.self.inside) c.self.inside.volumes c.piece.new.self refl refl c.piece.ensures.reads c.self.invariant.holds.tells)
+
+pub returns-clause-kept : goal.returns-clause-kept
+returns-clause-kept g c =
+    subst (λ (held : Holdings _). PieceTellsKept held c.args.number c.piece.result) c.self.view_is
+    (λ spot at. c.piece.ensures.kept spot (ap (λ (l : List Spot). slice_get l c.args.number) c.as_slice.ensures.value ∙ at))
