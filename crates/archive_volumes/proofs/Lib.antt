@@ -6,7 +6,6 @@ pub mod DecodeLaws
 pub mod DigestLaws
 mod EntryLaws
 pub mod FactsLaws
-mod GhostLaws
 pub mod GroupLaws
 pub mod GroupPlaces
 pub mod HeldLaws

@@ -1,34 +1,16 @@
 -- The book that is held without its bytes.
-use Rattle.std.specs.Prelude.{ℕ, ◌<◌, List, ◌++◌, map, option_to_list, vec_len, IsSome, IfSome, Bool, false, not, nat_eq, [], ◌∷◌, length, if◌then◌else◌}
+use Rattle.std.specs.Prelude.{◌<◌, List, ◌++◌, map, option_to_list, vec_len, IsSome, IfSome, Bool, false, not, nat_eq, [], ◌∷◌, length}
 use Rattle.std.specs.Vec.{vec_capacity}
 use Rattle.capture.specs.declared.book.Book.{Book}
 use Rattle.capture.specs.declared.book.Volume.{Volume}
-use Rattle.capture.specs.declared.captured.Kept.{Kept}
-use Rattle.capture.specs.declared.captured.Kept.TheVariants.{Wire, Same, Cut}
 use Rattle.capture.specs.declared.captured.Stored.{Stored}
 use Rattle.archive_volumes.specs.declared.held.Held.{Held}
 use Rattle.archive_volumes.specs.declared.held.Shadow.{Shadow}
-use Rattle.archive_volumes.specs.declared.spot.Form.{Form}
-use Rattle.archive_volumes.specs.declared.spot.Form.TheVariants as forms
 use Rattle.archive_volumes.specs.declared.stored_ghost.StoredGhost.{StoredGhost}
-
--- What is kept of a capture, by its form and its wire. Of one that a line told of, in a book that isn't known: some number, or the wire.
-abbrev pub kept_in : Form → List ℕ → Kept
-kept_in forms.Whole wire = Wire wire
-kept_in (forms.Same first) wire = Same first
-kept_in forms.Cut wire = Cut wire
-kept_in (forms.Told revisit) wire = if revisit then Same 0 else Wire wire
 
 -- the capture
 abbrev pub stored_in : StoredGhost → Stored
-stored_in ghost_of = record {
-  method = ghost_of.method.value;
-  uri = ghost_of.uri.value;
-  date = ghost_of.date.value;
-  request = ghost_of.request.value;
-  head = ghost_of.head.value;
-  kept = kept_in ghost_of.form.value ghost_of.wire.value;
-}
+stored_in ghost_of = ghost_of.shown.value
 
 -- the volume that a shadow stands for
 abbrev pub volume_of : Shadow → Volume

@@ -7,6 +7,7 @@ pub mod Facts
 pub mod Grouping
 pub mod Held
 pub mod KeptGroups
+pub mod Lines
 pub mod Ready
 pub mod Rereading
 pub mod Spots

@@ -3,9 +3,11 @@ ghost use Rattle.std.specs.Prelude.{◌≡◌, ◌+◌, ◌^◌, ◌<◌, ℕ, L
 ghost use Rattle.capture.specs.Captures.{kept_wire};
 ghost use Rattle.archive_shelf.specs.Storing.{as_stored, kept_of};
 ghost use Rattle.archive_volumes.specs.Spots.{form_of, is_cut_form, is_same_form, is_told_form, may_be_whole, spot_of, whole_from};
+ghost use Rattle.archive_volumes.specs.Lines.{is_revisit_line, told_spot};
 ghost use Rattle.std.specs.Vec.{vec_capacity};
 
 use capture::{Digest, Kept, Memory, Stored, Taken, Text};
+use cdxj_line::{Line, REVISIT};
 use revisit_table::Digests;
 use std::alloc::Global;
 use warc_journal::Place;
@@ -143,6 +145,25 @@ impl Spot {
         })
     }
 
+    /// What is kept of a capture of which a line alone told. Its head and its wire aren't known.
+    pub fn of_line(line: &Line) -> Result<Spot, Memory>
+        ensures { IfOk result (λ spot. spot ≡ told_spot line.now) }
+    {
+        let revisit = is_of_revisit(line);
+        Ok(Spot {
+            method: line.method.copy()?,
+            uri: line.url.copy()?,
+            date: line.date,
+            digest: line.digest,
+            form: Form::Told { revisit },
+            volume: line.volume,
+            at: line.offset,
+            head_at: 0,
+            head_len: 0,
+            wire_len: 0,
+        })
+    }
+
     /// The same of a capture whose group and head begin at these places of a volume's text.
     pub(crate) fn standing(self, volume: u32, at: u64, head_at: u64) -> Spot
         ensures { result ≡ record self { volume = volume; at = at; head_at = head_at } }
@@ -177,6 +198,13 @@ impl Spot {
             len: self.wire_len,
         }
     }
+}
+
+/// Whether a line is that of a revisit.
+fn is_of_revisit(line: &Line) -> bool
+    ensures { result ≡ is_revisit_line line.now }
+{
+    line.mime.as_slice() == REVISIT.as_bytes()
 }
 
 /// In which form this is kept.

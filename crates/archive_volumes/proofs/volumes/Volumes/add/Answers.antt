@@ -14,7 +14,7 @@ use Rattle.archive_volumes.proofs.volumes.Volumes.add.Goals as goal
 disk_laws : (g : Over) → DiskLaws g.D.Disk
 disk_laws g = record { earlier = g.met.D.Disk.earlier; now_counts = g.met.D.Disk.now_counts; now_only = g.met.D.Disk.now_only }
 
-refused : (g : Over) (c : goal.After-drop-stored-in_err-place-6 g) → IsChange g.D.Disk c.args.told.now.value c.args.self.now.journal (book_of c.args.self.now.held)
+refused : (g : Over) (c : goal.After-drop-stored g) → IsChange g.D.Disk c.args.told.now.value c.args.self.now.journal (book_of c.args.self.now.held)
     (with_capture (book_of c.args.self.now.held) (stored_in c.args.stored))
     (with_more (texts g.D.Disk c.args.self.now.journal) c.args.group.now)
 refused g c =
