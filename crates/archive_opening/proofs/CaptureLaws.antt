@@ -15,7 +15,7 @@ use Rattle.capture.specs.declared.captured.Stored.{Stored}
 use Rattle.warc_journal.specs.Texts.{with_more}
 use Rattle.warc_scan.specs.Groups.{IsAnswer, IsGroup, reference_in}
 use Rattle.warc_scan.specs.declared.group.Group.{Group}
-use Rattle.warc_text.specs.Books.{IsGroupText, RefersBy, same_of}
+use Rattle.warc_text.specs.Books.{AreVolumeTexts, IsGroupText, RefersBy, same_of}
 use Rattle.warc_text.specs.Records.{group_text}
 use Rattle.warc_text.specs.References.{reference_of}
 use Rattle.warc_text.specs.declared.same_of.SameOf.{SameOf}
@@ -107,7 +107,7 @@ agrees_as book new added namespaces gains number group stored method head (Same 
       };
     })
 
-module _ (laws : Laws) (book : Book) (texts : List (List ℕ)) (is : IsRead book texts) (text : List ℕ) (group : Group) (some : 0 < length texts)
+module _ (laws : Laws) (book : Book) (texts : List (List ℕ)) (are : AreVolumeTexts book texts) (text : List ℕ) (group : Group) (some : 0 < length texts)
     (of : IsGroup book.namespace (length (captures book)) text group) (stored : Stored) (of_group : IsCaptureOf book (length (captures book)) group stored) where
   abbrev new : Book
   new = with_capture book stored
@@ -116,7 +116,7 @@ module _ (laws : Laws) (book : Book) (texts : List (List ℕ)) (is : IsRead book
   number = length (captures book)
 
   volumes : 0 < length book.volumes
-  volumes = omega (arith, some, is.are.count)
+  volumes = omega (arith, some, are.count)
 
   pub gains : captures new ≡ captures book ++ stored ∷ []
   gains = captures_more book.volumes stored (no_volumes book.volumes volumes)
@@ -193,8 +193,8 @@ module _ (laws : Laws) (book : Book) (texts : List (List ℕ)) (is : IsRead book
     some = volumes;
     good = good;
     last = λ k other at volume_text.
-        let all = captures_add_their_group laws.sealed_stay laws.last_goes_on book stored texts text volumes is.are text_is in
-        let here : k + 1 ≡ length texts = omega (arith, at, is.are.count) in
+        let all = captures_add_their_group laws.sealed_stay laws.last_goes_on book stored texts text volumes are text_is in
+        let here : k + 1 ≡ length texts = omega (arith, at, are.count) in
         let one : get_or (with_more texts text) k [] ≡ other =
         one_text laws.one_group new k (get_or (with_more texts text) k []) other
         (all.each k (omega (arith, here, length-set texts (length texts - 1) (get_or texts (length texts - 1) [] ++ text)))) volume_text in
@@ -209,6 +209,6 @@ module _ (laws : Laws) (book : Book) (texts : List (List ℕ)) (is : IsRead book
         );
   }
 
-  pub read_on : length group.stored.request < 2 ^ 34 → number + 1 < 2 ^ 32 - 1
-      → length (get_or texts (length texts - 1) []) + length text < 2 ^ 62 → IsRead new (with_more texts text)
-  read_on request few ends = with_group laws book texts is text group stored some of text_is (takeable request few ends)
+  pub read_on : (known : Option Book) → IsRead known book texts → length group.stored.request < 2 ^ 34 → number + 1 < 2 ^ 32 - 1
+      → length (get_or texts (length texts - 1) []) + length text < 2 ^ 62 → IsRead known new (with_more texts text)
+  read_on known is request few ends = with_group laws book texts known is text group stored some of text_is (takeable request few ends)

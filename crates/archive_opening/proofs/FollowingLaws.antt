@@ -1,4 +1,5 @@
 -- What was gathered follows the scan: after each step, where it is damaged, and at the end.
+use Rattle.std.specs.Prelude.{None}
 use Rattle.std.proofs.Common.{◌≡◌, ◌≢◌, ℕ, ◌+◌, ◌-◌, ◌^◌, ◌<◌, IsTrue, List, [], ◌∷◌, ◌++◌, length, get_or, refl, sym, ap, subst, ◌∙◌, inl, inr, arith, length-append}
 use Rattle.std.proofs.lemmas.List.{get_or_push, length-set, length_push}
 use Rattle.capture.specs.Captures.{captures}
@@ -39,7 +40,7 @@ done_stage e = cc
 module _ {D : Type 0} (d : Ghosts D) (old new : Scanning D) (was is : Gathered) (follows : Follows d old was) where
   -- a volume more
   pub follows_info : (volume : ℕ) (namespace : List ℕ) (born : ℕ) (one : BeginsOne d old new volume namespace born)
-      → IsGathered is (follows.texts ++ one.text ∷ []) → length (captures (book_of is.held)) ≡ length (captures (book_of was.held))
+      → IsGathered None is (follows.texts ++ one.text ∷ []) → length (captures (book_of is.held)) ≡ length (captures (book_of was.held))
       → (book_of is.held).namespace ≡ namespace → Follows d new is
   follows_info volume namespace born one gathered same in_it =
       let count = length_push follows.texts one.text in
@@ -67,7 +68,7 @@ module _ {D : Type 0} (d : Ghosts D) (old new : Scanning D) (was is : Gathered) 
 
   -- a capture more
   pub follows_group : (place : Place) (group : GroupFound) (on : GoesOnWith d old new place group) → 0 < length follows.texts
-      → IsGathered is (with_more follows.texts on.text) → length (captures (book_of is.held)) ≡ length (captures (book_of was.held)) + 1
+      → IsGathered None is (with_more follows.texts on.text) → length (captures (book_of is.held)) ≡ length (captures (book_of was.held)) + 1
       → (book_of is.held).namespace ≡ (book_of was.held).namespace → Follows d new is
   follows_group place group on some gathered more in_it =
       let count : length (with_more follows.texts on.text) ≡ length follows.texts = length-set follows.texts (length follows.texts - 1) _ in
@@ -139,13 +140,13 @@ module _ {D : Type 0} (d : Ghosts D) (scanning : Scanning D) (g : Gathered) (fol
   read_from = record { sound = follows.gathered.read.sound; are = follows.gathered.read.are; fronts = fronts }
 
   -- where what follows is a dead end
-  pub none_by : (texts : List (List ℕ)) → AreFronts texts files → IsDeadEnd texts → StandForNone files
-  none_by texts these dead = dead files these
+  pub none_by : (texts : List (List ℕ)) → AreFronts texts files → IsDeadEnd None texts → StandForNone files
+  none_by texts these dead = λ x sound stands. dead files these x tt sound stands
 
   -- where the scan is damaged
   pub stands_for_none : (file place : ℕ) → IsDamagedAt (position_of scanning) files file place → StandForNone files
   stands_for_none file place damaged x sound stands =
-      let so_far = (follows.gathered.read.goes_on files x fronts sound stands).begins in
+      let so_far = (follows.gathered.read.goes_on files x tt fronts sound stands).begins in
       let these : BeginsWith x follows.texts (position_of scanning).namespace (length (captures (book_of g.held))) = record {
         none = so_far.none;
         enough = so_far.enough;
@@ -180,7 +181,7 @@ pub damage_of_volume : {D : Type 0} (d : Ghosts D) (old new : Scanning D) (g : G
     → FilesBeginWithWhatWasRead → DamagedFilesStandForNoBook → IsTrue d.tells → Rests d (disk_of old) (disk_of new)
     → (volume : ℕ) (namespace : List ℕ) (born : ℕ) (one : BeginsOne d old new volume namespace born)
     → IsInfo (length follows.texts) one.text namespace born (length one.text)
-    → IsDeadEnd (follows.texts ++ one.text ∷ []) → IsDamageIn (files_in d old) (faults.Damaged Warc volume 0)
+    → IsDeadEnd None (follows.texts ++ one.text ∷ []) → IsDamageIn (files_in d old) (faults.Damaged Warc volume 0)
 damage_of_volume d old new g follows was in_place begin none told rests volume namespace born one info dead =
     let after : List (List ℕ) = follows.texts ++ one.text ∷ [] in
     let read : texts_read d new ≡ after = one.read told ∙ ap (λ (t : List (List ℕ)). t ++ one.text ∷ []) (follows.read told) in
@@ -188,7 +189,7 @@ damage_of_volume d old new g follows was in_place begin none told rests volume n
     subst (λ (i : Image). AreFronts after (warc_files i)) rests.read
     (subst (λ (t : List (List ℕ)). AreFronts t (files_in d new)) read (begin (position_of new) (files_in d new) (in_place.stands told).lies)) in (
       refl,
-      dead (files_in d old) these,
+      (λ x sound stands. dead (files_in d old) these x tt sound stands),
       record {
         book = book_of g.held;
         texts = follows.texts;
@@ -211,7 +212,7 @@ pub damage_of_group : {D : Type 0} (d : Ghosts D) (old new : Scanning D) (g : Ga
     → FilesBeginWithWhatWasRead → DamagedFilesStandForNoBook → IsTrue d.tells → Rests d (disk_of old) (disk_of new)
     → (place : Place) (group : GroupFound) (on : GoesOnWith d old new place group)
     → IsGroup (book_of g.held).namespace (length (captures (book_of g.held))) on.text group
-    → IsDeadEnd (with_more follows.texts on.text) → IsDamageIn (files_in d old) (faults.Damaged Warc place.volume place.at)
+    → IsDeadEnd None (with_more follows.texts on.text) → IsDamageIn (files_in d old) (faults.Damaged Warc place.volume place.at)
 damage_of_group d old new g follows was in_place begin none told rests place group on of dead =
     let after : List (List ℕ) = with_more follows.texts on.text in
     let read : texts_read d new ≡ after = on.read told ∙ ap (λ (t : List (List ℕ)). with_more t on.text) (follows.read told) in
@@ -220,7 +221,7 @@ damage_of_group d old new g follows was in_place begin none told rests place gro
     subst (λ (i : Image). AreFronts after (warc_files i)) rests.read
     (subst (λ (t : List (List ℕ)). AreFronts t (files_in d new)) read (begin (position_of new) (files_in d new) (in_place.stands told).lies)) in (
       refl,
-      dead (files_in d old) these,
+      (λ x sound stands. dead (files_in d old) these x tt sound stands),
       record {
         book = book_of g.held;
         texts = follows.texts;

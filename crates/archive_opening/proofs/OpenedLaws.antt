@@ -49,7 +49,7 @@ module _ {D : Type 0} (d : Ghosts D) (s : Scanning D) (g : Gathered) (all : HasA
   texts_same : IsTrue d.tells → texts_of d journal ≡ all.follows.texts
   texts_same told = (λ i. texts_in (extent_is i) (warc_files (d.reading (disk_is i)))) ∙ all.follows.read told
 
-  module _ (book : Book) (read : IsRead book all.follows.texts) where
+  module _ (book : Book) (read : IsRead None book all.follows.texts) where
     count_is : volumes journal ≡ length book.volumes
     count_is = ap (λ (e : Extent). e.volumes) extent_is ∙ all.follows.volumes ∙ read.are.count
 
@@ -89,7 +89,7 @@ module _ {D : Type 0} (d : Ghosts D) (s : Scanning D) (g : Gathered) (all : HasA
       (λ (none : length (book_of g.held).volumes ≤ 0). absurd (some (omega (arith, none, count_is (book_of g.held) all.follows.gathered.read))))
       (cases_lt 0 (length (book_of g.held).volumes))
 
-  pub opened_by : (asked : Option (List ℕ)) (other : Gathered) → IsGathered other all.follows.texts → IsSteady other → IsIn asked (book_of other.held)
+  pub opened_by : (asked : Option (List ℕ)) (other : Gathered) → IsGathered None other all.follows.texts → IsSteady other → IsIn asked (book_of other.held)
       → (IsTrue d.tells → IsInStep d journal)
       → (IsTrue d.tells → Leaves (d.images (disk_of s)) (λ image. Hold (texts_of d journal) (warc_files image)))
       → IsOpened d (disk_of s) asked (record { journal = journal; gathered = other })

@@ -1,6 +1,6 @@
 -- A capture that meets what a revisit tells is the one that it refers to, and the one that it refers to meets it.
 use Rattle.std.proofs.Common.{◌≡◌, ◌≢◌, ℕ, zero, suc, ◌+◌, ◌^◌, ◌<◌, true, List, [], ◌∷◌, length, Ok, refl, sym, ap, subst, ◌∙◌, arith}
-use Rattle.std.specs.Prelude.{Contains, Option, Some, None, Result, slice_get, slice_index_or, unwrap_or}
+use Rattle.std.specs.Prelude.{Contains, IfNone, false, not, Option, Some, None, Result, slice_get, slice_index_or, unwrap_or}
 use Rattle.std.proofs.lemmas.Bool.{false≢true}
 use Rattle.std.proofs.lemmas.List.Elements.{Contains-get_or}
 use Rattle.std.proofs.lemmas.Option.{same_Some, slice_get_within}
@@ -28,11 +28,14 @@ use Rattle.warc_text.specs.References.{Reference, reference_to}
 use Rattle.archive_opening.proofs.CandidateLaws.{from_numbers, to_numbers}
 use Rattle.archive_opening.proofs.MeasuringLaws.{one_head}
 use Rattle.archive_opening.proofs.KnownLaws.{read_at}
-use Rattle.archive_opening.specs.Gathering.{TellsOf}
+use Rattle.archive_opening.specs.Gathering.{AreAllRead, GroupWasRead, TellsOf}
 use Rattle.archive_opening.specs.Measuring.{Agrees, TellsLength}
 use Rattle.archive_opening.specs.Originals.{IsMet}
-use Rattle.archive_opening.specs.Revisits.{IsOriginalOf}
-use Rattle.archive_volumes.specs.Spots.{IsPlaced, IsSpotOf, form_of, may_be_whole, whole_from}
+use Rattle.archive_opening.specs.Revisits.{HasItsOriginal, IsOriginalOf, MayRefer}
+use Rattle.archive_volumes.specs.Choosing.{MayBeWholeAt}
+use Rattle.archive_volumes.specs.Spots.{IsPlaced, IsSpotOf, form_of, is_same_form, is_told_form, may_be_whole, whole_from}
+use Rattle.archive_volumes.specs.declared.spot.Form.{Form}
+use Rattle.archive_volumes.specs.declared.spot.Form.TheVariants as forms
 use Rattle.archive_opening.specs.declared.measuring.Told.{Told}
 use Rattle.archive_opening.specs.declared.measuring.Told.TheVariants.{Any, Exactly, TooMany}
 use Rattle.archive_volumes.specs.declared.spot.Spot.{Spot}
@@ -49,6 +52,14 @@ whole_by : (kept : Kept) → may_be_whole (form_of kept) ≡ true → KeepsWhole
 whole_by (Wire wire) e = record { wire = wire; is = refl }
 whole_by (Same first) e = absurd (false≢true e)
 whole_by (Cut wire) e = absurd (false≢true e)
+
+-- what is kept of it may keep its whole wire
+whole_as : (form : Form) (kept : Kept) (wire : List ℕ) → (is_told_form form ≡ false → form ≡ form_of kept) → is_same_form form ≡ is_same_form (form_of kept)
+    → kept ≡ Wire wire → may_be_whole form ≡ true
+whole_as (forms.Told revisit) kept wire form same is = ap not (same ∙ ap (λ (k : Kept). is_same_form (form_of k)) is)
+whole_as forms.Whole kept wire form same is = refl
+whole_as (forms.Same first) kept wire form same is = ap may_be_whole (form refl ∙ ap form_of is)
+whole_as forms.Cut kept wire form same is = ap may_be_whole (form refl ∙ ap form_of is)
 
 -- a group that refers to a record is a revisit
 pub revisit_by : (method head digest : List ℕ) (same : Option Reference) (r : Reference) (kept : Kept) → same ≡ Some r → IsAnswer method head digest same kept
@@ -70,6 +81,20 @@ candidates_within spots digest candidates is k less =
     let one = from_numbers 0 spots digest (slice_index_or candidates k 0)
     (subst (λ (l : List ℕ). Contains l (slice_index_or candidates k 0)) is (Contains-get_or candidates k 0 less)) in
     omega (arith, one.number_is, slice_get_within spots one.place one.spot one.at)
+
+pub some_record : (same : Option Revisited) (r : Revisited) → same ≡ Some r → same ≢ None
+some_record same r is none = apart r (sym none ∙ is)
+  where
+    apart : (x : Revisited) → None ≡ Some x → ⊥
+    apart x e = cc
+
+-- each of which keeps its whole wire, or may do so
+pub met_is_whole : (spots : List Spot) (digest : List ℕ) (candidates : List ℕ) → candidates ≡ numbers_of digest (whole_from 0 spots)
+    → (number : ℕ) → Contains candidates number → MayBeWholeAt spots number
+met_is_whole spots digest candidates is number has =
+    let one = from_numbers 0 spots digest number (subst (λ (l : List ℕ). Contains l number) is has) in
+    let at : one.place ≡ number = omega (arith, one.number_is) in
+    record { spot = one.spot; placed = subst (λ (n : ℕ). slice_get spots n ≡ Some one.spot) at one.at; whole = one.whole }
 
 -- ---- lengths
 
@@ -106,24 +131,25 @@ has_spot [] k less = absurd (omega (arith, less))
 has_spot (s ∷ ss) zero less = record { spot = s; at = refl }
 has_spot (s ∷ ss) (suc k) less = let later = has_spot ss k (omega (arith, less)) in record { spot = later.spot; at = later.at }
 
-module _ (one : CapturesHaveOnePayload) (book : Book) (texts : List (List ℕ)) (spots : List Spot) (lengths : List ℕ) (entries : List Facts)
-    (is : TellsOf book texts spots lengths entries) (group : Group) (same : Revisited) (refers : group.same ≡ Some same) (told : Told) (h : ResponseHead)
+module _ (one : CapturesHaveOnePayload) (known : Option Book) (book : Book) (texts : List (List ℕ)) (spots : List Spot) (lengths : List ℕ) (entries : List Facts)
+    (is : TellsOf known book texts spots lengths entries) (group : Group) (same : Revisited) (refers : group.same ≡ Some same) (told : Told) (h : ResponseHead)
     (parsed : IsResponseHeadText group.stored.head h) (tells : TellsLength group.stored.method h told)
     (revisit : IsRevisit group.stored.method group.stored.head group.digest (reference_in group.same)) (candidates : List ℕ)
     (lengths_count : length lengths ≡ length (captures book)) (are : candidates ≡ numbers_of group.digest (whole_from 0 spots)) (first : ℕ) where
   abbrev as_reference : Reference
   as_reference = record { id = same.id; uri = same.uri; date = same.date }
 
-  -- one that meets it
-  pub met_is_original : IsMet book.namespace same told candidates spots lengths first → IsOriginalOf book (length (captures book)) group first
-  met_is_original met =
+  -- one that was read and meets it
+  read_is_original : IsMet book.namespace same told candidates spots lengths first → AreAllRead spots → IsOriginalOf book (length (captures book)) group first
+  read_is_original met all =
+      let read : GroupWasRead met.spot = read_at spots all first met.spot met.kept in
       let candidate = from_numbers 0 spots group.digest first (subst (λ (l : List ℕ). Contains l first) are met.one) in
       let here : slice_get spots candidate.place ≡ slice_get spots first = ap (slice_get spots) (sym (candidate.number_is ∙ zero_and candidate.place)) in
       let spot_same : candidate.spot ≡ met.spot = one_at (slice_get spots first) candidate.spot met.spot (sym here ∙ candidate.at) met.kept in
       let spot_of_book : IsSpotOf book first met.spot = is.spots_are.each first met.spot met.kept in
       let there : IsPlaced texts book first met.spot = is.placed.each first met.spot met.kept in
       let stored : Stored = spot_of_book.stored in
-      let form : may_be_whole (form_of stored.kept) ≡ true = ap may_be_whole (sym (spot_of_book.form (read_at spots is.all_read first met.spot met.kept))) ∙ ap (λ (s : Spot). may_be_whole s.form) (sym spot_same) ∙ candidate.whole in
+      let form : may_be_whole (form_of stored.kept) ≡ true = ap may_be_whole (sym (spot_of_book.form read)) ∙ ap (λ (s : Spot). may_be_whole s.form) (sym spot_same) ∙ candidate.whole in
       let whole = whole_by stored.kept form in
       let stored_same : there.has.stored ≡ stored = one_at (slice_get (captures book) first) there.has.stored stored there.has.placed spot_of_book.placed in
       let by_kept : IsPayloadBy book stored stored.kept there.payload = subst (λ (s : Stored). IsPayloadBy book s s.kept there.payload) stored_same there.has.by_kept in
@@ -150,10 +176,30 @@ module _ (one : CapturesHaveOnePayload) (book : Book) (texts : List (List ℕ)) 
               let framed : response_framing (asks_for_head group.stored.method) h ≡ Ok (Length n) =
               ap (response_framing (asks_for_head group.stored.method)) (one_head group.stored.head h revisit.parsed parsed revisit.tells.head_is.whole)
               ∙ revisit.tells.framed ∙ ap told_ok framing in
-              sym (is.lengths_are.each first stored whole.wire there.payload keeps)
-              ∙ agrees_told group.stored.method h told (slice_index_or lengths first 0) n tells met.matches.long framed;
+              sym (is.lengths_are.each first stored whole.wire there.payload keeps met.spot met.kept read)
+              ∙ agrees_told group.stored.method h told (slice_index_or lengths first 0) n tells (met.matches.long read) framed;
         };
       }
+
+  named : (number : ℕ) (original : Stored) → reference_in group.same ≡ Some (reference_to book.namespace (same_of number original))
+      → reference_to book.namespace (same_of number original) ≡ as_reference
+  named number original is =
+      same_Some (reference_to book.namespace (same_of number original)) as_reference (sym is ∙ ap reference_in refers)
+
+  -- one that meets it, where the capture to which the group refers is known
+  named_is_original : IsMet book.namespace same told candidates spots lengths first → HasItsOriginal book group → IsOriginalOf book (length (captures book)) group first
+  named_is_original met its =
+      let id = ap (λ (r : Reference). r.id) (named its.first its.of.original its.of.refers) in
+      let within : first < length (captures book) = omega (arith, slice_get_within spots first met.spot met.kept, is.spots_are.count) in
+      subst (IsOriginalOf book (length (captures book)) group) (sym (its.alone first within (met.matches.id ∙ sym id))) its.of
+
+  -- one that meets it
+  pub met_is_original : MayRefer known book group → IsMet book.namespace same told candidates spots lengths first → IsOriginalOf book (length (captures book)) group first
+  met_is_original refer met = by known is.all_read refer
+    where
+      by : (k : Option Book) → IfNone k (AreAllRead spots) → MayRefer k book group → IsOriginalOf book (length (captures book)) group first
+      by None all refer = read_is_original met all
+      by (Some b) all refer = named_is_original met (refer (some_record group.same same refers))
 
   -- the one that it refers to
   pub original_is_met : IsOriginalOf book (length (captures book)) group first → IsMet book.namespace same told candidates spots lengths first
@@ -164,16 +210,15 @@ module _ (one : CapturesHaveOnePayload) (book : Book) (texts : List (List ℕ)) 
       let spot_of_book : IsSpotOf book first spot = is.spots_are.each first spot kept.at in
       let there : IsPlaced texts book first spot = is.placed.each first spot kept.at in
       let stored_is : spot_of_book.stored ≡ of.original = one_at (slice_get (captures book) first) spot_of_book.stored of.original spot_of_book.placed of.keeps.placed in
-      let whole : may_be_whole spot.form ≡ true =
-      ap may_be_whole (spot_of_book.form (read_at spots is.all_read first spot kept.at) ∙ ap (λ (s : Stored). form_of s.kept) stored_is) ∙ ap (λ (k : Kept). may_be_whole (form_of k)) of.keeps.kept in
+      let wire : spot_of_book.stored.kept ≡ Wire of.wire = ap (λ (s : Stored). s.kept) stored_is ∙ of.keeps.kept in
+      let whole : may_be_whole spot.form ≡ true = whole_as spot.form spot_of_book.stored.kept of.wire spot_of_book.form spot_of_book.revisit wire in
       let payload : there.payload ≡ of.payload = one book first there.payload of.payload there.has (record {
         stored = of.original;
         placed = of.keeps.placed;
         by_kept = subst (λ (k : Kept). IsPayloadBy book of.original k of.payload) (sym of.keeps.kept) of.keeps.has;
       }) in
       let digest : spot.digest ≡ group.digest = there.digest ∙ ap sha1 payload ∙ sym of.digest in
-      let reference : reference_to book.namespace (same_of first of.original) ≡ as_reference =
-      same_Some (reference_to book.namespace (same_of first of.original)) as_reference (sym of.refers ∙ ap reference_in refers) in
+      let reference : reference_to book.namespace (same_of first of.original) ≡ as_reference = named first of.original of.refers in
       record {
         one = subst (λ (l : List ℕ). Contains l first) (sym are)
             (subst (Contains (numbers_of group.digest (whole_from 0 spots))) (zero_and first) (to_numbers 0 spots group.digest first spot kept.at whole digest));
@@ -183,16 +228,10 @@ module _ (one : CapturesHaveOnePayload) (book : Book) (texts : List (List ℕ)) 
           date = spot_of_book.date ∙ ap (λ (s : Stored). s.date) stored_is ∙ ap (λ (r : Reference). r.date) reference;
           uri = spot_of_book.uri ∙ ap (λ (s : Stored). s.uri) stored_is ∙ ap (λ (r : Reference). r.uri) reference;
           id = ap (λ (r : Reference). r.id) reference;
-          long = told_agrees group.stored.method h told (slice_index_or lengths first 0) tells (is.lengths_are.small first (omega (arith, lengths_count, of.earlier)))
+          long = λ read. told_agrees group.stored.method h told (slice_index_or lengths first 0) tells (is.lengths_are.small first (omega (arith, lengths_count, of.earlier)))
               (λ n framed.
               let told_by : told_ok of.head.framing ≡ told_ok (Length n) =
               sym of.head.tells.framed ∙ ap (response_framing (asks_for_head group.stored.method)) (one_head group.stored.head of.head.parsed h of.head.tells.head_is.whole parsed) ∙ framed in
-              is.lengths_are.each first of.original of.wire of.payload of.keeps ∙ of.head.told n (same_framing of.head.framing (Length n) told_by));
+              is.lengths_are.each first of.original of.wire of.payload of.keeps spot kept.at read ∙ of.head.told n (same_framing of.head.framing (Length n) told_by));
         };
       }
-
-pub some_record : (same : Option Revisited) (r : Revisited) → same ≡ Some r → same ≢ None
-some_record same r is none = apart r (sym none ∙ is)
-  where
-    apart : (x : Revisited) → None ≡ Some x → ⊥
-    apart x e = cc

@@ -1,4 +1,5 @@
 -- What is read goes on: with a volume, and with a capture.
+use Rattle.std.specs.Prelude.{Option}
 use Rattle.std.proofs.Common.{◌≡◌, ℕ, ◌+◌, ◌^◌, ◌<◌, ◌≤◌, List, [], ◌∷◌, ◌++◌, length, refl, sym, ap, subst, ◌∙◌, ⊎_elim, arith, length-append}
 use Rattle.std.proofs.lemmas.Bool.{cases_lt}
 use Rattle.std.proofs.lemmas.List.Elements.{All-nil}
@@ -24,7 +25,7 @@ use Rattle.archive_shelf.proofs.StoringLaws.{captures_more, captures_stay, captu
 use Rattle.archive_shelf.specs.Gaining.{AreFilled}
 use Rattle.archive_shelf.specs.Storing.{empty_book, with_capture, with_volume}
 use Rattle.archive_opening.proofs.FrontLaws.{fronts_before, fronts_before_more}
-use Rattle.archive_opening.specs.Reading.{IsBegunBy, IsRead, Laws, ShareGroup}
+use Rattle.archive_opening.specs.Reading.{IsBegunBy, IsRead, Laws, ShareGroup, MayBe}
 
 -- ---- nothing
 
@@ -42,11 +43,11 @@ empty_is_sound namespace is = record {
   short_texts = λ k text of. absurd (omega (arith, slice_get_within [] k of.volume of.placed));
 }
 
-pub nothing_read : (namespace : List ℕ) → IsUuid namespace → IsRead (empty_book namespace) []
-nothing_read namespace is = record {
+pub nothing_read : (known : Option Book) (namespace : List ℕ) → IsUuid namespace → IsRead known (empty_book namespace) []
+nothing_read known namespace is = record {
   sound = empty_is_sound namespace is;
   are = record { count = refl; each = λ k less. absurd (omega (arith, less)) };
-  goes_on = λ files x fronts sound stands. record {
+  goes_on = λ files x may fronts sound stands. record {
     begins = record {
       none = λ none. refl;
       enough = omega arith;
@@ -57,9 +58,9 @@ nothing_read namespace is = record {
   };
 }
 
-module _ (laws : Laws) (book : Book) (texts : List (List ℕ)) (is : IsRead book texts) where
+module _ (laws : Laws) (book : Book) (texts : List (List ℕ)) (known : Option Book) (is : IsRead known book texts) where
   -- groups that are shared stay so when the book grows
-  shares_on : (new x : Book) (number : ℕ) → ((text : List ℕ) → IsGroupText book number text → IsGroupText new number text)
+  pub shares_on : (new x : Book) (number : ℕ) → ((text : List ℕ) → IsGroupText book number text → IsGroupText new number text)
       → ShareGroup book x number → ShareGroup new x number
   shares_on new x number stay share = record {
     text = share.text;
@@ -71,7 +72,7 @@ module _ (laws : Laws) (book : Book) (texts : List (List ℕ)) (is : IsRead book
   -- ---- a volume
 
   pub with_info : (text : List ℕ) (born : ℕ) → IsInfo (length texts) text book.namespace born (length text) → AreFilled book
-      → IsRead (with_volume book born) (texts ++ text ∷ [])
+      → IsRead known (with_volume book born) (texts ++ text ∷ [])
   with_info text born info filled =
       let new : Book = with_volume book born in
       let same : captures new ≡ captures book = captures_stay book.volumes born in
@@ -82,8 +83,8 @@ module _ (laws : Laws) (book : Book) (texts : List (List ℕ)) (is : IsRead book
         sound = volumes_keep_soundness laws.sealed_stay laws.last_goes_on laws.one_group laws.one_text book born is.sound filled info.date;
         are = subst (λ (t : List ℕ). AreVolumeTexts new (texts ++ t ∷ [])) text_is
             (volumes_add_their_text laws.sealed_stay laws.last_goes_on book born texts is.are);
-        goes_on = λ files x fronts sound stands.
-            let so_far = is.goes_on files x (fronts_before texts files text fronts) sound stands in
+        goes_on = λ files x may fronts sound stands.
+            let so_far = is.goes_on files x may (fronts_before texts files text fronts) sound stands in
             let on = laws.infos files x texts book.namespace (length (captures book)) text book.namespace born sound stands so_far.begins info fronts in
             record {
               begins = subst (λ (n : ℕ). BeginsWith x (texts ++ text ∷ []) book.namespace n) (sym count) on.0;
@@ -102,15 +103,15 @@ module _ (laws : Laws) (book : Book) (texts : List (List ℕ)) (is : IsRead book
     pub next : IsGroupText x (length (captures book)) text
 
   pub has_next : (text : List ℕ) (group : Group) → 0 < length texts → IsGroup book.namespace (length (captures book)) text group
-      → (files : List (List ℕ)) (x : Book) → AreFronts (with_more texts text) files → IsSound x → StandsFor files x → HasNext x text
-  has_next text group some of files x fronts sound stands =
-      let so_far = is.goes_on files x (fronts_before_more texts files text some fronts) sound stands in
+      → (files : List (List ℕ)) (x : Book) → MayBe known x → AreFronts (with_more texts text) files → IsSound x → StandsFor files x → HasNext x text
+  has_next text group some of files x may fronts sound stands =
+      let so_far = is.goes_on files x may (fronts_before_more texts files text some fronts) sound stands in
       let on = laws.groups files x texts book.namespace (length (captures book)) text group sound stands so_far.begins some of fronts in
       record { so_far = so_far; begins = on.0; next = on.1 }
 
   pub with_group : (text : List ℕ) (group : Group) (stored : Stored) → 0 < length texts → IsGroup book.namespace (length (captures book)) text group
       → IsGroupText (with_capture book stored) (length (captures book)) text → IsTakeable book stored
-      → IsRead (with_capture book stored) (with_more texts text)
+      → IsRead known (with_capture book stored) (with_more texts text)
   with_group text group stored some of group_text takeable =
       let new : Book = with_capture book stored in
       let number = length (captures book) in
@@ -119,8 +120,8 @@ module _ (laws : Laws) (book : Book) (texts : List (List ℕ)) (is : IsRead book
       record {
         sound = captures_keep_soundness laws.sealed_stay laws.one_group laws.one_text book stored is.sound takeable;
         are = captures_add_their_group laws.sealed_stay laws.last_goes_on book stored texts text takeable.some is.are group_text;
-        goes_on = λ files x fronts sound stands.
-            let next = has_next text group some of files x fronts sound stands in
+        goes_on = λ files x may fronts sound stands.
+            let next = has_next text group some of files x may fronts sound stands in
             record {
               begins = subst (λ (n : ℕ). BeginsWith x (with_more texts text) book.namespace n) (sym count) next.begins;
               shares = λ n less. ⊎_elim

@@ -1,6 +1,6 @@
 -- What stands behind what was read, with which no sound book goes on.
 use Rattle.std.proofs.Common.{◌≡◌, ◌≢◌, ℕ, ◌+◌, ◌-◌, ◌^◌, ◌<◌, ◌≤◌, List, [], ◌∷◌, ◌++◌, length, get_or, refl, sym, ap, subst, ◌∙◌, arith, length-append}
-use Rattle.std.specs.Prelude.{Some, slice_get, slice_index_or}
+use Rattle.std.specs.Prelude.{Some, slice_get, slice_index_or, Option}
 use Rattle.std.proofs.lemmas.List.{get_or_append_left, length-set, length_push}
 use Rattle.std.proofs.lemmas.Option.{get_or_from_slice_get, slice_get_within}
 use Rattle.capture.specs.Captures.{captures}
@@ -36,23 +36,23 @@ group_is_some book number text is =
     let committed : IsCommitted commit_byte text = subst (IsCommitted commit_byte) (sym is.composed) (groups_are_committed book.namespace number _ _ _) in
     omega (arith, committed.more)
 
-module _ (laws : Laws) (book : Book) (texts : List (List ℕ)) (is : IsRead book texts) where
+module _ (laws : Laws) (book : Book) (texts : List (List ℕ)) (known : Option Book) (is : IsRead known book texts) where
   -- ---- volumes
 
   -- of another namespace
   pub other_namespace : (text other : List ℕ) (born : ℕ) → 0 < length texts → IsInfo (length texts) text other born (length text)
-      → other ≢ book.namespace → IsDeadEnd (texts ++ text ∷ [])
-  other_namespace text other born some info differs files fronts x sound stands =
-      let so_far = is.goes_on files x (fronts_before texts files text fronts) sound stands in
+      → other ≢ book.namespace → IsDeadEnd known (texts ++ text ∷ [])
+  other_namespace text other born some info differs files fronts x may sound stands =
+      let so_far = is.goes_on files x may (fronts_before texts files text fronts) sound stands in
       let on = laws.infos files x texts book.namespace (length (captures book)) text other born sound stands so_far.begins info fronts in
       differs (on.1.namespace_is ∙ sym (so_far.begins.namespace_is some))
 
   -- behind one without a capture
   pub behind_an_empty_one : (text other : List ℕ) (born : ℕ) (k : ℕ) (volume : Volume) → IsInfo (length texts) text other born (length text)
-      → k + 1 ≡ length book.volumes → slice_get book.volumes k ≡ Some volume → volume.captures ≡ [] → IsDeadEnd (texts ++ text ∷ [])
-  behind_an_empty_one text other born k volume info last placed none files fronts x sound stands =
+      → k + 1 ≡ length book.volumes → slice_get book.volumes k ≡ Some volume → volume.captures ≡ [] → IsDeadEnd known (texts ++ text ∷ [])
+  behind_an_empty_one text other born k volume info last placed none files fronts x may sound stands =
       let count = length_push texts text in
-      let so_far = is.goes_on files x (fronts_before texts files text fronts) sound stands in
+      let so_far = is.goes_on files x may (fronts_before texts files text fronts) sound stands in
       let on = laws.infos files x texts book.namespace (length (captures book)) text other born sound stands so_far.begins info fronts in
       let followed : k + 1 < length x.volumes = omega (arith, on.0.enough, count, last, is.are.count) in
       let mine = is.are.each k (omega (arith, last, is.are.count)) in
@@ -78,7 +78,7 @@ module _ (laws : Laws) (book : Book) (texts : List (List ℕ)) (is : IsRead book
     after = with_more texts text
 
     -- the last text isn't longer than that of a sound book's volume
-    pub short_after : (x : Book) → IsSound x → HasNext laws book texts is x text → length (get_or texts (length texts - 1) []) + length text < 2 ^ 62
+    pub short_after : (x : Book) → IsSound x → HasNext laws book texts known is x text → length (get_or texts (length texts - 1) []) + length text < 2 ^ 62
     short_after x sound next =
         let k = length texts - 1 in
         let at : k + 1 ≡ length after = omega (arith, some, length-set texts k (get_or texts k [] ++ text)) in
@@ -88,12 +88,12 @@ module _ (laws : Laws) (book : Book) (texts : List (List ℕ)) (is : IsRead book
         omega (arith, whole, length-append (slice_index_or after k []) (joined read.groups), ap length text_is, length-append (get_or texts k []) text)
 
     -- with which a volume is too long
-    pub too_long : 2 ^ 62 ≤ length (get_or texts (length texts - 1) []) + length text → IsDeadEnd after
-    too_long long files fronts x sound stands =
-        omega (arith, long, short_after x sound (has_next laws book texts is text group some of files x fronts sound stands))
+    pub too_long : 2 ^ 62 ≤ length (get_or texts (length texts - 1) []) + length text → IsDeadEnd known after
+    too_long long files fronts x may sound stands =
+        omega (arith, long, short_after x sound (has_next laws book texts known is text group some of files x may fronts sound stands))
 
     -- with which there are too many
-    pub too_many : 2 ^ 32 - 1 ≤ length (captures book) + 1 → IsDeadEnd after
-    too_many many files fronts x sound stands =
-        let next = has_next laws book texts is text group some of files x fronts sound stands in
+    pub too_many : 2 ^ 32 - 1 ≤ length (captures book) + 1 → IsDeadEnd known after
+    too_many many files fronts x may sound stands =
+        let next = has_next laws book texts known is text group some of files x may fronts sound stands in
         omega (arith, many, sound.sound.few, slice_get_within (captures x) (length (captures book)) next.next.stored next.next.placed)

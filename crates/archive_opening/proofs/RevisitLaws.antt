@@ -24,12 +24,12 @@ use Rattle.warc_text.specs.Sound.{IsSound}
 use Rattle.warc_text.specs.declared.same_of.SameOf.{SameOf}
 use Rattle.warc_text.proofs.EqualLaws.{HasSameParts, same_parts}
 use Rattle.warc_text.proofs.PrefixLaws.{groups_tell_their_captures}
-use Rattle.archive_opening.proofs.ReadingLaws.{has_next}
+use Rattle.archive_opening.proofs.ReadingLaws.{has_next, HasNext}
 use Rattle.archive_opening.specs.Opening.{IsDeadEnd}
 use Rattle.archive_opening.specs.Reading.{IsRead, Laws, ShareGroup}
 use Rattle.archive_opening.specs.Revisits.{IsOriginalOf}
 
-one_at : {X : Type 0} (o : Option X) (x y : X) → o ≡ Some x → o ≡ Some y → x ≡ y
+pub one_at : {X : Type 0} (o : Option X) (x y : X) → o ≡ Some x → o ≡ Some y → x ≡ y
 one_at o x y e f = ap (λ p. unwrap_or p x) (sym e ∙ f)
 
 -- ---- one text has one group
@@ -70,7 +70,7 @@ pub record IsReferred (x : Book) (number : ℕ) (stored : Stored) (payload : Lis
   pub names : reference ≡ reference_to x.namespace (same_of first original)
   pub head : IsHeadBefore stored.method stored.head payload
 
-payload_at : (x : Book) (number : ℕ) (stored : Stored) (wire payload : List ℕ) → KeepsPayload x number stored wire payload → IsPayloadOf x number payload
+pub payload_at : (x : Book) (number : ℕ) (stored : Stored) (wire payload : List ℕ) → KeepsPayload x number stored wire payload → IsPayloadOf x number payload
 payload_at x number stored wire payload keeps = record {
   stored = stored;
   placed = keeps.placed;
@@ -80,7 +80,7 @@ payload_at x number stored wire payload keeps = record {
 none_is_some : {r : Reference} → None ≡ Some r → ⊥
 none_is_some e = cc
 
-referred_by : CapturesHaveOnePayload → (x : Book) (number : ℕ) (stored : Stored) (payload : List ℕ) (reference : Reference) (kept : Kept) (same : Option SameOf)
+pub referred_by : CapturesHaveOnePayload → (x : Book) (number : ℕ) (stored : Stored) (payload : List ℕ) (reference : Reference) (kept : Kept) (same : Option SameOf)
     → IsSoundBy x number stored kept → RefersBy x kept same → IsPayloadBy x stored kept payload
     → reference_in (revisited_of x.namespace same) ≡ Some reference → IsReferred x number stored payload reference
 referred_by one x number stored payload reference (Wire wire) same sound refers has is =
@@ -110,7 +110,7 @@ referred_by one x number stored payload reference (Same first) same sound refers
 -- ---- the same capture of another book
 
 -- a capture of which the group refers to nothing, and isn't cut, keeps its whole wire
-wire_by : (x : Book) (kept : Kept) (same : Option SameOf) (wire : List ℕ) → RefersBy x kept same → reference_in (revisited_of x.namespace same) ≡ None
+pub wire_by : (x : Book) (kept : Kept) (same : Option SameOf) (wire : List ℕ) → RefersBy x kept same → reference_in (revisited_of x.namespace same) ≡ None
     → kept_wire (kept_found kept) ≡ wire → is_cut (kept_found kept) ≡ false → kept ≡ Wire wire
 wire_by x (Wire w) same wire refers none wires cut = ap Wire wires
 wire_by x (Same first) same wire refers none wires cut =
@@ -118,7 +118,7 @@ wire_by x (Same first) same wire refers none wires cut =
 wire_by x (Cut w) same wire refers none wires cut = absurd (false≢true (sym cut))
 
 -- it refers to nothing
-refers_to_none : (x : Book) (kept : Kept) (same : Option SameOf) (wire : List ℕ) → kept ≡ Wire wire → RefersBy x kept same → same ≡ None
+pub refers_to_none : (x : Book) (kept : Kept) (same : Option SameOf) (wire : List ℕ) → kept ≡ Wire wire → RefersBy x kept same → same ≡ None
 refers_to_none x (Wire w) same wire e refers = refers
 refers_to_none x (Same first) same wire e refers = cc
 refers_to_none x (Cut w) same wire e refers = refers
@@ -160,17 +160,22 @@ also book x number original wire payload sound sound_x namespaces share keeps =
       same = λ i. record { number = number; uri = uri i; date = date i };
     }
 
+-- the capture to which a group refers
+pub record HasOriginal (book : Book) (number : ℕ) (group : Group) : Type 0 where
+  pub first : ℕ
+  pub of : IsOriginalOf book number group first
+
 -- ---- refusals
 
-module _ (laws : Laws) (book : Book) (texts : List (List ℕ)) (is : IsRead book texts) (text : List ℕ) (group : Group) (some : 0 < length texts)
+module _ (laws : Laws) (book : Book) (texts : List (List ℕ)) (known : Option Book) (is : IsRead known book texts) (text : List ℕ) (group : Group) (some : 0 < length texts)
     (of : IsGroup book.namespace (length (captures book)) text group) where
   abbrev number : ℕ
   number = length (captures book)
 
   -- a group whose request is too long
-  pub long_request : 2 ^ 34 ≤ length group.stored.request → IsDeadEnd (with_more texts text)
-  long_request long files fronts x sound stands =
-      let next = has_next laws book texts is text group some of files x fronts sound stands in
+  pub long_request : 2 ^ 34 ≤ length group.stored.request → IsDeadEnd known (with_more texts text)
+  long_request long files fronts x may sound stands =
+      let next = has_next laws book texts known is text group some of files x may fronts sound stands in
       let namespaces : book.namespace ≡ x.namespace = next.so_far.begins.namespace_is some in
       let told = say x.namespace number text group (group_found x sound number text next.next of.short)
       (subst (λ (n : List ℕ). IsGroup n number text group) namespaces of) (group_is_found x sound number text next.next of.short) in
@@ -180,11 +185,9 @@ module _ (laws : Laws) (book : Book) (texts : List (List ℕ)) (is : IsRead book
       (All-get_or P (captures x) number stored (slice_get_within (captures x) number stored next.next.placed) sound.sound.short_requests) in
       omega (arith, long, short, ap length told.request)
 
-  -- a revisit that refers to no capture
-  pub no_original : (reference : Reference) → reference_in group.same ≡ Some reference → ((first : ℕ) → IsOriginalOf book number group first → ⊥)
-      → IsDeadEnd (with_more texts text)
-  no_original reference refers none files fronts x sound stands =
-      let next = has_next laws book texts is text group some of files x fronts sound stands in
+  -- what it refers to in a book that goes on with it
+  pub original_by : (reference : Reference) → reference_in group.same ≡ Some reference → (x : Book) → IsSound x → HasNext laws book texts known is x text → HasOriginal book number group
+  original_by reference refers x sound next =
       let namespaces : book.namespace ≡ x.namespace = next.so_far.begins.namespace_is some in
       let found : Group = group_found x sound number text next.next of.short in
       let of_x : IsGroup x.namespace number text group = subst (λ (n : List ℕ). IsGroup n number text group) namespaces of in
@@ -200,14 +203,24 @@ module _ (laws : Laws) (book : Book) (texts : List (List ℕ)) (is : IsRead book
       also book x referred.first referred.original referred.wire payload is.sound sound namespaces (next.so_far.shares referred.first referred.earlier) referred.keeps in
       let names : reference ≡ reference_to book.namespace (same_of referred.first mine.mine) =
       referred.names ∙ (λ i. reference_to (sym namespaces i) (sym mine.same i)) in
-      none referred.first (record {
-        earlier = referred.earlier;
-        original = mine.mine;
-        wire = referred.wire;
-        payload = payload;
-        keeps = mine.keeps;
-        refers = refers ∙ ap Some names;
-        digest = told.payload_digest;
-        head = subst (λ (m : List ℕ). IsHeadBefore m group.stored.head payload) (sym both.method)
-            (subst (λ (h : List ℕ). IsHeadBefore stored.method h payload) (sym both.head) referred.head);
-      })
+      record {
+        first = referred.first;
+        of = record {
+          earlier = referred.earlier;
+          original = mine.mine;
+          wire = referred.wire;
+          payload = payload;
+          keeps = mine.keeps;
+          refers = refers ∙ ap Some names;
+          digest = told.payload_digest;
+          head = subst (λ (m : List ℕ). IsHeadBefore m group.stored.head payload) (sym both.method)
+              (subst (λ (h : List ℕ). IsHeadBefore stored.method h payload) (sym both.head) referred.head);
+        };
+      }
+
+  -- a revisit that refers to no capture
+  pub no_original : (reference : Reference) → reference_in group.same ≡ Some reference → ((first : ℕ) → IsOriginalOf book number group first → ⊥)
+      → IsDeadEnd known (with_more texts text)
+  no_original reference refers none files fronts x may sound stands =
+      let has = original_by reference refers x sound (has_next laws book texts known is text group some of files x may fronts sound stands) in
+      none has.first has.of

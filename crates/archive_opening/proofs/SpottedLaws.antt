@@ -19,20 +19,21 @@ use Rattle.warc_journal.specs.Texts.{with_more}
 use Rattle.warc_journal.specs.declared.place.Place.{Place}
 use Rattle.warc_scan.specs.Groups.{reference_in}
 use Rattle.warc_scan.specs.declared.group.Group.{Group}
-use Rattle.warc_text.specs.Books.{IsGroupText, IsVolumeText, RefersBy}
+use Rattle.warc_text.specs.Books.{AreVolumeTexts, IsGroupText, IsVolumeText, RefersBy}
 use Rattle.warc_text.specs.Groups.{answer_block}
 use Rattle.warc_text.specs.Ids.{id_of}
 use Rattle.warc_text.specs.Lengths.{request_length}
 use Rattle.warc_text.specs.Records.{answer_text, group_text}
 use Rattle.warc_text.specs.References.{reference_of}
+use Rattle.warc_text.specs.Sound.{IsSound}
 use Rattle.warc_text.specs.declared.id.IdKind.TheVariants as ids
 use Rattle.warc_text.specs.declared.same_of.SameOf.{SameOf}
 use Rattle.archive_shelf.proofs.EntryLaws.{entries_are_all, new_entries}
-use Rattle.archive_shelf.proofs.GainingSoundness.{keeps_later}
+use Rattle.archive_shelf.proofs.GainingSoundness.{captures_keep_soundness, keeps_later}
 use Rattle.archive_shelf.proofs.ShortTexts.{short_target}
 use Rattle.archive_shelf.proofs.StoringLaws.{capture_grows}
 use Rattle.archive_shelf.specs.Storing.{with_capture}
-use Rattle.archive_opening.proofs.CaptureLaws.{AgreesBy, agrees, composed_is, gains, placed, read_on, taken}
+use Rattle.archive_opening.proofs.CaptureLaws.{AgreesBy, agrees, composed_is, gains, placed, read_on, takeable, taken}
 use Rattle.archive_opening.proofs.FrontLaws.{last_with_more}
 use Rattle.archive_opening.proofs.MeasuringLaws.{one_head}
 use Rattle.archive_opening.proofs.PlaceLaws.{answer_and_request}
@@ -88,7 +89,7 @@ refers_back book new added is number group (Same unknown) kept kept_as =
       record { stored = of.original; wire = of.wire; placed = keeps.placed; kept = keeps.kept },
     )
 
-module _ (laws : Laws) (book : Book) (texts : List (List ℕ)) (is : IsRead book texts) (text : List ℕ) (place : Place) (group : Group)
+module _ (laws : Laws) (book : Book) (texts : List (List ℕ)) (sound : IsSound book) (texts_are : AreVolumeTexts book texts) (text : List ℕ) (place : Place) (group : Group)
     (at : IsGroupAt book texts text place group) (stored : Stored) (of_group : IsCaptureOf book (length (captures book)) group stored)
     (within : IsWithin (length (captures book)) place group) where
   abbrev new : Book
@@ -103,14 +104,20 @@ module _ (laws : Laws) (book : Book) (texts : List (List ℕ)) (is : IsRead book
   abbrev last : List ℕ
   last = get_or texts (length texts - 1) []
 
-  pub read_taken : IsRead new now
-  read_taken = read_on laws book texts is text group at.some at.is stored of_group within.request within.few (omega (arith, within.ends, at.at, at.len))
+  pub sound_taken : IsSound new
+  sound_taken =
+      captures_keep_soundness laws.sealed_stay laws.one_group laws.one_text book stored sound
+      (takeable laws book texts texts_are text group at.some at.is stored of_group within.request within.few (omega (arith, within.ends, at.at, at.len)))
+
+  pub read_taken : (known : Option Book) → IsRead known book texts → IsRead known new now
+  read_taken known is =
+      read_on laws book texts texts_are text group at.some at.is stored of_group known is within.request within.few (omega (arith, within.ends, at.at, at.len))
 
   stands : slice_get (captures new) number ≡ Some stored
-  stands = placed laws book texts is text group at.some at.is stored of_group
+  stands = placed laws book texts texts_are text group at.some at.is stored of_group
 
   abbrev says : AgreesBy new number group stored stored.kept
-  says = agrees laws book texts is text group at.some at.is stored of_group
+  says = agrees laws book texts texts_are text group at.some at.is stored of_group
 
   abbrev spot : Spot
   spot = spot_of stored group.digest place.volume place.at (place.at + group.head_at)
@@ -123,10 +130,10 @@ module _ (laws : Laws) (book : Book) (texts : List (List ℕ)) (is : IsRead book
   in_group = block_in_group book.namespace number (taken_back stored) (sha1 says.payload) (reference_of book.namespace says.same)
 
   composed : text ≡ in_group.front ++ (answer_block (taken_back stored) (reference_of book.namespace says.same) ++ in_group.rest)
-  composed = composed_is laws book texts is text group at.some at.is stored of_group ∙ in_group.composed
+  composed = composed_is laws book texts texts_are text group at.some at.is stored of_group ∙ in_group.composed
 
   same_taken : taken_back group.stored ≡ taken_back stored
-  same_taken = taken laws book texts is text group at.some at.is stored of_group
+  same_taken = taken laws book texts texts_are text group at.some at.is stored of_group
 
   same_block : answer_block (taken_back group.stored) (reference_in group.same) ≡ answer_block (taken_back stored) (reference_of book.namespace says.same)
   same_block = λ i. answer_block (same_taken i) (says.reference i)
@@ -150,7 +157,7 @@ module _ (laws : Laws) (book : Book) (texts : List (List ℕ)) (is : IsRead book
   wires = ap length block ∙ length-append stored.head (kept_wire stored.kept)
 
   in_the_last : place.volume ≡ length book.volumes - 1
-  in_the_last = omega (arith, at.volume, is.are.count)
+  in_the_last = omega (arith, at.volume, texts_are.count)
 
   pub spot_is : IsSpotOf new number spot
   spot_is = record {
@@ -163,10 +170,10 @@ module _ (laws : Laws) (book : Book) (texts : List (List ℕ)) (is : IsRead book
     revisit = refl;
     digest = λ read. own_digest new stored stored.kept says.payload group.digest says.payload_is says.digest;
     line = λ told some. absurd (false≢true (sym (form_read stored.kept) ∙ told));
-    inside = subst (IsInVolume new number) (sym in_the_last) (in_last_volume book stored (omega (arith, at.some, is.are.count)));
-    refers = refers_back book new (stored ∷ []) (gains laws book texts is text group at.some at.is stored of_group) number group group.stored.kept stored.kept of_group.kept;
+    inside = subst (IsInVolume new number) (sym in_the_last) (in_last_volume book stored (omega (arith, at.some, texts_are.count)));
+    refers = refers_back book new (stored ∷ []) (gains laws book texts texts_are text group at.some at.is stored of_group) number group group.stored.kept stored.kept of_group.kept;
     in_range = subst InRange (sym (ap (λ (s : Stored). s.date) of_group.others)) at.is.date;
-    short = short_target laws.one_text new number stored read_taken.sound stands;
+    short = short_target laws.one_text new number stored sound_taken stands;
     ends = omega (arith, within.ends, at.len, head_at, all_long, wires);
   }
 
@@ -196,7 +203,7 @@ module _ (laws : Laws) (book : Book) (texts : List (List ℕ)) (is : IsRead book
     placed = stands;
     payload_is = says.payload_is;
     refers = says.refers;
-    composed = composed_is laws book texts is text group at.some at.is stored of_group;
+    composed = composed_is laws book texts texts_are text group at.some at.is stored of_group;
   }
 
   group_at : HasGroupAt new number (text_at now place.volume) place.at
@@ -223,7 +230,7 @@ module _ (laws : Laws) (book : Book) (texts : List (List ℕ)) (is : IsRead book
 
   pub spots_taken : (spots : List Spot) → AreSpotsOf book spots → AreSpotsOf new (spots ++ spot ∷ [])
   spots_taken spots are =
-      spots_with book new stored (gains laws book texts is text group at.some at.is stored of_group) (capture_grows book stored) spots spot are spot_is
+      spots_with book new stored (gains laws book texts texts_are text group at.some at.is stored of_group) (capture_grows book stored) spots spot are spot_is
 
   begins : length (text_at texts place.volume) ≤ place.at
   begins = omega (arith, at.at, ap (λ (k : ℕ). length (get_or texts k [])) last_text)
@@ -233,7 +240,7 @@ module _ (laws : Laws) (book : Book) (texts : List (List ℕ)) (is : IsRead book
 
   pub places_taken : (spots : List Spot) → AreSpotsOf book spots → ArePlaced texts book spots → ArePlaced now new (spots ++ spot ∷ [])
   places_taken spots are there =
-      placed_with texts now (go_on_more texts text at.some) book new (stored ∷ []) (gains laws book texts is text group at.some at.is stored of_group)
+      placed_with texts now (go_on_more texts text at.some) book new (stored ∷ []) (gains laws book texts texts_are text group at.some at.is stored of_group)
       (capture_grows book stored) spots spot there (subst (λ (n : ℕ). IsPlaced now new n spot) (sym are.count) spot_placed) begins
 
   -- ---- its entry
@@ -256,9 +263,9 @@ module _ (laws : Laws) (book : Book) (texts : List (List ℕ)) (is : IsRead book
       uri_is = of.uri;
       mime_is = of.mime;
       status_is = of.status;
-      volume_is = omega (arith, of.volume, at.volume, is.are.count);
+      volume_is = omega (arith, of.volume, at.volume, texts_are.count);
       text = get_or texts place.volume [];
-      ends = subst (λ (k : ℕ). IsVolumeText book k (get_or texts place.volume [])) (sym of.volume) (is.are.each place.volume (omega (arith, at.volume)));
+      ends = subst (λ (k : ℕ). IsVolumeText book k (get_or texts place.volume [])) (sym of.volume) (texts_are.each place.volume (omega (arith, at.volume)));
       offset_is = of.offset ∙ at.at ∙ ap (λ (k : ℕ). length (get_or texts k [])) (sym last_volume);
       group_text = text;
       group = group_text_is;
@@ -282,11 +289,11 @@ module _ (laws : Laws) (book : Book) (texts : List (List ℕ)) (is : IsRead book
     pub entries_taken : TargetsHaveKeys → (entries : List Facts) → AreEntries book entries → (entry : Option Facts)
         → EntersAs stored head (record_at place group) entry → AreEntries new (entries ++ option_to_list entry)
     entries_taken keys entries are (Some entry) of =
-        entries_push laws.keeps book new stored entries entry (capture_grows book stored) (gains laws book texts is text group at.some at.is stored of_group)
+        entries_push laws.keeps book new stored entries entry (capture_grows book stored) (gains laws book texts texts_are text group at.some at.is stored of_group)
         are (by_date entry of) (of.number ∙ at.is.number_is) (entry_is entry of)
     entries_taken keys entries are None none =
         subst (AreEntries new) (sym (append-nil entries)) (record {
           in_order = are.in_order;
-          of_book = entries_are_all laws.keeps book new stored entries (capture_grows book stored) (gains laws book texts is text group at.some at.is stored of_group)
+          of_book = entries_are_all laws.keeps book new stored entries (capture_grows book stored) (gains laws book texts texts_are text group at.some at.is stored of_group)
               are.of_book (not_by_date keys none);
         })

@@ -1,6 +1,6 @@
 -- What one step of an opening says, by what the scan found and what was gathered of it.
 use Rattle.std.proofs.Common.{◌≡◌, ℕ, ◌-◌, ◌^◌, ◌<◌, Bool, IsTrue, List, length, Result, Ok, Err, OnOk, sym, ap, subst, ◌∙◌, arith}
-use Rattle.std.specs.Prelude.{IfErr, IfOk}
+use Rattle.std.specs.Prelude.{IfErr, IfOk, None}
 use Rattle.capture.specs.Captures.{captures}
 use Rattle.disk_model.specs.declared.disk.Disk.{Ghosts}
 use Rattle.disk_model.specs.declared.kind.Kind.{Kind}
@@ -33,7 +33,7 @@ module _ {D : Type 0} (d : Ghosts D) (old new : Scanning D) (was is : Gathered) 
       subst (λ (n : List ℕ). IsGroup n (length (captures (book_of was.held))) on.text group) (follows.namespace (some_texts d old new was is follows place group on))
       (subst (λ (n : ℕ). IsGroup (position_of old).namespace n on.text group) follows.count on.is)
 
-  group_at : (place : Place) (group : GroupFound) (on : GoesOnWith d old new place group) → IsGroupAt (book_of was.held) follows.texts on.text place group
+  pub group_at : (place : Place) (group : GroupFound) (on : GoesOnWith d old new place group) → IsGroupAt (book_of was.held) follows.texts on.text place group
   group_at place group on =
       let some = some_texts d old new was is follows place group on in
       record {
@@ -45,7 +45,7 @@ module _ {D : Type 0} (d : Ghosts D) (old new : Scanning D) (was is : Gathered) 
       }
 
   module _ (rests : IsTrue d.tells → Rests d (disk_of old) (disk_of new)) (count : file_count new ≡ file_count old) (few : captures_of old < 2 ^ 32 - 1) where
-    reads_more : (found : Found) (more : Bool) → Finds d old new found → Gathers was is follows.texts found more → IsSteady is → ReadsOn d old new is more
+    reads_more : (found : Found) (more : Bool) → Finds d old new found → Gathers None was is follows.texts found more → IsSteady is → ReadsOn d old new is more
     reads_more (Info volume namespace born) more one gathers steady =
         let begun = gathers.1 one.text (one.number ∙ follows.volumes) one.is in
         subst (ReadsOn d old new is) (sym gathers.0) (
@@ -54,7 +54,7 @@ module _ {D : Type 0} (d : Ghosts D) (old new : Scanning D) (was is : Gathered) 
           fewer_info d old new was is follows volume namespace born one count,
         )
     reads_more (Group place group) more on gathers steady =
-        let taken = gathers.1 on.text (group_at place group on) in
+        let taken = gathers.1 on.text (group_at place group on) tt in
         subst (ReadsOn d old new is) (sym gathers.0) (
           follows_group d old new was is follows place group on (some_texts d old new was is follows place group on) taken.gathered taken.count taken.namespace_is,
           steady,
@@ -67,14 +67,14 @@ module _ {D : Type 0} (d : Ghosts D) (old new : Scanning D) (was is : Gathered) 
           steady,
         )
 
-    pub reads_by : (found : Found) (result : Result Bool ReopenFault) → Finds d old new found → IfOk result (Gathers was is follows.texts found)
+    pub reads_by : (found : Found) (result : Result Bool ReopenFault) → Finds d old new found → IfOk result (Gathers None was is follows.texts found)
         → OnOk result (IsSteady is) → IfOk result (ReadsOn d old new is)
     reads_by found (Ok more) finds gathers steady = reads_more found more finds gathers steady
     reads_by found (Err fault) finds gathers steady = tt
 
   module _ (in_place : IsInPlace d old) (after : IsInPlace d new) (begin : FilesBeginWithWhatWasRead) (none : DamagedFilesStandForNoBook)
       (rests : IsTrue d.tells → Rests d (disk_of old) (disk_of new)) (told : IsTrue d.tells) where
-    refused_at : (found : Found) (kind : Kind) (file place : ℕ) → Finds d old new found → kind ≡ Warc → IsRefusedAt was follows.texts found file place
+    refused_at : (found : Found) (kind : Kind) (file place : ℕ) → Finds d old new found → kind ≡ Warc → IsRefusedAt None was follows.texts found file place
         → IsDamageIn (files_in d old) (faults.Damaged kind file place)
     refused_at (Info volume namespace born) kind file place one is_warc refused =
         let info : IsInfo (length follows.texts) one.text namespace born (length one.text) =
@@ -88,7 +88,7 @@ module _ {D : Type 0} (d : Ghosts D) (old new : Scanning D) (was is : Gathered) 
         (is_warc, damage.1, subst (λ (f : ℕ). IsDamage (files_in d old) f place) (sym refused.0) (subst (IsDamage (files_in d old) at.volume) (sym refused.1) damage.2))
     refused_at End kind file place ends is_warc refused = absurd refused
 
-    pub refused_by : (found : Found) (fault : ReopenFault) → Finds d old new found → IsRefused was follows.texts found fault
+    pub refused_by : (found : Found) (fault : ReopenFault) → Finds d old new found → IsRefused None was follows.texts found fault
         → IsReadRefusal (files_in d old) fault
     refused_by found (faults.Damaged kind file place) finds refused = refused_at found kind file place finds refused.0 refused.1
     refused_by found (faults.OtherNamespace other) finds refused = absurd refused
@@ -97,6 +97,6 @@ module _ {D : Type 0} (d : Ghosts D) (old new : Scanning D) (was is : Gathered) 
 
   pub damage_by : IsInPlace d old → IsInPlace d new → FilesBeginWithWhatWasRead → DamagedFilesStandForNoBook
       → (IsTrue d.tells → Rests d (disk_of old) (disk_of new)) → (found : Found) (result : Result Bool ReopenFault) → Finds d old new found
-      → IfErr result (IsRefused was follows.texts found) → IfErr result (λ fault. IsTrue d.tells → IsReadRefusal (files_in d old) fault)
+      → IfErr result (IsRefused None was follows.texts found) → IfErr result (λ fault. IsTrue d.tells → IsReadRefusal (files_in d old) fault)
   damage_by in_place after begin none rests found (Ok more) finds refused = tt
   damage_by in_place after begin none rests found (Err fault) finds refused = λ told. refused_by in_place after begin none rests told found fault finds refused

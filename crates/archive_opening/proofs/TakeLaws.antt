@@ -1,5 +1,5 @@
 -- What was gathered, with a capture more.
-use Rattle.std.proofs.Common.{◌≡◌, ◌≢◌, ℕ, ◌^◌, ◌<◌, ◌≤◌, false, List, [], ◌∷◌, ◌++◌, length, refl, sym, ap, subst, ◌∙◌, ⊎_elim, arith, length-append}
+use Rattle.std.proofs.Common.{◌≡◌, ◌≢◌, ℕ, zero, suc, ◌^◌, ◌<◌, ◌≤◌, false, List, [], ◌∷◌, ◌++◌, length, refl, sym, ap, subst, ◌∙◌, ⊎_elim, arith, length-append}
 use Rattle.std.specs.Prelude.{Contains, Option, Some, None, slice_get}
 use Rattle.std.specs.Cmp.{nat_cmp_is}
 use Rattle.std.specs.List.{AllByRecursion}
@@ -26,7 +26,8 @@ use Rattle.warc_text.proofs.BookLaws.{get_behind}
 use Rattle.warc_text.specs.References.{Reference}
 use Rattle.archive_shelf.proofs.ComparingLaws.{placed_before}
 use Rattle.archive_shelf.proofs.EntryLaws.{contains_entry, entries_gain_one, entry_contained, others_contained}
-use Rattle.archive_opening.specs.Gathering.{AreLengths}
+use Rattle.archive_opening.specs.Gathering.{AreLengths, GroupWasRead}
+use Rattle.archive_volumes.specs.declared.spot.Spot.{Spot}
 use Rattle.archive_opening.specs.Measuring.{IsLengthOf}
 use Rattle.archive_opening.specs.Noting.{referring}
 use Rattle.archive_opening.specs.Revisits.{IsCaptureOf, IsKeptAs, IsOriginalOf, RefersRight}
@@ -65,10 +66,16 @@ captured book group text is (Some first) right = record {
 
 -- ---- lengths
 
-pub lengths_with : (old new : Book) (stored : Stored) (lengths : List ℕ) (len : ℕ) → captures new ≡ captures old ++ stored ∷ []
-    → length lengths ≡ length (captures old) → AreLengths old lengths
-    → ((wire : List ℕ) → stored.kept ≡ Wire wire → IsLengthOf stored.method stored.head wire len) → len < 2 ^ 64 → AreLengths new (lengths ++ len ∷ [])
-lengths_with old new stored lengths len gains count are is fits = record {
+pub get_before : (spots : List Spot) (last : Spot) (number : ℕ) → number < length spots → slice_get (spots ++ last ∷ []) number ≡ slice_get spots number
+get_before [] last number less = absurd (omega (arith, less))
+get_before (s ∷ ss) last zero less = refl
+get_before (s ∷ ss) last (suc n) less = get_before ss last n (omega (arith, less))
+
+pub lengths_with : (old new : Book) (stored : Stored) (spots : List Spot) (last : Spot) (lengths : List ℕ) (len : ℕ) → captures new ≡ captures old ++ stored ∷ []
+    → length lengths ≡ length (captures old) → length spots ≡ length (captures old) → AreLengths old spots lengths
+    → (GroupWasRead last → (wire : List ℕ) → stored.kept ≡ Wire wire → IsLengthOf stored.method stored.head wire len) → len < 2 ^ 64
+    → AreLengths new (spots ++ last ∷ []) (lengths ++ len ∷ [])
+lengths_with old new stored spots last lengths len gains count spots_count are is fits = record {
   small = λ number less. ⊎_elim
       (λ (before : number < length lengths).
       let same = get_or_append_left lengths (len ∷ []) 0 number before in omega (arith, same, are.small number before))
@@ -76,19 +83,21 @@ lengths_with old new stored lengths len gains count are is fits = record {
       let at : length lengths ≡ number = omega (arith, behind, less, length-append lengths (len ∷ [])) in
       let same = get_or_push lengths len 0 number at in omega (arith, same, fits))
       (cases_lt number (length lengths));
-  each = λ number s wire payload keeps. ⊎_elim
+  each = λ number s wire payload keeps spot at read. ⊎_elim
       (λ (before : number < length (captures old)).
       let was : slice_get (captures old) number ≡ Some s = placed_before old new (stored ∷ []) gains number s before keeps.placed in
       get_or_append_left lengths (len ∷ []) 0 number (omega (arith, before, count))
-      ∙ are.each number s wire payload (record { placed = was; kept = keeps.kept; has = keeps.has }))
+      ∙ are.each number s wire payload (record { placed = was; kept = keeps.kept; has = keeps.has }) spot
+      (sym (get_before spots last number (omega (arith, before, spots_count))) ∙ at) read)
       (λ (behind : length (captures old) ≤ number).
       let within : number < length (captures new) = slice_get_within (captures new) number s keeps.placed in
-      let at : length (captures old) ≡ number = omega (arith, behind, within, ap length gains, length-append (captures old) (stored ∷ [])) in
-      let same : stored ≡ s = same_Some stored s (sym (get_behind (captures old ++ stored ∷ []) (captures old) stored [] number refl at)
+      let here : length (captures old) ≡ number = omega (arith, behind, within, ap length gains, length-append (captures old) (stored ∷ [])) in
+      let last_is : last ≡ spot = same_Some last spot (sym (get_behind (spots ++ last ∷ []) spots last [] number refl (omega (arith, here, spots_count))) ∙ at) in
+      let same : stored ≡ s = same_Some stored s (sym (get_behind (captures old ++ stored ∷ []) (captures old) stored [] number refl here)
       ∙ sym (ap (λ (l : List Stored). slice_get l number) gains) ∙ keeps.placed) in
       let kept : stored.kept ≡ Wire wire = ap (λ (x : Stored). x.kept) same ∙ keeps.kept in
-      get_or_push lengths len 0 number (omega (arith, at, count))
-      ∙ is wire kept payload (subst (λ (x : Stored). HasPayload false x.method x.head wire payload) (sym same) keeps.has))
+      get_or_push lengths len 0 number (omega (arith, here, count))
+      ∙ is (subst GroupWasRead (sym last_is) read) wire kept payload (subst (λ (x : Stored). HasPayload false x.method x.head wire payload) (sym same) keeps.has))
       (cases_lt number (length (captures old)));
 }
 
@@ -98,7 +107,7 @@ all_push : (P : Facts → Type 0) (entries : List Facts) (entry : Facts) → All
 all_push P [] entry all is = (is, tt)
 all_push P (e ∷ es) entry all is = (all.0, all_push P es entry all.1 is)
 
-sorted_push : (entries : List Facts) (entry : Facts) → IsStrictlySortedBy by_number entries → ((e : Facts) → Contains entries e → by_number e entry ≡ Less)
+pub sorted_push : (entries : List Facts) (entry : Facts) → IsStrictlySortedBy by_number entries → ((e : Facts) → Contains entries e → by_number e entry ≡ Less)
     → IsStrictlySortedBy by_number (entries ++ entry ∷ [])
 unfolding IsStrictlySortedBy
 sorted_push [] entry sorted below = (tt, tt)

@@ -1,5 +1,5 @@
 -- What is gathered of the volumes that were read: their book, what is kept of its captures, and their entries.
-use Rattle.std.specs.Prelude.{◌≡◌, ◌≢◌, ℕ, ◌+◌, ◌-◌, ◌^◌, ◌<◌, Bool, true, false, All, IsFalse, IsTrue, List, [], ◌∷◌, ◌++◌, length, slice_index_or, option_to_list, Option, ⊤}
+use Rattle.std.specs.Prelude.{◌≡◌, ◌≢◌, ℕ, ◌+◌, ◌-◌, ◌^◌, ◌<◌, Bool, true, false, All, IsFalse, IsTrue, List, [], ◌∷◌, ◌++◌, length, slice_get, slice_index_or, option_to_list, IfNone, IfSome, Option, Some, None, ⊤}
 use Rattle.capture.specs.Captures.{KeepsPayload, captures}
 use Rattle.capture.specs.declared.book.Book.{Book}
 use Rattle.capture.specs.declared.captured.Stored.{Stored}
@@ -24,7 +24,8 @@ use Rattle.warc_scan.specs.declared.group.Group.{Group as GroupFound}
 use Rattle.warc_text.specs.Books.{AreVolumeTexts}
 use Rattle.warc_text.specs.Ids.{IsUuid}
 use Rattle.warc_text.specs.Sound.{IsSound}
-use Rattle.warc_text.specs.StandsFor.{StandsFor}
+use Rattle.volume_scan.specs.Books.{AreFronts}
+use Rattle.warc_text.specs.StandsFor.{IdsDifferIn, StandsFor}
 use Rattle.archive_shelf.specs.Storing.{with_capture, with_volume}
 use Rattle.archive_shelf.specs.declared.fault.ReopenFault.{ReopenFault}
 use Rattle.archive_shelf.specs.declared.fault.ReopenFault.TheVariants as faults
@@ -39,10 +40,14 @@ use Rattle.archive_opening.specs.declared.noting.Noted.{Noted}
 use Rattle.archive_opening.specs.declared.opening.Opened.{Opened}
 use Rattle.archive_volumes.specs.declared.spot.Spot.{Spot}
 
--- the lengths of the payloads, of the captures that keep their whole wire
-pub record AreLengths (book : Book) (lengths : List ℕ) : Type 0 where
+-- its group was read: not a line alone told of it
+abbrev pub GroupWasRead : Spot → Type 0
+GroupWasRead spot = is_told_form spot.form ≡ false
+
+-- the lengths of the payloads, of the captures that keep their whole wire and were read
+pub record AreLengths (book : Book) (spots : List Spot) (lengths : List ℕ) : Type 0 where
   pub each : (number : ℕ) (stored : Stored) (wire payload : List ℕ) → KeepsPayload book number stored wire payload
-      → slice_index_or lengths number 0 ≡ length payload
+      → (spot : Spot) → slice_get spots number ≡ Some spot → GroupWasRead spot → slice_index_or lengths number 0 ≡ length payload
   pub small : (number : ℕ) → number < length lengths → slice_index_or lengths number 0 < 2 ^ 64
 
 -- whatever was read, the parts are in step
@@ -52,28 +57,36 @@ pub record IsInStepWith (book : Book) (spots : List Spot) (table : Table) (lengt
   pub few : length spots < 2 ^ 32 - 1
   pub table_is : table.kept ≡ whole_from 0 spots
 
--- its group was read: not a line alone told of it
-abbrev pub GroupWasRead : Spot → Type 0
-GroupWasRead spot = is_told_form spot.form ≡ false
-
--- so it is of each
+-- each capture's group was read
 abbrev pub AreAllRead : List Spot → Type 0
 AreAllRead spots = All GroupWasRead spots
 
--- they tell of the book whose texts these are
-pub record TellsOf (book : Book) (texts : List (List ℕ)) (spots : List Spot) (lengths : List ℕ) (entries : List Facts) : Type 0 where
-  pub read : IsRead book texts
+-- they tell of the book whose texts these are; where none is known, each capture was read
+pub record TellsOf (known : Option Book) (book : Book) (texts : List (List ℕ)) (spots : List Spot) (lengths : List ℕ) (entries : List Facts) : Type 0 where
+  pub read : IsRead known book texts
   pub spots_are : AreSpotsOf book spots
   pub placed : ArePlaced texts book spots
-  pub all_read : AreAllRead spots
-  pub lengths_are : AreLengths book lengths
+  pub all_read : IfNone known (AreAllRead spots)
+  pub lengths_are : AreLengths book spots lengths
   pub entries_are : AreEntries book entries
+
+-- files stand for this book, whose ids differ, and begin with the texts
+pub record StandsBehind (book : Book) (texts : List (List ℕ)) : Type 0 where
+  pub files : List (List ℕ)
+  pub fronts : AreFronts texts files
+  pub sound : IsSound book
+  pub stands : StandsFor files book
+  pub ids : IdsDifferIn book
+
+-- where a book is known, files that begin with the texts stand for it
+abbrev pub MayStand : Option Book → List (List ℕ) → Type 0
+MayStand known texts = IfSome known (λ book. StandsBehind book texts)
 
 abbrev pub IsSteady : Gathered → Type 0
 IsSteady g = IsInStepWith (book_of g.held) g.spots.items g.table g.lengths.items
 
-abbrev pub IsGathered : Gathered → List (List ℕ) → Type 0
-IsGathered g texts = TellsOf (book_of g.held) texts g.spots.items g.lengths.items g.entries.items
+abbrev pub IsGathered : Option Book → Gathered → List (List ℕ) → Type 0
+IsGathered known g texts = TellsOf known (book_of g.held) texts g.spots.items g.lengths.items g.entries.items
 
 -- the book has a volume more, and all else stayed
 pub record HasVolumeMore (was is : Gathered) (born : ℕ) : Type 0 where
@@ -90,14 +103,14 @@ pub record HasAdded (was is : Gathered) (noted : Noted) : Type 0 where
   pub entries : is.entries.items ≡ was.entries.items ++ option_to_list noted.entry
 
 -- a volume with this text was begun
-pub record HasBegun (was is : Gathered) (texts : List (List ℕ)) (text namespace : List ℕ) : Type 0 where
-  pub gathered : IsGathered is (texts ++ text ∷ [])
+pub record HasBegun (known : Option Book) (was is : Gathered) (texts : List (List ℕ)) (text namespace : List ℕ) : Type 0 where
+  pub gathered : IsGathered known is (texts ++ text ∷ [])
   pub namespace_is : (book_of is.held).namespace ≡ namespace
   pub count : length (captures (book_of is.held)) ≡ length (captures (book_of was.held))
 
 -- a group with this text was taken
-pub record HasTaken (was is : Gathered) (texts : List (List ℕ)) (text : List ℕ) : Type 0 where
-  pub gathered : IsGathered is (with_more texts text)
+pub record HasTaken (known : Option Book) (was is : Gathered) (texts : List (List ℕ)) (text : List ℕ) : Type 0 where
+  pub gathered : IsGathered known is (with_more texts text)
   pub namespace_is : (book_of is.held).namespace ≡ (book_of was.held).namespace
   pub count : length (captures (book_of is.held)) ≡ length (captures (book_of was.held)) + 1
 
@@ -114,31 +127,31 @@ FitsFound g (Group place group) = FitsGroup g place group
 FitsFound g End = ⊤
 
 -- what was found is gathered, if anything was
-abbrev pub Gathers : Gathered → Gathered → List (List ℕ) → Found → Bool → Type 0
-Gathers was is texts (Info volume namespace born) more = (more ≡ true)
-    × ((text : List ℕ) → volume ≡ length texts → IsInfo volume text namespace born (length text) → HasBegun was is texts text namespace)
-Gathers was is texts (Group place group) more = (more ≡ true)
-    × ((text : List ℕ) → IsGroupAt (book_of was.held) texts text place group → HasTaken was is texts text)
-Gathers was is texts End more = (more ≡ false) × (is ≡ was)
+abbrev pub Gathers : Option Book → Gathered → Gathered → List (List ℕ) → Found → Bool → Type 0
+Gathers known was is texts (Info volume namespace born) more = (more ≡ true)
+    × ((text : List ℕ) → volume ≡ length texts → IsInfo volume text namespace born (length text) → HasBegun known was is texts text namespace)
+Gathers known was is texts (Group place group) more = (more ≡ true)
+    × ((text : List ℕ) → IsGroupAt (book_of was.held) texts text place group → MayStand known (with_more texts text) → HasTaken known was is texts text)
+Gathers known was is texts End more = (more ≡ false) × (is ≡ was)
 
--- no sound book goes on with what was found
-abbrev pub IsRefusedAt : Gathered → List (List ℕ) → Found → ℕ → ℕ → Type 0
-IsRefusedAt was texts (Info volume namespace born) file place = (file ≡ volume) × (place ≡ 0)
-    × ((text : List ℕ) → volume ≡ length texts → IsInfo volume text namespace born (length text) → IsDeadEnd (texts ++ text ∷ []))
-IsRefusedAt was texts (Group at group) file place = (file ≡ at.volume) × (place ≡ at.at)
-    × ((text : List ℕ) → IsGroupAt (book_of was.held) texts text at group → IsDeadEnd (with_more texts text))
-IsRefusedAt was texts End file place = ⊥
+-- no sound book that may be meant goes on with what was found
+abbrev pub IsRefusedAt : Option Book → Gathered → List (List ℕ) → Found → ℕ → ℕ → Type 0
+IsRefusedAt known was texts (Info volume namespace born) file place = (file ≡ volume) × (place ≡ 0)
+    × ((text : List ℕ) → volume ≡ length texts → IsInfo volume text namespace born (length text) → IsDeadEnd known (texts ++ text ∷ []))
+IsRefusedAt known was texts (Group at group) file place = (file ≡ at.volume) × (place ≡ at.at)
+    × ((text : List ℕ) → IsGroupAt (book_of was.held) texts text at group → IsDeadEnd known (with_more texts text))
+IsRefusedAt known was texts End file place = ⊥
 
-abbrev pub IsRefused : Gathered → List (List ℕ) → Found → ReopenFault → Type 0
-IsRefused was texts found (faults.Damaged kind file place) = (kind ≡ Warc) × IsRefusedAt was texts found file place
-IsRefused was texts found (faults.OtherNamespace other) = ⊥
-IsRefused was texts found faults.DiskFault = ⊥
-IsRefused was texts found faults.Memory = ⊤
+abbrev pub IsRefused : Option Book → Gathered → List (List ℕ) → Found → ReopenFault → Type 0
+IsRefused known was texts found (faults.Damaged kind file place) = (kind ≡ Warc) × IsRefusedAt known was texts found file place
+IsRefused known was texts found (faults.OtherNamespace other) = ⊥
+IsRefused known was texts found faults.DiskFault = ⊥
+IsRefused known was texts found faults.Memory = ⊤
 
 -- What a scan has read was gathered.
 pub record Follows {D : Type 0} (d : Ghosts D) (scanning : Scanning D) (g : Gathered) : Type 0 where
   pub texts : List (List ℕ)
-  pub gathered : IsGathered g texts
+  pub gathered : IsGathered None g texts
   pub volumes : (position_of scanning).extent.volumes ≡ length texts
   pub none : length texts ≡ 0 → (position_of scanning).extent.end ≡ 0
   pub ends : (k : ℕ) → k + 1 ≡ length texts → (position_of scanning).extent.end ≡ length (slice_index_or texts k [])

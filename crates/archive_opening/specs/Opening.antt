@@ -18,14 +18,15 @@ use Rattle.warc_text.specs.Sound.{IsSound}
 use Rattle.warc_text.specs.StandsFor.{StandsFor}
 use Rattle.archive_shelf.specs.declared.fault.ReopenFault.{ReopenFault}
 use Rattle.archive_shelf.specs.declared.fault.ReopenFault.TheVariants as faults
+use Rattle.archive_opening.specs.Reading.{MayBe}
 
 -- the files stand for no sound book
 abbrev pub StandForNone : List (List ℕ) → Type 0
 StandForNone files = (book : Book) → IsSound book → StandsFor files book → ⊥
 
--- no files that begin with these texts stand for a sound book
-abbrev pub IsDeadEnd : List (List ℕ) → Type 0
-IsDeadEnd texts = (files : List (List ℕ)) → AreFronts texts files → StandForNone files
+-- no files that begin with these texts stand for a sound book that may be meant
+abbrev pub IsDeadEnd : Option Book → List (List ℕ) → Type 0
+IsDeadEnd known texts = (files : List (List ℕ)) → AreFronts texts files → (book : Book) → MayBe known book → IsSound book → StandsFor files book → ⊥
 
 -- these are all texts of a sound book, and the files begin with them
 pub record IsReadFrom (files : List (List ℕ)) (book : Book) (texts : List (List ℕ)) : Type 0 where
@@ -51,7 +52,7 @@ pub record IsRefusedVolume (files : List (List ℕ)) (texts : List (List ℕ)) (
   pub place_is : place ≡ 0
   pub info : IsInfo (length texts) text namespace born (length text)
   pub stands : AreFronts (texts ++ text ∷ []) files
-  pub none : IsDeadEnd (texts ++ text ∷ [])
+  pub none : IsDeadEnd None (texts ++ text ∷ [])
 
 -- a group of the next number follows, but no sound book goes on with it: it refers to no earlier capture with its payload, or
 -- passes a bound
@@ -62,7 +63,7 @@ pub record IsRefusedGroup (files : List (List ℕ)) (book : Book) (texts : List 
   pub place_is : place ≡ length (slice_index_or texts file [])
   pub is : IsGroup book.namespace (length (captures book)) text group
   pub stands : AreFronts (with_more texts text) files
-  pub none : IsDeadEnd (with_more texts text)
+  pub none : IsDeadEnd None (with_more texts text)
 
 -- Where files are damaged: up to the place they hold a sound book, and what stands there is the first with which none goes on.
 pub record IsDamage (files : List (List ℕ)) (file place : ℕ) : Type 0 where
@@ -134,3 +135,10 @@ IsReadRefusal files (faults.Damaged kind file place) = IsDamageIn files (faults.
 IsReadRefusal files (faults.OtherNamespace other) = ⊥
 IsReadRefusal files faults.DiskFault = ⊤
 IsReadRefusal files faults.Memory = ⊤
+
+-- the cause isn't what the disk holds: the disk failed, or there was no memory
+abbrev pub IsOutside : ReopenFault → Type 0
+IsOutside (faults.Damaged kind file place) = ⊥
+IsOutside (faults.OtherNamespace other) = ⊥
+IsOutside faults.DiskFault = ⊤
+IsOutside faults.Memory = ⊤

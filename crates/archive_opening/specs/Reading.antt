@@ -1,5 +1,5 @@
 -- What was read of files so far: a sound book, with whose texts each book for which the files stand begins.
-use Rattle.std.specs.Prelude.{ℕ, ◌<◌, ◌^◌, List, length}
+use Rattle.std.specs.Prelude.{◌≡◌, ℕ, ◌<◌, ◌^◌, List, length, Option, Some, None, ⊤}
 use Rattle.capture.specs.BodyLaws.{CapturesHaveOnePayload}
 use Rattle.capture.specs.Captures.{captures}
 use Rattle.capture.specs.GrowthLaws.{GrowthKeepsCaptures}
@@ -34,8 +34,13 @@ pub record IsBegunBy (book : Book) (texts : List (List ℕ)) (x : Book) : Type 0
   pub begins : BeginsWith x texts book.namespace (length (captures book))
   pub shares : (number : ℕ) → number < length (captures book) → ShareGroup book x number
 
--- the texts are those of a sound book, and each sound book for which files stand that go on from them begins with them
-pub record IsRead (book : Book) (texts : List (List ℕ)) : Type 0 where
+-- any book may be meant, or the one that is known
+abbrev pub MayBe : Option Book → Book → Type 0
+MayBe None x = ⊤
+MayBe (Some book) x = x ≡ book
+
+-- the texts are those of a sound book, and each sound book that may be meant, for which files stand that go on from them, begins with them
+pub record IsRead (known : Option Book) (book : Book) (texts : List (List ℕ)) : Type 0 where
   pub sound : IsSound book
   pub are : AreVolumeTexts book texts
-  pub goes_on : (files : List (List ℕ)) (x : Book) → AreFronts texts files → IsSound x → StandsFor files x → IsBegunBy book texts x
+  pub goes_on : (files : List (List ℕ)) (x : Book) → MayBe known x → AreFronts texts files → IsSound x → StandsFor files x → IsBegunBy book texts x

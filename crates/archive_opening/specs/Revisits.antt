@@ -1,5 +1,5 @@
 -- What a revisit refers to, of the captures that were read before it.
-use Rattle.std.specs.Prelude.{◌≡◌, ◌≢◌, ℕ, ◌<◌, List, length, Option, Some, None}
+use Rattle.std.specs.Prelude.{◌≡◌, ◌≢◌, ℕ, ◌<◌, List, length, IfSome, Option, Some, None}
 use Rattle.sha1.specs.Sha1.{sha1}
 use Rattle.capture.specs.Captures.{KeepsPayload, captures}
 use Rattle.capture.specs.WellFormed.{IsHeadBefore}
@@ -10,6 +10,8 @@ use Rattle.capture.specs.declared.captured.Stored.{Stored}
 use Rattle.warc_scan.specs.Groups.{reference_in}
 use Rattle.warc_scan.specs.declared.group.Group.{Group}
 use Rattle.warc_text.specs.Books.{same_of}
+use Rattle.warc_text.specs.Ids.{id_of}
+use Rattle.warc_text.specs.declared.id.IdKind.TheVariants.{Response}
 use Rattle.warc_text.specs.References.{reference_to}
 
 -- The earlier capture with this number is the one that a revisit refers to: it keeps its whole wire, has the id, the target, the
@@ -39,6 +41,17 @@ pub record IsCaptureOf (book : Book) (number : ℕ) (group : Group) (stored : St
 abbrev pub RefersRight : Book → Group → Option ℕ → Type 0
 RefersRight book group None = group.same ≡ None
 RefersRight book group (Some first) = (group.same ≢ None) × IsOriginalOf book (length (captures book)) group first
+
+-- it refers to this capture, and no other one before it has that one's id
+pub record HasItsOriginal (book : Book) (group : Group) : Type 0 where
+  pub first : ℕ
+  pub of : IsOriginalOf book (length (captures book)) group first
+  pub alone : (number : ℕ) → number < length (captures book) → id_of book.namespace Response number ≡ id_of book.namespace Response first
+      → number ≡ first
+
+-- where a book is known, a group that refers to a capture has its original
+abbrev pub MayRefer : Option Book → Book → Group → Type 0
+MayRefer known book group = IfSome known (λ _. group.same ≢ None → HasItsOriginal book group)
 
 -- it refers to a record, which is that of no capture
 pub record RefersToNone (book : Book) (group : Group) : Type 0 where

@@ -1,33 +1,42 @@
 //! What is gathered of the volumes as they are read.
-ghost use Rattle.std.specs.Prelude.{◌≡◌, ◌≢◌, ◌+◌, ◌-◌, ◌^◌, ◌<◌, ◌∷◌, ◌++◌, [], List, ℕ, All, IfErr, IfNone, IfOk, IfSome, None, OnOk, if◌then◌else◌, length, option_to_list};
+ghost use Rattle.std.specs.Prelude.{◌≡◌, ◌≢◌, ◌+◌, ◌-◌, ◌^◌, ◌<◌, ◌∷◌, ◌++◌, [], List, ℕ, All, IfErr, IfNone, IfOk, IfSome, None, OnOk, Option, Some, true, if◌then◌else◌, length, map, option_to_list};
 ghost use Rattle.httparse.specs.Grammar as grammar;
 ghost use Rattle.capture.specs.Captures.{captures};
+ghost use Rattle.cdxj_line.specs.Lines.{IsWritable};
 ghost use Rattle.capture.specs.Message.{IsResponseHeadText};
+ghost use Rattle.capture.specs.declared.book.Book.{Book as BookValue};
 ghost use Rattle.http_head.specs.Heads.{HoldsResponse, HoldsResponseParts};
 ghost use Rattle.time_text.specs.Texts.{InRange};
 ghost use Rattle.warc_journal.specs.Texts.{with_more};
 ghost use Rattle.warc_scan.specs.Infos.{IsInfo};
 ghost use Rattle.warc_text.specs.Ids.{IsUuid};
 ghost use Rattle.archive_shelf.specs.Storing.{empty_book};
-ghost use Rattle.archive_opening.specs.Gathering.{FitsFound, FitsGroup, Gathers, HasAdded, HasBegun, HasTaken, HasVolumeMore, IsGathered, IsRefused, IsSteady};
-ghost use Rattle.archive_volumes.specs.Held.{book_of};
+ghost use Rattle.archive_opening.specs.Gathering.{FitsFound, FitsGroup, Gathers, HasAdded, HasBegun, HasTaken, HasVolumeMore, IsGathered, IsRefused, IsSteady, MayStand};
+ghost use Rattle.archive_volumes.specs.Held.{book_of, stored_in};
+ghost use Rattle.archive_volumes.specs.Lines.{told_spot};
+ghost use Rattle.archive_opening.specs.Lines.{AreLinesIn, AreNext, ArePlacedIn, HasAddedLine, HasCome, HasMoreCaptures, IsSoFar, capture_by};
 ghost use Rattle.archive_opening.specs.Noting.{IsGroupAt, IsSomeGroup};
-ghost use Rattle.archive_opening.specs.Opening.{IsCause, IsDeadEnd, IsIn, IsOther};
-ghost use Rattle.archive_opening.specs.Revisits.{RefersRight, RefersToNone};
-ghost use Rattle.archive_volumes.specs.Spots.{form_of, may_be_whole};
+ghost use Rattle.archive_opening.specs.Opening.{CountsFault, IsCause, IsDeadEnd, IsIn, IsOther};
+ghost use Rattle.archive_opening.specs.Revisits.{MayRefer, RefersRight, RefersToNone};
+ghost use Rattle.archive_volumes.specs.Spots.{AreWithin, form_of, is_told_form, may_be_whole};
+ghost use Rattle.archive_opening.specs.Telling.{HasBegunOne, HasTakenOne, IsMadeUp, RefersAt, Shapes};
+ghost use Rattle.archive_volumes.specs.Choosing.{MayBeWholeAt};
 ghost use Rattle.archive_opening.specs.declared.gathered.Refusal.TheVariants.{Damaged as IsDamaged, Memory as IsMemory};
 
 use crate::laws::reading_laws;
+use crate::lines::entry_in;
 use crate::measuring::told_length;
 use crate::noting::{Noted, note, passes_bounds};
 use crate::originals::{Sought, first_met};
 use archive_shelf::ReopenFault;
-use archive_volumes::{Held, Spot};
-use capture::{Digest, Kept, Memory, captures_have_one_payload};
+use archive_volumes::{Held, Spot, StoredGhost};
+use capture::{Book, Digest, Kept, Memory, captures_have_one_payload};
 use cdxj_index::Entry;
+use cdxj_line::Line;
 use disk_model::Kind;
 use http_head::{ResponseHead, WireFault, read_head};
 use revisit_table::Digests;
+use shown::Shown;
 use std::alloc::Global;
 use surt_key::accepted_targets_have_keys;
 use uuid::Uuid;
@@ -75,7 +84,9 @@ impl Gathered {
         requires { IsUuid namespace }
         ensures book { book_of result.held ≡ empty_book namespace }
         ensures steady { IsSteady result }
-        ensures gathered { IsGathered result [] }
+        ensures gathered { (known : Option BookValue) → IsGathered known result [] }
+        ensures spots { result.spots.items ≡ [] }
+        ensures entries { result.entries.items ≡ [] }
     {
         Gathered {
             held: Held::new(alloc, namespace),
@@ -90,7 +101,7 @@ impl Gathered {
     pub(crate) fn in_namespace(alloc: Global, asked: &Option<Uuid>) -> Gathered
         requires uuid { IfSome asked.now IsUuid }
         ensures steady { IsSteady result }
-        ensures gathered { IsGathered result [] }
+        ensures gathered { (known : Option BookValue) → IsGathered known result [] }
         ensures namespace { IsIn asked.now (book_of result.held) }
     {
         match asked {
@@ -139,9 +150,11 @@ impl Gathered {
         requires steady { IsSteady self.old }
         requires fits { FitsFound self.old found }
         ensures steady { OnOk result (IsSteady self.new) }
-        ensures gathers { (texts : List (List ℕ)) → IsGathered self.old texts → IfOk result (Gathers self.old self.new texts found) }
-        ensures refused { (texts : List (List ℕ)) → IsGathered self.old texts → IfErr result (IsRefused self.old texts found) }
+        ensures gathers { (known : Option BookValue) (texts : List (List ℕ)) → IsGathered known self.old texts → IfOk result (Gathers known self.old self.new texts found) }
+        ensures refused { (known : Option BookValue) (texts : List (List ℕ)) → IsGathered known self.old texts → IfErr result (IsRefused known self.old texts found) }
+        ensures shapes { IfOk result (Shapes self.old self.new found) }
         ensures cause { IfErr result (IsCause None) }
+        ensures still { (count : ℕ) → IfErr result (CountsFault count count) }
     {
         match found {
             Found::Info {
@@ -175,10 +188,11 @@ impl Gathered {
         requires uuid { IsUuid namespace }
         requires born { InRange born }
         ensures steady { OnOk result (IsSteady self.new) }
-        ensures gathered { (texts : List (List ℕ)) (text : List ℕ) → IsGathered self.old texts → volume ≡ length texts
-            → IsInfo volume text namespace born (length text) → OnOk result (HasBegun self.old self.new texts text namespace) }
-        ensures damaged { (texts : List (List ℕ)) (text : List ℕ) → IsGathered self.old texts → volume ≡ length texts
-            → IsInfo volume text namespace born (length text) → IfErr result (λ refusal. refusal ≡ IsDamaged → IsDeadEnd (texts ++ text ∷ [])) }
+        ensures gathered { (known : Option BookValue) (texts : List (List ℕ)) (text : List ℕ) → IsGathered known self.old texts → volume ≡ length texts
+            → IsInfo volume text namespace born (length text) → OnOk result (HasBegun known self.old self.new texts text namespace) }
+        ensures damaged { (known : Option BookValue) (texts : List (List ℕ)) (text : List ℕ) → IsGathered known self.old texts → volume ≡ length texts
+            → IsInfo volume text namespace born (length text) → IfErr result (λ refusal. refusal ≡ IsDamaged → IsDeadEnd known (texts ++ text ∷ [])) }
+        ensures begun { volume ≡ length (book_of self.old.held).volumes → OnOk result (HasBegunOne self.old self.new namespace) }
     {
         reading_laws();
         if volume == 0 {
@@ -213,10 +227,13 @@ impl Gathered {
         requires steady { IsSteady self.old }
         requires fits { FitsGroup self.old place group }
         ensures steady { OnOk result (IsSteady self.new) }
-        ensures gathered { (texts : List (List ℕ)) (text : List ℕ) → IsGathered self.old texts → IsGroupAt (book_of self.old.held) texts text place group
-            → OnOk result (HasTaken self.old self.new texts text) }
-        ensures damaged { (texts : List (List ℕ)) (text : List ℕ) → IsGathered self.old texts → IsGroupAt (book_of self.old.held) texts text place group
-            → IfErr result (λ refusal. refusal ≡ IsDamaged → IsDeadEnd (with_more texts text)) }
+        ensures gathered { (known : Option BookValue) (texts : List (List ℕ)) (text : List ℕ) → IsGathered known self.old texts
+            → IsGroupAt (book_of self.old.held) texts text place group → MayStand known (with_more texts text)
+            → OnOk result (HasTaken known self.old self.new texts text) }
+        ensures damaged { (known : Option BookValue) (texts : List (List ℕ)) (text : List ℕ) → IsGathered known self.old texts
+            → IsGroupAt (book_of self.old.held) texts text place group
+            → IfErr result (λ refusal. refusal ≡ IsDamaged → IsDeadEnd known (with_more texts text)) }
+        ensures taken { OnOk result (HasTakenOne self.old self.new place) }
     {
         reading_laws();
         accepted_targets_have_keys();
@@ -246,12 +263,15 @@ impl Gathered {
     fn original(&self, group: &Group, head: &ResponseHead) -> Result<Option<u32>, Refusal>
         requires steady { IsSteady self.now }
         requires found { IsSomeGroup group.now }
-        ensures found { (texts : List (List ℕ)) (h : grammar.ResponseHead) → IsGathered self.now texts → HoldsResponseParts group.now.stored.head h head.now
-            → group.now.number ≡ length (captures (book_of self.now.held)) → IfOk result (RefersRight (book_of self.now.held) group.now) }
-        ensures none { (texts : List (List ℕ)) (h : grammar.ResponseHead) → IsGathered self.now texts → HoldsResponseParts group.now.stored.head h head.now
+        ensures found { (known : Option BookValue) (texts : List (List ℕ)) (h : grammar.ResponseHead) → IsGathered known self.now texts
+            → HoldsResponseParts group.now.stored.head h head.now → group.now.number ≡ length (captures (book_of self.now.held))
+            → MayRefer known (book_of self.now.held) group.now → IfOk result (RefersRight (book_of self.now.held) group.now) }
+        ensures none { (known : Option BookValue) (texts : List (List ℕ)) (h : grammar.ResponseHead) → IsGathered known self.now texts → HoldsResponseParts group.now.stored.head h head.now
             → group.now.number ≡ length (captures (book_of self.now.held))
             → IfErr result (λ refusal. refusal ≡ IsDamaged → RefersToNone (book_of self.now.held) group.now) }
         ensures there { IfOk result (λ first. IfSome first (λ number. number < length self.now.spots.items)) }
+        ensures whole { IfOk result (λ first. IfSome first (MayBeWholeAt self.now.spots.items)) }
+        ensures refers { IfOk result (RefersAt group.now.same) }
     {
         captures_have_one_payload();
         let Some(same) = &group.same else {
@@ -302,6 +322,84 @@ impl Gathered {
             .push(Spot::of(stored, digest, volume, at, head_at))?;
         Ok(())
     }
+
+    /// Adds the captures of these lines, which are those of the next ones.
+    pub(crate) fn add_lines(
+        &mut self,
+        alloc: Global,
+        lines: Vec<Line>,
+        len: u64,
+        known: &Shown<Option<Book>>,
+    ) -> Result<(), Memory>
+        requires steady { IsSteady self.old }
+        requires volume { 0 < length (book_of self.old.held).volumes }
+        requires next { AreNext (length self.old.spots.items) len lines.items }
+        requires writable { All IsWritable lines.items }
+        requires of_volume { All (λ line. line.volume + 1 ≡ length (book_of self.old.held).volumes) lines.items }
+        ensures steady { OnOk result (IsSteady self.new) }
+        ensures more { OnOk result (HasMoreCaptures self.old self.new (length lines.items)) }
+        ensures spots { OnOk result (self.new.spots.items ≡ self.old.spots.items ++ map (λ line. told_spot line) lines.items) }
+        ensures within { (texts : List (List ℕ)) → AreWithin texts self.old.spots.items → ArePlacedIn texts lines.items → OnOk result (AreWithin texts self.new.spots.items) }
+        ensures made { known.now.value ≡ None → IsMadeUp self.old → OnOk result (IsMadeUp self.new) }
+        ensures told { (book : BookValue) (texts : List (List ℕ)) → known.now.value ≡ Some book → IsSoFar book self.old texts
+            → AreLinesIn book texts lines.items → OnOk result (HasCome book self.new texts) }
+    {
+        reading_laws();
+        let _ = len;
+        let mut rest = lines.into_iter();
+        'lines: while let Some(line) = rest.next() {
+            self.add_line(alloc, line, known)?;
+        }
+        Ok(())
+    }
+
+    /// Adds the capture of which a line tells, the next one.
+    fn add_line(
+        &mut self,
+        alloc: Global,
+        line: Line,
+        known: &Shown<Option<Book>>,
+    ) -> Result<(), Memory>
+        requires steady { IsSteady self.old }
+        requires volume { 0 < length (book_of self.old.held).volumes }
+        requires number { line.number ≡ length self.old.spots.items }
+        requires few { line.number + 1 < 2 ^ 32 - 1 }
+        requires writable { IsWritable line }
+        ensures steady { OnOk result (IsSteady self.new) }
+        ensures added { OnOk result (HasAddedLine self.old self.new (capture_by known.now.value line) line) }
+    {
+        let spot = Spot::of_line(&line)?;
+        let whole = is_whole_told(&spot);
+        add_digest(alloc, &mut self.table, whole, &line.digest, line.number)?;
+        self.lengths.push(0)?;
+        self.held.reserve()?;
+        self.held.add_ghost(told_ghost(&line, known));
+        self.spots.push(spot)?;
+        add_entry(&mut self.entries, entry_in(line))
+    }
+}
+
+/// Whether a capture may keep its whole wire, of which a line alone told.
+fn is_whole_told(spot: &Spot) -> bool
+    requires { is_told_form spot.now.form ≡ true }
+    ensures { result ≡ may_be_whole spot.now.form }
+{
+    !spot.form.is_same()
+}
+
+/// A line, and the book that may be known.
+#[derive(Drop)]
+struct ToldLine<'l> {
+    line: &'l Line,
+    known: &'l Shown<Option<Book>>,
+}
+
+/// The capture of which a line tells, as clauses see it: that of the known book, or one that is made up.
+fn told_ghost(line: &Line, known: &Shown<Option<Book>>) -> StoredGhost
+    ensures { stored_in result ≡ capture_by known.now.value line.now }
+{
+    let told = ToldLine { line, known };
+    StoredGhost::named_by(&told)
 }
 
 /// That a volume's file is damaged at this place.

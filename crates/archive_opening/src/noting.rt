@@ -13,13 +13,13 @@ use warc_journal::Place;
 use warc_scan::Group;
 
 /// One more than the greatest number that a capture may have.
-const NUMBER_BOUND: u32 = 4_294_967_294;
+pub(crate) const NUMBER_BOUND: u32 = 4_294_967_294;
 
 /// No request is so long, in bytes.
 const REQUEST_BOUND: u64 = 17_179_869_184;
 
 /// No volume's text is so long, in bytes.
-const TEXT_BOUND: u64 = 4_611_686_018_427_387_904;
+pub(crate) const TEXT_BOUND: u64 = 4_611_686_018_427_387_904;
 
 /// What is noted of a group.
 #[derive(Drop)]

@@ -20,7 +20,7 @@ pub(crate) struct Sought<'a> {
 }
 
 impl Sought<'_> {
-    /// Whether a capture is the one: it has the target, the date and the id, and a payload of that length.
+    /// Whether a capture is the one: it has the target, the date and the id, and a payload of that length, unless a line alone told of it.
     pub(crate) fn is_met_by(self, number: u32, spot: &Spot, length: u64) -> bool
         ensures met { IsTrue result → IsMatch self.entry.namespace.now self.entry.same.now self.entry.length number spot.now length }
         ensures missed { IsFalse result → IsMatch self.entry.namespace.now self.entry.same.now self.entry.length number spot.now length → ⊥ }
@@ -33,6 +33,9 @@ impl Sought<'_> {
         }
         if id_of(self.namespace, IdKind::Response, number) != self.same.id {
             return false;
+        }
+        if spot.form.is_told() {
+            return true;
         }
         match self.length {
             Told::Any => true,

@@ -1,4 +1,5 @@
 use Rattle.std.proofs.Common.{rules, ◌≡◌, List, ℕ, length, sym, ap, subst, arith}
+use Rattle.std.specs.Prelude.{None}
 use Rattle.warc_journal.specs.declared.extent.Extent.{Extent}
 use Rattle.archive_opening.proofs.BeginLaws.{no_texts}
 use Rattle.archive_opening.proofs.OpenedLaws.{cause_other, opened_by, some_volumes}
@@ -12,7 +13,7 @@ returns-then-volumes-eq0-clause-opened g c =
     let none : 0 ≡ length all =
     omega (arith, c.if-volumes-eq0.true, c.volumes.ensures, ap (λ (e : Extent). e.volumes) c.finish-journal.ensures.extent, c.requires.all.follows.volumes) in
     opened_by g.D.Disk c.args.scanning c.args.gathered c.requires.all c.finish-journal.result c.finish-journal.ensures.disk c.finish-journal.ensures.extent
-    c.args.asked.now c.in_namespace.result (subst (IsGathered c.in_namespace.result) (sym (no_texts all none)) c.in_namespace.ensures.gathered)
+    c.args.asked.now c.in_namespace.result (subst (IsGathered None c.in_namespace.result) (sym (no_texts all none)) (c.in_namespace.ensures.gathered None))
     c.in_namespace.ensures.steady c.in_namespace.ensures.namespace c.finish-journal.ensures.in_step c.finish-journal.ensures.held
 
 pub returns-in-None-clause-opened : goal.returns-in-None-clause-opened

@@ -1,11 +1,16 @@
 use Rattle.std.proofs.Common.{rules, subst}
 use Rattle.disk_model.specs.Image.{Image}
-use Rattle.warc_journal.specs.Extents.{warc_files}
 use Rattle.volume_scan.specs.Scannings.{disk_of}
+use Rattle.warc_journal.specs.Extents.{warc_files}
 use Rattle.archive_opening.specs.Opening.{IsReadRefusal}
+use Rattle.archive_opening.proofs.FirstLaws.{follows_first}
 use Rattle.archive_opening.proofs.FollowingLaws.{rests_on}
 use Rattle.archive_opening.proofs.OpenedLaws.{cause_from, damage_from, opened_from, other_by}
 use Rattle.archive_opening.proofs.opening.open_volumes.Goals as goal
+
+pub read_all-requires-clause-follows : goal.read_all-requires-clause-follows
+read_all-requires-clause-follows g c =
+    follows_first g.D.Disk c.in-Ok.scanning c.in_namespace-gathered.result c.in-Ok.ensures.begins c.in_namespace-gathered.ensures.gathered
 
 pub returns-in-Ok-read_all-clause-opened : goal.returns-in-Ok-read_all-clause-opened
 returns-in-Ok-read_all-clause-opened g c =

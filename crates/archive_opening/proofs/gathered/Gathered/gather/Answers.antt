@@ -2,22 +2,31 @@ use Rattle.std.proofs.Common.{true, refl, sym, subst}
 use Rattle.volume_scan.specs.declared.found.Found.{Found}
 use Rattle.archive_shelf.specs.declared.fault.ReopenFault.{ReopenFault}
 use Rattle.archive_opening.specs.Gathering.{Gathers, IsRefused, IsRefusedAt}
+use Rattle.archive_opening.specs.Telling.{Shapes}
 use Rattle.archive_opening.proofs.gathered.Gathered.gather.Goals as goal
 
 pub returns-in-Ok-clause-gathers : goal.returns-in-Ok-clause-gathers
-returns-in-Ok-clause-gathers c = λ texts gathered.
-    subst (λ (f : Found). Gathers c.args.self.now c.begin.new.self texts f true) (sym c.in-Info.is)
-    (refl, λ text at info. c.in-Ok.ensures.gathered texts text gathered at info)
+returns-in-Ok-clause-gathers c = λ known texts gathered.
+    subst (λ (f : Found). Gathers known c.args.self.now c.begin.new.self texts f true) (sym c.in-Info.is)
+    (refl, λ text at info. c.in-Ok.ensures.gathered known texts text gathered at info)
 
 pub returns-in-Ok-take-clause-gathers : goal.returns-in-Ok-take-clause-gathers
-returns-in-Ok-take-clause-gathers c = λ texts gathered.
-    subst (λ (f : Found). Gathers c.args.self.now c.take.new.self texts f true) (sym c.in-Group.is)
-    (refl, λ text at. c.in-Ok-take.ensures.gathered texts text gathered at)
+returns-in-Ok-take-clause-gathers c = λ known texts gathered.
+    subst (λ (f : Found). Gathers known c.args.self.now c.take.new.self texts f true) (sym c.in-Group.is)
+    (refl, λ text at stand. c.in-Ok-take.ensures.gathered known texts text gathered at stand)
 
 pub returns-in-Err-Damaged-take-clause-refused : goal.returns-in-Err-Damaged-take-clause-refused
-returns-in-Err-Damaged-take-clause-refused c = λ texts gathered.
-    subst (λ (r : ReopenFault). IsRefused c.args.self.now texts c.args.found r) (sym c.damaged-in-Err-Damaged-take.ensures) (
+returns-in-Err-Damaged-take-clause-refused c = λ known texts gathered.
+    subst (λ (r : ReopenFault). IsRefused known c.args.self.now texts c.args.found r) (sym c.damaged-in-Err-Damaged-take.ensures) (
       refl,
-      subst (λ (f : Found). IsRefusedAt c.args.self.now texts f c.in-Group.place.volume c.in-Group.place.at) (sym c.in-Group.is)
-          (refl, refl, λ text at. c.in-Err-Damaged-take.ensures.damaged texts text gathered at c.in-Err-Damaged-take.field-0-is),
+      subst (λ (f : Found). IsRefusedAt known c.args.self.now texts f c.in-Group.place.volume c.in-Group.place.at) (sym c.in-Group.is)
+          (refl, refl, λ text at. c.in-Err-Damaged-take.ensures.damaged known texts text gathered at c.in-Err-Damaged-take.field-0-is),
     )
+
+pub returns-in-Ok-clause-shapes : goal.returns-in-Ok-clause-shapes
+returns-in-Ok-clause-shapes c =
+    subst (λ (f : Found). Shapes c.args.self.now c.begin.new.self f true) (sym c.in-Info.is) (refl, λ at. c.in-Ok.ensures.begun at)
+
+pub returns-in-Ok-take-clause-shapes : goal.returns-in-Ok-take-clause-shapes
+returns-in-Ok-take-clause-shapes c =
+    subst (λ (f : Found). Shapes c.args.self.now c.take.new.self f true) (sym c.in-Group.is) (refl, c.in-Ok-take.ensures.taken)

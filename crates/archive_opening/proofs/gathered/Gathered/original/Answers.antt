@@ -7,7 +7,7 @@ use Rattle.warc_scan.specs.Groups.{reference_in}
 use Rattle.archive_volumes.specs.Held.{book_of}
 use Rattle.archive_opening.specs.Originals.{IsMet}
 use Rattle.archive_volumes.specs.declared.spot.Spot.{Spot}
-use Rattle.archive_opening.proofs.OriginalLaws.{candidates_within, met_is_original, original_is_met, revisit_by, some_record}
+use Rattle.archive_opening.proofs.OriginalLaws.{candidates_within, met_is_whole, met_is_original, original_is_met, revisit_by, some_record}
 use Rattle.archive_opening.proofs.gathered.Gathered.original.Goals as goal
 
 pub first_met-requires-clause-there : goal.first_met-requires-clause-there
@@ -17,7 +17,7 @@ first_met-requires-clause-there c = λ k less.
     omega (arith, candidates_within self.spots.items c.args.group.now.digest c.candidates-candidates.result.now are k less, ap length c.as_slice.ensures.value)
 
 pub returns-in-Some-first_met-clause-found : goal.returns-in-Some-first_met-clause-found
-returns-in-Some-first_met-clause-found c = λ texts h gathered of number.
+returns-in-Some-first_met-clause-found c = λ known texts h gathered of number refer.
     let self = c.args.self.now in
     let group = c.args.group.now in
     let book : Book = book_of self.held in
@@ -29,9 +29,9 @@ returns-in-Some-first_met-clause-found c = λ texts h gathered of number.
     (subst (λ (l : List Spot). IsMet book.namespace c.in-Some.same c.told_length.result c.candidates-candidates.result.now l c.as_slice-2.result.now c.in-Some-first_met.first) c.as_slice.ensures.value
     c.in-Some-first_met.ensures.met) in (
       some_record group.same c.in-Some.same refers,
-      met_is_original c.captures_have_one_payload.ensures book texts self.spots.items self.lengths.items self.entries.items gathered group c.in-Some.same refers c.told_length.result h
+      met_is_original c.captures_have_one_payload.ensures known book texts self.spots.items self.lengths.items self.entries.items gathered group c.in-Some.same refers c.told_length.result h
           of.reads (c.told_length.ensures group.stored.head h of) revisit c.candidates-candidates.result.now (c.requires.steady.lengths_too ∙ c.requires.steady.count) are
-          c.in-Some-first_met.first met,
+          c.in-Some-first_met.first refer met,
     )
 
 pub returns-in-Some-first_met-clause-there : goal.returns-in-Some-first_met-clause-there
@@ -40,7 +40,7 @@ returns-in-Some-first_met-clause-there c =
     omega (arith, slice_get_within c.as_slice.result.now c.in-Some-first_met.first met.spot met.kept, ap length c.as_slice.ensures.value)
 
 pub returns-in-None-clause-none : goal.returns-in-None-clause-none
-returns-in-None-clause-none c = λ texts h gathered of number damaged.
+returns-in-None-clause-none c = λ known texts h gathered of number damaged.
     let self = c.args.self.now in
     let group = c.args.group.now in
     let book : Book = book_of self.held in
@@ -50,10 +50,16 @@ returns-in-None-clause-none c = λ texts h gathered of number damaged.
     record {
       some = some_record group.same c.in-Some.same refers;
       none = λ first original.
-          let met = original_is_met c.captures_have_one_payload.ensures book texts self.spots.items self.lengths.items self.entries.items gathered group c.in-Some.same refers
+          let met = original_is_met c.captures_have_one_payload.ensures known book texts self.spots.items self.lengths.items self.entries.items gathered group c.in-Some.same refers
           c.told_length.result h of.reads (c.told_length.ensures group.stored.head h of) revisit c.candidates-candidates.result.now
           (c.requires.steady.lengths_too ∙ c.requires.steady.count) are first original in
           c.in-None.ensures.none first
           (subst (λ (l : List ℕ). IsMet book.namespace c.in-Some.same c.told_length.result c.candidates-candidates.result.now c.as_slice.result.now l first) (sym c.as_slice-2.ensures.value)
           (subst (λ (l : List Spot). IsMet book.namespace c.in-Some.same c.told_length.result c.candidates-candidates.result.now l self.lengths.items first) (sym c.as_slice.ensures.value) met));
     }
+
+pub returns-in-Some-first_met-clause-whole : goal.returns-in-Some-first_met-clause-whole
+returns-in-Some-first_met-clause-whole c =
+    let self = c.args.self.now in
+    let are = c.candidates-candidates.ensures.numbers ∙ ap (numbers_of c.args.group.now.digest) c.requires.steady.table_is in
+    met_is_whole self.spots.items c.args.group.now.digest c.candidates-candidates.result.now are c.in-Some-first_met.first c.in-Some-first_met.ensures.met.one
