@@ -1,6 +1,9 @@
 pub mod BeginLaws
 pub mod CandidateLaws
 pub mod CaptureLaws
+pub mod ComeLaws
+pub mod EndLaws
+pub mod FirstLaws
 pub mod FollowingLaws
 pub mod FrontLaws
 pub mod KnownLaws
@@ -11,7 +14,14 @@ pub mod PlaceLaws
 pub mod ReadingLaws
 pub mod RefusalLaws
 pub mod RevisitLaws
+pub mod ShapeLaws
+pub mod SkipLaws
 pub mod SpottedLaws
+pub mod StartLaws
 pub mod StepLaws
+pub mod SyncLaws
 pub mod TakeLaws
 pub mod TakenLaws
+pub mod TellLaws
+pub mod ToldLaws
+pub mod WholeLaws

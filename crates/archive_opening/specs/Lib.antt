@@ -1,7 +1,9 @@
 pub mod Gathering
+pub mod Lines
 pub mod Measuring
 pub mod Noting
 pub mod Opening
 pub mod Originals
 pub mod Reading
 pub mod Revisits
+pub mod Telling

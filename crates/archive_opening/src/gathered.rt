@@ -345,6 +345,7 @@ impl Gathered {
             → AreLinesIn book texts lines.items → OnOk result (HasCome book self.new texts) }
     {
         reading_laws();
+        // only the clauses read it
         let _ = len;
         let mut rest = lines.into_iter();
         'lines: while let Some(line) = rest.next() {

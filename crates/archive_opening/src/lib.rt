@@ -3,10 +3,14 @@
 
 mod gathered;
 mod laws;
+mod lines;
 mod measuring;
 mod noting;
 mod opening;
 mod originals;
+mod starting;
+mod telling;
 
 pub use gathered::Gathered;
 pub use opening::{Opened, open_volumes};
+pub use telling::open_by_checkpoints;

@@ -1,0 +1,64 @@
+use Rattle.std.proofs.Common.{rules, ◌≡◌, ◌^◌, ◌≤◌, ℕ, List, length, sym, ap, subst, arith}
+use Rattle.archive_volumes.specs.Held.{book_of}
+use Rattle.std.specs.Prelude.{None}
+use Rattle.warc_journal.specs.Journals.{last_len}
+use Rattle.warc_journal.specs.declared.extent.Extent.{Extent}
+use Rattle.archive_opening.proofs.BeginLaws.{no_texts}
+use Rattle.archive_opening.proofs.EndLaws.{opened_empty, opened_told, other_isnt_known, some_volumes_told}
+use Rattle.archive_opening.proofs.OpenedLaws.{cause_other, opened_by}
+use Rattle.archive_opening.proofs.WholeLaws.{short_whole}
+use Rattle.archive_opening.specs.Gathering.{IsGathered}
+use Rattle.archive_opening.proofs.telling.finish.Goals as goal
+
+pub other_than-requires : goal.other_than-requires
+other_than-requires g c =
+    some_volumes_told g.D.Disk c.args.known.now.value c.args.scanning c.args.gathered c.requires.all c.requires.in_place c.finish-journal.result
+    c.finish-journal.ensures.disk c.finish-journal.ensures.extent (search rules)
+
+pub returns-in-None-clause-opened : goal.returns-in-None-clause-opened
+returns-in-None-clause-opened g c =
+    opened_told g.D.Disk c.args.known.now.value c.args.scanning c.args.gathered c.requires.all c.requires.in_place c.finish-journal.result
+    c.finish-journal.ensures.disk c.finish-journal.ensures.extent c.requires.steady (search rules) c.finish-journal.ensures.in_step c.finish-journal.ensures.held
+    c.files_stand_for_one_book.ensures.one c.files_stand_for_one_book.ensures.no_volume
+    (some_volumes_told g.D.Disk c.args.known.now.value c.args.scanning c.args.gathered c.requires.all c.requires.in_place c.finish-journal.result
+    c.finish-journal.ensures.disk c.finish-journal.ensures.extent (search rules)) c.args.asked.now c.in-None.ensures.none
+
+pub returns-in-Some-clause-cause : goal.returns-in-Some-clause-cause
+returns-in-Some-clause-cause g c = cause_other (book_of c.args.gathered.held) c.args.asked.now c.in-Some.fault c.in-Some.ensures.other
+
+pub returns-in-Some-clause-refused : goal.returns-in-Some-clause-refused
+returns-in-Some-clause-refused g c =
+    other_isnt_known g.D.Disk c.args.known.now.value c.args.scanning c.args.gathered c.requires.all c.requires.in_place c.finish-journal.result
+    c.finish-journal.ensures.disk c.finish-journal.ensures.extent c.files_stand_for_one_book.ensures.one c.files_stand_for_one_book.ensures.no_volume
+    (search rules) c.args.asked.now c.requires.asked_for c.in-Some.fault c.in-Some.ensures.other
+
+pub returns-then-volumes-eq0-clause-opened : goal.returns-then-volumes-eq0-clause-opened
+returns-then-volumes-eq0-clause-opened g c =
+    opened_empty g.D.Disk c.args.known.now.value c.args.scanning c.args.gathered c.requires.all c.requires.in_place c.finish-journal.result
+    c.finish-journal.ensures.disk c.finish-journal.ensures.extent c.in_namespace.result c.in_namespace.ensures.steady c.in_namespace.ensures.gathered
+    (omega (arith, c.if-volumes-eq0.true, c.volumes.ensures)) c.finish-journal.ensures.in_step c.finish-journal.ensures.held
+    c.files_stand_for_one_book.ensures.no_volume c.args.asked.now c.in_namespace.ensures.namespace
+
+pub returns-then-volumes-eq0-clause-whole : goal.returns-then-volumes-eq0-clause-whole
+returns-then-volumes-eq0-clause-whole g c = λ whole.
+    let all : List (List ℕ) = whole.follows.texts in
+    let none : 0 ≡ length all =
+    omega (arith, c.if-volumes-eq0.true, c.volumes.ensures, ap (λ (e : Extent). e.volumes) c.finish-journal.ensures.extent, whole.follows.volumes) in
+    opened_by g.D.Disk c.args.scanning c.args.gathered whole c.finish-journal.result c.finish-journal.ensures.disk c.finish-journal.ensures.extent
+    c.args.asked.now c.in_namespace.result (subst (IsGathered None c.in_namespace.result) (sym (no_texts all none)) (c.in_namespace.ensures.gathered None))
+    c.in_namespace.ensures.steady c.in_namespace.ensures.namespace c.finish-journal.ensures.in_step c.finish-journal.ensures.held
+
+pub returns-in-None-clause-whole : goal.returns-in-None-clause-whole
+returns-in-None-clause-whole g c = λ whole.
+    opened_by g.D.Disk c.args.scanning c.args.gathered whole c.finish-journal.result c.finish-journal.ensures.disk c.finish-journal.ensures.extent
+    c.args.asked.now c.args.gathered whole.follows.gathered c.requires.steady c.in-None.ensures.none c.finish-journal.ensures.in_step c.finish-journal.ensures.held
+
+pub returns-then-last_len-ge-TEXT_BOUND-clause-damage : goal.returns-then-last_len-ge-TEXT_BOUND-clause-damage
+returns-then-last_len-ge-TEXT_BOUND-clause-damage g c = λ whole.
+    let long : 2 ^ 62 ≤ last_len c.finish-journal.result = search rules in
+    absurd (omega (
+      arith,
+      long,
+      short_whole g.D.Disk c.args.scanning c.args.gathered whole c.finish-journal.result c.finish-journal.ensures.disk
+          c.finish-journal.ensures.extent,
+    ))

@@ -1,0 +1,84 @@
+use Rattle.std.proofs.Common.{rules, sym, subst}
+use Rattle.std.specs.Prelude.{IfErr, IfOk, IfSome, IsTrue, Option}
+use Rattle.capture.specs.declared.book.Book.{Book}
+use Rattle.disk_model.specs.Image.{Image}
+use Rattle.volume_scan.specs.Scannings.{disk_of}
+use Rattle.warc_journal.specs.Extents.{warc_files}
+use Rattle.archive_opening.specs.Opening.{IsDamageIn, IsOtherIn, IsReadRefusal}
+use Rattle.archive_opening.specs.Telling.{GoesWith, IsAskedFor, IsOpenedBy, ReadsWhole}
+use Rattle.archive_opening.proofs.EndLaws.{given_back_by, opened_by_on, other_in, synced_by}
+use Rattle.archive_opening.proofs.FirstLaws.{asked_first, goes_first, settled_first, whole_first}
+use Rattle.archive_opening.proofs.FollowingLaws.{rests_on}
+use Rattle.archive_opening.proofs.OpenedLaws.{damage_from, opened_from}
+use Rattle.archive_opening.proofs.telling.open_by_checkpoints.Goals as goal
+
+pub read_each-requires-clause-goes : goal.read_each-requires-clause-goes
+read_each-requires-clause-goes g c =
+    let d = g.D.Disk in
+    subst (λ (o : Option Book). GoesWith d o c.in-Ok.scanning c.in_namespace-gathered.result) (sym c.told_by-sure.ensures)
+    (goes_first d c.in-Ok.scanning c.in_namespace-gathered.result c.in-Ok.ensures.begins c.in_namespace-gathered.ensures.gathered _
+    (settled_first d c.args.disk c.in-Ok.scanning c.args.asked.now c.args.known.now.value c.in-Ok.ensures.rests c.requires.known))
+
+pub finish-requires-clause-asked_for : goal.finish-requires-clause-asked_for
+finish-requires-clause-asked_for g c =
+    subst (λ (o : Option Book). IfSome o (IsAskedFor c.args.asked.now)) (sym c.told_by-sure.ensures)
+    (asked_first g.D.Disk c.args.disk c.args.asked.now c.args.known.now.value c.requires.known)
+
+pub returns-in-Ok-read_each-clause-opened : goal.returns-in-Ok-read_each-clause-opened
+returns-in-Ok-read_each-clause-opened g c =
+    let d = g.D.Disk in
+    subst (λ (o : Option Book). IfOk c.finish.result (IsOpenedBy d c.args.disk c.args.asked.now o)) c.told_by-sure.ensures
+    (opened_by_on d c.args.disk (disk_of c.read_each.new.scanning) c.args.asked.now c.told_by-sure.result.value c.finish.result
+    (λ told. rests_on d c.args.disk (disk_of c.in-Ok.scanning) (disk_of c.read_each.new.scanning) (c.in-Ok.ensures.rests told) (c.read_each.ensures.rests told))
+    (search rules) c.finish.ensures.opened)
+
+pub returns-in-Ok-read_each-clause-whole : goal.returns-in-Ok-read_each-clause-whole
+returns-in-Ok-read_each-clause-whole g c = λ tells whole.
+    let d = g.D.Disk in
+    let reads : ReadsWhole d c.in-Ok.scanning c.in_namespace-gathered.result =
+    whole_first d c.in-Ok.scanning c.in_namespace-gathered.result c.in-Ok.ensures.begins c.in_namespace-gathered.ensures.gathered c.args.disk
+    c.in-Ok.ensures.rests tells whole in
+    opened_from d c.args.disk (disk_of c.read_each.new.scanning) c.args.asked.now c.finish.result
+    (λ told. rests_on d c.args.disk (disk_of c.in-Ok.scanning) (disk_of c.read_each.new.scanning) (c.in-Ok.ensures.rests told) (c.read_each.ensures.rests told))
+    (search rules) (c.finish.ensures.whole (c.in-Ok-read_each.ensures.whole reads))
+
+pub returns-clause-damage : goal.returns-clause-damage
+returns-clause-damage g c = λ tells whole.
+    let d = g.D.Disk in
+    let reads : ReadsWhole d c.in-Ok.scanning c.in_namespace-gathered.result =
+    whole_first d c.in-Ok.scanning c.in_namespace-gathered.result c.in-Ok.ensures.begins c.in_namespace-gathered.ensures.gathered c.args.disk
+    c.in-Ok.ensures.rests tells whole in
+    damage_from (warc_files (d.reading c.args.disk)) c.in-Err-read_each.fault
+    (subst (λ (i : Image). IsReadRefusal (warc_files i) c.in-Err-read_each.fault) (c.in-Ok.ensures.rests tells).read (c.in-Err-read_each.ensures.damage reads))
+
+pub returns-in-Ok-read_each-clause-synced : goal.returns-in-Ok-read_each-clause-synced
+returns-in-Ok-read_each-clause-synced g c =
+    synced_by g.D.Disk c.args.disk (disk_of c.in-Ok.scanning) (disk_of c.read_each.new.scanning) c.args.asked.now c.told_by-sure.result.value c.finish.result
+    c.in-Ok.ensures.synced c.read_each.ensures.rests c.finish.ensures.opened
+
+pub returns-in-Ok-read_each-clause-given_back : goal.returns-in-Ok-read_each-clause-given_back
+returns-in-Ok-read_each-clause-given_back g c =
+    given_back_by g.D.Disk c.args.disk (disk_of c.read_each.new.scanning) c.finish.result
+    (λ told. rests_on g.D.Disk c.args.disk (disk_of c.in-Ok.scanning) (disk_of c.read_each.new.scanning) (c.in-Ok.ensures.rests told) (c.read_each.ensures.rests told))
+    c.finish.ensures.given_back
+
+pub returns-in-Ok-read_each-clause-damage : goal.returns-in-Ok-read_each-clause-damage
+returns-in-Ok-read_each-clause-damage g c = λ tells whole.
+    let d = g.D.Disk in
+    let reads : ReadsWhole d c.in-Ok.scanning c.in_namespace-gathered.result =
+    whole_first d c.in-Ok.scanning c.in_namespace-gathered.result c.in-Ok.ensures.begins c.in_namespace-gathered.ensures.gathered c.args.disk
+    c.in-Ok.ensures.rests tells whole in
+    let rests = rests_on d c.args.disk (disk_of c.in-Ok.scanning) (disk_of c.read_each.new.scanning) (c.in-Ok.ensures.rests tells) (c.read_each.ensures.rests tells) in
+    subst (λ (i : Image). IfErr c.finish.result (λ refused. IsDamageIn (warc_files i) refused.0)) rests.read
+    (c.finish.ensures.damage (c.in-Ok-read_each.ensures.whole reads))
+
+pub returns-in-Ok-read_each-clause-other : goal.returns-in-Ok-read_each-clause-other
+returns-in-Ok-read_each-clause-other g c = λ tells whole.
+    let d = g.D.Disk in
+    let reads : ReadsWhole d c.in-Ok.scanning c.in_namespace-gathered.result =
+    whole_first d c.in-Ok.scanning c.in_namespace-gathered.result c.in-Ok.ensures.begins c.in_namespace-gathered.ensures.gathered c.args.disk
+    c.in-Ok.ensures.rests tells whole in
+    let rests = rests_on d c.args.disk (disk_of c.in-Ok.scanning) (disk_of c.read_each.new.scanning) (c.in-Ok.ensures.rests tells) (c.read_each.ensures.rests tells) in
+    other_in d (warc_files (d.reading c.args.disk)) c.args.asked.now c.finish.result tells
+    (subst (λ (i : Image). IfErr c.finish.result (λ refused. IsTrue d.tells → IsOtherIn (warc_files i) c.args.asked.now refused.0)) rests.read
+    (c.finish.ensures.other (c.in-Ok-read_each.ensures.whole reads)))

@@ -1,0 +1,33 @@
+use Rattle.std.proofs.Common.{true, subst, ◌∙◌}
+use Rattle.volume_scan.specs.Scannings.{disk_of}
+use Rattle.archive_opening.proofs.FollowingLaws.{rests_on}
+use Rattle.archive_opening.specs.Telling.{ReadsWholeOn, TellsOn}
+use Rattle.archive_opening.proofs.telling.read_each.Goals as goal
+
+pub steps-preserved : goal.steps-preserved
+steps-preserved g c =
+    let d = g.D.Disk in
+    let tells : TellsOn d c.args.known.now.value c.steps.scanning c.read_next.new.scanning c.read_next.new.gathered true =
+    subst (TellsOn d c.args.known.now.value c.steps.scanning c.read_next.new.scanning c.read_next.new.gathered) c.if-branch.true c.in_ok-read_next.ensures.tells in
+    record {
+      in_place = c.read_next.ensures.in_place;
+      steady = tells.1;
+      goes = tells.0;
+      whole = λ reads.
+          subst (ReadsWholeOn d c.read_next.new.scanning c.read_next.new.gathered) c.if-branch.true (c.in_ok-read_next.ensures.whole (c.steps.invariant.whole reads));
+      rests = λ told. rests_on d (disk_of c.args.scanning.now) (disk_of c.steps.scanning) (disk_of c.read_next.new.scanning) (c.steps.invariant.rests told)
+          (c.read_next.ensures.rests told);
+      faults = c.in_ok-read_next.ensures.still ∙ c.steps.invariant.faults;
+    }
+
+pub returns-in_err-read_next-clause-rests : goal.returns-in_err-read_next-clause-rests
+returns-in_err-read_next-clause-rests g c = λ told.
+    rests_on g.D.Disk (disk_of c.args.scanning.now) (disk_of c.steps.scanning) (disk_of c.read_next.new.scanning) (c.steps.invariant.rests told) (c.read_next.ensures.rests told)
+
+pub returns-clause-rests : goal.returns-clause-rests
+returns-clause-rests g c = λ told.
+    rests_on g.D.Disk (disk_of c.args.scanning.now) (disk_of c.steps.scanning) (disk_of c.read_next.new.scanning) (c.steps.invariant.rests told) (c.read_next.ensures.rests told)
+
+pub returns-clause-whole : goal.returns-clause-whole
+returns-clause-whole g c = λ reads.
+    subst (ReadsWholeOn g.D.Disk c.read_next.new.scanning c.read_next.new.gathered) c.if-branch.false (c.in_ok-read_next.ensures.whole (c.steps.invariant.whole reads))

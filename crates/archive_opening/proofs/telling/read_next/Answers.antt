@@ -1,0 +1,13 @@
+use Rattle.volume_scan.specs.Scannings.{disk_of}
+use Rattle.archive_opening.proofs.FollowingLaws.{rests_on}
+use Rattle.archive_opening.proofs.telling.read_next.Goals as goal
+
+pub returns-in-Ok-clause-rests : goal.returns-in-Ok-clause-rests
+returns-in-Ok-clause-rests g c = λ told.
+    rests_on g.D.Disk (disk_of c.args.scanning.now) (disk_of c.read_found.new.scanning) (disk_of c.tell_volume.new.scanning)
+    (c.read_found.ensures.rests told) (c.tell_volume.ensures.rests told)
+
+pub returns-in-Ok-End-clause-whole : goal.returns-in-Ok-End-clause-whole
+returns-in-Ok-End-clause-whole g c = λ reads.
+    let whole = rw c.in-Ok-End.field-0-is at c.in-Ok-End.ensures.whole in
+    whole reads
