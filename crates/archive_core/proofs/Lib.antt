@@ -14,10 +14,7 @@ pub mod KeepingLaws
 pub mod MatchLaws
 pub mod MissingLaws
 pub mod NamespaceLaws
-pub mod NextFronts
 pub mod NextLaws
-pub mod NextPiece
-pub mod NextSource
 pub mod PayloadLaws
 pub mod PieceLaws
 pub mod ReadLaws

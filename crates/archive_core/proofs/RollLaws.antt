@@ -1,5 +1,5 @@
 -- An archive that gained a volume, and one whose captures stay.
-use Rattle.std.proofs.Common.{◌≡◌, ℕ, zero, suc, ◌+◌, ◌<◌, Bool, true, false, not, nat_eq, if◌then◌else◌, IsTrue, List, [], ◌∷◌, ◌++◌, length, slice_get, Option, Some, None, Result, Ok, Err, refl, sym, ap, subst, ◌∙◌, append-nil, length-append, arith}
+use Rattle.std.proofs.Common.{◌≡◌, ℕ, ◌+◌, Bool, true, false, not, nat_eq, if◌then◌else◌, IsTrue, List, [], ◌∷◌, ◌++◌, length, Result, Ok, Err, refl, sym, ap, subst, ◌∙◌, append-nil, length-append, arith}
 use Rattle.std.specs.Prelude.{IsErrAnd, count_by, slice_index_or, ⊤}
 use Rattle.std.proofs.lemmas.List.{get_or_append_left}
 use Rattle.capture.specs.Captures.{captures}
@@ -45,25 +45,6 @@ rolled_one (last ∷ []) now filled = by (nat_eq (length last.captures) 0) fille
     by true e = cc
     by false e = refl
 rolled_one (first ∷ next ∷ others) now filled = ap (λ (l : List Volume). first ∷ l) (rolled_one (next ∷ others) now filled)
-
--- where the last volume holds a capture, and each before it, all do
-pub all_filled : (volumes : List Volume) → is_filled volumes ≡ true
-    → ((k : ℕ) (volume : Volume) → slice_get volumes k ≡ Some volume → k + 1 < length volumes → 0 < length volume.captures)
-    → (k : ℕ) (volume : Volume) → slice_get volumes k ≡ Some volume → 0 < length volume.captures
-all_filled [] filled before k volume at = cc
-all_filled (last ∷ []) filled before zero volume at = by (length last.captures) filled (ap size at)
-  where
-    size : Option Volume → ℕ
-    size (Some v) = length v.captures
-    size None = 0
-
-    by : (n : ℕ) → not (nat_eq n 0) ≡ true → n ≡ length volume.captures → 0 < length volume.captures
-    by zero e is = cc
-    by (suc n) e is = omega (arith, is)
-all_filled (last ∷ []) filled before (suc k) volume at = cc
-all_filled (first ∷ next ∷ others) filled before zero volume at = before zero volume at (omega arith)
-all_filled (first ∷ next ∷ others) filled before (suc k) volume at =
-    all_filled (next ∷ others) filled (λ j v there less. before (suc j) v there (omega (arith, less))) k volume at
 
 -- ---- the archive
 

@@ -5,7 +5,6 @@ pub mod Holdings
 pub mod Known
 pub mod Looking
 pub mod Matching
-pub mod NextPieces
 pub mod Reopening
 pub mod Rolling
 pub mod Settling

@@ -1,6 +1,5 @@
-//! What comparing promises to those who store later, where the pieces of a source lead, and what writing checkpoints keeps.
+//! What comparing promises to those who store later, and what writing checkpoints keeps.
 ghost use Rattle.archive_core.specs.Looking.{DigestsServe, FoundServesLater};
-ghost use Rattle.archive_core.specs.NextPieces.{NextPiecesLeadOn};
 ghost use Rattle.archive_core.specs.Settling.{KeepsSettled};
 
 use archive_shelf::looked_stays_right;
@@ -15,12 +14,6 @@ pub fn compared_payloads_serve_later()
     looked_stays_right();
     wires_have_one_payload();
 }
-
-/// The piece of a source's next capture leads from a book that the source has grown from to one that it has grown from too, with that capture
-/// more; where the ids differ, to no other one. So one who takes piece after piece has a beginning of the source's book after each.
-pub fn next_pieces_lead_on()
-    ensures { NextPiecesLeadOn }
-{}
 
 /// Writing the checkpoints that are missing makes none wrong, at whatever moment a crash stops it: where the finished checkpoints of an image were those
 /// of a book's sealed volumes, so are those of each image that goes with it.

@@ -17,6 +17,4 @@ mod storing;
 
 pub use archive::Archive;
 pub use comparing::payload_of_taken;
-pub use laws::{
-    compared_payloads_serve_later, next_pieces_lead_on, settling_keeps_checkpoints_right,
-};
+pub use laws::{compared_payloads_serve_later, settling_keeps_checkpoints_right};

@@ -8,7 +8,7 @@ use warc_text::{
 };
 
 /// The laws on which what is read goes on.
-pub(crate) fn reading_laws()
+pub fn reading_laws()
     ensures { Laws }
 {
     books_go_on_with_what_is_found();

@@ -12,5 +12,6 @@ mod starting;
 mod telling;
 
 pub use gathered::Gathered;
+pub use laws::reading_laws;
 pub use opening::{Opened, open_volumes};
 pub use telling::open_by_checkpoints;

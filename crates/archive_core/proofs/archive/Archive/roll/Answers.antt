@@ -18,6 +18,7 @@ use Rattle.archive_core.specs.Rolling.{Rolls}
 use Rattle.archive_core.specs.View.{holdings_of}
 use Rattle.archive_volumes.specs.Volumes.{HoldsBook, Makes, crash_of, muted}
 use Rattle.archive_shelf.proofs.GainingSoundness.{filled_count}
+use Rattle.archive_pieces.proofs.PieceRoom.{all_filled}
 use Rattle.archive_core.proofs.RollLaws as laws
 use Rattle.archive_core.proofs.archive.Archive.roll.Goals as goal
 
@@ -44,13 +45,13 @@ pub begin-requires-clause-filled : goal.begin-requires-clause-filled
 begin-requires-clause-filled g c =
     let filled = sym c.is_filled.ensures ∙ c.if-not-is_filled.false in
     subst (λ (book : Book). AreFilled book) (sym c.in_ok-prepared.ensures.book)
-    (laws.all_filled (book_of c.self.inside.volumes.held).volumes filled c.self.invariant.measured.filled)
+    (all_filled (book_of c.self.inside.volumes.held).volumes filled c.self.invariant.measured.filled)
 
 pub begin-requires-clause-number : goal.begin-requires-clause-number
 begin-requires-clause-number g c =
     let filled = sym c.is_filled.ensures ∙ c.if-not-is_filled.false in
     let few = filled_count (book_of c.self.inside.volumes.held).volumes
-    (laws.all_filled (book_of c.self.inside.volumes.held).volumes filled c.self.invariant.measured.filled) in
+    (all_filled (book_of c.self.inside.volumes.held).volumes filled c.self.invariant.measured.filled) in
     omega (arith, ap (λ (j : Journal _). volumes j) c.in_ok-prepared.ensures.journal, c.self.invariant.measured.count, few, c.self.invariant.counted.few)
 
 pub invariant_of-self-in_err-begin : goal.invariant_of-self-in_err-begin

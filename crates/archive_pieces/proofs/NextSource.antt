@@ -32,9 +32,9 @@ use Rattle.archive_shelf.proofs.EntryLaws.{first_stays}
 use Rattle.archive_shelf.proofs.ShortTexts.{located}
 use Rattle.archive_shelf.proofs.StoringLaws.{capture_grows, captures_more, captures_stay, volume_grows}
 use Rattle.archive_volumes.specs.Held.{is_filled}
-use Rattle.archive_core.specs.NextPieces.{IsFrontBy, IsOfEmpty, LeadsOn, MayBegin, NextPiecesLeadOn, Takes}
-use Rattle.archive_core.proofs.NextFronts.{front_by, group_is_short}
-use Rattle.archive_core.proofs.NextPiece.{FilledIn, GrowIn, empty_is_unfilled, IsNext, filled_in, grow_in, is_filled_by, next_of}
+use Rattle.archive_pieces.specs.NextPieces.{IsFrontBy, IsOfEmpty, LeadsOn, MayBegin, NextPiecesLeadOn, Takes}
+use Rattle.archive_pieces.proofs.NextFronts.{front_by, group_is_short}
+use Rattle.archive_pieces.proofs.NextPiece.{FilledIn, GrowIn, empty_is_unfilled, IsNext, filled_in, grow_in, is_filled_by, next_of}
 
 -- ---- the source's next capture
 

@@ -17,8 +17,8 @@ use Rattle.archive_shelf.specs.Storing.{add_to_last, new_volume}
 use Rattle.archive_shelf.proofs.ShortTexts.{located}
 use Rattle.archive_shelf.proofs.StoringLaws.{captures_stay}
 use Rattle.archive_volumes.specs.Held.{is_filled}
-use Rattle.archive_core.specs.NextPieces.{IsFrontBy, MayBegin, Takes}
-use Rattle.archive_core.proofs.NextPiece.{IsNext}
+use Rattle.archive_pieces.specs.NextPieces.{IsFrontBy, MayBegin, Takes}
+use Rattle.archive_pieces.proofs.NextPiece.{IsNext}
 
 same_some : {A : Type 0} (x y : A) → Some x ≡ Some y → x ≡ y
 same_some x y e = cc

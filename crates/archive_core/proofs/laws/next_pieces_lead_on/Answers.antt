@@ -1,5 +1,0 @@
-use Rattle.archive_core.proofs.NextSource.{next_pieces}
-use Rattle.archive_core.proofs.laws.next_pieces_lead_on.Goals as goal
-
-pub returns : goal.returns
-returns c = next_pieces

@@ -1,0 +1,9 @@
+pub mod NextFronts
+pub mod NextParts
+pub mod NextPiece
+pub mod NextSource
+pub mod PieceByBook
+pub mod PieceOriginalLaws
+pub mod PieceReading
+pub mod PieceRoom
+pub mod PieceTakingLaws

@@ -1,0 +1,64 @@
+use Rattle.std.proofs.Common.{Bool, false, true, Ok, ap, arith, get_or, length, subst, ◌∙◌}
+use Rattle.std.proofs.lemmas.Option.{slice_get_within}
+use Rattle.capture.specs.Captures.{captures}
+use Rattle.capture.specs.declared.book.Book.{Book}
+use Rattle.archive_volumes.proofs.BringLaws.{reads_then}
+use Rattle.archive_volumes.specs.Held.{book_of}
+use Rattle.archive_opening.specs.Revisits.{IsOriginalOf}
+use Rattle.archive_pieces.specs.PieceOriginals.{AsksOriginal}
+use Rattle.archive_pieces.proofs.PieceOriginalLaws.{fault_exit, found_by, none_more}
+use Rattle.archive_pieces.proofs.original.first_original.Goals as goal
+
+pub is_original-requires-clause-digest : goal.is_original-requires-clause-digest
+is_original-requires-clause-digest g c spot at =
+    c.requires.digest c.loop-candidate.candidate-index spot c.loop-candidate-test.true at
+
+pub returns-in_err-is-clause-chooses : goal.returns-in_err-is-clause-chooses
+returns-in_err-is-clause-chooses g c =
+    let k = c.loop-candidate.candidate-index in
+    let book = book_of c.args.volumes.now.held in
+    let number = get_or c.args.candidates.now k 0 in
+    let whole = c.requires.whole k c.loop-candidate-test.true in
+    fault_exit c.args.told.now.value book (book_of c.loop-candidate.volumes.held) c.args.group.now c.args.candidates.now number
+    (ap book_of c.loop-candidate.invariant.reads.held)
+    (omega (arith, slice_get_within c.args.spots.now number whole.spot whole.placed, c.requires.spots.count))
+    c.in_err-is.field-0.0 c.from_residual.result c.from_residual.ensures.1 c.in_err-is.ensures.asks
+
+pub returns-in_err-is-clause-reads : goal.returns-in_err-is-clause-reads
+returns-in_err-is-clause-reads g c =
+    reads_then g.D.Disk c.args.volumes.now c.loop-candidate.volumes c.is_original.new.volumes c.loop-candidate.invariant.reads c.is_original.ensures.reads
+
+pub returns-then-is-clause-chooses : goal.returns-then-is-clause-chooses
+returns-then-is-clause-chooses g c =
+    let k = c.loop-candidate.candidate-index in
+    let number = get_or c.args.candidates.now k 0 in
+    let told = c.args.told.now.value in
+    found_by told (book_of c.args.volumes.now.held) c.args.spots.now c.args.group.now number c.requires.spots c.requires.made
+    (c.requires.whole k c.loop-candidate-test.true)
+    (subst (λ (b : Book). AsksOriginal told b c.args.group.now number (Ok true)) (ap book_of c.loop-candidate.invariant.reads.held)
+    (subst (λ (b : Bool). AsksOriginal told (book_of c.loop-candidate.volumes.held) c.args.group.now number (Ok b)) c.if-is.true c.in_ok-is.ensures.asks))
+
+pub returns-then-is-clause-reads : goal.returns-then-is-clause-reads
+returns-then-is-clause-reads g c =
+    reads_then g.D.Disk c.args.volumes.now c.loop-candidate.volumes c.is_original.new.volumes c.loop-candidate.invariant.reads c.is_original.ensures.reads
+
+pub loop-candidate-preserved : goal.loop-candidate-preserved
+loop-candidate-preserved g c =
+    let reads = c.loop-candidate.invariant.reads in
+    let k = c.loop-candidate.candidate-index in
+    let book = book_of c.args.volumes.now.held in
+    let mid = book_of c.loop-candidate.volumes.held in
+    let number = get_or c.args.candidates.now k 0 in
+    let told = c.args.told.now.value in
+    record {
+      reads = reads_then g.D.Disk c.args.volumes.now c.loop-candidate.volumes c.is_original.new.volumes reads c.is_original.ensures.reads;
+      faults = c.in_ok-is.ensures.faults ∙ c.loop-candidate.invariant.faults;
+      none = λ so.
+          let asks : AsksOriginal told mid c.args.group.now number (Ok false)
+          = subst (λ (b : Bool). AsksOriginal told mid c.args.group.now number (Ok b)) c.if-is.false c.in_ok-is.ensures.asks in
+          none_more book c.args.group.now c.args.candidates.now k (c.loop-candidate.invariant.none so)
+          (subst (λ (b : Book). IsOriginalOf b (length (captures b)) c.args.group.now number → ⊥) (ap book_of reads.held) (asks so));
+    }
+
+pub returns-clause-chooses : goal.returns-clause-chooses
+returns-clause-chooses g c told k less = c.loop-candidate.invariant.none told k (omega (arith, less, c.loop-candidate-test.false))

@@ -1,0 +1,28 @@
+use Rattle.std.proofs.Common.{Ok, Some, ap, subst, sym, ◌∙◌}
+use Rattle.std.proofs.lemmas.Option.{slice_get-get_or}
+use Rattle.warc_journal.specs.Journals.{texts}
+use Rattle.archive_volumes.specs.Held.{book_of}
+use Rattle.archive_volumes.specs.declared.spot.Spot.{Spot}
+use Rattle.archive_pieces.specs.PieceOriginals.{AsksLength}
+use Rattle.archive_pieces.proofs.PieceOriginalLaws.{answers_by, original_named}
+use Rattle.archive_pieces.proofs.original.is_original.Goals as goal
+
+pub returns-then-not-is_named-clause-asks : goal.returns-then-not-is_named-clause-asks
+returns-then-not-is_named-clause-asks g c told of =
+    let spot = c.index-spots-number.result in
+    let at = slice_get-get_or c.args.spots.now c.args.number spot c.requires.below ∙ ap (λ (s : Spot). Some s) (sym c.index-spots-number.is) in
+    c.is_named.ensures.missed c.if-not-is_named.true
+    (original_named (book_of c.args.volumes.now.held) c.requires.group.text c.args.group.now c.requires.group.is c.args.same.now c.requires.same c.args.number
+    c.args.spots.now spot at c.requires.spots of)
+
+pub returns-in_ok-does-in-Some-clause-asks : goal.returns-in_ok-does-in-Some-clause-asks
+returns-in_ok-does-in-Some-clause-asks g c =
+    let book = book_of c.args.volumes.now.held in
+    let told = c.args.told.now.value in
+    let spot = c.index-spots-number.result in
+    let at = slice_get-get_or c.args.spots.now c.args.number spot c.requires.below ∙ ap (λ (s : Spot). Some s) (sym c.index-spots-number.is) in
+    answers_by book c.requires.group.text c.args.group.now c.requires.group.is c.args.same.now c.requires.same c.args.number
+    c.args.spots.now spot at c.requires.spots told (texts g.D.Disk c.args.volumes.now.journal) (λ so. (c.requires.placed so).each c.args.number spot at)
+    (c.requires.digest spot at) (c.is_named.ensures.met c.if-not-is_named.false) c.in-Some.len
+    (subst (λ found. AsksLength told book c.args.number (Ok found)) c.in-Some.is c.in_ok-len.ensures.asks)
+    c.in_ok-does-in-Some.does c.in_ok-does-in-Some.ensures

@@ -1,0 +1,5 @@
+pub mod NextPieces
+pub mod PieceFaults
+pub mod PieceOriginals
+pub mod PieceParts
+pub mod PieceReady
