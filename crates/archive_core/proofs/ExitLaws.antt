@@ -219,7 +219,7 @@ under_way {D} d basis seen was old now incoming ready seen_is old_journal old_bo
     (subst (λ (held : Holdings D). RefersTo (contents_of held) incoming.taken incoming.same) (sym seen_is) refers)
 
 -- the texts of the volumes with room
-texts_by : {D : Type 0} (now : Volumes D) (all : List (List ℕ)) (prepared : Option Prepared) → VolumesAddTheirText
+pub texts_by : {D : Type 0} (now : Volumes D) (all : List (List ℕ)) (prepared : Option Prepared) → VolumesAddTheirText
     → AreVolumeTexts (book_of now.held) all → HasRoomFor now prepared → AreVolumeTexts (with_prepared (book_of now.held) prepared) (texts_with all prepared)
 texts_by now all None add are room = are
 texts_by now all (Some p) add are room =
@@ -258,7 +258,7 @@ roomy_by book None date some born = inl (no_volumes book.volumes some, refl)
 roomy_by book (Some p) date some born = inr (ap (with_volume book) born)
 
 -- its own number is added to those that its stores gave
-mine_more : (found n m k : ℕ) → found ≤ n → m ≡ n + 1 → k ≡ n → numbers_from found (m - found) ≡ numbers_from found (n - found) ++ k ∷ []
+pub mine_more : (found n m k : ℕ) → found ≤ n → m ≡ n + 1 → k ≡ n → numbers_from found (m - found) ≡ numbers_from found (n - found) ++ k ∷ []
 mine_more found n m k le more is =
     let long : m - found ≡ suc (n - found) = omega (arith, le, more) in
     let last : found + (n - found) ≡ k = omega (arith, le, is) in
@@ -275,13 +275,13 @@ left_by d limit book taken (Some p) with_it now born takes is = inr (record {
 })
 
 -- the entry is taken back
-back_by : (n : ℕ) (entry : Option Facts) (index : List Facts) → IfSome entry (λ (e : Facts). e.number ≡ n)
+pub back_by : (n : ℕ) (entry : Option Facts) (index : List Facts) → IfSome entry (λ (e : Facts). e.number ≡ n)
     → ((f : Facts) → Among index f → f.number < n) → without n (entered entry index) ≡ index
 back_by n None index is below = without-absent n index (λ f among e. omega (arith, below f among, e))
 back_by n (Some entry) index is below = taken_out n entry index is below
 
 -- what an entry adds to those that are shown
-shown_by : (n : ℕ) (entry : Option Facts) (index : List Facts) → IfSome entry (λ (e : Facts). e.number ≡ n)
+pub shown_by : (n : ℕ) (entry : Option Facts) (index : List Facts) → IfSome entry (λ (e : Facts). e.number ≡ n)
     → ((f : Facts) → Among index f → f.number < n)
     → (numbered (entered entry index) ≡ numbered index) ⊎ ((e : Facts) × (e.number ≡ n) × (numbered (entered entry index) ≡ numbered index ++ e ∷ []))
 shown_by n None index is below = inl refl
@@ -289,7 +289,7 @@ shown_by n (Some e) index is below =
     inr (e, is, numbered_with e index (λ f among. omega (arith, below f among, is)))
 
 -- and to the index
-entered_by : (n : ℕ) (entry : Option Facts) (index : List Facts) → IfSome entry (λ (e : Facts). e.number ≡ n)
+pub entered_by : (n : ℕ) (entry : Option Facts) (index : List Facts) → IfSome entry (λ (e : Facts). e.number ≡ n)
     → (entered entry index ≡ index) ⊎ ((e : Facts) × (e.number ≡ n) × (entered entry index ≡ with_entry e index))
 entered_by n None index is = inl refl
 entered_by n (Some e) index is = inr (e, is, refl)

@@ -16,7 +16,11 @@ pub mod MissingLaws
 pub mod NamespaceLaws
 pub mod NextLaws
 pub mod PayloadLaws
+pub mod PieceExitLaws
 pub mod PieceLaws
+pub mod PieceLeadLaws
+pub mod PieceReadyLaws
+pub mod PieceTakenLaws
 pub mod ReadLaws
 pub mod ReadyLaws
 pub mod ReopenLaws

@@ -10,6 +10,7 @@ pub mod Rolling
 pub mod Settling
 pub mod Shown
 pub mod Stores
+pub mod TakingPieces
 pub mod Told
 pub mod View
 pub mod steps

@@ -14,7 +14,10 @@ mod rolling;
 mod settling;
 mod shelf;
 mod storing;
+mod take_piece;
 
 pub use archive::Archive;
 pub use comparing::payload_of_taken;
-pub use laws::{compared_payloads_serve_later, settling_keeps_checkpoints_right};
+pub use laws::{
+    compared_payloads_serve_later, settling_keeps_checkpoints_right, taken_pieces_lead_on,
+};

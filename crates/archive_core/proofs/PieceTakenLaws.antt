@@ -1,0 +1,334 @@
+-- How the taking of a piece ends: it is full, it is no piece, a fault was met, or it was taken.
+use Rattle.std.proofs.Common.{◌≡◌, ℕ, ◌+◌, ◌-◌, ◌<◌, Bool, true, IsTrue, List, [], ◌∷◌, ◌++◌, length, get_or, Option, Result, Ok, Err, refl, sym, ap, subst, ◌∙◌, inl, inr, ⊎_elim, arith}
+use Rattle.std.specs.Prelude.{IsErrAnd, OnErr, drop, ⊤}
+use Rattle.capture.specs.Captures.{captures}
+use Rattle.capture.specs.declared.book.Book.{Book}
+use Rattle.disk_model.specs.Image.{Image}
+use Rattle.disk_model.specs.declared.disk.Disk.{Ghosts}
+use Rattle.warc_journal.specs.Extents.{cdxj_files}
+use Rattle.warc_journal.specs.Journals.{IsInStep, disk_of, last_len, texts}
+use Rattle.warc_journal.specs.declared.journal.Journal.{Journal}
+use Rattle.warc_text.specs.Books.{IsGroupText}
+use Rattle.warc_text.specs.Sound.{IsSound}
+use Rattle.warc_scan.specs.Groups.{IsGroup}
+use Rattle.warc_scan.specs.declared.group.Group.{Group}
+use Rattle.archive_shelf.proofs.CallLaws.{keeps_behind, no_more}
+use Rattle.archive_shelf.specs.Answers.{CountsIf, IsDamaged, IsNotFull}
+use Rattle.archive_shelf.specs.Openings.{IsEarlier, LeavesNoMore}
+use Rattle.archive_opening.specs.Revisits.{RefersToNone}
+use Rattle.archive_shelf.specs.Pieces.{IsSomePiece}
+use Rattle.archive_shelf.specs.Told.{WritesNothing}
+use Rattle.archive_shelf.specs.declared.fault.StoreFault.{StoreFault}
+use Rattle.archive_shelf.specs.declared.fault.StoreFault.TheVariants as stores
+use Rattle.archive_volumes.proofs.ChangeLaws.{DiskLaws, laws_muted}
+use Rattle.archive_volumes.proofs.RoomLaws.{last_long, texts_count}
+use Rattle.archive_volumes.proofs.StoreLaws.{opens_earlier, quiet_itself}
+use Rattle.archive_volumes.specs.Volumes.{crash_of, muted}
+use Rattle.archive_volumes.specs.Writing.{Writes}
+use Rattle.archive_core.specs.Basis.{StoringBasis}
+use Rattle.archive_core.specs.Holdings.{Holdings, IsArchive, contents_of}
+use Rattle.archive_core.specs.Looking.{OnlyLooks}
+use Rattle.archive_pieces.specs.NextPieces.{Takes}
+use Rattle.archive_pieces.specs.PieceFaults.{is_take_fault, store_fault_as}
+use Rattle.archive_pieces.specs.PieceOriginals.{FindsOriginal}
+use Rattle.archive_pieces.specs.PieceParts.{HasNoParts, IsNoPiece, IsReadAs, book_by, room_by}
+use Rattle.archive_pieces.specs.PieceReady.{IsPastBounds, IsWithinBounds, MayHold, RefersSo, end_by, end_in}
+use Rattle.archive_core.specs.Stores.{Admits}
+use Rattle.archive_core.specs.TakingPieces.{HasPut, IsUnput, IsUntouched, PieceLeaves, Puts, Remains, TakesPiece, disk_failed, took}
+use Rattle.archive_core.specs.Told.{told_of, told_on}
+use Rattle.archive_pieces.specs.declared.fault.PieceFault.{PieceFault}
+use Rattle.archive_pieces.specs.declared.fault.PieceFault.TheVariants as pieces
+use Rattle.archive_pieces.proofs.NextParts.{no_piece}
+use Rattle.archive_pieces.proofs.PieceTakingLaws.{lost_is_none, may_hold, past_is_none, same_end, some_piece, takes_by}
+
+abbrev failed : PieceFault → Result ℕ PieceFault
+failed fault = Err fault
+
+-- ---- nothing was asked of the disk
+
+pub looks_itself : {D : Type 0} (d : Ghosts D) → DiskLaws d → (was : Holdings D) → OnlyLooks d was was
+looks_itself d laws was = record {
+  others = refl;
+  ends = refl;
+  reading = λ tells. refl;
+  unwritten = record {
+    reading = λ alone told. refl;
+    crash = quiet_itself (muted was.told d) (laws_muted d was.told laws) (disk_of was.journal);
+  };
+}
+
+pub remains_by : {D : Type 0} (d : Ghosts D) (was mid : Holdings D) → OnlyLooks d was mid → Remains d was mid
+remains_by {D} d was mid looks = record {
+  contents = ap (λ (h : Holdings D). contents_of h) looks.others;
+  ends = looks.ends;
+  reading = looks.reading;
+  unwritten = looks.unwritten;
+}
+
+pub none_taken : {D : Type 0} (d : Ghosts D) → DiskLaws d → (was : Holdings D) (bytes : List ℕ) → IsNotFull (contents_of was) was.book
+    → (IsTrue was.told → IsNoPiece was.book bytes) → TakesPiece d was was bytes (failed pieces.NotAPiece)
+none_taken d laws was bytes not_full none = record { leaves = (not_full, looks_itself d laws was, none); faults = refl }
+
+pub no_parts : {D : Type 0} (d : Ghosts D) → DiskLaws d → (was : Holdings D) (bytes : List ℕ) → IsNotFull (contents_of was) was.book
+    → (IsTrue was.told → HasNoParts was.book bytes) → TakesPiece d was was bytes (failed pieces.NotAPiece)
+no_parts d laws was bytes not_full none = none_taken d laws was bytes not_full (λ told. no_piece was.book bytes (none told))
+
+-- what a `?` hands out is want of memory
+pub memory_exit : {D : Type 0} (d : Ghosts D) → DiskLaws d → (was : Holdings D) (bytes : List ℕ) (result : Result ℕ PieceFault)
+    → IsErrAnd result (λ fault. fault ≡ pieces.Memory) → TakesPiece d was was bytes result
+memory_exit d laws was bytes (Ok number) fault = absurd fault
+memory_exit d laws was bytes (Err other) fault =
+    subst (λ (f : PieceFault). TakesPiece d was was bytes (failed f)) (sym fault)
+    (record { leaves = remains_by d was was (looks_itself d laws was); faults = refl })
+
+-- it passes a bound
+pub past_exit : {D : Type 0} (d : Ghosts D) → DiskLaws d → StoringBasis → (was : Holdings D) → IsArchive d was → (bytes : List ℕ) (begins : Option ℕ) (at : ℕ)
+    (group : Group) → IsReadAs was.book bytes begins at group → IsNotFull (contents_of was) was.book
+    → IsPastBounds group (end_by begins at (last_len was.journal)) → TakesPiece d was was bytes (failed pieces.NotAPiece)
+past_exit {D} d laws basis was is bytes begins at group read not_full past =
+    none_taken d laws was bytes not_full (λ told.
+    let step : IsInStep d was.journal = is.holds.in_step (is.holds.tells told) in
+    let may : MayHold was.book begins = may_hold was.book read.front begins read.is_front in
+    past_is_none was.book (is.holds.sound told).namespace_is bytes begins at group read basis.volumes basis.groups (texts d was.journal)
+    (is.holds.texts_are told) (last_len was.journal)
+    (λ none.
+    let some : 0 < length was.book.volumes = subst (λ (b : Option ℕ). MayHold was.book b) none may in
+    ap (λ (n : ℕ). length (get_or (texts d was.journal) (n - 1) [])) (texts_count d was.journal step)
+    ∙ last_long d was.journal step (omega (arith, some, is.measured.count)))
+    past)
+
+-- ---- a call that writes behind one that looks
+
+on_err : {T E : Type 0} {A B : Type 0} (result : Result T E) → (A → B) → OnErr result A → OnErr result B
+on_err (Ok value) go on = tt
+on_err (Err error) go on = go on
+
+module _ {D : Type 0} (d : Ghosts D) (laws : DiskLaws d) (was mid is : Holdings D) (looks : OnlyLooks d was mid) where
+  told_mid : mid.told ≡ was.told
+  told_mid = ap (λ (h : Holdings D). h.told) looks.others
+
+  quiet : LeavesNoMore (crash_of (muted was.told d) (disk_of was.journal)) (crash_of (muted was.told d) (disk_of mid.journal))
+  quiet =
+      subst (λ (told : Bool). LeavesNoMore (crash_of (muted was.told d) (disk_of was.journal)) (crash_of (muted told d) (disk_of mid.journal)))
+      told_mid looks.unwritten.crash
+
+  earlier_mid : IsEarlier (crash_of (muted was.told d) (disk_of mid.journal))
+  earlier_mid = opens_earlier (muted was.told d) (laws_muted d was.told laws) (disk_of mid.journal)
+
+  writes_on : (room after now : Book) (result : Result ℕ PieceFault)
+      → Writes (muted was.told d) (disk_of mid.journal) (disk_of is.journal) was.book room after now result
+      → Writes (muted was.told d) (disk_of was.journal) (disk_of is.journal) was.book room after now result
+  writes_on room after now result w = record {
+    later = omega (arith, quiet.later, w.later);
+    moves = λ ids t x le o. ⊎_elim
+        (λ then. inl (no_more (quiet.moves t x le then)))
+        (λ on. inr on)
+        (w.moves ids t x (omega (arith, le, quiet.later)) o);
+    only = w.only;
+    refused = λ ids. on_err result
+        (λ by. ⊎_elim
+        (λ kept. inl (
+          kept.0,
+          keeps_behind (crash_of (muted was.told d) (disk_of was.journal)) (crash_of (muted was.told d) (disk_of mid.journal))
+              (crash_of (muted was.told d) (disk_of is.journal)) was.book earlier_mid quiet kept.1,
+        ))
+        (λ state. inr state)
+        by)
+        (w.refused ids);
+    covered = λ t le all. w.covered t (omega (arith, le, quiet.later)) (quiet.covered t le all);
+    kept = λ files has. quiet.kept files (w.kept files has);
+    just = w.just;
+  }
+
+  module _ (text : List ℕ) (group : Group) (first begins : Option ℕ) where
+    pub put_on : (number : ℕ) → HasPut d mid is text group first begins number → HasPut d was is text group first begins number
+    put_on number given =
+        let put : HasPut d (record was { journal = mid.journal }) is text group first begins number
+        = subst (λ (h : Holdings D). HasPut d h is text group first begins number) looks.others given in
+        record {
+          number_is = put.number_is;
+          book = put.book;
+          group_is = put.group_is;
+          sound = put.sound;
+          shown = put.shown;
+          others = put.others;
+          ends = subst (λ (n : ℕ). last_len is.journal ≡ end_in was.book n begins + length text) looks.ends put.ends;
+          writes = writes_on (room_by was.book begins) is.book is.book (took number) put.writes;
+          checkpoints = λ tells. put.checkpoints tells ∙ ap (λ (image : Image). cdxj_files image) (looks.reading tells);
+        }
+
+    pub unput_on : IsUnput d mid is text group first begins → IsUnput d was is text group first begins
+    unput_on given =
+        let put : IsUnput d (record was { journal = mid.journal }) is text group first begins
+        = subst (λ (h : Holdings D). IsUnput d h is text group first begins) looks.others given in
+        record {
+          left = put.left;
+          group_is = put.group_is;
+          sound = put.sound;
+          others = put.others;
+          writes = writes_on (room_by was.book begins) (book_by was.book begins group first) is.book disk_failed put.writes;
+          checkpoints = λ tells. put.checkpoints tells ∙ ap (λ (image : Image). cdxj_files image) (looks.reading tells);
+        }
+
+-- ---- once the disk was read
+
+module _ {D : Type 0} (d : Ghosts D) (was mid : Holdings D) (looks : OnlyLooks d was mid) where
+  pub same_book : mid.book ≡ was.book
+  same_book = ap (λ (h : Holdings D). h.book) looks.others
+
+  same_told : mid.told ≡ was.told
+  same_told = ap (λ (h : Holdings D). h.told) looks.others
+
+  pub not_full_on : IsNotFull (contents_of was) was.book → IsNotFull (contents_of mid) mid.book
+  not_full_on not_full = subst (λ (h : Holdings D). IsNotFull (contents_of h) h.book) (sym looks.others) not_full
+
+  module _ (bytes : List ℕ) (begins : Option ℕ) (at : ℕ) (group : Group) (read : IsReadAs was.book bytes begins at group)
+      (not_full : IsNotFull (contents_of was) was.book) where
+    -- ---- a fault was met, or it refers to no capture
+
+    met : (sound : IsTrue was.told → IsSound was.book) (fault : PieceFault) → FindsOriginal mid.told mid.book group (Err fault)
+        → CountsIf (is_take_fault (failed fault)) (d.faults (disk_of was.journal)) (d.faults (disk_of mid.journal))
+        → TakesPiece d was mid bytes (failed fault)
+    met sound (pieces.Full count limit) finds counts = absurd finds
+    met sound pieces.NotAPiece finds counts = record {
+      leaves = (
+        not_full,
+        looks,
+        λ told. lost_is_none was.book (sound told).namespace_is bytes begins at group read
+            (subst (λ (b : Book). RefersToNone b group) same_book (finds (subst (λ (b : Bool). IsTrue b) (sym same_told) told))),
+      );
+      faults = counts;
+    }
+    met sound pieces.DiskFault finds counts = record { leaves = (not_full, inl looks); faults = counts }
+    met sound (pieces.Damaged number kept found) finds counts = record {
+      leaves = (
+        not_full,
+        looks,
+        subst (λ (b : Book). number < length (captures b)) same_book finds.0,
+        subst (λ (b : Bool). IsDamaged b kept found) same_told finds.1,
+      );
+      faults = counts;
+    }
+    met sound pieces.Memory finds counts = record { leaves = remains_by d was mid looks; faults = counts }
+
+    fault_of : (fault : PieceFault) → is_take_fault {T = Option ℕ} (Err fault) ≡ is_take_fault (failed fault)
+    fault_of (pieces.Full count limit) = refl
+    fault_of pieces.NotAPiece = refl
+    fault_of pieces.DiskFault = refl
+    fault_of (pieces.Damaged number kept found) = refl
+    fault_of pieces.Memory = refl
+
+    pub fault_exit : (IsTrue was.told → IsSound was.book) → (fault : PieceFault) (answer : Result ℕ PieceFault) → IsErrAnd answer (λ other. other ≡ fault)
+        → FindsOriginal mid.told mid.book group (Err fault)
+        → CountsIf (is_take_fault {T = Option ℕ} (Err fault)) (d.faults (disk_of was.journal)) (d.faults (disk_of mid.journal))
+        → TakesPiece d was mid bytes answer
+    fault_exit sound fault (Ok number) is finds counts = absurd is
+    fault_exit sound fault (Err other) is finds counts =
+        subst (λ (f : PieceFault). TakesPiece d was mid bytes (failed f)) (sym is)
+        (met sound fault finds
+        (subst (λ (b : Bool). CountsIf b (d.faults (disk_of was.journal)) (d.faults (disk_of mid.journal))) (fault_of fault) counts))
+
+    -- ---- what is put
+
+    dropped : (xs ys : List ℕ) → drop (length xs) (xs ++ ys) ≡ ys
+    dropped [] ys = refl
+    dropped (x ∷ xs) ys = dropped xs ys
+
+    pub text_same : (text : List ℕ) → text ≡ drop at bytes → text ≡ read.text
+    text_same text cut = cut ∙ (λ i. drop (read.at_is i) (read.composed i)) ∙ dropped read.front read.text
+
+    pub group_on : (text : List ℕ) → text ≡ drop at bytes → IsGroup mid.book.namespace (length (captures mid.book)) text group
+    group_on text cut =
+        subst (λ (b : Book). IsGroup b.namespace (length (captures b)) text group) (sym same_book)
+        (subst (λ (l : List ℕ). IsGroup was.book.namespace (length (captures was.book)) l group) (sym (text_same text cut)) read.is)
+
+    pub may_on : MayHold mid.book begins
+    may_on = subst (λ (b : Book). MayHold b begins) (sym same_book) (may_hold was.book read.front begins read.is_front)
+
+    pub bounds_on : IsWithinBounds group (end_by begins at (last_len was.journal)) → IsWithinBounds group (end_in mid.book (last_len mid.journal) begins)
+    bounds_on within =
+        subst (λ (b : Book). IsWithinBounds group (end_in b (last_len mid.journal) begins)) (sym same_book)
+        (subst (λ (n : ℕ). IsWithinBounds group (end_in was.book n begins)) (sym looks.ends)
+        (subst (λ (n : ℕ). IsWithinBounds group n) (same_end was.book read.front begins at (last_len was.journal) read.is_front read.at_is) within))
+
+    module _ (laws : DiskLaws d) (is : Holdings D) (first : Option ℕ) (finds : RefersSo mid.told mid.book group first) (text : List ℕ) (text_is : text ≡ read.text) where
+      refers : RefersSo was.told was.book group first
+      refers = subst (λ (h : Holdings D). RefersSo h.told h.book group first) looks.others finds
+
+      takes_so : IsTrue was.told → (IsTrue mid.told → IsSound (book_by mid.book begins group first))
+          → (IsTrue mid.told → IsGroupText (book_by mid.book begins group first) (length (captures mid.book)) text)
+          → Takes was.book bytes (book_by was.book begins group first)
+      takes_so told sound group_is =
+          let told_mid : IsTrue mid.told = subst (λ (b : Bool). IsTrue b) (sym same_told) told in
+          takes_by was.book bytes begins at group read first
+          (subst (λ (b : Book). IsSound (book_by b begins group first)) same_book (sound told_mid))
+          (subst (λ (l : List ℕ). IsGroupText (book_by was.book begins group first) (length (captures was.book)) l) text_is
+          (subst (λ (b : Book). IsGroupText (book_by b begins group first) (length (captures b)) text) same_book (group_is told_mid)))
+
+      -- all is as it was
+      untouched_remains : IsUntouched mid is → Remains d was is
+      untouched_remains same =
+          let told_same : told_of d mid ≡ told_of d is = λ i. told_on d (disk_of (sym same.journal i)) (sym same.contents i) in
+          record {
+            contents = same.contents ∙ ap (λ (h : Holdings D). contents_of h) looks.others;
+            ends = ap (λ (j : Journal D). last_len j) same.journal ∙ looks.ends;
+            reading = λ tells. ap (λ (j : Journal D). d.reading (disk_of j)) same.journal ∙ looks.reading tells;
+            unwritten = subst (λ t. WritesNothing true (told_of d was) t) told_same looks.unwritten;
+          }
+
+      leaves_by : (result : Result ℕ PieceFault) → Puts d mid is text group first begins result → PieceLeaves d was is bytes result
+      leaves_by (Ok number) put = (
+        not_full,
+        record {
+          begins = begins;
+          at = at;
+          group = group;
+          first = first;
+          read = read;
+          refers = refers;
+          put = put_on d laws was mid is looks read.text group first begins number
+              (subst (λ (l : List ℕ). HasPut d mid is l group first begins number) text_is put);
+          some = subst (λ (n : ℕ). IsSomePiece is.book n bytes) (ap (λ (b : Book). length (captures b)) (sym same_book) ∙ sym put.number_is)
+              (subst (λ (b : Book). IsSomePiece b (length (captures was.book)) bytes)
+              (ap (λ (b : Book). book_by b begins group first) (sym same_book) ∙ sym put.book)
+              (some_piece was.book bytes begins at group read first));
+          takes = λ told. subst (λ (b : Book). Takes was.book bytes b)
+              (ap (λ (b : Book). book_by b begins group first) (sym same_book) ∙ sym put.book)
+              (takes_so told (λ so. subst (λ (b : Book). IsSound b) put.book (put.sound so))
+              (λ so. subst (λ (b : Book). IsGroupText b (length (captures mid.book)) text) put.book (put.group_is so)));
+        },
+      )
+      leaves_by (Err (pieces.Full count limit)) put = absurd put
+      leaves_by (Err pieces.NotAPiece) put = absurd put
+      leaves_by (Err pieces.DiskFault) put = (
+        not_full,
+        inr (record {
+          begins = begins;
+          at = at;
+          group = group;
+          first = first;
+          read = read;
+          refers = refers;
+          unput = unput_on d laws was mid is looks read.text group first begins
+              (subst (λ (l : List ℕ). IsUnput d mid is l group first begins) text_is put);
+          takes = λ told. takes_so told put.sound put.group_is;
+        }),
+      )
+      leaves_by (Err (pieces.Damaged number kept found)) put = absurd put
+      leaves_by (Err pieces.Memory) put = untouched_remains put
+
+      pub taken_by : (result : Result ℕ PieceFault) → Puts d mid is text group first begins result
+          → d.faults (disk_of mid.journal) ≡ d.faults (disk_of was.journal)
+          → CountsIf (is_take_fault result) (d.faults (disk_of mid.journal)) (d.faults (disk_of is.journal)) → TakesPiece d was is bytes result
+      taken_by result put steady counts = record {
+        leaves = leaves_by result put;
+        faults = subst (λ (n : ℕ). CountsIf (is_take_fault result) n (d.faults (disk_of is.journal))) steady counts;
+      }
+
+-- it is full
+pub full_exit : {D : Type 0} (d : Ghosts D) (was : Holdings D) (bytes : List ℕ) (fault : StoreFault)
+    → Admits {T = ⊤} (contents_of was) (Err fault) → TakesPiece d was was bytes (failed (store_fault_as fault))
+full_exit d was bytes (stores.Full count limit) is = record { leaves = (is.0, is.1, is.2, refl); faults = refl }
+full_exit d was bytes stores.DiskFault is = absurd is
+full_exit d was bytes (stores.Damaged number kept found) is = absurd is
+full_exit d was bytes stores.Memory is = absurd is

@@ -1,0 +1,50 @@
+use Rattle.std.proofs.Common.{List, refl, sym, ap, subst, ◌∙◌}
+use Rattle.capture.specs.declared.book.Book.{Book}
+use Rattle.warc_journal.specs.Journals.{texts}
+use Rattle.archive_volumes.specs.Held.{book_of}
+use Rattle.archive_volumes.specs.Spots.{AreHeldWhole, ArePlaced, AreWithin, whole_from}
+use Rattle.archive_volumes.specs.declared.spot.Spot.{Spot}
+use Rattle.archive_core.specs.Holdings.{Holdings}
+use Rattle.archive_core.specs.Looking.{OnlyLooks}
+use Rattle.archive_pieces.specs.PieceOriginals.{FindsOriginal, IsNextGroup}
+use Rattle.archive_core.specs.View.{holdings_of}
+use Rattle.archive_core.proofs.ReadLaws as laws
+use Rattle.archive_core.proofs.archive.Archive.original_in.Goals as goal
+
+pub original_of-requires-clause-holds : goal.original_of-requires-clause-holds
+original_of-requires-clause-holds g c = c.self.invariant.holds
+
+pub original_of-requires-clause-placed : goal.original_of-requires-clause-placed
+original_of-requires-clause-placed g c told =
+    subst (ArePlaced (texts g.D.Disk c.self.inside.volumes.journal) (book_of c.self.inside.volumes.held)) (sym c.as_slice.ensures.value)
+    (c.self.invariant.placed told)
+
+pub original_of-requires-clause-within : goal.original_of-requires-clause-within
+original_of-requires-clause-within g c told =
+    subst (AreWithin (texts g.D.Disk c.self.inside.volumes.journal)) (sym c.as_slice.ensures.value) (c.self.invariant.within told)
+
+pub original_of-requires-clause-made : goal.original_of-requires-clause-made
+original_of-requires-clause-made g c untold =
+    subst (AreHeldWhole (book_of c.self.inside.volumes.held)) (sym c.as_slice.ensures.value) (c.self.invariant.made untold)
+
+pub original_of-requires-clause-table : goal.original_of-requires-clause-table
+original_of-requires-clause-table g c =
+    c.self.invariant.table ∙ sym (ap (λ (l : List Spot). whole_from 0 l) c.as_slice.ensures.value)
+
+pub original_of-requires-clause-group : goal.original_of-requires-clause-group
+original_of-requires-clause-group g c =
+    subst (λ (held : Holdings _). IsNextGroup held.book c.args.group.now) (sym c.self.view_is) c.requires
+
+pub invariant_of-self : goal.invariant_of-self
+invariant_of-self g c =
+    laws.reads_archive g.D.Disk (holdings_of c.self.inside) c.self.inside.volumes c.original_of.new.volumes refl refl c.original_of.ensures.reads c.self.invariant
+
+pub returns-clause-finds : goal.returns-clause-finds
+returns-clause-finds g c =
+    let same = laws.same_book g.D.Disk (holdings_of c.self.inside) c.self.inside.volumes c.original_of.new.volumes refl refl c.original_of.ensures.reads in
+    subst (λ (b : Book). FindsOriginal c.self.inside.told.value b c.args.group.now c.original_of.result) (sym same) c.original_of.ensures.finds
+
+pub returns-clause-looks : goal.returns-clause-looks
+returns-clause-looks g c =
+    subst (λ (held : Holdings _). OnlyLooks g.D.Disk held (record (holdings_of c.self.inside) { journal = c.original_of.new.volumes.journal; book = book_of c.original_of.new.volumes.held })) c.self.view_is
+    (laws.looks g.D.Disk (holdings_of c.self.inside) c.self.inside.volumes c.original_of.new.volumes refl refl c.original_of.ensures.reads c.self.invariant.holds.tells)

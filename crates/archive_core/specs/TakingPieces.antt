@@ -1,0 +1,159 @@
+-- What it is to take the piece of another archive's capture, and what that leaves.
+use Rattle.std.specs.Prelude.{◌≡◌, ◌⊎◌, ℕ, ◌+◌, ◌<◌, true, IsTrue, List, [], ◌∷◌, ◌++◌, length, Option, Result, Ok, Err, ⊤}
+use Rattle.capture.specs.Captures.{captures}
+use Rattle.capture.specs.Growth.{Grows}
+use Rattle.capture.specs.declared.book.Book.{Book}
+use Rattle.cdxj_index.specs.Facts.{Facts}
+use Rattle.disk_model.specs.declared.disk.Disk.{Ghosts}
+use Rattle.warc_journal.specs.Extents.{cdxj_files}
+use Rattle.warc_journal.specs.Journals.{disk_of, last_len}
+use Rattle.warc_text.specs.Books.{IsGroupText}
+use Rattle.warc_text.specs.Sound.{IsSound}
+use Rattle.warc_text.specs.StandsFor.{IdsDifferIn}
+use Rattle.warc_scan.specs.declared.group.Group.{Group}
+use Rattle.archive_shelf.specs.Answers.{CountsIf, IsDamaged, IsFull, IsNotFull}
+use Rattle.archive_shelf.specs.Openings.{Moves, SameBook}
+use Rattle.archive_shelf.specs.Pieces.{IsPiece, IsSomePiece}
+use Rattle.archive_shelf.specs.Told.{WritesNothing}
+use Rattle.archive_volumes.specs.Volumes.{muted}
+use Rattle.archive_volumes.specs.Writing.{Writes}
+use Rattle.archive_core.specs.Holdings.{Holdings, contents_of}
+use Rattle.archive_core.specs.Looking.{OnlyLooks}
+use Rattle.archive_pieces.specs.NextPieces.{Takes}
+use Rattle.archive_pieces.specs.PieceFaults.{is_take_fault}
+use Rattle.archive_pieces.specs.PieceParts.{IsNoPiece, IsReadAs, book_by, room_by}
+use Rattle.archive_pieces.specs.PieceReady.{RefersSo, end_in}
+use Rattle.archive_core.specs.Shown.{numbered}
+use Rattle.archive_core.specs.Told.{told_of}
+use Rattle.archive_pieces.specs.declared.fault.PieceFault.{PieceFault}
+use Rattle.archive_pieces.specs.declared.fault.PieceFault.TheVariants as pieces
+
+-- what was answered, with its type
+abbrev pub took : ℕ → Result ℕ PieceFault
+took number = Ok number
+
+abbrev pub disk_failed : Result ℕ PieceFault
+disk_failed = Err pieces.DiskFault
+
+-- ---- the capture of a group
+
+-- at most the entry of the capture is shown more
+abbrev pub ShowsOneMore : ℕ → List Facts → List Facts → Type 0
+ShowsOneMore number was is = (is ≡ was) ⊎ ((entry : Facts) × (entry.number ≡ number) × (is ≡ was ++ entry ∷ []))
+
+-- it stands behind all others of the book
+pub record HasPut {D : Type 0} (d : Ghosts D) (was is : Holdings D) (text : List ℕ) (group : Group) (first begins : Option ℕ) (number : ℕ) : Type 0 where
+  pub number_is : number ≡ length (captures was.book)
+  pub book : is.book ≡ book_by was.book begins group first
+  pub group_is : IsTrue was.told → IsGroupText is.book (length (captures was.book)) text
+  pub sound : IsTrue was.told → IsSound is.book
+  pub shown : ShowsOneMore number (numbered was.index) (numbered is.index)
+  pub others : contents_of is
+      ≡ record (contents_of was) { seen = is.book; shown = numbered is.index; mine = (contents_of was).mine ++ number ∷ [] }
+  pub ends : last_len is.journal ≡ end_in was.book (last_len was.journal) begins + length text
+  pub writes : Writes (muted was.told d) (disk_of was.journal) (disk_of is.journal) was.book (room_by was.book begins) is.book is.book (took number)
+  pub checkpoints : IsTrue d.tells → cdxj_files (d.reading (disk_of is.journal)) ≡ cdxj_files (d.reading (disk_of was.journal))
+
+-- The disk refused it. The book is left, or it with the volume that was to be begun.
+pub record IsUnput {D : Type 0} (d : Ghosts D) (was is : Holdings D) (text : List ℕ) (group : Group) (first begins : Option ℕ) : Type 0 where
+  pub left : (is.book ≡ was.book) ⊎ (is.book ≡ room_by was.book begins)
+  pub group_is : IsTrue was.told → IsGroupText (book_by was.book begins group first) (length (captures was.book)) text
+  pub sound : IsTrue was.told → IsSound (book_by was.book begins group first)
+  pub others : contents_of is ≡ record (contents_of was) { seen = is.book }
+  pub writes : Writes (muted was.told d) (disk_of was.journal) (disk_of is.journal) was.book (room_by was.book begins)
+      (book_by was.book begins group first) is.book disk_failed
+  pub checkpoints : IsTrue d.tells → cdxj_files (d.reading (disk_of is.journal)) ≡ cdxj_files (d.reading (disk_of was.journal))
+
+-- all is as it was, but for what is reserved
+pub record IsUntouched {D : Type 0} (was is : Holdings D) : Type 0 where
+  pub journal : is.journal ≡ was.journal
+  pub contents : contents_of is ≡ contents_of was
+
+abbrev pub Puts : {D : Type 0} → Ghosts D → Holdings D → Holdings D → List ℕ → Group → Option ℕ → Option ℕ → Result ℕ PieceFault → Type 0
+Puts d was is text group first begins (Ok number) = HasPut d was is text group first begins number
+Puts d was is text group first begins (Err (pieces.Full count limit)) = ⊥
+Puts d was is text group first begins (Err pieces.NotAPiece) = ⊥
+Puts d was is text group first begins (Err pieces.DiskFault) = IsUnput d was is text group first begins
+Puts d was is text group first begins (Err (pieces.Damaged number kept found)) = ⊥
+Puts d was is text group first begins (Err pieces.Memory) = IsUntouched was is
+
+-- ---- a piece
+
+-- The piece was taken: the capture of its group was put behind all others, and the book has just that piece more.
+pub record HasTaken {D : Type 0} (d : Ghosts D) (was is : Holdings D) (bytes : List ℕ) (number : ℕ) : Type 0 where
+  pub begins : Option ℕ
+  pub at : ℕ
+  pub group : Group
+  pub first : Option ℕ
+  pub read : IsReadAs was.book bytes begins at group
+  pub refers : RefersSo was.told was.book group first
+  pub put : HasPut d was is read.text group first begins number
+  pub some : IsSomePiece is.book number bytes
+  pub takes : IsTrue was.told → Takes was.book bytes is.book
+
+-- The disk refused it when it was to be written. The book is left, or it with the volume that the piece begins.
+pub record IsUntaken {D : Type 0} (d : Ghosts D) (was is : Holdings D) (bytes : List ℕ) : Type 0 where
+  pub begins : Option ℕ
+  pub at : ℕ
+  pub group : Group
+  pub first : Option ℕ
+  pub read : IsReadAs was.book bytes begins at group
+  pub refers : RefersSo was.told was.book group first
+  pub unput : IsUnput d was is read.text group first begins
+  pub takes : IsTrue was.told → Takes was.book bytes (book_by was.book begins group first)
+
+-- all that is told of it stays, and nothing was written
+pub record Remains {D : Type 0} (d : Ghosts D) (was is : Holdings D) : Type 0 where
+  pub contents : contents_of is ≡ contents_of was
+  pub ends : last_len is.journal ≡ last_len was.journal
+  pub reading : IsTrue d.tells → d.reading (disk_of is.journal) ≡ d.reading (disk_of was.journal)
+  pub unwritten : WritesNothing true (told_of d was) (told_of d is)
+
+-- What taking a piece leaves. It is full before the piece is looked at; want of memory may be answered anywhere.
+abbrev pub PieceLeaves : {D : Type 0} → Ghosts D → Holdings D → Holdings D → List ℕ → Result ℕ PieceFault → Type 0
+PieceLeaves d was is bytes (Ok number) = IsNotFull (contents_of was) was.book × HasTaken d was is bytes number
+PieceLeaves d was is bytes (Err (pieces.Full count limit)) =
+    IsFull (contents_of was) was.book × (count ≡ length (captures was.book)) × (limit ≡ was.limits.captures) × (is ≡ was)
+PieceLeaves d was is bytes (Err pieces.NotAPiece) =
+    IsNotFull (contents_of was) was.book × OnlyLooks d was is × (IsTrue was.told → IsNoPiece was.book bytes)
+PieceLeaves d was is bytes (Err pieces.DiskFault) =
+    IsNotFull (contents_of was) was.book × (OnlyLooks d was is ⊎ IsUntaken d was is bytes)
+PieceLeaves d was is bytes (Err (pieces.Damaged number kept found)) =
+    IsNotFull (contents_of was) was.book × OnlyLooks d was is × (number < length (captures was.book)) × IsDamaged was.told kept found
+PieceLeaves d was is bytes (Err pieces.Memory) = Remains d was is
+
+-- a piece was taken, or refused
+pub record TakesPiece {D : Type 0} (d : Ghosts D) (was is : Holdings D) (bytes : List ℕ) (result : Result ℕ PieceFault) : Type 0 where
+  pub leaves : PieceLeaves d was is bytes result
+  pub faults : CountsIf (is_take_fault result) (d.faults (disk_of was.journal)) (d.faults (disk_of is.journal))
+
+-- ---- the law of growing prefixes
+
+-- The archive's book is a beginning of the source's still, with the piece or without it, and so is each that may be opened now which might not have been before the call,
+-- at whatever moment a crash stops it.
+pub record StaysBeginning {D : Type 0} (d : Ghosts D) (was is : Holdings D) (source : Book) : Type 0 where
+  pub seen : Grows is.book source
+  pub opened : Moves (told_of d was).crash (told_of d is).crash (λ x. SameBook x was.book ⊎ Grows x source)
+
+-- it isn't refused as none
+abbrev pub IsNotRefused : Result ℕ PieceFault → Type 0
+IsNotRefused (Ok number) = ⊤
+IsNotRefused (Err (pieces.Full count limit)) = ⊤
+IsNotRefused (Err pieces.NotAPiece) = ⊥
+IsNotRefused (Err pieces.DiskFault) = ⊤
+IsNotRefused (Err (pieces.Damaged number kept found)) = ⊥
+IsNotRefused (Err pieces.Memory) = ⊤
+
+-- where the source's book has grown from the archive's and has more captures, the ids of which differ, the piece of the next of them is to be taken
+pub record IsNextOf {D : Type 0} (was : Holdings D) (source : Book) (bytes : List ℕ) : Type 0 where
+  pub told : IsTrue was.told
+  pub sound : IsSound source
+  pub ids : IdsDifferIn source
+  pub grown : Grows was.book source
+  pub more : length (captures was.book) < length (captures source)
+  pub piece : IsPiece source (length (captures was.book)) bytes
+
+abbrev pub TakenPiecesLeadOn : {D : Type 0} → Ghosts D → Type 0
+TakenPiecesLeadOn {D} d =
+    (was is : Holdings D) (source : Book) (bytes : List ℕ) (result : Result ℕ PieceFault) → IsNextOf was source bytes → TakesPiece d was is bytes result
+    → IsNotRefused result × StaysBeginning d was is source

@@ -1,0 +1,148 @@
+//! How an archive takes the piece of another one's capture.
+ghost use Rattle.std.specs.Prelude.{◌≡◌, length};
+ghost use Rattle.capture.specs.Captures.{captures};
+ghost use Rattle.warc_journal.specs.Journals.{disk_of, last_len};
+ghost use Rattle.warc_scan.specs.Groups.{IsGroup};
+ghost use Rattle.archive_shelf.specs.Answers.{CountsIf, IsNotFull};
+ghost use Rattle.archive_core.specs.Holdings.{contents_of};
+ghost use Rattle.archive_pieces.specs.PieceFaults.{is_take_fault, store_fault_as};
+ghost use Rattle.archive_core.specs.Looking.{OnlyLooks};
+ghost use Rattle.archive_pieces.specs.PieceOriginals.{FindsOriginal, IsNextGroup};
+ghost use Rattle.archive_pieces.specs.PieceParts.{IsFoundIn};
+ghost use Rattle.archive_pieces.specs.PieceReady.{IsWithinBounds, MayHold, RefersSo, end_in};
+ghost use Rattle.archive_core.specs.TakingPieces.{Puts, TakesPiece};
+
+use crate::Archive;
+use crate::index::enter;
+use crate::storing::{revisits_in, storing_has_a_basis};
+use archive_opening::reading_laws;
+use archive_pieces::{
+    Found, PieceFault, end_of, make_piece_ready, original_of, passes_bounds, read_piece,
+};
+use archive_shelf::StoreFault;
+use archive_volumes::{entry_for, reserve_kept};
+use disk_model::Disk;
+use std::alloc::Global;
+use warc_scan::Group;
+
+/// The fault of a store, as that of taking a piece.
+fn fault_of(fault: StoreFault) -> PieceFault
+    ensures { result ≡ store_fault_as fault }
+{
+    match fault {
+        StoreFault::Full { count, limit } => PieceFault::Full { count, limit },
+        StoreFault::DiskFault => PieceFault::DiskFault,
+        StoreFault::Damaged {
+            number,
+            kept,
+            found,
+        } => PieceFault::Damaged {
+            number,
+            kept,
+            found,
+        },
+        StoreFault::Memory => PieceFault::Memory,
+    }
+}
+
+impl<D: Disk> Archive<D> {
+    /// Takes the piece of the next capture of another archive, of which this one has all captures before. At `NotAPiece` there is no
+    /// sound book that goes on from this one with it.
+    pub fn take_piece(&mut self, alloc: Global, bytes: &[u8]) -> Result<u32, PieceFault>
+        ensures { TakesPiece D.Disk self.old self.new bytes.now result }
+    {
+        match self.check_room() {
+            Ok(()) => self.take_read(alloc, bytes),
+            Err(fault) => Err(fault_of(fault)),
+        }
+    }
+
+    /// The same in an archive that isn't full.
+    fn take_read(&mut self, alloc: Global, bytes: &[u8]) -> Result<u32, PieceFault>
+        requires { IsNotFull (contents_of self.old) self.old.book }
+        ensures { TakesPiece D.Disk self.old self.new bytes.now result }
+    {
+        let number = self.spots.len() as u32;
+        let volumes = self.volumes.journal.volumes();
+        match read_piece(alloc, &self.volumes.held, volumes, number, bytes)? {
+            Some(found) => self.take_found(alloc, bytes, found),
+            None => Err(PieceFault::NotAPiece),
+        }
+    }
+
+    /// The same of a piece that was read.
+    fn take_found(&mut self, alloc: Global, bytes: &[u8], found: Found) -> Result<u32, PieceFault>
+        requires not_full { IsNotFull (contents_of self.old) self.old.book }
+        requires read { IsFoundIn self.old.book bytes.now found }
+        ensures { TakesPiece D.Disk self.old self.new bytes.now result }
+    {
+        storing_has_a_basis();
+        let end = end_of(found.begins, found.at, self.volumes.journal.last_len());
+        if passes_bounds(&found.group, end) {
+            return Err(PieceFault::NotAPiece);
+        }
+        let first = self.original_in(alloc, &found.group)?;
+        let Found { begins, at, group } = found;
+        let (_, text) = bytes.split_at(at as usize);
+        self.put_piece(alloc, text, begins, group, first)
+    }
+
+    /// The capture to which a group refers that is to be the next one, if it refers to any.
+    fn original_in(&mut self, alloc: Global, group: &Group) -> Result<Option<u32>, PieceFault>
+        requires { IsNextGroup self.old.book group.now }
+        ensures finds { FindsOriginal self.new.told self.new.book group.now result }
+        ensures looks { OnlyLooks D.Disk self.old self.new }
+        ensures faults { CountsIf (is_take_fault result) (D.faults (disk_of self.old.journal)) (D.faults (disk_of self.new.journal)) }
+    {
+        original_of(
+            &self.told,
+            alloc,
+            &mut self.volumes,
+            self.spots.as_slice(),
+            &self.table,
+            group,
+        )
+    }
+
+    /// Writes the capture of a group that is this text, and keeps it. It refers to that one, if to any. All memory is taken before the
+    /// first write; the entry is taken back where the disk refuses.
+    pub(crate) fn put_piece(
+        &mut self,
+        alloc: Global,
+        text: &[u8],
+        begins: Option<u64>,
+        group: Group,
+        first: Option<u32>,
+    ) -> Result<u32, PieceFault>
+        requires not_full { IsNotFull (contents_of self.old) self.old.book }
+        requires group { IsGroup self.old.book.namespace (length (captures self.old.book)) text.now group }
+        requires refers { RefersSo self.old.told self.old.book group first }
+        requires holds { MayHold self.old.book begins }
+        requires bounds { IsWithinBounds group (end_in self.old.book (last_len self.old.journal) begins) }
+        ensures puts { Puts D.Disk self.old self.new text.now group first begins result }
+        ensures faults { CountsIf (is_take_fault result) (D.faults (disk_of self.old.journal)) (D.faults (disk_of self.new.journal)) }
+    {
+        storing_has_a_basis();
+        reading_laws();
+        let number = self.spots.len() as u32;
+        let head = group.stored.head.copy()?;
+        reserve_kept(alloc, &mut self.spots, &mut self.table, &group.digest)?;
+        let ready = make_piece_ready(alloc, &mut self.volumes, text, begins, group, first)?;
+        let at = self.volumes.record_at(&ready, number);
+        let entry = entry_for(alloc, &ready, head.as_slice(), at)?;
+        enter(alloc, &mut self.index, entry)?;
+        match self
+            .volumes
+            .commit(&self.told, &mut self.spots, &mut self.table, ready)
+        {
+            Ok(()) => {
+                self.revisits += revisits_in(first);
+                Ok(number)
+            }
+            Err(_) => {
+                self.index.take_back(number);
+                Err(PieceFault::DiskFault)
+            }
+        }
+    }
+}
