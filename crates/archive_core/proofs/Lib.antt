@@ -11,6 +11,8 @@ pub mod FinishedLaws
 pub mod FuseLaws
 pub mod IndexLaws
 pub mod KeepingLaws
+pub mod KnownLaws
+pub mod MadeLaws
 pub mod MatchLaws
 pub mod MissingLaws
 pub mod NamespaceLaws

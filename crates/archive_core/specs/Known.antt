@@ -1,24 +1,24 @@
--- What opening an archive gives where its book may be known: to somebody who kept the disk. By checkpoints only such a book is told, since the
--- volumes aren't read then.
-use Rattle.std.specs.Prelude.{◌≡◌, Bool, false, IsTrue, IfSome, List, ℕ, [], Option, Some, None}
+-- What opening an archive gives where its book may be known: to somebody who kept the disk. By checkpoints only such a book is told, since a
+-- checkpoint may say something else than its volume holds.
+use Rattle.std.specs.Prelude.{◌≡◌, Bool, false, Contains, IsTrue, IfSome, List, ℕ, [], slice_get, Option, Some, None, ⊤}
 use Rattle.capture.specs.declared.book.Book.{Book}
 use Rattle.capture.specs.declared.limits.Limits.{Limits}
-use Rattle.cdxj_index.specs.OfBook.{AreEntries}
-use Rattle.disk_model.specs.Crash.{Leaves}
+use Rattle.cdxj_index.specs.Facts.{Facts}
 use Rattle.disk_model.specs.declared.disk.Disk.{Ghosts}
-use Rattle.warc_journal.specs.Extents.{warc_files}
 use Rattle.warc_journal.specs.Journals.{Rests, disk_of}
-use Rattle.warc_text.specs.Sound.{IsSound}
-use Rattle.warc_text.specs.StandsFor.{IdsDifferIn, StandsFor}
-use Rattle.archive_shelf.specs.Openings.{ImageStandsFor, IsState, SameBook}
+use Rattle.warc_text.specs.StandsFor.{IdsDifferIn}
+use Rattle.archive_shelf.specs.Openings.{ImageStandsFor, SameBook}
 use Rattle.archive_shelf.specs.declared.depth.Depth.{Depth}
 use Rattle.archive_shelf.specs.declared.depth.Depth.TheVariants as depths
 use Rattle.archive_shelf.specs.declared.fault.ReopenFault.{ReopenFault}
 use Rattle.archive_core.specs.Holdings.{Holdings, contents_of}
-use Rattle.archive_opening.specs.Opening.{CountsFault, IsCause, IsIn}
-use Rattle.archive_core.specs.Reopening.{IsAskedFor, IsOutside}
-use Rattle.archive_core.specs.Told.{told_of}
+use Rattle.archive_opening.specs.Opening.{CountsFault, IsCause, IsIn, IsOutside}
+use Rattle.archive_opening.specs.Telling.{AreCheckpointsSynced, AreReadOrTold, HasCheckpointsOf, IsAskedFor, IsReadWhole}
+use Rattle.archive_core.specs.Reopening.{IsNotOpened, IsReopened, NamesCapture}
+use Rattle.archive_shelf.specs.Digests.{HasRequest}
+use Rattle.archive_volumes.specs.Spots.{is_told_form}
 use Rattle.archive_volumes.specs.Volumes.{IsQuiet}
+use Rattle.archive_volumes.specs.declared.spot.Spot.{Spot}
 
 -- what a read gives stands for this sound book, whose ids differ, and whose namespace is asked for, or none is
 pub record IsKnown {D : Type 0} (d : Ghosts D) (disk : D) (asked : Option (List ℕ)) (book : Book) : Type 0 where
@@ -30,25 +30,40 @@ pub record IsKnown {D : Type 0} (d : Ghosts D) (disk : D) (asked : Option (List 
 abbrev pub MayBeKnown : {D : Type 0} → Ghosts D → D → Option (List ℕ) → Option Book → Type 0
 MayBeKnown d disk asked known = IfSome known (λ book. IsTrue d.tells → IsKnown d disk asked book)
 
+-- where the disk tells, the finished checkpoints that a read gives are those of the book that is known
+abbrev pub HasCheckpointsOfKnown : {D : Type 0} → Ghosts D → D → Option Book → Type 0
+HasCheckpointsOfKnown d disk known = IfSome known (λ book. IsTrue d.tells → HasCheckpointsOf (d.reading disk) book)
+
 -- whether the book of an archive is told behind an opening: where the disk tells, and by checkpoints only one that was known
 abbrev pub told_at : Depth → Bool → Option Book → Bool
 told_at depths.Whole tells known = tells
 told_at depths.Checkpoints tells None = false
 told_at depths.Checkpoints tells (Some book) = tells
 
--- An archive as it is opened. What is said of its book is said where that is told.
-pub record IsReopenedKnown {D : Type 0} (d : Ghosts D) (disk : D) (asked : Option (List ℕ)) (limits : Limits) (told : Bool) (known : Option Book)
+-- What bytes alone say of an archive that was opened by checkpoints. Whatever the disk tells, its book has the request of each capture that was read.
+-- Where the disk tells, a line of its volume's finished checkpoint told of each other one; and all files of checkpoints are synced, so a crash leaves
+-- those that a read gives.
+pub record IsLined {D : Type 0} (d : Ghosts D) (disk : D) (held : Holdings D) : Type 0 where
+  pub requested : (number : ℕ) (spot : Spot) → slice_get held.spots number ≡ Some spot → is_told_form spot.form ≡ false → HasRequest held.book number
+  pub read : IsTrue d.tells → AreReadOrTold (d.reading disk) held.spots
+  pub synced : IsTrue d.tells → AreCheckpointsSynced (d.reading disk) (d.images (disk_of held.journal))
+
+abbrev pub IsLinedAt : {D : Type 0} → Depth → Ghosts D → D → Holdings D → Type 0
+IsLinedAt depths.Whole d disk held = ⊤
+IsLinedAt depths.Checkpoints d disk held = IsLined d disk held
+
+-- An archive as it is opened. Where its book is told it is the one that is known, and all is as where each volume was read whole.
+pub record IsReopenedKnown {D : Type 0} (d : Ghosts D) (disk : D) (asked : Option (List ℕ)) (limits : Limits) (depth : Depth) (known : Option Book)
     (held : Holdings D) : Type 0 where
-  pub told_is : held.told ≡ told
-  -- its book is sound, the files that a read gives stand for it, and for no other one whose ids differ: it is the one that is known
-  pub sound : IsTrue told → IsSound held.book
-  pub stands : IsTrue told → StandsFor (warc_files (d.reading disk)) held.book
-  pub one : IsTrue told → (book : Book) → IsSound book → IdsDifferIn book → StandsFor (warc_files (d.reading disk)) book
-      → SameBook held.book book
-  pub known_is : IsTrue told → IfSome known (λ book. SameBook held.book book)
-  -- exactly the book's entries are shown
-  pub shown : IsTrue told → AreEntries held.book (contents_of held).shown
-  -- told or not, it has the namespace that is asked for, no capture of its own yet, and the limits that are given
+  pub told_is : held.told ≡ told_at depth d.tells known
+  pub whole : IsTrue held.told → IsReopened d disk asked limits held
+  pub known_is : IsTrue held.told → IfSome known (λ book. SameBook held.book book)
+  -- where the disk tells, and a read gives no finished checkpoint of a volume behind which another file stands, each volume was read: but that it
+  -- isn't told, all is as where each was read whole
+  pub unsettled : IsTrue d.tells → IsReadWhole (d.reading disk) → IsReopened d disk asked limits (record held { told = d.tells })
+  -- whatever is told, each entry that is shown tells the target and the date of the capture with its number
+  pub named : (entry : Facts) → Contains (contents_of held).shown entry → NamesCapture held.book entry
+  -- it has the namespace that is asked for, no capture of its own yet, and the limits that are given
   pub in_namespace : IsIn asked held.book
   pub mine : (contents_of held).mine ≡ []
   pub limits_are : held.limits ≡ limits
@@ -56,15 +71,26 @@ pub record IsReopenedKnown {D : Type 0} (d : Ghosts D) (disk : D) (asked : Optio
   pub rests : IsTrue d.tells → Rests d disk (disk_of held.journal)
   pub quiet : IsQuiet d disk (disk_of held.journal)
   pub faults : d.faults (disk_of held.journal) ≡ d.faults disk
-  -- each image that a crash leaves from now on stands for the book, and where its ids differ, for no other one
-  pub only : IsTrue told → Leaves (d.images (disk_of held.journal)) (λ image. ImageStandsFor image held.book)
-  pub covered : (told_of d held).crash.covered (told_of d held).crash.moment
-  pub state : IdsDifferIn held.book → IsState (told_of d held).crash held.book None
+  pub lined : IsLinedAt depth d disk held
 
--- Why an archive isn't opened, and the disk as it is given back: nothing was written. One whose book is known isn't refused for what it holds.
+-- Why an archive isn't opened, and the disk as it is given back: nothing was written. One whose book is known isn't refused for what it holds;
+-- where each volume was read whole, it is refused for what is there.
 pub record IsNotOpenedKnown {D : Type 0} (d : Ghosts D) (disk : D) (asked : Option (List ℕ)) (known : Option Book) (refused : ReopenFault × D) : Type 0 where
   pub cause : IsCause asked refused.0
   pub complete : IfSome known (λ book. IsTrue d.tells → IsOutside refused.0)
+  pub unsettled : IsTrue d.tells → IsReadWhole (d.reading disk) → IsNotOpened d disk asked refused
   pub rests : IsTrue d.tells → Rests d disk refused.1
   pub quiet : IsQuiet d disk refused.1
   pub faults : CountsFault (d.faults disk) (d.faults refused.1) refused.0
+
+-- ---- where nothing is known
+
+-- an archive that is opened as deep as that: by checkpoints nothing is told of its book
+abbrev pub IsReopenedAt : {D : Type 0} → Depth → Ghosts D → D → Option (List ℕ) → Limits → Holdings D → Type 0
+IsReopenedAt depths.Whole d disk asked limits held = IsReopened d disk asked limits held
+IsReopenedAt depths.Checkpoints d disk asked limits held = IsReopenedKnown d disk asked limits depths.Checkpoints None held
+
+-- why it isn't opened as deep as that
+abbrev pub IsNotOpenedAt : {D : Type 0} → Depth → Ghosts D → D → Option (List ℕ) → ReopenFault × D → Type 0
+IsNotOpenedAt depths.Whole d disk asked refused = IsNotOpened d disk asked refused
+IsNotOpenedAt depths.Checkpoints d disk asked refused = IsNotOpenedKnown d disk asked None refused

@@ -1,8 +1,10 @@
 -- What opening an archive gives, and what it leaves on the disk.
-use Rattle.std.specs.Prelude.{◌≡◌, Bool, IsTrue, List, ℕ, [], length, Option, Some, None, ⊤}
+use Rattle.std.specs.Prelude.{◌≡◌, Bool, IsTrue, List, ℕ, [], length, slice_get, Contains, Option, Some, None}
 use Rattle.capture.specs.Captures.{captures}
 use Rattle.capture.specs.declared.book.Book.{Book}
+use Rattle.capture.specs.declared.captured.Stored.{Stored}
 use Rattle.capture.specs.declared.limits.Limits.{Limits}
+use Rattle.cdxj_index.specs.Facts.{Facts}
 use Rattle.cdxj_index.specs.OfBook.{AreEntries}
 use Rattle.disk_model.specs.Crash.{Leaves}
 use Rattle.disk_model.specs.declared.disk.Disk.{Ghosts}
@@ -12,10 +14,10 @@ use Rattle.warc_text.specs.Sound.{IsSound}
 use Rattle.warc_text.specs.StandsFor.{IdsDifferIn, StandsFor}
 use Rattle.archive_shelf.specs.Openings.{ImageStandsFor, IsState, SameBook}
 use Rattle.archive_shelf.specs.declared.fault.ReopenFault.{ReopenFault}
-use Rattle.archive_shelf.specs.declared.fault.ReopenFault.TheVariants as faults
 use Rattle.archive_volumes.specs.Held.{book_of}
 use Rattle.archive_core.specs.Holdings.{Holdings, contents_of}
-use Rattle.archive_opening.specs.Opening.{CountsFault, IsCause, IsDamageIn, IsIn, IsOtherIn}
+use Rattle.archive_opening.specs.Opening.{CountsFault, IsCause, IsDamageIn, IsIn, IsOtherIn, IsOutside}
+use Rattle.archive_opening.specs.Telling.{IsAskedFor}
 use Rattle.archive_core.specs.Shown.{numbered}
 use Rattle.archive_core.specs.Told.{told_of}
 use Rattle.archive_opening.specs.declared.opening.Opened.{Opened}
@@ -45,25 +47,23 @@ pub record IsReopened {D : Type 0} (d : Ghosts D) (disk : D) (asked : Option (Li
   pub covered : (told_of d held).crash.covered (told_of d held).crash.moment
   pub state : IdsDifferIn held.book → IsState (told_of d held).crash held.book None
 
--- An archive as it is made of what was opened, whatever the disk tells.
+-- an entry tells the target and the date of the book's capture with its number
+pub record NamesCapture (book : Book) (entry : Facts) : Type 0 where
+  pub stored : Stored
+  pub placed : slice_get (captures book) entry.number ≡ Some stored
+  pub uri : entry.uri ≡ stored.uri
+  pub date : entry.date ≡ stored.date
+
+-- An archive as it is made of what was opened, whatever the disk tells: where the entries that were gathered are its book's, they are what is shown.
 pub record IsMadeOf {D : Type 0} (opened : Opened D) (limits : Limits) (told : Bool) (held : Holdings D) : Type 0 where
   pub journal_is : held.journal ≡ opened.journal
   pub book_is : held.book ≡ book_of opened.gathered.held
-  pub shown : AreEntries held.book (numbered held.index)
+  pub spots_are : held.spots ≡ opened.gathered.spots.items
+  pub shown : AreEntries (book_of opened.gathered.held) opened.gathered.entries.items → AreEntries held.book (numbered held.index)
+  pub named : (entry : Facts) → Contains (numbered held.index) entry → NamesCapture held.book entry
   pub found : held.found ≡ length (captures held.book)
   pub limits_are : held.limits ≡ limits
   pub told_is : held.told ≡ told
-
--- the cause isn't what the disk holds: the disk failed, or there was no memory
-abbrev pub IsOutside : ReopenFault → Type 0
-IsOutside (faults.Damaged kind file place) = ⊥
-IsOutside (faults.OtherNamespace other) = ⊥
-IsOutside faults.DiskFault = ⊤
-IsOutside faults.Memory = ⊤
-
--- its namespace is asked for, or none
-abbrev pub IsAskedFor : Option (List ℕ) → Book → Type 0
-IsAskedFor asked book = (namespace : List ℕ) → asked ≡ Some namespace → book.namespace ≡ namespace
 
 -- Why an archive isn't opened, and the disk as it is given back: nothing was written. What stands for a sound book whose namespace is asked for,
 -- or none, isn't refused for what it holds.

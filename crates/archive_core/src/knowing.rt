@@ -1,16 +1,17 @@
 //! Opening an archive whose book may be known.
 ghost use Rattle.std.specs.Prelude.{◌≡◌, IfErr, IfOk, IfSome, Option};
-ghost use Rattle.capture.specs.declared.book.Book.{Book};
+ghost use Rattle.capture.specs.declared.book.Book.{Book as BookValue};
 ghost use Rattle.warc_text.specs.Ids.{IsUuid};
+ghost use Rattle.archive_opening.specs.Telling.{MayBeSettled};
 ghost use Rattle.archive_core.specs.Holdings.{AreLimits};
-ghost use Rattle.archive_core.specs.Known.{IsNotOpenedKnown, IsReopenedKnown, MayBeKnown, told_at};
+ghost use Rattle.archive_core.specs.Known.{HasCheckpointsOfKnown, IsNotOpenedKnown, IsReopenedKnown, MayBeKnown};
 ghost use Rattle.archive_core.specs.Reopening.{IsNotOpened, IsReopened};
 
 use crate::Archive;
-use crate::reopen::archive_of;
-use archive_opening::open_volumes;
+use crate::reopen::{archive_of, open_whole};
+use archive_opening::open_by_checkpoints;
 use archive_shelf::{Depth, ReopenFault};
-use capture::Limits;
+use capture::{Book, Limits};
 use disk_model::Disk;
 use shown::Shown;
 use std::alloc::Global;
@@ -18,8 +19,8 @@ use uuid::Uuid;
 
 impl<D: Disk> Archive<D> {
     /// Opens the archive that a disk holds, as `reopen` does, for a caller whose proof may name its book: one that kept the disk. By
-    /// checkpoints the book is told only where it is known, since a volume that isn't read may hold another one than its checkpoint
-    /// says. No code sees the book, and nothing depends on it. Each depth reads every volume whole.
+    /// checkpoints the book is told only where it is known, since a checkpoint may say something else than its volume holds. No code sees the
+    /// book, and nothing depends on it.
     pub fn reopen_known(
         alloc: Global,
         disk: D,
@@ -27,21 +28,45 @@ impl<D: Disk> Archive<D> {
         limits: Limits,
         depth: Depth,
     ) -> Result<Archive<D>, (ReopenFault, D)>
-        ghost known: { Option Book }
+        ghost known: { Option BookValue }
         requires uuid { IfSome namespace IsUuid }
         requires limits { AreLimits limits }
         requires known { MayBeKnown D.Disk disk namespace known }
-        ensures reopened { IfOk result (IsReopenedKnown D.Disk disk namespace limits (told_at depth D.tells known) known) }
+        requires settled { depth ≡ Depth.Checkpoints → HasCheckpointsOfKnown D.Disk disk known }
+        ensures reopened { IfOk result (IsReopenedKnown D.Disk disk namespace limits depth known) }
         ensures refused { IfErr result (IsNotOpenedKnown D.Disk disk namespace known) }
         ensures whole { depth ≡ Depth.Whole → IfOk result (IsReopened D.Disk disk namespace limits) }
         ensures whole_refused { depth ≡ Depth.Whole → IfErr result (IsNotOpened D.Disk disk namespace) }
     {
-        match open_volumes(alloc, disk, &namespace) {
-            Ok(opened) => {
-                let told = Shown::told_by(&depth);
-                archive_of(alloc, opened, limits, told)
+        match depth {
+            Depth::Whole => open_whole(alloc, disk, namespace, limits),
+            Depth::Checkpoints => {
+                let known = Shown::told_by(&depth);
+                open_told(alloc, disk, namespace, limits, &known)
             }
-            Err(refused) => Err(refused),
         }
+    }
+}
+
+/// Opens the archive that a disk holds by its checkpoints.
+fn open_told<D: Disk>(
+    alloc: Global,
+    disk: D,
+    namespace: Option<Uuid>,
+    limits: Limits,
+    known: &Shown<Option<Book>>,
+) -> Result<Archive<D>, (ReopenFault, D)>
+    requires uuid { IfSome namespace IsUuid }
+    requires limits { AreLimits limits }
+    requires known { MayBeSettled D.Disk disk namespace known.now.value }
+    ensures reopened { IfOk result (IsReopenedKnown D.Disk disk namespace limits Depth.Checkpoints known.now.value) }
+    ensures refused { IfErr result (IsNotOpenedKnown D.Disk disk namespace known.now.value) }
+{
+    match open_by_checkpoints(alloc, disk, &namespace, known) {
+        Ok(opened) => {
+            let told = Shown::told_by(known);
+            archive_of(alloc, opened, limits, told)
+        }
+        Err(refused) => Err(refused),
     }
 }

@@ -1,11 +1,13 @@
 //! Opening an archive over a disk.
-ghost use Rattle.std.specs.Prelude.{◌≡◌, IfErr, IfOk, IfSome, count_by};
+ghost use Rattle.std.specs.Prelude.{◌≡◌, IfErr, IfOk, IfSome, IsTrue, count_by};
 ghost use Rattle.cdxj_index.specs.OfBook.{AreEntries};
 ghost use Rattle.warc_journal.specs.Journals.{disk_of};
 ghost use Rattle.warc_text.specs.Ids.{IsUuid};
 ghost use Rattle.archive_shelf.specs.declared.fault.ReopenFault.TheVariants.{Memory as IsMemory};
 ghost use Rattle.archive_opening.specs.Gathering.{IsUsable};
+ghost use Rattle.archive_opening.specs.Telling.{AreNumbered};
 ghost use Rattle.archive_core.specs.Holdings.{AreLimits};
+ghost use Rattle.archive_core.specs.Known.{IsNotOpenedAt, IsReopenedAt};
 ghost use Rattle.archive_core.specs.Reopening.{IsMadeOf, IsNotOpened, IsReopened};
 ghost use Rattle.archive_volumes.specs.Held.{book_of};
 ghost use Rattle.archive_volumes.specs.Spots.{is_same_form};
@@ -22,31 +24,46 @@ use std::alloc::Global;
 use uuid::Uuid;
 
 impl<D: Disk> Archive<D> {
-    /// Opens the archive that a disk holds, in this namespace where one is given. Each volume is synced and read; nothing is
-    /// written. Refused, the disk is given back.
+    /// Opens the archive that a disk holds, in this namespace where one is given. Each volume is synced, and read as deep as that, by
+    /// checkpoints each file of those is synced too; nothing is written. Refused, the disk is given back.
     ///
     /// A disk without volumes opens to an archive without captures, in the namespace that is given, or in that of the UUID of
-    /// zeros. An archive that holds more captures than `limits` allow opens as well, and takes no further one. Each depth
-    /// reads every volume whole.
+    /// zeros. An archive that holds more captures than `limits` allow opens as well, and takes no further one. What is opened by checkpoints
+    /// isn't told, since a checkpoint may say something else than its volume holds.
     pub fn reopen(
         alloc: Global,
         disk: D,
         namespace: Option<Uuid>,
         limits: Limits,
-        _depth: Depth,
+        depth: Depth,
     ) -> Result<Archive<D>, (ReopenFault, D)>
         requires uuid { IfSome namespace IsUuid }
         requires limits { AreLimits limits }
-        ensures reopened { IfOk result (IsReopened D.Disk disk namespace limits) }
-        ensures refused { IfErr result (IsNotOpened D.Disk disk namespace) }
+        ensures reopened { IfOk result (IsReopenedAt depth D.Disk disk namespace limits) }
+        ensures refused { IfErr result (IsNotOpenedAt depth D.Disk disk namespace) }
     {
-        match open_volumes(alloc, disk, &namespace) {
-            Ok(opened) => {
-                let told = Shown::told_by(&limits);
-                archive_of(alloc, opened, limits, told)
-            }
-            Err(refused) => Err(refused),
+        Archive::reopen_known(alloc, disk, namespace, limits, depth)
+    }
+}
+
+/// Opens the archive that a disk holds by all that its volumes hold.
+pub(crate) fn open_whole<D: Disk>(
+    alloc: Global,
+    disk: D,
+    namespace: Option<Uuid>,
+    limits: Limits,
+) -> Result<Archive<D>, (ReopenFault, D)>
+    requires uuid { IfSome namespace IsUuid }
+    requires limits { AreLimits limits }
+    ensures reopened { IfOk result (IsReopened D.Disk disk namespace limits) }
+    ensures refused { IfErr result (IsNotOpened D.Disk disk namespace) }
+{
+    match open_volumes(alloc, disk, &namespace) {
+        Ok(opened) => {
+            let told = Shown::told_by(&limits);
+            archive_of(alloc, opened, limits, told)
         }
+        Err(refused) => Err(refused),
     }
 }
 
@@ -59,7 +76,8 @@ pub(crate) fn archive_of<D: Disk>(
 ) -> Result<Archive<D>, (ReopenFault, D)>
     requires limits { AreLimits limits }
     requires usable { IsUsable D.Disk told.value opened }
-    requires entries { AreEntries (book_of opened.gathered.held) opened.gathered.entries.items }
+    requires numbered { AreNumbered opened.gathered }
+    requires entries { IsTrue told.value → AreEntries (book_of opened.gathered.held) opened.gathered.entries.items }
     ensures made { IfOk result (IsMadeOf opened limits told.value) }
     ensures memory { IfErr result (λ refused. refused ≡ (IsMemory, disk_of opened.journal)) }
 {

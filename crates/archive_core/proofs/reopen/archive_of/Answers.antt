@@ -6,7 +6,7 @@ use Rattle.warc_text.specs.Books.{AreVolumeTexts}
 use Rattle.warc_text.specs.Sound.{IsSound}
 use Rattle.archive_volumes.specs.Held.{book_of}
 use Rattle.archive_volumes.specs.declared.volumes.Volumes.{Volumes}
-use Rattle.archive_core.proofs.ReopenLaws.{AreParts, made_archive, parts_of, same_spot, shown_sorted}
+use Rattle.archive_core.proofs.MadeLaws.{AreParts, entries_as, made_archive, named_by, parts_of, same_spot, shown_sorted}
 use Rattle.archive_core.proofs.reopen.archive_of.Given.{Over}
 use Rattle.archive_core.proofs.reopen.archive_of.Goals as goal
 
@@ -16,7 +16,7 @@ book_is g c = ap (λ (v : Volumes _). book_of v.held) c.over.ensures.value ∙ a
 parts : (g : Over) (c : goal.After-over g) → AreParts g.D.Disk c.args.told.value c.over.result.journal (book_of c.over.result.held) c.into_parts-held.result.1.items
     c.into_parts-held.result.2 c.args.opened.gathered.lengths.items c.into_parts-held.result.3.items
 parts g c =
-    parts_of g.D.Disk c.args.told.value c.args.opened c.requires.usable c.requires.entries c.over.result.journal (book_of c.over.result.held) c.into_parts-held.result.1.items
+    parts_of g.D.Disk c.args.told.value c.args.opened c.requires.usable c.requires.numbered c.requires.entries c.over.result.journal (book_of c.over.result.held) c.into_parts-held.result.1.items
     c.into_parts-held.result.2 c.into_parts-held.result.3.items (ap (λ (v : Volumes _). v.journal) c.over.ensures.value) (book_is g c)
     c.into_parts-held.ensures.spots c.into_parts-held.ensures.table c.into_parts-held.ensures.entries
 
@@ -49,14 +49,20 @@ returns-clause-made g c =
     ap (λ (v : Volumes _). book_of v.held) c.over.ensures.value ∙ ap book_of c.into_parts-held.ensures.held in
     let are : AreParts g.D.Disk c.args.told.value c.over.result.journal (book_of c.over.result.held) c.into_parts-held.result.1.items
     c.into_parts-held.result.2 c.args.opened.gathered.lengths.items c.into_parts-held.result.3.items =
-    parts_of g.D.Disk c.args.told.value c.args.opened c.requires.usable c.requires.entries c.over.result.journal (book_of c.over.result.held) c.into_parts-held.result.1.items
+    parts_of g.D.Disk c.args.told.value c.args.opened c.requires.usable c.requires.numbered c.requires.entries c.over.result.journal (book_of c.over.result.held) c.into_parts-held.result.1.items
     c.into_parts-held.result.2 c.into_parts-held.result.3.items (ap (λ (v : Volumes _). v.journal) c.over.ensures.value) book
     c.into_parts-held.ensures.spots c.into_parts-held.ensures.table c.into_parts-held.ensures.entries in
     let count : c.len-found.result ≡ length c.into_parts-held.result.1.items = search rules in
     record {
       journal_is = ap (λ (v : Volumes _). v.journal) c.over.ensures.value;
       book_is = book;
-      shown = shown_sorted g.D.Disk c.args.told.value c.over.result.journal (book_of c.over.result.held) c.into_parts-held.result.1.items c.into_parts-held.result.2
+      spots_are = c.into_parts-held.ensures.spots;
+      shown = λ entries.
+          shown_sorted g.D.Disk c.args.told.value c.over.result.journal (book_of c.over.result.held) c.into_parts-held.result.1.items c.into_parts-held.result.2
+          c.args.opened.gathered.lengths.items c.into_parts-held.result.3.items c.in-Ok.index are c.in-Ok.ensures.same c.in-Ok.ensures.index
+          (entries_as (book_of c.args.opened.gathered.held) (book_of c.over.result.held) c.args.opened.gathered.entries.items c.into_parts-held.result.3.items
+          book c.into_parts-held.ensures.entries entries);
+      named = named_by g.D.Disk c.args.told.value c.over.result.journal (book_of c.over.result.held) c.into_parts-held.result.1.items c.into_parts-held.result.2
           c.args.opened.gathered.lengths.items c.into_parts-held.result.3.items c.in-Ok.index are c.in-Ok.ensures.same c.in-Ok.ensures.index;
       found = count ∙ are.0.count;
       limits_are = refl;

@@ -1,33 +1,13 @@
-use Rattle.std.proofs.Common.{Bool, subst, sym}
-use Rattle.std.specs.Prelude.{IfOk}
-use Rattle.archive_opening.specs.Gathering.{IsUsable}
-use Rattle.archive_volumes.proofs.ChangeLaws.{DiskLaws}
-use Rattle.archive_core.specs.Reopening.{IsMadeOf}
-use Rattle.archive_core.proofs.ReopenLaws.{no_memory, not_opened, reopened}
-use Rattle.archive_core.proofs.archive.Archive.reopen.Given.{Over}
+use Rattle.archive_core.proofs.KnownLaws.{opened_at, refused_at}
 use Rattle.archive_core.proofs.archive.Archive.reopen.Goals as goal
 
--- what is asked of the disk
-disk_laws : (g : Over) → DiskLaws g.D.Disk
-disk_laws g = record { earlier = g.met.D.Disk.earlier; now_counts = g.met.D.Disk.now_counts; now_only = g.met.D.Disk.now_only }
+pub reopen_known-requires : goal.reopen_known-requires
+reopen_known-requires g c = λ κs within. (within, (c.requires.uuid, (c.requires.limits, (tt, λ by_checkpoints. tt))))
 
-pub archive_of-requires-clause-usable : goal.archive_of-requires-clause-usable
-archive_of-requires-clause-usable g c =
-    subst (λ (told : Bool). IsUsable g.D.Disk told c.in-Ok.opened) (sym c.told_by-told.ensures) c.in-Ok.ensures.opened.usable
+pub returns-clause-reopened : goal.returns-clause-reopened
+returns-clause-reopened g c =
+    opened_at g.D.Disk c.args.disk c.args.namespace c.args.limits c.args.depth c.reopen_known.result c.reopen_known.ensures.reopened c.reopen_known.ensures.whole
 
-pub archive_of-requires-clause-entries : goal.archive_of-requires-clause-entries
-archive_of-requires-clause-entries g c = c.in-Ok.ensures.opened.entries
-
-pub returns-in-Ok-clause-reopened : goal.returns-in-Ok-clause-reopened
-returns-in-Ok-clause-reopened g c =
-    reopened g.D.Disk (disk_laws g) c.args.disk c.args.namespace c.args.limits c.in-Ok.opened c.in-Ok.ensures.opened c.archive_of.result
-    (subst (λ (told : Bool). IfOk c.archive_of.result (IsMadeOf c.in-Ok.opened c.args.limits told)) c.told_by-told.ensures c.archive_of.ensures.made)
-
-pub returns-in-Ok-clause-refused : goal.returns-in-Ok-clause-refused
-returns-in-Ok-clause-refused g c =
-    no_memory g.D.Disk (disk_laws g) c.args.disk c.args.namespace c.args.limits c.in-Ok.opened c.in-Ok.ensures.opened c.archive_of.result c.archive_of.ensures.memory
-
-pub returns-in-Err-clause-refused : goal.returns-in-Err-clause-refused
-returns-in-Err-clause-refused g c =
-    not_opened g.D.Disk (disk_laws g) c.args.disk c.args.namespace c.args.limits c.in-Err.refused c.in-Err.ensures.cause c.in-Err.ensures.damage c.in-Err.ensures.other
-    c.in-Err.ensures.given_back c.in-Err.ensures.faults
+pub returns-clause-refused : goal.returns-clause-refused
+returns-clause-refused g c =
+    refused_at g.D.Disk c.args.disk c.args.namespace c.args.depth c.reopen_known.result c.reopen_known.ensures.refused c.reopen_known.ensures.whole_refused

@@ -1,5 +1,6 @@
--- The book is told where the disk tells.
+-- Nothing is known of the book.
+use Rattle.std.specs.Prelude.{None}
 use Rattle.archive_core.proofs.archive.Archive.reopen.Given as goal
 
-abbrev pub ghost-told_by : goal.ghost-told_by
-ghost-told_by g a = g.D.Disk.tells
+abbrev pub ghost-reopen_known : goal.ghost-reopen_known
+ghost-reopen_known g a = None

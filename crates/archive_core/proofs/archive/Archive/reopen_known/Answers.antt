@@ -1,11 +1,11 @@
-use Rattle.std.proofs.Common.{Bool, subst, sym}
+use Rattle.std.proofs.Common.{subst, sym}
 use Rattle.std.specs.Prelude.{IfOk}
-use Rattle.archive_opening.specs.Gathering.{IsUsable}
 use Rattle.archive_shelf.specs.declared.depth.Depth.{Depth}
+use Rattle.archive_opening.specs.Telling.{MayBeSettled}
 use Rattle.archive_volumes.proofs.ChangeLaws.{DiskLaws}
-use Rattle.archive_core.specs.Known.{told_at}
-use Rattle.archive_core.specs.Reopening.{IsMadeOf}
-use Rattle.archive_core.proofs.ReopenLaws as laws
+use Rattle.archive_core.specs.Known.{IsReopenedKnown}
+use Rattle.archive_core.proofs.KnownLaws.{may_be_settled}
+use Rattle.archive_core.proofs.ReopenLaws.{known_whole, none_known}
 use Rattle.archive_core.proofs.archive.Archive.reopen_known.Given.{Over}
 use Rattle.archive_core.proofs.archive.Archive.reopen_known.Goals as goal
 
@@ -13,45 +13,21 @@ use Rattle.archive_core.proofs.archive.Archive.reopen_known.Goals as goal
 disk_laws : (g : Over) → DiskLaws g.D.Disk
 disk_laws g = record { earlier = g.met.D.Disk.earlier; now_counts = g.met.D.Disk.now_counts; now_only = g.met.D.Disk.now_only }
 
-pub archive_of-requires-clause-usable : goal.archive_of-requires-clause-usable
-archive_of-requires-clause-usable g c =
-    subst (λ (told : Bool). IsUsable g.D.Disk told c.in-Ok.opened) (sym c.told_by-told.ensures)
-    (laws.usable_as g.D.Disk c.in-Ok.opened (told_at c.args.depth g.D.Disk.tells g.known) (laws.told_only c.args.depth g.D.Disk.tells g.known)
-    c.in-Ok.ensures.opened.usable c.in-Ok.ensures.opened.all_read)
+pub returns-in-Whole-clause-reopened : goal.returns-in-Whole-clause-reopened
+returns-in-Whole-clause-reopened g c =
+    subst (λ (depth : Depth). IfOk c.open_whole.result (IsReopenedKnown g.D.Disk c.args.disk c.args.namespace c.args.limits depth g.known)) (sym c.in-Whole.is)
+    (known_whole g.D.Disk (disk_laws g) c.args.disk c.args.namespace c.args.limits g.known c.requires.1.1.1.0 c.open_whole.result c.open_whole.ensures.reopened)
 
-pub archive_of-requires-clause-entries : goal.archive_of-requires-clause-entries
-archive_of-requires-clause-entries g c = c.in-Ok.ensures.opened.entries
+pub returns-in-Whole-clause-refused : goal.returns-in-Whole-clause-refused
+returns-in-Whole-clause-refused g c =
+    none_known g.D.Disk (disk_laws g) c.args.disk c.args.namespace c.args.limits g.known c.requires.1.1.1.0 c.open_whole.result c.open_whole.ensures.refused
 
-pub returns-in-Ok-clause-reopened : goal.returns-in-Ok-clause-reopened
-returns-in-Ok-clause-reopened g c =
-    laws.reopened_known g.D.Disk (disk_laws g) c.args.disk c.args.namespace c.args.limits c.in-Ok.opened c.in-Ok.ensures.opened c.archive_of.result
-    (told_at c.args.depth g.D.Disk.tells g.known) (laws.told_only c.args.depth g.D.Disk.tells g.known) g.known c.requires.1.1.1
-    (subst (λ (told : Bool). IfOk c.archive_of.result (IsMadeOf c.in-Ok.opened c.args.limits told)) c.told_by-told.ensures c.archive_of.ensures.made)
+pub open_told-requires-clause-known : goal.open_told-requires-clause-known
+open_told-requires-clause-known g c =
+    subst (MayBeSettled g.D.Disk c.args.disk c.args.namespace) (sym c.told_by-known.ensures)
+    (may_be_settled g.D.Disk c.args.disk c.args.namespace g.known c.requires.1.1.1.0 (c.requires.1.1.1.1 c.in-Checkpoints.is))
 
-pub returns-in-Ok-clause-whole : goal.returns-in-Ok-clause-whole
-returns-in-Ok-clause-whole g c whole =
-    laws.reopened g.D.Disk (disk_laws g) c.args.disk c.args.namespace c.args.limits c.in-Ok.opened c.in-Ok.ensures.opened c.archive_of.result
-    (subst (λ (depth : Depth). IfOk c.archive_of.result (IsMadeOf c.in-Ok.opened c.args.limits (told_at depth g.D.Disk.tells g.known))) whole
-    (subst (λ (told : Bool). IfOk c.archive_of.result (IsMadeOf c.in-Ok.opened c.args.limits told)) c.told_by-told.ensures c.archive_of.ensures.made))
-
-pub returns-in-Ok-clause-refused : goal.returns-in-Ok-clause-refused
-returns-in-Ok-clause-refused g c =
-    laws.none_known g.D.Disk (disk_laws g) c.args.disk c.args.namespace c.args.limits g.known c.requires.1.1.1 c.archive_of.result
-    (laws.no_memory g.D.Disk (disk_laws g) c.args.disk c.args.namespace c.args.limits c.in-Ok.opened c.in-Ok.ensures.opened c.archive_of.result
-    c.archive_of.ensures.memory)
-
-pub returns-in-Ok-clause-whole_refused : goal.returns-in-Ok-clause-whole_refused
-returns-in-Ok-clause-whole_refused g c whole =
-    laws.no_memory g.D.Disk (disk_laws g) c.args.disk c.args.namespace c.args.limits c.in-Ok.opened c.in-Ok.ensures.opened c.archive_of.result
-    c.archive_of.ensures.memory
-
-pub returns-in-Err-clause-refused : goal.returns-in-Err-clause-refused
-returns-in-Err-clause-refused g c =
-    laws.not_known g.D.Disk (disk_laws g) c.args.disk c.args.namespace c.args.limits g.known c.requires.1.1.1 c.in-Err.refused
-    (laws.not_opened g.D.Disk (disk_laws g) c.args.disk c.args.namespace c.args.limits c.in-Err.refused c.in-Err.ensures.cause c.in-Err.ensures.damage
-    c.in-Err.ensures.other c.in-Err.ensures.given_back c.in-Err.ensures.faults)
-
-pub returns-in-Err-clause-whole_refused : goal.returns-in-Err-clause-whole_refused
-returns-in-Err-clause-whole_refused g c whole =
-    laws.not_opened g.D.Disk (disk_laws g) c.args.disk c.args.namespace c.args.limits c.in-Err.refused c.in-Err.ensures.cause c.in-Err.ensures.damage
-    c.in-Err.ensures.other c.in-Err.ensures.given_back c.in-Err.ensures.faults
+pub returns-in-Checkpoints-clause-reopened : goal.returns-in-Checkpoints-clause-reopened
+returns-in-Checkpoints-clause-reopened g c =
+    subst (λ (depth : Depth). IfOk c.open_told.result (IsReopenedKnown g.D.Disk c.args.disk c.args.namespace c.args.limits depth g.known))
+    (sym c.in-Checkpoints.is) (rw c.told_by-known.ensures at c.open_told.ensures.reopened)

@@ -1,0 +1,154 @@
+-- What is opened by checkpoints, where its book is named or nothing is known.
+use Rattle.std.proofs.Common.{◌≡◌, ℕ, Bool, IsTrue, List, length, Option, Some, None, Result, Ok, Err, refl, sym, ap, subst, ◌∙◌, inl, inr, arith}
+use Rattle.std.specs.Prelude.{IfErr, IfOk, IfSome, is_some, slice_get, true, false}
+use Rattle.std.proofs.lemmas.Bool.{false≢true}
+use Rattle.capture.specs.declared.book.Book.{Book}
+use Rattle.capture.specs.declared.limits.Limits.{Limits}
+use Rattle.cdxj_index.specs.OfBook.{AreEntries}
+use Rattle.disk_model.specs.declared.disk.Disk.{Ghosts}
+use Rattle.warc_journal.specs.Extents.{warc_files}
+use Rattle.warc_journal.specs.Journals.{Rests, disk_of}
+use Rattle.warc_journal.specs.declared.journal.Journal.{Journal}
+use Rattle.warc_text.specs.StandsFor.{StandsFor}
+use Rattle.archive_shelf.specs.Digests.{HasRequest}
+use Rattle.archive_shelf.specs.Openings.{SameBook}
+use Rattle.archive_shelf.specs.declared.depth.Depth.{Depth}
+use Rattle.archive_shelf.specs.declared.depth.Depth.TheVariants as depths
+use Rattle.archive_shelf.specs.declared.fault.ReopenFault.{ReopenFault}
+use Rattle.archive_volumes.proofs.ChangeLaws.{DiskLaws, quiet_by}
+use Rattle.archive_opening.specs.Gathering.{IsOpened, IsUsable}
+use Rattle.archive_volumes.specs.Held.{book_of}
+use Rattle.archive_volumes.specs.declared.spot.Spot.{Spot}
+use Rattle.archive_core.specs.Holdings.{Holdings}
+use Rattle.archive_opening.specs.Opening.{CountsFault, IsCause, IsDamageIn, IsOtherIn, IsOutside}
+use Rattle.archive_core.specs.Reopening.{IsMadeOf, IsNotOpened, IsReopened}
+use Rattle.archive_core.specs.Known.{HasCheckpointsOfKnown, IsNotOpenedAt, IsNotOpenedKnown, IsReopenedAt, IsReopenedKnown, MayBeKnown, told_at}
+use Rattle.archive_opening.specs.declared.opening.Opened.{Opened}
+use Rattle.archive_opening.specs.Telling.{AreCheckpointsSynced, AreReadOrTold, IsKnownRefusal, IsOpenedBy, IsReadWhole, MayBeSettled, known_to}
+use Rattle.archive_core.proofs.ReopenLaws.{IsBasis, as_read, known_as, not_opened}
+
+-- ---- by checkpoints
+
+-- what is known of a disk is told just where a book is named and the disk tells
+told_is : (tells : Bool) (known : Option Book) → is_some (known_to tells known) ≡ told_at depths.Checkpoints tells known
+told_is true None = refl
+told_is true (Some book) = refl
+told_is false None = refl
+told_is false (Some book) = refl
+
+-- what holds of a book that is known to the disk holds of the one that is named, where that is told
+of_known : (tells : Bool) (known : Option Book) (P : Book → Type 0) → IfSome (known_to tells known) P → IsTrue (told_at depths.Checkpoints tells known)
+    → IfSome known P
+of_known tells None P has so = tt
+of_known true (Some book) P has so = has
+of_known false (Some book) P has so = absurd (false≢true so)
+
+-- and whatever holds of each
+whatever : (tells : Bool) (known : Option Book) (P : Type 0) → IfSome (known_to tells known) (λ book. P) → IsTrue (told_at depths.Checkpoints tells known) → P
+whatever tells None P has so = absurd (false≢true so)
+whatever true (Some book) P has so = has
+whatever false (Some book) P has so = absurd (false≢true so)
+
+-- the files that stand for a book stand for one that is the same
+stands_too : (files : List (List ℕ)) (a b : Book) → SameBook a b → StandsFor files b → StandsFor files a
+stands_too files a b (inl same) for = subst (StandsFor files) (sym same) for
+stands_too files a b (inr none) for = record {
+  texts = for.texts;
+  are = record {
+    count = for.are.count ∙ ap length none.1 ∙ sym (ap length none.0);
+    each = λ k less. absurd (omega (arith, less, for.are.count, ap length none.1));
+  };
+  held = for.held;
+}
+
+-- a book for which a read is settled may be known
+pub may_be_known : {D : Type 0} (d : Ghosts D) (disk : D) (asked : Option (List ℕ)) (known : Option Book) → MayBeSettled d disk asked known
+    → MayBeKnown d disk asked known
+may_be_known d disk asked None may = tt
+may_be_known d disk asked (Some book) may = λ so.
+    let it = may so in
+    record { stands = it.0.stands; ids = it.0.ids; asked_for = it.1 }
+
+-- a known book may be one for which it is settled
+pub may_be_settled : {D : Type 0} (d : Ghosts D) (disk : D) (asked : Option (List ℕ)) (known : Option Book) → MayBeKnown d disk asked known
+    → HasCheckpointsOfKnown d disk known → MayBeSettled d disk asked known
+may_be_settled d disk asked None may has = tt
+may_be_settled d disk asked (Some book) may has = λ so.
+    let it = may so in
+    (record { stands = it.stands; ids = it.ids; checkpoints = has so }, it.asked_for)
+
+module _ {D : Type 0} (d : Ghosts D) (laws : DiskLaws d) (disk : D) (asked : Option (List ℕ)) (limits : Limits) (known : Option Book)
+    (may : MayBeSettled d disk asked known) where
+  module _ (opened : Opened D) (is : IsOpenedBy d disk asked (known_to d.tells known) opened) where
+    pub usable_told : IsUsable d (told_at depths.Checkpoints d.tells known) opened
+    usable_told = subst (λ (t : Bool). IsUsable d t opened) (told_is d.tells known) is.usable
+
+    pub entries_told : IsTrue (told_at depths.Checkpoints d.tells known) → AreEntries (book_of opened.gathered.held) opened.gathered.entries.items
+    entries_told = whatever d.tells known (AreEntries (book_of opened.gathered.held) opened.gathered.entries.items) is.entries
+
+    same_told : IsTrue (told_at depths.Checkpoints d.tells known) → IfSome known (λ book. SameBook (book_of opened.gathered.held) book)
+    same_told = of_known d.tells known (λ book. SameBook (book_of opened.gathered.held) book) is.known_is
+
+    stands_told : (k : Option Book) → MayBeSettled d disk asked k → IfSome k (λ book. SameBook (book_of opened.gathered.held) book)
+        → IsTrue (told_at depths.Checkpoints d.tells k) → StandsFor (warc_files (d.reading disk)) (book_of opened.gathered.held)
+    stands_told None settled same so = absurd (false≢true so)
+    stands_told (Some book) settled same so =
+        stands_too (warc_files (d.reading disk)) (book_of opened.gathered.held) book same (settled so).0.stands.for
+
+    pub basis_told : IsBasis d disk asked (told_at depths.Checkpoints d.tells known) opened
+    basis_told = record {
+      usable = usable_told;
+      stands = λ so. stands_told known may (same_told so) so;
+      entries = entries_told;
+      in_namespace = is.in_namespace;
+      rests = is.rests;
+      faults = is.faults;
+    }
+
+    pub reopened_told : (IsTrue d.tells → IsReadWhole (d.reading disk) → IsOpened d disk asked opened)
+        → (IsTrue d.tells → AreCheckpointsSynced (d.reading disk) (d.images (disk_of opened.journal))) → (result : Result (Holdings D) (ReopenFault × D))
+        → IfOk result (IsMadeOf opened limits (told_at depths.Checkpoints d.tells known))
+        → IfOk result (IsReopenedKnown d disk asked limits depths.Checkpoints known)
+    reopened_told read synced (Ok held) made =
+        known_as d laws disk asked limits (told_at depths.Checkpoints d.tells known) opened basis_told held made depths.Checkpoints known refl
+        (λ so. subst (λ (b : Book). IfSome known (λ book. SameBook b book)) (sym made.book_is) (same_told so))
+        (record {
+          requested = λ number spot at read_it. subst (λ (b : Book). HasRequest b number) (sym made.book_is)
+              (is.requested.each number spot (subst (λ (spots : List Spot). slice_get spots number ≡ Some spot) made.spots_are at) read_it);
+          read = λ so. subst (AreReadOrTold (d.reading disk)) (sym made.spots_are) (is.lined so);
+          synced = λ so. subst (λ (j : Journal D). AreCheckpointsSynced (d.reading disk) (d.images (disk_of j))) (sym made.journal_is) (synced so);
+        })
+        (λ so whole. as_read d laws disk asked limits (told_at depths.Checkpoints d.tells known) opened (read so whole) held made)
+    reopened_told read synced (Err refused) made = tt
+
+  pub refused_told : (refused : ReopenFault × D) → IsKnownRefusal (known_to d.tells known) refused.0 → IsCause asked refused.0
+      → (IsTrue d.tells → IsReadWhole (d.reading disk) → IsDamageIn (warc_files (d.reading disk)) refused.0)
+      → (IsTrue d.tells → IsReadWhole (d.reading disk) → IsOtherIn (warc_files (d.reading disk)) asked refused.0)
+      → (IsTrue d.tells → Rests d disk refused.1) → CountsFault (d.faults disk) (d.faults refused.1) refused.0
+      → IsNotOpenedKnown d disk asked known refused
+  refused_told refused outside cause damage other rests count = record {
+    cause = cause;
+    complete = by known outside;
+    unsettled = λ so read. not_opened d laws disk asked limits refused cause (λ _. damage so read) (λ _. other so read) rests count;
+    rests = rests;
+    quiet = quiet_by d laws disk refused.1 rests;
+    faults = count;
+  }
+    where
+      by : (k : Option Book) → IfSome (known_to d.tells k) (λ _. IsOutside refused.0) → IfSome k (λ book. IsTrue d.tells → IsOutside refused.0)
+      by None has = tt
+      by (Some book) has = λ so. of_known d.tells (Some book) (λ _. IsOutside refused.0) has so
+
+-- ---- by a depth, where nothing is known
+
+pub opened_at : {D : Type 0} (d : Ghosts D) (disk : D) (asked : Option (List ℕ)) (limits : Limits) (depth : Depth)
+    (result : Result (Holdings D) (ReopenFault × D)) → IfOk result (IsReopenedKnown d disk asked limits depth None)
+    → (depth ≡ depths.Whole → IfOk result (IsReopened d disk asked limits)) → IfOk result (IsReopenedAt depth d disk asked limits)
+opened_at d disk asked limits depths.Whole result known whole = whole refl
+opened_at d disk asked limits depths.Checkpoints result known whole = known
+
+pub refused_at : {D : Type 0} (d : Ghosts D) (disk : D) (asked : Option (List ℕ)) (depth : Depth) (result : Result (Holdings D) (ReopenFault × D))
+    → IfErr result (IsNotOpenedKnown d disk asked None) → (depth ≡ depths.Whole → IfErr result (IsNotOpened d disk asked))
+    → IfErr result (IsNotOpenedAt depth d disk asked)
+refused_at d disk asked depths.Whole result known whole = whole refl
+refused_at d disk asked depths.Checkpoints result known whole = known
