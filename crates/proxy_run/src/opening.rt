@@ -38,24 +38,7 @@ pub fn open<D: Disk, O: Sink>(
     ensures refused { IfErr result (λ ran. IsNotOpened D.Disk O.Sink asked disk ran.disk out.old out.new ran.status) }
     ensures prints_nothing { OnOk result (out.new ≡ out.old) }
 {
-    open_by(alloc, disk, asked, Depth::Whole, out)
-}
-
-/// Opens the archive on a disk, as deep as that. Refused, the cause was printed.
-pub fn open_by<D: Disk, O: Sink>(
-    alloc: Global,
-    disk: D,
-    asked: Option<Uuid>,
-    depth: Depth,
-    out: &mut O,
-) -> Result<Archive<D>, Ran<D>>
-    requires uuid { IfSome asked IsUuid }
-    ensures reopened { IfOk result (IsReopened D.Disk disk asked usual_limits) }
-    ensures opened { IfOk result (λ archive. IsOpened D.Disk asked disk (contents_of archive)) }
-    ensures refused { IfErr result (λ ran. IsNotOpened D.Disk O.Sink asked disk ran.disk out.old out.new ran.status) }
-    ensures prints_nothing { OnOk result (out.new ≡ out.old) }
-{
-    match Archive::reopen(alloc, disk, asked, LIMITS, depth) {
+    match Archive::reopen(alloc, disk, asked, LIMITS, Depth::Whole) {
         Ok(archive) => Ok(archive),
         Err((fault, disk)) => Err(Ran {
             status: print_fault(alloc, out, &fault),

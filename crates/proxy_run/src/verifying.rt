@@ -8,14 +8,13 @@ ghost use Rattle.proxy_run.specs.Opening.{IsNotOpened};
 ghost use Rattle.proxy_run.specs.Verifies.{ChecksVolumes, IsVerified};
 ghost use Rattle.proxy_run.specs.steps.Verifying.{ChecksUpTo, HasChecked, IsPlan, IsSmall, IsThere};
 
-use crate::opening::open_by;
+use crate::opening::open;
 use crate::plan::Plan;
 use crate::printing::print_as;
 use crate::report::Report;
 use crate::running::Ran;
 use crate::status::Status;
 use archive_core::Archive;
-use archive_shelf::Depth;
 use archive_volumes::VolumeFacts;
 use capture::{Memory, put_all};
 use disk_model::Disk;
@@ -38,7 +37,7 @@ pub fn verify<R: Threads + Sync, D: Disk, O: Sink>(
     ensures { IsVerified D.Disk O.Sink disk result.disk out.old out.new result.status
         ⊎ IsNotOpened D.Disk O.Sink None disk result.disk out.old out.new result.status }
 {
-    let archive = match open_by(alloc, disk, None, Depth::Checkpoints, out) {
+    let archive = match open(alloc, disk, None, out) {
         Ok(archive) => archive,
         Err(ran) => return ran,
     };

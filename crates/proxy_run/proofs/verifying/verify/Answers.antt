@@ -9,6 +9,6 @@ check_by-status-requires-clause-there g c = λ κs within.
 
 pub returns-in-Ok-plan_of : goal.returns-in-Ok-plan_of
 returns-in-Ok-plan_of g c =
-    inl (verified_by g.D.Disk g.O.Sink c.args.disk _ _ c.in-Ok.archive c.in-Ok-plan_of.plan c.args.out.now c.open_by.new.out _ _
+    inl (verified_by g.D.Disk g.O.Sink c.args.disk _ _ c.in-Ok.archive c.in-Ok-plan_of.plan c.args.out.now c.open.new.out _ _
     c.in-Ok.ensures.reopened c.in-Ok.ensures.opened c.close-disk.ensures.disk c.in-Ok-plan_of.ensures.namespace c.in-Ok-plan_of.ensures.volumes
     c.in-Ok.ensures.prints_nothing c.check_by-status.ensures.checked c.check_by-status.ensures.reading)

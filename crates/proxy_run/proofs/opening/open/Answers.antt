@@ -1,6 +1,6 @@
 -- The archive was opened, or it was refused.
 use Rattle.proxy_run.proofs.OpeningLaws.{opened_by, refused_by}
-use Rattle.proxy_run.proofs.opening.open_by.Goals as goal
+use Rattle.proxy_run.proofs.opening.open.Goals as goal
 
 pub returns-in-Ok-clause-opened : goal.returns-in-Ok-clause-opened
 returns-in-Ok-clause-opened g c =
