@@ -38,7 +38,7 @@ looks_on was is known more = record {
       tells = is_told (known i).seen;
       seen = told_book (known i).seen;
       shown = shown_in is.shown.items;
-      mine = own_captures (known i).numbers (known i).seen;
+      mine = (known i).number ∷ own_captures (known i).numbers (known i).seen;
       limits = told_limits (known i).seen;
     };
   };

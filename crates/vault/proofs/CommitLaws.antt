@@ -9,6 +9,7 @@ use Rattle.capture.specs.declared.captured.Stored as captured
 use Rattle.capture.specs.declared.captured.Taken.{Taken}
 use Rattle.capture.specs.declared.limits.Limits.{Limits}
 use Rattle.disk_model.specs.declared.disk.Disk.{Ghosts}
+use Rattle.warc_journal.specs.Journals.{disk_of}
 use Rattle.warc_text.specs.Sound.{IsSound}
 use Rattle.archive_shelf.specs.Answers.{HasVolumeAlone, IsByRule, StoreLeaves}
 use Rattle.archive_shelf.specs.Contents.{Contents}
@@ -23,10 +24,12 @@ use Rattle.history_lock.specs.Seen.{Adds, All}
 use Rattle.vault.specs.Guarded.{Stands}
 use Rattle.vault.specs.History.{after_kind, book_after, by_of, is_told, told_book, told_limits}
 use Rattle.vault.specs.Noting.{IsNoteOf, Notes, Noting, beginning, failing}
+use Rattle.vault.specs.Own.{AreCounted}
 use Rattle.vault.specs.Turns.{BeginsAtMost, CommitAnswers, Commits, IsStoring}
 use Rattle.vault.specs.declared.noted.Kind.{Kind}
 use Rattle.vault.specs.declared.noted.Kind.TheVariants.{Opened, Began, Stored, Failed}
 use Rattle.vault.specs.declared.noted.Noted.{Noted}
+use Rattle.vault.proofs.FaultLaws.{store_counted}
 use Rattle.vault.proofs.HistoryLaws.{as_told, begun_append, limits_append, told_append, told_stays}
 
 -- ---- whether a volume was begun
@@ -88,7 +91,7 @@ module _ (old new : Book) where
 
 storing_kind : (book : Book) (taken : Taken) (same : Option ℕ) (kind : Kind) → IsStoring taken same kind
     → after_kind book kind ≡ with_capture book (as_stored taken same)
-storing_kind book taken same (Opened held limits told list) is = absurd is
+storing_kind book taken same (Opened held limits told list faults) is = absurd is
 storing_kind book taken same (Began at) is = absurd is
 storing_kind book taken same (Stored stored as_same) is =
     ap (λ (t : Taken). with_capture book (as_stored t as_same)) is.0 ∙ ap (λ (o : Option ℕ). with_capture book (as_stored taken o)) is.1
@@ -263,11 +266,12 @@ tells_left taken was is (Err (stores.Damaged number kept found)) left = ap (λ (
 tells_left taken was is (Err stores.Memory) left = ap (λ (c : Contents). c.tells) left.others
 
 module _ {D : Type 0} (d : Ghosts D) (by : ℕ) (taken : Taken) (history after : List Noted) (was is : Holdings D)
-    (result : Result Receipt StoreFault) (began : Bool) (stands : Stands history was) where
+    (result : Result Receipt StoreFault) (began : Bool) (stands : Stands history was) (met : AreCounted history (d.faults (disk_of was.journal))) where
   -- a store that was made, noted
   pub all_committed : Stores d was is taken result → Tells was.book is.book began → (IsTrue is.told → IsSound is.book)
       → Noting history after (λ added. Notes by taken began result added)
-      → Stands after is × Adds by_of by history after (λ added. Commits (is_told history) taken history added result)
+      → (Stands after is × AreCounted after (d.faults (disk_of is.journal)))
+      × Adds by_of by history after (λ added. Commits (is_told history) taken history added result)
   all_committed store counted sound noting =
       let told_is : is.told ≡ was.told = tells_left taken was is result store.told.leaves in
       let left : StoreLeaves true taken (as_told (is_told history) was) (as_told (is_told history) is) result =
@@ -275,7 +279,11 @@ module _ {D : Type 0} (d : Ghosts D) (by : ℕ) (taken : Taken) (history after :
       (subst (λ (t : Bool). StoreLeaves true taken (contents_of was) (as_told t is) result) told_is store.told.leaves) in
       let c = committed (is_told history) by taken history was is stands began counted (limits_left taken was is result store.told.leaves) told_is
       result noting.added noting.done left in (
-        subst (λ (l : List Noted). Stands l is) (sym noting.joined) c.stands,
+        (
+          subst (λ (l : List Noted). Stands l is) (sym noting.joined) c.stands,
+          store_counted by taken began result history after (d.faults (disk_of was.journal)) (d.faults (disk_of is.journal)) stands.begun noting
+              store.told.faults met,
+        ),
         record {
           added = noting.added;
           is_before_and_added = noting.joined;

@@ -1,4 +1,5 @@
 pub mod HistoryLaws
+pub mod FaultLaws
 pub mod NotingLaws
 pub mod CommitLaws
 pub mod ReadLaws
@@ -18,6 +19,7 @@ pub mod JoinLaws
 pub mod ShowingLaws
 pub mod AtLaws
 pub mod MemberLaws
+pub mod ClosingLaws
 pub mod ShelfLaws
 pub mod BringLaws
 pub mod StoredLaws

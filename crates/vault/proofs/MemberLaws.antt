@@ -1,5 +1,5 @@
 -- Passes of a vault: as they are made, and as they stay.
-use Rattle.std.proofs.Common.{◌≡◌, ℕ, zero, suc, ◌+◌, ◌<◌, ◌≤◌, Bool, false, IsTrue, List, [], ◌∷◌, ◌++◌, length, Result, sym, ap, subst, ◌∙◌, arith}
+use Rattle.std.proofs.Common.{◌≡◌, ℕ, zero, suc, ◌+◌, ◌<◌, ◌≤◌, Bool, false, IsTrue, if◌then◌else◌, List, [], ◌∷◌, ◌++◌, length, Result, ne_eqb, refl, sym, ap, subst, ◌∙◌, arith}
 use Rattle.std.specs.Prelude.{IfSome, Option, None, Some, slice_get}
 use Rattle.std.specs.List as list
 use Rattle.capture.specs.declared.book.Book.{Book}
@@ -18,15 +18,18 @@ use Rattle.history_lock.specs.Known.{IsSamePass, Known, LockId}
 use Rattle.history_lock.specs.Seen.{Turn}
 use Rattle.vault.specs.Company.{Passing, contents_at, told_at}
 use Rattle.vault.specs.History.{IsBegun, IsOpening, by_of, is_told, told_book, told_in, told_limits}
-use Rattle.vault.specs.Members.{AreNewMembers, IsMember, IsNewMember, VaultName, name_of}
+use Rattle.vault.specs.Members.{AreMembers, AreNewMembers, IsMember, IsMemberAt, IsNewMember, VaultName, name_of}
 use Rattle.vault.specs.Orderly.{IsOrderly}
+use Rattle.vault.specs.Own.{count_faults, own_captures, own_faults}
 use Rattle.vault.specs.Passes.{IsNew}
 use Rattle.vault.specs.Turns.{AddsFaultAlone, BringsIt, GivesIt, StoresBy}
 use Rattle.vault.specs.declared.noted.Noted.{Noted}
 use Rattle.vault.proofs.BringLaws.{gives_as}
+use Rattle.vault.proofs.FaultLaws.{one_if}
 use Rattle.vault.proofs.OrderlyLaws.{fault_at_most, named_begun, new_are_orderly, reads_keep, stores_keep}
 use Rattle.vault.proofs.PassLaws.{all_of}
-use Rattle.vault.proofs.ShelfLaws.{Leaves, number_if, one_if, read_book, read_turn, reads_on, shows_book}
+use Rattle.vault.proofs.SharingLaws.{among_one}
+use Rattle.vault.proofs.ShelfLaws.{Leaves, number_if, read_book, read_turn, reads_on, shows_book}
 use Rattle.vault.proofs.StoredLaws.{store_left, store_sound, stores_on}
 
 pub member_same : (vault : VaultName) (was is : Known Noted) → is ≡ was → IsMember vault was → IsMember vault is
@@ -45,15 +48,15 @@ opening_limits book limits (noted ∷ []) opens = opens.2
 opening_limits book limits (noted ∷ next ∷ others) opens = absurd opens
 
 within_by : {A : Type 0} (P Q : A → Type 0) (xs : List A) (k : ℕ) → ((x : A) → k < length xs → P x → Q x) → IfSome (slice_get xs k) P → IfSome (slice_get xs k) Q
-within_by P Q [] k then h = tt
-within_by P Q (x ∷ xs) zero then h = then x (omega arith) h
-within_by P Q (x ∷ xs) (suc k) then h = within_by P Q xs k (λ y less. then y (omega (arith, less))) h
+within_by P Q [] k step h = tt
+within_by P Q (x ∷ xs) zero step h = step x (omega arith) h
+within_by P Q (x ∷ xs) (suc k) step h = within_by P Q xs k (λ y less. step y (omega (arith, less))) h
 
-module _ (tells : Bool) (lock : LockId) (passes : ℕ) (book : Book) (limits : Limits) where
+module _ (tells : Bool) (faults : ℕ) (lock : LockId) (passes : ℕ) (book : Book) (limits : Limits) where
   abbrev pub named_so : VaultName
-  named_so = record { lock = lock; passes = passes; book = book; limits = limits; tells = tells }
+  named_so = record { lock = lock; passes = passes; book = book; limits = limits; tells = tells; faults = faults }
 
-  new_member : (IsTrue tells → IsSound book) → (number : ℕ) → 1 ≤ number → number ≤ passes → (p : Passing) → IsNew tells lock passes number book limits p
+  new_member : (IsTrue tells → IsSound book) → (number : ℕ) → 1 ≤ number → number ≤ passes → (p : Passing) → IsNew tells faults lock passes number book limits p
       → IsNewMember named_so number p
   new_member sound number low high p new =
       let book_is = opening_book book limits p.known.seen new.made.opens in
@@ -65,35 +68,38 @@ module _ (tells : Bool) (lock : LockId) (passes : ℕ) (book : Book) (limits : L
           orderly = new_are_orderly lock passes number book limits p.known low high new.made;
           limits_are = opening_limits book limits p.known.seen new.made.opens;
           told = new.told;
+          given = new.given;
           sound = λ t. subst (λ (b : Book). IsSound b) (sym book_is) (sound t);
         };
         number_is = ap (λ (k : Known Noted). k.number) new.made.is;
         book_is = book_is;
+        opens = new.made.opens;
         shows = new.shows;
       }
 
-  name_is : (made : List Passing) → 0 < length made → 0 < passes → ((k : ℕ) → IfSome (slice_get made k) (IsNew tells lock passes (k + 1) book limits))
+  name_is : (made : List Passing) → 0 < length made → 0 < passes → ((k : ℕ) → IfSome (slice_get made k) (IsNew tells faults lock passes (k + 1) book limits))
       → name_of lock made ≡ named_so
   name_is [] some many each = absurd (omega (arith, some))
   name_is (p ∷ others) some many each =
-      let first : IsNew tells lock passes 1 book limits p = each zero in
+      let first : IsNew tells faults lock passes 1 book limits p = each zero in
       λ i. record {
         lock = lock;
         passes = ap (λ (k : Known Noted). k.passes) first.made.is i;
         book = (new_are_orderly lock passes 1 book limits p.known (omega arith) many first.made).given i;
         limits = opening_limits book limits p.known.seen first.made.opens i;
         tells = first.told i;
+        faults = first.given i;
       }
 
   module _ (sound : IsTrue tells → IsSound book) (many : 0 < passes) (made : List Passing) (count : length made ≡ passes)
-      (each : (k : ℕ) → IfSome (slice_get made k) (IsNew tells lock passes (k + 1) book limits)) where
+      (each : (k : ℕ) → IfSome (slice_get made k) (IsNew tells faults lock passes (k + 1) book limits)) where
     pub new_name : name_of lock made ≡ named_so
     new_name = name_is made (omega (arith, many, count)) many each
 
     pub new_members : AreNewMembers (name_of lock made) made
     new_members = subst (λ (v : VaultName). AreNewMembers v made) (sym new_name) (record {
       count = count;
-      each = λ k. within_by (IsNew tells lock passes (k + 1) book limits) (IsNewMember named_so (k + 1)) made k
+      each = λ k. within_by (IsNew tells faults lock passes (k + 1) book limits) (IsNewMember named_so (k + 1)) made k
           (λ p less new. new_member sound (k + 1) (omega arith) (omega (arith, less, count)) p new) (each k);
     })
 
@@ -104,6 +110,37 @@ member_if vault number (Some p) new = new.member
 pub members_all : (vault : VaultName) (passes : List Passing) → AreNewMembers vault passes → list.All (λ (p : Passing). IsMember vault p.known) passes
 members_all vault passes new =
     all_of (λ (p : Passing). IsMember vault p.known) passes (λ k. member_if vault (k + 1) (slice_get passes k) (new.each k))
+
+-- ---- of a new one nothing is its own yet
+
+opening_captures : (numbers : List ℕ) (book : Book) (limits : Limits) (seen : List Noted) → IsOpening book limits seen → own_captures numbers seen ≡ []
+opening_captures numbers book limits [] opens = absurd opens
+opening_captures numbers book limits (noted ∷ []) opens = refl
+opening_captures numbers book limits (noted ∷ next ∷ others) opens = absurd opens
+
+opening_faults : (number : ℕ) → 1 ≤ number → (book : Book) (limits : Limits) (seen : List Noted) → IsOpening book limits seen → own_faults (number ∷ []) seen ≡ 0
+opening_faults number low book limits [] opens = absurd opens
+opening_faults number low book limits (noted ∷ []) opens =
+    let none = opens.0 in
+    ap (λ (b : Bool). count_faults (if b then noted ∷ [] else []))
+    (among_one number noted.by false (ne_eqb noted.by number (λ e. absurd (omega (arith, e, low, none)))))
+opening_faults number low book limits (noted ∷ next ∷ others) opens = absurd opens
+
+module _ (vault : VaultName) (number : ℕ) (pass : Passing) (new : IsNewMember vault number pass) where
+  pub new_captures : own_captures pass.known.numbers pass.known.seen ≡ []
+  new_captures = opening_captures pass.known.numbers vault.book vault.limits pass.known.seen new.opens
+
+  pub new_faults : own_faults pass.known.numbers pass.known.seen ≡ 0
+  new_faults =
+      ap (λ (ns : List ℕ). own_faults ns pass.known.seen) new.member.alone
+      ∙ opening_faults pass.known.number new.member.orderly.numbered.0 vault.book vault.limits pass.known.seen new.opens
+
+at_if : (vault : VaultName) (number : ℕ) (pass : Option Passing) → IfSome pass (IsNewMember vault number) → IfSome pass (IsMemberAt vault number)
+at_if vault number None new = tt
+at_if vault number (Some p) new = record { member = new.member; number_is = new.number_is }
+
+pub new_are_members : (vault : VaultName) (passes : List Passing) → AreNewMembers vault passes → AreMembers vault passes
+new_are_members vault passes new = record { count = new.count; each = λ k. at_if vault (k + 1) (slice_get passes k) (new.each k) }
 
 -- ---- as they stay
 
@@ -120,6 +157,7 @@ module _ (vault : VaultName) (was is : Known Noted) (same : IsSamePass was is) (
     orderly = orderly;
     limits_are = leaves.limits ∙ member.limits_are;
     told = leaves.told ∙ member.told;
+    given = leaves.given ∙ member.given;
     sound = λ t. sound (subst (λ (b : Bool). IsTrue b) (sym member.told) t);
   }
 

@@ -4,8 +4,10 @@ use Rattle.capture.specs.Captures.{captures}
 use Rattle.capture.specs.declared.book.Book.{Book}
 use Rattle.capture.specs.declared.captured.Brought.{Brought}
 use Rattle.capture.specs.declared.limits.Limits.{Limits}
+use Rattle.disk_model.specs.declared.disk.Disk.{Ghosts}
+use Rattle.warc_journal.specs.Journals.{disk_of}
 use Rattle.warc_text.specs.Sound.{IsSound}
-use Rattle.archive_shelf.specs.Answers.{Brings, IsBrought, IsNamed, KeepsPayloadOf, NamesKeeper, is_bring_fault}
+use Rattle.archive_shelf.specs.Answers.{Brings, CountsIf, IsBrought, IsNamed, KeepsPayloadOf, NamesKeeper, is_bring_fault}
 use Rattle.archive_shelf.specs.Comparing.{IsRight}
 use Rattle.archive_shelf.specs.Digests.{GoesByDigest, PieceGoesByDigest}
 use Rattle.archive_shelf.specs.Pieces.{GivesPiece, IsPiece, IsSomePiece, is_piece_fault}
@@ -21,8 +23,10 @@ use Rattle.history_lock.specs.Seen.{Adds, All}
 use Rattle.vault.specs.Guarded.{Stands}
 use Rattle.vault.specs.History.{by_of, is_told, told_book, told_in, told_limits}
 use Rattle.vault.specs.Noting.{failing}
+use Rattle.vault.specs.Own.{AreCounted}
 use Rattle.vault.specs.Turns.{AddsFaultAlone, BringsIt, Compares, GivesIt}
 use Rattle.vault.specs.declared.noted.Noted.{Noted}
+use Rattle.vault.proofs.FaultLaws.{read_counted}
 use Rattle.vault.proofs.HistoryLaws.{as_told, begun_append, limits_append, told_append, told_stays}
 
 -- ---- what a fault adds
@@ -35,8 +39,8 @@ all_failing : (by : ℕ) (failed : Bool) → All (λ (n : Noted). n.by ≡ by) (
 all_failing by true = (refl, tt)
 all_failing by false = tt
 
-module _ {D : Type 0} (by : ℕ) (history : List Noted) (was is : Holdings D) (stands : Stands history was) (book_is : is.book ≡ was.book)
-    (limits_is : is.limits ≡ was.limits) (told_is : is.told ≡ was.told) where
+module _ {D : Type 0} (d : Ghosts D) (by : ℕ) (history : List Noted) (was is : Holdings D) (stands : Stands history was)
+    (counted : AreCounted history (d.faults (disk_of was.journal))) (book_is : is.book ≡ was.book) (limits_is : is.limits ≡ was.limits) (told_is : is.told ≡ was.told) where
   to : is.book ≡ told_book history
   to = book_is ∙ stands.book
 
@@ -50,7 +54,7 @@ module _ {D : Type 0} (by : ℕ) (history : List Noted) (was is : Holdings D) (s
   told_then true = told_append history (failing by true) stands.begun
   told_then false = told_append history (failing by false) stands.begun
 
-  pub read_stands : (failed : Bool) → Stands (history ++ failing by failed) is
+  read_stands : (failed : Bool) → Stands (history ++ failing by failed) is
   read_stands failed = record {
     begun = begun_append history (failing by failed) stands.begun;
     book = to ∙ sym (told_then failed);
@@ -119,61 +123,57 @@ module _ {D : Type 0} (by : ℕ) (history : List Noted) (was is : Holdings D) (s
   sound_then failed sound told =
       subst IsSound (to ∙ sym (told_then failed)) (sound (subst (λ (t : Bool). IsTrue t) (sym told_to) told))
 
-  -- a turn that brought a capture, or failed to
-  pub all_brought : (number : ℕ) (result : Result Brought BringFault) (after : List Noted)
-      → Brings (contents_of is) number result → NamesKeeper is.book number result → GoesByDigest is.book number result
-      → (IsTrue is.told → IsSound is.book) → after ≡ history ++ failing by (is_bring_fault result)
-      → Stands after is × Adds by_of by history after (λ added. BringsIt (is_told history) number history added result)
-  all_brought number result after brought names digests sound joined = (
-    subst (λ (l : List Noted). Stands l is) (sym joined) (read_stands (is_bring_fault result)),
-    record {
-      added = failing by (is_bring_fault result);
-      is_before_and_added = joined;
-      of_pass = all_failing by (is_bring_fault result);
-      done = record {
-        brings = brings_told (is_told history) number result (subst (λ (t : Bool). Brings (as_told t is) number result) told_to brought);
-        names = subst (λ (b : Book). NamesKeeper b number result) to names;
-        digests = subst (λ (b : Book). GoesByDigest b number result) to digests;
-        adds = adds_fault by (is_bring_fault result);
-        sound = sound_then (is_bring_fault result) sound;
-      };
-    },
+  -- what a turn leaves that read, and failed or didn't
+  left_by : (failed : Bool) (after : List Noted) (then : List Noted → Type 0) → after ≡ history ++ failing by failed
+      → CountsIf failed (d.faults (disk_of was.journal)) (d.faults (disk_of is.journal)) → then (failing by failed)
+      → (Stands after is × AreCounted after (d.faults (disk_of is.journal))) × Adds by_of by history after then
+  left_by failed after then joined counts done = (
+    (
+      subst (λ (l : List Noted). Stands l is) (sym joined) (read_stands failed),
+      read_counted by history after failed (d.faults (disk_of was.journal)) (d.faults (disk_of is.journal)) stands.begun joined counts counted,
+    ),
+    record { added = failing by failed; is_before_and_added = joined; of_pass = all_failing by failed; done = done },
   )
 
-  -- a turn that gave a capture as a piece, or failed to
-  pub all_given : (number : ℕ) (result : Result (List ℕ) BringFault) (after : List Noted)
-      → GivesPiece (contents_of is) number result → PieceGoesByDigest is.book number result → (IsTrue is.told → IsSound is.book)
-      → after ≡ history ++ failing by (is_piece_fault result)
-      → Stands after is × Adds by_of by history after (λ added. GivesIt (is_told history) number history added result)
-  all_given number result after given digests sound joined = (
-    subst (λ (l : List Noted). Stands l is) (sym joined) (read_stands (is_piece_fault result)),
-    record {
-      added = failing by (is_piece_fault result);
-      is_before_and_added = joined;
-      of_pass = all_failing by (is_piece_fault result);
-      done = record {
-        gives = gives_told (is_told history) number result (subst (λ (t : Bool). GivesPiece (as_told t is) number result) told_to given);
-        digests = subst (λ (b : Book). PieceGoesByDigest b number result) to digests;
-        adds = adds_fault by (is_piece_fault result);
-        sound = sound_then (is_piece_fault result) sound;
-      };
-    },
-  )
+  module _ (number : ℕ) (after : List Noted) where
+    -- a turn that brought a capture, or failed to
+    pub all_brought : (result : Result Brought BringFault) → after ≡ history ++ failing by (is_bring_fault result)
+        → CountsIf (is_bring_fault result) (d.faults (disk_of was.journal)) (d.faults (disk_of is.journal))
+        → Brings (contents_of is) number result → NamesKeeper is.book number result → GoesByDigest is.book number result → (IsTrue is.told → IsSound is.book)
+        → (Stands after is × AreCounted after (d.faults (disk_of is.journal)))
+        × Adds by_of by history after (λ added. BringsIt (is_told history) number history added result)
+    all_brought result joined counts brought names digests sound =
+        left_by (is_bring_fault result) after (λ added. BringsIt (is_told history) number history added result) joined counts (record {
+          brings = brings_told (is_told history) number result (subst (λ (t : Bool). Brings (as_told t is) number result) told_to brought);
+          names = subst (λ (b : Book). NamesKeeper b number result) to names;
+          digests = subst (λ (b : Book). GoesByDigest b number result) to digests;
+          adds = adds_fault by (is_bring_fault result);
+          sound = sound_then (is_bring_fault result) sound;
+        })
+
+    -- a turn that gave a capture as a piece, or failed to
+    pub all_given : (result : Result (List ℕ) BringFault) → after ≡ history ++ failing by (is_piece_fault result)
+        → CountsIf (is_piece_fault result) (d.faults (disk_of was.journal)) (d.faults (disk_of is.journal))
+        → GivesPiece (contents_of is) number result → PieceGoesByDigest is.book number result → (IsTrue is.told → IsSound is.book)
+        → (Stands after is × AreCounted after (d.faults (disk_of is.journal)))
+        × Adds by_of by history after (λ added. GivesIt (is_told history) number history added result)
+    all_given result joined counts given digests sound =
+        left_by (is_piece_fault result) after (λ added. GivesIt (is_told history) number history added result) joined counts (record {
+          gives = gives_told (is_told history) number result (subst (λ (t : Bool). GivesPiece (as_told t is) number result) told_to given);
+          digests = subst (λ (b : Book). PieceGoesByDigest b number result) to digests;
+          adds = adds_fault by (is_piece_fault result);
+          sound = sound_then (is_piece_fault result) sound;
+        })
 
   -- a turn that looked for a payload, or failed to
-  pub all_compared : (payload : List ℕ) (result : Result Looked StoreFault) (after : List Noted)
-      → Looks (contents_of is) payload result → (IsTrue is.told → IsSound is.book) → after ≡ history ++ failing by (is_look_fault result)
-      → Stands after is × Adds by_of by history after (λ added. Compares (is_told history) payload history added result)
-  all_compared payload result after looked sound joined = (
-    subst (λ (l : List Noted). Stands l is) (sym joined) (read_stands (is_look_fault result)),
-    record {
-      added = failing by (is_look_fault result);
-      is_before_and_added = joined;
-      of_pass = all_failing by (is_look_fault result);
-      done = record {
+  pub all_compared : (payload : List ℕ) (after : List Noted) (result : Result Looked StoreFault) → after ≡ history ++ failing by (is_look_fault result)
+      → CountsIf (is_look_fault result) (d.faults (disk_of was.journal)) (d.faults (disk_of is.journal))
+      → Looks (contents_of is) payload result → (IsTrue is.told → IsSound is.book)
+      → (Stands after is × AreCounted after (d.faults (disk_of is.journal)))
+      × Adds by_of by history after (λ added. Compares (is_told history) payload history added result)
+  all_compared payload after result joined counts looked sound =
+      left_by (is_look_fault result) after (λ added. Compares (is_told history) payload history added result) joined counts (record {
         looks = looks_told (is_told history) payload result (subst (λ (t : Bool). Looks (as_told t is) payload result) told_to looked);
         adds = adds_fault by (is_look_fault result);
         sound = sound_then (is_look_fault result) sound;
-      };
-    },
-  )
+      })

@@ -21,7 +21,7 @@ use Rattle.history_lock.specs.Known.{IsSamePass, Known}
 use Rattle.history_lock.specs.Seen.{All, Shows, Turn}
 use Rattle.index_snapshot.specs.Edges.{Edge}
 use Rattle.vault.specs.Company.{Passing, contents_at, told_at}
-use Rattle.vault.specs.History.{IsBegun, after_kind, book_after, by_of, is_told, opened_book, told_book, told_limits}
+use Rattle.vault.specs.History.{IsBegun, after_kind, book_after, by_of, given_faults, is_told, opened_book, told_book, told_limits}
 use Rattle.vault.specs.Items.{shown_in}
 use Rattle.vault.specs.Own.{count_faults, fault_by, is_among, number_by, own_behind, own_captures, own_entries, own_faults}
 use Rattle.vault.specs.Turns.{AddsFaultAlone, BeginsAtMost, CommitAnswers, IsStoring}
@@ -29,7 +29,8 @@ use Rattle.vault.specs.declared.item.Item.{Item}
 use Rattle.vault.specs.declared.noted.Kind.{Kind}
 use Rattle.vault.specs.declared.noted.Kind.TheVariants.{Opened, Began, Stored, Failed}
 use Rattle.vault.specs.declared.noted.Noted.{Noted}
-use Rattle.vault.proofs.HistoryLaws.{begun_append, limits_append, told_grows, told_stays}
+use Rattle.vault.proofs.FaultLaws.{count_append, none_stored, one_if}
+use Rattle.vault.proofs.HistoryLaws.{begun_append, given_stays, limits_append, told_grows, told_stays}
 use Rattle.vault.proofs.OwnLaws.{none_own, own_append}
 use Rattle.vault.proofs.PublishLaws.{fault_added}
 use Rattle.vault.proofs.SharingLaws.{among_one, behind_append, none_behind}
@@ -41,22 +42,14 @@ pub record Leaves (numbers : List ℕ) (was is : List Noted) (stored : List ℕ)
   pub grows : Grows (told_book was) (told_book is)
   pub told : is_told is ≡ is_told was
   pub limits : told_limits is ≡ told_limits was
+  pub given : given_faults is ≡ given_faults was
   pub mine : own_captures numbers is ≡ own_captures numbers was ++ stored
   pub met : own_faults numbers is ≡ own_faults numbers was + faults
-
--- one where there was a fault
-abbrev pub one_if : Bool → ℕ
-one_if true = 1
-one_if false = 0
 
 -- the capture that was stored
 abbrev pub number_if : Result Receipt StoreFault → List ℕ
 number_if (Ok receipt) = receipt.number ∷ []
 number_if (Err fault) = []
-
-count_append : (xs ys : List Noted) → count_faults (xs ++ ys) ≡ count_faults xs + count_faults ys
-count_append [] ys = omega arith
-count_append (x ∷ xs) ys = let later = count_append xs ys in omega (arith, later)
 
 captures_joined : (numbers : List ℕ) (xs ys : List Noted) → IsBegun xs
     → own_captures numbers (xs ++ ys) ≡ own_captures numbers xs ++ own_behind numbers (told_book xs) ys
@@ -69,6 +62,7 @@ leaves_on numbers xs ys stored faults begun stored_is faults_are = record {
   grows = told_grows grows_from_itself growth_goes_on xs ys begun;
   told = told_stays xs ys begun;
   limits = limits_append xs ys begun;
+  given = given_stays xs ys begun;
   mine = captures_joined numbers xs ys begun ∙ ap (λ (l : List ℕ). own_captures numbers xs ++ l) stored_is;
   met = ap (λ (l : List Noted). count_faults l) (own_append numbers xs ys) ∙ (count_append (own_entries numbers xs) (own_entries numbers ys)
       ∙ ap (λ (n : ℕ). own_faults numbers xs + n) faults_are);
@@ -91,6 +85,7 @@ leaves_both numbers a b c stored faults first second = record {
   grows = growth_goes_on (told_book a) (told_book b) (told_book c) first.grows second.grows;
   told = second.told ∙ first.told;
   limits = second.limits ∙ first.limits;
+  given = second.given ∙ first.given;
   mine = second.mine ∙ ap (λ (l : List ℕ). l ++ stored) (first.mine ∙ append-nil (own_captures numbers a));
   met = let one = first.met in let two = second.met in omega (arith, one, two);
 }
@@ -176,15 +171,9 @@ module _ (numbers : List ℕ) (number : ℕ) (among : is_among numbers number �
 
   stored_number : (taken : Taken) (same : Option ℕ) (n : ℕ) (kind : Kind) → IsStoring taken same kind → number_by n kind ≡ n ∷ []
   stored_number taken same n (Stored kept as_same) storing = refl
-  stored_number taken same n (Opened held limits told list) storing = absurd storing
+  stored_number taken same n (Opened held limits told list faults) storing = absurd storing
   stored_number taken same n (Began at) storing = absurd storing
   stored_number taken same n Failed storing = absurd storing
-
-  stored_fault : (taken : Taken) (same : Option ℕ) (kind : Kind) → IsStoring taken same kind → fault_by kind ≡ 0
-  stored_fault taken same (Stored kept as_same) storing = refl
-  stored_fault taken same (Opened held limits told list) storing = absurd storing
-  stored_fault taken same (Began at) storing = absurd storing
-  stored_fault taken same Failed storing = absurd storing
 
   pub commit_leaves : (tells : Bool) (taken : Taken) (found added : List Noted) (result : Result Receipt StoreFault) → IsBegun found → OfPass added
       → CommitAnswers tells taken found added result → Leaves numbers found (found ++ added) (number_if result) (one_if (is_store_fault result))
@@ -197,7 +186,7 @@ module _ (numbers : List ℕ) (number : ℕ) (among : is_among numbers number �
       ∙ (one_behind book taken.date done.adds.begun last done.adds.begins by
       ∙ (stored_number taken receipt.same_as (length (captures book)) last.kind done.adds.stores ∙ ap (λ (n : ℕ). n ∷ []) (sym done.number))))
       (ap (λ (l : List Noted). count_faults (own_entries numbers l)) done.adds.all
-      ∙ (one_fault taken.date done.adds.begun last done.adds.begins by ∙ stored_fault taken receipt.same_as last.kind done.adds.stores))
+      ∙ (one_fault taken.date done.adds.begun last done.adds.begins by ∙ none_stored taken receipt.same_as last.kind done.adds.stores))
   commit_leaves tells taken found added (Err (stores.Full count limit)) begun of_pass done = nothing_on found added begun done.0
   commit_leaves tells taken found added (Err stores.DiskFault) begun of_pass done =
       let book = told_book found in
@@ -267,7 +256,7 @@ module _ (was is : Passing) (same : IsSamePass was.known is.known) (shown : is.s
           tells = leaves.told i;
           seen = told_book is.known.seen;
           shown = shown_in is.shown.items;
-          mine = mine i;
+          mine = same.1 i ∷ mine i;
           limits = leaves.limits i;
         };
       }

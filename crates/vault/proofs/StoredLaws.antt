@@ -24,9 +24,10 @@ use Rattle.vault.specs.Items.{shown_in}
 use Rattle.vault.specs.Own.{own_captures}
 use Rattle.vault.specs.Turns.{CommitAnswers, StoresBy}
 use Rattle.vault.specs.declared.noted.Noted.{Noted}
+use Rattle.vault.proofs.FaultLaws.{one_if}
 use Rattle.vault.proofs.HistoryLaws.{turn_begun}
 use Rattle.vault.proofs.PublishLaws.{nothing_added}
-use Rattle.vault.proofs.ShelfLaws.{Leaves, among_self, commit_leaves, counts, found_begun, found_leaves, leaves_both, leaves_itself, number_if, one_if, read_book, read_turn, shown_same, stays}
+use Rattle.vault.proofs.ShelfLaws.{Leaves, among_self, commit_leaves, counts, found_begun, found_leaves, leaves_both, leaves_itself, number_if, read_book, read_turn, shown_same, stays}
 
 -- ---- what was found, and what was added
 
@@ -100,7 +101,7 @@ module _ (taken : Taken) (was is : Passing) (same : IsSamePass was.known is.know
             tells = leaves.told i;
             seen = told_book is.known.seen;
             shown = shown_in is.shown.items;
-            mine = mine i;
+            mine = same.1 i ∷ mine i;
             limits = leaves.limits i;
           };
         }

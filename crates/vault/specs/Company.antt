@@ -1,4 +1,5 @@
 -- What is told of a pass at its vault, as one of many shelves over an archive.
+use Rattle.std.specs.Prelude.{◌∷◌}
 use Rattle.disk_model.specs.Image.{no_files}
 use Rattle.archive_shelf.specs.Contents.{Contents}
 use Rattle.archive_shelf.specs.Openings.{CrashStates}
@@ -18,12 +19,13 @@ pub record Passing : Type 0 where
 
 -- ---- what is told
 
+-- Before the numbers of its captures stands the pass's own: whoever gets a shelf back knows by that which of the passes it is.
 abbrev pub contents_at : Passing → Contents
 contents_at pass = record {
   tells = is_told pass.known.seen;
   seen = told_book pass.known.seen;
   shown = shown_in pass.shown.items;
-  mine = own_captures pass.known.numbers pass.known.seen;
+  mine = pass.known.number ∷ own_captures pass.known.numbers pass.known.seen;
   limits = told_limits pass.known.seen;
 }
 

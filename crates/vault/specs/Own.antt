@@ -1,9 +1,10 @@
 -- What a pass did itself.
 use Rattle.std.specs.Prelude.{◌≡◌, ℕ, ◌+◌, Bool, true, false, if◌then◌else◌, nat_eq, List, [], ◌∷◌, ◌++◌, length}
 use Rattle.capture.specs.Captures.{captures}
+use Rattle.capture.specs.Faults.{RoseBy}
 use Rattle.capture.specs.declared.book.Book.{Book}
 use Rattle.history_lock.specs.Seen.{Shows}
-use Rattle.vault.specs.History.{after_kind, by_of, opened_book}
+use Rattle.vault.specs.History.{after_kind, by_of, given_faults, opened_book}
 use Rattle.vault.specs.declared.noted.Kind.{Kind}
 use Rattle.vault.specs.declared.noted.Kind.TheVariants.{Opened, Began, Stored, Failed}
 use Rattle.vault.specs.declared.noted.Noted.{Noted}
@@ -30,7 +31,7 @@ OwnEntriesStay =
 
 -- the number of a capture that is noted, which is the count of the book before it
 abbrev pub number_by : ℕ → Kind → List ℕ
-number_by count (Opened held limits told list) = []
+number_by count (Opened held limits told list faults) = []
 number_by count (Began at) = []
 number_by count (Stored taken same) = count ∷ []
 number_by count Failed = []
@@ -50,7 +51,7 @@ own_captures numbers (first ∷ others) = own_behind numbers (opened_book first.
 -- ---- the faults that it met
 
 abbrev pub fault_by : Kind → ℕ
-fault_by (Opened held limits told list) = 0
+fault_by (Opened held limits told list faults) = 0
 fault_by (Began at) = 0
 fault_by (Stored taken same) = 0
 fault_by Failed = 1
@@ -59,6 +60,15 @@ fault_by Failed = 1
 abbrev pub count_faults : List Noted → ℕ
 count_faults [] = 0
 count_faults (noted ∷ others) = fault_by noted.kind + count_faults others
+
+-- how many faults were met since the archive was given
+abbrev pub faults_since : List Noted → ℕ
+faults_since [] = 0
+faults_since (first ∷ others) = count_faults others
+
+-- the disk's count has risen by these at least since then, or stands at its end
+abbrev pub AreCounted : List Noted → ℕ → Type 0
+AreCounted history faults = RoseBy (faults_since history) (given_faults history) faults
 
 -- how many faults these passes met
 abbrev pub own_faults : List ℕ → List Noted → ℕ

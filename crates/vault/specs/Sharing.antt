@@ -1,21 +1,20 @@
 -- How the passes of a vault share out what its last history tells.
-use Rattle.std.specs.Prelude.{◌≡◌, ℕ, ◌+◌, ◌≤◌, List, [], ◌∷◌, ◌++◌, length, slice_get, IfSome, sum_by, flat_map, IsPermutation}
+use Rattle.std.specs.Prelude.{◌≡◌, ℕ, ◌+◌, ◌≤◌, Bool, List, [], ◌∷◌, ◌++◌, length, slice_get, IfSome, sum_by, flat_map, IsPermutation}
 use Rattle.std.specs.List.{range_with_len}
 use Rattle.std.specs.List.Sorted.{IsStrictlyIncreasing}
 use Rattle.capture.specs.Captures.{captures}
+use Rattle.capture.specs.Faults.{RoseBy}
 use Rattle.capture.specs.Growth.{Grows}
 use Rattle.capture.specs.declared.book.Book.{Book}
+use Rattle.capture.specs.declared.limits.Limits.{Limits}
 use Rattle.history_lock.specs.Known.{Known}
 use Rattle.history_lock.specs.Seen.{Shows}
+use Rattle.vault.specs.Company.{Passing}
 use Rattle.vault.specs.History.{by_of, told_book}
+use Rattle.vault.specs.Members.{VaultName}
 use Rattle.vault.specs.Orderly.{IsOrderly, NamePasses}
-use Rattle.vault.specs.Own.{count_faults, own_captures, own_entries, own_faults}
+use Rattle.vault.specs.Own.{faults_since, own_captures, own_entries, own_faults}
 use Rattle.vault.specs.declared.noted.Noted.{Noted}
-
--- how many faults were met since the archive was given
-abbrev pub faults_since : List Noted → ℕ
-faults_since [] = 0
-faults_since (first ∷ others) = count_faults others
 
 -- The pass is orderly, it has this number alone, out of so many, and the history shows what it has seen.
 pub record HasPart (book : Book) (passes number : ℕ) (history : List Noted) (pass : Known Noted) : Type 0 where
@@ -52,6 +51,22 @@ abbrev pub HistoriesAreSharedOut : Type 0
 HistoriesAreSharedOut =
     (book : Book) (passes : List (Known Noted)) (history : List Noted) → 1 ≤ length passes
     → ((k : ℕ) → IfSome (slice_get passes k) (HasPart book (length passes) (k + 1) history)) → IsSharedOut book passes history
+
+-- ---- what all passes of a vault leave
+
+-- the history begins with all that the pass has seen, and has behind that entries of others alone
+abbrev pub IsShownIn : List Noted → Passing → Type 0
+IsShownIn history pass = Shows by_of pass.known.passes pass.known.numbers pass.known.seen history
+
+-- What is left when a vault is closed with all its passes: the book of a history that is shared out among them; the limits, and whether
+-- the book is told, as of the archive that was given; and a disk whose count of faults has risen by those that the passes met.
+pub record IsLeftByAll (vault : VaultName) (passes : List (Known Noted)) (book : Book) (limits : Limits) (told : Bool) (faults : ℕ) : Type 0 where
+  pub history : List Noted
+  pub shared : IsSharedOut vault.book passes history
+  pub book_is : book ≡ told_book history
+  pub limits_are : limits ≡ vault.limits
+  pub told_is : told ≡ vault.tells
+  pub counted : RoseBy (sum_by (λ pass. own_faults pass.numbers pass.seen) passes) vault.faults faults
 
 -- ---- histories that were shown one after the other
 

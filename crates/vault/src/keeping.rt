@@ -1,9 +1,11 @@
 //! What lies behind a vault's lock.
 ghost use Rattle.std.specs.Prelude.{◌≡◌, IfErr, IfOk, IsTrue, length};
 ghost use Rattle.capture.specs.Captures.{captures};
+ghost use Rattle.warc_journal.specs.Journals.{disk_of};
 ghost use Rattle.warc_text.specs.Sound.{IsSound};
 ghost use Rattle.vault.specs.Guarded.{Stands};
-ghost use Rattle.vault.specs.History.{IsOpening, Names, is_told, told_book};
+ghost use Rattle.vault.specs.History.{IsOpening, Names, given_faults, is_told, told_book};
+ghost use Rattle.vault.specs.Own.{AreCounted};
 ghost use Rattle.vault.specs.Taking.{TakesItem};
 
 use crate::gathering::{item_of, tells};
@@ -27,13 +29,15 @@ pub(crate) struct Keeping<D: Disk> {
 
 impl<D: Disk> Model for Keeping<D> {
     ghost use Rattle.std.specs.Prelude.{map};
+    ghost use Rattle.warc_journal.specs.Journals.{disk_of};
     ghost use Rattle.vault.specs.Guarded.{Guarded, Stands};
+    ghost use Rattle.vault.specs.Own.{AreCounted};
 
     ghost Value = { Guarded D };
 
     ghost view = { λ k. record { history = map (λ s. s.value) k.history.items; holdings = k.archive } };
 
-    ghost invariant = { λ k. Stands (map (λ s. s.value) k.history.items) k.archive };
+    ghost invariant = { λ k. Stands (map (λ s. s.value) k.history.items) k.archive × AreCounted (map (λ s. s.value) k.history.items) (D.faults (disk_of k.archive.journal)) };
 }
 
 impl<D: Disk> Keeping<D> {
@@ -45,6 +49,7 @@ impl<D: Disk> Keeping<D> {
     ) -> Result<Keeping<D>, Archive<D>>
         ensures opens { IfOk result (λ keeping. IsOpening archive.book archive.limits keeping.history) }
         ensures told { IfOk result (λ keeping. is_told keeping.history ≡ archive.told) }
+        ensures given { IfOk result (λ keeping. given_faults keeping.history ≡ D.faults (disk_of archive.journal)) }
         ensures names { IfOk result (λ keeping. Names keeping.history list.now.of) }
         ensures holds { IfOk result (λ keeping. keeping.holdings ≡ archive) }
         ensures err { IfErr result (λ back. back ≡ archive) }
@@ -56,7 +61,13 @@ impl<D: Disk> Keeping<D> {
         let held = Snapshot::of(archive.held());
         history.push_reserved(note(
             0,
-            Kind::Opened(held, archive.limits(), told, Snapshot::of(list)),
+            Kind::Opened(
+                held,
+                archive.limits(),
+                told,
+                Snapshot::of(list),
+                archive.faults(),
+            ),
         ));
         Ok(Keeping { archive, history })
     }
@@ -96,10 +107,11 @@ impl<D: Disk> Keeping<D> {
         self.archive.shows_its_book();
     }
 
-    /// The archive.
+    /// The archive, whose disk has counted the faults that the history tells of.
     pub(crate) fn into_archive(self) -> Archive<D>
         ensures archive { result ≡ self.holdings }
         ensures stands { Stands self.history result }
+        ensures counted { AreCounted self.history (D.faults (disk_of result.journal)) }
     {
         self.archive
     }

@@ -3,6 +3,7 @@
 
 mod at;
 mod bring;
+mod closing;
 mod commit;
 mod compare;
 mod finding;

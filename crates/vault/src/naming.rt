@@ -1,5 +1,6 @@
 //! Vaults by their names.
 ghost use Rattle.std.specs.Prelude.{◌≡◌, ◌<◌, ◌≤◌, IfErr, IfOk};
+ghost use Rattle.warc_journal.specs.Journals.{disk_of};
 ghost use Rattle.vault.specs.Members.{AreNewMembers};
 
 use crate::pass::VaultPass;
@@ -49,7 +50,7 @@ impl<D: Disk> Unnamed<D> {
     ) -> Result<Unnamed<D>, Archive<D>>
         requires { (0 < passes) × (passes ≤ 17) }
         ensures passes { IfOk result (λ u. u.passes ≡ passes) }
-        ensures archive { IfOk result (λ u. (u.book ≡ archive.book) × (u.limits ≡ archive.limits) × (u.tells ≡ archive.told)) }
+        ensures archive { IfOk result (λ u. (u.book ≡ archive.book) × (u.limits ≡ archive.limits) × (u.tells ≡ archive.told) × (u.faults ≡ D.faults (disk_of archive.journal))) }
         ensures err { IfErr result (λ back. back ≡ archive) }
     {
         archive.shows_its_book();

@@ -2,14 +2,16 @@
 ghost use Rattle.std.specs.Prelude.{◌≡◌, ◌<◌, ◌≤◌, true, false, length, IfErr, IfOk, OnOk};
 ghost use Rattle.std.specs.List.{All};
 ghost use Rattle.sha1.specs.Sha1.{sha1};
+ghost use Rattle.warc_journal.specs.Journals.{disk_of};
 ghost use Rattle.warc_text.specs.Fits.{Fits};
 ghost use Rattle.archive_core.specs.Looking.{IsDigestOf, IsRightOf};
 ghost use Rattle.history_lock.specs.Seen.{Adds};
 ghost use Rattle.index_snapshot.specs.Publishing.{edge_of, full_of};
 ghost use Rattle.vault.specs.Guarded.{Stands};
-ghost use Rattle.vault.specs.History.{IsOpening, by_of, is_told, told_in};
+ghost use Rattle.vault.specs.History.{IsOpening, by_of, given_faults, is_told, told_in};
 ghost use Rattle.vault.specs.Items.{AreItems, last_book, tells_in};
 ghost use Rattle.vault.specs.Listing.{IsCurrent, IsListed};
+ghost use Rattle.vault.specs.Own.{AreCounted};
 ghost use Rattle.vault.specs.Turns.{BringsIt, Commits, Compares, GivesIt, changes};
 
 use crate::gathering::{first_item, gathered};
@@ -91,6 +93,7 @@ impl<D: Disk> Published<D> {
         requires readers { (0 < readers) × (readers ≤ 17) }
         ensures opens { IfOk result (λ r. IsOpening archive.book archive.limits r.0.kept.history) }
         ensures told { IfOk result (λ r. is_told r.0.kept.history ≡ archive.told) }
+        ensures given { IfOk result (λ r. given_faults r.0.kept.history ≡ D.faults (disk_of archive.journal)) }
         ensures book { IfOk result (λ r. (r.0.whole ≡ true) × (last_book r.0.print.full ≡ archive.book)) }
         ensures fits { IfOk result (λ r. AreItems r.0.print.full × (r.0.print.published ≡ r.0.print.full) × (tells_in r.0.print.full ≡ archive.told)) }
         ensures viewers { IfOk result (λ r. (length r.1.items ≡ readers) × All (λ v. v ≡ edge_of r.0.print) r.1.items) }
@@ -254,10 +257,11 @@ impl<D: Disk> Published<D> {
         answer
     }
 
-    /// The archive. May wait for readers.
+    /// The archive, whose disk has counted the faults that the history tells of. May wait for readers.
     pub(crate) fn into_archive<R: Wait>(self, rt: &R) -> Archive<D>
         ensures archive { result ≡ self.kept.holdings }
         ensures stands { Stands self.kept.history result }
+        ensures counted { AreCounted self.kept.history (D.faults (disk_of result.journal)) }
     {
         let Published {
             keeping,

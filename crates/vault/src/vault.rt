@@ -2,6 +2,7 @@
 ghost use Rattle.std.specs.Prelude.{◌≡◌, ◌⊎◌, ℕ, ◌+◌, ◌<◌, ◌≤◌, ◌++◌, List, [], length, slice_get, IfOk, IfErr, IfSome};
 ghost use mathlib.Core.List.{IsPrefix};
 ghost use Rattle.sha1.specs.Sha1.{sha1};
+ghost use Rattle.warc_journal.specs.Journals.{disk_of};
 ghost use Rattle.warc_text.specs.Fits.{Fits};
 ghost use Rattle.archive_shelf.specs.Answers.{Brings};
 ghost use Rattle.archive_core.specs.Looking.{IsDigestOf, IsRightOf};
@@ -58,7 +59,7 @@ impl<D: Disk> Vault<D> {
     ) -> Result<(Vault<D>, Vec<VaultPass>), Archive<D>>
         requires { (0 < passes) × (passes ≤ 17) }
         ensures count { IfOk result (λ r. length r.1.items ≡ passes) }
-        ensures each { IfOk result (λ r. (k : ℕ) → IfSome (slice_get r.1.items k) (λ p. IsNew archive.told r.0 passes (k + 1) archive.book archive.limits p)) }
+        ensures each { IfOk result (λ r. (k : ℕ) → IfSome (slice_get r.1.items k) (λ p. IsNew archive.told (D.faults (disk_of archive.journal)) r.0 passes (k + 1) archive.book archive.limits p)) }
         ensures err { IfErr result (λ back. back ≡ archive) }
     {
         let Ok(mut room) = Vec::with_capacity(alloc, passes as usize) else {
@@ -380,11 +381,11 @@ impl<D: Disk> Vault<D> {
     }
 
     /// Takes a last turn, and gives the archive back. Some history begins with all that the pass had seen, and has behind that entries of
-    /// other passes alone; the archive has the book and the limits that it tells. May wait, also for readers. Passes that are left can't be
-    /// used any more.
+    /// other passes alone; the archive has the book and the limits that it tells, and its disk has counted the faults that it tells of. May
+    /// wait, also for readers. Passes that are left can't be used any more.
     pub fn close<R: Wait>(self, rt: &R, pass: VaultPass) -> Archive<D>
         requires { pass.known.lock ≡ self }
-        ensures { IsLeft pass.known result.book result.limits }
+        ensures { IsLeft pass.known result.book result.limits result.told (D.faults (disk_of result.journal)) }
     {
         let Vault { lock } = self;
         lock.close(rt, pass.into_known()).into_archive(rt)

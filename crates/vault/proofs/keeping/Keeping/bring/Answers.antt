@@ -11,20 +11,22 @@ use Rattle.vault.proofs.keeping.Keeping.bring.Goals as goal
 
 pub invariant_of-self-2 : goal.invariant_of-self-2
 invariant_of-self-2 g c =
-    (all_brought c.args.by (values c.self.inside.history.items) c.self.inside.archive c.bring-answer.new.self c.self.invariant
+    (all_brought g.D.Disk c.args.by (values c.self.inside.history.items) c.self.inside.archive c.bring-answer.new.self c.self.invariant.0 c.self.invariant.1
     c.bring-answer.ensures.reads.stays.seen (ap (λ (now : Contents). now.limits) c.bring-answer.ensures.reads.stays.others)
-    (ap (λ (now : Contents). now.tells) c.bring-answer.ensures.reads.stays.others) c.args.number c.bring-answer.result (values c.note_fault.new.history.items) c.bring-answer.ensures.brings
-    c.bring-answer.ensures.names c.bring-answer.ensures.digests c.bring-answer.ensures.shows.consistent.sound
+    (ap (λ (now : Contents). now.tells) c.bring-answer.ensures.reads.stays.others) c.args.number (values c.note_fault.new.history.items) c.bring-answer.result
     (joined_by c.self.inside.history.items c.reserve.new.self.items c.note_fault.new.history.items c.args.by c.is_disk_fault.result _
-    c.reserve.ensures.items c.is_disk_fault.ensures c.note_fault.ensures)).0
+    c.reserve.ensures.items c.is_disk_fault.ensures c.note_fault.ensures)
+    c.bring-answer.ensures.reads.faults c.bring-answer.ensures.brings c.bring-answer.ensures.names
+    c.bring-answer.ensures.digests c.bring-answer.ensures.shows.consistent.sound).0
 
 pub returns : goal.returns
 returns g c =
     subst (λ (kept : Guarded _). Adds by_of c.args.by kept.history (values c.note_fault.new.history.items)
     (λ added. BringsIt (is_told kept.history) c.args.number kept.history added c.bring-answer.result)) c.self.view_is
-    (all_brought c.args.by (values c.self.inside.history.items) c.self.inside.archive c.bring-answer.new.self c.self.invariant
+    (all_brought g.D.Disk c.args.by (values c.self.inside.history.items) c.self.inside.archive c.bring-answer.new.self c.self.invariant.0 c.self.invariant.1
     c.bring-answer.ensures.reads.stays.seen (ap (λ (now : Contents). now.limits) c.bring-answer.ensures.reads.stays.others)
-    (ap (λ (now : Contents). now.tells) c.bring-answer.ensures.reads.stays.others) c.args.number c.bring-answer.result (values c.note_fault.new.history.items) c.bring-answer.ensures.brings
-    c.bring-answer.ensures.names c.bring-answer.ensures.digests c.bring-answer.ensures.shows.consistent.sound
+    (ap (λ (now : Contents). now.tells) c.bring-answer.ensures.reads.stays.others) c.args.number (values c.note_fault.new.history.items) c.bring-answer.result
     (joined_by c.self.inside.history.items c.reserve.new.self.items c.note_fault.new.history.items c.args.by c.is_disk_fault.result _
-    c.reserve.ensures.items c.is_disk_fault.ensures c.note_fault.ensures)).1
+    c.reserve.ensures.items c.is_disk_fault.ensures c.note_fault.ensures)
+    c.bring-answer.ensures.reads.faults c.bring-answer.ensures.brings c.bring-answer.ensures.names
+    c.bring-answer.ensures.digests c.bring-answer.ensures.shows.consistent.sound).1

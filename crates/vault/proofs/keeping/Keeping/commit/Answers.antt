@@ -14,15 +14,15 @@ use Rattle.vault.proofs.keeping.Keeping.commit.Goals as goal
 
 pub stored-answer-requires-clause-right : goal.stored-answer-requires-clause-right
 stored-answer-requires-clause-right g c = λ payload has.
-    subst (λ (t : Bool). IsRight t c.self.inside.archive.book payload c.args.looked) (sym c.self.invariant.told)
-    (subst (λ (b : Book). IsRight (is_told (values c.self.inside.history.items)) b payload c.args.looked) (sym c.self.invariant.book)
+    subst (λ (t : Bool). IsRight t c.self.inside.archive.book payload c.args.looked) (sym c.self.invariant.0.told)
+    (subst (λ (b : Book). IsRight (is_told (values c.self.inside.history.items)) b payload c.args.looked) (sym c.self.invariant.0.book)
     (subst (λ (kept : Guarded _). IsRight (is_told kept.history) (told_book kept.history) payload c.args.looked) (sym c.self.view_is)
     (c.requires.right payload has)))
 
 pub invariant_of-self-2 : goal.invariant_of-self-2
 invariant_of-self-2 g c =
     (all_committed g.D.Disk c.args.by c.args.taken.now (values c.self.inside.history.items) (values c.note_store.new.history.items)
-    c.self.inside.archive c.stored-answer.new.archive c.stored-answer.result.0 c.stored-answer.result.1 c.self.invariant
+    c.self.inside.archive c.stored-answer.new.archive c.stored-answer.result.0 c.stored-answer.result.1 c.self.invariant.0 c.self.invariant.1
     c.stored-answer.ensures.stores c.stored-answer.ensures.began c.stored-answer.ensures.shows.consistent.sound
     (noting_from c.self.inside.history.items c.reserve.new.self.items (values c.note_store.new.history.items)
     (λ (added : List Noted). Notes c.args.by c.args.taken.now c.stored-answer.result.1 c.stored-answer.result.0 added)
@@ -33,7 +33,7 @@ returns g c =
     subst (λ (kept : Guarded _). Adds by_of c.args.by kept.history (values c.note_store.new.history.items)
     (λ added. Commits (is_told kept.history) c.args.taken.now kept.history added c.stored-answer.result.0)) c.self.view_is
     (all_committed g.D.Disk c.args.by c.args.taken.now (values c.self.inside.history.items) (values c.note_store.new.history.items)
-    c.self.inside.archive c.stored-answer.new.archive c.stored-answer.result.0 c.stored-answer.result.1 c.self.invariant
+    c.self.inside.archive c.stored-answer.new.archive c.stored-answer.result.0 c.stored-answer.result.1 c.self.invariant.0 c.self.invariant.1
     c.stored-answer.ensures.stores c.stored-answer.ensures.began c.stored-answer.ensures.shows.consistent.sound
     (noting_from c.self.inside.history.items c.reserve.new.self.items (values c.note_store.new.history.items)
     (λ (added : List Noted). Notes c.args.by c.args.taken.now c.stored-answer.result.1 c.stored-answer.result.0 added)

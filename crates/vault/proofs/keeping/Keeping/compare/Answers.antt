@@ -11,24 +11,24 @@ use Rattle.vault.proofs.keeping.Keeping.compare.Goals as goal
 
 pub invariant_of-self-2 : goal.invariant_of-self-2
 invariant_of-self-2 g c =
-    (all_compared c.args.by (values c.self.inside.history.items) c.self.inside.archive c.compare-answer.new.self c.self.invariant
+    (all_compared g.D.Disk c.args.by (values c.self.inside.history.items) c.self.inside.archive c.compare-answer.new.self c.self.invariant.0 c.self.invariant.1
     (ap (λ (held : Holdings _). held.book) c.compare-answer.ensures.only_looks.others)
     (ap (λ (held : Holdings _). held.limits) c.compare-answer.ensures.only_looks.others)
     (ap (λ (held : Holdings _). held.told) c.compare-answer.ensures.only_looks.others)
-    c.args.payload.now c.compare-answer.result (values c.note_fault.new.history.items) c.compare-answer.ensures.looks
-    c.shows_its_book-2.ensures.shows.consistent.sound
+    c.args.payload.now (values c.note_fault.new.history.items) c.compare-answer.result
     (joined_by c.self.inside.history.items c.reserve.new.self.items c.note_fault.new.history.items c.args.by c.is_disk_fault.result _
-    c.reserve.ensures.items c.is_disk_fault.ensures c.note_fault.ensures)).0
+    c.reserve.ensures.items c.is_disk_fault.ensures c.note_fault.ensures)
+    c.compare-answer.ensures.faults c.compare-answer.ensures.looks c.shows_its_book-2.ensures.shows.consistent.sound).0
 
 pub returns : goal.returns
 returns g c =
     subst (λ (kept : Guarded _). Adds by_of c.args.by kept.history (values c.note_fault.new.history.items)
     (λ added. Compares (is_told kept.history) c.args.payload.now kept.history added c.compare-answer.result)) c.self.view_is
-    (all_compared c.args.by (values c.self.inside.history.items) c.self.inside.archive c.compare-answer.new.self c.self.invariant
+    (all_compared g.D.Disk c.args.by (values c.self.inside.history.items) c.self.inside.archive c.compare-answer.new.self c.self.invariant.0 c.self.invariant.1
     (ap (λ (held : Holdings _). held.book) c.compare-answer.ensures.only_looks.others)
     (ap (λ (held : Holdings _). held.limits) c.compare-answer.ensures.only_looks.others)
     (ap (λ (held : Holdings _). held.told) c.compare-answer.ensures.only_looks.others)
-    c.args.payload.now c.compare-answer.result (values c.note_fault.new.history.items) c.compare-answer.ensures.looks
-    c.shows_its_book-2.ensures.shows.consistent.sound
+    c.args.payload.now (values c.note_fault.new.history.items) c.compare-answer.result
     (joined_by c.self.inside.history.items c.reserve.new.self.items c.note_fault.new.history.items c.args.by c.is_disk_fault.result _
-    c.reserve.ensures.items c.is_disk_fault.ensures c.note_fault.ensures)).1
+    c.reserve.ensures.items c.is_disk_fault.ensures c.note_fault.ensures)
+    c.compare-answer.ensures.faults c.compare-answer.ensures.looks c.shows_its_book-2.ensures.shows.consistent.sound).1

@@ -11,20 +11,20 @@ use Rattle.vault.proofs.keeping.Keeping.piece.Goals as goal
 
 pub invariant_of-self-2 : goal.invariant_of-self-2
 invariant_of-self-2 g c =
-    (all_given c.args.by (values c.self.inside.history.items) c.self.inside.archive c.piece-answer.new.self c.self.invariant
+    (all_given g.D.Disk c.args.by (values c.self.inside.history.items) c.self.inside.archive c.piece-answer.new.self c.self.invariant.0 c.self.invariant.1
     c.piece-answer.ensures.reads.stays.seen (ap (λ (now : Contents). now.limits) c.piece-answer.ensures.reads.stays.others)
-    (ap (λ (now : Contents). now.tells) c.piece-answer.ensures.reads.stays.others) c.args.number c.piece-answer.result (values c.note_fault.new.history.items) c.piece-answer.ensures.gives
-    c.piece-answer.ensures.digests c.piece-answer.ensures.shows.consistent.sound
+    (ap (λ (now : Contents). now.tells) c.piece-answer.ensures.reads.stays.others) c.args.number (values c.note_fault.new.history.items) c.piece-answer.result
     (joined_by c.self.inside.history.items c.reserve.new.self.items c.note_fault.new.history.items c.args.by c.is_disk_fault.result _
-    c.reserve.ensures.items c.is_disk_fault.ensures c.note_fault.ensures)).0
+    c.reserve.ensures.items c.is_disk_fault.ensures c.note_fault.ensures)
+    c.piece-answer.ensures.reads.faults c.piece-answer.ensures.gives c.piece-answer.ensures.digests c.piece-answer.ensures.shows.consistent.sound).0
 
 pub returns : goal.returns
 returns g c =
     subst (λ (kept : Guarded _). Adds by_of c.args.by kept.history (values c.note_fault.new.history.items)
     (λ added. GivesIt (is_told kept.history) c.args.number kept.history added c.piece-answer.result)) c.self.view_is
-    (all_given c.args.by (values c.self.inside.history.items) c.self.inside.archive c.piece-answer.new.self c.self.invariant
+    (all_given g.D.Disk c.args.by (values c.self.inside.history.items) c.self.inside.archive c.piece-answer.new.self c.self.invariant.0 c.self.invariant.1
     c.piece-answer.ensures.reads.stays.seen (ap (λ (now : Contents). now.limits) c.piece-answer.ensures.reads.stays.others)
-    (ap (λ (now : Contents). now.tells) c.piece-answer.ensures.reads.stays.others) c.args.number c.piece-answer.result (values c.note_fault.new.history.items) c.piece-answer.ensures.gives
-    c.piece-answer.ensures.digests c.piece-answer.ensures.shows.consistent.sound
+    (ap (λ (now : Contents). now.tells) c.piece-answer.ensures.reads.stays.others) c.args.number (values c.note_fault.new.history.items) c.piece-answer.result
     (joined_by c.self.inside.history.items c.reserve.new.self.items c.note_fault.new.history.items c.args.by c.is_disk_fault.result _
-    c.reserve.ensures.items c.is_disk_fault.ensures c.note_fault.ensures)).1
+    c.reserve.ensures.items c.is_disk_fault.ensures c.note_fault.ensures)
+    c.piece-answer.ensures.reads.faults c.piece-answer.ensures.gives c.piece-answer.ensures.digests c.piece-answer.ensures.shows.consistent.sound).1
