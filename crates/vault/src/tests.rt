@@ -49,45 +49,36 @@ fn take_pass<J: Naming, R: Abort>(rt: &R, passes: &mut Vec<VaultPass>) -> VaultP
 }
 
 // Stores a capture, and says whether it was stored.
-fn stored<R: Wait, D: Disk>(
-    rt: &R,
+fn stored<'a, J: Naming, R: Wait, D: Disk>(
     alloc: Global,
-    vault: &Vault<D>,
-    mut pass: VaultPass,
+    mut at: At<'a, R, D, J>,
     taken: &Taken,
-) -> (VaultPass, bool)
-    requires pass { pass.known.lock ≡ vault.now }
-    requires fits { Fits taken.now }
-    ensures { result.0.known.lock ≡ vault.now }
+) -> (At<'a, R, D, J>, bool)
+    requires { Fits taken.now }
 {
-    let answer = vault.store(rt, alloc, &mut pass, taken);
-    (pass, answer.is_ok())
+    let answer = at.store(alloc, taken);
+    (at, answer.is_ok())
 }
 
-// Two captures are stored by two passes, each in a thread of its own.
-fn stored_beside<R: Threads + Wait + Sync, D: Disk + Send>(
-    rt: &R,
+// Two captures are stored by two shelves, each in a thread of its own.
+fn stored_beside<'a, J: Naming + Send + Sync, R: Threads + Wait + Sync, D: Disk + Send>(
+    rt: &'a R,
     alloc: Global,
-    vault: &Vault<D>,
-    first: VaultPass,
+    first: At<'a, R, D, J>,
     one: &Taken,
-    second: VaultPass,
+    second: At<'a, R, D, J>,
     other: &Taken,
-) -> ((VaultPass, bool), (VaultPass, bool))
-    requires first { (first.known.lock ≡ vault.now) × Fits one.now }
-    requires second { (second.known.lock ≡ vault.now) × Fits other.now }
-    ensures { (result.0.0.known.lock ≡ vault.now) × (result.1.0.known.lock ≡ vault.now) }
+) -> ((At<'a, R, D, J>, bool), (At<'a, R, D, J>, bool))
+    requires { Fits one.now × Fits other.now }
 {
     join(
         rt,
-        move || -> (VaultPass, bool)
-            requires { (first.known.lock ≡ vault.now) × Fits one.now }
-            ensures { result.0.known.lock ≡ vault.entry.now }
-        { stored(rt, alloc, vault, first, one) },
-        move || -> (VaultPass, bool)
-            requires { (second.known.lock ≡ vault.now) × Fits other.now }
-            ensures { result.0.known.lock ≡ vault.entry.now }
-        { stored(rt, alloc, vault, second, other) },
+        move || -> (At<R, D, J>, bool)
+            requires { Fits one.now }
+        { stored(alloc, first, one) },
+        move || -> (At<R, D, J>, bool)
+            requires { Fits other.now }
+        { stored(alloc, second, other) },
     )
 }
 
@@ -139,13 +130,11 @@ fn both_stored<R: Threads + Wait + Abort + Sync>(rt: &R, alloc: Global) {
     stored_in_threads::<Brand, R, MemoryDisk>(rt, alloc, unnamed, &one, &other);
 }
 
-fn stored_in_threads<J: Naming, R: Threads + Wait + Abort + Sync, D: Disk + Send + Drop>(
-    rt: &R,
-    alloc: Global,
-    unnamed: Unnamed<D>,
-    one: &Taken,
-    other: &Taken,
-)
+fn stored_in_threads<
+    J: Naming + Send + Sync,
+    R: Threads + Wait + Abort + Sync,
+    D: Disk + Send + Drop,
+>(rt: &R, alloc: Global, unnamed: Unnamed<D>, one: &Taken, other: &Taken)
     requires name { unnamed ≡ J.vault }
     requires fits { Fits one.now × Fits other.now }
 {
@@ -153,11 +142,13 @@ fn stored_in_threads<J: Naming, R: Threads + Wait + Abort + Sync, D: Disk + Send
     let first = take_pass::<J, R>(rt, &mut passes);
     let second = take_pass::<J, R>(rt, &mut passes);
     let third = take_pass::<J, R>(rt, &mut passes);
-    let (first, second) = stored_beside(rt, alloc, &vault, first, one, second, other);
+    let first: At<R, D, J> = At::new(rt, &vault, first);
+    let second: At<R, D, J> = At::new(rt, &vault, second);
+    let (first, second) = stored_beside(rt, alloc, first, one, second, other);
     assert!(rt; first.1 && second.1);
     // The third pass took no turn, and finds by date what the others stored.
     assert!(rt; finds_both::<J, R, D>(rt, alloc, &vault, third, FIRST, SECOND));
-    let all = vault.join(first.0, second.0);
+    let all = vault.join(first.0.into_pass(), second.0.into_pass());
     let archive = vault.close(rt, all);
     assert!(rt; archive.counts().captures == 2);
 }
