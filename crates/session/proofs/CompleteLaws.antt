@@ -150,6 +150,10 @@ by_lacked : (b : Bool) (P Q : Type 0) → MatchBool b P Q → IsTrue b ⊎ Q
 by_lacked true P Q h = inl refl
 by_lacked false P Q h = inr h
 
+pub text_by : (b : Bool) (P Q : Type 0) → b ≡ false → MatchBool b P Q → Q
+text_by true P Q e h = let bad : ⊥ = cc in absurd bad
+text_by false P Q e h = h
+
 of_exchange : (terms : Terms) (served : ℕ) (r : Round) (e : Exchange) (reply : Reply) → IsRound terms served r → r.outcome ≡ Exchanged e reply
     → OfExchange terms served r e reply
 of_exchange terms served r e reply lawful is = record {

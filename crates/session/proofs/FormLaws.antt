@@ -1,9 +1,10 @@
 -- Requests to the site that are answered.
 use Rattle.std.proofs.Common.{◌≡◌, inl, inr, ℕ, ◌<◌, ◌≤◌, Bool, true, false, IsTrue, List, length, Option, Some, None, sym, ◌∙◌, ap, subst, arith}
-use Rattle.std.specs.Prelude.{IsSome}
+use Rattle.std.specs.Prelude.{IsSome, MatchBool}
 use Rattle.capture.specs.Captures.{captures}
 use Rattle.capture.specs.declared.refusal.Refusal.{Refusal}
 use Rattle.capture.specs.declared.refusal.Refusal.TheVariants.{Malformed, TargetRefused, BadTime, BadAcceptDatetime, BadQuery, NotAForm, NoCapture, NoSuch, MethodRefused, BodyTooLong, HeadTooLong, ClockRange, ConnectRefused, SecureRefused, CodingRefused, DialFault, OriginFault, OriginEnded, OriginMalformed, OriginTooLong, TooManyInterim, Full, DiskFault, Damaged}
+use Rattle.exchange.specs.Refusals.{memory_text}
 use Rattle.replay_url.specs.Address.{Parts, Numbered, Shipped, Mapped, Queried, Timed, Modified, Open, Outside, parts_at}
 use Rattle.replay_url.specs.Forms.{FormAt, NoFormAt, BadTimeAt, IsForm, IsUrl, IsNoUrl}
 use Rattle.replay_url.specs.Questions.{Question, ForNearest, ForAll, ForQuery, ForNumber, ForPiece, asked_url, question_of}
@@ -14,10 +15,10 @@ use Rattle.cdx_query.specs.declared.query.Query.{Query as CdxQuery}
 use Rattle.surt_key.specs.Key.{key_of}
 use Rattle.replay_url.proofs.OneForm.{one_form}
 use Rattle.session.specs.Complete.{IsFaultless, HasShown, HasWanted, IsAnswer, CapturesThatAreThereAreReplayed}
-use Rattle.session.specs.Rounds.{Outcome, Visited, IsDecided, is_disk_fault, disk_fault}
+use Rattle.session.specs.Rounds.{Outcome, Visited, IsDecided, IsTextOf, is_disk_fault, disk_fault}
 use Rattle.session.specs.SiteAnswers.{SiteRequest, SiteReply, Refuses, Redirects, Replays, Lists, Finds, Ships, HasNoMore, Asks, FindsNone, IsGateTime, NamesNoTime, IsDated, IsPast, IsRejected, IsSiteReply, date_field, serves_method}
 use Rattle.session.specs.Traces.{Terms, View, Traces, CountsMet}
-use Rattle.session.proofs.CompleteLaws.{rose_not, told_not_untold}
+use Rattle.session.proofs.CompleteLaws.{rose_not, text_by, told_not_untold}
 
 -- ---- an address with a form isn't refused
 
@@ -26,7 +27,7 @@ has_key text url h none = let bad : ⊥ = some_isnt (key_of url) h.keyed (ap key
   some_isnt : (key : Option (List ℕ)) → IsSome key → key ≡ None → ⊥
   some_isnt key s e = cc
 
-formed : {P : Type 0} (parts : Parts) (form : Form) → FormAt parts form → NoFormAt parts → P
+pub formed : {P : Type 0} (parts : Parts) (form : Form) → FormAt parts form → NoFormAt parts → P
 formed (Numbered text) (Number n) h none = absurd (none n h)
 formed (Shipped text) (Ship n) h none = absurd (none n h)
 formed (Mapped text) (Map url) h none = has_key text url h none
@@ -66,7 +67,7 @@ formed (Open text) (Memento t c r url) h none = absurd h
 formed Modified form h none = absurd h
 formed Outside form h none = absurd h
 
-timed : {P : Type 0} (parts : Parts) (form : Form) → FormAt parts form → BadTimeAt parts → P
+pub timed : {P : Type 0} (parts : Parts) (form : Form) → FormAt parts form → BadTimeAt parts → P
 timed (Timed digits is_raw text) (Memento time count raw url) h bad = absurd (bad time h.timed.named)
 timed (Timed digits is_raw text) (Number n) h bad = absurd h
 timed (Timed digits is_raw text) (Ship n) h bad = absurd h
@@ -83,7 +84,7 @@ timed Outside form h bad = absurd bad
 
 -- ---- no refusal is lawful
 
-unserved : {P : Type 0} (b : Bool) → b ≡ true → b ≡ false → P
+pub unserved : {P : Type 0} (b : Bool) → b ≡ true → b ≡ false → P
 unserved b t f = let bad : ⊥ = cc in absurd bad
 
 -- a gate whose field names a time
@@ -91,7 +92,7 @@ gate_dated : {P : Type 0} (field : Option (List ℕ)) (time : ℕ) → IsGateTim
 gate_dated (Some value) time h none = absurd (none time h)
 gate_dated None time h none = absurd none
 
-dated : {P : Type 0} (q : SiteRequest) (form : Form) (url : List ℕ) → Asks q form → IsForm q.address (Gate url) → NamesNoTime (date_field q) → P
+pub dated : {P : Type 0} (q : SiteRequest) (form : Form) (url : List ℕ) → Asks q form → IsForm q.address (Gate url) → NamesNoTime (date_field q) → P
 dated q form url asks gate none =
     let same : form ≡ Gate url = one_form (parts_at q.address) form (Gate url) asks.is gate in
     let is : IsDated (question_of (Gate url)) (date_field q) = subst (λ (f : Form). IsDated (question_of f) (date_field q)) same asks.dated in
@@ -173,7 +174,10 @@ answers terms q (Ships number piece) traces form tells whole disk asks wanted h 
 answers terms q (HasNoMore number) traces form tells whole disk asks wanted h = tt
 
 pub replayed : CapturesThatAreThereAreReplayed
-replayed terms served r q reply form lawful is tells whole asks wanted =
-    answers terms q reply r.traces form tells whole
-    (subst (λ (o : Outcome). CountsMet (disk_fault o) r.traces.before.disk_faults r.traces.after.disk_faults) is lawful.disk)
-    asks wanted (subst (λ (o : Outcome). IsDecided terms r o) is lawful.decided).2
+replayed terms served r q reply form lawful is tells whole asks wanted = record {
+  answer = answers terms q reply r.traces form tells whole
+      (subst (λ (o : Outcome). CountsMet (disk_fault o) r.traces.before.disk_faults r.traces.after.disk_faults) is lawful.disk)
+      asks wanted (subst (λ (o : Outcome). IsDecided terms r o) is lawful.decided).2;
+  text_is = λ sufficed. text_by r.lacked (r.text ≡ memory_text) (IsTextOf terms served (Visited q reply) r.text) sufficed
+      (subst (λ (o : Outcome). MatchBool r.lacked (r.text ≡ memory_text) (IsTextOf terms served o r.text)) is lawful.text_is);
+}

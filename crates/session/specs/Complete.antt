@@ -17,9 +17,9 @@ use Rattle.outside.specs.declared.dialer.Transcript.{Transcript}
 use Rattle.replay_url.specs.Questions.{Question, ForNearest, ForAll, ForQuery, ForNumber, ForPiece, question_of}
 use Rattle.replay_url.specs.declared.form.Form.{Form}
 use Rattle.session.specs.Exchanges.{Exchange, Reply, Passes, IsPassedOn, answers_head}
-use Rattle.session.specs.Requests.{IsAsked, IsRefused}
+use Rattle.session.specs.Requests.{IsAsked, IsRefused, closes_after}
 use Rattle.session.specs.Rounds.{Round, Exchanged, Visited, IsRound, closes_exchange}
-use Rattle.session.specs.SiteAnswers.{SiteRequest, SiteReply, Refuses, Redirects, Replays, Lists, Finds, Ships, HasNoMore, Asks}
+use Rattle.session.specs.SiteAnswers.{SiteRequest, SiteReply, Refuses, Redirects, Replays, Lists, Finds, Ships, HasNoMore, Asks, IsSiteText}
 use Rattle.session.specs.Traces.{Terms, View, Traces}
 use Rattle.surt_key.specs.Key.{key_of}
 use Rattle.time_text.specs.Texts.{InRange}
@@ -85,11 +85,16 @@ IsAnswer (Finds query found) = ⊤
 IsAnswer (Ships number piece) = ⊤
 IsAnswer (HasNoMore number) = ⊤
 
+-- such an answer was decided, and its text was written where memory sufficed
+pub record GetsAnswer (terms : Terms) (served : ℕ) (r : Round) (q : SiteRequest) (reply : SiteReply) : Type 0 where
+  pub answer : IsAnswer reply
+  pub text_is : r.lacked ≡ false → IsSiteText terms q reply (closes_after served q.message.head) r.text
+
 abbrev pub CapturesThatAreThereAreReplayed : Type 0
 CapturesThatAreThereAreReplayed =
     (terms : Terms) (served : ℕ) (r : Round) (q : SiteRequest) (reply : SiteReply) (form : Form)
     → IsRound terms served r → r.outcome ≡ Visited q reply → IsTrue terms.tells → IsFaultless r.traces
-    → Asks q form → HasWanted r.traces.before (question_of form) → IsAnswer reply
+    → Asks q form → HasWanted r.traces.before (question_of form) → GetsAnswer terms served r q reply
 
 -- ---- requests
 

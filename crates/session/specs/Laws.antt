@@ -112,7 +112,7 @@ FoundCapturesAreReplayed =
     → IsReplayed terms q view (ForNearest sought) brought → IsTrue terms.tells
     → (entry : Facts) × Reaches q view.shown sought entry × IsEntryOf view.book entry.number entry × IsBrought view.book entry.number brought
 
--- a number under which an entry was shown is refused in no later round, also in company
+-- a number under which an entry was shown is told as that of no capture in no later round, also in company
 abbrev pub ShownNumbersAreThere : Type 0
 ShownNumbersAreThere =
     (terms : Terms) (served : ℕ) (was : View) (rounds : List Round) (is : View) (r : Round) (q : SiteRequest) (count : ℕ) (entry : Facts)

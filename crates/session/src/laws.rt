@@ -36,7 +36,7 @@ pub fn courses_keep_their_answers()
 }
 
 /// What holds in company as well. What is replayed by date is the capture of the entry that was found, and a number under which an entry
-/// was shown is refused in no later round.
+/// was shown isn't told as absent (404 `NoSuch`) in a later round; a fault of the disk, damage and want of memory stay.
 pub fn shown_captures_stay()
     ensures replayed { FoundCapturesAreReplayed }
     ensures there { ShownNumbersAreThere }
@@ -52,8 +52,8 @@ pub fn stored_captures_have_their_payload()
 }
 
 /// Where no count of faults rises and the disk is told, a response that came, whole or cut, with room for its capture is passed on,
-/// and a capture that is there, or one that is shown, is answered with, and so are queries and pieces: or memory ran out. Bytes that
-/// are a request which goes somewhere aren't refused for themselves.
+/// and a capture that is there, or one that is shown, is answered with, and so are queries and pieces. The answer's text was written, or
+/// memory ran out. Bytes that are a request which goes somewhere aren't refused for themselves.
 pub fn requests_are_answered()
     ensures origins { ResponsesArePassedOn }
     ensures site { CapturesThatAreThereAreReplayed }
