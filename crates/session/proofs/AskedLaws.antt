@@ -15,7 +15,7 @@ use Rattle.session.specs.Requests.{aim_of_head}
 use Rattle.session.proofs.ReadLaws.{long_isnt_head, one_text, same_aim}
 
 -- a message that was read stands first in its bytes
-stands_first : (wire : List ℕ) (message : RequestMessage) (is : IsRequest wire message)
+unfoldable pub stands_first : (wire : List ℕ) (message : RequestMessage) (is : IsRequest wire message)
     → IsFirst Requests true wire (Message (is.skipped + length message.head.text + length is.wire))
 stands_first wire message is =
     let rest : drop (is.skipped + length message.head.text) wire ≡ is.wire =
@@ -34,10 +34,10 @@ stands_first wire message is =
 message_isnt_refused : {P : Type 0} (used : ℕ) (fault : MessageFault) → Message used ≡ Refused fault → P
 message_isnt_refused used fault e = let bad : ⊥ = cc in absurd bad
 
-somewhere : {P : Type 0} (a b : Result Aim AimFault) (aim : Aim) (fault : AimFault) → a ≡ Ok aim → b ≡ Err fault → a ≡ b → P
+pub somewhere : {P : Type 0} (a b : Result Aim AimFault) (aim : Aim) (fault : AimFault) → a ≡ Ok aim → b ≡ Err fault → a ≡ b → P
 somewhere a b aim fault e f same = let bad : ⊥ = cc in absurd bad
 
-refused_first : (wire : List ℕ) (fault : MessageFault) → RefusesAtHead Requests wire fault ⊎ RefusesBehindHead Requests wire fault
+pub refused_first : (wire : List ℕ) (fault : MessageFault) → RefusesAtHead Requests wire fault ⊎ RefusesBehindHead Requests wire fault
     → IsFirst Requests true wire (Refused fault)
 refused_first wire fault (inl at) = inr (inr (inl at))
 refused_first wire fault (inr behind) = inr (inr (inr behind))

@@ -169,11 +169,11 @@ courses_count terms served was (r ∷ rounds) is (lawful, leads, knows, last, ot
 same_consistent : (terms : Terms) (a b : View) → b.book ≡ a.book → b.shown ≡ a.shown → IsConsistentView terms a → IsConsistentView terms b
 same_consistent terms a b e f h = λ alone tells. rw (e, f) (h alone tells)
 
-leads_consistent : (terms : Terms) (a b : View) → IsTrue terms.alone → LeadsView terms a b → IsConsistentView terms a → IsConsistentView terms b
+pub leads_consistent : (terms : Terms) (a b : View) → IsTrue terms.alone → LeadsView terms a b → IsConsistentView terms a → IsConsistentView terms b
 leads_consistent terms a b alone leads h =
     same_consistent terms a b (leads_same terms.alone a.book b.book alone leads.book) (shown_same terms.alone a.shown b.shown alone leads.shown) h
 
-leaves_consistent : (terms : Terms) (traces : Traces) → IsTrue terms.alone → Leaves terms traces → IsConsistentView terms traces.before
+pub leaves_consistent : (terms : Terms) (traces : Traces) → IsTrue terms.alone → Leaves terms traces → IsConsistentView terms traces.before
     → IsConsistentView terms traces.after
 leaves_consistent terms traces alone (Stayed stays) h =
     same_consistent terms traces.before traces.after stays.book (shown_same terms.alone traces.before.shown traces.after.shown alone stays.shown) h

@@ -14,6 +14,10 @@ mod HeadLaws
 pub mod ImageLaws
 mod KeepLaws
 mod LookLaws
+mod OneCourseLaws
+mod OneReply
+mod OneRequest
+mod OneVisit
 mod PassLaws
 mod PayloadLaws
 mod ReadLaws

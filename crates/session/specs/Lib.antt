@@ -4,6 +4,7 @@ pub mod Exchanges
 pub mod Gains
 pub mod Images
 pub mod Laws
+pub mod OneCourse
 pub mod Requests
 pub mod Rounds
 pub mod SiteAnswers

@@ -2,11 +2,19 @@
 ghost use Rattle.std.specs.Prelude.{◌≡◌};
 ghost use Rattle.session.specs.Complete.{CapturesThatAreThereAreReplayed, RequestsAreNotRefused, ResponsesArePassedOn};
 ghost use Rattle.session.specs.Laws.{CoursesGrow, CoursesShowOn, CoursesCountFaults, CoursesStayConsistent, FoundCapturesAreReplayed, IdsDifferOnTheWay, OriginsAloneAreDialed, OtherRoundsStoreNothing, PassedOnResponsesStay, ShownNumbersAreThere, StoredCapturesHaveTheirPayload};
+ghost use Rattle.session.specs.OneCourse.{CoursesEndOneWay, CoursesLeaveNoChoice, RoundsLeaveNoChoice};
 ghost use Rattle.session.specs.declared.TheConstants.{REQUEST_LIMIT};
 
-use archive_shelf::{leading_books_grow, stored_captures_stand_behind};
-use capture::{captures_have_one_payload, growth_keeps_captures};
-use http_wire::decisions_are_one;
+use archive_shelf::{
+    captures_are_stored_one_way, leading_books_grow, stored_captures_stand_behind,
+};
+use capture::{captures_have_one_payload, growth_keeps_captures, wires_have_one_payload};
+use cdx_query::{queries_have_one_answer, texts_are_one_query};
+use cdxj_index::books_have_one_index;
+use html_rewrite::a_page_has_one_split;
+use http_head::fronts_stay;
+use http_wire::{decisions_are_one, decisions_stay};
+use warc_text::numbers_have_one_group;
 
 /// Over a lawful course the book only grows, and so does what is shown. Alone, each round is decided by just the entries of its
 /// book, where that holds of the archive before; and where the ids of the last book differ, those of each book on the way do. The
@@ -60,6 +68,28 @@ pub fn requests_are_answered()
     ensures unrefused { RequestsAreNotRefused }
 {
     decisions_are_one();
+}
+
+/// A course leaves no choice. Two lawful courses over the same archive, in which a client gave the same bytes, the clock the same times
+/// and the links to origins the same, decide the same and write the same texts, round for round, and leave the same book. That is so
+/// alone, over a disk that is told, where memory sufficed, no count of faults rose, and nothing that could be answered is left over. Where
+/// the client's link didn't fail both end alike, and the same was written. Also in company a round is decided by what is seen and shown then.
+pub fn courses_leave_no_choice()
+    ensures one { CoursesLeaveNoChoice }
+    ensures ends { CoursesEndOneWay }
+    ensures rounds { RoundsLeaveNoChoice }
+{
+    fronts_stay();
+    decisions_stay();
+    decisions_are_one();
+    wires_have_one_payload();
+    captures_have_one_payload();
+    captures_are_stored_one_way();
+    books_have_one_index();
+    numbers_have_one_group();
+    texts_are_one_query();
+    queries_have_one_answer();
+    a_page_has_one_split();
 }
 
 /// What the limit is that the definitions speak of: the answer to the 1,000th request of a connection closes it.

@@ -23,8 +23,8 @@ mod visit;
 mod visiting;
 
 pub use laws::{
-    courses_keep_their_answers, courses_only_grow, limits_are_these, requests_are_answered,
-    shown_captures_stay, stored_captures_have_their_payload,
+    courses_keep_their_answers, courses_leave_no_choice, courses_only_grow, limits_are_these,
+    requests_are_answered, shown_captures_stay, stored_captures_have_their_payload,
 };
 pub use served::Served;
 pub use serving::serve;
