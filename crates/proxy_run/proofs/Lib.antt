@@ -6,6 +6,7 @@ mod ImportLaws
 mod InputLaws
 mod KeepingLaws
 mod NextLaws
+mod OnePipeLaws
 mod OpeningLaws
 mod PipeLaws
 mod RunLaws

@@ -5,6 +5,7 @@ pub mod Imports
 pub mod Inputs
 pub mod Keeping
 pub mod Objects
+pub mod OnePipe
 pub mod Opening
 pub mod Pipes
 pub mod Printing

@@ -1,10 +1,13 @@
 //! What runs promise to those who build on them.
 ghost use Rattle.proxy_run.specs.Complete.{CapturesComeBack, ChecksAreAnswered, ImportsAreAnswered, ImportsLeaveReady, PipesAreAnswered, PipesLeaveReady};
 ghost use Rattle.proxy_run.specs.Objects.{kinds_of};
+ghost use Rattle.proxy_run.specs.OnePipe.{PipesLeaveNoChoice};
 ghost use Rattle.proxy_run.specs.Verified.{SoundVolumesVerify, VerifiesAreAnswered};
 
+use cdxj_index::books_have_one_index;
 use disk_model::Disk;
 use outside::{Clock, Dialer, Gate, Sink};
+use session::courses_leave_no_choice;
 use warc_text::files_stand_for_one_book;
 
 /// Where no count of faults rises, over a disk that stands for a sound book in the namespace that is asked for, `check` prints how
@@ -28,3 +31,13 @@ pub fn sound_archives_verify<D: Disk, G: Gate, N: Dialer, C: Clock, O: Sink>()
     ensures sound { SoundVolumesVerify }
     ensures done { VerifiesAreAnswered (kinds_of D.Disk G.Gate N.Dialer C.Clock O.Sink G.Link.tells N.Link.tells) }
 {}
+
+/// Over a disk that is ready and told, `pipe` answers the same bytes, times and transcripts in one way: by the same texts, the same
+/// book and the same status. That is so where neither its client's link nor one to an origin failed, nor the dialer or the disk, and
+/// where memory sufficed.
+pub fn pipes_leave_no_choice<D: Disk, G: Gate, N: Dialer, C: Clock, O: Sink>()
+    ensures { PipesLeaveNoChoice (kinds_of D.Disk G.Gate N.Dialer C.Clock O.Sink G.Link.tells N.Link.tells) }
+{
+    courses_leave_no_choice();
+    books_have_one_index();
+}

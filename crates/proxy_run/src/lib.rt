@@ -21,7 +21,7 @@ mod trying;
 mod verifying;
 mod words;
 
-pub use laws::{ready_archives_are_served, sound_archives_verify};
+pub use laws::{pipes_leave_no_choice, ready_archives_are_served, sound_archives_verify};
 pub use running::{CREW, Crew, Ran, run};
 pub use status::Status;
 pub use words::{is_import, is_pipe, site_of};

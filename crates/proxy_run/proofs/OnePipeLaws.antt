@@ -1,0 +1,137 @@
+-- What `pipe` answers is told by what it is given.
+use Rattle.std.proofs.Common.{◌≡◌, ◌≢◌, ◌⊎◌, inl, inr, ℕ, List, Some, true, false, IsTrue, refl, sym, ◌∙◌, ap, subst}
+use Rattle.std.proofs.lemmas.List.{append_cancel_left}
+use Rattle.archive_shelf.specs.Contents.{Contents}
+use Rattle.archive_shelf.specs.Openings.{SameBook}
+use Rattle.capture.specs.declared.book.Book.{Book}
+use Rattle.capture.specs.declared.site.Site.{Site}
+use Rattle.cdxj_index.specs.OfBook.{AreEntries, BooksHaveOneListOfEntries}
+use Rattle.disk_model.specs.declared.disk.Disk.{Ghosts as Disks}
+use Rattle.outside.specs.Records.{Links}
+use Rattle.outside.specs.declared.dialer.Transcript.{Transcript}
+use Rattle.outside.specs.declared.gate.Heard.{Heard}
+use Rattle.proxy_run.specs.Complete.{IsReady}
+use Rattle.proxy_run.specs.Objects.{Kinds, Objects}
+use Rattle.proxy_run.specs.OnePipe.{PipesLeaveNoChoice, PipesWell}
+use Rattle.proxy_run.specs.Opening.{IsOpened}
+use Rattle.proxy_run.specs.Pipes.{Pipes, pipe_terms}
+use Rattle.proxy_run.specs.Serving.{pipe_site, status_of, unheard}
+use Rattle.proxy_run.specs.declared.status.Status.{Status}
+use Rattle.session.specs.Gains.{gains_of}
+use Rattle.session.specs.OneCourse.{AreOneCourse, CoursesEndOneWay, CoursesLeaveNoChoice, WentWell}
+use Rattle.session.specs.Requests.{IsUndecided}
+use Rattle.session.specs.Rounds.{lacks}
+use Rattle.session.specs.Stopping.{Course, Ends, closes_course}
+use Rattle.session.specs.Traces.{View, view_of}
+use Rattle.session.specs.declared.served.Served.{Served}
+use Rattle.session.specs.declared.served.Served.TheVariants as served
+
+-- ---- an end
+
+true_isnt_false : {P : Type 0} (c : Course) → lacks c.rounds ≡ true → lacks c.rounds ≡ false → P
+true_isnt_false c t f = let bad : ⊥ = cc in absurd bad
+
+-- where memory didn't run out, it didn't for a round
+whole_of : (result : Served) (site : Site) (c : Course) (then now : Heard) → Ends result site c then now → result ≢ served.WantOfMemory → lacks c.rounds ≡ false
+whole_of served.Done site c then now h other = h.1
+whole_of served.ClientBroke site c then now h other = h.1
+whole_of served.ClientEndedEarly site c then now h other = h.1
+whole_of (served.ClientRefused refusal) site c then now h other = h.1
+whole_of served.WantOfMemory site c then now h other = absurd (other refl)
+
+-- and where the client's link didn't fail either, nothing that could be answered is left over
+all_of : (result : Served) (site : Site) (c : Course) (then now : Heard) → Ends result site c then now → now.faults ≡ 0 → lacks c.rounds ≡ false
+    → (closes_course c ≡ true) ⊎ IsUndecided site c.rest
+all_of served.Done site c then now h ok whole = elim h.3 [
+  | inl closed ↦ inl closed.closed
+  | inr (met, between, left) ↦ inr left.undecided
+]
+all_of served.ClientBroke site c then now h ok whole = absurd (h.0 ok)
+all_of served.ClientEndedEarly site c then now h ok whole = inr h.4.undecided
+all_of (served.ClientRefused refusal) site c then now h ok whole = inl h.3.closed
+all_of served.WantOfMemory site c then now h ok whole = true_isnt_false c h.0 whole
+
+-- ---- an archive that was opened twice
+
+book_same : (a b : Book) → a.namespace ≡ b.namespace → a.volumes ≡ b.volumes → a ≡ b
+book_same a b namespace volumes = λ i. record { namespace = namespace i; volumes = volumes i }
+
+-- books that are the same as a third, and have one namespace, are one
+both_same : (a b third : Book) → a.namespace ≡ b.namespace → SameBook a third → SameBook b third → a ≡ b
+both_same a b third namespace (inl e) (inl d) = e ∙ sym d
+both_same a b third namespace (inl e) (inr (none, empty)) =
+    book_same a b namespace (ap (λ (x : Book). x.volumes) e ∙ empty ∙ sym none)
+both_same a b third namespace (inr (none, empty)) (inl e) =
+    book_same a b namespace (none ∙ sym (ap (λ (x : Book). x.volumes) e ∙ empty))
+both_same a b third namespace (inr (none, empty)) (inr (nothing, e)) = book_same a b namespace (none ∙ sym nothing)
+
+contents_same : (a b : Contents) → a.tells ≡ b.tells → a.seen ≡ b.seen → a.shown ≡ b.shown → a.mine ≡ b.mine → a.limits ≡ b.limits → a ≡ b
+contents_same a b tells seen shown mine limits =
+    λ i. record { tells = tells i; seen = seen i; shown = shown i; mine = mine i; limits = limits i }
+
+opened_same : {D : Type 0} (disks : Disks D) (namespace : List ℕ) (disk : D) (a b : Contents) → BooksHaveOneListOfEntries → IsTrue disks.tells
+    → IsReady (Some namespace) (disks.reading disk) → IsOpened disks (Some namespace) disk a → IsOpened disks (Some namespace) disk b → a ≡ b
+opened_same disks namespace disk a b one tells ready h k =
+    let seen : a.seen ≡ b.seen =
+    both_same a.seen b.seen ready.book (h.in_namespace ∙ sym k.in_namespace) (h.one tells ready.book ready.stands ready.ids) (k.one tells ready.book ready.stands ready.ids) in
+    let shown : a.shown ≡ b.shown =
+    one a.seen a.shown b.shown (h.consistent.shown refl (h.same_tells ∙ tells))
+    (subst (λ (x : Book). AreEntries x b.shown) (sym seen) (k.consistent.shown refl (k.same_tells ∙ tells))) in
+    contents_same a b (h.same_tells ∙ sym k.same_tells) seen shown (h.none_stored ∙ sym k.none_stored) (h.limits_are ∙ sym k.limits_are)
+
+-- ---- two connections
+
+module _ {D G L P N M C O : Type 0} (kinds : Kinds D G L P N M C O) where
+  -- what is seen of an archive with these contents, by what the objects tell
+  abbrev seen_by : Objects D G (N × C) O → Contents → View
+  seen_by objects now = view_of now (kinds.dialers.faults objects.crew.0) (kinds.disks.faults objects.disk)
+
+  module _ {namespace : List ℕ} {was is : Objects D G (N × C) O} {status : Status} (piped : Pipes kinds (Some namespace) was is status) (a : PipesWell kinds piped) where
+    abbrev course_of : Course
+    course_of = record { served = 0; rounds = a.served.one.connection.rounds; rest = a.served.one.connection.rest }
+
+    whole : lacks a.served.one.connection.rounds ≡ false
+    whole =
+        whole_of a.served.one.served pipe_site course_of unheard a.served.one.heard a.served.one.connection.ends
+        (λ e. a.memory (a.served.one.status_is ∙ ap status_of e))
+
+    went_well : WentWell (pipe_terms piped.before) (seen_by was piped.before) course_of (seen_by is piped.after)
+    went_well = record {
+      lawful = a.served.one.connection.lawful;
+      memory = whole;
+      dialer = a.dialer.same;
+      dialer_counts = a.dialer.below;
+      disk = a.disk.same;
+      disk_counts = a.disk.below;
+      all = all_of a.served.one.served pipe_site course_of unheard a.served.one.heard a.served.one.connection.ends a.client whole;
+    }
+
+pub pipes_one_way : {D G L P N M C O : Type 0} (kinds : Kinds D G L P N M C O) → BooksHaveOneListOfEntries → CoursesLeaveNoChoice → CoursesEndOneWay
+    → PipesLeaveNoChoice kinds
+pipes_one_way kinds entries one ends namespace was is other status end piped also a b tells clock_tells ready same =
+    let mine = a.served.one.connection in
+    let its = b.served.one.connection in
+    let first : Course = course_of kinds piped a in
+    let second : Course = course_of kinds also b in
+    let opened : also.before ≡ piped.before = opened_same kinds.disks namespace was.disk also.before piped.before entries tells ready also.opened piped.opened in
+    let well : WentWell (pipe_terms piped.before) (seen_by kinds was piped.before) second (seen_by kinds other also.after) =
+    subst (λ (x : Contents). WentWell (pipe_terms x) (seen_by kinds was x) second (seen_by kinds other also.after)) opened (went_well kinds also b) in
+    let courses : AreOneCourse first second (seen_by kinds is piped.after) (seen_by kinds other also.after) =
+    one (pipe_terms piped.before) (seen_by kinds was piped.before) first second (seen_by kinds is piped.after) (seen_by kinds other also.after) refl
+    (piped.opened.same_tells ∙ tells) piped.opened.consistent.shown (went_well kinds piped a) well (record {
+      served = refl;
+      bytes = sym mine.given ∙ same.bytes ∙ its.given;
+      times = append_cancel_left (kinds.clocks.answers was.crew.1) (gains_of mine.rounds).times (gains_of its.rounds).times
+          (sym (mine.gained.around.asked clock_tells a.clock) ∙ same.times ∙ its.gained.around.asked clock_tells b.clock);
+      transcripts = append_cancel_left (kinds.dialers.links was.crew.0).log (gains_of mine.rounds).transcripts (gains_of its.rounds).transcripts
+          (sym (ap (λ (l : Links Transcript). l.log) mine.gained.around.logged) ∙ same.transcripts ∙ ap (λ (l : Links Transcript). l.log) its.gained.around.logged);
+    }) in
+    let alike = ends pipe_site first second (seen_by kinds is piped.after) (seen_by kinds other also.after)
+    a.served.one.served b.served.one.served unheard a.served.one.heard b.served.one.heard courses (whole kinds piped a) (whole kinds also b)
+    mine.ends its.ends a.client b.client in
+    record {
+      written = alike.1;
+      seen = courses.book;
+      shown = courses.shown;
+      status_is = a.served.one.status_is ∙ ap status_of alike.0 ∙ sym b.served.one.status_is;
+    }
