@@ -16,6 +16,6 @@ mod waiting;
 pub use accepting::Acceptor;
 pub use beside::side_by_side;
 pub use ledger::{Naming, Share};
-pub use post::{Worker, serve_left};
+pub use post::Worker;
 pub use queue::{Queue, Unnamed};
 pub use serving::{Served, Unserved, serve_beside};

@@ -1,11 +1,10 @@
 //! Those who take links out of the queue and serve them.
-ghost use Rattle.std.specs.Prelude.{◌≡◌, List, [], ◌++◌, IsTrue, OnOk, OnErr};
+ghost use Rattle.std.specs.Prelude.{◌≡◌, [], IsTrue, OnOk, OnErr};
 ghost use Rattle.link_queue.specs.Accounts.{with_taken};
 ghost use Rattle.link_queue.specs.Serving.{IsShift};
 
 use crate::ledger::{Naming, Share};
 use crate::queue::Queue;
-use std::collections::VecDeque;
 use std::sync::Wait;
 
 /// Who serves links.
@@ -98,18 +97,4 @@ impl<W: Worker<K>, K, J: Naming> Post<W, K, J> {
         let Post { worker, share } = self;
         serve_until_end(rt, queue, worker, share);
     }
-}
-
-/// Serves the links that are left, in their order, until there are no more or no room. Gives out those that aren't served.
-pub fn serve_left<W: Worker<K>, K>(worker: &mut W, left: VecDeque<K>) -> VecDeque<K>
-    ensures { (served : List K) × (left.items ≡ served ++ result.items) × IsShift W.stays W.serves worker.old served worker.new }
-{
-    let mut rest = left;
-    'serving: while worker.make_room() {
-        match rest.pop_front() {
-            Some(link) => worker.serve(link),
-            None => return rest,
-        }
-    }
-    rest
 }
