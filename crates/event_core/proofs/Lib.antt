@@ -1,0 +1,16 @@
+pub mod AcknowledgedLaws
+pub mod CountLaws
+pub mod FaultLaws
+pub mod ImageLaws
+pub mod LookLaws
+pub mod MoreLaws
+pub mod NewLaws
+pub mod NextLaws
+pub mod OpenLaws
+pub mod RollLaws
+pub mod RunLaws
+pub mod SettleLaws
+pub mod StandLaws
+pub mod StopLaws
+pub mod StoreLaws
+pub mod TallyLaws

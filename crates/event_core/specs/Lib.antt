@@ -1,0 +1,6 @@
+pub mod Acknowledged
+pub mod Events
+pub mod Faults
+pub mod Machine
+pub mod Running
+pub mod steps

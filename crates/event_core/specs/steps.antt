@@ -1,0 +1,2 @@
+-- What only proofs read.
+pub mod Standing
