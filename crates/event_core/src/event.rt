@@ -17,12 +17,15 @@ pub enum Event {
     Map(Key),
     /// The checkpoints are written that sealed volumes haven't yet.
     Settle,
-    /// The disk is stopped with this choice, and opened again.
+    /// The disk is stopped with this choice (`MemoryDisk::stop`), and the archive opened again.
     Stop(u32),
     /// A capture begins to be stored, with a fuse of so many calls of the disk; then it is stopped with this choice, and opened again.
     StopWithin {
+        /// What begins to be stored.
         taken: Taken,
+        /// How many calls of the disk pass.
         calls: u64,
+        /// What the stop chooses of what the disk may hold, as `MemoryDisk::stop` takes it.
         choice: u32,
     },
 }

@@ -19,7 +19,7 @@ pub(crate) struct Opening {
 }
 
 impl Opening {
-    /// Opens the archive that a disk holds.
+    /// Opens the archive that a disk holds. Each volume is read whole.
     pub(crate) fn open(
         &self,
         alloc: Global,

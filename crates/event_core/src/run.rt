@@ -36,8 +36,11 @@ pub enum RanEnd {
 /// The replies to the events that came, how the run ended, and the disk as it was left.
 #[derive(Debug, Drop)]
 pub struct Ran {
+    /// A reply for each event that came, in their order.
     pub replies: Items<Reply>,
+    /// Whether all came, or why not.
     pub end: RanEnd,
+    /// The disk, with all its counts.
     pub disk: MemoryDisk,
 }
 
