@@ -1,0 +1,44 @@
+-- What a disk over a folder knows of it.
+use Rattle.std.specs.Prelude.{◌^◌, ◌≡◌, ◌<◌, ◌≤◌, ℕ, zero, suc, ◌+◌, Bool, false, if◌then◌else◌, Option, Some, None, is_some, List, [], ◌∷◌, ◌++◌}
+use Rattle.disk_model.specs.Image.{Image, file_count}
+use Rattle.disk_model.specs.declared.kind.Kind.{Kind}
+use Rattle.disk_model.specs.declared.kind.Kind.TheVariants.{Warc, Cdxj}
+use Rattle.folder_model.specs.File.{AreBytesSure}
+use Rattle.folder_model.specs.Folder.{FolderPast, contents_of, deeds_of}
+use Rattle.folder_model.specs.Seen.{FolderIs, IsNamed}
+use Rattle.folder_model.specs.Times.{Times, IsTimed}
+
+-- the files of a kind up to a number
+abbrev pub files_up_to : (ℕ → List ℕ) → ℕ → List (List ℕ)
+files_up_to bytes zero = []
+files_up_to bytes (suc n) = files_up_to bytes n ++ bytes n ∷ []
+
+-- the bytes of what is there
+abbrev pub bytes_or_none : Option (List ℕ) → List ℕ
+bytes_or_none None = []
+bytes_or_none (Some bytes) = bytes
+
+-- the image of so many files of each kind
+unfoldable pub image_of : (Kind → ℕ → Option (List ℕ)) → (Kind → ℕ) → Image
+image_of entry count = record {
+  warc = files_up_to (λ file. bytes_or_none (entry Warc file)) (count Warc);
+  cdxj = files_up_to (λ file. bytes_or_none (entry Cdxj file)) (count Cdxj);
+}
+
+-- The image that reads find, of a disk that knows of so many files of each kind and may have made one more.
+abbrev pub reading_of : (Kind → ℕ → List ℕ) → FolderPast → (Kind → ℕ) → Image
+reading_of name past known =
+    image_of (λ kind file. contents_of past (name kind file))
+    (λ kind. if is_some (contents_of past (name kind (known kind))) then known kind + 1 else known kind)
+
+-- A disk that knows of so many files of each kind, fewer than 2 ^ 32, and what it reads. It has given up where a file that it was to make may be there or
+-- not, or a sync failed: from then on it makes and syncs nothing. Before that all names are on the disk and syncs answer for all bytes.
+pub record Knows (name : Kind → ℕ → List ℕ) (past : FolderPast) (known : Kind → ℕ) (gave_up : Bool) (times : Times) (reading : Image) : Type 0 where
+  pub is : FolderIs name past reading
+  pub timed : IsTimed times past
+  pub numbers : (kind : Kind) → known kind < 2 ^ 32
+  pub no_fewer : (kind : Kind) → known kind ≤ file_count reading kind
+  pub one_more : (kind : Kind) → file_count reading kind ≤ known kind + 1
+  pub all : gave_up ≡ false → (kind : Kind) → file_count reading kind ≡ known kind
+  pub named : gave_up ≡ false → (kind : Kind) (file : ℕ) → file < file_count reading kind → IsNamed past (name kind file)
+  pub sure : gave_up ≡ false → (n : List ℕ) → AreBytesSure (past.first n) (deeds_of n past.deeds)

@@ -1,0 +1,11 @@
+pub mod Calls
+pub mod DiskCalls
+pub mod File
+pub mod Folder
+pub mod Known
+pub mod Laws
+pub mod Seen
+pub mod Timed
+pub mod Times
+pub mod Whole
+pub mod steps

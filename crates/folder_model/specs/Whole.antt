@@ -1,0 +1,69 @@
+-- What is done to a file by several calls.
+use Rattle.std.specs.Prelude.{◌≡◌, ◌≤◌, ◌⊎◌, ℕ, ◌+◌, true, Some, None, List, [], ◌∷◌, ◌++◌, length, take, ⊤}
+use Rattle.disk_model.specs.Crash.{Torn}
+use Rattle.folder_model.specs.File.{FileDeed, Made, Wrote, Shortened, Synced, Listed}
+use Rattle.folder_model.specs.Folder.{Deed, Did, SyncedFolder, SyncedAround, FolderPast, did, did_to, contents_of}
+
+-- the past with these deeds more on a file, the newest first
+abbrev pub done_to : FolderPast → List ℕ → List FileDeed → FolderPast
+done_to past name [] = past
+done_to past name (deed ∷ earlier) = did_to (done_to past name earlier) name deed
+
+-- each is a write, within so many bytes from a place on
+abbrev pub AreWrites : ℕ → ℕ → List FileDeed → Type 0
+AreWrites at many [] = ⊤
+AreWrites at many (Made ∷ earlier) = ⊥
+AreWrites at many (Wrote place bytes rest ∷ earlier) = (at ≤ place) × (place + (length bytes + rest) ≤ at + many) × AreWrites at many earlier
+AreWrites at many (Shortened len rest ∷ earlier) = ⊥
+AreWrites at many (Synced done ∷ earlier) = ⊥
+AreWrites at many (Listed done ∷ earlier) = ⊥
+
+-- A file was written to, within so many bytes from a place on, and nothing else was done.
+pub record WritesWithin (name : List ℕ) (at many : ℕ) (old new : FolderPast) : Type 0 where
+  pub deeds : List FileDeed
+  pub writes : AreWrites at many deeds
+  pub whole : new ≡ done_to old name deeds
+
+-- The file is there, and a place isn't past its end.
+pub record IsInFile (past : FolderPast) (name : List ℕ) (at : ℕ) : Type 0 where
+  pub bytes : List ℕ
+  pub there : contents_of past name ≡ Some bytes
+  pub inside : at ≤ length bytes
+
+-- Of a write of these bytes at a place the first `done` ones stand there.
+pub record IsWriting (name : List ℕ) (at : ℕ) (bytes : List ℕ) (done : ℕ) (old new : FolderPast) : Type 0 where
+  pub within : WritesWithin name at (length bytes) old new
+  pub before : List ℕ
+  pub was : contents_of old name ≡ Some before
+  pub now : List ℕ
+  pub is : contents_of new name ≡ Some now
+  pub torn : Torn at (length bytes) before now
+  pub front : take (at + done) now ≡ take at before ++ take done bytes
+  pub reach : at + done ≤ length now
+
+-- each is a sync, done or failed
+abbrev pub AreSyncs : List Deed → Type 0
+AreSyncs [] = ⊤
+AreSyncs (Did name (Synced done) ∷ earlier) = AreSyncs earlier
+AreSyncs (Did name deed ∷ earlier) = ⊥
+AreSyncs (SyncedFolder done ∷ earlier) = AreSyncs earlier
+AreSyncs (SyncedAround done ∷ earlier) = AreSyncs earlier
+
+-- Nothing was done but syncs, done or failed.
+pub record OnlySyncs (old new : FolderPast) : Type 0 where
+  pub deeds : List Deed
+  pub syncs : AreSyncs deeds
+  pub whole : new ≡ record old { deeds = deeds ++ old.deeds }
+
+-- A file was made, and it, the folder and the folder around were synced.
+abbrev pub made_durably : List ℕ → FolderPast → FolderPast
+made_durably name past = did (did (did_to (did_to past name Made) name (Synced true)) (SyncedFolder true)) (SyncedAround true)
+
+-- A file was made that wasn't there, and then nothing but syncs was done.
+pub record IsMadeSince (name : List ℕ) (old new : FolderPast) : Type 0 where
+  pub none : contents_of old name ≡ None
+  pub synced : OnlySyncs (did_to old name Made) new
+
+-- A file was made, with nothing but syncs behind it, or nothing was done.
+abbrev pub MakesInPart : List ℕ → FolderPast → FolderPast → Type 0
+MakesInPart name old new = (new ≡ old) ⊎ IsMadeSince name old new

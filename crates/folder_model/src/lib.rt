@@ -1,0 +1,22 @@
+//! A folder of files by the calls of a file system: what they do, and what a crash may leave.
+#![tactic(auto)]
+
+mod access;
+mod durable;
+mod folder;
+mod folders;
+mod laws;
+mod names;
+mod timed;
+mod whole;
+
+pub use access::Access;
+pub use durable::make_durably;
+pub use folder::Folder;
+pub use folders::{Folders, Lock};
+pub use laws::{
+    each_deed_is_a_step_of_the_disk, what_is_left_is_a_disk, what_was_synced_is_durable,
+};
+pub use names::Names;
+pub use timed::Timed;
+pub use whole::{read_whole, write_whole};
