@@ -6,6 +6,7 @@ use Rattle.capture.specs.Head.{front_of}
 use Rattle.capture.specs.Head as head_front
 use Rattle.capture.specs.declared.book.Book.{Book}
 use Rattle.capture.specs.declared.refusal.Refusal.{Refusal}
+use Rattle.capture.specs.declared.refusal.Refusal.TheVariants.{DialFault}
 use Rattle.capture.specs.declared.site.Site.{Site}
 use Rattle.cdxj_index.specs.OfBook.{AreEntries}
 use Rattle.exchange.specs.Refusals.{memory_text, refusal_text}
@@ -20,7 +21,7 @@ use Rattle.http_wire.proofs.OneHead.{no_head_is_none}
 use Rattle.http_wire.specs.Messages.{IsRequest}
 use Rattle.outside.specs.declared.dialer.Transcript.{Transcript}
 use Rattle.outside.specs.declared.gate.Heard.{Heard}
-use Rattle.session.specs.Exchanges.{Exchange, Reply, IsReply, reply_text}
+use Rattle.session.specs.Exchanges.{Exchange, Reply, Fails, IsReply, reply_text}
 use Rattle.session.specs.Gains.{gains_of}
 use Rattle.session.specs.OneCourse.{AreOneCourse, AreSameRounds, CoursesEndOneWay, CoursesLeaveNoChoice, IsSameRound, RoundWentWell, RoundsLeaveNoChoice, WentWell}
 use Rattle.session.specs.Requests.{IsAsked, IsBetween, IsInside, IsInterim, IsUndecided, aim_of_head, closes_after, interim_of}
@@ -34,7 +35,7 @@ use Rattle.session.specs.declared.served.Served.TheVariants.{Done, ClientBroke, 
 use Rattle.session.proofs.CompleteLaws.{text_by}
 use Rattle.session.proofs.GrowingLaws.{courses_count, decided_leaves, leads_consistent, leaves_consistent}
 use Rattle.session.proofs.OneRequest.{Cutting, SameAsked, SameRefused, asked_is_decided, asked_isnt_refused, interim_asked, interim_refused, one_asked, one_head, one_refused, refused_is_decided, told_interim}
-use Rattle.session.proofs.OneReply.{Answering, SameReply, none_is, one_reply}
+use Rattle.session.proofs.OneReply.{Answering, DialedAlike, SameReply, dialed_alike, none_is, one_reply}
 use Rattle.session.proofs.OneVisit.{Finding, one_visit, text_once}
 
 -- what lower crates promise
@@ -70,10 +71,22 @@ interim_of_round terms served r h = elim h.lawful.interim_is [
 plain_closes : (terms : Terms) (served : ℕ) (r : Round) → RoundWentWell terms served r → closes served r ≡ closes_outcome served r.outcome
 plain_closes terms served r h = ap (λ b. b || closes_outcome served r.outcome) h.memory
 
+-- nor did the dialer fail, with its links
+record IsPlain (terms : Terms) (served : ℕ) (r : Round) : Type 0 where
+  pub well : RoundWentWell terms served r
+  pub dialer : origin_fault r.outcome ≡ 0
+
 -- what a round without faults leaves of the counts
-after_counts : (terms : Terms) (served : ℕ) (r : Round) → RoundWentWell terms served r
+after_counts : (terms : Terms) (served : ℕ) (r : Round) → IsPlain terms served r
     → (r.traces.after.dialer_faults ≡ r.traces.before.dialer_faults) × (r.traces.after.disk_faults ≡ r.traces.before.disk_faults)
-after_counts terms served r h = (h.lawful.dialer.steady h.dialer, h.lawful.disk.steady h.disk)
+after_counts terms served r h = (h.well.lawful.dialer.steady h.dialer, h.well.lawful.disk.steady h.well.disk)
+
+-- so nobody was dialed in vain
+dialed_not : {P : Type 0} (o : Outcome) (e : Exchange) (reply : Reply) → origin_fault o ≡ 0 → o ≡ Exchanged e reply → reply ≡ Fails DialFault → P
+dialed_not o e reply none is failed =
+    let one : origin_fault (Exchanged e (Fails DialFault)) ≡ 0 =
+    subst (λ (x : Reply). origin_fault (Exchanged e x) ≡ 0) failed (subst (λ (x : Outcome). origin_fault x ≡ 0) is none) in
+    absurd (omega (arith, one))
 
 -- ---- aims
 
@@ -111,6 +124,7 @@ module _ (laws : Choosing) (terms : Terms) (served : ℕ) (tells : IsTrue terms.
     (bytes left : List ℕ) (times later : List ℕ) (transcripts further : List Transcript)
     (rp : RoundWentWell terms served r) (sp : RoundWentWell terms served s) (before : r.traces.before ≡ s.traces.before)
     (later_book : Book) (are : AreEntries later_book r.traces.before.shown)
+    (dials : (e d : Exchange) (a b : Reply) → r.outcome ≡ Exchanged e a → s.outcome ≡ Exchanged d b → DialedAlike a b)
     (given : r.wire ++ bytes ≡ s.wire ++ left) (timed : r.traces.times ++ times ≡ s.traces.times ++ later)
     (linked : r.traces.transcripts ++ transcripts ≡ s.traces.transcripts ++ further) where
   abbrev Step : Type 0
@@ -173,11 +187,10 @@ module _ (laws : Choosing) (terms : Terms) (served : ℕ) (tells : IsTrue terms.
       origin_once (aim_of_head terms.site d.message.head) e.target d.target (aimed_as terms r.wire e.message d.message (Origin e.target) asked.message h.0) k.0.aimed in
       let exchange : e ≡ d = exchange_same e d asked.message target in
       let replied : IsReply terms d a r.traces = subst (λ (x : Exchange). IsReply terms x a r.traces) exchange h.1 in
-      let dialer : origin_fault (Exchanged d a) ≡ 0 = subst (λ (x : Exchange). origin_fault (Exchanged x a) ≡ 0) exchange (subst (λ (o : Outcome). origin_fault o ≡ 0) is rp.dialer) in
       let disk : disk_fault (Exchanged d a) ≡ 0 = subst (λ (x : Exchange). disk_fault (Exchanged x a) ≡ 0) exchange (subst (λ (o : Outcome). disk_fault o ≡ 0) is rp.disk) in
       let same : SameReply terms.alone a b r.traces s.traces times later transcripts further =
       one_reply laws.answering terms d r.traces s.traces times later transcripts further tells before_book before_shown timed linked a b
-      dialer disk (subst (λ (o : Outcome). origin_fault o ≡ 0) also sp.dialer) (subst (λ (o : Outcome). disk_fault o ≡ 0) also sp.disk) replied k.1 in
+      (dials e d a b is also) disk (subst (λ (o : Outcome). disk_fault o ≡ 0) also sp.disk) replied k.1 in
       let outcomes : Exchanged e a ≡ Exchanged d b = ap (λ (x : Exchange). Exchanged x a) exchange ∙ ap (λ (x : Reply). Exchanged d x) same.reply_is in
       record {
         same = record {
@@ -260,10 +273,20 @@ module _ (laws : Choosing) (terms : Terms) (served : ℕ) (tells : IsTrue terms.
   same_step : Step
   same_step = two_rounds r.outcome s.outcome refl refl rp.lawful.decided sp.lawful.decided (text_of terms served r rp) (text_of terms served s sp)
 
+-- the transcripts of two rounds say whether somebody could be dialed
+alike_round : (terms : Terms) (served : ℕ) (r s : Round) → IsTrue terms.tells → RoundWentWell terms served r → RoundWentWell terms served s
+    → r.traces.times ≡ s.traces.times → r.traces.transcripts ≡ s.traces.transcripts → (e d : Exchange) (a b : Reply) → r.outcome ≡ Exchanged e a
+    → s.outcome ≡ Exchanged d b → DialedAlike a b
+alike_round terms served r s tells rp sp times transcripts e d a b is also =
+    dialed_alike terms e d a b r.traces s.traces tells (subst (λ (o : Outcome). disk_fault o ≡ 0) is rp.disk)
+    (subst (λ (o : Outcome). disk_fault o ≡ 0) also sp.disk) (subst (λ (o : Outcome). IsDecided terms r o) is rp.lawful.decided).1
+    (subst (λ (o : Outcome). IsDecided terms s o) also sp.lawful.decided).1 times transcripts
+
 -- rounds that were decided by the same view
 pub round_no_choice : Choosing → RoundsLeaveNoChoice
 round_no_choice laws terms served r s later tells rp sp before are bytes times transcripts =
-    (same_step laws terms served tells r s [] [] [] [] [] [] rp sp before later are (ap (λ (t : List ℕ). t ++ []) bytes) (ap (λ (t : List ℕ). t ++ []) times)
+    (same_step laws terms served tells r s [] [] [] [] [] [] rp sp before later are
+    (λ e d a b is also. alike_round terms served r s tells rp sp times transcripts e d a b is also) (ap (λ (t : List ℕ). t ++ []) bytes) (ap (λ (t : List ℕ). t ++ []) times)
     (ap (λ (t : List Transcript). t ++ []) transcripts)).same
 
 -- ---- rounds
@@ -278,12 +301,10 @@ neither : (a b : Bool) → a || b ≡ false → (a ≡ false) × (b ≡ false)
 neither true b e = let bad : ⊥ = cc in absurd bad
 neither false b e = (refl, e)
 
-plain_first : (terms : Terms) (served : ℕ) (r : Round) (rounds : List Round) → IsRound terms served r → ArePlain (r ∷ rounds) → RoundWentWell terms served r
+plain_first : (terms : Terms) (served : ℕ) (r : Round) (rounds : List Round) → IsRound terms served r → ArePlain (r ∷ rounds) → IsPlain terms served r
 plain_first terms served r rounds lawful are = record {
-  lawful = lawful;
-  memory = (neither r.lacked (lacks rounds) are.whole).0;
+  well = record { lawful = lawful; memory = (neither r.lacked (lacks rounds) are.whole).0; disk = omega (arith, are.disk) };
   dialer = omega (arith, are.dialer);
-  disk = omega (arith, are.disk);
 }
 
 plain_rest : (r : Round) (rounds : List Round) → ArePlain (r ∷ rounds) → ArePlain rounds
@@ -375,23 +396,24 @@ module _ (laws : Choosing) (terms : Terms) (alone : IsTrue terms.alone) (tells :
     view = led_same terms was is alone a ∙ sym (led_same terms was other alone b);
   }
   all_same served was [] (s ∷ others) rest left is other plain also con a (lawful, leads, knows, last, behind) (inl to_come) =
-      none_isnt_more laws.cutting terms served s others rest left (plain_first terms served s others lawful also) to_come.bytes to_come.here
+      none_isnt_more laws.cutting terms served s others rest left (plain_first terms served s others lawful also).well to_come.bytes to_come.here
   all_same served was [] (s ∷ others) rest left is other plain also con a b (inr (none, e)) = some_isnt_none s others e
   all_same served was (r ∷ rounds) [] rest left is other plain also con (lawful, leads, knows, last, behind) b (inl to_come) =
-      none_isnt_more laws.cutting terms served r rounds left rest (plain_first terms served r rounds lawful plain) (sym to_come.bytes) to_come.there
+      none_isnt_more laws.cutting terms served r rounds left rest (plain_first terms served r rounds lawful plain).well (sym to_come.bytes) to_come.there
   all_same served was (r ∷ rounds) [] rest left is other plain also con a b (inr (e, none)) = some_isnt_none r rounds e
   all_same served was (r ∷ rounds) (s ∷ others) rest left is other plain also con a b (inr (e, d)) = some_isnt_none r rounds e
   all_same served was (r ∷ rounds) (s ∷ others) rest left is other plain also con (lawful, leads, knows, last, behind) (law, led, knew, ends, after)
       (inl to_come) =
-      let rp : RoundWentWell terms served r = plain_first terms served r rounds lawful plain in
-      let sp : RoundWentWell terms served s = plain_first terms served s others law also in
+      let rp : IsPlain terms served r = plain_first terms served r rounds lawful plain in
+      let sp : IsPlain terms served s = plain_first terms served s others law also in
       let here : r.traces.before ≡ was = led_same terms was r.traces.before alone leads in
       let before : r.traces.before ≡ s.traces.before = here ∙ sym (led_same terms was s.traces.before alone led) in
       let consistent : IsConsistentView terms r.traces.before = leads_consistent terms was r.traces.before alone leads con in
       let step : IsSameStep terms.alone served r s (course_wire rounds ++ rest) (course_wire others ++ left) (gains_of rounds).times (gains_of others).times
       (gains_of rounds).transcripts (gains_of others).transcripts =
       same_step laws terms served tells r s (course_wire rounds ++ rest) (course_wire others ++ left) (gains_of rounds).times (gains_of others).times
-      (gains_of rounds).transcripts (gains_of others).transcripts rp sp before r.traces.before.book (consistent alone tells)
+      (gains_of rounds).transcripts (gains_of others).transcripts rp.well sp.well before r.traces.before.book (consistent alone tells)
+      (λ e d a b is it. record { forth = dialed_not r.outcome e a rp.dialer is; back = dialed_not s.outcome d b sp.dialer it })
       (sym (append_assoc r.wire (course_wire rounds) rest) ∙ to_come.bytes ∙ append_assoc s.wire (course_wire others) left) to_come.times to_come.transcripts in
       let mine = after_counts terms served r rp in
       let its = after_counts terms served s sp in

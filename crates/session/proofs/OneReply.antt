@@ -28,8 +28,8 @@ use Rattle.http_wire.proofs.OneHead.{one_head as one_text, one_parse, one_skippe
 use Rattle.http_wire.specs.Decisions.{ArrivalsAreOne}
 use Rattle.http_wire.specs.Messages.{IsResponse}
 use Rattle.outside.specs.declared.dialer.Transcript.{Transcript}
-use Rattle.session.specs.Exchanges.{Exchange, Reply, Fails, Passes, Fetched, WentInVain, IsFailure, IsFull, IsPassedOn, IsPastTheClock, IsReply, answers_head, taken_of}
-use Rattle.session.specs.Rounds.{is_disk_fault, is_origin_fault, origin_fault, disk_fault, Exchanged}
+use Rattle.session.specs.Exchanges.{Exchange, Reply, Fails, Passes, Fetched, WasNotDialed, WentInVain, IsFailure, IsFull, IsPassedOn, IsPastTheClock, IsReply, answers_head, taken_of}
+use Rattle.session.specs.Rounds.{is_disk_fault, disk_fault, Exchanged}
 use Rattle.session.specs.Traces.{StaysView, Terms, Traces}
 use Rattle.session.proofs.CompleteLaws.{told_not_untold}
 use Rattle.session.proofs.OneRequest.{fields_once, version_once}
@@ -151,74 +151,191 @@ record InVain (terms : Terms) (e : Exchange) (refusal : Refusal) (traces : Trace
   pub t : Transcript
   pub linked : traces.transcripts ≡ t ∷ []
   pub came : Came (answers_head e) t (Some refusal)
+  pub unfailed : t.faults ≡ 0
   pub untouched : StaysView terms traces.before traces.after
 
--- how a request was answered, where nothing failed
+-- the link to the origin failed
+record Broke (terms : Terms) (traces : Traces) : Type 0 where
+  pub dated : Dated traces.times
+  pub t : Transcript
+  pub linked : traces.transcripts ≡ t ∷ []
+  pub failed : 0 < t.faults
+  pub untouched : StaysView terms traces.before traces.after
+
+-- how a request was answered, where the disk didn't fail
 data Went (terms : Terms) (e : Exchange) (reply : Reply) (traces : Traces) : Type 0 where
   PastTheClock : (now : ℕ) (is : reply ≡ Fails (ClockRange now)) (past : IsPastTheClock terms now traces) → Went terms e reply traces
+  NotDialed : (is : reply ≡ Fails DialFault) (none : WasNotDialed terms traces) → Went terms e reply traces
+  LinkBroke : (is : reply ≡ Fails OriginFault) (broke : Broke terms traces) → Went terms e reply traces
   AskedInVain : (refusal : Refusal) (is : reply ≡ Fails refusal) (vain : InVain terms e refusal traces) → Went terms e reply traces
   WasFull : (count limit : ℕ) (is : reply ≡ Fails (Full count limit)) (full : IsFull terms e count limit traces) → Went terms e reply traces
   WasPassed : (received : Received) (payload : List ℕ) (is : reply ≡ Passes received payload) (passed : IsPassedOn terms e received payload traces)
       → Went terms e reply traces
 
 vain : (terms : Terms) (e : Exchange) (fault : FetchFault) (refusal : Refusal) (traces : Traces) (h : WentInVain terms e fault traces)
-    → Came (answers_head e) h.linked.t (Some refusal) → InVain terms e refusal traces
-vain terms e fault refusal traces h came = record {
+    → Came (answers_head e) h.linked.t (Some refusal) → h.linked.t.faults ≡ 0 → InVain terms e refusal traces
+vain terms e fault refusal traces h came unfailed = record {
   dated = record { date = h.timed.date; only = h.timed.only; in_range = h.timed.in_range };
   t = h.linked.t;
   linked = h.linked.only;
   came = came;
+  unfailed = unfailed;
   untouched = h.untouched;
 }
 
 one_met : {P : Type 0} → ◌≡◌ {A = ℕ} 1 0 → P
 one_met e = absurd (omega (arith, e))
 
-failure_went : (terms : Terms) (e : Exchange) (refusal : Refusal) (traces : Traces) → IsTrue terms.tells → is_origin_fault refusal ≡ 0
-    → is_disk_fault refusal ≡ 0 → IsFailure terms e refusal traces → Went terms e (Fails refusal) traces
-failure_went terms e (ClockRange now) traces tells dialer disk h = PastTheClock now refl h
-failure_went terms e DialFault traces tells dialer disk h = one_met dialer
-failure_went terms e OriginFault traces tells dialer disk h = one_met dialer
-failure_went terms e OriginEnded traces tells dialer disk h =
+failure_went : (terms : Terms) (e : Exchange) (refusal : Refusal) (traces : Traces) → IsTrue terms.tells → is_disk_fault refusal ≡ 0
+    → IsFailure terms e refusal traces → Went terms e (Fails refusal) traces
+failure_went terms e (ClockRange now) traces tells disk h = PastTheClock now refl h
+failure_went terms e DialFault traces tells disk h = NotDialed refl h
+failure_went terms e OriginFault traces tells disk h =
+    LinkBroke refl (record {
+      dated = record { date = h.timed.date; only = h.timed.only; in_range = h.timed.in_range };
+      t = h.linked.t;
+      linked = h.linked.only;
+      failed = h.linked.fetched.faults;
+      untouched = h.untouched;
+    })
+failure_went terms e OriginEnded traces tells disk h =
     let came = h.linked.fetched.received in
-    AskedInVain OriginEnded refl (vain terms e _ OriginEnded traces h (record { arrival = Arrived came.1.0 HeadNeeded; is = came.1.1; why_is = refl }))
-failure_went terms e OriginMalformed traces tells dialer disk h = elim h.linked.fetched.received [
+    AskedInVain OriginEnded refl (vain terms e _ OriginEnded traces h (record { arrival = Arrived came.1.0 HeadNeeded; is = came.1.1; why_is = refl }) h.linked.fetched.faults)
+failure_went terms e OriginMalformed traces tells disk h = elim h.linked.fetched.received [
   | inl wrong ↦ AskedInVain OriginMalformed refl (vain terms e _ OriginMalformed traces h
-      (record { arrival = Arrived wrong.0 (RefusedFirst message_fault.Malformed); is = wrong.1; why_is = refl }))
+      (record { arrival = Arrived wrong.0 (RefusedFirst message_fault.Malformed); is = wrong.1; why_is = refl }) h.linked.fetched.faults)
   | inr coded ↦ AskedInVain OriginMalformed refl (vain terms e _ OriginMalformed traces h
-      (record { arrival = Arrived coded.0 (RefusedFirst message_fault.CodingRefused); is = coded.1; why_is = refl }))
+      (record { arrival = Arrived coded.0 (RefusedFirst message_fault.CodingRefused); is = coded.1; why_is = refl }) h.linked.fetched.faults)
 ]
-failure_went terms e OriginTooLong traces tells dialer disk h = elim h.linked.fetched.received [
+failure_went terms e OriginTooLong traces tells disk h = elim h.linked.fetched.received [
   | inl head ↦ AskedInVain OriginTooLong refl (vain terms e _ OriginTooLong traces h
-      (record { arrival = Arrived head.0 (RefusedFirst message_fault.HeadTooLong); is = head.1; why_is = refl }))
+      (record { arrival = Arrived head.0 (RefusedFirst message_fault.HeadTooLong); is = head.1; why_is = refl }) h.linked.fetched.faults)
   | inr body ↦ AskedInVain OriginTooLong refl (vain terms e _ OriginTooLong traces h
-      (record { arrival = Arrived body.0 (RefusedFirst message_fault.BodyTooLong); is = body.1; why_is = refl }))
+      (record { arrival = Arrived body.0 (RefusedFirst message_fault.BodyTooLong); is = body.1; why_is = refl }) h.linked.fetched.faults)
 ]
-failure_went terms e TooManyInterim traces tells dialer disk h =
+failure_went terms e TooManyInterim traces tells disk h =
     AskedInVain TooManyInterim refl (vain terms e _ TooManyInterim traces h
-    (record { arrival = final.TooManyInterim; is = h.linked.fetched.received; why_is = refl }))
-failure_went terms e (Full count limit) traces tells dialer disk h = WasFull count limit refl h
-failure_went terms e DiskFault traces tells dialer disk h = one_met disk
-failure_went terms e (Damaged number kept found) traces tells dialer disk h = told_not_untold terms.tells tells h.1.untold
-failure_went terms e (NoSuch number count) traces tells dialer disk h = absurd h
-failure_went terms e Malformed traces tells dialer disk h = absurd h
-failure_went terms e TargetRefused traces tells dialer disk h = absurd h
-failure_went terms e BadQuery traces tells dialer disk h = absurd h
-failure_went terms e BadTime traces tells dialer disk h = absurd h
-failure_went terms e BadAcceptDatetime traces tells dialer disk h = absurd h
-failure_went terms e NotAForm traces tells dialer disk h = absurd h
-failure_went terms e NoCapture traces tells dialer disk h = absurd h
-failure_went terms e MethodRefused traces tells dialer disk h = absurd h
-failure_went terms e BodyTooLong traces tells dialer disk h = absurd h
-failure_went terms e HeadTooLong traces tells dialer disk h = absurd h
-failure_went terms e ConnectRefused traces tells dialer disk h = absurd h
-failure_went terms e SecureRefused traces tells dialer disk h = absurd h
-failure_went terms e CodingRefused traces tells dialer disk h = absurd h
+    (record { arrival = final.TooManyInterim; is = h.linked.fetched.received; why_is = refl }) h.linked.fetched.faults)
+failure_went terms e (Full count limit) traces tells disk h = WasFull count limit refl h
+failure_went terms e DiskFault traces tells disk h = one_met disk
+failure_went terms e (Damaged number kept found) traces tells disk h = told_not_untold terms.tells tells h.1.untold
+failure_went terms e (NoSuch number count) traces tells disk h = absurd h
+failure_went terms e Malformed traces tells disk h = absurd h
+failure_went terms e TargetRefused traces tells disk h = absurd h
+failure_went terms e BadQuery traces tells disk h = absurd h
+failure_went terms e BadTime traces tells disk h = absurd h
+failure_went terms e BadAcceptDatetime traces tells disk h = absurd h
+failure_went terms e NotAForm traces tells disk h = absurd h
+failure_went terms e NoCapture traces tells disk h = absurd h
+failure_went terms e MethodRefused traces tells disk h = absurd h
+failure_went terms e BodyTooLong traces tells disk h = absurd h
+failure_went terms e HeadTooLong traces tells disk h = absurd h
+failure_went terms e ConnectRefused traces tells disk h = absurd h
+failure_went terms e SecureRefused traces tells disk h = absurd h
+failure_went terms e CodingRefused traces tells disk h = absurd h
 
-went : (terms : Terms) (e : Exchange) (reply : Reply) (traces : Traces) → IsTrue terms.tells → origin_fault (Exchanged e reply) ≡ 0
+went : (terms : Terms) (e : Exchange) (reply : Reply) (traces : Traces) → IsTrue terms.tells
     → disk_fault (Exchanged e reply) ≡ 0 → IsReply terms e reply traces → Went terms e reply traces
-went terms e (Fails refusal) traces tells dialer disk h = failure_went terms e refusal traces tells dialer disk h
-went terms e (Passes received payload) traces tells dialer disk h = WasPassed received payload refl h
+went terms e (Fails refusal) traces tells disk h = failure_went terms e refusal traces tells disk h
+went terms e (Passes received payload) traces tells disk h = WasPassed received payload refl h
+
+-- ---- dials that failed
+
+fails_once : (a b : Refusal) → Fails a ≡ Fails b → a ≡ b
+fails_once a b e = cc
+
+passes_isnt_fails : {P : Type 0} (received : Received) (payload : List ℕ) (refusal : Refusal) → Passes received payload ≡ Fails refusal → P
+passes_isnt_fails received payload refusal e = let bad : ⊥ = cc in absurd bad
+
+clock_isnt_dial : {P : Type 0} (now : ℕ) → ClockRange now ≡ DialFault → P
+clock_isnt_dial now e = let bad : ⊥ = cc in absurd bad
+
+link_isnt_dial : {P : Type 0} → OriginFault ≡ DialFault → P
+link_isnt_dial e = let bad : ⊥ = cc in absurd bad
+
+full_isnt_dial : {P : Type 0} (count limit : ℕ) → Full count limit ≡ DialFault → P
+full_isnt_dial count limit e = let bad : ⊥ = cc in absurd bad
+
+ended_isnt_dial : {P : Type 0} → Some OriginEnded ≡ Some DialFault → P
+ended_isnt_dial e = let bad : ⊥ = cc in absurd bad
+
+wrong_isnt_dial : {P : Type 0} → Some OriginMalformed ≡ Some DialFault → P
+wrong_isnt_dial e = let bad : ⊥ = cc in absurd bad
+
+long_isnt_dial : {P : Type 0} → Some OriginTooLong ≡ Some DialFault → P
+long_isnt_dial e = let bad : ⊥ = cc in absurd bad
+
+many_isnt_dial : {P : Type 0} → Some TooManyInterim ≡ Some DialFault → P
+many_isnt_dial e = let bad : ⊥ = cc in absurd bad
+
+none_isnt_dial : {P : Type 0} → None ≡ Some DialFault → P
+none_isnt_dial e = let bad : ⊥ = cc in absurd bad
+
+vain_isnt_dial : {P : Type 0} (arrival : Arrival) → vain_of arrival ≡ Some DialFault → P
+vain_isnt_dial (Arrived behind (Message used)) e = none_isnt_dial e
+vain_isnt_dial (Arrived behind (RefusedFirst message_fault.Malformed)) e = wrong_isnt_dial e
+vain_isnt_dial (Arrived behind (RefusedFirst message_fault.HeadTooLong)) e = long_isnt_dial e
+vain_isnt_dial (Arrived behind (RefusedFirst message_fault.BodyTooLong)) e = long_isnt_dial e
+vain_isnt_dial (Arrived behind (RefusedFirst message_fault.CodingRefused)) e = wrong_isnt_dial e
+vain_isnt_dial (Arrived behind NothingBegun) e = none_isnt_dial e
+vain_isnt_dial (Arrived behind HeadNeeded) e = ended_isnt_dial e
+vain_isnt_dial (Arrived behind BodyNeeded) e = none_isnt_dial e
+vain_isnt_dial final.TooManyInterim e = many_isnt_dial e
+
+-- a reply that says that nobody could be dialed is of no other way
+only_dial : (terms : Terms) (e : Exchange) (reply : Reply) (traces : Traces) → Went terms e reply traces → reply ≡ Fails DialFault → WasNotDialed terms traces
+only_dial terms e reply traces (PastTheClock now is past) d = clock_isnt_dial now (fails_once (ClockRange now) DialFault (sym is ∙ d))
+only_dial terms e reply traces (NotDialed is none) d = none
+only_dial terms e reply traces (LinkBroke is broke) d = link_isnt_dial (fails_once OriginFault DialFault (sym is ∙ d))
+only_dial terms e reply traces (AskedInVain refusal is h) d =
+    vain_isnt_dial h.came.arrival (h.came.why_is ∙ ap (λ (x : Refusal). Some x) (fails_once refusal DialFault (sym is ∙ d)))
+only_dial terms e reply traces (WasFull count limit is full) d = full_isnt_dial count limit (fails_once (Full count limit) DialFault (sym is ∙ d))
+only_dial terms e reply traces (WasPassed received payload is h) d = passes_isnt_fails received payload DialFault (sym is ∙ d)
+
+-- both say so, or neither does
+pub record DialedAlike (reply other : Reply) : Type 0 where
+  pub forth : reply ≡ Fails DialFault → other ≡ Fails DialFault
+  pub back : other ≡ Fails DialFault → reply ≡ Fails DialFault
+
+some_isnt_none_linked : {P : Type 0} (t : Transcript) (ts : List Transcript) → ts ≡ [] → ts ≡ t ∷ [] → P
+some_isnt_none_linked t ts e d = let bad : ⊥ = cc in absurd bad
+
+one_date : (times : List ℕ) (n m : ℕ) → times ≡ n ∷ [] → times ≡ m ∷ [] → n ≡ m
+one_date times n m e d = cc
+
+-- which is so where times and transcripts are the same
+dial_told : (terms : Terms) (e d : Exchange) (reply other : Reply) (u v : Traces) → Went terms e reply u → Went terms d other v → u.times ≡ v.times
+    → u.transcripts ≡ v.transcripts → reply ≡ Fails DialFault → other ≡ Fails DialFault
+dial_told terms e d reply other u v a b times transcripts dialed = of b where
+  none : WasNotDialed terms u
+  none = only_dial terms e reply u a dialed
+
+  nothing : v.transcripts ≡ []
+  nothing = sym transcripts ∙ none.none
+
+  of : Went terms d other v → other ≡ Fails DialFault
+  of (PastTheClock now is past) =
+      absurd (past.past (subst InRange (one_date v.times none.timed.date now (sym times ∙ none.timed.only) past.asked) none.timed.in_range))
+  of (NotDialed is h) = is
+  of (LinkBroke is h) = some_isnt_none_linked h.t v.transcripts nothing h.linked
+  of (AskedInVain refusal is h) = some_isnt_none_linked h.t v.transcripts nothing h.linked
+  of (WasFull count limit is h) = some_isnt_none_linked h.fetched.t v.transcripts nothing h.fetched.linked
+  of (WasPassed received payload is h) = some_isnt_none_linked h.fetched.t v.transcripts nothing h.fetched.linked
+
+pub dialed_alike : (terms : Terms) (e d : Exchange) (reply other : Reply) (u v : Traces) → IsTrue terms.tells → disk_fault (Exchanged e reply) ≡ 0
+    → disk_fault (Exchanged d other) ≡ 0 → IsReply terms e reply u → IsReply terms d other v → u.times ≡ v.times → u.transcripts ≡ v.transcripts
+    → DialedAlike reply other
+dialed_alike terms e d reply other u v tells disk stored a b times transcripts =
+    let own = went terms e reply u tells disk a in
+    let its = went terms d other v tells stored b in
+    record {
+      forth = dial_told terms e d reply other u v own its times transcripts;
+      back = dial_told terms d e other reply v u its own (sym times) (sym transcripts);
+    }
+
+failed_isnt_whole : {P : Type 0} (t s : Transcript) → t ≡ s → 0 < t.faults → s.faults ≡ 0 → P
+failed_isnt_whole t s same failed none =
+    let bad : ⊥ = omega (arith, failed, ap (λ (x : Transcript). x.faults) same, none) in absurd bad
 
 -- ---- two replies
 
@@ -337,47 +454,81 @@ module _ (laws : Answering) (terms : Terms) (e : Exchange) (u v : Traces) (times
         shown = λ alone. entries_once laws.entries u.after.book v.after.book u.after.shown v.after.shown after (a.shown.consistent alone tells) (b.shown.consistent alone tells);
       }
 
-  both_went : (reply other : Reply) → Went terms e reply u → Went terms e other v → SameReply terms.alone reply other u v times later transcripts further
-  both_went reply other (PastTheClock now is past) (PastTheClock then also gone) =
+  -- nobody could be dialed, by both
+  dialed_both : (reply other : Reply) → reply ≡ Fails DialFault → other ≡ Fails DialFault → WasNotDialed terms u → WasNotDialed terms v
+      → SameReply terms.alone reply other u v times later transcripts further
+  dialed_both reply other is also h k =
+      same_stays reply other (is ∙ sym also)
+      (rest_is u.times v.times times later h.timed.date k.timed.date h.timed.only k.timed.only timed)
+      (none_is u.transcripts v.transcripts transcripts further h.none k.none linked) h.untouched k.untouched
+
+  both_went : (reply other : Reply) → DialedAlike reply other → Went terms e reply u → Went terms e other v → SameReply terms.alone reply other u v times later transcripts further
+  both_went reply other dials (PastTheClock now is past) (PastTheClock then also gone) =
       let same : now ≡ then = first_is u.times v.times times later now then past.asked gone.asked timed in
       same_stays reply other (is ∙ ap (λ n. Fails (ClockRange n)) same ∙ sym also)
       (rest_is u.times v.times times later now then past.asked gone.asked timed)
       (none_is u.transcripts v.transcripts transcripts further past.none gone.none linked) past.untouched gone.untouched
-  both_went reply other (PastTheClock now is past) (AskedInVain refusal also h) = apart now past h.dated
-  both_went reply other (PastTheClock now is past) (WasFull count limit also full) = apart now past (fetched_dated full.received v full.fetched)
-  both_went reply other (PastTheClock now is past) (WasPassed received payload also h) = apart now past (fetched_dated received v h.fetched)
-  both_went reply other (AskedInVain refusal is h) (PastTheClock now also past) = apart_too now past h.dated
-  both_went reply other (AskedInVain refusal is h) (AskedInVain why also k) =
+  both_went reply other dials (PastTheClock now is past) (AskedInVain refusal also h) = apart now past h.dated
+  both_went reply other dials (PastTheClock now is past) (WasFull count limit also full) = apart now past (fetched_dated full.received v full.fetched)
+  both_went reply other dials (PastTheClock now is past) (WasPassed received payload also h) = apart now past (fetched_dated received v h.fetched)
+  both_went reply other dials (AskedInVain refusal is h) (PastTheClock now also past) = apart_too now past h.dated
+  both_went reply other dials (AskedInVain refusal is h) (AskedInVain why also k) =
       let link : h.t ≡ k.t = link_same h.t k.t h.linked k.linked in
       let same : refusal ≡ why = some_same refusal why (came_once laws.arrivals (answers_head e) k.t (Some refusal) (Some why)
       (subst (λ (x : Transcript). Came (answers_head e) x (Some refusal)) link h.came) k.came) in
       same_stays reply other (is ∙ ap (λ (x : Refusal). Fails x) same ∙ sym also) (time_rest h.dated k.dated) (link_rest h.t k.t h.linked k.linked)
       h.untouched k.untouched
-  both_went reply other (AskedInVain refusal is h) (WasFull count limit also full) =
+  both_went reply other dials (AskedInVain refusal is h) (WasFull count limit also full) =
       came_both refusal h.t full.fetched.t (link_same h.t full.fetched.t h.linked full.fetched.linked) h.came
       (came_response (answers_head e) full.fetched.t full.received full.fetched.fetched.received)
-  both_went reply other (AskedInVain refusal is h) (WasPassed received payload also k) =
+  both_went reply other dials (AskedInVain refusal is h) (WasPassed received payload also k) =
       came_both refusal h.t k.fetched.t (link_same h.t k.fetched.t h.linked k.fetched.linked) h.came
       (came_response (answers_head e) k.fetched.t received k.fetched.fetched.received)
-  both_went reply other (WasFull count limit is full) (PastTheClock now also past) = apart_too now past (fetched_dated full.received u full.fetched)
-  both_went reply other (WasFull count limit is full) (AskedInVain refusal also h) =
+  both_went reply other dials (WasFull count limit is full) (PastTheClock now also past) = apart_too now past (fetched_dated full.received u full.fetched)
+  both_went reply other dials (WasFull count limit is full) (AskedInVain refusal also h) =
       came_both refusal h.t full.fetched.t (sym (link_same full.fetched.t h.t full.fetched.linked h.linked)) h.came
       (came_response (answers_head e) full.fetched.t full.received full.fetched.fetched.received)
-  both_went reply other (WasFull count limit is full) (WasFull counted most also filled) =
+  both_went reply other dials (WasFull count limit is full) (WasFull counted most also filled) =
       same_stays reply other (full_same reply other count limit counted most is also full filled)
       (time_rest (fetched_dated full.received u full.fetched) (fetched_dated filled.received v filled.fetched))
       (link_rest full.fetched.t filled.fetched.t full.fetched.linked filled.fetched.linked) full.untouched filled.untouched
-  both_went reply other (WasFull count limit is full) (WasPassed received payload also h) = room_for count limit full h.room
-  both_went reply other (WasPassed received payload is h) (PastTheClock now also past) = apart_too now past (fetched_dated received u h.fetched)
-  both_went reply other (WasPassed received payload is h) (AskedInVain refusal also k) =
+  both_went reply other dials (WasFull count limit is full) (WasPassed received payload also h) = room_for count limit full h.room
+  both_went reply other dials (WasPassed received payload is h) (PastTheClock now also past) = apart_too now past (fetched_dated received u h.fetched)
+  both_went reply other dials (WasPassed received payload is h) (AskedInVain refusal also k) =
       came_both refusal k.t h.fetched.t (sym (link_same h.fetched.t k.t h.fetched.linked k.linked)) k.came
       (came_response (answers_head e) h.fetched.t received h.fetched.fetched.received)
-  both_went reply other (WasPassed received payload is h) (WasFull count limit also full) = room_for_too count limit full h.room
-  both_went reply other (WasPassed received payload is h) (WasPassed came paid also k) = passed_same reply other received came payload paid is also h k
+  both_went reply other dials (WasPassed received payload is h) (WasFull count limit also full) = room_for_too count limit full h.room
+  both_went reply other dials (WasPassed received payload is h) (WasPassed came paid also k) = passed_same reply other received came payload paid is also h k
+  both_went reply other dials (NotDialed is none) way =
+      dialed_both reply other is (dials.forth is) none (only_dial terms e other v way (dials.forth is))
+  both_went reply other dials (PastTheClock now is past) (NotDialed also none) =
+      dialed_both reply other (dials.back also) also (only_dial terms e reply u (PastTheClock now is past) (dials.back also)) none
+  both_went reply other dials (LinkBroke is broke) (NotDialed also none) =
+      dialed_both reply other (dials.back also) also (only_dial terms e reply u (LinkBroke is broke) (dials.back also)) none
+  both_went reply other dials (AskedInVain refusal is h) (NotDialed also none) =
+      dialed_both reply other (dials.back also) also (only_dial terms e reply u (AskedInVain refusal is h) (dials.back also)) none
+  both_went reply other dials (WasFull count limit is full) (NotDialed also none) =
+      dialed_both reply other (dials.back also) also (only_dial terms e reply u (WasFull count limit is full) (dials.back also)) none
+  both_went reply other dials (WasPassed received payload is h) (NotDialed also none) =
+      dialed_both reply other (dials.back also) also (only_dial terms e reply u (WasPassed received payload is h) (dials.back also)) none
+  both_went reply other dials (PastTheClock now is past) (LinkBroke also k) = apart now past k.dated
+  both_went reply other dials (LinkBroke is h) (PastTheClock now also past) = apart_too now past h.dated
+  both_went reply other dials (LinkBroke is h) (LinkBroke also k) =
+      same_stays reply other (is ∙ sym also) (time_rest h.dated k.dated) (link_rest h.t k.t h.linked k.linked) h.untouched k.untouched
+  both_went reply other dials (LinkBroke is h) (AskedInVain refusal also k) =
+      failed_isnt_whole h.t k.t (link_same h.t k.t h.linked k.linked) h.failed k.unfailed
+  both_went reply other dials (LinkBroke is h) (WasFull count limit also full) =
+      failed_isnt_whole h.t full.fetched.t (link_same h.t full.fetched.t h.linked full.fetched.linked) h.failed full.fetched.fetched.faults
+  both_went reply other dials (LinkBroke is h) (WasPassed received payload also k) =
+      failed_isnt_whole h.t k.fetched.t (link_same h.t k.fetched.t h.linked k.fetched.linked) h.failed k.fetched.fetched.faults
+  both_went reply other dials (AskedInVain refusal is h) (LinkBroke also k) =
+      failed_isnt_whole k.t h.t (sym (link_same h.t k.t h.linked k.linked)) k.failed h.unfailed
+  both_went reply other dials (WasFull count limit is full) (LinkBroke also k) =
+      failed_isnt_whole k.t full.fetched.t (sym (link_same full.fetched.t k.t full.fetched.linked k.linked)) k.failed full.fetched.fetched.faults
+  both_went reply other dials (WasPassed received payload is h) (LinkBroke also k) =
+      failed_isnt_whole k.t h.fetched.t (sym (link_same h.fetched.t k.t h.fetched.linked k.linked)) k.failed h.fetched.fetched.faults
 
-  -- the replies of two lawful rounds are one, where neither met a fault
-  pub one_reply : (reply other : Reply) → origin_fault (Exchanged e reply) ≡ 0 → disk_fault (Exchanged e reply) ≡ 0
-      → origin_fault (Exchanged e other) ≡ 0 → disk_fault (Exchanged e other) ≡ 0 → IsReply terms e reply u → IsReply terms e other v
-      → SameReply terms.alone reply other u v times later transcripts further
-  one_reply reply other dialer disk dialed stored a b =
-      both_went reply other (went terms e reply u tells dialer disk a) (went terms e other v tells dialed stored b)
+  -- the replies of two lawful rounds are one, where the disk didn't fail in them
+  pub one_reply : (reply other : Reply) → DialedAlike reply other → disk_fault (Exchanged e reply) ≡ 0 → disk_fault (Exchanged e other) ≡ 0
+      → IsReply terms e reply u → IsReply terms e other v → SameReply terms.alone reply other u v times later transcripts further
+  one_reply reply other dials disk stored a b = both_went reply other dials (went terms e reply u tells disk a) (went terms e other v tells stored b)

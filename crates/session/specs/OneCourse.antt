@@ -7,16 +7,15 @@ use Rattle.cdxj_index.specs.OfBook.{AreEntries}
 use Rattle.outside.specs.declared.gate.Heard.{Heard}
 use Rattle.session.specs.Gains.{gains_of}
 use Rattle.session.specs.Requests.{IsUndecided}
-use Rattle.session.specs.Rounds.{Round, IsCourse, IsRound, course_text, course_wire, disk_fault, lacks, origin_fault}
+use Rattle.session.specs.Rounds.{Round, IsCourse, IsRound, course_text, course_wire, disk_fault, lacks}
 use Rattle.session.specs.Stopping.{Course, Ends, closes_course}
 use Rattle.session.specs.Traces.{Terms, View, IsConsistentView}
 use Rattle.session.specs.declared.served.Served.{Served}
 
--- A lawful round, for which there was memory, and which met no fault.
+-- A lawful round, for which there was memory, and in which the disk didn't fail.
 pub record RoundWentWell (terms : Terms) (served : ℕ) (r : Round) : Type 0 where
   pub lawful : IsRound terms served r
   pub memory : r.lacked ≡ false
-  pub dialer : origin_fault r.outcome ≡ 0
   pub disk : disk_fault r.outcome ≡ 0
 
 -- Nothing was free: there was memory for each answer, no count of faults rose, and nothing that could be answered is left over, since
