@@ -165,7 +165,7 @@ bring_held tells number found added false answer h = record {
 
 module _ (keeps : GrowthKeepsCaptures) (was is : Known Noted) (number : ℕ) (note shown : Edge Item) (whole : Bool) (agrees : Bool) (answer : Result Brought BringFault)
     (begun : IsBegun was.seen) (listed : IsListed is.seen note whole) (told : is_told is.seen ≡ is_told was.seen)
-    (turn : Turn by_of was is.seen (λ found added. BringsIt (is_told was.seen) number found added answer × IsCurrent (found ++ added) note.items)) where
+    (current : IsCurrent is.seen note.items) (turn : Turn by_of was is.seen (λ found added. BringsIt (is_told was.seen) number found added answer)) where
   pub turn_held : Turn by_of was is.seen (λ found added. BringsIt (is_told was.seen) number found added (held_back agrees answer))
   turn_held = record {
     found = turn.found;
@@ -174,18 +174,15 @@ module _ (keeps : GrowthKeepsCaptures) (was is : Known Noted) (number : ℕ) (no
       added = turn.adds.added;
       is_before_and_added = turn.adds.is_before_and_added;
       of_pass = turn.adds.of_pass;
-      done = bring_held (is_told was.seen) number turn.found turn.adds.added agrees answer turn.adds.done.0;
+      done = bring_held (is_told was.seen) number turn.found turn.adds.added agrees answer turn.adds.done;
     };
   }
-
-  current : IsCurrent is.seen note.items
-  current = subst (λ (l : List Noted). IsCurrent l note.items) (sym turn.adds.is_before_and_added) turn.adds.done.1
 
   book_found : told_book is.seen ≡ told_book turn.found
   book_found =
       ap told_book turn.adds.is_before_and_added
       ∙ fault_added turn.found (subst IsBegun (sym turn.shows.is_seen_and_more) (begun_append was.seen turn.shows.more begun)) (is_bring_fault answer) turn.adds.added
-      turn.adds.done.0.adds
+      turn.adds.done.adds
 
   pub turn_brings : (agrees ≡ true → IsPrefix shown.items note.items) → Brings (contents_at (record { known = is; shown = shown })) number (held_back agrees answer)
   turn_brings begins =
@@ -193,4 +190,4 @@ module _ (keeps : GrowthKeepsCaptures) (was is : Known Noted) (number : ℕ) (no
       (λ yes_ t e has same. agrees_at keeps is.seen note.items shown.items (begins yes_) current
       (subst (λ (b : Bool). IsTrue b) (sym listed.told) t) number e has same)
       (λ yes_ high e has same. shows_none keeps is.seen note.items shown.items (begins yes_) current number high e has same)
-      turn.adds.done.0.brings
+      turn.adds.done.brings

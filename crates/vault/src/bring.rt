@@ -6,13 +6,12 @@ ghost use Rattle.vault.specs.History.{by_of, is_told};
 ghost use Rattle.vault.specs.Turns.{BringsIt, held_back};
 
 use crate::keeping::Keeping;
-use crate::listed::Listed;
 use crate::noting::note_fault;
 use crate::published::Published;
+use crate::turning::Act;
 use archive_shelf::{BringFault, Shelf};
 use capture::Brought;
 use disk_model::Disk;
-use history_lock::Work;
 use std::alloc::Global;
 
 /// The number of a capture that is to be brought.
@@ -22,22 +21,17 @@ pub(crate) struct Bring {
     pub(crate) number: u32,
 }
 
-impl<D: Disk> Work<Published<D>> for Bring {
-    ghost use Rattle.std.specs.Prelude.{◌++◌};
-    ghost use Rattle.vault.specs.History.{is_told};
-    ghost use Rattle.vault.specs.Listing.{IsCurrent, IsListed};
+impl<D: Disk> Act<D> for Bring {
     ghost use Rattle.vault.specs.Turns.{BringsIt};
 
-    type Reply = (Result<Brought, BringFault>, Listed);
+    type Answer = Result<Brought, BringFault>;
 
     ghost ready = { λ work found. Unit {0} };
 
-    ghost does = { λ work by found added reply. (BringsIt (is_told found) work.number found added reply.0 × IsCurrent (found ++ added) reply.1.note.items) × IsListed (found ++ added) reply.1.note reply.1.whole };
+    ghost does = { λ work tells found added answer. BringsIt tells work.number found added answer };
 
-    #[tactic(auto, using(crate::proofs::TellingLaws::adds_current))]
-    fn act(self, by: u32, value: &mut Published<D>) -> (Result<Brought, BringFault>, Listed) {
-        let answer = value.bring(by, self.alloc, self.number);
-        (answer, value.tell())
+    fn act(self, by: u32, value: &mut Published<D>) -> Result<Brought, BringFault> {
+        value.bring(by, self.alloc, self.number)
     }
 }
 

@@ -11,14 +11,13 @@ ghost use Rattle.vault.specs.History.{by_of, is_told, told_in};
 ghost use Rattle.vault.specs.Turns.{Commits};
 
 use crate::keeping::Keeping;
-use crate::listed::Listed;
 use crate::noting::note_store;
 use crate::published::Published;
+use crate::turning::Act;
 use archive_core::Archive;
 use archive_shelf::{Looked, Receipt, StoreFault};
 use capture::{Digest, Taken};
 use disk_model::Disk;
-use history_lock::Work;
 use std::alloc::Global;
 use std::sync::Wait;
 
@@ -33,22 +32,19 @@ pub(crate) struct Commit<'a, 't, R> {
     pub(crate) looked: Looked,
 }
 
-impl<'a, 't, R: Wait, D: Disk> Work<Published<D>> for Commit<'a, 't, R> {
+impl<'a, 't, R: Wait, D: Disk> Act<D> for Commit<'a, 't, R> {
     ghost use Rattle.warc_text.specs.Fits.{Fits};
     ghost use Rattle.archive_core.specs.Looking.{IsDigestOf, IsRightOf};
-    ghost use Rattle.std.specs.Prelude.{◌++◌};
     ghost use Rattle.vault.specs.History.{is_told, told_in};
-    ghost use Rattle.vault.specs.Listing.{IsListed};
     ghost use Rattle.vault.specs.Turns.{Commits};
 
-    type Reply = (Result<Receipt, StoreFault>, Listed);
+    type Answer = Result<Receipt, StoreFault>;
 
     ghost ready = { λ work found. Fits work.taken.now × IsDigestOf work.taken.now work.digest × IsRightOf (told_in (is_told found) found) work.taken.now work.looked };
 
-    ghost does = { λ work by found added reply. Commits (is_told found) work.taken.now found added reply.0 × IsListed (found ++ added) reply.1.note reply.1.whole };
+    ghost does = { λ work tells found added answer. Commits tells work.taken.now found added answer };
 
-    #[tactic(auto, using(crate::proofs::TellingLaws::adds_listed))]
-    fn act(self, by: u32, value: &mut Published<D>) -> (Result<Receipt, StoreFault>, Listed) {
+    fn act(self, by: u32, value: &mut Published<D>) -> Result<Receipt, StoreFault> {
         let Commit {
             rt,
             alloc,
@@ -58,7 +54,7 @@ impl<'a, 't, R: Wait, D: Disk> Work<Published<D>> for Commit<'a, 't, R> {
         } = self;
         let answer = value.store(by, alloc, taken, &digest, looked);
         value.show(rt);
-        (answer, value.tell())
+        answer
     }
 }
 

@@ -7,13 +7,12 @@ ghost use Rattle.vault.specs.History.{by_of, is_told};
 ghost use Rattle.vault.specs.Turns.{Compares};
 
 use crate::keeping::Keeping;
-use crate::listed::Listed;
 use crate::noting::note_fault;
 use crate::published::Published;
+use crate::turning::Act;
 use archive_shelf::{Looked, StoreFault};
 use capture::Digest;
 use disk_model::Disk;
-use history_lock::Work;
 use std::alloc::Global;
 
 /// A payload that is looked for among all captures, byte for byte. Nothing is stored.
@@ -23,28 +22,24 @@ pub(crate) struct Compare<'p> {
     pub(crate) digest: Digest,
 }
 
-impl<'p, D: Disk> Work<Published<D>> for Compare<'p> {
-    ghost use Rattle.std.specs.Prelude.{◌≡◌, ◌++◌};
+impl<'p, D: Disk> Act<D> for Compare<'p> {
+    ghost use Rattle.std.specs.Prelude.{◌≡◌};
     ghost use Rattle.sha1.specs.Sha1.{sha1};
-    ghost use Rattle.vault.specs.History.{is_told};
-    ghost use Rattle.vault.specs.Listing.{IsListed};
     ghost use Rattle.vault.specs.Turns.{Compares};
 
-    type Reply = (Result<Looked, StoreFault>, Listed);
+    type Answer = Result<Looked, StoreFault>;
 
     ghost ready = { λ work found. work.digest ≡ sha1 work.payload.now };
 
-    ghost does = { λ work by found added reply. Compares (is_told found) work.payload.now found added reply.0 × IsListed (found ++ added) reply.1.note reply.1.whole };
+    ghost does = { λ work tells found added answer. Compares tells work.payload.now found added answer };
 
-    #[tactic(auto, using(crate::proofs::TellingLaws::adds_listed))]
-    fn act(self, by: u32, value: &mut Published<D>) -> (Result<Looked, StoreFault>, Listed) {
+    fn act(self, by: u32, value: &mut Published<D>) -> Result<Looked, StoreFault> {
         let Compare {
             alloc,
             payload,
             digest,
         } = self;
-        let answer = value.compare(by, alloc, payload, &digest);
-        (answer, value.tell())
+        value.compare(by, alloc, payload, &digest)
     }
 }
 

@@ -1,8 +1,7 @@
 //! A turn that publishes what had no memory before.
-use crate::listed::Listed;
 use crate::published::Published;
+use crate::turning::Act;
 use disk_model::Disk;
-use history_lock::Work;
 use std::alloc::Global;
 use std::sync::Wait;
 
@@ -13,21 +12,19 @@ pub(crate) struct Flush<'a, R> {
     pub(crate) alloc: Global,
 }
 
-impl<'a, R: Wait, D: Disk> Work<Published<D>> for Flush<'a, R> {
-    ghost use Rattle.std.specs.Prelude.{◌≡◌, ◌++◌, []};
-    ghost use Rattle.vault.specs.Listing.{IsListed};
+impl<'a, R: Wait, D: Disk> Act<D> for Flush<'a, R> {
+    ghost use Rattle.std.specs.Prelude.{◌≡◌, []};
 
-    type Reply = Listed;
+    type Answer = ();
 
     ghost ready = { λ work found. Unit {0} };
 
-    ghost does = { λ work by found added reply. (added ≡ []) × IsListed (found ++ added) reply.note reply.whole };
+    ghost does = { λ work tells found added answer. added ≡ [] };
 
     #[tactic(auto, using(crate::proofs::TellingLaws::adds_none))]
-    fn act(self, _by: u32, value: &mut Published<D>) -> Listed {
+    fn act(self, _by: u32, value: &mut Published<D>) {
         let Flush { rt, alloc } = self;
         let _appended = value.catch_up(alloc);
         value.show(rt);
-        value.tell()
     }
 }

@@ -22,6 +22,7 @@ mod published;
 mod shelf;
 #[cfg(test)]
 mod tests;
+mod turning;
 mod vault;
 
 pub use at::At;

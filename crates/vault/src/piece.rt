@@ -6,13 +6,12 @@ ghost use Rattle.vault.specs.History.{by_of, is_told};
 ghost use Rattle.vault.specs.Turns.{GivesIt};
 
 use crate::keeping::Keeping;
-use crate::listed::Listed;
 use crate::noting::note_fault;
 use crate::published::Published;
+use crate::turning::Act;
 use archive_shelf::{BringFault, Shelf};
 use capture::Bytes;
 use disk_model::Disk;
-use history_lock::Work;
 use std::alloc::Global;
 
 /// The number of a capture that is asked for as a piece.
@@ -22,22 +21,17 @@ pub(crate) struct Piece {
     pub(crate) number: u32,
 }
 
-impl<D: Disk> Work<Published<D>> for Piece {
-    ghost use Rattle.std.specs.Prelude.{◌++◌};
-    ghost use Rattle.vault.specs.History.{is_told};
-    ghost use Rattle.vault.specs.Listing.{IsListed};
+impl<D: Disk> Act<D> for Piece {
     ghost use Rattle.vault.specs.Turns.{GivesIt};
 
-    type Reply = (Result<Bytes, BringFault>, Listed);
+    type Answer = Result<Bytes, BringFault>;
 
     ghost ready = { λ work found. Unit {0} };
 
-    ghost does = { λ work by found added reply. GivesIt (is_told found) work.number found added reply.0 × IsListed (found ++ added) reply.1.note reply.1.whole };
+    ghost does = { λ work tells found added answer. GivesIt tells work.number found added answer };
 
-    #[tactic(auto, using(crate::proofs::TellingLaws::adds_listed))]
-    fn act(self, by: u32, value: &mut Published<D>) -> (Result<Bytes, BringFault>, Listed) {
-        let answer = value.piece(by, self.alloc, self.number);
-        (answer, value.tell())
+    fn act(self, by: u32, value: &mut Published<D>) -> Result<Bytes, BringFault> {
+        value.piece(by, self.alloc, self.number)
     }
 }
 

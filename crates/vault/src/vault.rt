@@ -1,7 +1,6 @@
 //! The vault, and the turns of its passes.
 ghost use Rattle.std.specs.Prelude.{◌≡◌, ◌⊎◌, ℕ, ◌+◌, ◌<◌, ◌≤◌, ◌++◌, List, [], length, slice_get, IfOk, IfErr, IfSome};
 ghost use mathlib.Core.List.{IsPrefix};
-ghost use Rattle.sha1.specs.Sha1.{sha1};
 ghost use Rattle.warc_journal.specs.Journals.{disk_of};
 ghost use Rattle.warc_text.specs.Fits.{Fits};
 ghost use Rattle.archive_shelf.specs.Answers.{Brings};
@@ -12,7 +11,7 @@ ghost use Rattle.vault.specs.History.{IsBegun, KeepsNames, Names, by_of, is_told
 ghost use Rattle.vault.specs.Company.{contents_at};
 ghost use Rattle.vault.specs.Listing.{IsCurrent, IsListed};
 ghost use Rattle.vault.specs.Passes.{IsLeft, IsNew};
-ghost use Rattle.vault.specs.Turns.{BringsIt, Commits, Compares, GivesIt, StoresBy};
+ghost use Rattle.vault.specs.Turns.{BringsIt, Commits, GivesIt, StoresBy};
 
 use crate::bring::{Bring, hold_back};
 use crate::commit::Commit;
@@ -24,6 +23,7 @@ use crate::noted::Noted;
 use crate::pass::{VaultPass, seat_all};
 use crate::piece::Piece;
 use crate::published::Published;
+use crate::turning::{Act, Telling};
 use archive_core::{Archive, compared_payloads_serve_later, payload_of_taken};
 use archive_shelf::{BringFault, Looked, Receipt, StoreFault};
 use capture::{Brought, Bytes, Digest, Memory, Taken, growth_keeps_captures};
@@ -129,7 +129,12 @@ impl<D: Disk> Vault<D> {
             Err(Memory) => return Err(StoreFault::Memory),
         };
         let digest = payload_digest(payload.as_slice());
-        match self.compare(rt, alloc, pass, listed, payload.as_slice(), digest) {
+        let compare = Compare {
+            alloc,
+            payload: payload.as_slice(),
+            digest,
+        };
+        match self.take(rt, pass, listed, compare) {
             Ok(looked) => {
                 // No memory is held while the second turn is waited for.
                 drop(payload);
@@ -137,35 +142,6 @@ impl<D: Disk> Vault<D> {
             }
             Err(fault) => Err(fault),
         }
-    }
-
-    /// Looks for a payload, in a turn that stores nothing. May wait.
-    fn compare<R: Wait>(
-        &self,
-        rt: &R,
-        alloc: Global,
-        pass: &mut Pass<Noted>,
-        listed: &mut Listed,
-        payload: &[u8],
-        digest: Digest,
-    ) -> Result<Looked, StoreFault>
-        requires pass { pass.old.lock ≡ self.now }
-        requires begun { IsBegun pass.old.seen }
-        requires digest { digest ≡ sha1 payload.now }
-        ensures turn { Turn by_of pass.old pass.new.seen (λ found added. Compares (is_told pass.old.seen) payload.now found added result) }
-        ensures same { IsSamePass pass.old pass.new }
-        ensures listed { IsListed pass.new.seen listed.new.note listed.new.whole }
-        ensures names { KeepsNames pass.old.seen pass.new.seen }
-        ensures told { is_told pass.new.seen ≡ is_told pass.old.seen }
-    {
-        let work = Compare {
-            alloc,
-            payload,
-            digest,
-        };
-        let (answer, told) = self.lock.turn(rt, pass, work);
-        *listed = told;
-        answer
     }
 
     /// Stores a capture whose payload was looked for. May wait.
@@ -190,16 +166,14 @@ impl<D: Disk> Vault<D> {
         ensures names { KeepsNames pass.old.seen pass.new.seen }
         ensures told { is_told pass.new.seen ≡ is_told pass.old.seen }
     {
-        let work = Commit {
+        let commit = Commit {
             rt,
             alloc,
             taken,
             digest,
             looked,
         };
-        let (answer, told) = self.lock.turn(rt, pass, work);
-        *listed = told;
-        answer
+        self.take(rt, pass, listed, commit)
     }
 
     /// Brings a capture. May wait.
@@ -248,31 +222,9 @@ impl<D: Disk> Vault<D> {
         ensures told { is_told pass.new.seen ≡ is_told pass.old.seen }
     {
         growth_keeps_captures();
-        let answer = self.bring_by(rt, alloc, pass, listed, number);
+        let answer = self.take(rt, pass, listed, Bring { alloc, number });
         let agrees = shown.begins(&listed.note);
         hold_back(answer, agrees)
-    }
-
-    /// Takes the turn. May wait.
-    fn bring_by<R: Wait>(
-        &self,
-        rt: &R,
-        alloc: Global,
-        pass: &mut Pass<Noted>,
-        listed: &mut Listed,
-        number: u32,
-    ) -> Result<Brought, BringFault>
-        requires pass { pass.old.lock ≡ self.now }
-        requires begun { IsBegun pass.old.seen }
-        ensures turn { Turn by_of pass.old pass.new.seen (λ found added. BringsIt (is_told pass.old.seen) number found added result × IsCurrent (found ++ added) listed.new.note.items) }
-        ensures same { IsSamePass pass.old pass.new }
-        ensures listed { IsListed pass.new.seen listed.new.note listed.new.whole }
-        ensures names { KeepsNames pass.old.seen pass.new.seen }
-        ensures told { is_told pass.new.seen ≡ is_told pass.old.seen }
-    {
-        let (answer, told) = self.lock.turn(rt, pass, Bring { alloc, number });
-        *listed = told;
-        answer
     }
 
     /// Gives a capture as a piece: its group as it stands in its volume, with the volume's warcinfo before it where the capture is the
@@ -294,29 +246,7 @@ impl<D: Disk> Vault<D> {
             viewer: _,
             listed,
         } = pass;
-        self.piece_by(rt, alloc, known, listed, number)
-    }
-
-    /// Gives a capture as a piece to what the lock knows of a pass. May wait.
-    fn piece_by<R: Wait>(
-        &self,
-        rt: &R,
-        alloc: Global,
-        pass: &mut Pass<Noted>,
-        listed: &mut Listed,
-        number: u32,
-    ) -> Result<Bytes, BringFault>
-        requires pass { pass.old.lock ≡ self.now }
-        requires begun { IsBegun pass.old.seen }
-        ensures turn { Turn by_of pass.old pass.new.seen (λ found added. GivesIt (is_told pass.old.seen) number found added result) }
-        ensures same { IsSamePass pass.old pass.new }
-        ensures listed { IsListed pass.new.seen listed.new.note listed.new.whole }
-        ensures names { KeepsNames pass.old.seen pass.new.seen }
-        ensures told { is_told pass.new.seen ≡ is_told pass.old.seen }
-    {
-        let (answer, told) = self.lock.turn(rt, pass, Piece { alloc, number });
-        *listed = told;
-        answer
+        self.take(rt, known, listed, Piece { alloc, number })
     }
 
     /// Publishes what is stored, as far as there was no memory for that before. May wait, also for readers.
@@ -331,21 +261,30 @@ impl<D: Disk> Vault<D> {
             viewer: _,
             listed,
         } = pass;
-        self.flush_by(rt, alloc, known, listed);
+        self.take(rt, known, listed, Flush { rt, alloc });
     }
 
-    /// The same for what the lock knows of a pass.
-    fn flush_by<R: Wait>(&self, rt: &R, alloc: Global, pass: &mut Pass<Noted>, listed: &mut Listed)
+    /// Does this in a turn, for what the lock knows of a pass. It is told then how the list stands. May wait.
+    fn take<R: Wait, A: Act<D>>(
+        &self,
+        rt: &R,
+        pass: &mut Pass<Noted>,
+        listed: &mut Listed,
+        act: A,
+    ) -> A::Answer
         requires pass { pass.old.lock ≡ self.now }
         requires begun { IsBegun pass.old.seen }
-        ensures turn { Turn by_of pass.old pass.new.seen (λ found added. added ≡ []) }
+        requires ready { (found : List Noted) → Shows by_of pass.old.passes pass.old.numbers pass.old.seen found → A.ready act found }
+        ensures turn { Turn by_of pass.old pass.new.seen (λ found added. A.does act (is_told pass.old.seen) found added result) }
         ensures same { IsSamePass pass.old pass.new }
         ensures listed { IsListed pass.new.seen listed.new.note listed.new.whole }
+        ensures current { IsCurrent pass.new.seen listed.new.note.items }
         ensures names { KeepsNames pass.old.seen pass.new.seen }
         ensures told { is_told pass.new.seen ≡ is_told pass.old.seen }
     {
-        let told = self.lock.turn(rt, pass, Flush { rt, alloc });
+        let (answer, told) = self.lock.turn(rt, pass, Telling { act });
         *listed = told;
+        answer
     }
 
     /// One pass for two, with the number of the first and the numbers of both. It has seen the longer of the two histories, in which

@@ -13,22 +13,22 @@ use Rattle.vault.proofs.vault.Vault.bring_beside.Goals as goal
 
 pub begins-agrees-requires : goal.begins-agrees-requires
 begins-agrees-requires g c =
-    names_one c.bring_by-answer.new.pass.seen c.args.shown.now.of c.bring_by-answer.new.listed.note.of
-    (c.bring_by-answer.ensures.names c.args.shown.now.of c.requires.names) c.bring_by-answer.ensures.listed.named
+    names_one c.take-answer.new.pass.seen c.args.shown.now.of c.take-answer.new.listed.note.of
+    (c.take-answer.ensures.names c.args.shown.now.of c.requires.names) c.take-answer.ensures.listed.named
 
 pub returns-clause-turn : goal.returns-clause-turn
 returns-clause-turn g c =
-    subst (λ (r : Result Brought BringFault). Turn by_of c.args.pass.now c.bring_by-answer.new.pass.seen
+    subst (λ (r : Result Brought BringFault). Turn by_of c.args.pass.now c.take-answer.new.pass.seen
     (λ found added. BringsIt (is_told c.args.pass.now.seen) c.args.number found added r)) (sym c.hold_back.ensures)
-    (turn_held c.growth_keeps_captures.ensures.keeps c.args.pass.now c.bring_by-answer.new.pass c.args.number c.bring_by-answer.new.listed.note c.args.shown.now
-    c.bring_by-answer.new.listed.whole c.begins-agrees.result c.bring_by-answer.result c.requires.begun c.bring_by-answer.ensures.listed c.bring_by-answer.ensures.told
-    c.bring_by-answer.ensures.turn)
+    (turn_held c.growth_keeps_captures.ensures.keeps c.args.pass.now c.take-answer.new.pass c.args.number c.take-answer.new.listed.note c.args.shown.now
+    c.take-answer.new.listed.whole c.begins-agrees.result c.take-answer.result c.requires.begun c.take-answer.ensures.listed c.take-answer.ensures.told c.take-answer.ensures.current
+    c.take-answer.ensures.turn)
 
 pub returns-clause-brings : goal.returns-clause-brings
 returns-clause-brings g c =
-    subst (λ (r : Result Brought BringFault). Brings (contents_at (record { known = c.bring_by-answer.new.pass; shown = c.args.shown.now })) c.args.number r)
+    subst (λ (r : Result Brought BringFault). Brings (contents_at (record { known = c.take-answer.new.pass; shown = c.args.shown.now })) c.args.number r)
     (sym c.hold_back.ensures)
-    (turn_brings c.growth_keeps_captures.ensures.keeps c.args.pass.now c.bring_by-answer.new.pass c.args.number c.bring_by-answer.new.listed.note c.args.shown.now
-    c.bring_by-answer.new.listed.whole c.begins-agrees.result c.bring_by-answer.result c.requires.begun c.bring_by-answer.ensures.listed c.bring_by-answer.ensures.told
-    c.bring_by-answer.ensures.turn
-    (prefix_if c.begins-agrees.result c.args.shown.now.items c.bring_by-answer.new.listed.note.items c.begins-agrees.ensures))
+    (turn_brings c.growth_keeps_captures.ensures.keeps c.args.pass.now c.take-answer.new.pass c.args.number c.take-answer.new.listed.note c.args.shown.now
+    c.take-answer.new.listed.whole c.begins-agrees.result c.take-answer.result c.requires.begun c.take-answer.ensures.listed c.take-answer.ensures.told c.take-answer.ensures.current
+    c.take-answer.ensures.turn
+    (prefix_if c.begins-agrees.result c.args.shown.now.items c.take-answer.new.listed.note.items c.begins-agrees.ensures))
