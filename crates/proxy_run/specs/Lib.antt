@@ -11,6 +11,7 @@ pub mod Pipes
 pub mod Printing
 pub mod Runs
 pub mod Serving
+pub mod Sources
 pub mod steps
 pub mod Texts
 pub mod Trials

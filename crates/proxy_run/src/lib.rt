@@ -1,6 +1,7 @@
 //! The call that the program makes.
 #![tactic(auto)]
 
+mod asking;
 mod base;
 mod checking;
 mod importing;
