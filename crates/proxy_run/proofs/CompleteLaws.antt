@@ -1,7 +1,9 @@
 -- A run over a disk that is ready isn't refused.
 use Rattle.std.proofs.Common.{◌≡◌, ◌⊎◌, ℕ, ◌<◌, ◌≤◌, Bool, true, true≢false, IsTrue, List, [], length, Option, Some, None, Result, Ok, Err, refl, sym, ap, subst, ◌∙◌, inl, inr, ⊎_elim, arith}
 use Rattle.std.proofs.lemmas.Bool.{cases_lt}
+use Rattle.std.specs.Prelude.{⊤}
 use Rattle.archive_opening.specs.Opening.{CountsFault, HoldsOther, IsDamageIn, IsOtherIn}
+use Rattle.archive_core.specs.Holdings.{Holdings}
 use Rattle.archive_core.specs.Told.{told_on}
 use Rattle.archive_shelf.proofs.CallLaws.{stored_tells}
 use Rattle.archive_shelf.specs.Answers.{CountsIf, IsDamaged}
@@ -11,20 +13,29 @@ use Rattle.archive_shelf.specs.declared.fault.StoreFault.TheVariants as stores
 use Rattle.archive_shelf.specs.Openings.{ImageStandsFor}
 use Rattle.archive_shelf.specs.declared.fault.ReopenFault.{ReopenFault}
 use Rattle.archive_shelf.specs.declared.fault.ReopenFault.TheVariants as faults
+use Rattle.capture.specs.Captures.{captures}
 use Rattle.capture.specs.Faults.{Rose}
 use Rattle.capture.specs.declared.book.Book.{Book}
+use Rattle.capture.specs.declared.site.Site.{Site}
 use Rattle.disk_model.specs.Image.{Image}
 use Rattle.outside.specs.declared.sink.Sink.{Ghosts as Sinks}
 use Rattle.proxy_run.proofs.NextLaws.{all_next, ready_next}
-use Rattle.proxy_run.specs.Complete.{CapturesComeBack, ChecksAreAnswered, EndsBadly, ImportsAreAnswered, ImportsBadly, ImportsLeaveReady, IsFullBefore, IsNotTaken, IsReady, IsSteady, NoFaults, PipesAreAnswered, PipesLeaveReady, ServesBadly}
+use Rattle.proxy_run.specs.Complete.{CapturesComeBack, ChecksAreAnswered, EndsBadly, FollowsAreAnswered, FollowsBadly, FollowsLeaveReady, ImportsAreAnswered, ImportsBadly, ImportsLeaveReady, IsFullBefore, IsNotFollowed, IsNotTaken, IsReady, IsSteady, NoFaults, PipesAreAnswered, PipesLeaveReady, ServesBadly}
+use Rattle.proxy_run.specs.Following.{EndsBy as FollowEnds, is_disk_stop}
+use Rattle.proxy_run.specs.Follows.{TellsEnd}
 use Rattle.proxy_run.specs.Imports.{IsTellable, Tells, status_after}
 use Rattle.proxy_run.specs.Keeping.{EndsBy, Keeps, is_denied}
 use Rattle.proxy_run.specs.Objects.{Kinds, Objects, UsesFirst, with_one}
 use Rattle.proxy_run.specs.Pipes.{HasServed, HasServedNone, Refuses}
 use Rattle.proxy_run.specs.Printing.{LacksMemory, Prints}
-use Rattle.proxy_run.specs.Runs.{HasChecked, HasPiped, HasTakenIn}
+use Rattle.proxy_run.specs.Runs.{HasChecked, HasPiped, HasReplicated, HasTakenIn, LacksWords}
 use Rattle.proxy_run.specs.Serving.{IsReason, status_of}
+use Rattle.proxy_run.specs.Sources.{source_of}
 use Rattle.proxy_run.specs.Texts.{IsFaultText}
+use Rattle.proxy_run.specs.declared.asking.SourceFault.TheVariants as sources
+use Rattle.proxy_run.specs.declared.following.Stop.{Stop}
+use Rattle.proxy_run.specs.declared.following.Stop.TheVariants.{Source, Piece}
+use Rattle.archive_pieces.specs.declared.fault.PieceFault.TheVariants as pieces
 use Rattle.proxy_run.specs.declared.input.InputFault.{InputFault}
 use Rattle.proxy_run.specs.declared.input.InputFault.TheVariants as input_fault
 use Rattle.proxy_run.specs.declared.status.Status.{Status}
@@ -99,7 +110,7 @@ module _ {D G L P N M C O : Type 0} (kinds : Kinds D G L P N M C O) where
       inr (refused_for_memory None was is status told ready (λ other holds. holds.asked_for refl) steady refuses)
 
   pub checks_answered : ChecksAreAnswered kinds
-  checks_answered was is status told ready steady runs = check_answered was is status told ready steady runs
+  checks_answered was is status told ready steady site runs = check_answered was is status told ready steady runs
 
   -- ---- `pipe`
 
@@ -148,7 +159,7 @@ module _ {D G L P N M C O : Type 0} (kinds : Kinds D G L P N M C O) where
       (λ other holds. not_other one no_volume namespace (kinds.disks.reading was.disk) other ready holds) steady refuses))
 
   pub pipes_answered : FilesStandForOneBook → FilesStandForNoVolume → PipesAreAnswered kinds
-  pipes_answered one no_volume namespace was is status told clients origins ready steady runs =
+  pipes_answered one no_volume namespace was is status told clients origins ready steady site runs =
       pipe_answered one no_volume namespace was is status told clients origins ready steady runs
 
   -- ---- `import`
@@ -206,7 +217,72 @@ module _ {D G L P N M C O : Type 0} (kinds : Kinds D G L P N M C O) where
       (λ other holds. not_other one no_volume namespace (kinds.disks.reading was.disk) other ready holds) steady refuses))
 
   pub imports_answered : FilesStandForOneBook → FilesStandForNoVolume → ImportsAreAnswered kinds
-  imports_answered one no_volume namespace was is status told ready steady runs = import_answered one no_volume namespace was is status told ready steady runs
+  imports_answered one no_volume namespace was is status told ready steady site runs = import_answered one no_volume namespace was is status told ready steady runs
+
+  -- ---- `follow`
+
+  told_then : (namespace : List ℕ) (site : Site) (was is : Objects D G (List (N × C)) O) (status : Status) (taken : HasReplicated kinds namespace site was is status) → IsTrue kinds.disks.tells
+      → (number at : ℕ) (kept : List ℕ) (found : Option (List ℕ))
+      → FollowEnds kinds.disks (source_of site) kinds.origins_tell (Err (Piece number (pieces.Damaged at kept found))) taken.follows.follows.followed.refused
+      taken.follows.follows.followed.reached taken.follows.follows.followed.links taken.follows.after (kinds.dialers.links taken.first.after.0) → ⊥
+  told_then namespace site was is status taken told number at kept found ends =
+      let f = taken.follows.follows.followed in
+      damage_is_untold f.reached.told kept found
+      (sym (ap (λ (h : Holdings D). h.told) ends.2.leaves.1.others) ∙ f.goes_on.same_told ∙ taken.follows.opened.same_tells ∙ told) ends.2.leaves.3
+
+  ended_answered : (namespace : List ℕ) (site : Site) (was is : Objects D G (List (N × C)) O) (status : Status) (taken : HasReplicated kinds namespace site was is status)
+      → IsTrue kinds.disks.tells → NoFaults kinds was is → (result : Result ⊤ Stop) → taken.follows.follows.result ≡ result
+      → TellsEnd kinds.sinks (length (captures taken.follows.after.book)) result was.out is.out status
+      → FollowEnds kinds.disks (source_of site) kinds.origins_tell result taken.follows.follows.followed.refused
+      taken.follows.follows.followed.reached taken.follows.follows.followed.links taken.follows.after (kinds.dialers.links taken.first.after.0)
+      → CountsIf (is_disk_stop result) (kinds.disks.faults was.disk) (kinds.disks.faults is.disk)
+      → (status ≡ Done) ⊎ (status ≡ Memory) ⊎ FollowsBadly kinds namespace site was is status
+  ended_answered namespace site was is status taken told steady (Ok done) same tells ends counts =
+      one_more (printed_or_lacked kinds.sinks Done _ was.out is.out status steady.out tells)
+  ended_answered namespace site was is status taken told steady (Err (Source number sources.DialFault)) same tells ends counts =
+      inr (inr (record { taken = taken; badly = subst IsNotFollowed (sym same) tt }))
+  ended_answered namespace site was is status taken told steady (Err (Source number sources.OriginFault)) same tells ends counts =
+      inr (inr (record { taken = taken; badly = subst IsNotFollowed (sym same) tt }))
+  ended_answered namespace site was is status taken told steady (Err (Source number sources.Malformed)) same tells ends counts =
+      inr (inr (record { taken = taken; badly = subst IsNotFollowed (sym same) tt }))
+  ended_answered namespace site was is status taken told steady (Err (Source number sources.TooLong)) same tells ends counts =
+      inr (inr (record { taken = taken; badly = subst IsNotFollowed (sym same) tt }))
+  ended_answered namespace site was is status taken told steady (Err (Source number (sources.Refused code))) same tells ends counts =
+      inr (inr (record { taken = taken; badly = subst IsNotFollowed (sym same) tt }))
+  ended_answered namespace site was is status taken told steady (Err (Source number sources.Memory)) same (inl printed) ends counts = absurd printed.1
+  ended_answered namespace site was is status taken told steady (Err (Source number sources.Memory)) same (inr lacked) ends counts = inr (inl lacked.status_is)
+  ended_answered namespace site was is status taken told steady (Err (Piece number (pieces.Full count limit))) same tells ends counts =
+      inr (inr (record { taken = taken; badly = subst IsNotFollowed (sym same) tt }))
+  ended_answered namespace site was is status taken told steady (Err (Piece number pieces.NotAPiece)) same tells ends counts =
+      inr (inr (record { taken = taken; badly = subst IsNotFollowed (sym same) tt }))
+  ended_answered namespace site was is status taken told steady (Err (Piece number pieces.DiskFault)) same tells ends counts =
+      absurd (not_risen (kinds.disks.faults was.disk) (kinds.disks.faults is.disk) steady.disk counts.1)
+  ended_answered namespace site was is status taken told steady (Err (Piece number (pieces.Damaged at kept found))) same tells ends counts =
+      absurd (told_then namespace site was is status taken told number at kept found ends)
+  ended_answered namespace site was is status taken told steady (Err (Piece number pieces.Memory)) same (inl printed) ends counts = absurd printed.1
+  ended_answered namespace site was is status taken told steady (Err (Piece number pieces.Memory)) same (inr lacked) ends counts = inr (inl lacked.status_is)
+
+  follow_answered : FilesStandForOneBook → FilesStandForNoVolume → (namespace : List ℕ) (site : Site) (was is : Objects D G (List (N × C)) O) (status : Status)
+      → IsTrue kinds.disks.tells → IsReady (Some namespace) (kinds.disks.reading was.disk) → NoFaults kinds was is
+      → HasReplicated kinds namespace site was is status ⊎ Refuses kinds (Some namespace) was is status ⊎ LacksWords kinds was is status
+      → (status ≡ Done) ⊎ (status ≡ Memory) ⊎ FollowsBadly kinds namespace site was is status
+  follow_answered one no_volume namespace site was is status told ready steady (inl taken) =
+      ended_answered namespace site was is status taken told steady taken.follows.follows.result refl taken.follows.follows.told taken.follows.follows.followed.ends
+      taken.follows.disk_faults
+  follow_answered one no_volume namespace site was is status told ready steady (inr (inl refuses)) =
+      inr (inl (refused_for_memory (Some namespace) was is status told ready
+      (λ other holds. not_other one no_volume namespace (kinds.disks.reading was.disk) other ready holds) steady refuses))
+  follow_answered one no_volume namespace site was is status told ready steady (inr (inr lacks)) = inr (inl lacks.status_is)
+
+  pub follows_answered : FilesStandForOneBook → FilesStandForNoVolume → FollowsAreAnswered kinds
+  follows_answered one no_volume namespace site was is status told ready steady runs =
+      follow_answered one no_volume namespace site was is status told ready steady runs
+
+  pub follows_leave_ready : FollowsLeaveReady kinds
+  follows_leave_ready namespace site was is status taken told ids image now =
+      let f = taken.follows in
+      let x = f.near told image now in
+      ready_next namespace image f.after.book x.0 (f.follows.followed.goes_on.grows.namespace ∙ f.opened.in_namespace) ids x.2 x.1
 
   pub imports_leave_ready : ImportsLeaveReady kinds
   imports_leave_ready namespace was is status taken told ids image now =

@@ -1,7 +1,10 @@
 mod CompleteLaws
 mod ConnectionLaws
 mod FileNames
+mod FollowLaws
+mod FollowsLaws
 mod HostTexts
+mod FrontLaws
 mod ImportLaws
 mod InputLaws
 mod KeepingLaws
@@ -11,6 +14,7 @@ mod OpeningLaws
 mod PipeLaws
 mod RunLaws
 mod SoundVolumes
+mod TakeLaws
 mod TakingLaws
 mod TrialLaws
 mod VerifiedLaws

@@ -1,7 +1,9 @@
 -- What a run leaves, by what its words ask for.
 use Rattle.std.proofs.Common.{◌≡◌, ◌⊎◌, ℕ, ◌<◌, List, [], ◌∷◌, length, Option, Some, None, refl, sym, ap, subst, ◌∙◌, inl, inr, arith}
 use Rattle.std.specs.Prelude.{drop, get_or, set}
+use Rattle.capture.specs.declared.site.Site.{Site}
 use Rattle.proxy_run.specs.Checks.{IsCounted}
+use Rattle.proxy_run.specs.Follows.{Follows}
 use Rattle.proxy_run.specs.Imports.{Imports, ends_of}
 use Rattle.proxy_run.specs.Objects.{Kinds, Objects, objects_of, with_one}
 use Rattle.proxy_run.specs.Opening.{IsNotOpened}
@@ -13,9 +15,9 @@ use Rattle.proxy_run.specs.Trials.{Tries}
 use Rattle.proxy_run.specs.Verifies.{IsVerified}
 use Rattle.proxy_run.specs.Words.{asked_of}
 use Rattle.proxy_run.specs.declared.status.Status.{Status}
-use Rattle.proxy_run.specs.declared.status.Status.TheVariants.{Words}
+use Rattle.proxy_run.specs.declared.status.Status.TheVariants.{Memory, Words}
 use Rattle.proxy_run.specs.declared.words.Command.{Command}
-use Rattle.proxy_run.specs.declared.words.Command.TheVariants.{Check, Import, Pipe, Trial, Verify}
+use Rattle.proxy_run.specs.declared.words.Command.TheVariants.{Check, Follow, Import, Pipe, Trial, Verify}
 
 -- ---- the first member
 
@@ -27,50 +29,50 @@ pub first_set : {A : Type 0} (items : List A) (item : A) → 0 < length items �
 first_set [] item some = absurd (omega (arith, some))
 first_set (first ∷ items) item some = refl
 
-module _ {D G L P N M C O : Type 0} (kinds : Kinds D G L P N M C O) (found : Option Command) where
+module _ {D G L P N M C O : Type 0} (kinds : Kinds D G L P N M C O) (found : Option Command) (site : Option Site) where
   pub runs_none : (was : Objects D G (List (N × C)) O) (out : O) (status : Status) → found ≡ None → Prints kinds.sinks Words usage was.out out status
-      → Runs kinds found was (record was { out = out }) status
+      → Runs kinds found site was (record was { out = out }) status
   runs_none was out status none printed =
-      subst (λ f. Runs kinds f was (record was { out = out }) status) (sym none) (record { printed = printed; untouched = refl })
+      subst (λ f. Runs kinds f site was (record was { out = out }) status) (sym none) (record { printed = printed; untouched = refl })
 
   checked : (was : Objects D G (List (N × C)) O) (disk : D) (out : O) (status : Status)
       → IsCounted kinds.disks kinds.sinks was.disk disk was.out out status ⊎ IsNotOpened kinds.disks kinds.sinks None was.disk disk was.out out status
-      → Runs kinds (Some Check) was (record was { disk = disk; out = out }) status
+      → Runs kinds (Some Check) site was (record was { disk = disk; out = out }) status
   checked was disk out status (inl counted) = inl (record { counted = counted; untouched = refl })
   checked was disk out status (inr refused) = inr (record { refused = refused; untouched = refl })
 
   pub runs_check : (command : Command) (was : Objects D G (List (N × C)) O) (disk : D) (out : O) (status : Status) → found ≡ Some command → command ≡ Check
       → IsCounted kinds.disks kinds.sinks was.disk disk was.out out status ⊎ IsNotOpened kinds.disks kinds.sinks None was.disk disk was.out out status
-      → Runs kinds found was (record was { disk = disk; out = out }) status
+      → Runs kinds found site was (record was { disk = disk; out = out }) status
   runs_check command was disk out status is_command is_check result =
-      subst (λ f. Runs kinds f was (record was { disk = disk; out = out }) status) (sym (is_command ∙ ap (λ (c : Command). Some c) is_check))
+      subst (λ f. Runs kinds f site was (record was { disk = disk; out = out }) status) (sym (is_command ∙ ap (λ (c : Command). Some c) is_check))
       (checked was disk out status result)
 
   verified_in : (workers : ℕ) (was : Objects D G (List (N × C)) O) (disk : D) (out : O) (status : Status)
       → IsVerified kinds.disks kinds.sinks was.disk disk was.out out status ⊎ IsNotOpened kinds.disks kinds.sinks None was.disk disk was.out out status
-      → Runs kinds (Some (Verify workers)) was (record was { disk = disk; out = out }) status
+      → Runs kinds (Some (Verify workers)) site was (record was { disk = disk; out = out }) status
   verified_in workers was disk out status (inl verified) = inl (record { verified = verified; untouched = refl })
   verified_in workers was disk out status (inr refused) = inr (record { refused = refused; untouched = refl })
 
   pub runs_verify : (command : Command) (workers : ℕ) (was : Objects D G (List (N × C)) O) (disk : D) (out : O) (status : Status) → found ≡ Some command
       → command ≡ Verify workers
       → IsVerified kinds.disks kinds.sinks was.disk disk was.out out status ⊎ IsNotOpened kinds.disks kinds.sinks None was.disk disk was.out out status
-      → Runs kinds found was (record was { disk = disk; out = out }) status
+      → Runs kinds found site was (record was { disk = disk; out = out }) status
   runs_verify command workers was disk out status is_command is_verify result =
-      subst (λ f. Runs kinds f was (record was { disk = disk; out = out }) status) (sym (is_command ∙ ap (λ (c : Command). Some c) is_verify))
+      subst (λ f. Runs kinds f site was (record was { disk = disk; out = out }) status) (sym (is_command ∙ ap (λ (c : Command). Some c) is_verify))
       (verified_in workers was disk out status result)
 
   tried_in : (count seed : ℕ) (was : Objects D G (List (N × C)) O) (disk : D) (out : O) (status : Status) → Tries kinds.sinks count seed was.out out status
-      → disk ≡ was.disk → Runs kinds (Some (Trial count seed)) was (record was { disk = disk; out = out }) status
+      → disk ≡ was.disk → Runs kinds (Some (Trial count seed)) site was (record was { disk = disk; out = out }) status
   tried_in count seed was disk out status tries same =
-      subst (λ d. Runs kinds (Some (Trial count seed)) was (record was { disk = d; out = out }) status) (sym same)
+      subst (λ d. Runs kinds (Some (Trial count seed)) site was (record was { disk = d; out = out }) status) (sym same)
       (record { tried = tries; untouched = refl })
 
   pub runs_trial : (command : Command) (count seed : ℕ) (was : Objects D G (List (N × C)) O) (disk : D) (out : O) (status : Status) → found ≡ Some command
       → command ≡ Trial count seed → Tries kinds.sinks count seed was.out out status → disk ≡ was.disk
-      → Runs kinds found was (record was { disk = disk; out = out }) status
+      → Runs kinds found site was (record was { disk = disk; out = out }) status
   runs_trial command count seed was disk out status is_command is_trial tries same =
-      subst (λ f. Runs kinds f was (record was { disk = disk; out = out }) status) (sym (is_command ∙ ap (λ (c : Command). Some c) is_trial))
+      subst (λ f. Runs kinds f site was (record was { disk = disk; out = out }) status) (sym (is_command ∙ ap (λ (c : Command). Some c) is_trial))
       (tried_in count seed was disk out status tries same)
 
   refuses_all : (asked : Option (List ℕ)) (was is : Objects D G (List (N × C)) O) (status : Status) (before after : N × C) (others : List (N × C))
@@ -87,7 +89,7 @@ module _ {D G L P N M C O : Type 0} (kinds : Kinds D G L P N M C O) (found : Opt
   piped : (namespace : List ℕ) (was is : Objects D G (List (N × C)) O) (status : Status) (before after : N × C) (others : List (N × C))
       → was.crew ≡ before ∷ others → is.crew ≡ after ∷ others
       → Pipes kinds (Some namespace) (with_one was before) (with_one is after) status
-      ⊎ Refuses kinds (Some namespace) (with_one was before) (with_one is after) status → Runs kinds (Some (Pipe namespace)) was is status
+      ⊎ Refuses kinds (Some namespace) (with_one was before) (with_one is after) status → Runs kinds (Some (Pipe namespace)) site was is status
   piped namespace was is status before after others were are (inl pipes) =
       inl (record { first = record { before = before; after = after; others = others; were = were; are = are }; piped = pipes })
   piped namespace was is status before after others were are (inr refuses) =
@@ -96,9 +98,9 @@ module _ {D G L P N M C O : Type 0} (kinds : Kinds D G L P N M C O) (found : Opt
   pub runs_pipe : (command : Command) (namespace : List ℕ) (was is : Objects D G (List (N × C)) O) (status : Status) (before after : N × C) (others : List (N × C))
       → found ≡ Some command → command ≡ Pipe namespace → was.crew ≡ before ∷ others → is.crew ≡ after ∷ others
       → Pipes kinds (asked_of command) (with_one was before) (with_one is after) status
-      ⊎ Refuses kinds (asked_of command) (with_one was before) (with_one is after) status → Runs kinds found was is status
+      ⊎ Refuses kinds (asked_of command) (with_one was before) (with_one is after) status → Runs kinds found site was is status
   runs_pipe command namespace was is status before after others is_command is_pipe were are result =
-      subst (λ f. Runs kinds f was is status) (sym (is_command ∙ ap (λ (c : Command). Some c) is_pipe))
+      subst (λ f. Runs kinds f site was is status) (sym (is_command ∙ ap (λ (c : Command). Some c) is_pipe))
       (piped namespace was is status before after others were are
       (subst (λ c. Pipes kinds (asked_of c) (with_one was before) (with_one is after) status
       ⊎ Refuses kinds (asked_of c) (with_one was before) (with_one is after) status) is_pipe result))
@@ -106,7 +108,7 @@ module _ {D G L P N M C O : Type 0} (kinds : Kinds D G L P N M C O) (found : Opt
   taken_in : (namespace : List ℕ) (was : Objects D G (List (N × C)) O) (disk : D) (gate : G) (out : O) (status : Status)
       → Imports kinds.disks kinds.gates kinds.sinks kinds.clients_tell (Some namespace) (ends_of was.disk was.gate was.out) (ends_of disk gate out) status
       ⊎ (IsNotOpened kinds.disks kinds.sinks (Some namespace) was.disk disk was.out out status × (gate ≡ was.gate))
-      → Runs kinds (Some (Import namespace)) was (record was { disk = disk; gate = gate; out = out }) status
+      → Runs kinds (Some (Import namespace)) site was (record was { disk = disk; gate = gate; out = out }) status
   taken_in namespace was disk gate out status (inl imports) = inl (record { imported = imports; untouched = refl })
   taken_in namespace was disk gate out status (inr (refused, same)) =
       inr (record { refused = refused; untouched = ap (λ (g : G). record was { disk = disk; gate = g; out = out }) same })
@@ -115,9 +117,57 @@ module _ {D G L P N M C O : Type 0} (kinds : Kinds D G L P N M C O) (found : Opt
       → found ≡ Some command → command ≡ Import namespace
       → Imports kinds.disks kinds.gates kinds.sinks kinds.clients_tell (asked_of command) (ends_of was.disk was.gate was.out) (ends_of disk gate out) status
       ⊎ (IsNotOpened kinds.disks kinds.sinks (asked_of command) was.disk disk was.out out status × (gate ≡ was.gate))
-      → Runs kinds found was (record was { disk = disk; gate = gate; out = out }) status
+      → Runs kinds found site was (record was { disk = disk; gate = gate; out = out }) status
   runs_import command namespace was disk gate out status is_command is_import result =
-      subst (λ f. Runs kinds f was (record was { disk = disk; gate = gate; out = out }) status) (sym (is_command ∙ ap (λ (c : Command). Some c) is_import))
+      subst (λ f. Runs kinds f site was (record was { disk = disk; gate = gate; out = out }) status) (sym (is_command ∙ ap (λ (c : Command). Some c) is_import))
       (taken_in namespace was disk gate out status
       (subst (λ c. Imports kinds.disks kinds.gates kinds.sinks kinds.clients_tell (asked_of c) (ends_of was.disk was.gate was.out) (ends_of disk gate out) status
       ⊎ (IsNotOpened kinds.disks kinds.sinks (asked_of c) was.disk disk was.out out status × (gate ≡ was.gate))) is_import result))
+
+  replicated : (namespace : List ℕ) (base : Site) (was is : Objects D G (List (N × C)) O) (status : Status) (before after : N × C) (others : List (N × C))
+      → was.crew ≡ before ∷ others → is.crew ≡ after ∷ others → is.gate ≡ was.gate
+      → Follows kinds.disks kinds.dialers kinds.sinks kinds.origins_tell (Some namespace) base was.disk is.disk before after was.out is.out status
+      ⊎ (IsNotOpened kinds.disks kinds.sinks (Some namespace) was.disk is.disk was.out is.out status × (after ≡ before))
+      → Runs kinds (Some (Follow namespace)) (Some base) was is status
+  replicated namespace base was is status before after others were are gate (inl follows) = inl (record {
+    first = record { before = before; after = after; others = others; were = were; are = are };
+    follows = follows;
+    untouched = gate;
+  })
+  replicated namespace base was is status before after others were are gate (inr (refused, same)) =
+      inr (inl (refuses_all (Some namespace) was is status before after others were are (record {
+        refused = refused;
+        untouched =
+            ap (λ (m : N × C). objects_of is.disk is.gate m is.out) same ∙ ap (λ (g : G). objects_of is.disk g before is.out) gate;
+      })))
+
+  pub runs_follow : (command : Command) (namespace : List ℕ) (base : Site) (was is : Objects D G (List (N × C)) O) (status : Status) (before after : N × C)
+      (others : List (N × C)) → found ≡ Some command → command ≡ Follow namespace → Some base ≡ site → was.crew ≡ before ∷ others → is.crew ≡ after ∷ others
+      → is.gate ≡ was.gate
+      → Follows kinds.disks kinds.dialers kinds.sinks kinds.origins_tell (asked_of command) base was.disk is.disk before after was.out is.out status
+      ⊎ (IsNotOpened kinds.disks kinds.sinks (asked_of command) was.disk is.disk was.out is.out status × (after ≡ before))
+      → Runs kinds found site was is status
+  runs_follow command namespace base was is status before after others is_command is_follow is_site were are gate result =
+      subst (λ (s : Option Site). Runs kinds found s was is status) is_site
+      (subst (λ f. Runs kinds f (Some base) was is status) (sym (is_command ∙ ap (λ (c : Command). Some c) is_follow))
+      (replicated namespace base was is status before after others were are gate
+      (subst (λ c. Follows kinds.disks kinds.dialers kinds.sinks kinds.origins_tell (asked_of c) base was.disk is.disk before after was.out is.out status
+      ⊎ (IsNotOpened kinds.disks kinds.sinks (asked_of c) was.disk is.disk was.out is.out status × (after ≡ before))) is_follow result)))
+
+  -- the base is none
+  pub runs_no_base : (command : Command) (namespace : List ℕ) (was : Objects D G (List (N × C)) O) (out : O) (status : Status) → found ≡ Some command
+      → command ≡ Follow namespace → None ≡ site → Prints kinds.sinks Words usage was.out out status → Runs kinds found site was (record was { out = out }) status
+  runs_no_base command namespace was out status is_command is_follow is_site printed =
+      subst (λ (s : Option Site). Runs kinds found s was (record was { out = out }) status) is_site
+      (subst (λ f. Runs kinds f None was (record was { out = out }) status) (sym (is_command ∙ ap (λ (c : Command). Some c) is_follow))
+      (inl (record { printed = printed; untouched = refl })))
+
+  lacking : (namespace : List ℕ) (base : Option Site) (was : Objects D G (List (N × C)) O) → Runs kinds (Some (Follow namespace)) base was was Memory
+  lacking namespace None was = inr (record { status_is = refl; untouched = refl })
+  lacking namespace (Some base) was = inr (inr (record { status_is = refl; untouched = refl }))
+
+  -- there was no memory to look at it
+  pub runs_lacking : (command : Command) (namespace : List ℕ) (was : Objects D G (List (N × C)) O) → found ≡ Some command → command ≡ Follow namespace
+      → Runs kinds found site was was Memory
+  runs_lacking command namespace was is_command is_follow =
+      subst (λ f. Runs kinds f site was was Memory) (sym (is_command ∙ ap (λ (c : Command). Some c) is_follow)) (lacking namespace site was)

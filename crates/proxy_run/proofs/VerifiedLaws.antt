@@ -38,4 +38,4 @@ module _ {D G L P N M C O : Type 0} (kinds : Kinds D G L P N M C O) where
       inr (refused_for_memory kinds None was is status told ready (λ other holds. holds.asked_for refl) steady refuses)
 
   pub verifies_answered : VerifiesAreAnswered kinds
-  verifies_answered workers was is status told ready steady runs = verified_answered was is status told ready steady runs
+  verifies_answered workers was is status told ready steady site runs = verified_answered was is status told ready steady runs

@@ -8,15 +8,20 @@ use Rattle.archive_shelf.specs.declared.fault.StoreFault.TheVariants as stores
 use Rattle.capture.specs.Captures.{captures}
 use Rattle.capture.specs.declared.book.Book.{Book}
 use Rattle.capture.specs.declared.captured.Stored.{Stored}
+use Rattle.capture.specs.declared.site.Site.{Site}
 use Rattle.disk_model.specs.Image.{Image}
 use Rattle.proxy_run.specs.Objects.{Kinds, Objects, UsesFirst, with_one}
 use Rattle.proxy_run.specs.Pipes.{HasServed, Pipes}
-use Rattle.proxy_run.specs.Runs.{HasTakenIn, Runs}
+use Rattle.proxy_run.specs.Runs.{HasReplicated, HasTakenIn, Runs}
+use Rattle.proxy_run.specs.declared.asking.SourceFault.TheVariants as sources
+use Rattle.proxy_run.specs.declared.following.Stop.{Stop}
+use Rattle.proxy_run.specs.declared.following.Stop.TheVariants.{Source, Piece}
 use Rattle.proxy_run.specs.declared.input.InputFault.{InputFault}
 use Rattle.proxy_run.specs.declared.input.InputFault.TheVariants as input_fault
 use Rattle.proxy_run.specs.declared.status.Status.{Status}
 use Rattle.proxy_run.specs.declared.status.Status.TheVariants.{Done, Memory}
-use Rattle.proxy_run.specs.declared.words.Command.TheVariants.{Check, Import, Pipe}
+use Rattle.archive_pieces.specs.declared.fault.PieceFault.TheVariants as pieces
+use Rattle.proxy_run.specs.declared.words.Command.TheVariants.{Check, Follow, Import, Pipe}
 use Rattle.session.specs.declared.served.Served.{Served}
 use Rattle.session.specs.declared.served.Served.TheVariants as served
 use Rattle.warc_reader.specs.Records.{HasNoRecordAt}
@@ -64,6 +69,21 @@ IsNotTaken (Err input_fault.TooLong) refused = ⊤
 IsNotTaken (Err input_fault.Failed) refused = ⊤
 IsNotTaken (Err input_fault.Memory) refused = ⊥
 
+-- A source that isn't followed to its end, for a fault of its own, of the way to it, or since the archive was full.
+abbrev pub IsNotFollowed : Result ⊤ Stop → Type 0
+IsNotFollowed (Ok done) = ⊥
+IsNotFollowed (Err (Source number sources.DialFault)) = ⊤
+IsNotFollowed (Err (Source number sources.OriginFault)) = ⊤
+IsNotFollowed (Err (Source number sources.Malformed)) = ⊤
+IsNotFollowed (Err (Source number sources.TooLong)) = ⊤
+IsNotFollowed (Err (Source number (sources.Refused status))) = ⊤
+IsNotFollowed (Err (Source number sources.Memory)) = ⊥
+IsNotFollowed (Err (Piece number (pieces.Full count limit))) = ⊤
+IsNotFollowed (Err (Piece number pieces.NotAPiece)) = ⊤
+IsNotFollowed (Err (Piece number pieces.DiskFault)) = ⊥
+IsNotFollowed (Err (Piece number (pieces.Damaged at kept found))) = ⊥
+IsNotFollowed (Err (Piece number pieces.Memory)) = ⊥
+
 module _ {D G L P N M C O : Type 0} (kinds : Kinds D G L P N M C O) where
   -- neither the disk, nor the gate, nor the output failed
   pub record NoFaults {W : Type 0} (was is : Objects D G W O) : Type 0 where
@@ -83,14 +103,14 @@ module _ {D G L P N M C O : Type 0} (kinds : Kinds D G L P N M C O) where
   abbrev pub ChecksAreAnswered : Type 0
   ChecksAreAnswered =
       (was is : Objects D G (List (N × C)) O) (status : Status) → IsTrue kinds.disks.tells → IsReady None (kinds.disks.reading was.disk) → NoFaults was is
-      → Runs kinds (Some Check) was is status → (status ≡ Done) ⊎ (status ≡ Memory)
+      → (site : Option Site) → Runs kinds (Some Check) site was is status → (status ≡ Done) ⊎ (status ≡ Memory)
 
   -- And so `pipe` goes well, unless its connection ends badly.
   abbrev pub PipesAreAnswered : Type 0
   PipesAreAnswered =
       (namespace : List ℕ) (was is : Objects D G (List (N × C)) O) (status : Status) → IsTrue kinds.disks.tells → IsTrue kinds.clients_tell
       → IsTrue kinds.origins_tell → IsReady (Some namespace) (kinds.disks.reading was.disk) → NoFaults was is
-      → Runs kinds (Some (Pipe namespace)) was is status → (status ≡ Done) ⊎ (status ≡ Memory) ⊎ ServesBadly was is status
+      → (site : Option Site) → Runs kinds (Some (Pipe namespace)) site was is status → (status ≡ Done) ⊎ (status ≡ Memory) ⊎ ServesBadly was is status
 
   -- an import took not all
   pub record ImportsBadly (namespace : List ℕ) (was is : Objects D G (List (N × C)) O) (status : Status) : Type 0 where
@@ -101,8 +121,27 @@ module _ {D G L P N M C O : Type 0} (kinds : Kinds D G L P N M C O) where
   abbrev pub ImportsAreAnswered : Type 0
   ImportsAreAnswered =
       (namespace : List ℕ) (was is : Objects D G (List (N × C)) O) (status : Status) → IsTrue kinds.disks.tells
-      → IsReady (Some namespace) (kinds.disks.reading was.disk) → NoFaults was is → Runs kinds (Some (Import namespace)) was is status
+      → IsReady (Some namespace) (kinds.disks.reading was.disk) → NoFaults was is → (site : Option Site) → Runs kinds (Some (Import namespace)) site was is status
       → (status ≡ Done) ⊎ (status ≡ Memory) ⊎ ImportsBadly namespace was is status
+
+  -- a source wasn't followed to its end
+  pub record FollowsBadly (namespace : List ℕ) (site : Site) (was is : Objects D G (List (N × C)) O) (status : Status) : Type 0 where
+    pub taken : HasReplicated kinds namespace site was is status
+    pub badly : IsNotFollowed taken.follows.follows.result
+
+  -- And so `follow` goes well, unless its source isn't followed to its end.
+  abbrev pub FollowsAreAnswered : Type 0
+  FollowsAreAnswered =
+      (namespace : List ℕ) (site : Site) (was is : Objects D G (List (N × C)) O) (status : Status) → IsTrue kinds.disks.tells
+      → IsReady (Some namespace) (kinds.disks.reading was.disk) → NoFaults was is → Runs kinds (Some (Follow namespace)) (Some site) was is status
+      → (status ≡ Done) ⊎ (status ≡ Memory) ⊎ FollowsBadly namespace site was is status
+
+  -- Each image that `follow` may leave, and so what a read gives, is ready for the next run, where the ids differ.
+  abbrev pub FollowsLeaveReady : Type 0
+  FollowsLeaveReady =
+      (namespace : List ℕ) (site : Site) (was is : Objects D G (List (N × C)) O) (status : Status) (taken : HasReplicated kinds namespace site was is status)
+      → IsTrue kinds.disks.tells → HasIds taken.follows.after.book → (image : Image) → kinds.disks.images is.disk image
+      → IsReady (Some namespace) image
 
   -- Each image that `import` may leave, and so what a read gives, is ready for the next run, where the ids differ.
   abbrev pub ImportsLeaveReady : Type 0

@@ -1,6 +1,9 @@
 pub mod Base
 pub mod Checks
 pub mod Complete
+pub mod Following
+pub mod Follows
+pub mod Fronts
 pub mod Imports
 pub mod Inputs
 pub mod Keeping

@@ -1,6 +1,8 @@
 -- What a run leaves, by what its words ask for.
 use Rattle.std.specs.Prelude.{◌≡◌, ◌⊎◌, ℕ, List, Option, Some, None}
+use Rattle.capture.specs.declared.site.Site.{Site}
 use Rattle.proxy_run.specs.Checks.{IsCounted}
+use Rattle.proxy_run.specs.Follows.{Follows}
 use Rattle.proxy_run.specs.Imports.{Imports, ends_of}
 use Rattle.proxy_run.specs.Objects.{Kinds, Objects, UsesFirst, with_one}
 use Rattle.proxy_run.specs.Pipes.{Pipes, Refuses}
@@ -11,7 +13,7 @@ use Rattle.proxy_run.specs.Verifies.{IsVerified}
 use Rattle.proxy_run.specs.declared.status.Status.{Status}
 use Rattle.proxy_run.specs.declared.status.Status.TheVariants as status
 use Rattle.proxy_run.specs.declared.words.Command.{Command}
-use Rattle.proxy_run.specs.declared.words.Command.TheVariants.{Check, Import, Pipe, Trial, Verify}
+use Rattle.proxy_run.specs.declared.words.Command.TheVariants.{Check, Follow, Import, Pipe, Trial, Verify}
 
 module _ {D G L P N M C O : Type 0} (kinds : Kinds D G L P N M C O) where
   -- the words ask for nothing: the usage was printed, and nothing else was touched
@@ -45,11 +47,26 @@ module _ {D G L P N M C O : Type 0} (kinds : Kinds D G L P N M C O) where
     pub verified : IsVerified kinds.disks kinds.sinks was.disk is.disk was.out is.out result
     pub untouched : is ≡ record was { disk = is.disk; out = is.out }
 
-  -- By what the words ask for. Of a check of bytes it doesn't depend on how many workers made it.
-  abbrev pub Runs : Option Command → Objects D G (List (N × C)) O → Objects D G (List (N × C)) O → Status → Type 0
-  Runs None was is result = Misspells was is result
-  Runs (Some (Pipe namespace)) was is result = HasPiped namespace was is result ⊎ Refuses kinds (Some namespace) was is result
-  Runs (Some (Import namespace)) was is result = HasTakenIn namespace was is result ⊎ Refuses kinds (Some namespace) was is result
-  Runs (Some Check) was is result = HasChecked was is result ⊎ Refuses kinds None was is result
-  Runs (Some (Trial count seed)) was is result = HasTried count seed was is result
-  Runs (Some (Verify workers)) was is result = Verifies was is result ⊎ Refuses kinds None was is result
+  -- the source at the site was followed with the dialer of the crew's first member, and the others stay; the gate wasn't touched
+  pub record HasReplicated (namespace : List ℕ) (site : Site) (was is : Objects D G (List (N × C)) O) (result : Status) : Type 0 where
+    pub first : UsesFirst was.crew is.crew
+    pub follows : Follows kinds.disks kinds.dialers kinds.sinks kinds.origins_tell (Some namespace) site was.disk is.disk first.before first.after was.out is.out
+        result
+    pub untouched : is.gate ≡ was.gate
+
+  -- there was no memory to look at the base, and nothing was touched
+  pub record LacksWords (was is : Objects D G (List (N × C)) O) (result : Status) : Type 0 where
+    pub status_is : result ≡ status.Memory
+    pub untouched : is ≡ was
+
+  -- By what the words ask for, and the site of a base among them. Of a check of bytes it doesn't depend on how many workers made it.
+  abbrev pub Runs : Option Command → Option Site → Objects D G (List (N × C)) O → Objects D G (List (N × C)) O → Status → Type 0
+  Runs None site was is result = Misspells was is result
+  Runs (Some (Pipe namespace)) site was is result = HasPiped namespace was is result ⊎ Refuses kinds (Some namespace) was is result
+  Runs (Some (Import namespace)) site was is result = HasTakenIn namespace was is result ⊎ Refuses kinds (Some namespace) was is result
+  Runs (Some Check) site was is result = HasChecked was is result ⊎ Refuses kinds None was is result
+  Runs (Some (Follow namespace)) None was is result = Misspells was is result ⊎ LacksWords was is result
+  Runs (Some (Follow namespace)) (Some site) was is result =
+      HasReplicated namespace site was is result ⊎ Refuses kinds (Some namespace) was is result ⊎ LacksWords was is result
+  Runs (Some (Trial count seed)) site was is result = HasTried count seed was is result
+  Runs (Some (Verify workers)) site was is result = Verifies was is result ⊎ Refuses kinds None was is result

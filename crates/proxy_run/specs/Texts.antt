@@ -10,6 +10,10 @@ use Rattle.archive_shelf.specs.declared.fault.StoreFault.TheVariants as stores
 use Rattle.cdxj_line.specs.Lines.{six_digits}
 use Rattle.disk_model.specs.declared.kind.Kind.{Kind}
 use Rattle.disk_model.specs.declared.kind.Kind.TheVariants.{Warc, Cdxj}
+use Rattle.proxy_run.specs.declared.asking.SourceFault.TheVariants as sources
+use Rattle.proxy_run.specs.declared.following.Stop.{Stop}
+use Rattle.proxy_run.specs.declared.following.Stop.TheVariants.{Source, Piece}
+use Rattle.archive_pieces.specs.declared.fault.PieceFault.TheVariants as pieces
 use Rattle.uuid.specs.Text.{hyphenated_text, lower}
 use Rattle.warc_reader.specs.declared.import.Outcome.{Outcome}
 use Rattle.warc_reader.specs.declared.import.Outcome.TheVariants as outcome
@@ -60,6 +64,39 @@ IsFaultText (faults.OtherNamespace other) text = text ≡ other_text other
 IsFaultText faults.DiskFault text = text ≡ codes "disk fault\n"
 IsFaultText faults.Memory text = ⊥
 
+-- ---- an archive that takes no more
+
+-- how many captures it holds, and its limit
+unfoldable pub full_line : (count limit : ℕ) → List ℕ
+full_line count limit = codes "full " ++ decimal count ++ codes " " ++ decimal limit ++ (line_feed ∷ [])
+
+unfoldable pub damaged_capture : ℕ → List ℕ
+damaged_capture number = codes "damaged capture " ++ decimal number ++ (line_feed ∷ [])
+
+-- ---- a source that was followed
+
+-- a line of some words and a number
+unfoldable pub numbered : List ℕ → ℕ → List ℕ
+numbered words number = words ++ decimal number ++ (line_feed ∷ [])
+
+-- how many captures there are behind the source's last
+abbrev pub caught_up : ℕ → List ℕ
+caught_up count = numbered (codes "captures ") count
+
+-- Why no more pieces were taken. Of want of memory nothing is printed.
+abbrev pub IsStopText : Stop → List ℕ → Type 0
+IsStopText (Source number sources.DialFault) text = text ≡ codes "dial fault\n"
+IsStopText (Source number sources.OriginFault) text = text ≡ codes "origin fault\n"
+IsStopText (Source number sources.Malformed) text = text ≡ codes "source malformed\n"
+IsStopText (Source number sources.TooLong) text = text ≡ numbered (codes "piece too long ") number
+IsStopText (Source number (sources.Refused status)) text = text ≡ numbered (codes "source refused ") status
+IsStopText (Source number sources.Memory) text = ⊥
+IsStopText (Piece number (pieces.Full count limit)) text = text ≡ full_line count limit
+IsStopText (Piece number pieces.NotAPiece) text = text ≡ numbered (codes "piece refused ") number
+IsStopText (Piece number pieces.DiskFault) text = text ≡ codes "disk fault\n"
+IsStopText (Piece number (pieces.Damaged at kept found)) text = text ≡ damaged_capture at
+IsStopText (Piece number pieces.Memory) text = ⊥
+
 -- ---- an import
 
 -- an input that is longer than one may be
@@ -95,12 +132,6 @@ skips_in outcomes = flat_map skip_in outcomes
 -- how many captures were stored, and how many records skipped
 unfoldable pub summary_line : (stored skipped : ℕ) → List ℕ
 summary_line stored skipped = codes "imported " ++ decimal stored ++ codes " skipped " ++ decimal skipped ++ (line_feed ∷ [])
-
-unfoldable pub full_line : (count limit : ℕ) → List ℕ
-full_line count limit = codes "full " ++ decimal count ++ codes " " ++ decimal limit ++ (line_feed ∷ [])
-
-unfoldable pub damaged_capture : ℕ → List ℕ
-damaged_capture number = codes "damaged capture " ++ decimal number ++ (line_feed ∷ [])
 
 -- why a capture was refused, if one was. Of want of memory nothing is told.
 abbrev pub refusal_line : Option StoreFault → List ℕ

@@ -1,8 +1,9 @@
 -- What `verify` tells of an archive whose bytes are what was written.
-use Rattle.std.specs.Prelude.{◌≡◌, ◌⊎◌, ℕ, false, List, length, All, IsTrue, Some, None}
+use Rattle.std.specs.Prelude.{◌≡◌, ◌⊎◌, ℕ, false, List, length, All, IsTrue, Some, None, Option}
 use Rattle.archive_shelf.specs.Openings.{ImageStandsFor}
 use Rattle.archive_volumes.specs.Facts.{facts_of}
 use Rattle.capture.specs.declared.book.Book.{Book}
+use Rattle.capture.specs.declared.site.Site.{Site}
 use Rattle.disk_model.specs.Image.{Image}
 use Rattle.proxy_run.specs.Complete.{IsReady, NoFaults}
 use Rattle.proxy_run.specs.Objects.{Kinds, Objects}
@@ -22,4 +23,4 @@ SoundVolumesVerify =
 abbrev pub VerifiesAreAnswered : {D G L P N M C O : Type 0} → Kinds D G L P N M C O → Type 0
 VerifiesAreAnswered {D = D} {G = G} {N = N} {C = C} {O = O} kinds =
     (workers : ℕ) (was is : Objects D G (List (N × C)) O) (status : Status) → IsTrue kinds.disks.tells → IsReady None (kinds.disks.reading was.disk)
-    → NoFaults kinds was is → Runs kinds (Some (Verify workers)) was is status → (status ≡ Done) ⊎ (status ≡ Memory)
+    → NoFaults kinds was is → (site : Option Site) → Runs kinds (Some (Verify workers)) site was is status → (status ≡ Done) ⊎ (status ≡ Memory)

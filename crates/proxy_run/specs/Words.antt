@@ -5,7 +5,7 @@ use Rattle.std.specs.Str.{bytes_eq}
 use Rattle.std.specs.Str.Parse.{digits_value}
 use Rattle.uuid.specs.Text.{parsed, hyphenated_text, lower}
 use Rattle.proxy_run.specs.declared.words.Command.{Command}
-use Rattle.proxy_run.specs.declared.words.Command.TheVariants.{Check, Import, Pipe, Trial, Verify}
+use Rattle.proxy_run.specs.declared.words.Command.TheVariants.{Check, Follow, Import, Pipe, Trial, Verify}
 
 -- the texts of words
 abbrev pub texts : List (Bor (List ℕ)) → List (List ℕ)
@@ -45,14 +45,16 @@ command_of_two name second =
     else (if bytes_eq name (codes "import") then option_map (λ u. Import u) (namespace_of second)
     else (if bytes_eq name (codes "verify") then option_map (λ n. Verify n) (count_of 16 second) else None))
 
--- what three words ask for
-abbrev pub command_of_three : (name count seed : List ℕ) → Option Command
-command_of_three name count seed =
-    if bytes_eq name (codes "trial")
-    then option_and_then (λ n. option_map (λ s. Trial n s) (number_of (2 ^ 64 - 1) seed)) (count_of 20000 count)
-    else None
+-- what three words ask for; of `follow` the third one is looked at apart
+abbrev pub command_of_three : (name first second : List ℕ) → Option Command
+command_of_three name first second =
+    if bytes_eq name (codes "follow") then option_map (λ u. Follow u) (namespace_of first)
+    else (if bytes_eq name (codes "trial")
+    then option_and_then (λ n. option_map (λ s. Trial n s) (number_of (2 ^ 64 - 1) second)) (count_of 20000 first)
+    else None)
 
--- What the words ask for: `check` alone, `pipe` or `import` and a namespace, `verify` and a number of workers, or `trial`, a count and a number.
+-- What the words ask for: `check` alone, `pipe` or `import` and a namespace, `verify` and a number of workers, `trial`, a count and a number, or `follow`, a
+-- namespace and a base.
 abbrev pub command_of : List (List ℕ) → Option Command
 command_of [] = None
 command_of (name ∷ []) = command_of_one name
@@ -63,6 +65,7 @@ command_of (name ∷ count ∷ seed ∷ other ∷ words) = None
 -- the namespace in which a command opens the archive, if it names one
 abbrev pub asked_of : Command → Option (List ℕ)
 asked_of Check = None
+asked_of (Follow namespace) = Some namespace
 asked_of (Import namespace) = Some namespace
 asked_of (Pipe namespace) = Some namespace
 asked_of (Trial count seed) = None
@@ -71,6 +74,7 @@ asked_of (Verify workers) = None
 -- how many workers a command has, if it says so
 abbrev pub workers_of : Command → Option ℕ
 workers_of Check = None
+workers_of (Follow namespace) = None
 workers_of (Import namespace) = None
 workers_of (Pipe namespace) = None
 workers_of (Trial count seed) = None

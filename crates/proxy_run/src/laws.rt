@@ -1,9 +1,11 @@
 //! What runs promise to those who build on them.
-ghost use Rattle.proxy_run.specs.Complete.{CapturesComeBack, ChecksAreAnswered, ImportsAreAnswered, ImportsLeaveReady, PipesAreAnswered, PipesLeaveReady};
+ghost use Rattle.proxy_run.specs.Complete.{CapturesComeBack, ChecksAreAnswered, FollowsAreAnswered, FollowsLeaveReady, ImportsAreAnswered, ImportsLeaveReady, PipesAreAnswered, PipesLeaveReady};
+ghost use Rattle.proxy_run.specs.Fronts.{PiecesAreTaken, ReplicasAreFronts};
 ghost use Rattle.proxy_run.specs.Objects.{kinds_of};
 ghost use Rattle.proxy_run.specs.OnePipe.{PipesLeaveNoChoice};
 ghost use Rattle.proxy_run.specs.Verified.{SoundVolumesVerify, VerifiesAreAnswered};
 
+use archive_pieces::next_pieces_lead_on;
 use cdxj_index::books_have_one_index;
 use disk_model::Disk;
 use outside::{Clock, Dialer, Gate, Sink};
@@ -12,12 +14,14 @@ use warc_text::files_stand_for_one_book;
 
 /// Where no count of faults rises, over a disk that stands for a sound book in the namespace that is asked for, `check` prints how
 /// much there is, `pipe` goes well unless its client's link fails or ends inside a message, and `import` unless its input isn't a whole file of
-/// records or the archive gets full: or memory ran out. Each image that they may leave is ready for the next run, and each that
+/// records or the archive gets full, and `follow` unless its source isn't followed to its end: or memory ran out. Each image that they may leave is ready for the next run, and each that
 /// `pipe` may leave stands for a book that holds all captures of the last one in order, and one more at most.
 pub fn ready_archives_are_served<D: Disk, G: Gate, N: Dialer, C: Clock, O: Sink>()
     ensures checks { ChecksAreAnswered (kinds_of D.Disk G.Gate N.Dialer C.Clock O.Sink G.Link.tells N.Link.tells) }
     ensures pipes { PipesAreAnswered (kinds_of D.Disk G.Gate N.Dialer C.Clock O.Sink G.Link.tells N.Link.tells) }
     ensures imports { ImportsAreAnswered (kinds_of D.Disk G.Gate N.Dialer C.Clock O.Sink G.Link.tells N.Link.tells) }
+    ensures follows { FollowsAreAnswered (kinds_of D.Disk G.Gate N.Dialer C.Clock O.Sink G.Link.tells N.Link.tells) }
+    ensures follows_on { FollowsLeaveReady (kinds_of D.Disk G.Gate N.Dialer C.Clock O.Sink G.Link.tells N.Link.tells) }
     ensures goes_on { ImportsLeaveReady (kinds_of D.Disk G.Gate N.Dialer C.Clock O.Sink G.Link.tells N.Link.tells) }
     ensures again { PipesLeaveReady (kinds_of D.Disk G.Gate N.Dialer C.Clock O.Sink G.Link.tells N.Link.tells) }
     ensures back { CapturesComeBack (kinds_of D.Disk G.Gate N.Dialer C.Clock O.Sink G.Link.tells N.Link.tells) }
@@ -40,4 +44,13 @@ pub fn pipes_leave_no_choice<D: Disk, G: Gate, N: Dialer, C: Clock, O: Sink>()
 {
     courses_leave_no_choice();
     books_have_one_index();
+}
+
+/// A replica that was a front of its source's book is one of the source's last book after each piece that it took, wherever it was stopped, while that
+/// book grows; and what it gives of its book isn't refused as no piece. Of two that are stopped and started, each run is concluded from the one before.
+pub fn replicas_are_fronts<D: Disk>()
+    ensures fronts { ReplicasAreFronts D.Disk }
+    ensures taken { PiecesAreTaken D.Disk }
+{
+    next_pieces_lead_on();
 }

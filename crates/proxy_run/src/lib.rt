@@ -4,6 +4,7 @@
 mod asking;
 mod base;
 mod checking;
+mod following;
 mod importing;
 mod input;
 mod laws;
@@ -11,6 +12,7 @@ mod opening;
 mod piping;
 mod plan;
 mod printing;
+mod replicating;
 mod report;
 mod running;
 mod serving;
@@ -22,7 +24,7 @@ mod trying;
 mod verifying;
 mod words;
 
-pub use laws::{pipes_leave_no_choice, ready_archives_are_served, sound_archives_verify};
+pub use laws::{pipes_leave_no_choice, ready_archives_are_served, replicas_are_fronts, sound_archives_verify};
 pub use running::{CREW, Crew, Ran, run};
 pub use status::Status;
 pub use words::{is_import, is_pipe, site_of};

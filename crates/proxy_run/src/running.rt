@@ -1,5 +1,6 @@
 //! The call that the program makes.
 ghost use Rattle.std.specs.Prelude.{◌≡◌, length};
+ghost use Rattle.proxy_run.specs.Base.{site_among};
 ghost use Rattle.proxy_run.specs.Objects.{kinds_of, objects_of};
 ghost use Rattle.proxy_run.specs.Runs.{Runs};
 ghost use Rattle.proxy_run.specs.Words.{command_of, texts};
@@ -8,11 +9,13 @@ use crate::checking::check;
 use crate::importing::import;
 use crate::piping::pipe;
 use crate::printing::print_as;
+use crate::replicating::follow;
 use crate::status::Status;
 use crate::trying::trial;
 use crate::verifying::verify;
 use crate::words;
 use crate::words::Command;
+use capture::Memory;
 use disk_model::Disk;
 use outside::{Clock, Dialer, Gate, Sink};
 use std::alloc::Global;
@@ -70,7 +73,7 @@ where
     ensures { let kinds = kinds_of D.Disk G.Gate N.Dialer C.Clock O.Sink G.Link.tells N.Link.tells in
         let was = objects_of disk gate.old crew.old.members.items out.old in
         let is = objects_of result.disk gate.new crew.new.members.items out.new in
-        Runs kinds (command_of (texts words.now)) was is result.status }
+        Runs kinds (command_of (texts words.now)) (site_among (texts words.now)) was is result.status }
 {
     let Some(command) = words::command_of(words) else {
         return Ran {
@@ -80,6 +83,20 @@ where
     };
     match command {
         Command::Check => check(alloc, disk, out),
+        Command::Follow(_) => match words::site_of(alloc, words) {
+            Ok(Some(site)) => {
+                let first = &mut crew.members[0];
+                follow(alloc, command, &site, disk, first, out)
+            }
+            Ok(None) => Ran {
+                status: print_as(out, USAGE, Status::Words),
+                disk,
+            },
+            Err(Memory) => Ran {
+                status: Status::Memory,
+                disk,
+            },
+        },
         Command::Import(_) => import(alloc, command, disk, gate, out),
         Command::Pipe(_) => {
             let member = &mut crew.members[0];

@@ -117,7 +117,7 @@ fn put_refusal(out: &mut Vec<u8>, fault: &StoreFault) -> Result<(), Memory>
 
 /// Puts how many captures an archive holds that takes no more, and its limit.
 #[tactic(auto, unfolding(crate::specs::Texts::full_line))]
-fn put_full(out: &mut Vec<u8>, count: u32, limit: u32) -> Result<(), Memory>
+pub fn put_full(out: &mut Vec<u8>, count: u32, limit: u32) -> Result<(), Memory>
     ensures { OnOk result (out.new.items ≡ out.old.items ++ spec.full_line count limit) }
 {
     put_all(out, b"full ")?;
@@ -137,7 +137,7 @@ fn put_damaged(out: &mut Vec<u8>, number: u32) -> Result<(), Memory>
 
 /// Which capture of the archive is damaged.
 #[tactic(auto, unfolding(crate::specs::Texts::damaged_capture))]
-fn damaged_capture(alloc: Global, number: u32) -> Result<Vec<u8>, Memory>
+pub fn damaged_capture(alloc: Global, number: u32) -> Result<Vec<u8>, Memory>
     ensures { IfOk result (λ text. text.items ≡ spec.damaged_capture number) }
 {
     let mut text = Vec::new(alloc);

@@ -22,6 +22,8 @@ const WORKERS: u32 = 16;
 pub enum Command {
     /// Say how much the archive holds.
     Check,
+    /// Take the captures of a source into an archive of this namespace.
+    Follow(Uuid),
     /// Take the captures of a WARC file into an archive of this namespace.
     Import(Uuid),
     /// Serve one connection, with an archive of this namespace.
@@ -32,7 +34,7 @@ pub enum Command {
     Verify(u32),
 }
 
-/// What the words ask for, where they ask for something.
+/// What the words ask for, where they ask for something. Of `follow` the base isn't looked at.
 pub fn command_of(words: &[&str]) -> Option<Command>
     ensures value { result ≡ spec.command_of (texts words.now) }
     ensures uuid { IfSome result (λ command. IfSome (spec.asked_of command) IsUuid) }
@@ -87,16 +89,22 @@ fn command_of_two(name: &str, second: &str) -> Option<Command>
     }
 }
 
-fn command_of_three(name: &str, count: &str, seed: &str) -> Option<Command>
-    ensures value { result ≡ spec.command_of_three name.now count.now seed.now }
+fn command_of_three(name: &str, first: &str, second: &str) -> Option<Command>
+    ensures value { result ≡ spec.command_of_three name.now first.now second.now }
     ensures uuid { IfSome result (λ command. IfSome (spec.asked_of command) IsUuid) }
     ensures workers { IfSome result (λ command. IfSome (spec.workers_of command) (λ n. (0 < n) × (n ≤ 16))) }
 {
+    if name == "follow" {
+        return match namespace_of(first) {
+            Some(namespace) => Some(Command::Follow(namespace)),
+            None => None,
+        };
+    }
     if name != "trial" {
         return None;
     }
-    match count_of(count, EXCHANGES) {
-        Some(count) => match number_of(seed, u64::MAX) {
+    match count_of(first, EXCHANGES) {
+        Some(count) => match number_of(second, u64::MAX) {
             Some(seed) => Some(Command::Trial(count, seed)),
             None => None,
         },
@@ -110,6 +118,7 @@ pub fn asked_of(command: Command) -> Option<Uuid>
 {
     match command {
         Command::Check => None,
+        Command::Follow(namespace) => Some(namespace),
         Command::Import(namespace) => Some(namespace),
         Command::Pipe(namespace) => Some(namespace),
         Command::Trial(_, _) => None,
@@ -137,7 +146,7 @@ pub fn is_import(words: &[&str]) -> bool
     }
 }
 
-/// The site that a server has clients come to: that of the third word, where there is one and it is a base.
+/// The site of a server or a source: that of the third word, where there is one and it is a base.
 pub fn site_of(alloc: Global, words: &[&str]) -> Result<Option<Site>, Memory>
     ensures { IfOk result (λ site. site ≡ site_among (texts words.now)) }
 {

@@ -1,0 +1,108 @@
+-- What the command `follow` leaves.
+use Rattle.std.proofs.Common.{◌≡◌, ◌⊎◌, ℕ, Bool, IsTrue, List, [], ◌∷◌, length, Option, Err, refl, sym, subst, ◌∙◌, inl, inr, ⊎_elim, arith}
+use Rattle.archive_core.specs.Holdings.{Holdings, contents_of}
+use Rattle.archive_core.specs.Reopening.{IsReopened}
+use Rattle.archive_core.specs.Told.{told_of}
+use Rattle.archive_shelf.proofs.CallLaws.{no_more}
+use Rattle.archive_shelf.specs.Answers.{CountsIf}
+use Rattle.archive_shelf.specs.Openings.{Moves, SameBook, StaysCovered}
+use Rattle.archive_volumes.proofs.ChangeLaws.{DiskLaws, laws_muted, opens_now}
+use Rattle.archive_volumes.specs.Volumes.{OpensNear, crash_of, muted}
+use Rattle.capture.specs.Captures.{captures}
+use Rattle.capture.specs.declared.book.Book.{Book}
+use Rattle.capture.specs.declared.site.Site.{Site}
+use Rattle.disk_model.specs.declared.disk.Disk.{Ghosts as Disks}
+use Rattle.exchange.specs.declared.aim.Target.{Target}
+use Rattle.outside.specs.Records.{Links}
+use Rattle.outside.specs.declared.dialer.Dialer.{Ghosts as Dialers}
+use Rattle.outside.specs.declared.dialer.Transcript.{Transcript}
+use Rattle.outside.specs.declared.sink.Sink.{Ghosts as Sinks}
+use Rattle.proxy_run.proofs.ConnectionLaws.{ids_differ, only_one}
+use Rattle.proxy_run.proofs.FollowLaws.{at_last, ended_unasked}
+use Rattle.proxy_run.specs.Following.{IsOfRefused, IsOnWay, OpensBehind, Step, is_disk_stop}
+use Rattle.proxy_run.specs.Follows.{Follows, FollowsTo}
+use Rattle.proxy_run.specs.Opening.{IsOpened, usual_limits}
+use Rattle.proxy_run.specs.Sources.{source_of}
+use Rattle.proxy_run.specs.declared.asking.SourceFault.TheVariants as sources
+use Rattle.proxy_run.specs.declared.following.Stop.TheVariants.{Source}
+use Rattle.proxy_run.specs.declared.status.Status.{Status}
+use Rattle.proxy_run.specs.declared.status.Status.TheVariants as status
+use Rattle.warc_journal.specs.Journals.{disk_of}
+
+-- there was no memory to ask
+pub unasked : {D O : Type 0} (disks : Disks D) (sinks : Sinks O) (source : Target) (tells : Bool) (now : Holdings D) (links : Links Transcript) (faults : ℕ) (out : O)
+    → FollowsTo disks sinks source tells now now links links faults faults out out status.Memory
+unasked disks sinks source tells now links faults out = record {
+  result = Err (Source (length (captures now.book)) sources.Memory);
+  followed = ended_unasked disks source tells now links;
+  dialer_faults = refl;
+  told = inr (record { status_is = refl; same = refl });
+}
+
+behind_so : {D : Type 0} (steps : List (Step D)) (reached : Book) (Before Now : Book → Type 0) (x : Book) → (Before x → Now x)
+    → OpensBehind steps reached Before x → OpensBehind steps reached Now x
+behind_so [] reached Before Now x go o = go o
+behind_so (step ∷ steps) reached Before Now x go o = o
+
+covered_so : {D : Type 0} (disks : Disks D) (was is : D) (before after : Bool) → before ≡ disks.tells → after ≡ disks.tells
+    → StaysCovered (crash_of (muted before disks) was) (crash_of (muted after disks) is) → StaysCovered (crash_of disks was) (crash_of disks is)
+covered_so disks was is before after same_before same_after stays =
+    subst (λ (told : Bool). StaysCovered (crash_of disks was) (crash_of (muted told disks) is)) same_after
+    (subst (λ (told : Bool). StaysCovered (crash_of (muted told disks) was) (crash_of (muted after disks) is)) same_before stays)
+
+moves_so : {D : Type 0} (disks : Disks D) (was is : D) (before after : Bool) (Allowed : Book → Type 0) → before ≡ disks.tells → after ≡ disks.tells
+    → Moves (crash_of (muted before disks) was) (crash_of (muted after disks) is) Allowed → Moves (crash_of disks was) (crash_of disks is) Allowed
+moves_so disks was is before after Allowed same_before same_after moves =
+    subst (λ (told : Bool). Moves (crash_of disks was) (crash_of (muted told disks) is) Allowed) same_after
+    (subst (λ (told : Bool). Moves (crash_of (muted told disks) was) (crash_of (muted after disks) is) Allowed) same_before moves)
+
+follows_left : {D N M C O : Type 0} (disks : Disks D) (dialers : Dialers N M) (sinks : Sinks O) (tells : Bool) → (laws : DiskLaws disks) (asked : Option (List ℕ)) (site : Site)
+    (was : D) (member_was member_is : N × C) (out_was out_is : O) (status : Status) (held left : Holdings D) → IsReopened disks was asked usual_limits held
+    → IsOpened disks asked was (contents_of held) → (IsTrue left.told → OpensNear disks (disk_of left.journal) left.book)
+    → FollowsTo disks sinks (source_of site) tells held left (dialers.links member_was.0) (dialers.links member_is.0) (dialers.faults member_was.0)
+    (dialers.faults member_is.0) out_was out_is status
+    → member_is.1 ≡ member_was.1 → Follows disks dialers sinks tells asked site was (disk_of left.journal) member_was member_is out_was out_is status
+follows_left disks dialers sinks tells laws asked site was member_was member_is out_was out_is status held left reopened opened near follows clock =
+    let f = follows.followed in
+    let same = f.goes_on.same_told ∙ reopened.told_is in
+    let quiet = reopened.quiet in
+    record {
+      before = held;
+      after = left;
+      opened = opened;
+      follows = follows;
+      closed = refl;
+      near = λ told. near (same ∙ told);
+      covered = λ t le all. covered_so disks (disk_of held.journal) (disk_of left.journal) held.told left.told reopened.told_is same f.goes_on.covered t
+          (omega (arith, le, quiet.later)) (quiet.covered t le all);
+      disk_faults = subst (λ (n : ℕ). CountsIf (is_disk_stop follows.result) n (told_of disks left).faults) reopened.faults f.faults;
+      moves = λ ids last t x le o. ⊎_elim
+          (λ then. inl (no_more (quiet.moves t x le then)))
+          (λ on. inr on)
+          (moves_so disks (disk_of held.journal) (disk_of left.journal) held.told left.told
+          (λ y. IsOnWay f.steps y ⊎ IsOfRefused follows.result f.refused f.reached y) reopened.told_is same (f.moves ids last) t x
+          (omega (arith, le, quiet.later)) o);
+      left = λ told ids have last image x now stands. at_last disks (source_of site) tells follows.result f.refused f.reached left.book
+          (OpensBehind f.steps f.reached.book (λ b. (told_of disks held).crash.openings (told_of disks held).crash.moment b))
+          (OpensBehind f.steps f.reached.book (λ b. SameBook b held.book)) x
+          (λ behind. behind_so f.steps f.reached.book (λ b. (told_of disks held).crash.openings (told_of disks held).crash.moment b) (λ b. SameBook b held.book) x
+          (λ o. only_one (reopened.state (ids_differ held.book ids) x o)) behind)
+          (f.left have last x (opens_now (muted left.told disks) (laws_muted disks left.told laws) (disk_of left.journal) x image (same ∙ told) now stands));
+      same_clock = clock;
+    }
+
+-- the archive was opened, and closed behind its source
+pub follows_by : {D N M C O : Type 0} (disks : Disks D) (dialers : Dialers N M) (sinks : Sinks O) (tells : Bool) → (laws : DiskLaws disks) (asked : Option (List ℕ))
+    (site : Site) (was is : D) (member_was member_is : N × C) (out_was out_opened out_is : O) (status : Status) (held left : Holdings D)
+    → IsReopened disks was asked usual_limits held → IsOpened disks asked was (contents_of held) → is ≡ disk_of left.journal → out_opened ≡ out_was
+    → (IsTrue left.told → OpensNear disks is left.book)
+    → FollowsTo disks sinks (source_of site) tells held left (dialers.links member_was.0) (dialers.links member_is.0) (dialers.faults member_was.0)
+    (dialers.faults member_is.0) out_opened out_is status
+    → member_is.1 ≡ member_was.1 → Follows disks dialers sinks tells asked site was is member_was member_is out_was out_is status
+follows_by {D} {N} {M} {C} {O} disks dialers sinks tells laws asked site was is member_was member_is out_was out_opened out_is status held left reopened opened closed
+    silent near follows clock =
+    subst (λ (x : D). Follows disks dialers sinks tells asked site was x member_was member_is out_was out_is status) (sym closed)
+    (follows_left disks dialers sinks tells laws asked site was member_was member_is out_was out_is status held left reopened opened
+    (λ told. subst (λ (x : D). OpensNear disks x left.book) closed (near told))
+    (subst (λ (o : O). FollowsTo disks sinks (source_of site) tells held left (dialers.links member_was.0) (dialers.links member_is.0) (dialers.faults member_was.0)
+    (dialers.faults member_is.0) o out_is status) silent follows) clock)

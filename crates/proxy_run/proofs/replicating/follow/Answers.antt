@@ -1,0 +1,16 @@
+-- The archive was refused, or it followed its source.
+use Rattle.std.proofs.Common.{refl, inl}
+use Rattle.archive_volumes.proofs.ChangeLaws.{DiskLaws}
+use Rattle.proxy_run.proofs.FollowsLaws.{follows_by}
+use Rattle.proxy_run.proofs.replicating.follow.Given.{Over}
+use Rattle.proxy_run.proofs.replicating.follow.Goals as goal
+
+disk_laws : (g : Over) → DiskLaws g.D.Disk
+disk_laws g = record { earlier = g.met.D.Disk.earlier; now_counts = g.met.D.Disk.now_counts; now_only = g.met.D.Disk.now_only }
+
+pub returns : goal.returns
+returns g c =
+    inl (follows_by g.D.Disk g.N.Dialer g.O.Sink g.N.Link.Link.tells (disk_laws g) _ c.args.site.now c.args.disk c.close.result c.args.member.now _ c.args.out.now
+    c.open.new.out c.follow_site-status.new.out c.follow_site-status.result c.in-Ok.archive c.follow_site-status.new.archive
+    (rw c.asked_of.ensures at c.in-Ok.ensures.reopened) (rw c.asked_of.ensures at c.in-Ok.ensures.opened) c.close.ensures.disk c.in-Ok.ensures.prints_nothing
+    c.close.ensures.near c.follow_site-status.ensures refl)

@@ -1,0 +1,75 @@
+-- What the command `follow` leaves.
+use Rattle.std.specs.Prelude.{◌≡◌, ◌⊎◌, ℕ, Bool, List, length, IsTrue, Option, Result, Ok, Err, ⊤}
+use Rattle.archive_core.specs.Holdings.{Holdings, contents_of}
+use Rattle.archive_shelf.specs.Answers.{CountsIf}
+use Rattle.archive_shelf.specs.Openings.{HasIds, ImageStandsFor, Moves, SameBook, StaysCovered}
+use Rattle.archive_volumes.specs.Volumes.{OpensNear, crash_of}
+use Rattle.capture.specs.Captures.{captures}
+use Rattle.capture.specs.declared.book.Book.{Book}
+use Rattle.capture.specs.declared.site.Site.{Site}
+use Rattle.disk_model.specs.Image.{Image}
+use Rattle.disk_model.specs.declared.disk.Disk.{Ghosts as Disks}
+use Rattle.exchange.specs.declared.aim.Target.{Target}
+use Rattle.outside.specs.Records.{Links}
+use Rattle.outside.specs.declared.dialer.Dialer.{Ghosts as Dialers}
+use Rattle.outside.specs.declared.dialer.Transcript.{Transcript}
+use Rattle.outside.specs.declared.sink.Sink.{Ghosts as Sinks}
+use Rattle.proxy_run.specs.Following.{HasFollowed, HaveIds, IsOfRefused, IsOnWay, OpensAtLast, OpensBehind, is_disk_stop, is_outside_stop}
+use Rattle.proxy_run.specs.Opening.{IsOpened}
+use Rattle.proxy_run.specs.Printing.{LacksMemory, Prints}
+use Rattle.proxy_run.specs.Sources.{source_of}
+use Rattle.proxy_run.specs.Texts.{IsStopText, caught_up}
+use Rattle.proxy_run.specs.declared.following.Stop.{Stop}
+use Rattle.proxy_run.specs.declared.following.Stop.TheVariants.{Source, Piece}
+use Rattle.proxy_run.specs.declared.status.Status.{Status}
+use Rattle.proxy_run.specs.declared.status.Status.TheVariants.{Done, Archive, Outside}
+use Rattle.archive_pieces.specs.declared.fault.PieceFault.TheVariants as pieces
+use Rattle.warc_journal.specs.Journals.{disk_of}
+
+-- The source is at fault, also where its piece is none of the next capture; or the archive is, which is full, damaged or on a disk that failed.
+abbrev pub stop_status : Stop → Status
+stop_status (Source number fault) = Outside
+stop_status (Piece number (pieces.Full count limit)) = Archive
+stop_status (Piece number pieces.NotAPiece) = Outside
+stop_status (Piece number pieces.DiskFault) = Archive
+stop_status (Piece number (pieces.Damaged at kept found)) = Archive
+stop_status (Piece number pieces.Memory) = Archive
+
+-- How many captures there are was printed, or why no more were taken, with the status of that; or there was no memory.
+abbrev pub TellsStop : {O : Type 0} → Sinks O → Stop → O → O → Status → Type 0
+TellsStop sinks stop was is status =
+    ((text : List ℕ) × IsStopText stop text × Prints sinks (stop_status stop) text was is status) ⊎ LacksMemory sinks was is status
+
+abbrev pub TellsEnd : {O : Type 0} → Sinks O → ℕ → Result ⊤ Stop → O → O → Status → Type 0
+TellsEnd sinks count (Ok done) was is status = Prints sinks Done (caught_up count) was is status ⊎ LacksMemory sinks was is status
+TellsEnd sinks count (Err stop) was is status = TellsStop sinks stop was is status
+
+-- a source was followed by an archive, and how that ended was told
+pub record FollowsTo {D O : Type 0} (disks : Disks D) (sinks : Sinks O) (source : Target) (tells : Bool) (was is : Holdings D)
+    (links_was links_is : Links Transcript) (faults_was faults_is : ℕ) (out_was out_is : O) (status : Status) : Type 0 where
+  pub result : Result ⊤ Stop
+  pub followed : HasFollowed disks source tells was is links_was links_is result
+  pub dialer_faults : CountsIf (is_outside_stop result) faults_was faults_is
+  pub told : TellsEnd sinks (length (captures is.book)) result out_was out_is status
+
+-- The archive on a disk was opened, and followed the source at the site, by a member's dialer; its clock wasn't asked. Whatever a crash leaves since an earlier moment
+-- stands for a sound book where it did before; and what it may leave at last is the last book alone, but for what a refusal by the disk may leave.
+pub record Follows {D N M C O : Type 0} (disks : Disks D) (dialers : Dialers N M) (sinks : Sinks O) (tells : Bool) (asked : Option (List ℕ)) (site : Site)
+    (was is : D) (member_was member_is : N × C) (out_was out_is : O) (status : Status) : Type 0 where
+  pub before : Holdings D
+  pub after : Holdings D
+  pub opened : IsOpened disks asked was (contents_of before)
+  pub follows : FollowsTo disks sinks (source_of site) tells before after (dialers.links member_was.0) (dialers.links member_is.0)
+      (dialers.faults member_was.0) (dialers.faults member_is.0) out_was out_is status
+  pub closed : is ≡ disk_of after.journal
+  pub near : IsTrue disks.tells → OpensNear disks is after.book
+  pub covered : StaysCovered (crash_of disks was) (crash_of disks is)
+  pub disk_faults : CountsIf (is_disk_stop follows.result) (disks.faults was) (disks.faults is)
+  pub moves : HaveIds follows.followed.steps → HasIds follows.followed.reached.book
+      → Moves (crash_of disks was) (crash_of disks is)
+      (λ x. IsOnWay follows.followed.steps x ⊎ IsOfRefused follows.result follows.followed.refused follows.followed.reached x)
+  pub left : IsTrue disks.tells → HasIds before.book → HaveIds follows.followed.steps → HasIds follows.followed.reached.book
+      → (image : Image) (x : Book) → disks.images is image → ImageStandsFor image x
+      → OpensAtLast follows.result follows.followed.refused follows.followed.reached after.book
+      (OpensBehind follows.followed.steps follows.followed.reached.book (λ b. SameBook b before.book)) x
+  pub same_clock : member_is.1 ≡ member_was.1
