@@ -49,7 +49,18 @@ pub(crate) fn ends_of(alloc: Global, words: &[&str]) -> Result<Ends, Memory>
     if is_import(words) {
         return Ok(Ends::Streams);
     }
+    if !listens(words) {
+        return Ok(Ends::Network(None));
+    }
     Ok(Ends::Network(site_of(alloc, words)?))
+}
+
+/// Whether clients come in over the network. The site that `follow` names is its source's.
+fn listens(words: &[&str]) -> bool {
+    match words.first() {
+        Some(word) => *word == "serve",
+        None => false,
+    }
 }
 
 /// Where the words have the program print. Beside a client at the standard streams it was made to print on standard error; an import
