@@ -1,5 +1,7 @@
 mod CompleteLaws
 mod ConnectionLaws
+mod CrewLaws
+mod CrewSums
 mod FileNames
 mod FollowLaws
 mod FollowsLaws

@@ -1,6 +1,7 @@
 pub mod Base
 pub mod Checks
 pub mod Complete
+pub mod Crews
 pub mod Following
 pub mod Follows
 pub mod Fronts
@@ -14,6 +15,7 @@ pub mod Pipes
 pub mod Printing
 pub mod Runs
 pub mod Serving
+pub mod Shifts
 pub mod Sources
 pub mod steps
 pub mod Texts

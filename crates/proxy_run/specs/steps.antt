@@ -1,3 +1,4 @@
 pub mod Taking
 pub mod Importing
 pub mod Verifying
+pub mod Working

@@ -1,13 +1,17 @@
 //! The call that the program makes.
 #![tactic(auto)]
 
+mod accepting;
 mod asking;
 mod base;
 mod checking;
+mod crew;
 mod following;
+mod fresh;
 mod importing;
 mod input;
 mod laws;
+mod member;
 mod opening;
 mod piping;
 mod plan;
