@@ -1,6 +1,7 @@
 pub mod AcknowledgedLaws
 pub mod CountLaws
 pub mod FaultLaws
+pub mod HoldLaws
 pub mod ImageLaws
 pub mod LookLaws
 pub mod MoreLaws

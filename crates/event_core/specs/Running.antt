@@ -1,5 +1,6 @@
 -- What a run of events answers, and what it leaves on the disk.
 use Rattle.std.specs.Prelude.{◌≡◌, ◌⊎◌, ℕ, ◌-◌, ◌^◌, ◌<◌, ◌≤◌, List, [], ◌∷◌, length, take, drop, None}
+use Rattle.capture.specs.Captures.{captures}
 use Rattle.capture.specs.declared.book.Book.{Book}
 use Rattle.capture.specs.declared.limits.Limits.{Limits}
 use Rattle.disk_model.specs.Crash.{Leaves}
@@ -14,6 +15,7 @@ use Rattle.archive_shelf.specs.declared.fault.ReopenFault.{ReopenFault}
 use Rattle.archive_core.specs.Finished.{HasCheckpoint, HasNoOther}
 use Rattle.archive_opening.specs.Opening.{IsOutside}
 use Rattle.archive_core.specs.Settling.{HasWithout}
+use Rattle.event_core.specs.Acknowledged.{StandFrom, acknowledged}
 use Rattle.event_core.specs.Events.{Runs}
 use Rattle.event_core.specs.Faults.{reopen_faults}
 use Rattle.event_core.specs.Machine.{IsEither, IsLeftWithin, State, sealed}
@@ -107,3 +109,10 @@ abbrev pub NewDisksStart : Type 0
 NewDisksStart =
     (fails namespace : List ℕ) → IsUuid namespace
     → Starts (new_device fails) namespace (record { book = empty_book namespace; other = None; settled = 0 })
+
+-- However a run ends, the files that it leaves stand for a book that has each capture which a reply acknowledged, under its number and in
+-- order.
+abbrev pub DisksHoldWhatIsAcknowledged : Type 0
+DisksHoldWhatIsAcknowledged =
+    (limits : Limits) (start : State) (events : List Event) (ran : Ran) → IsRun limits start events ran
+    → HoldsOne (reading_of ran.disk) (λ book. StandFrom 0 (captures book) (acknowledged events ran.replies))

@@ -11,6 +11,8 @@ mod run;
 mod stopping;
 
 pub use event::Event;
-pub use laws::{acknowledged_captures_stay, new_disks_start, one_more_at_most};
+pub use laws::{
+    acknowledged_captures_stay, disks_hold_what_is_acknowledged, new_disks_start, one_more_at_most,
+};
 pub use reply::{EventFault, Reply};
 pub use run::{Ran, RanEnd, run_events};
