@@ -15,10 +15,13 @@ mod OnePipeLaws
 mod OpeningLaws
 mod PipeLaws
 mod RunLaws
+mod SeatLaws
+mod ServeLaws
 mod SoundVolumes
 mod TakeLaws
 mod TakingLaws
 mod TrialLaws
+mod VaultSeats
 mod VerifiedLaws
 mod VerifyLaws
 mod WordsLemmas

@@ -1,6 +1,5 @@
 -- What a run leaves, by what its words ask for.
-use Rattle.std.proofs.Common.{◌≡◌, ◌⊎◌, ℕ, ◌<◌, List, [], ◌∷◌, length, Option, Some, None, refl, sym, ap, subst, ◌∙◌, inl, inr, arith}
-use Rattle.std.specs.Prelude.{drop, get_or, set}
+use Rattle.std.proofs.Common.{◌≡◌, ◌⊎◌, ℕ, List, ◌∷◌, Option, Some, None, refl, sym, ap, subst, ◌∙◌, inl, inr}
 use Rattle.capture.specs.declared.site.Site.{Site}
 use Rattle.proxy_run.specs.Checks.{IsCounted}
 use Rattle.proxy_run.specs.Follows.{Follows}
@@ -10,6 +9,7 @@ use Rattle.proxy_run.specs.Opening.{IsNotOpened}
 use Rattle.proxy_run.specs.Pipes.{Pipes, Refuses}
 use Rattle.proxy_run.specs.Printing.{Prints}
 use Rattle.proxy_run.specs.Runs.{Runs}
+use Rattle.proxy_run.specs.Serves.{LacksShelves, Serves}
 use Rattle.proxy_run.specs.Texts.{usage}
 use Rattle.proxy_run.specs.Trials.{Tries}
 use Rattle.proxy_run.specs.Verifies.{IsVerified}
@@ -17,17 +17,7 @@ use Rattle.proxy_run.specs.Words.{asked_of}
 use Rattle.proxy_run.specs.declared.status.Status.{Status}
 use Rattle.proxy_run.specs.declared.status.Status.TheVariants.{Memory, Words}
 use Rattle.proxy_run.specs.declared.words.Command.{Command}
-use Rattle.proxy_run.specs.declared.words.Command.TheVariants.{Check, Follow, Import, Pipe, Trial, Verify}
-
--- ---- the first member
-
-pub first_is : {A : Type 0} (items : List A) (first any : A) → 0 < length items → first ≡ get_or items 0 any → items ≡ first ∷ drop 1 items
-first_is [] first any some same = absurd (omega (arith, some))
-first_is (item ∷ items) first any some same = ap (λ x. x ∷ items) (sym same)
-
-pub first_set : {A : Type 0} (items : List A) (item : A) → 0 < length items → set items 0 item ≡ item ∷ drop 1 items
-first_set [] item some = absurd (omega (arith, some))
-first_set (first ∷ items) item some = refl
+use Rattle.proxy_run.specs.declared.words.Command.TheVariants.{Check, Follow, Import, Pipe, Serve, Trial, Verify}
 
 module _ {D G L P N M C O : Type 0} (kinds : Kinds D G L P N M C O) (found : Option Command) (site : Option Site) where
   pub runs_none : (was : Objects D G (List (N × C)) O) (out : O) (status : Status) → found ≡ None → Prints kinds.sinks Words usage was.out out status
@@ -155,19 +145,54 @@ module _ {D G L P N M C O : Type 0} (kinds : Kinds D G L P N M C O) (found : Opt
       ⊎ (IsNotOpened kinds.disks kinds.sinks (asked_of c) was.disk is.disk was.out is.out status × (after ≡ before))) is_follow result)))
 
   -- the base is none
-  pub runs_no_base : (command : Command) (namespace : List ℕ) (was : Objects D G (List (N × C)) O) (out : O) (status : Status) → found ≡ Some command
+  pub follow_misspelt : (command : Command) (namespace : List ℕ) (was : Objects D G (List (N × C)) O) (out : O) (status : Status) → found ≡ Some command
       → command ≡ Follow namespace → None ≡ site → Prints kinds.sinks Words usage was.out out status → Runs kinds found site was (record was { out = out }) status
-  runs_no_base command namespace was out status is_command is_follow is_site printed =
+  follow_misspelt command namespace was out status is_command is_follow is_site printed =
       subst (λ (s : Option Site). Runs kinds found s was (record was { out = out }) status) is_site
       (subst (λ f. Runs kinds f None was (record was { out = out }) status) (sym (is_command ∙ ap (λ (c : Command). Some c) is_follow))
       (inl (record { printed = printed; untouched = refl })))
 
-  lacking : (namespace : List ℕ) (base : Option Site) (was : Objects D G (List (N × C)) O) → Runs kinds (Some (Follow namespace)) base was was Memory
-  lacking namespace None was = inr (record { status_is = refl; untouched = refl })
-  lacking namespace (Some base) was = inr (inr (record { status_is = refl; untouched = refl }))
+  follow_lacking : (namespace : List ℕ) (base : Option Site) (was : Objects D G (List (N × C)) O) → Runs kinds (Some (Follow namespace)) base was was Memory
+  follow_lacking namespace None was = inr (record { status_is = refl; untouched = refl })
+  follow_lacking namespace (Some base) was = inr (inr (record { status_is = refl; untouched = refl }))
 
   -- there was no memory to look at it
-  pub runs_lacking : (command : Command) (namespace : List ℕ) (was : Objects D G (List (N × C)) O) → found ≡ Some command → command ≡ Follow namespace
+  pub follow_lacks : (command : Command) (namespace : List ℕ) (was : Objects D G (List (N × C)) O) → found ≡ Some command → command ≡ Follow namespace
       → Runs kinds found site was was Memory
-  runs_lacking command namespace was is_command is_follow =
-      subst (λ f. Runs kinds f site was was Memory) (sym (is_command ∙ ap (λ (c : Command). Some c) is_follow)) (lacking namespace site was)
+  follow_lacks command namespace was is_command is_follow =
+      subst (λ f. Runs kinds f site was was Memory) (sym (is_command ∙ ap (λ (c : Command). Some c) is_follow)) (follow_lacking namespace site was)
+
+  served : (namespace : List ℕ) (workers : ℕ) (base : Site) (was is : Objects D G (List (N × C)) O) (status : Status)
+      → Serves kinds (Some namespace) base workers was is status ⊎ LacksShelves kinds (Some namespace) was is status ⊎ Refuses kinds (Some namespace) was is status
+      → Runs kinds (Some (Serve namespace workers)) (Some base) was is status
+  served namespace workers base was is status (inl serves) = inl serves
+  served namespace workers base was is status (inr (inl lacks)) = inr (inl lacks)
+  served namespace workers base was is status (inr (inr refuses)) = inr (inr (inl refuses))
+
+  pub runs_serve : (command : Command) (namespace : List ℕ) (workers : ℕ) (base : Site) (was is : Objects D G (List (N × C)) O) (status : Status) → found ≡ Some command
+      → command ≡ Serve namespace workers → Some base ≡ site
+      → Serves kinds (asked_of command) base workers was is status ⊎ LacksShelves kinds (asked_of command) was is status ⊎ Refuses kinds (asked_of command) was is status
+      → Runs kinds found site was is status
+  runs_serve command namespace workers base was is status is_command is_serve is_site result =
+      subst (λ (s : Option Site). Runs kinds found s was is status) is_site
+      (subst (λ f. Runs kinds f (Some base) was is status) (sym (is_command ∙ ap (λ (c : Command). Some c) is_serve))
+      (served namespace workers base was is status
+      (subst (λ c. Serves kinds (asked_of c) base workers was is status ⊎ LacksShelves kinds (asked_of c) was is status ⊎ Refuses kinds (asked_of c) was is status) is_serve result)))
+
+  -- the base is none
+  pub serve_misspelt : (command : Command) (namespace : List ℕ) (workers : ℕ) (was : Objects D G (List (N × C)) O) (out : O) (status : Status) → found ≡ Some command
+      → command ≡ Serve namespace workers → None ≡ site → Prints kinds.sinks Words usage was.out out status → Runs kinds found site was (record was { out = out }) status
+  serve_misspelt command namespace workers was out status is_command is_serve is_site printed =
+      subst (λ (s : Option Site). Runs kinds found s was (record was { out = out }) status) is_site
+      (subst (λ f. Runs kinds f None was (record was { out = out }) status) (sym (is_command ∙ ap (λ (c : Command). Some c) is_serve))
+      (inl (record { printed = printed; untouched = refl })))
+
+  serve_lacking : (namespace : List ℕ) (workers : ℕ) (base : Option Site) (was : Objects D G (List (N × C)) O) → Runs kinds (Some (Serve namespace workers)) base was was Memory
+  serve_lacking namespace workers None was = inr (record { status_is = refl; untouched = refl })
+  serve_lacking namespace workers (Some base) was = inr (inr (inr (record { status_is = refl; untouched = refl })))
+
+  -- there was no memory to look at it
+  pub serve_lacks : (command : Command) (namespace : List ℕ) (workers : ℕ) (was : Objects D G (List (N × C)) O) → found ≡ Some command → command ≡ Serve namespace workers
+      → Runs kinds found site was was Memory
+  serve_lacks command namespace workers was is_command is_serve =
+      subst (λ f. Runs kinds f site was was Memory) (sym (is_command ∙ ap (λ (c : Command). Some c) is_serve)) (serve_lacking namespace workers site was)

@@ -1,4 +1,4 @@
--- Lists of one word, of two, of three, and of other lengths, and what is read of a namespace and of a number.
+-- Lists of one word, of two, of three, of four, and of other lengths, and what is read of a namespace and of a number.
 use Rattle.std.proofs.Common.{◌≡◌, ℕ, ◌^◌, ◌<◌, ◌≤◌, Bool, true, false, ◌&&◌, nat_le, List, [], ◌∷◌, length, map, decimal, get_or, arith, refl, sym, ap, subst, ◌∙◌, Option, Some, None, Bor, if◌then◌else◌}
 use Rattle.std.proofs.lemmas.Bool.{leb-true, le-leb}
 use Rattle.std.proofs.lemmas.Fmt.{decimal_is_IsNumeral}
@@ -9,7 +9,7 @@ use Rattle.uuid.proofs.TextLemmas.{by_index_length}
 use Rattle.uuid.specs.Text.{hyphenated_text, lower, parsed}
 use Rattle.warc_scan.proofs.UuidParsing.{parsed_is_uuid}
 use Rattle.warc_text.specs.Ids.{IsUuid}
-use Rattle.proxy_run.specs.Words.{command_of, command_of_one, command_of_three, command_of_two, number_of}
+use Rattle.proxy_run.specs.Words.{command_of, command_of_four, command_of_one, command_of_three, command_of_two, number_of}
 
 pub command_of-one : (words : List (Bor (List ℕ))) (d : Bor (List ℕ)) → length words ≡ 1
     → command_of (map (λ word. word.now) words) ≡ command_of_one (get_or words 0 d).now
@@ -32,13 +32,23 @@ command_of-three (a ∷ b ∷ []) d e f h = absurd (omega arith)
 command_of-three (a ∷ b ∷ c ∷ []) d e f h = refl
 command_of-three (a ∷ b ∷ c ∷ x ∷ words) d e f h = absurd (omega arith)
 
-pub command_of-other : (words : List (Bor (List ℕ))) → (length words ≡ 1 → ⊥) → (length words ≡ 2 → ⊥) → (length words ≡ 3 → ⊥)
+pub command_of-four : (words : List (Bor (List ℕ))) (d e f : Bor (List ℕ)) → length words ≡ 4
+    → command_of (map (λ word. word.now) words) ≡ command_of_four (get_or words 0 d).now (get_or words 1 e).now (get_or words 3 f).now
+command_of-four [] d e f h = absurd (omega arith)
+command_of-four (a ∷ []) d e f h = absurd (omega arith)
+command_of-four (a ∷ b ∷ []) d e f h = absurd (omega arith)
+command_of-four (a ∷ b ∷ c ∷ []) d e f h = absurd (omega arith)
+command_of-four (a ∷ b ∷ c ∷ x ∷ []) d e f h = refl
+command_of-four (a ∷ b ∷ c ∷ x ∷ y ∷ words) d e f h = absurd (omega arith)
+
+pub command_of-other : (words : List (Bor (List ℕ))) → (length words ≡ 1 → ⊥) → (length words ≡ 2 → ⊥) → (length words ≡ 3 → ⊥) → (length words ≡ 4 → ⊥)
     → command_of (map (λ word. word.now) words) ≡ None
-command_of-other [] g h i = refl
-command_of-other (a ∷ []) g h i = absurd (g refl)
-command_of-other (a ∷ b ∷ []) g h i = absurd (h refl)
-command_of-other (a ∷ b ∷ c ∷ []) g h i = absurd (i refl)
-command_of-other (a ∷ b ∷ c ∷ x ∷ words) g h i = refl
+command_of-other [] g h i j = refl
+command_of-other (a ∷ []) g h i j = absurd (g refl)
+command_of-other (a ∷ b ∷ []) g h i j = absurd (h refl)
+command_of-other (a ∷ b ∷ c ∷ []) g h i j = absurd (i refl)
+command_of-other (a ∷ b ∷ c ∷ x ∷ []) g h i j = absurd (j refl)
+command_of-other (a ∷ b ∷ c ∷ x ∷ y ∷ words) g h i j = refl
 
 -- what no value is in is None
 pub None-unless : {A : Type 0} (o : Option A) → ((x : A) × (o ≡ Some x) → ⊥) → o ≡ None

@@ -13,7 +13,9 @@ pub mod OnePipe
 pub mod Opening
 pub mod Pipes
 pub mod Printing
+pub mod Promises
 pub mod Runs
+pub mod Serves
 pub mod Serving
 pub mod Shifts
 pub mod Sources

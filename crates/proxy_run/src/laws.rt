@@ -3,13 +3,14 @@ ghost use Rattle.proxy_run.specs.Complete.{CapturesComeBack, ChecksAreAnswered, 
 ghost use Rattle.proxy_run.specs.Fronts.{PiecesAreTaken, ReplicasAreFronts};
 ghost use Rattle.proxy_run.specs.Objects.{kinds_of};
 ghost use Rattle.proxy_run.specs.OnePipe.{PipesLeaveNoChoice};
+ghost use Rattle.proxy_run.specs.Promises.{AllAreHungUp, AllAreReadOut, BooksLeadOn, BooksOnlyGrow, CapturesAreStoredOnce, FaultsAreCounted, GatesAreEmptied, LogsAreInOrder};
 ghost use Rattle.proxy_run.specs.Verified.{SoundVolumesVerify, VerifiesAreAnswered};
 
 use archive_pieces::next_pieces_lead_on;
 use cdxj_index::books_have_one_index;
 use disk_model::Disk;
 use outside::{Clock, Dialer, Gate, Sink};
-use session::courses_leave_no_choice;
+use session::{courses_leave_no_choice, courses_only_grow};
 use warc_text::files_stand_for_one_book;
 
 /// Where no count of faults rises, over a disk that stands for a sound book in the namespace that is asked for, `check` prints how
@@ -53,4 +54,22 @@ pub fn replicas_are_fronts<D: Disk>()
     ensures taken { PiecesAreTaken D.Disk }
 {
     next_pieces_lead_on();
+}
+
+/// What a server of many clients promises: the book only grows, and its count is printed; all that the gate gave was hung up, and the gate
+/// was asked until it was closed; what the log gains stands in the members' order; each connection was read to its end or to the answer that
+/// closes, unless its link failed or memory ran out; each capture that a round stored stands in the book once, which has no other behind
+/// those that were there; what each connection begins with has grown into that book; and rounds met no more faults of the disk than it
+/// counted.
+pub fn servers_keep_their_promise<D: Disk, G: Gate, N: Dialer, C: Clock, O: Sink>()
+    ensures grow { BooksOnlyGrow (kinds_of D.Disk G.Gate N.Dialer C.Clock O.Sink G.Link.tells N.Link.tells) }
+    ensures hung_up { AllAreHungUp (kinds_of D.Disk G.Gate N.Dialer C.Clock O.Sink G.Link.tells N.Link.tells) }
+    ensures emptied { GatesAreEmptied (kinds_of D.Disk G.Gate N.Dialer C.Clock O.Sink G.Link.tells N.Link.tells) }
+    ensures in_order { LogsAreInOrder (kinds_of D.Disk G.Gate N.Dialer C.Clock O.Sink G.Link.tells N.Link.tells) }
+    ensures read_out { AllAreReadOut (kinds_of D.Disk G.Gate N.Dialer C.Clock O.Sink G.Link.tells N.Link.tells) }
+    ensures once { CapturesAreStoredOnce (kinds_of D.Disk G.Gate N.Dialer C.Clock O.Sink G.Link.tells N.Link.tells) }
+    ensures lead { BooksLeadOn (kinds_of D.Disk G.Gate N.Dialer C.Clock O.Sink G.Link.tells N.Link.tells) }
+    ensures faults { FaultsAreCounted (kinds_of D.Disk G.Gate N.Dialer C.Clock O.Sink G.Link.tells N.Link.tells) }
+{
+    courses_only_grow();
 }

@@ -5,6 +5,7 @@ mod accepting;
 mod asking;
 mod base;
 mod checking;
+mod counting;
 mod crew;
 mod following;
 mod fresh;
@@ -19,6 +20,8 @@ mod printing;
 mod replicating;
 mod report;
 mod running;
+mod seating;
+mod server;
 mod serving;
 mod status;
 mod taking;
@@ -28,7 +31,10 @@ mod trying;
 mod verifying;
 mod words;
 
-pub use laws::{pipes_leave_no_choice, ready_archives_are_served, replicas_are_fronts, sound_archives_verify};
+pub use laws::{
+    pipes_leave_no_choice, ready_archives_are_served, replicas_are_fronts,
+    servers_keep_their_promise, sound_archives_verify,
+};
 pub use running::{CREW, Crew, Ran, run};
 pub use status::Status;
 pub use words::{is_import, is_pipe, site_of};

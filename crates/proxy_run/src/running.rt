@@ -10,6 +10,7 @@ use crate::importing::import;
 use crate::piping::pipe;
 use crate::printing::print_as;
 use crate::replicating::follow;
+use crate::server::{Service, serve_many};
 use crate::status::Status;
 use crate::trying::trial;
 use crate::verifying::verify;
@@ -66,6 +67,7 @@ where
     G::Link: Send,
     G::Past: Send,
     N: Dialer + Send,
+    N::Link: Send,
     C: Clock + Send,
     O: Sink,
     requires { length crew.old.members.items ≡ CREW }
@@ -102,6 +104,24 @@ where
             let member = &mut crew.members[0];
             pipe(alloc, command, disk, gate, member, out)
         }
+        Command::Serve(_, workers) => match words::site_of(alloc, words) {
+            Ok(Some(site)) => {
+                let service = Service {
+                    command,
+                    site: &site,
+                    workers,
+                };
+                serve_many(rt, alloc, service, disk, gate, &mut crew.members, out)
+            }
+            Ok(None) => Ran {
+                status: print_as(out, USAGE, Status::Words),
+                disk,
+            },
+            Err(Memory) => Ran {
+                status: Status::Memory,
+                disk,
+            },
+        },
         Command::Trial(count, seed) => trial(alloc, count, seed, disk, out),
         Command::Verify(workers) => verify(rt, alloc, workers, disk, out),
     }

@@ -19,6 +19,18 @@ pub fn counts_text(alloc: Global, counts: &Counts) -> Result<Vec<u8>, Memory>
     Ok(text)
 }
 
+/// How many captures there are.
+#[tactic(auto, unfolding(crate::specs::Texts::captures_line))]
+pub fn captures_line(alloc: Global, count: u32) -> Result<Vec<u8>, Memory>
+    ensures { IfOk result (λ text. text.items ≡ spec.captures_line count) }
+{
+    let mut text = Vec::new(alloc);
+    put_all(&mut text, b"captures ")?;
+    put_number(&mut text, u64::from(count))?;
+    put_all(&mut text, b"\n")?;
+    Ok(text)
+}
+
 /// How much an archive holds, and how many captures were brought back.
 #[tactic(auto, unfolding(crate::specs::Texts::trial_text))]
 pub fn trial_text(

@@ -28,13 +28,15 @@ pub enum Command {
     Import(Uuid),
     /// Serve one connection, with an archive of this namespace.
     Pipe(Uuid),
+    /// Serve connections by so many workers, with an archive of this namespace.
+    Serve(Uuid, u32),
     /// Store so many exchanges of the load with this number.
     Trial(u32, u64),
     /// Check the bytes of the archive by so many workers.
     Verify(u32),
 }
 
-/// What the words ask for, where they ask for something. Of `follow` the base isn't looked at.
+/// What the words ask for, where they ask for something. The base of `follow` and of `serve` isn't looked at.
 pub fn command_of(words: &[&str]) -> Option<Command>
     ensures value { result ≡ spec.command_of (texts words.now) }
     ensures uuid { IfSome result (λ command. IfSome (spec.asked_of command) IsUuid) }
@@ -46,10 +48,13 @@ pub fn command_of(words: &[&str]) -> Option<Command>
     if words.len() == 2 {
         return command_of_two(words[0], words[1]);
     }
-    if words.len() != 3 {
+    if words.len() == 3 {
+        return command_of_three(words[0], words[1], words[2]);
+    }
+    if words.len() != 4 {
         return None;
     }
-    command_of_three(words[0], words[1], words[2])
+    command_of_four(words[0], words[1], words[3])
 }
 
 fn command_of_one(name: &str) -> Option<Command>
@@ -112,6 +117,23 @@ fn command_of_three(name: &str, first: &str, second: &str) -> Option<Command>
     }
 }
 
+fn command_of_four(name: &str, namespace: &str, workers: &str) -> Option<Command>
+    ensures value { result ≡ spec.command_of_four name.now namespace.now workers.now }
+    ensures uuid { IfSome result (λ command. IfSome (spec.asked_of command) IsUuid) }
+    ensures workers { IfSome result (λ command. IfSome (spec.workers_of command) (λ n. (0 < n) × (n ≤ 16))) }
+{
+    if name != "serve" {
+        return None;
+    }
+    match namespace_of(namespace) {
+        Some(namespace) => match count_of(workers, WORKERS) {
+            Some(workers) => Some(Command::Serve(namespace, workers)),
+            None => None,
+        },
+        None => None,
+    }
+}
+
 /// The namespace in which a command opens the archive, if it names one.
 pub fn asked_of(command: Command) -> Option<Uuid>
     ensures { result ≡ spec.asked_of command }
@@ -121,6 +143,7 @@ pub fn asked_of(command: Command) -> Option<Uuid>
         Command::Follow(namespace) => Some(namespace),
         Command::Import(namespace) => Some(namespace),
         Command::Pipe(namespace) => Some(namespace),
+        Command::Serve(namespace, _) => Some(namespace),
         Command::Trial(_, _) => None,
         Command::Verify(_) => None,
     }

@@ -1,9 +1,13 @@
 -- By what the words ask for.
-use Rattle.std.proofs.Common.{◌<◌, ◌≤◌, length, sym, subst, ◌∙◌, arith, refl}
+use Rattle.std.proofs.Common.{◌≡◌, ℕ, ◌<◌, ◌≤◌, List, length, refl, sym, subst, ◌∙◌, arith}
 use Rattle.std.specs.Prelude.{IfSome, drop, set}
 use Rattle.proxy_run.specs.Objects.{kinds_of, objects_of}
-use Rattle.proxy_run.specs.Words.{workers_of}
-use Rattle.proxy_run.proofs.RunLaws.{first_is, first_set, runs_check, runs_import, runs_none, runs_pipe, runs_trial, runs_verify, runs_follow, runs_lacking, runs_no_base}
+use Rattle.proxy_run.specs.Words.{asked_of, workers_of}
+use Rattle.warc_text.specs.Ids.{IsUuid}
+use Rattle.proxy_run.specs.declared.words.Command.{Command}
+use Rattle.proxy_run.specs.declared.words.Command.TheVariants.{Serve}
+use Rattle.proxy_run.proofs.CrewLaws.{first_is, first_set}
+use Rattle.proxy_run.proofs.RunLaws.{follow_lacks, follow_misspelt, runs_check, runs_follow, runs_import, runs_none, runs_pipe, runs_serve, runs_trial, runs_verify, serve_lacks, serve_misspelt}
 use Rattle.proxy_run.proofs.running.run.Goals as goal
 
 pub returns-in_default : goal.returns-in_default
@@ -56,6 +60,22 @@ returns-in-Verify g c =
     (objects_of c.args.disk c.args.gate.now c.args.crew.now.members.items c.args.out.now) c.verify.result.disk c.verify.new.out
     c.verify.result.status (sym c.command_of.ensures.value ∙ c.in-Some.is) c.in-Verify.is c.verify.ensures
 
+workers_within : (command : Command) (namespace : List ℕ) (workers : ℕ) → command ≡ Serve namespace workers
+    → IfSome (workers_of command) (λ n. (0 < n) × (n ≤ 16)) → (0 < workers) × (workers ≤ 16)
+workers_within command namespace workers is within = subst (λ c. IfSome (workers_of c) (λ n. (0 < n) × (n ≤ 16))) is within
+
+pub serve_many-requires-clause-uuid : goal.serve_many-requires-clause-uuid
+serve_many-requires-clause-uuid g c = λ κs outlives. subst (λ command. IfSome (asked_of command) IsUuid) c.in-Serve.is c.in-Some.ensures.uuid
+
+pub serve_many-requires-clause-some : goal.serve_many-requires-clause-some
+serve_many-requires-clause-some g c = λ κs outlives. (workers_within _ _ _ c.in-Serve.is c.in-Some.ensures.workers).0
+
+pub serve_many-requires-clause-few : goal.serve_many-requires-clause-few
+serve_many-requires-clause-few g c = λ κs outlives. (workers_within _ _ _ c.in-Serve.is c.in-Some.ensures.workers).1
+
+pub serve_many-requires-clause-enough : goal.serve_many-requires-clause-enough
+serve_many-requires-clause-enough g c = λ κs outlives. omega (arith, (workers_within _ _ _ c.in-Serve.is c.in-Some.ensures.workers).1, c.requires)
+
 pub follow-requires : goal.follow-requires
 follow-requires g c = record { uuid = c.in-Some.ensures.uuid }
 
@@ -72,12 +92,12 @@ returns-in-Ok-Some g c =
 
 pub returns-in-Ok-None : goal.returns-in-Ok-None
 returns-in-Ok-None g c =
-    runs_no_base (kinds_of g.D.Disk g.G.Gate g.N.Dialer g.C.Clock g.O.Sink g.G.Link.Link.tells g.N.Link.Link.tells) _ _ c.in-Some.command c.in-Follow.field-0
+    follow_misspelt (kinds_of g.D.Disk g.G.Gate g.N.Dialer g.C.Clock g.O.Sink g.G.Link.Link.tells g.N.Link.Link.tells) _ _ c.in-Some.command c.in-Follow.field-0
     (objects_of c.args.disk c.args.gate.now c.args.crew.now.members.items c.args.out.now) c.print_as-in-Ok-None.new.out c.print_as-in-Ok-None.result
     (sym c.command_of.ensures.value ∙ c.in-Some.is) c.in-Follow.is (rw c.in-Ok-None.field-0-is at c.in-Ok-None.ensures) c.print_as-in-Ok-None.ensures
 
 pub returns-in-Err : goal.returns-in-Err
 returns-in-Err g c =
-    runs_lacking (kinds_of g.D.Disk g.G.Gate g.N.Dialer g.C.Clock g.O.Sink g.G.Link.Link.tells g.N.Link.Link.tells) _ _ c.in-Some.command c.in-Follow.field-0
+    follow_lacks (kinds_of g.D.Disk g.G.Gate g.N.Dialer g.C.Clock g.O.Sink g.G.Link.Link.tells g.N.Link.Link.tells) _ _ c.in-Some.command c.in-Follow.field-0
     (objects_of c.args.disk c.args.gate.now c.args.crew.now.members.items c.args.out.now)
     (sym c.command_of.ensures.value ∙ c.in-Some.is) c.in-Follow.is

@@ -1,0 +1,338 @@
+-- What a server promises, from what it leaves.
+use Rattle.std.proofs.Common.{◌≡◌, ◌⊎◌, ℕ, suc, ◌+◌, ◌≤◌, Bool, true, false, IsTrue, IsPermutation, List, [], ◌∷◌, ◌++◌, drop, length, refl, sym, ap, ◌∙◌, subst, inl, inr, arith, append_assoc}
+use Rattle.std.specs.Prelude.{IfSome, slice_get}
+use Rattle.std.specs.List.{flat_map, range_with_len, sum_by}
+use Rattle.std.proofs.lemmas.List.Sums.{sum_by-cons}
+use Rattle.std.proofs.lemmas.List.{append-nil, length-append}
+use Rattle.archive_shelf.specs.Contents.{Contents}
+use Rattle.archive_shelf.specs.Told.{Told}
+use Rattle.capture.specs.Captures.{captures}
+use Rattle.capture.proofs.GrowthLaws.{growth_goes_on}
+use Rattle.capture.specs.Faults.{Rose, RoseBy}
+use Rattle.capture.specs.Growth.{Grows}
+use Rattle.capture.specs.declared.book.Book.{Book}
+use Rattle.capture.specs.declared.site.Site.{Site}
+use Rattle.link_queue.specs.Serving.{all_of}
+use Rattle.outside.specs.declared.clock.Clock.{Ghosts as Clocks}
+use Rattle.outside.specs.declared.dialer.Dialer.{Ghosts as Dialers}
+use Rattle.outside.specs.declared.gate.Heard.{Heard}
+use Rattle.outside.specs.declared.sink.Sink.{Ghosts as Sinks}
+use Rattle.proxy_run.specs.Crews.{IsEnd, all_hung_up}
+use Rattle.proxy_run.specs.Objects.{Kinds}
+use Rattle.proxy_run.specs.Printing.{LacksMemory, Prints}
+use Rattle.proxy_run.specs.Promises.{AllAreHungUp, AllAreReadOut, AreReadOut, BooksLeadOn, BooksOnlyGrow, CapturesAreStoredOnce, FaultsAreCounted, GatesAreEmptied, IsHeardOut, IsReadOut, LeadTo, LeadsTo, LogsAreInOrder, numbers_of, rounds_in, rounds_of}
+use Rattle.proxy_run.specs.Serves.{AreNewcomers, HasShare, Seat, all_faults, all_mine, told_by, worst}
+use Rattle.proxy_run.specs.Serving.{unheard}
+use Rattle.proxy_run.specs.Shifts.{AreShifts, Hand, IsShift, hand_of, hands_of}
+use Rattle.proxy_run.specs.Texts.{captures_line}
+use Rattle.proxy_run.specs.declared.status.Status.{Status}
+use Rattle.proxy_run.specs.declared.status.Status.TheVariants.{Done, Words, Archive, Outside, Memory}
+use Rattle.session.specs.Connection.{Setting}
+use Rattle.session.specs.Laws.{CoursesCountFaults, CoursesGrow}
+use Rattle.session.specs.Requests.{IsBetween}
+use Rattle.session.specs.Rounds.{Round, disk_faults, is_closed, lacks, numbers_by}
+use Rattle.session.specs.Stopping.{Course, Ends, IsClosed, IsLeftOver}
+use Rattle.session.specs.declared.served.Served.{Served}
+use Rattle.session.specs.declared.served.Served.TheVariants as end
+
+-- ---- the status
+
+worst_done : (said printed : Status) → worst said printed ≡ Done → printed ≡ Done
+worst_done Done printed done = done
+worst_done Words printed done = done
+worst_done Archive printed done = done
+worst_done Outside printed done = done
+worst_done Memory printed done = cc done
+
+worst_memory : (said printed status : Status) → status ≡ worst said printed → said ≡ Memory → status ≡ Memory
+worst_memory Done printed status is memory = cc memory
+worst_memory Words printed status is memory = cc memory
+worst_memory Archive printed status is memory = cc memory
+worst_memory Outside printed status is memory = cc memory
+worst_memory Memory printed status is memory = is
+
+all_printed : {O : Type 0} (sinks : Sinks O) (count : ℕ) (said printed : Status) (was is : O) → Prints sinks said (captures_line count) was is printed ⊎ LacksMemory sinks was is printed
+    → printed ≡ Done → IsTrue sinks.tells → sinks.written is ≡ sinks.written was ++ captures_line count
+all_printed sinks count said printed was is (inl (inl all)) done tells = all.written tells
+all_printed sinks count said printed was is (inl (inr broke)) done tells = cc (done, broke.status_is)
+all_printed sinks count said printed was is (inr lacks) done tells = cc (done, lacks.status_is)
+
+-- ---- shifts
+
+heard_out : (result : Served) (site : Site) (c : Course) (then now : Heard) → c.served ≡ 0 → Ends result site c then now → IsHeardOut now c.rounds
+heard_out end.Done site c then now first ends = met ends.3
+  where
+    met : IsClosed c then now ⊎ ((now.ended ≡ true) × IsBetween c.rest × IsLeftOver site c then now) → IsHeardOut now c.rounds
+    met (inl all) = inr (inl (subst (λ n. is_closed n c.rounds ≡ true) first all.closed))
+    met (inr left) = inl left.0
+heard_out end.ClientBroke site c then now first ends = inr (inr (inl ends.0))
+heard_out end.ClientEndedEarly site c then now first ends = inl ends.2
+heard_out (end.ClientRefused refusal) site c then now first ends = inr (inl (subst (λ n. is_closed n c.rounds ≡ true) first ends.3.closed))
+heard_out end.WantOfMemory site c then now first ends = inr (inr (inr ends.0))
+
+module _ {S : Type 0} (alone : Bool) (told : S → Told) (setting : Setting) where
+  read_out : (was : Hand S) (heards : List Heard) (is : Hand S) (shift : IsShift alone told setting was heards is) → IsReadOut alone told setting was heards is shift
+  read_out was [] is same = tt
+  read_out was (heard ∷ heards) is shift = (heard_out shift.1.served setting.site _ unheard heard refl shift.1.connection.ends, read_out shift.0 heards is shift.2)
+
+  are_read_out : (before : List (Hand S)) (heards : List (List Heard)) (after : List (Hand S)) (shifts : AreShifts alone told setting before heards after)
+      → AreReadOut alone told setting before heards after shifts
+  are_read_out [] [] [] shifts = tt
+  are_read_out (was ∷ before) (heards ∷ others) (is ∷ after) shifts = (read_out was heards is shifts.0, are_read_out before others after shifts.1)
+  are_read_out [] [] (is ∷ after) shifts = absurd shifts
+  are_read_out [] (heards ∷ others) [] shifts = absurd shifts
+  are_read_out [] (heards ∷ others) (is ∷ after) shifts = absurd shifts
+  are_read_out (was ∷ before) [] [] shifts = absurd shifts
+  are_read_out (was ∷ before) [] (is ∷ after) shifts = absurd shifts
+  are_read_out (was ∷ before) (heards ∷ others) [] shifts = absurd shifts
+
+  numbers_both : (first second : List Round) → numbers_of (first ++ second) ≡ numbers_of first ++ numbers_of second
+  numbers_both [] second = refl
+  numbers_both (r ∷ first) second =
+      ap (λ ns. numbers_by r.outcome r.traces.before ++ ns) (numbers_both first second) ∙ sym (append_assoc (numbers_by r.outcome r.traces.before) (numbers_of first) (numbers_of second))
+
+  -- what a member has stored
+  mine_on : (was : Hand S) (heards : List Heard) (is : Hand S) (shift : IsShift alone told setting was heards is)
+      → (told is.shelf).contents.mine ≡ (told was.shelf).contents.mine ++ numbers_of (rounds_in alone told setting was heards is shift)
+  mine_on was [] is same = ap (λ (h : Hand S). (told h.shelf).contents.mine) same ∙ sym (append-nil (told was.shelf).contents.mine)
+  mine_on was (heard ∷ heards) is shift =
+      let first = ap (λ (c : Contents). c.mine) shift.1.connection.gained.stored in
+      let rest = mine_on shift.0 heards is shift.2 in
+      rest ∙ (ap (λ ns. ns ++ numbers_of (rounds_in alone told setting shift.0 heards is shift.2)) first
+      ∙ (append_assoc (told was.shelf).contents.mine (numbers_of shift.1.connection.rounds) (numbers_of (rounds_in alone told setting shift.0 heards is shift.2))
+      ∙ ap (λ ns. (told was.shelf).contents.mine ++ ns) (sym (numbers_both shift.1.connection.rounds (rounds_in alone told setting shift.0 heards is shift.2)))))
+
+  -- nothing was stored: the shelf's number stands alone
+  abbrev pub HaveNone : List (Hand S) → Type 0
+  HaveNone [] = Unit {0}
+  HaveNone (hand ∷ hands) = ((n : ℕ) × ((told hand.shelf).contents.mine ≡ n ∷ [])) × HaveNone hands
+
+  -- what all have, who had stored nothing
+  all_mine_on : (before : List (Hand S)) (heards : List (List Heard)) (after : List (Hand S)) (shifts : AreShifts alone told setting before heards after)
+      → HaveNone before
+      → flat_map (λ h. drop 1 (told h.shelf).contents.mine) after ≡ flat_map numbers_of (rounds_of alone told setting before heards after shifts)
+  all_mine_on [] [] [] shifts none = refl
+  all_mine_on (was ∷ before) (heards ∷ others) (is ∷ after) shifts none =
+      let numbers = numbers_of (rounds_in alone told setting was heards is shifts.0) in
+      let own : drop 1 (told is.shelf).contents.mine ≡ numbers = ap (drop 1) (mine_on was heards is shifts.0 ∙ ap (λ ns. ns ++ numbers) none.0.1) in
+      λ i. own i ++ all_mine_on before others after shifts.1 none.1 i
+  all_mine_on [] [] (is ∷ after) shifts none = absurd shifts
+  all_mine_on [] (heards ∷ others) [] shifts none = absurd shifts
+  all_mine_on [] (heards ∷ others) (is ∷ after) shifts none = absurd shifts
+  all_mine_on (was ∷ before) [] [] shifts none = absurd shifts
+  all_mine_on (was ∷ before) [] (is ∷ after) shifts none = absurd shifts
+  all_mine_on (was ∷ before) (heards ∷ others) [] shifts none = absurd shifts
+
+  -- ---- books
+
+  -- what was seen of a shelf before a shift has grown into what is left
+  leads_to : CoursesGrow → (book : Book) (was : Hand S) (heards : List Heard) (is : Hand S) (shift : IsShift alone told setting was heards is)
+      → Grows (told is.shelf).contents.seen book → LeadsTo alone told setting book was heards is shift × Grows (told was.shelf).contents.seen book
+  leads_to grow book was [] is same lead = (lead, subst (λ (h : Hand S). Grows (told h.shelf).contents.seen book) same lead)
+  leads_to grow book was (heard ∷ heards) is shift lead =
+      let rest = leads_to grow book shift.0 heards is shift.2 lead in
+      let here = growth_goes_on (told was.shelf).contents.seen (told shift.0.shelf).contents.seen book (grow _ _ _ _ _ shift.1.connection.lawful) rest.1 in
+      ((here, rest.0), here)
+
+  abbrev pub AllGrow : Book → List (Hand S) → Type 0
+  AllGrow book [] = Unit {0}
+  AllGrow book (hand ∷ hands) = Grows (told hand.shelf).contents.seen book × AllGrow book hands
+
+  lead_to : CoursesGrow → (book : Book) (before : List (Hand S)) (heards : List (List Heard)) (after : List (Hand S)) (shifts : AreShifts alone told setting before heards after)
+      → AllGrow book after → LeadTo alone told setting book before heards after shifts
+  lead_to grow book [] [] [] shifts all = tt
+  lead_to grow book (was ∷ before) (heards ∷ others) (is ∷ after) shifts all =
+      ((leads_to grow book was heards is shifts.0 all.0).0, lead_to grow book before others after shifts.1 all.1)
+  lead_to grow book [] [] (is ∷ after) shifts all = absurd shifts
+  lead_to grow book [] (heards ∷ others) [] shifts all = absurd shifts
+  lead_to grow book [] (heards ∷ others) (is ∷ after) shifts all = absurd shifts
+  lead_to grow book (was ∷ before) [] [] shifts all = absurd shifts
+  lead_to grow book (was ∷ before) [] (is ∷ after) shifts all = absurd shifts
+  lead_to grow book (was ∷ before) (heards ∷ others) [] shifts all = absurd shifts
+
+  -- ---- faults
+
+  faults_both : (first second : List Round) → disk_faults (first ++ second) ≡ disk_faults first + disk_faults second
+  faults_both [] second = sym (omega arith)
+  faults_both (r ∷ first) second = let rest = faults_both first second in omega (arith, rest)
+
+  -- a shelf has counted those of its rounds
+  faults_on : CoursesCountFaults → (was : Hand S) (heards : List Heard) (is : Hand S) (shift : IsShift alone told setting was heards is)
+      → RoseBy (disk_faults (rounds_in alone told setting was heards is shift)) (told was.shelf).faults (told is.shelf).faults
+  faults_on counts was [] is same = omega (arith, ap (λ (h : Hand S). (told h.shelf).faults) same)
+  faults_on counts was (heard ∷ heards) is shift =
+      let one = (counts _ _ _ _ _ shift.1.connection.lawful).1.rose in
+      let rest = faults_on counts shift.0 heards is shift.2 in
+      omega (arith, one, rest, faults_both shift.1.connection.rounds (rounds_in alone told setting shift.0 heards is shift.2))
+
+  abbrev pub HaveNoFaults : List (Hand S) → Type 0
+  HaveNoFaults [] = Unit {0}
+  HaveNoFaults (hand ∷ hands) = ((told hand.shelf).faults ≡ 0) × HaveNoFaults hands
+
+  all_faults_on : CoursesCountFaults → (before : List (Hand S)) (heards : List (List Heard)) (after : List (Hand S)) (shifts : AreShifts alone told setting before heards after)
+      → HaveNoFaults before → RoseBy (sum_by disk_faults (rounds_of alone told setting before heards after shifts)) 0 (sum_by (λ h. (told h.shelf).faults) after)
+  all_faults_on counts [] [] [] shifts none = omega arith
+  all_faults_on counts (was ∷ before) (heards ∷ others) (is ∷ after) shifts none =
+      let one = faults_on counts was heards is shifts.0 in
+      let rest = all_faults_on counts before others after shifts.1 none.1 in
+      omega (
+        arith,
+        one,
+        rest,
+        none.0,
+        sum_by-cons disk_faults (rounds_in alone told setting was heards is shifts.0) (rounds_of alone told setting before others after shifts.1),
+        sum_by-cons (λ (h : Hand S). (told h.shelf).faults) is after,
+      )
+  all_faults_on counts [] [] (is ∷ after) shifts none = absurd shifts
+  all_faults_on counts [] (heards ∷ others) [] shifts none = absurd shifts
+  all_faults_on counts [] (heards ∷ others) (is ∷ after) shifts none = absurd shifts
+  all_faults_on counts (was ∷ before) [] [] shifts none = absurd shifts
+  all_faults_on counts (was ∷ before) [] (is ∷ after) shifts none = absurd shifts
+  all_faults_on counts (was ∷ before) (heards ∷ others) [] shifts none = absurd shifts
+
+  -- ---- how many
+
+  as_many_lists : (before : List (Hand S)) (heards : List (List Heard)) (after : List (Hand S)) → AreShifts alone told setting before heards after → length heards ≡ length before
+  as_many_lists [] [] [] shifts = refl
+  as_many_lists (was ∷ before) (heards ∷ others) (is ∷ after) shifts = ap (λ n. suc n) (as_many_lists before others after shifts.1)
+  as_many_lists [] [] (is ∷ after) shifts = absurd shifts
+  as_many_lists [] (heards ∷ others) [] shifts = absurd shifts
+  as_many_lists [] (heards ∷ others) (is ∷ after) shifts = absurd shifts
+  as_many_lists (was ∷ before) [] [] shifts = absurd shifts
+  as_many_lists (was ∷ before) [] (is ∷ after) shifts = absurd shifts
+  as_many_lists (was ∷ before) (heards ∷ others) [] shifts = absurd shifts
+
+-- ---- hands
+
+module _ {N M C : Type 0} (dialers : Dialers N M) (clocks : Clocks C) (setting : Setting) where
+  as_many_hands : (seats : List Seat) (crew : List (N × C)) → length seats ≤ length crew → length (hands_of dialers clocks seats crew) ≡ length seats
+  as_many_hands [] crew few = refl
+  as_many_hands (seat ∷ seats) [] few = absurd (omega (arith, few))
+  as_many_hands (seat ∷ seats) (member ∷ crew) few = ap (λ n. suc n) (as_many_hands seats crew (omega (arith, few)))
+
+  mine_of_hands : (seats : List Seat) (crew : List (N × C)) → length seats ≤ length crew
+      → flat_map (λ h. drop 1 (told_by h.shelf).contents.mine) (hands_of dialers clocks seats crew) ≡ all_mine seats
+  mine_of_hands [] crew few = refl
+  mine_of_hands (seat ∷ seats) [] few = absurd (omega (arith, few))
+  mine_of_hands (seat ∷ seats) (member ∷ crew) few = ap (λ ns. seat.contents.mine ++ ns) (mine_of_hands seats crew (omega (arith, few)))
+
+  none_stored : (now : Contents) → now.mine ≡ [] → (seats : List Seat) (crew : List (N × C)) → AreNewcomers now seats
+      → HaveNone false told_by setting (hands_of dialers clocks seats crew)
+  none_stored now none [] crew new = tt
+  none_stored now none (seat ∷ seats) [] new = tt
+  none_stored now none (seat ∷ seats) (member ∷ crew) new = (
+    (seat.number, ap (λ (c : Contents). seat.number ∷ c.mine) new.0.contents_are ∙ ap (λ (ns : List ℕ). seat.number ∷ ns) none),
+    none_stored now none seats crew new.1,
+  )
+
+  none_met : (now : Contents) (seats : List Seat) (crew : List (N × C)) → AreNewcomers now seats → HaveNoFaults false told_by setting (hands_of dialers clocks seats crew)
+  none_met now [] crew new = tt
+  none_met now (seat ∷ seats) [] new = tt
+  none_met now (seat ∷ seats) (member ∷ crew) new = (new.0.no_faults, none_met now seats crew new.1)
+
+  faults_of_hands : (seats : List Seat) (crew : List (N × C)) → length seats ≤ length crew
+      → sum_by (λ h. (told_by h.shelf).faults) (hands_of dialers clocks seats crew) ≡ all_faults seats
+  faults_of_hands [] crew few = refl
+  faults_of_hands (seat ∷ seats) [] few = absurd (omega (arith, few))
+  faults_of_hands (seat ∷ seats) (member ∷ crew) few =
+      let rest = faults_of_hands seats crew (omega (arith, few)) in
+      omega (
+        arith,
+        rest,
+        sum_by-cons (λ (h : Hand Seat). (told_by h.shelf).faults) (hand_of dialers clocks seat member) (hands_of dialers clocks seats crew),
+        sum_by-cons (λ (x : Seat). x.faults) seat seats,
+      )
+
+  hands_grow : (book : Book) (seats : List Seat) (crew : List (N × C)) → ((k : ℕ) → IfSome (slice_get seats k) (HasShare book))
+      → AllGrow false told_by setting book (hands_of dialers clocks seats crew)
+  hands_grow book [] crew each = tt
+  hands_grow book (seat ∷ seats) [] each = tt
+  hands_grow book (seat ∷ seats) (member ∷ crew) each = ((each 0).grows, hands_grow book seats crew (λ k. each (suc k)))
+
+-- ---- the sentences
+
+module _ {D G L P N M C O : Type 0} (kinds : Kinds D G L P N M C O) where
+  pub books_only_grow : BooksOnlyGrow kinds
+  books_only_grow asked site workers was is status s = (
+    s.shared.grows,
+    λ done tells.
+        all_printed kinds.sinks (length (captures s.book)) s.said s.told.printed was.out is.out s.told.prints
+        (worst_done s.said s.told.printed (sym s.told.status_is ∙ done)) tells,
+  )
+
+  pub all_are_hung_up : AllAreHungUp kinds
+  all_are_hung_up asked site workers was is status s clients origins =
+      let served = s.serves clients origins in
+      hung (all_of served.heards) served.logged
+    where
+      hung : (heards : List Heard) → kinds.gates.connections is.gate ≡ all_hung_up (kinds.gates.connections was.gate) heards
+          → ((kinds.gates.connections is.gate).gave + length (kinds.gates.connections was.gate).log ≡ (kinds.gates.connections was.gate).gave + length (kinds.gates.connections is.gate).log)
+          × ((kinds.gates.connections is.gate).out ≡ (kinds.gates.connections was.gate).out)
+      hung heards logged = (
+        omega (arith, ap (λ k. k.gave) logged, ap (λ k. length k.log) logged, length-append (kinds.gates.connections was.gate).log heards),
+        ap (λ k. k.out) logged,
+      )
+
+  emptied : (closed : Bool) (before now : ℕ) (said printed status : Status) → status ≡ worst said printed → IsEnd closed before now said
+      → (closed ≡ true) ⊎ Rose before now ⊎ (status ≡ Memory)
+  emptied closed before now Done printed status is ended = inl ended.0
+  emptied closed before now Words printed status is ended = absurd ended
+  emptied closed before now Archive printed status is ended = absurd ended
+  emptied closed before now Outside printed status is ended = inr (inl ended)
+  emptied closed before now Memory printed status is ended = inr (inr is)
+
+  pub gates_are_emptied : GatesAreEmptied kinds
+  gates_are_emptied asked site workers was is status s =
+      emptied (kinds.gates.closed is.gate) (kinds.gates.faults was.gate) (kinds.gates.faults is.gate) s.said s.told.printed status s.told.status_is s.ended
+
+  pub logs_are_in_order : LogsAreInOrder kinds
+  logs_are_in_order asked site workers was is status s clients origins few =
+      let served = s.serves clients origins in
+      let setting : Setting = record { site = site; clock_tells = kinds.clocks.tells } in
+      let start = s.starts in
+      let many = s.workers_are in (
+        (
+          served.heards,
+          as_many_lists false told_by setting (hands_of kinds.dialers kinds.clocks start was.crew) served.heards (hands_of kinds.dialers kinds.clocks s.seats is.crew) served.shifts
+              ∙ (as_many_hands kinds.dialers kinds.clocks setting start was.crew (omega (arith, few, many)) ∙ many),
+          ap (λ k. k.log) served.logged,
+        ),
+        s.others,
+      )
+
+  pub captures_are_stored_once : CapturesAreStoredOnce kinds
+  captures_are_stored_once asked site workers was is status s clients origins few room =
+      let served = s.serves clients origins in
+      let setting : Setting = record { site = site; clock_tells = kinds.clocks.tells } in
+      let before = hands_of kinds.dialers kinds.clocks s.starts was.crew in
+      let after = hands_of kinds.dialers kinds.clocks s.seats is.crew in
+      let numbers = flat_map numbers_of (rounds_of false told_by setting before served.heards after served.shifts) in
+      let same : numbers ≡ all_mine s.seats =
+      sym (all_mine_on false told_by setting before served.heards after served.shifts (none_stored kinds.dialers kinds.clocks setting s.before s.opened.none_stored s.starts was.crew s.new))
+      ∙ mine_of_hands kinds.dialers kinds.clocks setting s.seats is.crew (omega (arith, room, s.count)) in (
+        subst (λ ns. IsPermutation ns (range_with_len (length (captures s.before.seen)) (length ns))) (sym same) s.shared.once,
+        s.shared.count ∙ ap (λ ns. length (captures s.before.seen) + length ns) (sym same),
+      )
+
+  pub books_lead_on : CoursesGrow → BooksLeadOn kinds
+  books_lead_on grow asked site workers was is status s clients origins =
+      let served = s.serves clients origins in
+      let setting : Setting = record { site = site; clock_tells = kinds.clocks.tells } in
+      lead_to false told_by setting grow s.book (hands_of kinds.dialers kinds.clocks s.starts was.crew) served.heards
+      (hands_of kinds.dialers kinds.clocks s.seats is.crew) served.shifts (hands_grow kinds.dialers kinds.clocks setting s.book s.seats is.crew s.shared.each)
+
+  pub faults_are_counted : CoursesCountFaults → FaultsAreCounted kinds
+  faults_are_counted counts asked site workers was is status s clients origins room =
+      let served = s.serves clients origins in
+      let setting : Setting = record { site = site; clock_tells = kinds.clocks.tells } in
+      let before = hands_of kinds.dialers kinds.clocks s.starts was.crew in
+      let after = hands_of kinds.dialers kinds.clocks s.seats is.crew in
+      let met = all_faults_on false told_by setting counts before served.heards after served.shifts (none_met kinds.dialers kinds.clocks setting s.before s.starts was.crew s.new) in
+      omega (arith, met, faults_of_hands kinds.dialers kinds.clocks setting s.seats is.crew (omega (arith, room, s.count)), s.disk_faults)
+
+  pub all_are_read_out : AllAreReadOut kinds
+  all_are_read_out asked site workers was is status s clients origins =
+      let served = s.serves clients origins in
+      let setting : Setting = record { site = site; clock_tells = kinds.clocks.tells } in
+      are_read_out false told_by setting (hands_of kinds.dialers kinds.clocks s.starts was.crew) served.heards
+      (hands_of kinds.dialers kinds.clocks s.seats is.crew) served.shifts

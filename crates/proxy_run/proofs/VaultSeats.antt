@@ -1,0 +1,179 @@
+-- The passes of a vault, told as the seats of a crew.
+use Rattle.std.proofs.Common.{◌≡◌, ℕ, zero, suc, ◌+◌, ◌≤◌, Bool, false, IsTrue, List, [], ◌∷◌, ◌++◌, drop, length, get_or, map, Option, None, Some, refl, sym, ap, subst, ◌∙◌, arith}
+use Rattle.std.specs.Prelude.{IfSome, IsPermutation, slice_get}
+use Rattle.std.specs.List.{All, AllByRecursion, flat_map, range_with_len, sum_by}
+use Rattle.std.proofs.lemmas.List.{length-map}
+use Rattle.std.proofs.lemmas.List.Concat.{length-flat_map}
+use Rattle.std.proofs.lemmas.List.Elements.{All-from_recursion, recursion_from_All}
+use Rattle.std.proofs.lemmas.List.Sums.{sum_by-cons}
+use Rattle.archive_shelf.specs.Contents.{Contents}
+use Rattle.archive_volumes.specs.Volumes.{OpensNear}
+use Rattle.capture.specs.Captures.{captures}
+use Rattle.capture.specs.Faults.{RoseBy}
+use Rattle.capture.specs.declared.book.Book.{Book}
+use Rattle.capture.specs.declared.limits.Limits.{Limits}
+use Rattle.capture.specs.declared.site.Site.{Site}
+use Rattle.cdxj_index.specs.OfBook.{AreEntries}
+use Rattle.history_lock.specs.Known.{Known}
+use Rattle.vault.specs.Company.{Passing, contents_at, told_at}
+use Rattle.vault.specs.History.{told_book}
+use Rattle.vault.specs.Items.{shown_in}
+use Rattle.vault.specs.Members.{AreMembers, AreNewMembers, IsMember, IsMemberAt, IsNewMember, VaultName}
+use Rattle.vault.specs.Own.{own_captures, own_faults}
+use Rattle.vault.specs.Sharing.{HasItsOwn, IsLeftByAll, IsSharedOut as IsHistoryShared, all_stored}
+use Rattle.vault.specs.declared.noted.Noted.{Noted}
+use Rattle.vault.proofs.MemberLaws.{new_captures, new_faults}
+use Rattle.proxy_run.specs.Crews.{IsEnd, ServesAll}
+use Rattle.proxy_run.specs.Objects.{Kinds, Objects}
+use Rattle.proxy_run.specs.Opening.{IsOpened}
+use Rattle.proxy_run.specs.Serves.{AreNewcomers, HasShare, IsNewcomer, IsSharedOut, Seat, Serves, TellsCount, all_faults, all_mine, told_by}
+use Rattle.proxy_run.specs.Shifts.{hands_of}
+use Rattle.proxy_run.specs.declared.status.Status.{Status}
+use Rattle.proxy_run.specs.steps.Seating.{IsNameOf}
+use Rattle.proxy_run.proofs.SeatLaws.{serves_as}
+
+-- what is told of a pass
+abbrev pub seat_of : Passing → Seat
+seat_of pass = record {
+  number = pass.known.number;
+  contents = record (contents_at pass) { mine = own_captures pass.known.numbers pass.known.seen };
+  faults = own_faults pass.known.numbers pass.known.seen;
+}
+
+abbrev pub known_of : Passing → Known Noted
+known_of pass = pass.known
+
+abbrev pub number_of : Passing → ℕ
+number_of pass = pass.known.number
+
+-- ---- beginnings
+
+module _ (vault : VaultName) (now : Contents) (faults : ℕ) (name : IsNameOf vault now faults) (none : now.mine ≡ []) where
+  newcomer : (number : ℕ) (pass : Passing) → IsNewMember vault number pass → IsNewcomer now (seat_of pass)
+  newcomer number pass new =
+      let tells : (contents_at pass).tells ≡ now.tells = new.member.told ∙ name.tells in
+      let seen : (contents_at pass).seen ≡ now.seen = new.book_is ∙ name.book in
+      let mine : own_captures pass.known.numbers pass.known.seen ≡ now.mine = new_captures vault number pass new ∙ sym none in
+      let limits : (contents_at pass).limits ≡ now.limits = new.member.limits_are ∙ name.limits in
+      record {
+        contents_are = λ i. record { tells = tells i; seen = seen i; shown = shown_in pass.shown.items; mine = mine i; limits = limits i };
+        shows = λ told. subst (λ (b : Book). AreEntries b (shown_in pass.shown.items)) name.book (new.shows (name.tells ∙ told));
+        no_faults = new_faults vault number pass new;
+      }
+
+  pub newcomers : (place : ℕ → ℕ) (passes : List Passing) → ((k : ℕ) → IfSome (slice_get passes k) (IsNewMember vault (place k))) → AreNewcomers now (map seat_of passes)
+  newcomers place [] each = tt
+  newcomers place (pass ∷ passes) each = (newcomer (place 0) pass (each 0), newcomers (λ k. place (suc k)) passes (λ k. each (suc k)))
+
+-- ---- members
+
+member_if : (vault : VaultName) (number : ℕ) (pass : Option Passing) → IfSome pass (IsMemberAt vault number) → IfSome pass (λ p. IsMember vault p.known)
+member_if vault number None at_place = tt
+member_if vault number (Some p) at_place = at_place.member
+
+all_members : (vault : VaultName) (passes : List Passing) → ((k : ℕ) → IfSome (slice_get passes k) (λ p. IsMember vault p.known))
+    → AllByRecursion (λ (p : Passing). IsMember vault p.known) passes
+all_members vault [] each = tt
+all_members vault (pass ∷ passes) each = (each 0, all_members vault passes (λ k. each (suc k)))
+
+pub members_of : (vault : VaultName) (passes : List Passing) → AreMembers vault passes → All (λ (p : Passing). IsMember vault p.known) passes
+members_of vault passes are =
+    All-from_recursion (λ (p : Passing). IsMember vault p.known) passes
+    (all_members vault passes (λ k. member_if vault (k + 1) (slice_get passes k) (are.each k)))
+
+-- those who come back with the numbers that stood in their places are in theirs
+module _ (vault : VaultName) where
+  again_at : (place : ℕ → ℕ) (before after : List Passing) → ((k : ℕ) → IfSome (slice_get before k) (IsMemberAt vault (place k)))
+      → AllByRecursion (λ (p : Passing). IsMember vault p.known) after → map number_of after ≡ map number_of before
+      → (k : ℕ) → IfSome (slice_get after k) (IsMemberAt vault (place k))
+  again_at place before [] each all same k = tt
+  again_at place [] (now ∷ after) each all same k = absurd (omega (arith, ap (λ (ns : List ℕ). length ns) same))
+  again_at place (was ∷ before) (now ∷ after) each all same zero =
+      record { member = all.0; number_is = ap (λ (ns : List ℕ). get_or ns 0 0) same ∙ (each 0).number_is }
+  again_at place (was ∷ before) (now ∷ after) each all same (suc k) =
+      again_at (λ n. place (suc n)) before after (λ n. each (suc n)) all.1 (ap (λ (ns : List ℕ). drop 1 ns) same) k
+
+  pub members_again : (before after : List Passing) → AreMembers vault before → All (λ (p : Passing). IsMember vault p.known) after
+      → map number_of after ≡ map number_of before → AreMembers vault after
+  members_again before after are all same = record {
+    count = sym (length-map after number_of) ∙ (ap (λ (ns : List ℕ). length ns) same ∙ (length-map before number_of ∙ are.count));
+    each = again_at (λ k. k + 1) before after are.each (recursion_from_All (λ (p : Passing). IsMember vault p.known) after all) same;
+  }
+
+-- ---- what they share
+
+abbrev own_of : Known Noted → List ℕ
+own_of pass = own_captures pass.numbers pass.seen
+
+abbrev met_by : Known Noted → ℕ
+met_by pass = own_faults pass.numbers pass.seen
+
+mine_as : (passes : List Passing) → all_mine (map seat_of passes) ≡ flat_map own_of (map known_of passes)
+mine_as [] = refl
+mine_as (pass ∷ passes) = ap (λ ns. own_of pass.known ++ ns) (mine_as passes)
+
+faults_as : (passes : List Passing) → all_faults (map seat_of passes) ≡ sum_by met_by (map known_of passes)
+faults_as [] = refl
+faults_as (pass ∷ passes) =
+    sum_by-cons (λ (seat : Seat). seat.faults) (seat_of pass) (map seat_of passes)
+    ∙ (ap (λ n. met_by pass.known + n) (faults_as passes) ∙ sym (sum_by-cons met_by pass.known (map known_of passes)))
+
+shares : (history : List Noted) (passes : List Passing) → ((k : ℕ) → IfSome (slice_get (map known_of passes) k) (HasItsOwn history))
+    → (k : ℕ) → IfSome (slice_get (map seat_of passes) k) (HasShare (told_book history))
+shares history [] each k = tt
+shares history (pass ∷ passes) each zero = record { grows = (each 0).grown; rise = (each 0).rise }
+shares history (pass ∷ passes) each (suc k) = shares history passes (λ n. each (suc n)) k
+
+pub shared_out : (book : Book) (passes : List Passing) (history : List Noted) → IsHistoryShared book (map known_of passes) history
+    → IsSharedOut book (map seat_of passes) (told_book history)
+shared_out book passes history shared =
+    let mine = mine_as passes in
+    let many : length (all_mine (map seat_of passes)) ≡ all_stored (map known_of passes) =
+    ap (λ (ns : List ℕ). length ns) mine ∙ length-flat_map own_of (map known_of passes) in
+    record {
+      grows = shared.grown;
+      each = shares history passes shared.own;
+      once = subst (λ (z : List ℕ × ℕ). IsPermutation z.0 (range_with_len (length (captures book)) z.1)) (λ i. (sym mine i, sym many i)) shared.once;
+      count = shared.count ∙ ap (λ n. length (captures book) + n) (sym many);
+    }
+
+-- ---- what is left
+
+module _ {D G L P N M C O : Type 0} (kinds : Kinds D G L P N M C O) (asked : Option (List ℕ)) (site : Site) (was is : Objects D G (List (N × C)) O)
+    (vault : VaultName) (starts seats : List Passing) where
+  -- all that a crew serves over a vault of an archive that was opened
+  pub serves_over : (before : Contents) → IsOpened kinds.disks asked was.disk before → IsNameOf vault before (kinds.disks.faults was.disk)
+      → AreNewMembers vault starts → AreMembers vault seats → (said : Status)
+      → (IsTrue kinds.clients_tell → IsTrue kinds.origins_tell
+      → ServesAll false told_at (record { site = site; clock_tells = kinds.clocks.tells }) (kinds.gates.connections was.gate) (kinds.gates.connections is.gate)
+      (hands_of kinds.dialers kinds.clocks starts was.crew) (hands_of kinds.dialers kinds.clocks seats is.crew))
+      → IsEnd (kinds.gates.closed is.gate) (kinds.gates.faults was.gate) (kinds.gates.faults is.gate) said
+      → (book : Book) (limits : Limits) (told : Bool) → IsLeftByAll vault (map known_of seats) book limits told (kinds.disks.faults is.disk)
+      → (IsTrue told → OpensNear kinds.disks is.disk book)
+      → (status : Status) → TellsCount kinds.sinks (length (captures book)) said was.out is.out status
+      → drop vault.passes is.crew ≡ drop vault.passes was.crew → Serves kinds asked site vault.passes was is status
+  serves_over before opened name new back said serves ended book limits told left near status tells others = record {
+    before = before;
+    book = book;
+    starts = map seat_of starts;
+    seats = map seat_of seats;
+    said = said;
+    opened = opened;
+    new = newcomers vault before (kinds.disks.faults was.disk) name opened.none_stored (λ k. k + 1) starts new.each;
+    workers_are = length-map starts seat_of ∙ new.count;
+    count = length-map seats seat_of ∙ back.count;
+    serves = λ t u.
+        serves_as seat_of kinds.dialers kinds.clocks false told_at told_by (record { site = site; clock_tells = kinds.clocks.tells })
+        (λ w i heard this. record { served = this.served; connection = this.connection })
+        (kinds.gates.connections was.gate) (kinds.gates.connections is.gate) starts seats was.crew is.crew (serves t u);
+    ended = ended;
+    shared = subst (λ (z : Book × Book). IsSharedOut z.0 (map seat_of seats) z.1) (λ i. (name.book i, sym left.book_is i))
+        (shared_out vault.book seats left.history left.shared);
+    near = λ t. near (left.told_is ∙ (name.tells ∙ (opened.same_tells ∙ t)));
+    disk_faults =
+        let met = faults_as seats in
+        let counted = left.counted in
+        omega (arith, met, counted, name.met);
+    told = tells;
+    others = others;
+  }

@@ -1,0 +1,18 @@
+-- The sentences.
+use Rattle.proxy_run.specs.Objects.{kinds_of}
+use Rattle.proxy_run.proofs.ServeLaws.{all_are_hung_up, all_are_read_out, books_lead_on, books_only_grow, captures_are_stored_once, faults_are_counted, gates_are_emptied, logs_are_in_order}
+use Rattle.proxy_run.proofs.laws.servers_keep_their_promise.Goals as goal
+
+pub returns : goal.returns
+returns g c =
+    let kinds = kinds_of g.D.Disk g.G.Gate g.N.Dialer g.C.Clock g.O.Sink g.G.Link.Link.tells g.N.Link.Link.tells in
+    record {
+      grow = books_only_grow kinds;
+      hung_up = all_are_hung_up kinds;
+      emptied = gates_are_emptied kinds;
+      in_order = logs_are_in_order kinds;
+      read_out = all_are_read_out kinds;
+      once = captures_are_stored_once kinds;
+      lead = books_lead_on kinds c.courses_only_grow.ensures.grow;
+      faults = faults_are_counted kinds c.courses_only_grow.ensures.faults;
+    }

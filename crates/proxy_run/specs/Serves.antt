@@ -1,0 +1,116 @@
+-- What the command `serve` leaves.
+use Rattle.std.specs.Prelude.{◌≡◌, ◌⊎◌, ℕ, ◌+◌, List, [], ◌∷◌, false, drop, length, slice_get, IfSome, IsTrue, IsPermutation, Option}
+use Rattle.std.specs.List.{flat_map, range_with_len, sum_by}
+use Rattle.std.specs.List.Sorted.{IsStrictlyIncreasing}
+use Rattle.archive_shelf.specs.Contents.{Contents}
+use Rattle.archive_shelf.specs.Told.{Told}
+use Rattle.archive_volumes.specs.Volumes.{OpensNear}
+use Rattle.capture.specs.Captures.{captures}
+use Rattle.capture.specs.Faults.{RoseBy}
+use Rattle.capture.specs.Growth.{Grows}
+use Rattle.capture.specs.declared.book.Book.{Book}
+use Rattle.capture.specs.declared.site.Site.{Site}
+use Rattle.cdxj_index.specs.OfBook.{AreEntries}
+use Rattle.disk_model.specs.Image.{no_files}
+use Rattle.outside.specs.declared.sink.Sink.{Ghosts as Sinks}
+use Rattle.proxy_run.specs.Crews.{IsEnd, ServesAll}
+use Rattle.proxy_run.specs.Objects.{Kinds, Objects}
+use Rattle.proxy_run.specs.Opening.{IsOpened, IsUnchanged}
+use Rattle.proxy_run.specs.Printing.{LacksMemory, Prints}
+use Rattle.proxy_run.specs.Shifts.{hands_of}
+use Rattle.proxy_run.specs.Texts.{captures_line}
+use Rattle.proxy_run.specs.declared.status.Status.{Status}
+use Rattle.proxy_run.specs.declared.status.Status.TheVariants.{Done, Words, Archive, Outside, Memory}
+
+-- What is told of one of many shelves over an archive: its number among them, its contents, and how many faults of the disk it met itself.
+pub record Seat : Type 0 where
+  pub number : ℕ
+  pub contents : Contents
+  pub faults : ℕ
+
+-- In company neither reads nor what a crash may leave are told. Before the captures that a shelf stored its number is told: so who gets it
+-- back knows which one it is.
+abbrev pub told_by : Seat → Told
+told_by seat = record {
+  contents = record seat.contents { mine = seat.number ∷ seat.contents.mine };
+  faults = seat.faults;
+  reading = no_files;
+  crash = record { moment = 0; openings = λ t book. ⊥; covered = λ t. ⊥; checkpoints = λ files. ⊥ };
+}
+
+-- A shelf that has stored nothing and met no fault, over an archive of which this is told. Where the disk is told, what is shown of it are
+-- the entries of the book.
+pub record IsNewcomer (now : Contents) (seat : Seat) : Type 0 where
+  pub contents_are : seat.contents ≡ record now { shown = seat.contents.shown }
+  pub shows : IsTrue now.tells → AreEntries now.seen seat.contents.shown
+  pub no_faults : seat.faults ≡ 0
+
+-- so are all of these
+abbrev pub AreNewcomers : Contents → List Seat → Type 0
+AreNewcomers now [] = Unit {0}
+AreNewcomers now (seat ∷ seats) = IsNewcomer now seat × AreNewcomers now seats
+
+-- the numbers of the captures that they stored, shelf by shelf
+abbrev pub all_mine : List Seat → List ℕ
+all_mine seats = flat_map (λ seat. seat.contents.mine) seats
+
+-- how many faults they met
+abbrev pub all_faults : List Seat → ℕ
+all_faults seats = sum_by (λ seat. seat.faults) seats
+
+-- what a shelf has seen and stored, by the book that is left
+pub record HasShare (book : Book) (seat : Seat) : Type 0 where
+  pub grows : Grows seat.contents.seen book
+  pub rise : IsStrictlyIncreasing seat.contents.mine
+
+-- Between two books, these shelves stored just the captures behind those of the first one, each once.
+pub record IsSharedOut (before : Book) (seats : List Seat) (after : Book) : Type 0 where
+  pub grows : Grows before after
+  pub each : (k : ℕ) → IfSome (slice_get seats k) (HasShare after)
+  pub once : IsPermutation (all_mine seats) (range_with_len (length (captures before)) (length (all_mine seats)))
+  pub count : length (captures after) ≡ length (captures before) + length (all_mine seats)
+
+-- Memory goes before every other status.
+abbrev pub worst : (said printed : Status) → Status
+worst Done printed = printed
+worst Words printed = printed
+worst Archive printed = printed
+worst Outside printed = printed
+worst Memory printed = Memory
+
+-- How many captures there are was printed, or a front of that where the output failed, or there was no memory.
+pub record TellsCount {O : Type 0} (sinks : Sinks O) (count : ℕ) (said : Status) (was is : O) (status : Status) : Type 0 where
+  pub printed : Status
+  pub prints : Prints sinks said (captures_line count) was is printed ⊎ LacksMemory sinks was is printed
+  pub status_is : status ≡ worst said printed
+
+module _ {D G L P N M C O : Type 0} (kinds : Kinds D G L P N M C O) where
+  -- The archive was opened, and the gate's connections were served over it by so many members of the crew, of whom each had a shelf of its
+  -- own; the others stay. What of it hangs on the links is said where they tell their traffic.
+  pub record Serves (asked : Option (List ℕ)) (site : Site) (workers : ℕ) (was is : Objects D G (List (N × C)) O) (status : Status) : Type 0 where
+    pub before : Contents
+    pub book : Book
+    pub starts : List Seat
+    pub seats : List Seat
+    pub said : Status
+    pub opened : IsOpened kinds.disks asked was.disk before
+    pub new : AreNewcomers before starts
+    pub workers_are : length starts ≡ workers
+    pub count : length seats ≡ workers
+    pub serves : IsTrue kinds.clients_tell → IsTrue kinds.origins_tell
+        → ServesAll false told_by (record { site = site; clock_tells = kinds.clocks.tells }) (kinds.gates.connections was.gate) (kinds.gates.connections is.gate)
+        (hands_of kinds.dialers kinds.clocks starts was.crew) (hands_of kinds.dialers kinds.clocks seats is.crew)
+    pub ended : IsEnd (kinds.gates.closed is.gate) (kinds.gates.faults was.gate) (kinds.gates.faults is.gate) said
+    pub shared : IsSharedOut before.seen seats book
+    pub near : IsTrue kinds.disks.tells → OpensNear kinds.disks is.disk book
+    pub disk_faults : RoseBy (all_faults seats) (kinds.disks.faults was.disk) (kinds.disks.faults is.disk)
+    pub told : TellsCount kinds.sinks (length (captures book)) said was.out is.out status
+    pub others : drop workers is.crew ≡ drop workers was.crew
+
+  -- The archive was opened, but there was no memory for so many shelves: nothing else was touched.
+  pub record LacksShelves (asked : Option (List ℕ)) (was is : Objects D G (List (N × C)) O) (status : Status) : Type 0 where
+    pub before : Contents
+    pub opened : IsOpened kinds.disks asked was.disk before
+    pub unchanged : IsUnchanged kinds.disks was.disk is.disk
+    pub untouched : is ≡ record was { disk = is.disk }
+    pub status_is : status ≡ Memory
