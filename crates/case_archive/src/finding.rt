@@ -17,7 +17,7 @@ pub fn brought<S: Shelf>(alloc: Global, shelf: &mut S, number: u32) -> Result<Ve
     }
 }
 
-fn brought_text(alloc: Global, brought: &Brought) -> Result<Vec<u8>, Memory> {
+pub(crate) fn brought_text(alloc: Global, brought: &Brought) -> Result<Vec<u8>, Memory> {
     let mut out = Vec::new(alloc);
     put_brought(&mut out, brought)?;
     Ok(out)
@@ -84,7 +84,7 @@ fn nearest_to<F: Finder>(
     }
 }
 
-fn number_text(alloc: Global, number: u32) -> Result<String, Memory> {
+pub(crate) fn number_text(alloc: Global, number: u32) -> Result<String, Memory> {
     Ok(format!(in alloc; "{number}")?)
 }
 
@@ -122,7 +122,7 @@ fn beginning_with<F: Finder>(alloc: Global, finder: &mut F, key: &Key) -> Result
     numbers_of(alloc, entries.as_slice())
 }
 
-fn numbers_of(alloc: Global, entries: &[Entry]) -> Result<Vec<u8>, Memory> {
+pub(crate) fn numbers_of(alloc: Global, entries: &[Entry]) -> Result<Vec<u8>, Memory> {
     let mut out = Vec::new(alloc);
     put_numbers(&mut out, entries)?;
     Ok(out)

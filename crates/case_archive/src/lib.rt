@@ -4,6 +4,7 @@
 
 mod altered;
 mod asking;
+mod events;
 mod filling;
 mod finding;
 mod held;
@@ -11,9 +12,11 @@ mod looking;
 mod opening;
 mod pieces;
 mod play;
+mod replies;
 mod storing;
 mod taking;
 mod words;
 
 pub use altered::Change;
+pub use events::events_outcome_of;
 pub use play::{altered_outcome_of, outcome_of};

@@ -149,7 +149,7 @@ pub fn counts_text(alloc: Global, counts: Counts) -> Result<String, Memory> {
     Ok(format!(in alloc; "captures {captures} revisits {revisits} volumes {volumes}")?)
 }
 
-fn fault_text(alloc: Global, fault: ReopenFault) -> Result<String, Memory> {
+pub(crate) fn fault_text(alloc: Global, fault: ReopenFault) -> Result<String, Memory> {
     match fault {
         ReopenFault::Damaged {
             kind: _,

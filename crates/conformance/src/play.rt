@@ -161,6 +161,7 @@ fn outcome_of_one<R: Threads + Sync>(
         Played::Fetch(request) => fetched_for(alloc, setting, request.as_slice()),
         Played::Requests => requests_of(alloc, setting),
         Played::Archive => stored(alloc, setting, stop),
+        Played::Events => replied(alloc, setting, stop),
         Played::Altered(change) => stored_altered(alloc, setting, *change),
         Played::Opening(skip) => opened(alloc, setting, stop, *skip),
         Played::Files => worked(alloc, setting, stop),
@@ -176,7 +177,15 @@ fn stored(alloc: Global, setting: &Setting, stop: u32) -> Result<Option<Outcome>
     }
 }
 
-/// The same, where the disk gives another byte in one place.
+/// What the events reply over the case's disk.
+fn replied(alloc: Global, setting: &Setting, stop: u32) -> Result<Option<Outcome>, Memory> {
+    match disk_of(alloc, setting.disk())? {
+        Ok(disk) => case_archive::events_outcome_of(alloc, disk, setting.deeds.as_slice(), stop),
+        Err(Failed) => Ok(None),
+    }
+}
+
+/// What the steps tell where the disk gives another byte in one place.
 fn stored_altered(
     alloc: Global,
     setting: &Setting,

@@ -29,6 +29,8 @@ pub enum Played<'a> {
     Fetch(Vec<u8>),
     /// The steps of an archive.
     Archive,
+    /// A list of events over an archive.
+    Events,
     /// The steps of an archive over a disk that gives another byte in one place.
     Altered(Change),
     /// Calls of the disk.
@@ -213,6 +215,10 @@ impl<'a> Setting<'a> {
             }
             "archive" => {
                 self.played = Played::Archive;
+                Ok(true)
+            }
+            "events" => {
+                self.played = Played::Events;
                 Ok(true)
             }
             "disk" => {
