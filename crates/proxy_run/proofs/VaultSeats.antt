@@ -1,5 +1,5 @@
 -- The passes of a vault, told as the seats of a crew.
-use Rattle.std.proofs.Common.{◌≡◌, ℕ, zero, suc, ◌+◌, ◌≤◌, Bool, false, IsTrue, List, [], ◌∷◌, ◌++◌, drop, length, get_or, map, Option, None, Some, refl, sym, ap, subst, ◌∙◌, arith}
+use Rattle.std.proofs.Common.{◌≡◌, ℕ, zero, suc, ◌+◌, Bool, false, IsTrue, List, [], ◌∷◌, ◌++◌, drop, length, get_or, map, Option, None, Some, refl, sym, ap, subst, ◌∙◌, arith}
 use Rattle.std.specs.Prelude.{IfSome, IsPermutation, slice_get}
 use Rattle.std.specs.List.{All, AllByRecursion, flat_map, range_with_len, sum_by}
 use Rattle.std.proofs.lemmas.List.{length-map}
@@ -9,7 +9,6 @@ use Rattle.std.proofs.lemmas.List.Sums.{sum_by-cons}
 use Rattle.archive_shelf.specs.Contents.{Contents}
 use Rattle.archive_volumes.specs.Volumes.{OpensNear}
 use Rattle.capture.specs.Captures.{captures}
-use Rattle.capture.specs.Faults.{RoseBy}
 use Rattle.capture.specs.declared.book.Book.{Book}
 use Rattle.capture.specs.declared.limits.Limits.{Limits}
 use Rattle.capture.specs.declared.site.Site.{Site}

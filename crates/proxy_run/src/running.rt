@@ -29,7 +29,7 @@ pub const CREW: usize = 16;
 const USAGE: &[u8] =
     b"usage: memproxy pipe NS, serve NS BASE WORKERS, check, trial COUNT NUMBER, import NS, verify WORKERS, follow NS BASE\n";
 
-/// Dialers, each with a clock of its own. `pipe` uses the first.
+/// Dialers, each with a clock of its own. `pipe` uses the first, `serve` as many as it has workers.
 #[derive(Debug, Drop)]
 pub struct Crew<N, C> {
     pub members: Vec<(N, C)>,
@@ -44,7 +44,9 @@ pub struct Ran<D> {
 
 /// Does what the words say. `pipe NS` opens the archive on the disk, serves the gate's first connection over it with the first
 /// member's dialer and clock, and hangs it up; NS is the archive's namespace, a UUID in lower case with hyphens. What the client is
-/// given of an origin stands on the disk first. `import NS` opens the archive, reads the gate's first connection to its end, and stores
+/// given of an origin stands on the disk first. `serve NS BASE WORKERS` does so with the connections of many clients: so many members, 1 to
+/// 16, serve them side by side over one archive, at the site of that base, until the gate is closed; then it prints how many captures there
+/// are. `import NS` opens the archive, reads the gate's first connection to its end, and stores
 /// the captures of the WARC file that it gave. `check` opens the archive and prints how much it holds. `trial COUNT NUMBER`
 /// stores so many exchanges of the load with that number in memory, brings them back, and prints how much that is. `verify WORKERS`
 /// checks the bytes of the archive's volumes by so many workers, 1 to 16, and prints the verdicts. All other words print the usage.

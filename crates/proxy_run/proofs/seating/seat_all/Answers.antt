@@ -1,5 +1,5 @@
 -- The first pass that is left is a member, and so are the others.
-use Rattle.std.proofs.Common.{List, [], ◌∷◌, ◌++◌, ap, sym, ◌∙◌, append_assoc, arith, rules}
+use Rattle.std.proofs.Common.{List, [], ◌∷◌, ◌++◌, ap, sym, ◌∙◌, append_assoc, rules}
 use Rattle.std.specs.Vec.Iter.{into_iter_items}
 use Rattle.vault.specs.Company.{Passing}
 use Rattle.vault.specs.Members.{IsMember}

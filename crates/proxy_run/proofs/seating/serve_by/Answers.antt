@@ -2,7 +2,7 @@
 use denote.Ref.{NamedLft}
 use denote.Param.Send.{sendable}
 use Rattle.std.proofs.Crossing.{crosses}
-use Rattle.std.proofs.Common.{◌≡◌, ◌≤◌, ◌∙◌, ℕ, false, List, drop, length, map, vec_len, refl, sym, ap, subst, arith}
+use Rattle.std.proofs.Common.{◌≡◌, ◌≤◌, ◌∙◌, false, List, drop, length, map, vec_len, refl, sym, ap, subst, arith}
 use Rattle.std.specs.List.{All}
 use Rattle.vault.specs.Company.{Passing, told_at}
 use Rattle.vault.specs.Members.{IsMember}

@@ -1,5 +1,5 @@
 -- The archive was refused, or there was no memory for its shelves, or it was served over.
-use Rattle.std.proofs.Common.{◌≤◌, refl, sym, ap, subst, ◌∙◌, inl, inr, arith}
+use Rattle.std.proofs.Common.{refl, sym, ap, subst, ◌∙◌, inl, inr, arith}
 use Rattle.archive_core.specs.Holdings.{contents_of}
 use Rattle.warc_journal.specs.Journals.{disk_of}
 use Rattle.proxy_run.specs.Objects.{kinds_of, objects_of}

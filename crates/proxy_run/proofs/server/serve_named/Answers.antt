@@ -1,6 +1,5 @@
 -- What is told of the passes is told of the crew's seats.
 use Rattle.std.proofs.Common.{◌≡◌, drop, map, vec_len, sym, ap, subst, arith}
-use Rattle.warc_journal.specs.Journals.{disk_of}
 use Rattle.vault.specs.Sharing.{IsLeftByAll}
 use Rattle.proxy_run.specs.Objects.{kinds_of, objects_of}
 use Rattle.proxy_run.specs.Serves.{Serves, TellsCount}
