@@ -23,7 +23,8 @@ pub trait Folders {
     fn make_folder(&mut self, path: &str) -> io::Result<()>;
 
     /// Opens a folder and locks it. One that another process holds is refused with `WouldBlock`, one that isn't there with
-    /// `NotFound`. That no sync in it has failed since the machine was started is trusted, where the folder tells its past.
+    /// `NotFound`. Where the folder tells its past, two things of it are trusted: that no sync in it has failed since the machine
+    /// was started, and that no file was removed or renamed there since, which a crash might undo until the folder is synced.
     fn hold(&mut self, path: &str, lock: Lock) -> io::Result<Self::Folder>
         ensures { IsTrue Self.Folder.tells → IfOk result (λ folder. IsUnfailed (Self.Folder.past folder)) };
 

@@ -1,0 +1,12 @@
+-- What a crash may leave follows from what it might have left.
+use Rattle.std.proofs.Common.{subst}
+use Rattle.disk_model.specs.Crash.{Stepped, MayCreate}
+use Rattle.disk_model.specs.Image.{file_count}
+use Rattle.folder_disk.specs.Kept.{Kept, state_in}
+use Rattle.folder_disk.specs.State.{images, reading}
+use Rattle.folder_disk.proofs.folder_disk.FolderDiskDisk.create.Goals as goal
+
+pub returns-clause-crash : goal.returns-clause-crash
+returns-clause-crash g c = λ image left.
+    subst (λ (d : Kept g.row.F.Denot). Stepped (MayCreate c.args.kind (file_count (reading g.N.FileNames.name (state_in g.F.Folder.past d)) c.args.kind)) (images g.F.Folder.tells g.N.FileNames.name (state_in g.F.Folder.past d)) image) c.self.view_is
+    (c.create-answer.ensures.crash image left)

@@ -1,0 +1,9 @@
+-- What a crash may leave is what it might have left.
+use Rattle.std.proofs.Common.{subst}
+use Rattle.folder_disk.specs.Kept.{Kept, state_in}
+use Rattle.folder_disk.specs.State.{images}
+use Rattle.folder_disk.proofs.folder_disk.FolderDiskDisk.read.Goals as goal
+
+pub returns-clause-crash : goal.returns-clause-crash
+returns-clause-crash g c = λ image left.
+    subst (λ (d : Kept g.row.F.Denot). images g.F.Folder.tells g.N.FileNames.name (state_in g.F.Folder.past d) image) c.self.view_is (c.read-answer.ensures.looks.crash image left)

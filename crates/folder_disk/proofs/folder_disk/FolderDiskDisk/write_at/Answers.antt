@@ -1,0 +1,11 @@
+-- What a crash may leave follows from what it might have left.
+use Rattle.std.proofs.Common.{length, subst}
+use Rattle.disk_model.specs.Crash.{Stepped, Torn, OnFile}
+use Rattle.folder_disk.specs.Kept.{Kept, state_in}
+use Rattle.folder_disk.specs.State.{images}
+use Rattle.folder_disk.proofs.folder_disk.FolderDiskDisk.write_at.Goals as goal
+
+pub returns-clause-crash : goal.returns-clause-crash
+returns-clause-crash g c = λ image left.
+    subst (λ (d : Kept g.row.F.Denot). Stepped (OnFile c.args.kind c.args.file (Torn c.args.at (length c.args.bytes.now))) (images g.F.Folder.tells g.N.FileNames.name (state_in g.F.Folder.past d)) image) c.self.view_is
+    (c.write_at-answer.ensures.crash image left)

@@ -1,0 +1,58 @@
+-- A disk over a folder as contracts see it.
+use Rattle.std.specs.Prelude.{◌≡◌, ◌⊎◌, ◌+◌, ℕ, Bool, true, IsTrue, List}
+use Rattle.disk_model.specs.Image.{Image, file_count}
+use Rattle.disk_model.specs.declared.kind.Kind.{Kind}
+use Rattle.disk_model.specs.declared.kind.Kind.TheVariants.{Warc, Cdxj}
+use Rattle.folder_model.specs.Folder.{FolderPast, contents_of, IsUnfailed}
+use Rattle.folder_model.specs.Seen.{IsSeen, images_of}
+use Rattle.folder_model.specs.Times.{Times, goes_on, images_since_of}
+use Rattle.folder_model.specs.Known.{Knows, reading_of}
+
+-- what was done in the folder, how many files of each kind the disk knows of, whether it has given up, and its clock
+pub record State : Type 0 where
+  pub past : FolderPast
+  pub warc : ℕ
+  pub cdxj : ℕ
+  pub gave_up : Bool
+  pub times : Times
+
+-- how many files of a kind are known
+abbrev pub known_of : ℕ → ℕ → Kind → ℕ
+known_of warc cdxj Warc = warc
+known_of warc cdxj Cdxj = cdxj
+
+-- what a read gives
+unfoldable pub reading : (Kind → ℕ → List ℕ) → State → Image
+reading name s = reading_of name s.past (known_of s.warc s.cdxj)
+
+-- what the disk knows is so
+abbrev pub IsKnown : (Kind → ℕ → List ℕ) → State → Type 0
+IsKnown name s = Knows name s.past (known_of s.warc s.cdxj) s.gave_up s.times (reading name s)
+
+-- the images that a crash now may leave, where the folder tells: what a read gives, and those of the folder
+abbrev pub images : Bool → (Kind → ℕ → List ℕ) → State → Image → Type 0
+images tells name s image = IsTrue tells × ((image ≡ reading name s) ⊎ (IsKnown name s × images_of name s.past image))
+
+-- the images that a crash since a moment might have left
+abbrev pub images_since : Bool → (Kind → ℕ → List ℕ) → State → ℕ → Image → Type 0
+images_since tells name s t image = IsTrue tells × ((image ≡ reading name s) ⊎ (IsKnown name s × images_since_of name s.past s.times t image))
+
+-- the state after deeds that end one call
+abbrev pub next : State → FolderPast → State
+next s past = record s { past = past; times = goes_on s.times past }
+
+-- with one file more of a kind
+abbrev pub grown : Kind → State → State
+grown Warc s = record s { warc = s.warc + 1 }
+grown Cdxj s = record s { cdxj = s.cdxj + 1 }
+
+-- where the disk gives up
+abbrev pub given_up : State → State
+given_up s = record s { gave_up = true }
+
+-- The folder has so many files of each kind, without a gap, and no sync in it has failed since the machine was started.
+pub record IsCounted (name : Kind → ℕ → List ℕ) (past : FolderPast) (warc cdxj : ℕ) : Type 0 where
+  pub unfailed : IsUnfailed past
+  pub image : Image
+  pub seen : IsSeen name (contents_of past) image
+  pub counts : (kind : Kind) → file_count image kind ≡ known_of warc cdxj kind

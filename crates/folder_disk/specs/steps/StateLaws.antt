@@ -1,0 +1,484 @@
+-- Laws of a disk over a folder.
+use Rattle.std.proofs.Common.{◌≡◌, ◌≢◌, ◌<◌, ◌≤◌, ◌^◌, ◌+◌, ℕ, Bool, true, false, IsTrue, List, [], length, take, refl, sym, ap, ◌∙◌, subst, inl, inr, ⊎_elim, true≢false, arith}
+use Rattle.std.specs.Prelude.{Result, Ok, Err, OnOk, OnErr, IsErr, ⊤}
+use Rattle.disk_model.specs.Crash.{Torn, Cut, OnFile, MayCreate, HasFile, Within, Follows, Stepped, Leaves, Elapses}
+use Rattle.disk_model.specs.Image.{Image, file_count, file_of, with_file, with_new}
+use Rattle.disk_model.specs.steps.CrashLaws.{torn_none, cut_none, on_file_none}
+use Rattle.disk_model.specs.declared.kind.Kind.{Kind}
+use Rattle.disk_model.specs.declared.kind.Kind.TheVariants.{Warc, Cdxj}
+use Rattle.folder_model.specs.File.{Synced, Shortened}
+use Rattle.std.specs.Prelude.{Option}
+use Rattle.std.specs.Option.{unwrap_or}
+use Rattle.folder_model.specs.Folder.{FolderPast, SyncedFolder, SyncedAround, did, did_to, bytes_of}
+use Rattle.folder_model.specs.Seen.{NamesApart, images_of}
+use Rattle.folder_model.specs.Times.{Times, moment_of, goes_on, images_since_of}
+use Rattle.folder_model.specs.Known.{Knows}
+use Rattle.folder_model.specs.Whole.{WritesWithin, IsWriting, MakesInPart, made_durably}
+use Rattle.folder_model.specs.DiskCalls.{WriteLeaves, CutLeaves, SyncDone, SyncFailed, CreateDone, CreateFailed}
+use Rattle.folder_model.specs.steps.KnownLaws.{reading_is, write_leaves, cut_leaves, sync_done, sync_failed, create_done, create_failed, written_is_read, opened_knows}
+use Rattle.folder_model.specs.steps.SeenLaws.{reading_is_left, no_more_left}
+use Rattle.folder_model.specs.steps.TimeLaws.{image_now, image_only_now, image_earlier}
+use Rattle.folder_disk.specs.State.{State, known_of, reading, IsKnown, images, images_since, IsCounted, next, grown, given_up}
+use Rattle.folder_disk.specs.Calls.{Creates, WritesAt, Cuts, Syncs, Looks}
+
+-- ---- the laws of `Disk`
+
+pub reading_counts : (tells : Bool) (name : Kind → ℕ → List ℕ) (s : State) → IsTrue tells → images tells name s (reading name s)
+reading_counts tells name s told = (told, inl refl)
+
+pub no_more : (tells : Bool) (name : Kind → ℕ → List ℕ) (s : State) (image : Image) (kind : Kind) → images tells name s image → file_count image kind ≤ file_count (reading name s) kind
+no_more tells name s image kind (told, inl same) = omega (arith, ap (λ (i : Image). file_count i kind) same)
+no_more tells name s image kind (told, inr left) = no_more_left name s.past (reading name s) image kind left.0.is.seen left.1
+
+pub now_counts : (tells : Bool) (name : Kind → ℕ → List ℕ) (s : State) (t : ℕ) (image : Image) → images tells name s image → images_since tells name s t image
+now_counts tells name s t image (told, inl same) = (told, inl same)
+now_counts tells name s t image (told, inr left) = (told, inr (left.0, image_now name s.past s.times t image left.0.timed left.1))
+
+pub now_only : (tells : Bool) (name : Kind → ℕ → List ℕ) (s : State) (image : Image) → images_since tells name s (moment_of s.times) image → images tells name s image
+now_only tells name s image (told, inl same) = (told, inl same)
+now_only tells name s image (told, inr left) = (told, inr (left.0, image_only_now name s.past s.times image left.0.timed left.1))
+
+pub earlier : (tells : Bool) (name : Kind → ℕ → List ℕ) (s : State) (t later : ℕ) (image : Image) → t ≤ later → images_since tells name s later image → images_since tells name s t image
+earlier tells name s t later image le (told, inl same) = (told, inl same)
+earlier tells name s t later image le (told, inr left) = (told, inr (left.0, image_earlier name s.past s.times t later image left.0.timed le left.1))
+
+-- ---- where what the disk knows is so, its images are the folder's
+
+to_folder : (name : Kind → ℕ → List ℕ) (s : State) (tells : Bool) (image : Image) → IsKnown name s → images tells name s image → images_of name s.past image
+to_folder name s tells image known (told, inl same) = subst (images_of name s.past) (sym same) (reading_is_left name s.past (reading name s) known.is.seen)
+to_folder name s tells image known (told, inr left) = left.1
+
+to_folder_since : (name : Kind → ℕ → List ℕ) (s : State) (tells : Bool) (t : ℕ) (image : Image) → IsKnown name s → images_since tells name s t image → images_since_of name s.past s.times t image
+to_folder_since name s tells t image known (told, inl same) =
+    image_now name s.past s.times t image known.timed (subst (images_of name s.past) (sym same) (reading_is_left name s.past (reading name s) known.is.seen))
+to_folder_since name s tells t image known (told, inr left) = left.1
+
+told_of : (tells : Bool) (name : Kind → ℕ → List ℕ) (s : State) (image : Image) → images tells name s image → IsTrue tells
+told_of tells name s image left = left.0
+
+-- steps and time, from the folder's images to the disk's
+module _ (tells : Bool) (name : Kind → ℕ → List ℕ) (old new : State) where
+  as_follows : (Step : Image → Image → Type 0)
+      → (IsTrue tells → IsKnown name old × IsKnown name new × Follows Step (images_of name old.past) (images_of name new.past))
+      → Follows Step (images tells name old) (images tells name new)
+  as_follows Step law image left =
+      let l = law left.0 in
+      let was = l.2 image (to_folder name new tells image l.1 left) in
+      (was.0, (left.0, inr (l.0, was.1)), was.2)
+
+  as_within : (IsTrue tells → IsKnown name old × IsKnown name new × Within (images_of name old.past) (images_of name new.past))
+      → Within (images tells name old) (images tells name new)
+  as_within law image left =
+      let l = law left.0 in
+      (left.0, inr (l.0, l.2 image (to_folder name new tells image l.1 left)))
+
+  as_leaves : (P : Image → Type 0) → (IsTrue tells → IsKnown name new × Leaves (images_of name new.past) P) → Leaves (images tells name new) P
+  as_leaves P law image left = let l = law left.0 in l.1 image (to_folder name new tells image l.0 left)
+
+  as_elapses : (target told_target : Image → Type 0) → moment_of old.times ≤ moment_of new.times → moment_of new.times ≤ moment_of old.times + 1
+      → ((image : Image) → IsTrue tells → target image → told_target image)
+      → (IsTrue tells → IsKnown name old × IsKnown name new
+      × Elapses (moment_of old.times) (moment_of new.times) (images_since_of name old.past old.times) (images_since_of name new.past new.times) target)
+      → Elapses (moment_of old.times) (moment_of new.times) (images_since tells name old) (images_since tells name new) told_target
+  as_elapses target told_target later by_one gives law = record {
+    later = later;
+    by_one = by_one;
+    nothing_else = λ t image le left.
+        let l = law left.0 in
+        ⊎_elim
+        (λ was. inl (left.0, inr (l.0, was)))
+        (λ is. inr (gives image left.0 is))
+        (l.2.nothing_else t image le (to_folder_since name new tells t image l.1 left));
+    keeps = λ t image le left.
+        let l = law left.0 in
+        (left.0, inr (l.1, l.2.keeps t image le (to_folder_since name old tells t image l.0 left)));
+  }
+
+-- nothing was done
+pub within_same : (tells : Bool) (name : Kind → ℕ → List ℕ) (s : State) → Within (images tells name s) (images tells name s)
+within_same tells name s image left = left
+
+pub elapses_same : (tells : Bool) (name : Kind → ℕ → List ℕ) (s : State) (target : Image → Type 0)
+    → Elapses (moment_of s.times) (moment_of s.times) (images_since tells name s) (images_since tells name s) target
+elapses_same tells name s target = record {
+  later = omega arith;
+  by_one = omega arith;
+  nothing_else = λ t image le left. inl left;
+  keeps = λ t image le left. left;
+}
+
+-- the same disk as far as its folder tells
+module _ (tells : Bool) (name : Kind → ℕ → List ℕ) (s : State) (past : FolderPast) (same : IsTrue tells → past ≡ s.past) where
+  known_same : (IsTrue tells → IsKnown name s) → IsTrue tells → IsKnown name (record s { past = past })
+  known_same known told = subst (λ (p : FolderPast). IsKnown name (record s { past = p })) (sym (same told)) (known told)
+
+  reading_same : IsTrue tells → reading name (record s { past = past }) ≡ reading name s
+  reading_same told = ap (λ (p : FolderPast). reading name (record s { past = p })) (same told)
+
+  images_same : (image : Image) → images tells name (record s { past = past }) image → images tells name s image
+  images_same image left = subst (λ (p : FolderPast). images tells name (record s { past = p }) image) (same left.0) left
+
+  same_elapses : (target : Image → Type 0)
+      → Elapses (moment_of s.times) (moment_of s.times) (images_since tells name s) (images_since tells name (record s { past = past })) target
+  same_elapses target = record {
+    later = omega arith;
+    by_one = omega arith;
+    nothing_else = λ t image le left. inl (subst (λ (p : FolderPast). images_since tells name (record s { past = p }) t image) (same left.0) left);
+    keeps = λ t image le left. subst (λ (p : FolderPast). images_since tells name (record s { past = p }) t image) (sym (same left.0)) left;
+  }
+
+-- ---- calls
+
+-- what is known of an image is known of the reading
+known_reading : (name : Kind → ℕ → List ℕ) (s : State) (image : Image) → Knows name s.past (known_of s.warc s.cdxj) s.gave_up s.times image → reading name s ≡ image
+unfolding reading
+known_reading name s image knows = reading_is name s.past (known_of s.warc s.cdxj) image knows.is.seen knows.numbers knows.no_fewer knows.one_more
+
+is_known : (name : Kind → ℕ → List ℕ) (s : State) (image : Image) → Knows name s.past (known_of s.warc s.cdxj) s.gave_up s.times image → IsKnown name s
+is_known name s image knows =
+    subst (λ (i : Image). Knows name s.past (known_of s.warc s.cdxj) s.gave_up s.times i) (sym (known_reading name s image knows)) knows
+
+-- a write, however it ended
+module _ (tells : Bool) (name : Kind → ℕ → List ℕ) (apart : NamesApart name) (kind : Kind) (file at : ℕ) (bytes : List ℕ) (old : State) (past : FolderPast)
+    (law : IsTrue tells → IsKnown name old × (file < file_count (reading name old) kind) × WritesWithin (name kind file) at (length bytes) old.past past) where
+  left : IsTrue tells → WriteLeaves name kind file at (length bytes) old.past past (known_of old.warc old.cdxj) old.gave_up old.times (reading name old)
+  left told =
+      write_leaves name apart kind file at (length bytes) old.past past (known_of old.warc old.cdxj) old.gave_up old.times (reading name old) (law told).0 (law told).1 (law told).2
+
+  read_now : (told : IsTrue tells) → reading name (next old past) ≡ with_file (reading name old) kind file (left told).bytes
+  read_now told = known_reading name (next old past) (with_file (reading name old) kind file (left told).bytes) (left told).knows
+
+  pub wrote : {E : Type 0} (result : Result ⊤ E)
+      → (IsTrue tells → OnOk result (IsWriting (name kind file) at bytes (length bytes) old.past past))
+      → WritesAt tells name kind file at bytes old (next old past) result
+  wrote {E} result done = record {
+    known = λ told. is_known name (next old past) (with_file (reading name old) kind file (left told).bytes) (left told).knows;
+    written = λ told. on_ok result (done told) (λ writing.
+        read_now told ∙ ap (λ (b : List ℕ). with_file (reading name old) kind file b)
+        (written_is_read name kind file at bytes (left told).bytes old.past past (reading name old) (law told).0.is (law told).1 (left told).knows.is writing));
+    partial = λ told. on_err result (record { bytes = (left told).bytes; step = (left told).torn; whole = read_now told });
+    crash = as_follows tells name old (next old past) (OnFile kind file (Torn at (length bytes))) (λ told. ((law told).0, is_known name (next old past) (with_file (reading name old) kind file (left told).bytes) (left told).knows, (left told).follows));
+    time = as_elapses tells name old (next old past) (images_of name past) (images tells name (next old past)) (omega arith) (omega arith)
+        (λ image told is. (told, inr (is_known name (next old past) (with_file (reading name old) kind file (left told).bytes) (left told).knows, is)))
+        (λ told. ((law told).0, is_known name (next old past) (with_file (reading name old) kind file (left told).bytes) (left told).knows, (left told).time));
+  }
+    where
+      on_ok : {P Q : Type 0} (r : Result ⊤ E) → OnOk r P → (P → Q) → OnOk r Q
+      on_ok (Ok x) holds gives = gives holds
+      on_ok (Err e) holds gives = tt
+
+      on_err : {P : Type 0} (r : Result ⊤ E) → P → OnErr r P
+      on_err (Ok x) holds = tt
+      on_err (Err e) holds = holds
+
+-- a sync that was done, by a disk that hasn't given up
+pub synced : {E : Type 0} (tells : Bool) (name : Kind → ℕ → List ℕ) (kind : Kind) (file : ℕ) (old : State) (past : FolderPast)
+    → (IsTrue tells → IsKnown name old × (file < file_count (reading name old) kind) × (past ≡ did_to old.past (name kind file) (Synced true)))
+    → old.gave_up ≡ false → Syncs {E = E} tells name kind file old (next old past) (Ok tt)
+synced {E} tells name kind file old past law goes = record {
+  known = λ told. known_now told;
+  durable = as_leaves tells name old (next old past) (HasFile kind file (file_of (reading name old) kind file)) (λ told. (known_now told, (done told).durable));
+  same = λ told. same_now told;
+  crash = as_within tells name old (next old past) (λ told. ((law told).0, known_now told, (done told).within));
+  time = as_elapses tells name old (next old past) (images_of name past) (images tells name (next old past)) (omega arith) (omega arith)
+      (λ image told is. (told, inr (known_now told, is)))
+      (λ told. ((law told).0, known_now told, (done told).time));
+}
+  where
+    going : IsTrue tells → Knows name old.past (known_of old.warc old.cdxj) false old.times (reading name old)
+    going told = subst (λ (b : Bool). Knows name old.past (known_of old.warc old.cdxj) b old.times (reading name old)) goes (law told).0
+
+    done : IsTrue tells → SyncDone name kind file old.past past (known_of old.warc old.cdxj) old.times (reading name old)
+    done told = sync_done name kind file old.past past (known_of old.warc old.cdxj) old.times (reading name old)
+        (subst (λ (b : Bool). Knows name old.past (known_of old.warc old.cdxj) b old.times (reading name old)) goes (law told).0) (law told).1 (law told).2
+
+    knows_now : IsTrue tells → Knows name past (known_of old.warc old.cdxj) old.gave_up (goes_on old.times past) (reading name old)
+    knows_now told = subst (λ (b : Bool). Knows name past (known_of old.warc old.cdxj) b (goes_on old.times past) (reading name old)) (sym goes)
+        (sync_done name kind file old.past past (known_of old.warc old.cdxj) old.times (reading name old)
+        (subst (λ (b : Bool). Knows name old.past (known_of old.warc old.cdxj) b old.times (reading name old)) goes (law told).0) (law told).1 (law told).2).knows
+
+    same_now : IsTrue tells → reading name (next old past) ≡ reading name old
+    same_now told = known_reading name (next old past) (reading name old)
+        (subst (λ (b : Bool). Knows name past (known_of old.warc old.cdxj) b (goes_on old.times past) (reading name old)) (sym goes)
+        (sync_done name kind file old.past past (known_of old.warc old.cdxj) old.times (reading name old)
+        (subst (λ (b : Bool). Knows name old.past (known_of old.warc old.cdxj) b old.times (reading name old)) goes (law told).0) (law told).1 (law told).2).knows)
+
+    known_now : IsTrue tells → IsKnown name (next old past)
+    known_now told = is_known name (next old past) (reading name old)
+        (subst (λ (b : Bool). Knows name past (known_of old.warc old.cdxj) b (goes_on old.times past) (reading name old)) (sym goes)
+        (sync_done name kind file old.past past (known_of old.warc old.cdxj) old.times (reading name old)
+        (subst (λ (b : Bool). Knows name old.past (known_of old.warc old.cdxj) b old.times (reading name old)) goes (law told).0) (law told).1 (law told).2).knows)
+
+-- a sync that failed
+pub sync_missed : {E : Type 0} (tells : Bool) (name : Kind → ℕ → List ℕ) (kind : Kind) (file : ℕ) (n : List ℕ) (old : State) (past : FolderPast) (e : E)
+    → (IsTrue tells → IsKnown name old × (past ≡ did_to old.past n (Synced false)))
+    → Syncs tells name kind file old (given_up (next old past)) (Err e)
+sync_missed tells name kind file n old past e law = record {
+  known = λ told. known_now told;
+  durable = tt;
+  same = λ told. known_reading name (given_up (next old past)) (reading name old) (missed told).knows;
+  crash = as_within tells name old (given_up (next old past)) (λ told. ((law told).0, known_now told, (missed told).within));
+  time = as_elapses tells name old (given_up (next old past)) (images_of name past) (images tells name (given_up (next old past))) (omega arith) (omega arith)
+      (λ image told is. (told, inr (known_now told, is)))
+      (λ told. ((law told).0, known_now told, (missed told).time));
+}
+  where
+    missed : IsTrue tells → SyncFailed name old.past past (known_of old.warc old.cdxj) old.times (reading name old)
+    missed told = sync_failed name n old.past past (known_of old.warc old.cdxj) old.gave_up old.times (reading name old) (law told).0 (law told).1
+
+    known_now : IsTrue tells → IsKnown name (given_up (next old past))
+    known_now told = is_known name (given_up (next old past)) (reading name old)
+        (sync_failed name n old.past past (known_of old.warc old.cdxj) old.gave_up old.times (reading name old) (law told).0 (law told).1).knows
+
+-- ---- a file that is made
+
+-- a call that failed
+pub create_missed : {E : Type 0} (tells : Bool) (name : Kind → ℕ → List ℕ) (apart : NamesApart name) (kind : Kind) (old : State) (past : FolderPast) (e : E)
+    → (IsTrue tells → IsKnown name old × MakesInPart (name kind (known_of old.warc old.cdxj kind)) old.past past)
+    → old.gave_up ≡ false
+    → Creates tells name kind old (given_up (next old past)) (Err e)
+create_missed tells name apart kind old past e law goes = record {
+  known = λ told. known_now told;
+  number = λ told. tt;
+  created = λ told. tt;
+  partial = λ told.
+      subst (MayCreate kind (file_count (reading name old) kind) (reading name old)) (sym (known_reading name (given_up (next old past)) (missed told).image (missed told).knows)) (missed told).partial;
+  crash = as_follows tells name old (given_up (next old past)) (MayCreate kind (file_count (reading name old) kind)) (λ told. ((law told).0, known_now told, (missed told).follows));
+  durable = tt;
+  time = as_elapses tells name old (given_up (next old past)) (Stepped (MayCreate kind (file_count (reading name old) kind)) (images_of name old.past))
+      (Stepped (MayCreate kind (file_count (reading name old) kind)) (images tells name old)) (omega arith) (omega arith)
+      (λ image told is. (is.0, (told, inr ((law told).0, is.1)), is.2))
+      (λ told. ((law told).0, known_now told, (missed told).time));
+}
+  where
+    missed : IsTrue tells → CreateFailed name kind old.past past (known_of old.warc old.cdxj) old.times (reading name old)
+    missed told =
+        let known = subst (λ (b : Bool). Knows name old.past (known_of old.warc old.cdxj) b old.times (reading name old)) goes (law told).0 in
+        create_failed name apart kind old.past (known_of old.warc old.cdxj) old.times (reading name old) known past
+        (subst (λ (n : ℕ). MakesInPart (name kind n) old.past past) (sym (known.all refl kind)) (law told).1)
+
+    known_now : IsTrue tells → IsKnown name (given_up (next old past))
+    known_now told =
+        let known = subst (λ (b : Bool). Knows name old.past (known_of old.warc old.cdxj) b old.times (reading name old)) goes (law told).0 in
+        let left = create_failed name apart kind old.past (known_of old.warc old.cdxj) old.times (reading name old) known past
+        (subst (λ (n : ℕ). MakesInPart (name kind n) old.past past) (sym (known.all refl kind)) (law told).1) in
+        is_known name (given_up (next old past)) left.image left.knows
+
+-- counts with one file more
+grown_kind : (kind : Kind) (s : State) → known_of (grown kind s).warc (grown kind s).cdxj kind ≡ known_of s.warc s.cdxj kind + 1
+grown_kind Warc s = refl
+grown_kind Cdxj s = refl
+
+grown_other : (kind : Kind) (s : State) (k : Kind) → k ≢ kind → known_of (grown kind s).warc (grown kind s).cdxj k ≡ known_of s.warc s.cdxj k
+grown_other Warc s Warc differs = absurd (differs refl)
+grown_other Warc s Cdxj differs = refl
+grown_other Cdxj s Warc differs = refl
+grown_other Cdxj s Cdxj differs = absurd (differs refl)
+
+grown_numbers : (kind : Kind) (s : State) → known_of s.warc s.cdxj kind + 1 < 2 ^ 32 → ((k : Kind) → known_of s.warc s.cdxj k < 2 ^ 32)
+    → (k : Kind) → known_of (grown kind s).warc (grown kind s).cdxj k < 2 ^ 32
+grown_numbers Warc s room numbers Warc = room
+grown_numbers Warc s room numbers Cdxj = numbers Cdxj
+grown_numbers Cdxj s room numbers Warc = numbers Warc
+grown_numbers Cdxj s room numbers Cdxj = room
+
+-- a file more, and the deeds by which it was made
+pub next_grown : (kind : Kind) (s : State) (past : FolderPast) → grown kind (next s past) ≡ next (grown kind s) past
+next_grown Warc s past = refl
+next_grown Cdxj s past = refl
+
+grown_gave_up : (kind : Kind) (s : State) → (grown kind s).gave_up ≡ s.gave_up
+grown_gave_up Warc s = refl
+grown_gave_up Cdxj s = refl
+
+grown_times : (kind : Kind) (s : State) → (grown kind s).times ≡ s.times
+grown_times Warc s = refl
+grown_times Cdxj s = refl
+
+-- a call that was done
+pub create_made : {E : Type 0} (tells : Bool) (name : Kind → ℕ → List ℕ) (apart : NamesApart name) (kind : Kind) (old : State) (past : FolderPast)
+    → (IsTrue tells → IsKnown name old × (past ≡ made_durably (name kind (known_of old.warc old.cdxj kind)) old.past))
+    → old.gave_up ≡ false → known_of old.warc old.cdxj kind + 1 < 2 ^ 32
+    → Creates {E = E} tells name kind old (next (grown kind old) past) (Ok (known_of old.warc old.cdxj kind))
+create_made {E} tells name apart kind old past law goes room = record {
+  known = λ told. known_now told;
+  number = λ told. sym ((known_then told).all refl kind);
+  created = λ told. known_reading name (next (grown kind old) past) (with_new (reading name old) kind) (knows_now told);
+  partial = λ told. tt;
+  crash = as_follows tells name old (next (grown kind old) past) (MayCreate kind (file_count (reading name old) kind)) (λ told. ((law told).0, known_now told, (done told).follows));
+  durable = as_leaves tells name old (next (grown kind old) past) (HasFile kind (known_of old.warc old.cdxj kind) []) (λ told. (
+    known_now told,
+    subst (λ (n : ℕ). Leaves (images_of name past) (HasFile kind n [])) ((known_then told).all refl kind) (done told).durable,
+  ));
+  time = as_elapses tells name old (next (grown kind old) past) (Stepped (MayCreate kind (file_count (reading name old) kind)) (images_of name old.past))
+      (Stepped (MayCreate kind (file_count (reading name old) kind)) (images tells name old)) (omega (arith, moments)) (omega (arith, moments))
+      (λ image told is. (is.0, (told, inr ((law told).0, is.1)), is.2))
+      (λ told. ((law told).0, known_now told, time_now told));
+}
+  where
+    moments : moment_of (next (grown kind old) past).times ≡ moment_of old.times + 1
+    moments = omega (arith, ap (λ (t : Times). moment_of t) (grown_times kind old))
+
+    known_then : IsTrue tells → Knows name old.past (known_of old.warc old.cdxj) false old.times (reading name old)
+    known_then told = subst (λ (b : Bool). Knows name old.past (known_of old.warc old.cdxj) b old.times (reading name old)) goes (law told).0
+
+    done : IsTrue tells → CreateDone name kind old.past past (known_of (grown kind old).warc (grown kind old).cdxj) old.times (reading name old)
+    done told =
+        let known = subst (λ (b : Bool). Knows name old.past (known_of old.warc old.cdxj) b old.times (reading name old)) goes (law told).0 in
+        create_done name apart kind old.past (known_of old.warc old.cdxj) old.times (reading name old) known past (known_of (grown kind old).warc (grown kind old).cdxj)
+        (subst (λ (n : ℕ). past ≡ made_durably (name kind n) old.past) (sym (known.all refl kind)) (law told).1)
+        (grown_numbers kind old room known.numbers) (grown_kind kind old) (grown_other kind old)
+
+    knows_now : IsTrue tells → Knows name past (known_of (grown kind old).warc (grown kind old).cdxj) (grown kind old).gave_up (goes_on (grown kind old).times past) (with_new (reading name old) kind)
+    knows_now told =
+        let known = subst (λ (b : Bool). Knows name old.past (known_of old.warc old.cdxj) b old.times (reading name old)) goes (law told).0 in
+        let made = create_done name apart kind old.past (known_of old.warc old.cdxj) old.times (reading name old) known past (known_of (grown kind old).warc (grown kind old).cdxj)
+        (subst (λ (n : ℕ). past ≡ made_durably (name kind n) old.past) (sym (known.all refl kind)) (law told).1)
+        (grown_numbers kind old room known.numbers) (grown_kind kind old) (grown_other kind old) in
+        subst (λ (b : Bool). Knows name past (known_of (grown kind old).warc (grown kind old).cdxj) b (goes_on (grown kind old).times past) (with_new (reading name old) kind))
+        (sym (grown_gave_up kind old ∙ goes))
+        (subst (λ (t : Times). Knows name past (known_of (grown kind old).warc (grown kind old).cdxj) false (goes_on t past) (with_new (reading name old) kind))
+        (sym (grown_times kind old)) made.knows)
+
+    known_now : IsTrue tells → IsKnown name (next (grown kind old) past)
+    known_now told =
+        let known = subst (λ (b : Bool). Knows name old.past (known_of old.warc old.cdxj) b old.times (reading name old)) goes (law told).0 in
+        let made = create_done name apart kind old.past (known_of old.warc old.cdxj) old.times (reading name old) known past (known_of (grown kind old).warc (grown kind old).cdxj)
+        (subst (λ (n : ℕ). past ≡ made_durably (name kind n) old.past) (sym (known.all refl kind)) (law told).1)
+        (grown_numbers kind old room known.numbers) (grown_kind kind old) (grown_other kind old) in
+        is_known name (next (grown kind old) past) (with_new (reading name old) kind)
+        (subst (λ (b : Bool). Knows name past (known_of (grown kind old).warc (grown kind old).cdxj) b (goes_on (grown kind old).times past) (with_new (reading name old) kind))
+        (sym (grown_gave_up kind old ∙ goes))
+        (subst (λ (t : Times). Knows name past (known_of (grown kind old).warc (grown kind old).cdxj) false (goes_on t past) (with_new (reading name old) kind))
+        (sym (grown_times kind old)) made.knows))
+
+    time_now : IsTrue tells → Elapses (moment_of old.times) (moment_of (next (grown kind old) past).times) (images_since_of name old.past old.times)
+        (images_since_of name past (next (grown kind old) past).times) (Stepped (MayCreate kind (file_count (reading name old) kind)) (images_of name old.past))
+    time_now told =
+        let known = subst (λ (b : Bool). Knows name old.past (known_of old.warc old.cdxj) b old.times (reading name old)) goes (law told).0 in
+        let made = create_done name apart kind old.past (known_of old.warc old.cdxj) old.times (reading name old) known past (known_of (grown kind old).warc (grown kind old).cdxj)
+        (subst (λ (n : ℕ). past ≡ made_durably (name kind n) old.past) (sym (known.all refl kind)) (law told).1)
+        (grown_numbers kind old room known.numbers) (grown_kind kind old) (grown_other kind old) in
+        subst (λ (t : Times). Elapses (moment_of old.times) (moment_of (goes_on t past)) (images_since_of name old.past old.times)
+        (images_since_of name past (goes_on t past)) (Stepped (MayCreate kind (file_count (reading name old) kind)) (images_of name old.past))) (sym (grown_times kind old)) made.time
+
+-- ---- a cut
+
+-- a cut that was done or failed, of which some bytes weren't taken
+pub cut_ended : {E : Type 0} (tells : Bool) (name : Kind → ℕ → List ℕ) (apart : NamesApart name) (kind : Kind) (file len : ℕ) (old : State) (past : FolderPast) (result : Result ⊤ E)
+    → (IsTrue tells → IsKnown name old × (file < file_count (reading name old) kind))
+    → (IsTrue tells → (rest : ℕ) × (past ≡ did_to old.past (name kind file) (Shortened (len + rest) rest)) × OnOk result (rest ≡ 0))
+    → Cuts tells name kind file len old (next old past) result
+cut_ended {E} tells name apart kind file len old past result law part = record {
+  known = λ told. known_now told;
+  cut = λ told. on_ok result (part told).2 (λ none.
+      let all : len + (part told).0 ≡ len = omega (arith, none) in
+      known_reading name (next old past) (with_file (reading name old) kind file (take (len + (part told).0) (file_of (reading name old) kind file))) (left told).knows
+      ∙ ap (λ (n : ℕ). with_file (reading name old) kind file (take n (file_of (reading name old) kind file))) all);
+  partial = λ told. on_err result (record {
+    bytes = take (len + (part told).0) (file_of (reading name old) kind file);
+    step = (left told).cut;
+    whole = known_reading name (next old past) (with_file (reading name old) kind file (take (len + (part told).0) (file_of (reading name old) kind file))) (left told).knows;
+  });
+  crash = as_follows tells name old (next old past) (OnFile kind file (Cut len)) (λ told. ((law told).0, known_now told, (left told).follows));
+  time = as_elapses tells name old (next old past) (images_of name past) (images tells name (next old past)) (omega arith) (omega arith)
+      (λ image told is. (told, inr (known_now told, is)))
+      (λ told. ((law told).0, known_now told, (left told).time));
+}
+  where
+    left : (told : IsTrue tells) → CutLeaves name kind file len (part told).0 old.past past (known_of old.warc old.cdxj) old.gave_up old.times (reading name old)
+    left told = cut_leaves name apart kind file len (part told).0 old.past past (known_of old.warc old.cdxj) old.gave_up old.times (reading name old) (law told).0 (law told).1 (part told).1
+
+    known_now : IsTrue tells → IsKnown name (next old past)
+    known_now told = is_known name (next old past) (with_file (reading name old) kind file (take (len + (part told).0) (file_of (reading name old) kind file)))
+        (cut_leaves name apart kind file len (part told).0 old.past past (known_of old.warc old.cdxj) old.gave_up old.times (reading name old) (law told).0 (law told).1 (part told).1).knows
+
+    on_ok : {P Q : Type 0} (r : Result ⊤ E) → OnOk r P → (P → Q) → OnOk r Q
+    on_ok (Ok x) holds gives = gives holds
+    on_ok (Err e) holds gives = tt
+
+    on_err : {P : Type 0} (r : Result ⊤ E) → P → OnErr r P
+    on_err (Ok x) holds = tt
+    on_err (Err e) holds = holds
+
+-- ---- calls that weren't begun
+
+pub write_not_begun : {E : Type 0} (tells : Bool) (name : Kind → ℕ → List ℕ) (kind : Kind) (file at : ℕ) (bytes : List ℕ) (s : State) (past : FolderPast) (e : E)
+    → (IsTrue tells → past ≡ s.past) → (IsTrue tells → IsKnown name s) → WritesAt tells name kind file at bytes s (record s { past = past }) (Err e)
+write_not_begun tells name kind file at bytes s past e same known = record {
+  known = known_same tells name s past same known;
+  written = λ told. tt;
+  partial = λ told.
+      subst (OnFile kind file (Torn at (length bytes)) (reading name s)) (sym (reading_same tells name s past same told))
+      (on_file_none kind file (Torn at (length bytes)) (reading name s) (torn_none at (length bytes) (file_of (reading name s) kind file)));
+  crash = λ image left. (
+    image,
+    images_same tells name s past same image left,
+    on_file_none kind file (Torn at (length bytes)) image (torn_none at (length bytes) (file_of image kind file)),
+  );
+  time = same_elapses tells name s past same (images tells name (record s { past = past }));
+}
+
+pub cut_not_begun : {E : Type 0} (tells : Bool) (name : Kind → ℕ → List ℕ) (kind : Kind) (file len : ℕ) (s : State) (past : FolderPast) (e : E)
+    → (IsTrue tells → past ≡ s.past) → (IsTrue tells → IsKnown name s) → Cuts tells name kind file len s (record s { past = past }) (Err e)
+cut_not_begun tells name kind file len s past e same known = record {
+  known = known_same tells name s past same known;
+  cut = λ told. tt;
+  partial = λ told.
+      subst (OnFile kind file (Cut len) (reading name s)) (sym (reading_same tells name s past same told))
+      (on_file_none kind file (Cut len) (reading name s) (cut_none len (file_of (reading name s) kind file)));
+  crash = λ image left. (
+    image,
+    images_same tells name s past same image left,
+    on_file_none kind file (Cut len) image (cut_none len (file_of image kind file)),
+  );
+  time = same_elapses tells name s past same (images tells name (record s { past = past }));
+}
+
+pub sync_not_begun : {E : Type 0} (tells : Bool) (name : Kind → ℕ → List ℕ) (kind : Kind) (file : ℕ) (s : State) (past : FolderPast) (e : E)
+    → (IsTrue tells → past ≡ s.past) → (IsTrue tells → IsKnown name s) → Syncs tells name kind file s (record s { past = past }) (Err e)
+sync_not_begun tells name kind file s past e same known = record {
+  known = known_same tells name s past same known;
+  durable = tt;
+  same = reading_same tells name s past same;
+  crash = images_same tells name s past same;
+  time = same_elapses tells name s past same (images tells name (record s { past = past }));
+}
+
+-- what holds of each failure holds of an answer that is one
+pub at_error : {T E : Type 0} (P : Result T E → Type 0) (result : Result T E) → IsErr result → ((e : E) → P (Err e)) → P result
+at_error P (Ok value) is each = absurd (true≢false (sym is))
+at_error P (Err e) is each = each e
+
+-- a call that changed nothing
+pub looked : (tells : Bool) (name : Kind → ℕ → List ℕ) (s : State) (past : FolderPast) → (IsTrue tells → past ≡ s.past) → (IsTrue tells → IsKnown name s)
+    → Looks tells name s (record s { past = past })
+looked tells name s past same known = record {
+  known = known_same tells name s past same known;
+  same = reading_same tells name s past same;
+  crash = images_same tells name s past same;
+  time = same_elapses tells name s past same (images tells name (record s { past = past }));
+}
+
+-- the bytes of a file in the folder are those of the reading
+pub bytes_read : (name : Kind → ℕ → List ℕ) (s : State) (kind : Kind) (file : ℕ) → IsKnown name s → file < file_count (reading name s) kind
+    → bytes_of s.past (name kind file) ≡ file_of (reading name s) kind file
+bytes_read name s kind file known there = ap (λ (o : Option (List ℕ)). unwrap_or o []) (known.is.seen.there kind file there)
+
+-- ---- opening
+
+-- a folder that was counted and then synced is known
+pub opened : (name : Kind → ℕ → List ℕ) (warc cdxj : ℕ) (old new : FolderPast) (times : Times) → warc < 2 ^ 32 → cdxj < 2 ^ 32
+    → IsCounted name old warc cdxj
+    → new ≡ did (did old (SyncedFolder true)) (SyncedAround true)
+    → times ≡ record { made = length new.deeds; begun = [] }
+    → IsKnown name (record { past = new; warc = warc; cdxj = cdxj; gave_up = false; times = times })
+opened name warc cdxj old new times few fewer counted whole began =
+    let known = opened_knows name old (known_of warc cdxj) counted.image counted.unfailed counted.seen (numbers few fewer) counted.counts in
+    is_known name (record { past = new; warc = warc; cdxj = cdxj; gave_up = false; times = times }) counted.image
+    (subst (λ (t : Times). Knows name new (known_of warc cdxj) false t counted.image) (sym began)
+    (subst (λ (p : FolderPast). Knows name p (known_of warc cdxj) false (record { made = length p.deeds; begun = [] }) counted.image) (sym whole) known))
+  where
+    numbers : warc < 2 ^ 32 → cdxj < 2 ^ 32 → (kind : Kind) → known_of warc cdxj kind < 2 ^ 32
+    numbers few fewer Warc = few
+    numbers few fewer Cdxj = fewer
