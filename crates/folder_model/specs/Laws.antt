@@ -1,9 +1,9 @@
 -- What the model promises to those who reason about a disk in a folder.
-use Rattle.std.specs.Prelude.{◌^◌, ◌≡◌, ◌≢◌, ◌<◌, ◌≤◌, ◌+◌, ◌-◌, ℕ, Bool, true, false, List, [], length}
+use Rattle.std.specs.Prelude.{◌^◌, ◌≡◌, ◌≢◌, ◌<◌, ◌≤◌, ◌+◌, ◌-◌, ℕ, Bool, true, false, List, [], length, Option, Some, ◌∷◌, take, drop}
 use Rattle.disk_model.specs.Crash.{Torn, Cut, OnFile, MayCreate, HasFile, Within, Follows, Leaves}
 use Rattle.disk_model.specs.Image.{Image, file_count, file_of}
 use Rattle.disk_model.specs.declared.kind.Kind.{Kind}
-use Rattle.folder_model.specs.File.{Made, Wrote, Shortened, Synced, AreBytesSure}
+use Rattle.folder_model.specs.File.{Made, Wrote, Shortened, Synced, AreBytesSure, FileDeed, Sync, MayHold, read_of}
 use Rattle.folder_model.specs.Folder.{Contents, FolderPast, SyncedFolder, SyncedAround, did, did_to, deeds_of, contents_of, MayLeave, IsUnfailed}
 use Rattle.folder_model.specs.Seen.{NamesApart, IsSeen, images_of, IsNamed, IsPlaced, FolderIs}
 use Rattle.folder_model.specs.Times.{Times, IsTimed, moment_of, images_since_of}
@@ -49,6 +49,14 @@ SyncedFileIsDurable =
     (name : Kind → ℕ → List ℕ) (past : FolderPast) (reading : Image) (kind : Kind) (file : ℕ) → FolderIs name past reading
     → file < file_count reading kind → IsNamed past (name kind file) → AreBytesSure (past.first (name kind file)) (deeds_of (name kind file) past.deeds)
     → Leaves (images_of name (did_to past (name kind file) (Synced true))) (HasFile kind file (file_of reading kind file))
+
+-- Where the disk has the same as reads up to a place, whatever a sync leaves, a sync answers for the file again once it was cut at its length and
+-- written anew from that place on.
+abbrev pub WrittenAnewIsSure : Type 0
+WrittenAnewIsSure =
+    (first : Option (List ℕ)) (deeds : List FileDeed) (p : ℕ) (reading : List ℕ) → read_of first deeds ≡ Some reading → p ≤ length reading
+    → ((old : List ℕ) → MayHold first deeds Sync old → take p old ≡ take p reading)
+    → AreBytesSure first (Wrote p (drop p reading) 0 ∷ Shortened (length reading) 0 ∷ deeds)
 
 -- once the folder is synced behind a file that was made a crash leaves the file there, where the folder is on the disk
 abbrev pub NewFileIsDurable : Type 0

@@ -1,5 +1,5 @@
 //! What the model promises to those who reason about a disk in a folder.
-ghost use Rattle.folder_model.specs.Laws.{ReadingIsLeft, NoMoreFilesAreLeft, WriteIsTorn, CutIsCut, MakingMayCreate, SyncAddsNothing, SyncedFileIsDurable, NewFileIsDurable, OpenedFolderIsDisk, EachLeftIsDisk, ImagesNowCount, SinceNowIsNow, LaterIsSinceEarlier, WritesAreTheDisks, CutsAreTheDisks, SyncsAreTheDisks, FailedSyncsAreTheDisks, CreatesAreTheDisks, FailedCreatesAreTheDisks, OpenedDiskKnows};
+ghost use Rattle.folder_model.specs.Laws.{ReadingIsLeft, NoMoreFilesAreLeft, WriteIsTorn, CutIsCut, MakingMayCreate, SyncAddsNothing, SyncedFileIsDurable, NewFileIsDurable, WrittenAnewIsSure, OpenedFolderIsDisk, EachLeftIsDisk, ImagesNowCount, SinceNowIsNow, LaterIsSinceEarlier, WritesAreTheDisks, CutsAreTheDisks, SyncsAreTheDisks, FailedSyncsAreTheDisks, CreatesAreTheDisks, FailedCreatesAreTheDisks, OpenedDiskKnows};
 
 /// Each deed in a folder is a step of the disk that is seen in it, however files are named.
 pub fn each_deed_is_a_step_of_the_disk()
@@ -13,6 +13,7 @@ pub fn each_deed_is_a_step_of_the_disk()
 pub fn what_was_synced_is_durable()
     ensures file { SyncedFileIsDurable }
     ensures name { NewFileIsDurable }
+    ensures anew { WrittenAnewIsSure }
 {}
 
 /// What a crash leaves of a folder is a disk, with no file more than reads find and without a gap.

@@ -1,7 +1,7 @@
 -- Laws of one file: what a deed adds to what the disk may hold of it.
-use Rattle.std.proofs.Common.{◌≡◌, ◌≢◌, ◌+◌, ◌-◌, ℕ, Bool, true, false, not, IsTrue, Option, Some, None, is_some, List, [], ◌∷◌, length, take, refl, sym, ap, ◌∙◌, subst, arith, ⊎_elim, length-take, true≢false}
+use Rattle.std.proofs.Common.{◌≡◌, ◌≢◌, ◌≤◌, ◌+◌, ◌-◌, ℕ, Bool, true, false, not, IsTrue, Option, Some, None, is_some, List, [], ◌∷◌, length, take, refl, sym, ap, ◌∙◌, subst, arith, ⊎_elim, length-take, true≢false, ◌++◌, drop, length-drop, take-append-drop}
 use Rattle.std.proofs.lemmas.Bool.{cases_Bool}
-use Rattle.std.proofs.lemmas.List.{take_all, take_min}
+use Rattle.std.proofs.lemmas.List.{take_all, take_min, take-take, drop_all, append-nil}
 use Rattle.std.proofs.lemmas.Option.{none-some, same_Some}
 use Rattle.std.specs.Option.{option_map}
 use Rattle.disk_model.specs.Image.{written}
@@ -164,3 +164,28 @@ name_sure-listed first deeds sure lacks = sure lacks
 pub listed_is_named : (first : Option (List ℕ)) (deeds : List FileDeed) (bytes : List ℕ) → IsNameSure first deeds → read_of first deeds ≡ Some bytes → may_lack first (Listed true ∷ deeds) Crash ≡ false
 listed_is_named first deeds bytes sure is =
     ⊎_elim (λ lacks. absurd (none-some bytes (sym (sure lacks) ∙ is))) (λ named. named) (cases_Bool (may_lack first deeds Sync))
+
+-- ---- what is written anew
+
+-- a front that is the same, and all behind it written over
+front_and_rest : (p : ℕ) (old reading : List ℕ) → p ≤ length reading → take p old ≡ take p reading → written (take (length reading) old) p (drop p reading) ≡ reading
+front_and_rest p old reading inside same =
+    let len : ℕ = length reading in
+    let front : take p (take len old) ≡ take p reading = take-take p len old inside ∙ same in
+    let none : drop (p + length (drop p reading)) (take len old) ≡ [] =
+    drop_all (p + length (drop p reading)) (take len old) (omega (arith, length-take len old, length-drop p reading, inside)) in
+    (λ i. front i ++ drop p reading ++ none i) ∙ append-nil (take p reading ++ drop p reading) ∙ take-append-drop p reading
+
+-- Where the disk has the same as reads up to a place, whatever a sync leaves, a sync answers for the file again once it was cut at its length
+-- and written anew from that place on.
+pub written_anew : (first : Option (List ℕ)) (deeds : List FileDeed) (p : ℕ) (reading : List ℕ) → read_of first deeds ≡ Some reading → p ≤ length reading
+    → ((old : List ℕ) → MayHold first deeds Sync old → take p old ≡ take p reading)
+    → AreBytesSure first (Wrote p (drop p reading) 0 ∷ Shortened (length reading) 0 ∷ deeds)
+written_anew first deeds p reading is inside same bytes holds =
+    let held = holds.1 in
+    ap (λ (o : Option (List ℕ)). option_map (λ old. written old p (drop p reading)) (option_map (take (length reading)) o)) is
+    ∙ ap (λ (b : List ℕ). Some b)
+    (front_and_rest p reading reading inside refl
+    ∙ sym (front_and_rest p held.0 reading inside (same held.0 held.1))
+    ∙ ap (λ (mid : List ℕ). written mid p (drop p reading)) (sym held.2)
+    ∙ sym holds.2)
