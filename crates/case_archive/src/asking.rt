@@ -1,8 +1,10 @@
 //! What is asked of an archive that is open.
 use crate::filling::{filled, load_in};
 use crate::finding::{brought, entry_text, found_by_date, mapped, starting_with};
+use crate::following::piece_taken;
 use crate::opening::counts_text;
 use crate::pieces::{piece_of, volumes_text};
+use crate::settling::settled;
 use crate::storing::{compared, rolled, stored};
 use crate::taking::{exchanged_in, prepared_of};
 use crate::words;
@@ -33,6 +35,8 @@ pub fn told<D: Disk>(
         "faults" => words::text(faults_text(alloc, archive.faults())),
         "entry" => entry(alloc, archive, text),
         "piece" => piece(alloc, archive, text),
+        "settle" => words::text(settled(alloc, archive)),
+        "take-piece" => words::text(piece_taken(alloc, archive, text)),
         "volumes" => words::bytes(volumes_text(alloc, archive)),
         _ => Ok(None),
     }

@@ -4,15 +4,18 @@
 
 mod altered;
 mod asking;
+mod depths;
 mod events;
 mod filling;
 mod finding;
+mod following;
 mod held;
 mod looking;
 mod opening;
 mod pieces;
 mod play;
 mod replies;
+mod settling;
 mod storing;
 mod taking;
 mod words;

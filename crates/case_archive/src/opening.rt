@@ -111,16 +111,17 @@ fn limits_of(volume_bytes: u64, captures: u64) -> Option<Limits>
     })
 }
 
-/// Opens an archive, and tells what it holds or why it wasn't opened.
+/// Opens an archive, read as deep as that, and tells what it holds or why it wasn't opened.
 pub fn opened<D: Disk + Drop>(
     alloc: Global,
     outcome: &mut Outcome,
     disk: D,
-    opening: Opening,
+    opening: &Opening,
+    depth: Depth,
 ) -> Result<Held<D>, Memory>
-    requires { IsOpening opening }
+    requires { IsOpening opening.now }
 {
-    match Archive::reopen(alloc, disk, opening.namespace, opening.limits, Depth::Whole) {
+    match Archive::reopen(alloc, disk, opening.namespace, opening.limits, depth) {
         Ok(archive) => {
             let counts = archive.counts();
             tell_counts(alloc, outcome, counts)?;

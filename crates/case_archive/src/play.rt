@@ -1,9 +1,12 @@
 //! Plays the steps of a case.
 use crate::altered::{AlteredDisk, Change};
 use crate::asking::told;
+use crate::depths::opened_by_both;
 use crate::held::Held;
 use crate::looking::{stored_after, timed_in};
 use crate::opening::{opened, opening_in};
+use crate::settling::{checkpoint_in, put_checkpoint};
+use archive_shelf::Depth;
 use capture::Memory;
 use case_disk::{Deed, Outcome};
 use case_language::number_in;
@@ -68,6 +71,8 @@ fn taken(
         "stop" => Ok(stopped(held, step.text.as_slice(), choice)),
         "fuse" => Ok(fused(held, step.text.as_slice())),
         "files" => Ok(Some(shown(alloc, outcome, held)?)),
+        "checkpoint" => Ok(checkpointed(held, step.text.as_slice())),
+        "open-both" => opened_twice(alloc, outcome, held, step.text.as_slice()),
         "store-after" => looked_and_stored(alloc, outcome, held, step.text.as_slice()),
         _ => done(alloc, outcome, held, step),
     }
@@ -92,6 +97,32 @@ fn fused(held: Held<MemoryDisk>, text: &[u8]) -> Option<Held<MemoryDisk>> {
     match held {
         Held::Disk(disk) => Some(Held::Disk(disk.fused(calls))),
         Held::Archive(archive) => Some(Held::Archive(archive.fused(calls))),
+    }
+}
+
+/// Lets a checkpoint's file hold a text.
+fn checkpointed(held: Held<MemoryDisk>, text: &[u8]) -> Option<Held<MemoryDisk>> {
+    let (file, text) = checkpoint_in(text)?;
+    let mut disk = held.closed();
+    match put_checkpoint(&mut disk, file, text) {
+        Ok(()) => Some(Held::Disk(disk)),
+        Err(_) => None,
+    }
+}
+
+/// Opens by both depths.
+fn opened_twice(
+    alloc: Global,
+    outcome: &mut Outcome,
+    held: Held<MemoryDisk>,
+    text: &[u8],
+) -> Result<Option<Held<MemoryDisk>>, Memory> {
+    match opening_in(text) {
+        Some(opening) => {
+            let disk = opened_by_both(alloc, outcome, held.closed(), &opening)?;
+            Ok(Some(Held::Disk(disk)))
+        }
+        None => Ok(None),
     }
 }
 
@@ -133,11 +164,22 @@ fn done<D: Disk + Drop>(
     step: &Deed,
 ) -> Result<Option<Held<D>>, Memory> {
     match step.name {
-        "open" => match opening_in(step.text.as_slice()) {
-            Some(opening) => Ok(Some(opened(alloc, outcome, held.closed(), opening)?)),
-            None => Ok(None),
-        },
+        "open" => reopened(alloc, outcome, held, step, Depth::Whole),
+        "open-lines" => reopened(alloc, outcome, held, step, Depth::Checkpoints),
         _ => asked(alloc, outcome, held, step),
+    }
+}
+
+fn reopened<D: Disk + Drop>(
+    alloc: Global,
+    outcome: &mut Outcome,
+    held: Held<D>,
+    step: &Deed,
+    depth: Depth,
+) -> Result<Option<Held<D>>, Memory> {
+    match opening_in(step.text.as_slice()) {
+        Some(opening) => Ok(Some(opened(alloc, outcome, held.closed(), &opening, depth)?)),
+        None => Ok(None),
     }
 }
 
