@@ -71,7 +71,6 @@ impl<F: FileSystem> Folder<F> {
         if self.holding.is_free() {
             self.begin()?;
         }
-        self.folder_synced = false;
         let one = self.made(kind, number)?;
         self.system.sync_all(&one.file)?;
         self.sync_entries()?;
@@ -178,12 +177,16 @@ impl<F: FileSystem> Folder<F> {
         Ok(())
     }
 
-    /// Makes a file. One that is there already isn't this process's.
+    /// Makes a file, behind the entry of the one before it, since a crash may leave no gap. One that is there already isn't this process's.
     fn made(&mut self, kind: Kind, number: u32) -> io::Result<OpenOne<F::File>> {
         let Some(count) = number.checked_add(1) else {
             return Err(io::Error::from(ErrorKind::StorageFull));
         };
         self.holding.hold(&mut self.system)?;
+        if number > 0 {
+            self.sync_entries()?;
+        }
+        self.folder_synced = false;
         let path = path_of(self.alloc, kind, number)?;
         let file = match self.system.open(path.as_str(), Access::New) {
             Ok(file) => file,

@@ -236,12 +236,6 @@ const MOVES_AT_14: Plan = Plan {
     ..TWO_VOLUMES
 };
 
-/// Two volumes whose paths lead to other files from call 13 on.
-const MOVES_AT_13: Plan = Plan {
-    moved_from: 13,
-    ..TWO_VOLUMES
-};
-
 /// Two volumes whose paths lead to other files from call 4 on.
 const MOVES_AT_4: Plan = Plan {
     moved_from: 4,
@@ -249,7 +243,7 @@ const MOVES_AT_4: Plan = Plan {
 };
 
 /// What is asked of the files of two volumes.
-static OPEN: [Row; 8] = [
+static OPEN: [Row; 9] = [
     // Two files stay open with their lengths.
     (
         TWO_VOLUMES,
@@ -269,12 +263,29 @@ static OPEN: [Row; 8] = [
     (
         Plan {
             from: 7,
-            fails: [(8, ErrorKind::AlreadyExists), NEVER],
+            fails: [(10, ErrorKind::AlreadyExists), NEVER],
             ..TWO_VOLUMES
         },
         Lock::Alone,
         &[FILES, CREATE, FILES, CREATE, READ_0],
-        &["look for archive;create vol-000002.warc;", "4"],
+        &[
+            "look for archive;sync folder archive;sync folder .;create vol-000002.warc;",
+            "4",
+        ],
+    ),
+    // Where the folder's sync failed behind a file that was made, it is synced before the next one is, so that a crash leaves no gap.
+    (
+        Plan {
+            from: 13,
+            fails: [(13, ErrorKind::Other), NEVER],
+            ..TWO_VOLUMES
+        },
+        Lock::Alone,
+        &[FILES, CREATE, CREATE],
+        &[
+            "sync folder archive;look for archive;sync folder archive;create vol-000003.warc;look at vol-000003.warc;sync all vol-000003.warc;sync folder archive;look for archive/vol-000003.warc;",
+            "1",
+        ],
     ),
     // A folder that is gone holds no files, which isn't said of one that this process has.
     (
@@ -305,7 +316,7 @@ static OPEN: [Row; 8] = [
             "look for archive;open to read vol-000000.warc;look at vol-000000.warc;",
             REOPENED,
             ONE_WRITE,
-            "read 2 at 1 of vol-000000.warc;look for archive;create vol-000002.warc;look at vol-000002.warc;sync all vol-000002.warc;sync folder archive;sync folder .;look for archive/vol-000002.warc;write 3 at 0 of vol-000002.warc;sync data vol-000002.warc;look for archive/vol-000002.warc;look for archive;open to write vol-000001.warc;look at vol-000001.warc;write 3 at 0 of vol-000001.warc;",
+            "read 2 at 1 of vol-000000.warc;look for archive;sync folder archive;sync folder .;create vol-000002.warc;look at vol-000002.warc;sync all vol-000002.warc;sync folder archive;look for archive/vol-000002.warc;write 3 at 0 of vol-000002.warc;sync data vol-000002.warc;look for archive/vol-000002.warc;look for archive;open to write vol-000001.warc;look at vol-000001.warc;write 3 at 0 of vol-000001.warc;",
             "0",
         ],
     ),
@@ -339,20 +350,20 @@ static OPEN: [Row; 8] = [
             "5",
         ],
     ),
-    // from the fourteenth on,
+    // also behind a file that was made,
     (
         Plan {
             from: 7,
-            ..MOVES_AT_13
+            ..MOVES_AT_14
         },
         Lock::Alone,
         &[FILES, CREATE, FILES],
         &[
-            "look for archive;create vol-000002.warc;look at vol-000002.warc;sync all vol-000002.warc;sync folder archive;sync folder .;look for archive/vol-000002.warc;look for archive;",
+            "look for archive;sync folder archive;sync folder .;create vol-000002.warc;look at vol-000002.warc;sync all vol-000002.warc;sync folder archive;look for archive/vol-000002.warc;look for archive;",
             "2",
         ],
     ),
-    // and from the fifth on.
+    // and from the fifth call on.
     (
         Plan {
             from: 7,
