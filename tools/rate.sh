@@ -6,6 +6,7 @@ program=$(realpath "$1") folder=$2 url=$3
 for workers in 1 4 16; do
   here=$(mktemp -d -p "$folder")
   cd "$here" || exit 1
+  touch err
   "$program" serve 67e55044-10b1-426f-9247-bb680e5fe0c8 http://localhost:18096 "$workers" > out 2> err < /dev/null &
   server=$!
   until grep -q listening err; do sleep 0.1; done
