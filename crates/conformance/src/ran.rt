@@ -2,8 +2,8 @@
 use crate::objects::Objects;
 use capture::{Memory, put_all, put_number};
 use case_disk::Outcome;
+use command::Status;
 use outside::{Heard, Transcript};
-use proxy_run::Status;
 use std::alloc::Global;
 
 /// Puts the lines of all but the files: the status, what was written on each connection and sent over each link, and what

@@ -1,7 +1,7 @@
 -- The status that the process ends with.
 use Rattle.std.specs.Prelude.{ℕ}
-use Rattle.proxy_run.specs.declared.Status.{Status}
-use Rattle.proxy_run.specs.declared.Status.TheVariants.{Done, Words, Archive, Outside, Memory}
+use Rattle.command.specs.declared.Status.{Status}
+use Rattle.command.specs.declared.Status.TheVariants.{Done, Words, Archive, Outside, Memory}
 
 -- the number of a status
 abbrev pub status_number : Status → ℕ

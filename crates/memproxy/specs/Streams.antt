@@ -1,6 +1,6 @@
 -- Where the program meets its client and prints.
 use Rattle.std.specs.Prelude.{ℕ, Bool, false, ◌||◌, List, if◌then◌else◌}
-use Rattle.proxy_run.specs.Words.{is_import, is_pipe}
+use Rattle.command.specs.Words.{is_import, is_pipe}
 
 -- the one client is at the standard streams
 abbrev pub has_client_at_streams : List (List ℕ) → Bool

@@ -6,7 +6,7 @@ ghost use Rattle.real_outside.specs.Ends.{is_streams};
 ghost use Rattle.real_outside.specs.Sinks.{is_error};
 
 use capture::Memory;
-use proxy_run::{is_import, is_pipe, site_of};
+use command::{is_import, is_pipe, site_of};
 use real_outside::{Ends, Lock, RealSink, StandardStreams};
 use std::alloc::Global;
 use std::env;

@@ -6,8 +6,9 @@ mod status;
 #[cfg(test)]
 mod tests;
 
+use command::Status;
 use command_line::{ends_of, lock_of, out_of, texts_of, words_of};
-use proxy_run::{CREW, Crew, Status, run};
+use proxy_run::{CREW, Crew, run};
 use real_outside::{Made, Network, RealGate, StandardStreams, hold_standard_descriptors, make};
 use status::{ended, exit_code};
 use std::io::Eprint;

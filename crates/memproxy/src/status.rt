@@ -3,7 +3,7 @@ ghost use Rattle.std.specs.Prelude.{◌≡◌};
 ghost use Rattle.std.specs.Process.{exit_status};
 ghost use Rattle.memproxy.specs.Status.{status_number};
 
-use proxy_run::{Ran, Status};
+use command::{Ran, Status};
 use std::process::ExitCode;
 
 /// The number of a status, as the one who started the process sees it.

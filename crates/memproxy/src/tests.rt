@@ -1,7 +1,8 @@
 //! The call that serves, over real objects, which no case has.
+use command::Status;
 use disk_model::{Disk, Kind};
 use outside::MemorySink;
-use proxy_run::{CREW, Crew, Status, run};
+use proxy_run::{CREW, Crew, run};
 use real_outside::{Ends, Lock, Made, make};
 use std::fs;
 use std::test::Fail;

@@ -21,25 +21,25 @@ use Rattle.disk_model.specs.Image.{Image}
 use Rattle.outside.specs.declared.sink.Sink.{Ghosts as Sinks}
 use Rattle.proxy_run.proofs.NextLaws.{all_next, ready_next}
 use Rattle.proxy_run.specs.Complete.{CapturesComeBack, ChecksAreAnswered, EndsBadly, FollowsAreAnswered, FollowsBadly, FollowsLeaveReady, ImportsAreAnswered, ImportsBadly, ImportsLeaveReady, IsFullBefore, IsNotFollowed, IsNotTaken, IsReady, IsSteady, NoFaults, PipesAreAnswered, PipesLeaveReady, ServesBadly}
-use Rattle.proxy_run.specs.Following.{EndsBy as FollowEnds, is_disk_stop}
+use Rattle.replica.specs.Following.{EndsBy as FollowEnds, is_disk_stop}
 use Rattle.proxy_run.specs.Follows.{TellsEnd}
-use Rattle.proxy_run.specs.Imports.{IsTellable, Tells, status_after}
-use Rattle.proxy_run.specs.Keeping.{EndsBy, Keeps, is_denied}
-use Rattle.proxy_run.specs.Objects.{Kinds, Objects, UsesFirst, with_one}
+use Rattle.importing.specs.Imports.{IsTellable, Tells, status_after}
+use Rattle.importing.specs.Keeping.{EndsBy, Keeps, is_denied}
+use Rattle.command.specs.Objects.{Kinds, Objects, UsesFirst, with_one}
 use Rattle.proxy_run.specs.Pipes.{HasServed, HasServedNone, Refuses}
-use Rattle.proxy_run.specs.Printing.{LacksMemory, Prints}
+use Rattle.command.specs.Printing.{LacksMemory, Prints}
 use Rattle.proxy_run.specs.Runs.{HasChecked, HasPiped, HasReplicated, HasTakenIn, LacksWords}
 use Rattle.proxy_run.specs.Serving.{IsReason, status_of}
-use Rattle.proxy_run.specs.Sources.{source_of}
-use Rattle.proxy_run.specs.Texts.{IsFaultText}
-use Rattle.proxy_run.specs.declared.asking.SourceFault.TheVariants as sources
-use Rattle.proxy_run.specs.declared.following.Stop.{Stop}
-use Rattle.proxy_run.specs.declared.following.Stop.TheVariants.{Source, Piece}
+use Rattle.replica.specs.Sources.{source_of}
+use Rattle.command.specs.Texts.{IsFaultText}
+use Rattle.replica.specs.declared.asking.SourceFault.TheVariants as sources
+use Rattle.replica.specs.declared.following.Stop.{Stop}
+use Rattle.replica.specs.declared.following.Stop.TheVariants.{Source, Piece}
 use Rattle.archive_pieces.specs.declared.fault.PieceFault.TheVariants as pieces
-use Rattle.proxy_run.specs.declared.input.InputFault.{InputFault}
-use Rattle.proxy_run.specs.declared.input.InputFault.TheVariants as input_fault
-use Rattle.proxy_run.specs.declared.status.Status.{Status}
-use Rattle.proxy_run.specs.declared.status.Status.TheVariants.{Done, Words, Archive, Outside, Memory}
+use Rattle.importing.specs.declared.input.InputFault.{InputFault}
+use Rattle.importing.specs.declared.input.InputFault.TheVariants as input_fault
+use Rattle.command.specs.declared.status.Status.{Status}
+use Rattle.command.specs.declared.status.Status.TheVariants.{Done, Words, Archive, Outside, Memory}
 use Rattle.session.specs.declared.served.Served.{Served}
 use Rattle.session.specs.declared.served.Served.TheVariants as served
 use Rattle.warc_journal.specs.Extents.{warc_files}

@@ -1,6 +1,5 @@
 -- A connection over an archive, said of the disk that was given.
-use Rattle.std.proofs.Common.{◌≡◌, ◌⊎◌, ℕ, Bool, true, IsTrue, List, Option, Some, None, is_some, refl, ap, subst, ◌∙◌, inl, inr, arith}
-use Rattle.std.proofs.lemmas.Bool.{false≢true}
+use Rattle.std.proofs.Common.{◌≡◌, ℕ, Bool, true, IsTrue, List, Option, refl, subst, ◌∙◌}
 use Rattle.archive_core.proofs.TellingLaws.{quiet_muted}
 use Rattle.archive_core.specs.Holdings.{Holdings, contents_of}
 use Rattle.archive_core.specs.Reopening.{IsReopened}
@@ -8,20 +7,19 @@ use Rattle.archive_core.specs.Told.{told_of, told_on}
 use Rattle.archive_volumes.proofs.ChangeLaws.{DiskLaws, laws_muted, opens_now}
 use Rattle.archive_volumes.proofs.StoreLaws.{opens_earlier}
 use Rattle.archive_volumes.specs.Volumes.{muted}
-use Rattle.archive_shelf.specs.Openings.{HasIds, SameBook}
-use Rattle.capture.specs.declared.book.Book.{Book}
+use Rattle.archive_shelf.specs.Openings.{SameBook}
 use Rattle.disk_model.specs.declared.disk.Disk.{Ghosts as Disks}
-use Rattle.proxy_run.specs.Objects.{Around}
-use Rattle.proxy_run.specs.Opening.{IsUnchanged, usual_limits}
+use Rattle.command.proofs.OpeningLaws.{ids_differ, only_one}
+use Rattle.command.specs.Objects.{Around}
+use Rattle.command.specs.Opening.{IsUnchanged, usual_limits}
 use Rattle.proxy_run.specs.Pipes.{LeavesJust, pipe_terms}
 use Rattle.proxy_run.specs.Serving.{ServesOne, pipe_setting}
-use Rattle.proxy_run.specs.declared.status.Status.{Status}
+use Rattle.command.specs.declared.status.Status.{Status}
 use Rattle.session.proofs.ImageLaws.{images_behind, opens_more}
 use Rattle.session.specs.Images.{KeepsImages}
 use Rattle.session.specs.Rounds.{Round, IsCourse}
 use Rattle.session.specs.Traces.{view_of}
 use Rattle.warc_journal.specs.Journals.{disk_of}
-use Rattle.warc_text.specs.StandsFor.{IdsDifferIn}
 
 -- ---- the connection
 
@@ -52,13 +50,6 @@ served_over disks laws given clock_tells told now was is status only same faults
     }
 
 -- ---- what is left
-
-pub ids_differ : (book : Book) → HasIds book → IdsDifferIn book
-ids_differ book ids m n less less₂ e = ids m n (omega (arith, less)) (omega (arith, less₂)) e
-
-pub only_one : {x y : Book} → SameBook x y ⊎ (None ≡ Some x) → SameBook x y
-only_one (inl same) = same
-only_one (inr other) = absurd (false≢true (ap is_some other))
 
 pub leaves_just : {D : Type 0} (disks : Disks D) → DiskLaws disks → (given : D) (asked : Option (List ℕ)) (rounds : List Round) (was is : Holdings D)
     → is.told ≡ was.told → IsReopened disks given asked usual_limits was → KeepsImages (pipe_terms (contents_of was)) rounds (told_of disks was) (told_of disks is)

@@ -17,16 +17,16 @@ use Rattle.outside.specs.Records.{Links}
 use Rattle.outside.specs.declared.dialer.Dialer.{Ghosts as Dialers}
 use Rattle.outside.specs.declared.dialer.Transcript.{Transcript}
 use Rattle.outside.specs.declared.sink.Sink.{Ghosts as Sinks}
-use Rattle.proxy_run.proofs.ConnectionLaws.{ids_differ, only_one}
-use Rattle.proxy_run.proofs.FollowLaws.{at_last, ended_unasked}
-use Rattle.proxy_run.specs.Following.{IsOfRefused, IsOnWay, OpensBehind, Step, is_disk_stop}
+use Rattle.command.proofs.OpeningLaws.{ids_differ, only_one}
+use Rattle.replica.proofs.FollowLaws.{at_last, ended_unasked}
+use Rattle.replica.specs.Following.{IsOfRefused, IsOnWay, OpensBehind, Step, is_disk_stop}
 use Rattle.proxy_run.specs.Follows.{Follows, FollowsTo}
-use Rattle.proxy_run.specs.Opening.{IsOpened, usual_limits}
-use Rattle.proxy_run.specs.Sources.{source_of}
-use Rattle.proxy_run.specs.declared.asking.SourceFault.TheVariants as sources
-use Rattle.proxy_run.specs.declared.following.Stop.TheVariants.{Source}
-use Rattle.proxy_run.specs.declared.status.Status.{Status}
-use Rattle.proxy_run.specs.declared.status.Status.TheVariants as status
+use Rattle.command.specs.Opening.{IsOpened, usual_limits}
+use Rattle.replica.specs.Sources.{source_of}
+use Rattle.replica.specs.declared.asking.SourceFault.TheVariants as sources
+use Rattle.replica.specs.declared.following.Stop.TheVariants.{Source}
+use Rattle.command.specs.declared.status.Status.{Status}
+use Rattle.command.specs.declared.status.Status.TheVariants as status
 use Rattle.warc_journal.specs.Journals.{disk_of}
 
 -- there was no memory to ask

@@ -11,10 +11,13 @@ use Rattle.capture.specs.declared.book.Book.{Book}
 use Rattle.capture.specs.declared.book.Volume.{Volume}
 use Rattle.capture.specs.declared.captured.Stored.{Stored}
 use Rattle.disk_model.specs.Image.{Image}
-use Rattle.proxy_run.proofs.OpeningLaws.{none_by_length}
 use Rattle.proxy_run.specs.Complete.{HoldsAll, IsReady}
 use Rattle.warc_journal.specs.Extents.{warc_files}
 use Rattle.warc_text.specs.StandsFor.{FilesStandForNoVolume, FilesStandForOneBook, IdsDifferIn}
+
+pub none_by_length : (volumes : List Volume) → length volumes ≡ 0 → volumes ≡ []
+none_by_length [] e = refl
+none_by_length (volume ∷ volumes) e = absurd (omega (arith, e))
 
 -- without volumes there are no captures, whose ids might be equal
 no_captures : (book : Book) → book.volumes ≡ [] → IdsDifferIn book

@@ -11,12 +11,13 @@ use Rattle.outside.specs.Records.{Links}
 use Rattle.outside.specs.declared.dialer.Transcript.{Transcript}
 use Rattle.outside.specs.declared.gate.Heard.{Heard}
 use Rattle.proxy_run.specs.Complete.{IsReady}
-use Rattle.proxy_run.specs.Objects.{Kinds, Objects}
+use Rattle.command.specs.Objects.{Kinds, Objects}
 use Rattle.proxy_run.specs.OnePipe.{PipesLeaveNoChoice, PipesWell}
-use Rattle.proxy_run.specs.Opening.{IsOpened}
+use Rattle.command.specs.Opening.{IsOpened}
 use Rattle.proxy_run.specs.Pipes.{Pipes, pipe_terms}
-use Rattle.proxy_run.specs.Serving.{pipe_site, status_of, unheard}
-use Rattle.proxy_run.specs.declared.status.Status.{Status}
+use Rattle.proxy_run.specs.Serving.{pipe_site, status_of}
+use Rattle.command.specs.Gates.{unheard}
+use Rattle.command.specs.declared.status.Status.{Status}
 use Rattle.session.specs.Gains.{gains_of}
 use Rattle.session.specs.OneCourse.{AreOneCourse, CoursesEndOneWay, CoursesLeaveNoChoice, WentWell}
 use Rattle.session.specs.Requests.{IsUndecided}

@@ -8,31 +8,16 @@ use Rattle.archive_volumes.proofs.ChangeLaws.{DiskLaws}
 use Rattle.archive_volumes.specs.Volumes.{OpensNear, crash_of, muted}
 use Rattle.capture.specs.Growth.{Grows}
 use Rattle.disk_model.specs.declared.disk.Disk.{Ghosts as Disks}
-use Rattle.outside.proofs.HangUps.{connections_hung_up_are_logged}
-use Rattle.outside.specs.Gate.{Connections, heard_of, one_given, one_hung_up, one_served}
-use Rattle.outside.specs.Link.{IsFresh, Traffic}
-use Rattle.outside.specs.declared.gate.Heard.{Heard}
-use Rattle.proxy_run.specs.Objects.{Around, Kinds, Objects}
-use Rattle.proxy_run.specs.Opening.{IsOpened, usual_limits}
+use Rattle.outside.specs.Gate.{Connections}
+use Rattle.command.specs.Objects.{Around, Kinds, Objects}
+use Rattle.command.specs.Opening.{IsOpened, usual_limits}
 use Rattle.proxy_run.specs.Pipes.{HasServed, HasServedNone, Pipes, around_in}
-use Rattle.proxy_run.specs.Serving.{IsServedStatus, IsReason, ServesNone, ServesOne, pipe_setting, unheard}
-use Rattle.proxy_run.specs.declared.status.Status.{Status}
-use Rattle.proxy_run.specs.declared.status.Status.TheVariants.{Outside}
+use Rattle.proxy_run.specs.Serving.{IsServedStatus, IsReason, ServesNone, ServesOne, pipe_setting}
+use Rattle.command.specs.declared.status.Status.{Status}
+use Rattle.command.specs.declared.status.Status.TheVariants.{Outside}
 use Rattle.proxy_run.proofs.ConnectionLaws.{leaves_just, served_over}
-use Rattle.proxy_run.proofs.OpeningLaws.{unchanged_by}
+use Rattle.command.proofs.OpeningLaws.{unchanged_by}
 use Rattle.warc_journal.specs.Journals.{disk_of}
-
--- ---- the gate's connection
-
--- on a fresh link nothing was heard yet
-pub nothing_heard : (traffic : Traffic) (faults : ℕ) → IsFresh traffic → faults ≡ 0 → heard_of traffic faults ≡ unheard
-nothing_heard traffic faults fresh none = ap (λ (t : Traffic). heard_of t faults) fresh ∙ ap (λ (n : ℕ). record unheard { faults = n }) none
-
--- the connection that was given and hung up is all that was gained
-pub served_and_hung_up : (before given now : Connections) (heard : Heard) → given ≡ one_given before
-    → now ≡ one_hung_up given heard → now ≡ one_served before heard
-served_and_hung_up before given now heard was is =
-    is ∙ ap (λ (c : Connections). one_hung_up c heard) was ∙ connections_hung_up_are_logged before heard
 
 -- nothing but connections might have been gained, and none was
 pub none_gained : (was : Around) (closed : Bool) (before now : ℕ) (connections : Connections) (status : Status) → IsReason closed before now status

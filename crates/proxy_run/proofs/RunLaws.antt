@@ -3,21 +3,21 @@ use Rattle.std.proofs.Common.{◌≡◌, ◌⊎◌, ℕ, List, ◌∷◌, Option
 use Rattle.capture.specs.declared.site.Site.{Site}
 use Rattle.proxy_run.specs.Checks.{IsCounted}
 use Rattle.proxy_run.specs.Follows.{Follows}
-use Rattle.proxy_run.specs.Imports.{Imports, ends_of}
-use Rattle.proxy_run.specs.Objects.{Kinds, Objects, objects_of, with_one}
-use Rattle.proxy_run.specs.Opening.{IsNotOpened}
+use Rattle.importing.specs.Imports.{Imports, ends_of}
+use Rattle.command.specs.Objects.{Kinds, Objects, objects_of, with_one}
+use Rattle.command.specs.Opening.{IsNotOpened}
 use Rattle.proxy_run.specs.Pipes.{Pipes, Refuses}
-use Rattle.proxy_run.specs.Printing.{Prints}
-use Rattle.proxy_run.specs.Runs.{Runs}
+use Rattle.command.specs.Printing.{Prints}
+use Rattle.proxy_run.specs.Runs.{NamesNone, Runs}
 use Rattle.proxy_run.specs.Serves.{LacksShelves, Serves}
-use Rattle.proxy_run.specs.Texts.{usage}
+use Rattle.command.specs.Texts.{usage}
 use Rattle.proxy_run.specs.Trials.{Tries}
 use Rattle.proxy_run.specs.Verifies.{IsVerified}
-use Rattle.proxy_run.specs.Words.{asked_of}
-use Rattle.proxy_run.specs.declared.status.Status.{Status}
-use Rattle.proxy_run.specs.declared.status.Status.TheVariants.{Memory, Words}
-use Rattle.proxy_run.specs.declared.words.Command.{Command}
-use Rattle.proxy_run.specs.declared.words.Command.TheVariants.{Check, Follow, Import, Pipe, Serve, Trial, Verify}
+use Rattle.command.specs.Words.{asked_of}
+use Rattle.command.specs.declared.status.Status.{Status}
+use Rattle.command.specs.declared.status.Status.TheVariants.{Memory, Words}
+use Rattle.command.specs.declared.words.Command.{Command}
+use Rattle.command.specs.declared.words.Command.TheVariants.{Check, Follow, Import, Pipe, Serve, Trial, Verify}
 
 module _ {D G L P N M C O : Type 0} (kinds : Kinds D G L P N M C O) (found : Option Command) (site : Option Site) where
   pub runs_none : (was : Objects D G (List (N × C)) O) (out : O) (status : Status) → found ≡ None → Prints kinds.sinks Words usage was.out out status
@@ -144,23 +144,26 @@ module _ {D G L P N M C O : Type 0} (kinds : Kinds D G L P N M C O) (found : Opt
       (subst (λ c. Follows kinds.disks kinds.dialers kinds.sinks kinds.origins_tell (asked_of c) base was.disk is.disk before after was.out is.out status
       ⊎ (IsNotOpened kinds.disks kinds.sinks (asked_of c) was.disk is.disk was.out is.out status × (after ≡ before))) is_follow result)))
 
-  -- the base is none
-  pub follow_misspelt : (command : Command) (namespace : List ℕ) (was : Objects D G (List (N × C)) O) (out : O) (status : Status) → found ≡ Some command
-      → command ≡ Follow namespace → None ≡ site → Prints kinds.sinks Words usage was.out out status → Runs kinds found site was (record was { out = out }) status
-  follow_misspelt command namespace was out status is_command is_follow is_site printed =
-      subst (λ (s : Option Site). Runs kinds found s was (record was { out = out }) status) is_site
-      (subst (λ f. Runs kinds f None was (record was { out = out }) status) (sym (is_command ∙ ap (λ (c : Command). Some c) is_follow))
-      (inl (record { printed = printed; untouched = refl })))
+  follow_lacking : (namespace : List ℕ) (base : Option Site) (was : Objects D G (List (N × C)) O) (status : Status) → status ≡ Memory
+      → Runs kinds (Some (Follow namespace)) base was was status
+  follow_lacking namespace None was status memory = inr (record { status_is = memory; untouched = refl })
+  follow_lacking namespace (Some base) was status memory = inr (inr (record { status_is = memory; untouched = refl }))
 
-  follow_lacking : (namespace : List ℕ) (base : Option Site) (was : Objects D G (List (N × C)) O) → Runs kinds (Some (Follow namespace)) base was was Memory
-  follow_lacking namespace None was = inr (record { status_is = refl; untouched = refl })
-  follow_lacking namespace (Some base) was = inr (inr (record { status_is = refl; untouched = refl }))
+  siteless : (namespace : List ℕ) (was : Objects D G (List (N × C)) O) (out : O) (status : Status) → NamesNone kinds.sinks site was.out out status
+      → Runs kinds (Some (Follow namespace)) site was (record was { out = out }) status
+  siteless namespace was out status (inl (none, printed)) =
+      subst (λ (s : Option Site). Runs kinds (Some (Follow namespace)) s was (record was { out = out }) status) (sym none)
+      (inl (record { printed = printed; untouched = refl }))
+  siteless namespace was out status (inr lacks) =
+      subst (λ (o : O). Runs kinds (Some (Follow namespace)) site was (record was { out = o }) status) (sym lacks.same)
+      (follow_lacking namespace site was status lacks.status_is)
 
-  -- there was no memory to look at it
-  pub follow_lacks : (command : Command) (namespace : List ℕ) (was : Objects D G (List (N × C)) O) → found ≡ Some command → command ≡ Follow namespace
-      → Runs kinds found site was was Memory
-  follow_lacks command namespace was is_command is_follow =
-      subst (λ f. Runs kinds f site was was Memory) (sym (is_command ∙ ap (λ (c : Command). Some c) is_follow)) (follow_lacking namespace site was)
+  -- the base is none, or there was no memory to look at it
+  pub follow_siteless : (command : Command) (namespace : List ℕ) (was : Objects D G (List (N × C)) O) (out : O) (status : Status) → found ≡ Some command
+      → command ≡ Follow namespace → NamesNone kinds.sinks site was.out out status → Runs kinds found site was (record was { out = out }) status
+  follow_siteless command namespace was out status is_command is_follow none =
+      subst (λ f. Runs kinds f site was (record was { out = out }) status) (sym (is_command ∙ ap (λ (c : Command). Some c) is_follow))
+      (siteless namespace was out status none)
 
   served : (namespace : List ℕ) (workers : ℕ) (base : Site) (was is : Objects D G (List (N × C)) O) (status : Status)
       → Serves kinds (Some namespace) base workers was is status ⊎ LacksShelves kinds (Some namespace) was is status ⊎ Refuses kinds (Some namespace) was is status
@@ -179,20 +182,24 @@ module _ {D G L P N M C O : Type 0} (kinds : Kinds D G L P N M C O) (found : Opt
       (served namespace workers base was is status
       (subst (λ c. Serves kinds (asked_of c) base workers was is status ⊎ LacksShelves kinds (asked_of c) was is status ⊎ Refuses kinds (asked_of c) was is status) is_serve result)))
 
-  -- the base is none
-  pub serve_misspelt : (command : Command) (namespace : List ℕ) (workers : ℕ) (was : Objects D G (List (N × C)) O) (out : O) (status : Status) → found ≡ Some command
-      → command ≡ Serve namespace workers → None ≡ site → Prints kinds.sinks Words usage was.out out status → Runs kinds found site was (record was { out = out }) status
-  serve_misspelt command namespace workers was out status is_command is_serve is_site printed =
-      subst (λ (s : Option Site). Runs kinds found s was (record was { out = out }) status) is_site
-      (subst (λ f. Runs kinds f None was (record was { out = out }) status) (sym (is_command ∙ ap (λ (c : Command). Some c) is_serve))
-      (inl (record { printed = printed; untouched = refl })))
+  serve_lacking : (namespace : List ℕ) (workers : ℕ) (base : Option Site) (was : Objects D G (List (N × C)) O) (status : Status) → status ≡ Memory
+      → Runs kinds (Some (Serve namespace workers)) base was was status
+  serve_lacking namespace workers None was status memory = inr (record { status_is = memory; untouched = refl })
+  serve_lacking namespace workers (Some base) was status memory = inr (inr (inr (record { status_is = memory; untouched = refl })))
 
-  serve_lacking : (namespace : List ℕ) (workers : ℕ) (base : Option Site) (was : Objects D G (List (N × C)) O) → Runs kinds (Some (Serve namespace workers)) base was was Memory
-  serve_lacking namespace workers None was = inr (record { status_is = refl; untouched = refl })
-  serve_lacking namespace workers (Some base) was = inr (inr (inr (record { status_is = refl; untouched = refl })))
+  unserved : (namespace : List ℕ) (workers : ℕ) (was : Objects D G (List (N × C)) O) (out : O) (status : Status) → NamesNone kinds.sinks site was.out out status
+      → Runs kinds (Some (Serve namespace workers)) site was (record was { out = out }) status
+  unserved namespace workers was out status (inl (none, printed)) =
+      subst (λ (s : Option Site). Runs kinds (Some (Serve namespace workers)) s was (record was { out = out }) status) (sym none)
+      (inl (record { printed = printed; untouched = refl }))
+  unserved namespace workers was out status (inr lacks) =
+      subst (λ (o : O). Runs kinds (Some (Serve namespace workers)) site was (record was { out = o }) status) (sym lacks.same)
+      (serve_lacking namespace workers site was status lacks.status_is)
 
-  -- there was no memory to look at it
-  pub serve_lacks : (command : Command) (namespace : List ℕ) (workers : ℕ) (was : Objects D G (List (N × C)) O) → found ≡ Some command → command ≡ Serve namespace workers
-      → Runs kinds found site was was Memory
-  serve_lacks command namespace workers was is_command is_serve =
-      subst (λ f. Runs kinds f site was was Memory) (sym (is_command ∙ ap (λ (c : Command). Some c) is_serve)) (serve_lacking namespace workers site was)
+  -- the base is none, or there was no memory to look at it
+  pub serve_siteless : (command : Command) (namespace : List ℕ) (workers : ℕ) (was : Objects D G (List (N × C)) O) (out : O) (status : Status)
+      → found ≡ Some command → command ≡ Serve namespace workers → NamesNone kinds.sinks site was.out out status
+      → Runs kinds found site was (record was { out = out }) status
+  serve_siteless command namespace workers was out status is_command is_serve none =
+      subst (λ f. Runs kinds f site was (record was { out = out }) status) (sym (is_command ∙ ap (λ (c : Command). Some c) is_serve))
+      (unserved namespace workers was out status none)

@@ -6,8 +6,8 @@ use Rattle.outside.specs.Gate.{Connections}
 use Rattle.outside.specs.declared.clock.Clock.{Ghosts as Clocks}
 use Rattle.outside.specs.declared.dialer.Dialer.{Ghosts as Dialers}
 use Rattle.outside.specs.declared.gate.Heard.{Heard}
-use Rattle.proxy_run.specs.Crews.{ServesAll}
-use Rattle.proxy_run.specs.Shifts.{AreShifts, GoOn, Hand, IsShift, ServesThis, hand_of, hands_of}
+use Rattle.crew.specs.Crews.{ServesAll}
+use Rattle.crew.specs.Shifts.{AreShifts, GoOn, Hand, IsShift, ServesThis, hand_of, hands_of}
 use Rattle.session.specs.Connection.{Setting}
 
 -- the same hand, with its shelf in other words

@@ -17,16 +17,16 @@ use Rattle.outside.specs.declared.clock.Clock.{Ghosts as Clocks}
 use Rattle.outside.specs.declared.dialer.Dialer.{Ghosts as Dialers}
 use Rattle.outside.specs.declared.gate.Heard.{Heard}
 use Rattle.outside.specs.declared.sink.Sink.{Ghosts as Sinks}
-use Rattle.proxy_run.specs.Crews.{IsEnd, all_hung_up}
-use Rattle.proxy_run.specs.Objects.{Kinds}
-use Rattle.proxy_run.specs.Printing.{LacksMemory, Prints}
+use Rattle.crew.specs.Crews.{IsEnd, all_hung_up}
+use Rattle.command.specs.Objects.{Kinds}
+use Rattle.command.specs.Printing.{LacksMemory, Prints}
 use Rattle.proxy_run.specs.Promises.{AllAreHungUp, AllAreReadOut, AreReadOut, BooksLeadOn, BooksOnlyGrow, CapturesAreStoredOnce, FaultsAreCounted, GatesAreEmptied, IsHeardOut, IsReadOut, LeadTo, LeadsTo, LogsAreInOrder, numbers_of, rounds_in, rounds_of}
 use Rattle.proxy_run.specs.Serves.{AreNewcomers, HasShare, Seat, all_faults, all_mine, told_by, worst}
-use Rattle.proxy_run.specs.Serving.{unheard}
-use Rattle.proxy_run.specs.Shifts.{AreShifts, Hand, IsShift, hand_of, hands_of}
-use Rattle.proxy_run.specs.Texts.{captures_line}
-use Rattle.proxy_run.specs.declared.status.Status.{Status}
-use Rattle.proxy_run.specs.declared.status.Status.TheVariants.{Done, Words, Archive, Outside, Memory}
+use Rattle.command.specs.Gates.{unheard}
+use Rattle.crew.specs.Shifts.{AreShifts, Hand, IsShift, hand_of, hands_of}
+use Rattle.command.specs.Texts.{captures_line}
+use Rattle.command.specs.declared.status.Status.{Status}
+use Rattle.command.specs.declared.status.Status.TheVariants.{Done, Words, Archive, Outside, Memory}
 use Rattle.session.specs.Connection.{Setting}
 use Rattle.session.specs.Laws.{CoursesCountFaults, CoursesGrow}
 use Rattle.session.specs.Requests.{IsBetween}

@@ -10,7 +10,7 @@ use Rattle.capture.specs.declared.book.Volume.{Volume}
 use Rattle.capture.specs.declared.captured.Stored.{Stored}
 use Rattle.disk_model.specs.Image.{Image, files_of, no_files}
 use Rattle.load_shelf.specs.Loads.{HoldsFirst, IsFilled}
-use Rattle.proxy_run.specs.Texts.{trial_text}
+use Rattle.command.specs.Texts.{trial_text}
 use Rattle.proxy_run.specs.Trials.{HasBytes, IsTried, trial_namespace, trial_volume}
 use Rattle.warc_journal.specs.Extents.{warc_files}
 use Rattle.warc_journal.specs.Texts.{AreJust}

@@ -22,12 +22,12 @@ use Rattle.vault.specs.Own.{own_captures, own_faults}
 use Rattle.vault.specs.Sharing.{HasItsOwn, IsLeftByAll, IsSharedOut as IsHistoryShared, all_stored}
 use Rattle.vault.specs.declared.noted.Noted.{Noted}
 use Rattle.vault.proofs.MemberLaws.{new_captures, new_faults}
-use Rattle.proxy_run.specs.Crews.{IsEnd, ServesAll}
-use Rattle.proxy_run.specs.Objects.{Kinds, Objects}
-use Rattle.proxy_run.specs.Opening.{IsOpened}
+use Rattle.crew.specs.Crews.{IsEnd, ServesAll}
+use Rattle.command.specs.Objects.{Kinds, Objects}
+use Rattle.command.specs.Opening.{IsOpened}
 use Rattle.proxy_run.specs.Serves.{AreNewcomers, HasShare, IsNewcomer, IsSharedOut, Seat, Serves, TellsCount, all_faults, all_mine, told_by}
-use Rattle.proxy_run.specs.Shifts.{hands_of}
-use Rattle.proxy_run.specs.declared.status.Status.{Status}
+use Rattle.crew.specs.Shifts.{hands_of}
+use Rattle.command.specs.declared.status.Status.{Status}
 use Rattle.proxy_run.specs.steps.Seating.{IsNameOf}
 use Rattle.proxy_run.proofs.SeatLaws.{serves_as}
 

@@ -6,14 +6,14 @@ use Rattle.archive_volumes.specs.Facts.{facts_of}
 use Rattle.proxy_run.proofs.CompleteLaws.{not_risen, printed_or_lacked, refused_for_memory}
 use Rattle.proxy_run.proofs.SoundVolumes.{sound_volumes_verify}
 use Rattle.proxy_run.specs.Complete.{IsReady, NoFaults}
-use Rattle.proxy_run.specs.Objects.{Kinds, Objects}
-use Rattle.proxy_run.specs.Opening.{IsOpened}
+use Rattle.command.specs.Objects.{Kinds, Objects}
+use Rattle.command.specs.Opening.{IsOpened}
 use Rattle.proxy_run.specs.Pipes.{Refuses}
 use Rattle.proxy_run.specs.Runs.{Verifies}
 use Rattle.proxy_run.specs.Verified.{VerifiesAreAnswered}
 use Rattle.proxy_run.specs.Verifies.{ChecksVolumes, lines_of, status_by}
-use Rattle.proxy_run.specs.declared.status.Status.{Status}
-use Rattle.proxy_run.specs.declared.status.Status.TheVariants.{Done, Memory}
+use Rattle.command.specs.declared.status.Status.{Status}
+use Rattle.command.specs.declared.status.Status.TheVariants.{Done, Memory}
 
 module _ {D G L P N M C O : Type 0} (kinds : Kinds D G L P N M C O) where
   checks_answered : (was is : Objects D G (List (N × C)) O) (status : Status) (now : Contents) → IsTrue kinds.disks.tells → NoFaults kinds was is

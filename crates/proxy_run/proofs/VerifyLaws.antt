@@ -17,13 +17,13 @@ use Rattle.disk_model.specs.declared.kind.Kind.TheVariants.{Warc}
 use Rattle.fixity.specs.Verdicts.{IsVerdict, volume_of}
 use Rattle.fixity.specs.declared.verdict.Verdict.{Verdict}
 use Rattle.outside.specs.declared.sink.Sink.{Ghosts as Sinks}
-use Rattle.proxy_run.specs.Opening.{IsOpened, usual_limits}
-use Rattle.proxy_run.specs.Printing.{Prints}
+use Rattle.command.specs.Opening.{IsOpened, usual_limits}
+use Rattle.command.specs.Printing.{Prints}
 use Rattle.proxy_run.specs.Verifies.{Checked, ChecksVolumes, IsRight, IsVerified, facts_in, has_damage, is_damaged, lines_of, verdict_line}
 use Rattle.proxy_run.specs.declared.plan.Plan.{Plan}
 use Rattle.proxy_run.specs.declared.report.Report.{Report}
-use Rattle.proxy_run.specs.declared.status.Status.{Status}
-use Rattle.proxy_run.specs.declared.status.Status.TheVariants.{Archive}
+use Rattle.command.specs.declared.status.Status.{Status}
+use Rattle.command.specs.declared.status.Status.TheVariants.{Archive}
 use Rattle.proxy_run.specs.steps.Verifying.{HasChecked, IsThere}
 use Rattle.warc_journal.specs.Journals.{disk_of}
 

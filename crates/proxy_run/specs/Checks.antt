@@ -4,11 +4,11 @@ use Rattle.archive_shelf.specs.Contents.{Contents}
 use Rattle.archive_shelf.specs.Storing.{counts_of}
 use Rattle.disk_model.specs.declared.disk.Disk.{Ghosts as Disks}
 use Rattle.outside.specs.declared.sink.Sink.{Ghosts as Sinks}
-use Rattle.proxy_run.specs.Opening.{IsOpened, IsUnchanged}
-use Rattle.proxy_run.specs.Printing.{LacksMemory, Prints}
-use Rattle.proxy_run.specs.Texts.{counts_text}
-use Rattle.proxy_run.specs.declared.status.Status.{Status}
-use Rattle.proxy_run.specs.declared.status.Status.TheVariants.{Done}
+use Rattle.command.specs.Opening.{IsOpened, IsUnchanged}
+use Rattle.command.specs.Printing.{LacksMemory, Prints}
+use Rattle.command.specs.Texts.{counts_text}
+use Rattle.command.specs.declared.status.Status.{Status}
+use Rattle.command.specs.declared.status.Status.TheVariants.{Done}
 
 -- The archive was opened, nothing was written to its disk, and how much it holds was printed, or there was no memory for that.
 pub record IsCounted {D O : Type 0} (disks : Disks D) (sinks : Sinks O) (was is : D) (out_was out_is : O) (status : Status) : Type 0 where

@@ -10,18 +10,18 @@ use Rattle.capture.specs.declared.book.Book.{Book}
 use Rattle.capture.specs.declared.captured.Stored.{Stored}
 use Rattle.capture.specs.declared.site.Site.{Site}
 use Rattle.disk_model.specs.Image.{Image}
-use Rattle.proxy_run.specs.Objects.{Kinds, Objects, UsesFirst, with_one}
+use Rattle.command.specs.Objects.{Kinds, Objects, UsesFirst, with_one}
 use Rattle.proxy_run.specs.Pipes.{HasServed, Pipes}
 use Rattle.proxy_run.specs.Runs.{HasReplicated, HasTakenIn, Runs}
-use Rattle.proxy_run.specs.declared.asking.SourceFault.TheVariants as sources
-use Rattle.proxy_run.specs.declared.following.Stop.{Stop}
-use Rattle.proxy_run.specs.declared.following.Stop.TheVariants.{Source, Piece}
-use Rattle.proxy_run.specs.declared.input.InputFault.{InputFault}
-use Rattle.proxy_run.specs.declared.input.InputFault.TheVariants as input_fault
-use Rattle.proxy_run.specs.declared.status.Status.{Status}
-use Rattle.proxy_run.specs.declared.status.Status.TheVariants.{Done, Memory}
+use Rattle.replica.specs.declared.asking.SourceFault.TheVariants as sources
+use Rattle.replica.specs.declared.following.Stop.{Stop}
+use Rattle.replica.specs.declared.following.Stop.TheVariants.{Source, Piece}
+use Rattle.importing.specs.declared.input.InputFault.{InputFault}
+use Rattle.importing.specs.declared.input.InputFault.TheVariants as input_fault
+use Rattle.command.specs.declared.status.Status.{Status}
+use Rattle.command.specs.declared.status.Status.TheVariants.{Done, Memory}
 use Rattle.archive_pieces.specs.declared.fault.PieceFault.TheVariants as pieces
-use Rattle.proxy_run.specs.declared.words.Command.TheVariants.{Check, Follow, Import, Pipe}
+use Rattle.command.specs.declared.words.Command.TheVariants.{Check, Follow, Import, Pipe}
 use Rattle.session.specs.declared.served.Served.{Served}
 use Rattle.session.specs.declared.served.Served.TheVariants as served
 use Rattle.warc_reader.specs.Records.{HasNoRecordAt}

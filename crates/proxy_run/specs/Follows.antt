@@ -14,15 +14,15 @@ use Rattle.outside.specs.Records.{Links}
 use Rattle.outside.specs.declared.dialer.Dialer.{Ghosts as Dialers}
 use Rattle.outside.specs.declared.dialer.Transcript.{Transcript}
 use Rattle.outside.specs.declared.sink.Sink.{Ghosts as Sinks}
-use Rattle.proxy_run.specs.Following.{HasFollowed, HaveIds, IsOfRefused, IsOnWay, OpensAtLast, OpensBehind, is_disk_stop, is_outside_stop}
-use Rattle.proxy_run.specs.Opening.{IsOpened}
-use Rattle.proxy_run.specs.Printing.{LacksMemory, Prints}
-use Rattle.proxy_run.specs.Sources.{source_of}
-use Rattle.proxy_run.specs.Texts.{IsStopText, caught_up}
-use Rattle.proxy_run.specs.declared.following.Stop.{Stop}
-use Rattle.proxy_run.specs.declared.following.Stop.TheVariants.{Source, Piece}
-use Rattle.proxy_run.specs.declared.status.Status.{Status}
-use Rattle.proxy_run.specs.declared.status.Status.TheVariants.{Done, Archive, Outside}
+use Rattle.replica.specs.Following.{HasFollowed, HaveIds, IsOfRefused, IsOnWay, OpensAtLast, OpensBehind, is_disk_stop, is_outside_stop}
+use Rattle.command.specs.Opening.{IsOpened}
+use Rattle.command.specs.Printing.{LacksMemory, Prints}
+use Rattle.replica.specs.Sources.{source_of}
+use Rattle.proxy_run.specs.StopTexts.{IsStopText, caught_up}
+use Rattle.replica.specs.declared.following.Stop.{Stop}
+use Rattle.replica.specs.declared.following.Stop.TheVariants.{Source, Piece}
+use Rattle.command.specs.declared.status.Status.{Status}
+use Rattle.command.specs.declared.status.Status.TheVariants.{Done, Archive, Outside}
 use Rattle.archive_pieces.specs.declared.fault.PieceFault.TheVariants as pieces
 use Rattle.warc_journal.specs.Journals.{disk_of}
 

@@ -1,10 +1,10 @@
 -- What `pipe` answers is told by what it is given: over one disk the same bytes, times and transcripts are answered in one way.
 use Rattle.std.specs.Prelude.{◌≡◌, ◌≢◌, ℕ, ◌-◌, ◌^◌, ◌<◌, List, length, IsTrue, Some}
 use Rattle.proxy_run.specs.Complete.{IsReady, IsSteady}
-use Rattle.proxy_run.specs.Objects.{Kinds, Objects}
+use Rattle.command.specs.Objects.{Kinds, Objects}
 use Rattle.proxy_run.specs.Pipes.{HasServed, Pipes}
-use Rattle.proxy_run.specs.declared.status.Status.{Status}
-use Rattle.proxy_run.specs.declared.status.Status.TheVariants.{Memory}
+use Rattle.command.specs.declared.status.Status.{Status}
+use Rattle.command.specs.declared.status.Status.TheVariants.{Memory}
 
 module _ {D G L P N M C O : Type 0} (kinds : Kinds D G L P N M C O) where
   module _ {namespace : List ℕ} {was is : Objects D G (N × C) O} {status : Status} where

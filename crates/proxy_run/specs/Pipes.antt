@@ -8,11 +8,11 @@ use Rattle.capture.specs.Growth.{Grows}
 use Rattle.capture.specs.declared.book.Book.{Book}
 use Rattle.disk_model.specs.Image.{Image}
 use Rattle.disk_model.specs.declared.disk.Disk.{Ghosts as Disks}
-use Rattle.proxy_run.specs.Objects.{Around, Kinds, Objects, told_around}
-use Rattle.proxy_run.specs.Opening.{IsNotOpened, IsOpened, IsUnchanged}
+use Rattle.command.specs.Objects.{Around, Kinds, Objects, told_around}
+use Rattle.command.specs.Opening.{IsNotOpened, IsOpened, IsUnchanged}
 use Rattle.proxy_run.specs.Serving.{IsServedStatus, ServesNone, ServesOne, pipe_setting, pipe_site}
-use Rattle.proxy_run.specs.declared.status.Status.{Status}
-use Rattle.proxy_run.specs.declared.status.Status.TheVariants.{Outside}
+use Rattle.command.specs.declared.status.Status.{Status}
+use Rattle.command.specs.declared.status.Status.TheVariants.{Outside}
 use Rattle.session.specs.Images.{HasAllIds, OpensAtLast}
 use Rattle.session.specs.Rounds.{Round}
 use Rattle.session.specs.Traces.{Terms, terms_of}

@@ -9,12 +9,12 @@ use Rattle.capture.specs.declared.book.Book.{Book}
 use Rattle.capture.specs.declared.site.Site.{Site}
 use Rattle.link_queue.specs.Serving.{all_of}
 use Rattle.outside.specs.declared.gate.Heard.{Heard}
-use Rattle.proxy_run.specs.Objects.{Kinds, Objects}
+use Rattle.command.specs.Objects.{Kinds, Objects}
 use Rattle.proxy_run.specs.Serves.{Serves, told_by}
-use Rattle.proxy_run.specs.Shifts.{AreShifts, Hand, IsShift, hands_of}
-use Rattle.proxy_run.specs.Texts.{captures_line}
-use Rattle.proxy_run.specs.declared.status.Status.{Status}
-use Rattle.proxy_run.specs.declared.status.Status.TheVariants.{Done, Memory}
+use Rattle.crew.specs.Shifts.{AreShifts, Hand, IsShift, hands_of}
+use Rattle.command.specs.Texts.{captures_line}
+use Rattle.command.specs.declared.status.Status.{Status}
+use Rattle.command.specs.declared.status.Status.TheVariants.{Done, Memory}
 use Rattle.session.specs.Connection.{Setting}
 use Rattle.session.specs.Gains.{gains_of}
 use Rattle.session.specs.Rounds.{Round, disk_faults, is_closed, lacks}

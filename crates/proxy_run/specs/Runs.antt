@@ -1,20 +1,25 @@
 -- What a run leaves, by what its words ask for.
 use Rattle.std.specs.Prelude.{◌≡◌, ◌⊎◌, ℕ, List, Option, Some, None}
 use Rattle.capture.specs.declared.site.Site.{Site}
+use Rattle.outside.specs.declared.sink.Sink.{Ghosts as Sinks}
 use Rattle.proxy_run.specs.Checks.{IsCounted}
 use Rattle.proxy_run.specs.Follows.{Follows}
-use Rattle.proxy_run.specs.Imports.{Imports, ends_of}
-use Rattle.proxy_run.specs.Objects.{Kinds, Objects, UsesFirst, with_one}
+use Rattle.importing.specs.Imports.{Imports, ends_of}
+use Rattle.command.specs.Objects.{Kinds, Objects, UsesFirst, with_one}
 use Rattle.proxy_run.specs.Pipes.{Pipes, Refuses}
-use Rattle.proxy_run.specs.Printing.{Prints}
+use Rattle.command.specs.Printing.{LacksMemory, Prints}
 use Rattle.proxy_run.specs.Serves.{LacksShelves, Serves}
-use Rattle.proxy_run.specs.Texts.{usage}
+use Rattle.command.specs.Texts.{usage}
 use Rattle.proxy_run.specs.Trials.{Tries}
 use Rattle.proxy_run.specs.Verifies.{IsVerified}
-use Rattle.proxy_run.specs.declared.status.Status.{Status}
-use Rattle.proxy_run.specs.declared.status.Status.TheVariants as status
-use Rattle.proxy_run.specs.declared.words.Command.{Command}
-use Rattle.proxy_run.specs.declared.words.Command.TheVariants.{Check, Follow, Import, Pipe, Serve, Trial, Verify}
+use Rattle.command.specs.declared.status.Status.{Status}
+use Rattle.command.specs.declared.status.Status.TheVariants as status
+use Rattle.command.specs.declared.words.Command.{Command}
+use Rattle.command.specs.declared.words.Command.TheVariants.{Check, Follow, Import, Pipe, Serve, Trial, Verify}
+
+-- The words name no site, and the usage was printed, or there was no memory to look.
+abbrev pub NamesNone : {O : Type 0} → Sinks O → Option Site → O → O → Status → Type 0
+NamesNone sinks site was is result = ((site ≡ None) × Prints sinks status.Words usage was is result) ⊎ LacksMemory sinks was is result
 
 module _ {D G L P N M C O : Type 0} (kinds : Kinds D G L P N M C O) where
   -- the words ask for nothing: the usage was printed, and nothing else was touched

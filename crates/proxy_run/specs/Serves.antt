@@ -13,14 +13,14 @@ use Rattle.capture.specs.declared.site.Site.{Site}
 use Rattle.cdxj_index.specs.OfBook.{AreEntries}
 use Rattle.disk_model.specs.Image.{no_files}
 use Rattle.outside.specs.declared.sink.Sink.{Ghosts as Sinks}
-use Rattle.proxy_run.specs.Crews.{IsEnd, ServesAll}
-use Rattle.proxy_run.specs.Objects.{Kinds, Objects}
-use Rattle.proxy_run.specs.Opening.{IsOpened, IsUnchanged}
-use Rattle.proxy_run.specs.Printing.{LacksMemory, Prints}
-use Rattle.proxy_run.specs.Shifts.{hands_of}
-use Rattle.proxy_run.specs.Texts.{captures_line}
-use Rattle.proxy_run.specs.declared.status.Status.{Status}
-use Rattle.proxy_run.specs.declared.status.Status.TheVariants.{Done, Words, Archive, Outside, Memory}
+use Rattle.crew.specs.Crews.{IsEnd, ServesAll}
+use Rattle.command.specs.Objects.{Kinds, Objects}
+use Rattle.command.specs.Opening.{IsOpened, IsUnchanged}
+use Rattle.command.specs.Printing.{LacksMemory, Prints}
+use Rattle.crew.specs.Shifts.{hands_of}
+use Rattle.command.specs.Texts.{captures_line}
+use Rattle.command.specs.declared.status.Status.{Status}
+use Rattle.command.specs.declared.status.Status.TheVariants.{Done, Words, Archive, Outside, Memory}
 
 -- What is told of one of many shelves over an archive: its number among them, its contents, and how many faults of the disk it met itself.
 pub record Seat : Type 0 where

@@ -1,13 +1,14 @@
 -- What serving the gate's first connection leaves.
-use Rattle.std.specs.Prelude.{◌≡◌, ℕ, Bool, true, false, [], codes, ⊤}
+use Rattle.std.specs.Prelude.{◌≡◌, ℕ, Bool, true, [], codes, ⊤}
 use Rattle.archive_shelf.specs.Told.{Told}
 use Rattle.capture.specs.Faults.{Rose}
 use Rattle.capture.specs.declared.site.Site.{Site}
+use Rattle.command.specs.Gates.{unheard}
 use Rattle.outside.specs.Gate.{one_served}
 use Rattle.outside.specs.declared.gate.Heard.{Heard}
-use Rattle.proxy_run.specs.Objects.{Around}
-use Rattle.proxy_run.specs.declared.status.Status.{Status}
-use Rattle.proxy_run.specs.declared.status.Status.TheVariants.{Done, Words, Archive, Outside, Memory}
+use Rattle.command.specs.Objects.{Around}
+use Rattle.command.specs.declared.status.Status.{Status}
+use Rattle.command.specs.declared.status.Status.TheVariants.{Done, Words, Archive, Outside, Memory}
 use Rattle.session.specs.Connection.{IsConnection, Setting}
 use Rattle.session.specs.Gains.{World}
 use Rattle.session.specs.declared.served.Served.{Served}
@@ -36,10 +37,6 @@ IsServedStatus Words = ⊥
 IsServedStatus Archive = ⊥
 IsServedStatus Outside = ⊤
 IsServedStatus Memory = ⊤
-
--- nothing was heard yet
-abbrev pub unheard : Heard
-unheard = record { given = []; ended = false; written = []; faults = 0; failed_writes = 0 }
 
 -- what the objects around a connection tell, with what was heard of its client
 abbrev pub world_of : Heard → Around → Told → World

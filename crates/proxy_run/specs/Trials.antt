@@ -5,10 +5,10 @@ use Rattle.capture.specs.Captures.{captures}
 use Rattle.capture.specs.declared.book.Book.{Book}
 use Rattle.load_shelf.specs.Loads.{HavePayloads, HoldsFirst}
 use Rattle.outside.specs.declared.sink.Sink.{Ghosts as Sinks}
-use Rattle.proxy_run.specs.Printing.{LacksMemory, Prints}
-use Rattle.proxy_run.specs.Texts.{trial_text}
-use Rattle.proxy_run.specs.declared.status.Status.{Status}
-use Rattle.proxy_run.specs.declared.status.Status.TheVariants.{Done}
+use Rattle.command.specs.Printing.{LacksMemory, Prints}
+use Rattle.command.specs.Texts.{trial_text}
+use Rattle.command.specs.declared.status.Status.{Status}
+use Rattle.command.specs.declared.status.Status.TheVariants.{Done}
 use Rattle.warc_text.specs.Books.{AreVolumeTexts}
 
 -- the namespace of the archive: 6ba7b810-9dad-11d1-80b4-00c04fd430c8

@@ -6,12 +6,12 @@ use Rattle.capture.specs.declared.book.Book.{Book}
 use Rattle.capture.specs.declared.site.Site.{Site}
 use Rattle.disk_model.specs.Image.{Image}
 use Rattle.proxy_run.specs.Complete.{IsReady, NoFaults}
-use Rattle.proxy_run.specs.Objects.{Kinds, Objects}
+use Rattle.command.specs.Objects.{Kinds, Objects}
 use Rattle.proxy_run.specs.Runs.{Runs}
 use Rattle.proxy_run.specs.Verifies.{Checked, IsRight, facts_in, has_damage}
-use Rattle.proxy_run.specs.declared.status.Status.{Status}
-use Rattle.proxy_run.specs.declared.status.Status.TheVariants.{Done, Memory}
-use Rattle.proxy_run.specs.declared.words.Command.TheVariants.{Verify}
+use Rattle.command.specs.declared.status.Status.{Status}
+use Rattle.command.specs.declared.status.Status.TheVariants.{Done, Memory}
+use Rattle.command.specs.declared.words.Command.TheVariants.{Verify}
 
 -- Of files that stand for a sound book no volume is damaged, by the verdict that its bytes have.
 abbrev pub SoundVolumesVerify : Type 0

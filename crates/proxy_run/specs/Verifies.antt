@@ -13,11 +13,11 @@ use Rattle.fixity.specs.declared.verdict.Verdict.{Verdict}
 use Rattle.fixity.specs.declared.verdict.Verdict.TheVariants.{Sound, Damaged}
 use Rattle.httparse.specs.Ascii.{line_feed}
 use Rattle.outside.specs.declared.sink.Sink.{Ghosts as Sinks}
-use Rattle.proxy_run.specs.Opening.{IsOpened}
-use Rattle.proxy_run.specs.Printing.{LacksMemory, Prints}
-use Rattle.proxy_run.specs.Texts.{file_name}
-use Rattle.proxy_run.specs.declared.status.Status.{Status}
-use Rattle.proxy_run.specs.declared.status.Status.TheVariants.{Archive, Done}
+use Rattle.command.specs.Opening.{IsOpened}
+use Rattle.command.specs.Printing.{LacksMemory, Prints}
+use Rattle.command.specs.Texts.{file_name}
+use Rattle.command.specs.declared.status.Status.{Status}
+use Rattle.command.specs.declared.status.Status.TheVariants.{Archive, Done}
 
 -- ---- what is printed
 

@@ -1,17 +1,13 @@
 //! The command `check`: how much an archive holds.
 ghost use Rattle.std.specs.Prelude.{◌⊎◌, None};
 ghost use Rattle.proxy_run.specs.Checks.{IsCounted};
-ghost use Rattle.proxy_run.specs.Opening.{IsNotOpened};
-ghost use Rattle.proxy_run.specs.Printing.{LacksMemory, Prints};
-ghost use Rattle.proxy_run.specs.Texts as spec;
+ghost use Rattle.command.specs.Opening.{IsNotOpened};
+ghost use Rattle.command.specs.Printing.{LacksMemory, Prints};
+ghost use Rattle.command.specs.Texts as spec;
 
-use crate::opening::open;
-use crate::printing::print_as;
-use crate::running::Ran;
-use crate::status::Status;
-use crate::texts::counts_text;
 use archive_shelf::Counts;
 use capture::Memory;
+use command::{Ran, Status, counts_text, open, print_as};
 use disk_model::Disk;
 use outside::Sink;
 use std::alloc::Global;

@@ -2,10 +2,8 @@
 ghost use Rattle.std.specs.Prelude.{◌≡◌};
 ghost use Rattle.proxy_run.specs.Serves.{TellsCount, worst as spec_worst};
 
-use crate::printing::print_as;
-use crate::status::Status;
-use crate::texts::captures_line;
 use capture::Memory;
+use command::{Status, captures_line, print_as};
 use outside::Sink;
 use std::alloc::Global;
 

@@ -1,12 +1,10 @@
 //! What runs promise to those who build on them.
 ghost use Rattle.proxy_run.specs.Complete.{CapturesComeBack, ChecksAreAnswered, FollowsAreAnswered, FollowsLeaveReady, ImportsAreAnswered, ImportsLeaveReady, PipesAreAnswered, PipesLeaveReady};
-ghost use Rattle.proxy_run.specs.Fronts.{PiecesAreTaken, ReplicasAreFronts};
-ghost use Rattle.proxy_run.specs.Objects.{kinds_of};
+ghost use Rattle.command.specs.Objects.{kinds_of};
 ghost use Rattle.proxy_run.specs.OnePipe.{PipesLeaveNoChoice};
 ghost use Rattle.proxy_run.specs.Promises.{AllAreHungUp, AllAreReadOut, BooksLeadOn, BooksOnlyGrow, CapturesAreStoredOnce, FaultsAreCounted, GatesAreEmptied, LogsAreInOrder};
 ghost use Rattle.proxy_run.specs.Verified.{SoundVolumesVerify, VerifiesAreAnswered};
 
-use archive_pieces::next_pieces_lead_on;
 use cdxj_index::books_have_one_index;
 use disk_model::Disk;
 use outside::{Clock, Dialer, Gate, Sink};
@@ -45,15 +43,6 @@ pub fn pipes_leave_no_choice<D: Disk, G: Gate, N: Dialer, C: Clock, O: Sink>()
 {
     courses_leave_no_choice();
     books_have_one_index();
-}
-
-/// A replica that was a front of its source's book is one of the source's last book after each piece that it took, wherever it was stopped, while that
-/// book grows; and what it gives of its book isn't refused as no piece. Of two that are stopped and started, each run is concluded from the one before.
-pub fn replicas_are_fronts<D: Disk>()
-    ensures fronts { ReplicasAreFronts D.Disk }
-    ensures taken { PiecesAreTaken D.Disk }
-{
-    next_pieces_lead_on();
 }
 
 /// What a server of many clients promises: the book only grows, and its count is printed; all that the gate gave was hung up, and the gate

@@ -1,14 +1,12 @@
 //! The command `pipe`: one connection over an archive of its own.
 ghost use Rattle.std.specs.Prelude.{◌⊎◌, IfSome};
-ghost use Rattle.proxy_run.specs.Objects.{kinds_of, objects_of};
+ghost use Rattle.command.specs.Objects.{kinds_of, objects_of};
 ghost use Rattle.proxy_run.specs.Pipes.{Pipes, Refuses};
-ghost use Rattle.proxy_run.specs.Words as spec;
+ghost use Rattle.command.specs.Words as spec;
 ghost use Rattle.warc_text.specs.Ids.{IsUuid};
 
-use crate::opening::open;
-use crate::running::Ran;
 use crate::serving::serve_first;
-use crate::words::{Command, asked_of};
+use command::{Command, Ran, asked_of, open};
 use disk_model::Disk;
 use outside::{Clock, Dialer, Gate, Sink};
 use std::alloc::Global;

@@ -1,27 +1,22 @@
 //! The command `follow`: an archive takes the captures of another one, piece by piece.
 ghost use Rattle.std.specs.Prelude.{◌≡◌, ◌⊎◌, IfOk, IfSome};
 ghost use Rattle.proxy_run.specs.Follows.{Follows, FollowsTo, TellsStop};
-ghost use Rattle.proxy_run.specs.Opening.{IsNotOpened};
-ghost use Rattle.proxy_run.specs.Printing.{LacksMemory, Prints};
-ghost use Rattle.proxy_run.specs.Sources.{source_of as spec_source_of};
-ghost use Rattle.proxy_run.specs.Texts as spec;
-ghost use Rattle.proxy_run.specs.Words as word;
+ghost use Rattle.command.specs.Opening.{IsNotOpened};
+ghost use Rattle.command.specs.Printing.{LacksMemory, Prints};
+ghost use Rattle.replica.specs.Sources.{source_of as spec_source_of};
+ghost use Rattle.command.specs.Texts as text;
+ghost use Rattle.proxy_run.specs.StopTexts as spec;
+ghost use Rattle.command.specs.Words as word;
 ghost use Rattle.warc_text.specs.Ids.{IsUuid};
 
-use crate::asking::{SourceFault, source_of};
-use crate::following::{Stop, follow_source};
-use crate::opening::open;
-use crate::printing::print_as;
-use crate::running::Ran;
-use crate::status::Status;
-use crate::tally::{damaged_capture, put_full};
-use crate::words::{Command, asked_of};
 use archive_core::Archive;
 use archive_pieces::PieceFault;
 use capture::{Memory, Site, put_all, put_number};
+use command::{Command, Ran, Status, asked_of, damaged_capture, open, print_as, put_full};
 use disk_model::Disk;
 use exchange::Window;
 use outside::{Clock, Dialer, Sink};
+use replica::{SourceFault, Stop, follow_source, source_of};
 use std::alloc::Global;
 
 /// Opens the archive on the disk in the namespace that the command names, follows the source at the site with the member's dialer, prints how
@@ -152,7 +147,7 @@ fn tell_numbered<O: Sink>(
 }
 
 /// A line of some words and a number.
-#[tactic(auto, unfolding(crate::specs::Texts::numbered))]
+#[tactic(auto, unfolding(crate::specs::StopTexts::numbered))]
 fn numbered(alloc: Global, words: &[u8], number: u64) -> Result<Vec<u8>, Memory>
     ensures { IfOk result (λ text. text.items ≡ spec.numbered words.now number) }
 {
@@ -165,7 +160,7 @@ fn numbered(alloc: Global, words: &[u8], number: u64) -> Result<Vec<u8>, Memory>
 
 /// Prints how many captures an archive holds that takes no more, and its limit, unless there is no memory.
 fn tell_full<O: Sink>(alloc: Global, out: &mut O, count: u32, limit: u32) -> Status
-    ensures { Prints O.Sink Status.Archive (spec.full_line count limit) out.old out.new result ⊎ LacksMemory O.Sink out.old out.new result }
+    ensures { Prints O.Sink Status.Archive (text.full_line count limit) out.old out.new result ⊎ LacksMemory O.Sink out.old out.new result }
 {
     let mut text = Vec::new(alloc);
     match put_full(&mut text, count, limit) {
@@ -176,7 +171,7 @@ fn tell_full<O: Sink>(alloc: Global, out: &mut O, count: u32, limit: u32) -> Sta
 
 /// Prints which capture of the archive is damaged, unless there is no memory.
 fn tell_damaged<O: Sink>(alloc: Global, out: &mut O, at: u32) -> Status
-    ensures { Prints O.Sink Status.Archive (spec.damaged_capture at) out.old out.new result ⊎ LacksMemory O.Sink out.old out.new result }
+    ensures { Prints O.Sink Status.Archive (text.damaged_capture at) out.old out.new result ⊎ LacksMemory O.Sink out.old out.new result }
 {
     match damaged_capture(alloc, at) {
         Ok(text) => print_as(out, text.as_slice(), Status::Archive),

@@ -2,9 +2,8 @@
 ghost use Rattle.std.specs.Prelude.{◌≡◌, ◌++◌, ◌||◌, [], false, OnOk};
 ghost use Rattle.proxy_run.specs.Verifies as spec;
 
-use crate::status::Status;
-use crate::texts::file_name;
 use capture::{Memory, put_all, put_number};
+use command::{Status, file_name};
 use disk_model::Kind;
 use fixity::Verdict;
 use std::alloc::Global;

@@ -1,23 +1,20 @@
 //! The call that the program makes.
-ghost use Rattle.std.specs.Prelude.{◌≡◌, length};
-ghost use Rattle.proxy_run.specs.Base.{site_among};
-ghost use Rattle.proxy_run.specs.Objects.{kinds_of, objects_of};
-ghost use Rattle.proxy_run.specs.Runs.{Runs};
-ghost use Rattle.proxy_run.specs.Words.{command_of, texts};
+ghost use Rattle.std.specs.Prelude.{◌≡◌, length, IfErr, IfOk, OnOk, Some};
+ghost use Rattle.command.specs.Base.{site_among};
+ghost use Rattle.command.specs.Objects.{kinds_of, objects_of};
+ghost use Rattle.proxy_run.specs.Runs.{NamesNone, Runs};
+ghost use Rattle.command.specs.Words as word;
 
 use crate::checking::check;
-use crate::importing::import;
 use crate::piping::pipe;
-use crate::printing::print_as;
 use crate::replicating::follow;
 use crate::server::{Service, serve_many};
-use crate::status::Status;
 use crate::trying::trial;
 use crate::verifying::verify;
-use crate::words;
-use crate::words::Command;
-use capture::Memory;
+use capture::{Memory, Site};
+use command::{Command, Ran, Status, command_of, print_as, site_of};
 use disk_model::Disk;
+use importing::import;
 use outside::{Clock, Dialer, Gate, Sink};
 use std::alloc::Global;
 use std::sync::Wait;
@@ -33,13 +30,6 @@ const USAGE: &[u8] =
 #[derive(Debug, Drop)]
 pub struct Crew<N, C> {
     pub members: Vec<(N, C)>,
-}
-
-/// A run's status, and its disk again.
-#[derive(Debug, Drop)]
-pub struct Ran<D> {
-    pub status: Status,
-    pub disk: D,
 }
 
 /// Does what the words say. `pipe NS` opens the archive on the disk, serves the gate's first connection over it with the first
@@ -77,9 +67,9 @@ where
     ensures { let kinds = kinds_of D.Disk G.Gate N.Dialer C.Clock O.Sink G.Link.tells N.Link.tells in
         let was = objects_of disk gate.old crew.old.members.items out.old in
         let is = objects_of result.disk gate.new crew.new.members.items out.new in
-        Runs kinds (command_of (texts words.now)) (site_among (texts words.now)) was is result.status }
+        Runs kinds (word.command_of (word.texts words.now)) (site_among (word.texts words.now)) was is result.status }
 {
-    let Some(command) = words::command_of(words) else {
+    let Some(command) = command_of(words) else {
         return Ran {
             status: print_as(out, USAGE, Status::Words),
             disk,
@@ -87,27 +77,20 @@ where
     };
     match command {
         Command::Check => check(alloc, disk, out),
-        Command::Follow(_) => match words::site_of(alloc, words) {
-            Ok(Some(site)) => {
+        Command::Follow(_) => match named_site(alloc, words, out) {
+            Ok(site) => {
                 let first = &mut crew.members[0];
                 follow(alloc, command, &site, disk, first, out)
             }
-            Ok(None) => Ran {
-                status: print_as(out, USAGE, Status::Words),
-                disk,
-            },
-            Err(Memory) => Ran {
-                status: Status::Memory,
-                disk,
-            },
+            Err(status) => Ran { status, disk },
         },
         Command::Import(_) => import(alloc, command, disk, gate, out),
         Command::Pipe(_) => {
             let member = &mut crew.members[0];
             pipe(alloc, command, disk, gate, member, out)
         }
-        Command::Serve(_, workers) => match words::site_of(alloc, words) {
-            Ok(Some(site)) => {
+        Command::Serve(_, workers) => match named_site(alloc, words, out) {
+            Ok(site) => {
                 let service = Service {
                     command,
                     site: &site,
@@ -115,16 +98,22 @@ where
                 };
                 serve_many(rt, alloc, service, disk, gate, &mut crew.members, out)
             }
-            Ok(None) => Ran {
-                status: print_as(out, USAGE, Status::Words),
-                disk,
-            },
-            Err(Memory) => Ran {
-                status: Status::Memory,
-                disk,
-            },
+            Err(status) => Ran { status, disk },
         },
         Command::Trial(count, seed) => trial(alloc, count, seed, disk, out),
         Command::Verify(workers) => verify(rt, alloc, workers, disk, out),
+    }
+}
+
+/// The site that the words name. Where they name none the usage is printed.
+fn named_site<O: Sink>(alloc: Global, words: &[&str], out: &mut O) -> Result<Site, Status>
+    ensures site { IfOk result (λ site. Some site ≡ site_among (word.texts words.now)) }
+    ensures prints_nothing { OnOk result (out.new ≡ out.old) }
+    ensures none { IfErr result (λ status. NamesNone O.Sink (site_among (word.texts words.now)) out.old out.new status) }
+{
+    match site_of(alloc, words) {
+        Ok(Some(site)) => Ok(site),
+        Ok(None) => Err(print_as(out, USAGE, Status::Words)),
+        Err(Memory) => Err(Status::Memory),
     }
 }

@@ -1,14 +1,14 @@
 //! The passes of a vault as the shelves of a crew.
 ghost use Rattle.std.specs.Prelude.{◌≡◌, ◌<◌, ◌≤◌, ◌^◌, [], false, drop, vec_len, All, IsTrue};
 ghost use Rattle.std.specs.Vec.{vec_capacity};
-ghost use Rattle.proxy_run.specs.Crews.{IsEnd, ServesAll};
-ghost use Rattle.proxy_run.specs.Shifts.{hands_of};
+ghost use Rattle.crew.specs.Crews.{IsEnd, ServesAll};
+ghost use Rattle.crew.specs.Shifts.{hands_of};
 ghost use Rattle.vault.specs.Company.{told_at};
 ghost use Rattle.vault.specs.Members.{AreMembers, IsMember};
 
-use crate::crew::{Shift, serve_crew};
-use crate::status::Status;
 use capture::Site;
+use command::Status;
+use crew::{Shift, serve_crew};
 use disk_model::Disk;
 use outside::{Clock, Dialer, Gate};
 use std::alloc::Global;

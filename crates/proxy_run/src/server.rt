@@ -1,21 +1,18 @@
 //! The command `serve`: the connections of many clients over one archive.
 ghost use Rattle.std.specs.Prelude.{◌⊎◌, ◌≡◌, ◌<◌, ◌≤◌, ℕ, IfSome, List, Option, length};
 ghost use Rattle.archive_shelf.specs.Contents.{Contents};
-ghost use Rattle.proxy_run.specs.Objects.{kinds_of, objects_of};
-ghost use Rattle.proxy_run.specs.Opening.{IsOpened};
+ghost use Rattle.command.specs.Objects.{kinds_of, objects_of};
+ghost use Rattle.command.specs.Opening.{IsOpened};
 ghost use Rattle.proxy_run.specs.Pipes.{Refuses};
 ghost use Rattle.proxy_run.specs.Serves.{LacksShelves, Serves};
-ghost use Rattle.proxy_run.specs.Words as spec;
+ghost use Rattle.command.specs.Words as spec;
 ghost use Rattle.proxy_run.specs.steps.Seating.{IsNameOf};
 ghost use Rattle.warc_text.specs.Ids.{IsUuid};
 
 use crate::counting::tell_count;
-use crate::opening::open;
-use crate::running::Ran;
 use crate::seating::serve_by;
-use crate::status::Status;
-use crate::words::{Command, asked_of};
 use capture::Site;
+use command::{Command, Ran, Status, asked_of, open};
 use disk_model::Disk;
 use outside::{Clock, Dialer, Gate, Sink};
 use std::alloc::Global;

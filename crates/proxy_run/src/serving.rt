@@ -2,16 +2,16 @@
 ghost use Rattle.std.specs.Prelude.{◌≡◌, ◌<◌, ◌≤◌, ◌⊎◌, IsTrue, IfOk};
 ghost use Rattle.archive_shelf.specs.Openings.{StaysCovered};
 ghost use Rattle.capture.specs.Growth.{Grows};
-ghost use Rattle.outside.specs.Gate.{Connections, heard_of, one_given, one_hung_up};
+ghost use Rattle.outside.specs.Gate.{Connections, one_given};
 ghost use Rattle.outside.specs.Link.{IsFresh};
-ghost use Rattle.proxy_run.specs.Objects.{told_around};
+ghost use Rattle.command.specs.Objects.{told_around};
 ghost use Rattle.proxy_run.specs.Serving as spec;
 ghost use Rattle.proxy_run.specs.Serving.{ServesNone, ServesOne, IsServedStatus, pipe_setting, pipe_site};
 
-use crate::status::Status;
 use archive_shelf::{Shelf, leading_books_grow};
 use capture::{Memory, Site, Text};
-use outside::{Accepted, Clock, Dialer, Gate, Link};
+use command::{Status, hang_up};
+use outside::{Accepted, Clock, Dialer, Gate};
 use session::{Served, serve};
 use std::alloc::Global;
 
@@ -75,16 +75,6 @@ fn serve_link<S: Shelf, G: Gate, N: Dialer, C: Clock>(
     let served = serve(alloc, shelf, &mut link, &mut member.0, &mut member.1, site);
     hang_up(gate, link);
     status_of(served)
-}
-
-/// Hangs a connection up, so that what was heard on it stands in the gate's log.
-pub fn hang_up<G: Gate>(gate: &mut G, link: G::Link)
-    requires { IsTrue G.Link.tells → 0 < (G.connections gate.old).out }
-    ensures logs { IsTrue G.Link.tells
-        → G.connections gate.new ≡ one_hung_up (G.connections gate.old) (heard_of (G.Link.traffic link) (G.Link.faults link)) }
-    ensures same_faults { G.faults gate.new ≡ G.faults gate.old }
-{
-    gate.hang_up(G::end(link));
 }
 
 /// The status of a program that served one connection.

@@ -6,14 +6,11 @@ ghost use Rattle.load_shelf.specs.Loads.{IsFilled};
 ghost use Rattle.outside.specs.MemoryLink.{IsNew};
 ghost use Rattle.proxy_run.specs.Trials.{IsTried, Tries, trial_namespace, trial_volume};
 
-use crate::printing::print_as;
-use crate::running::Ran;
 use crate::serving::site_of_pipe;
-use crate::status::Status;
-use crate::texts::trial_text;
 use archive_core::Archive;
 use archive_shelf::{Depth, Shelf};
 use capture::{Limits, Memory, Site};
+use command::{Ran, Status, print_as, trial_text};
 use disk_model::{Disk, Kind, MemoryDisk};
 use load_maker::{client, date, origin};
 use load_shelf::LoadShelf;

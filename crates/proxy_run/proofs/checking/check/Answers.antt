@@ -1,6 +1,6 @@
 -- The archive was refused, or counted.
 use Rattle.std.proofs.Common.{inl, inr}
-use Rattle.proxy_run.proofs.OpeningLaws.{counted_by}
+use Rattle.proxy_run.proofs.CheckLaws.{counted_by}
 use Rattle.proxy_run.proofs.checking.check.Goals as goal
 
 pub returns-in-Err : goal.returns-in-Err

@@ -1,5 +1,5 @@
 -- The law, by that of courses, and by that of a book's entries.
-use Rattle.proxy_run.specs.Objects.{kinds_of}
+use Rattle.command.specs.Objects.{kinds_of}
 use Rattle.proxy_run.proofs.OnePipeLaws.{pipes_one_way}
 use Rattle.proxy_run.proofs.laws.pipes_leave_no_choice.Goals as goal
 

@@ -1,5 +1,5 @@
 -- The laws.
-use Rattle.proxy_run.specs.Objects.{kinds_of}
+use Rattle.command.specs.Objects.{kinds_of}
 use Rattle.proxy_run.proofs.CompleteLaws.{captures_come_back, checks_answered, follows_answered, follows_leave_ready, imports_answered, imports_leave_ready, pipes_answered, pipes_leave_ready}
 use Rattle.proxy_run.proofs.laws.ready_archives_are_served.Goals as goal
 

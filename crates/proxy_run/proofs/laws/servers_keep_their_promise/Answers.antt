@@ -1,5 +1,5 @@
 -- The sentences.
-use Rattle.proxy_run.specs.Objects.{kinds_of}
+use Rattle.command.specs.Objects.{kinds_of}
 use Rattle.proxy_run.proofs.ServeLaws.{all_are_hung_up, all_are_read_out, books_lead_on, books_only_grow, captures_are_stored_once, faults_are_counted, gates_are_emptied, logs_are_in_order}
 use Rattle.proxy_run.proofs.laws.servers_keep_their_promise.Goals as goal
 

@@ -1,5 +1,5 @@
 -- The verdicts on sound volumes.
-use Rattle.proxy_run.specs.Objects.{kinds_of}
+use Rattle.command.specs.Objects.{kinds_of}
 use Rattle.proxy_run.proofs.SoundVolumes.{sound_volumes_verify}
 use Rattle.proxy_run.proofs.VerifiedLaws.{verifies_answered}
 use Rattle.proxy_run.proofs.laws.sound_archives_verify.Goals as goal

@@ -1,6 +1,6 @@
 -- The archive was refused, or the gate's first connection was served over it.
 use Rattle.std.proofs.Common.{refl, inl, inr}
-use Rattle.proxy_run.specs.Objects.{kinds_of, objects_of}
+use Rattle.command.specs.Objects.{kinds_of, objects_of}
 use Rattle.archive_volumes.proofs.ChangeLaws.{DiskLaws}
 use Rattle.proxy_run.proofs.PipeLaws.{pipes_by}
 use Rattle.proxy_run.proofs.piping.pipe.Given.{Over}

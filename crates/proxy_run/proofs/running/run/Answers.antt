@@ -1,13 +1,13 @@
 -- By what the words ask for.
 use Rattle.std.proofs.Common.{◌≡◌, ℕ, ◌<◌, ◌≤◌, List, length, refl, sym, subst, ◌∙◌, arith}
 use Rattle.std.specs.Prelude.{IfSome, drop, set}
-use Rattle.proxy_run.specs.Objects.{kinds_of, objects_of}
-use Rattle.proxy_run.specs.Words.{asked_of, workers_of}
+use Rattle.command.specs.Objects.{kinds_of, objects_of}
+use Rattle.command.specs.Words.{asked_of, workers_of}
 use Rattle.warc_text.specs.Ids.{IsUuid}
-use Rattle.proxy_run.specs.declared.words.Command.{Command}
-use Rattle.proxy_run.specs.declared.words.Command.TheVariants.{Serve}
-use Rattle.proxy_run.proofs.CrewLaws.{first_is, first_set}
-use Rattle.proxy_run.proofs.RunLaws.{follow_lacks, follow_misspelt, runs_check, runs_follow, runs_import, runs_none, runs_pipe, runs_serve, runs_trial, runs_verify, serve_lacks, serve_misspelt}
+use Rattle.command.specs.declared.words.Command.{Command}
+use Rattle.command.specs.declared.words.Command.TheVariants.{Serve}
+use Rattle.crew.proofs.CrewLaws.{first_is, first_set}
+use Rattle.proxy_run.proofs.RunLaws.{follow_siteless, runs_check, runs_follow, runs_import, runs_none, runs_pipe, runs_serve, runs_trial, runs_verify, serve_siteless}
 use Rattle.proxy_run.proofs.running.run.Goals as goal
 
 pub returns-in_default : goal.returns-in_default
@@ -79,25 +79,19 @@ serve_many-requires-clause-enough g c = λ κs outlives. omega (arith, (workers_
 pub follow-requires : goal.follow-requires
 follow-requires g c = record { uuid = c.in-Some.ensures.uuid }
 
-pub returns-in-Ok-Some : goal.returns-in-Ok-Some
-returns-in-Ok-Some g c =
+pub returns-in-Ok : goal.returns-in-Ok
+returns-in-Ok g c =
     let some : 0 < length c.args.crew.now.members.items = omega (arith, c.requires) in
     runs_follow (kinds_of g.D.Disk g.G.Gate g.N.Dialer g.C.Clock g.O.Sink g.G.Link.Link.tells g.N.Link.Link.tells) _ _ c.in-Some.command c.in-Follow.field-0
-    c.in-Ok-Some.site (objects_of c.args.disk c.args.gate.now c.args.crew.now.members.items c.args.out.now)
+    c.in-Ok.site (objects_of c.args.disk c.args.gate.now c.args.crew.now.members.items c.args.out.now)
     (objects_of c.follow.result.disk c.args.gate.now (set c.args.crew.now.members.items 0 c.follow.new.member) c.follow.new.out) c.follow.result.status
     _ c.follow.new.member (drop 1 c.args.crew.now.members.items)
-    (sym c.command_of.ensures.value ∙ c.in-Some.is) c.in-Follow.is (rw c.in-Ok-Some.field-0-is at c.in-Ok-Some.ensures)
+    (sym c.command_of.ensures.value ∙ c.in-Some.is) c.in-Follow.is c.in-Ok.ensures.site
     (first_is c.args.crew.now.members.items _ _ some c.index_mut-first.ensures.value) (first_set c.args.crew.now.members.items c.follow.new.member some) refl
-    c.follow.ensures
-
-pub returns-in-Ok-None : goal.returns-in-Ok-None
-returns-in-Ok-None g c =
-    follow_misspelt (kinds_of g.D.Disk g.G.Gate g.N.Dialer g.C.Clock g.O.Sink g.G.Link.Link.tells g.N.Link.Link.tells) _ _ c.in-Some.command c.in-Follow.field-0
-    (objects_of c.args.disk c.args.gate.now c.args.crew.now.members.items c.args.out.now) c.print_as-in-Ok-None.new.out c.print_as-in-Ok-None.result
-    (sym c.command_of.ensures.value ∙ c.in-Some.is) c.in-Follow.is (rw c.in-Ok-None.field-0-is at c.in-Ok-None.ensures) c.print_as-in-Ok-None.ensures
+    (rw c.in-Ok.ensures.prints_nothing at c.follow.ensures)
 
 pub returns-in-Err : goal.returns-in-Err
 returns-in-Err g c =
-    follow_lacks (kinds_of g.D.Disk g.G.Gate g.N.Dialer g.C.Clock g.O.Sink g.G.Link.Link.tells g.N.Link.Link.tells) _ _ c.in-Some.command c.in-Follow.field-0
-    (objects_of c.args.disk c.args.gate.now c.args.crew.now.members.items c.args.out.now)
-    (sym c.command_of.ensures.value ∙ c.in-Some.is) c.in-Follow.is
+    follow_siteless (kinds_of g.D.Disk g.G.Gate g.N.Dialer g.C.Clock g.O.Sink g.G.Link.Link.tells g.N.Link.Link.tells) _ _ c.in-Some.command c.in-Follow.field-0
+    (objects_of c.args.disk c.args.gate.now c.args.crew.now.members.items c.args.out.now) c.named_site.new.out c.in-Err.status
+    (sym c.command_of.ensures.value ∙ c.in-Some.is) c.in-Follow.is c.in-Err.ensures.none

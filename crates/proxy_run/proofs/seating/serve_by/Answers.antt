@@ -8,7 +8,7 @@ use Rattle.vault.specs.Company.{Passing, told_at}
 use Rattle.vault.specs.Members.{IsMember}
 use Rattle.vault.specs.Own.{own_captures}
 use Rattle.vault.proofs.Moving.{at_send}
-use Rattle.proxy_run.proofs.CrewSums.{serves_none}
+use Rattle.crew.proofs.CrewSums.{serves_none}
 use Rattle.proxy_run.proofs.SeatLaws.{same_numbers}
 use Rattle.proxy_run.proofs.VaultSeats.{members_again, members_of, number_of}
 use Rattle.proxy_run.proofs.seating.serve_by.Goals as goal

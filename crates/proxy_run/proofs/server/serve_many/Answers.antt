@@ -2,12 +2,12 @@
 use Rattle.std.proofs.Common.{refl, sym, ap, subst, ◌∙◌, inl, inr, arith}
 use Rattle.archive_core.specs.Holdings.{contents_of}
 use Rattle.warc_journal.specs.Journals.{disk_of}
-use Rattle.proxy_run.specs.Objects.{kinds_of, objects_of}
-use Rattle.proxy_run.specs.Opening.{IsUnchanged}
+use Rattle.command.specs.Objects.{kinds_of, objects_of}
+use Rattle.command.specs.Opening.{IsUnchanged}
 use Rattle.proxy_run.specs.Serves.{Serves}
-use Rattle.proxy_run.specs.Words.{asked_of}
+use Rattle.command.specs.Words.{asked_of}
 use Rattle.proxy_run.specs.steps.Seating.{IsNameOf}
-use Rattle.proxy_run.proofs.OpeningLaws.{unchanged_by}
+use Rattle.command.proofs.OpeningLaws.{unchanged_by}
 use Rattle.proxy_run.proofs.server.serve_many.Goals as goal
 
 pub open-requires : goal.open-requires

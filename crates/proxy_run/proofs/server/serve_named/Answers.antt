@@ -1,7 +1,7 @@
 -- What is told of the passes is told of the crew's seats.
 use Rattle.std.proofs.Common.{◌≡◌, drop, map, vec_len, sym, ap, subst, arith}
 use Rattle.vault.specs.Sharing.{IsLeftByAll}
-use Rattle.proxy_run.specs.Objects.{kinds_of, objects_of}
+use Rattle.command.specs.Objects.{kinds_of, objects_of}
 use Rattle.proxy_run.specs.Serves.{Serves, TellsCount}
 use Rattle.proxy_run.specs.steps.Seating.{IsNameOf}
 use Rattle.proxy_run.proofs.VaultSeats.{known_of, serves_over}

@@ -1,6 +1,6 @@
 -- The gate's connection was served, or it gave none.
 use Rattle.std.proofs.Common.{refl, inl, inr}
-use Rattle.proxy_run.specs.Objects.{told_around}
+use Rattle.command.specs.Objects.{told_around}
 use Rattle.proxy_run.proofs.PipeLaws.{none_gained}
 use Rattle.proxy_run.proofs.serving.serve_first.Goals as goal
 

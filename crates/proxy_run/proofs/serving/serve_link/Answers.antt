@@ -1,5 +1,5 @@
 -- The connection was served and hung up.
-use Rattle.proxy_run.proofs.PipeLaws.{nothing_heard, served_and_hung_up}
+use Rattle.command.proofs.GateLaws.{nothing_heard, served_and_hung_up}
 use Rattle.proxy_run.proofs.serving.serve_link.Goals as goal
 
 pub returns-clause-serves : goal.returns-clause-serves

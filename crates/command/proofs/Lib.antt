@@ -1,0 +1,5 @@
+mod FileNames
+pub mod GateLaws
+mod HostTexts
+pub mod OpeningLaws
+mod WordsLemmas

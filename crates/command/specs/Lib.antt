@@ -1,0 +1,7 @@
+pub mod Base
+pub mod Gates
+pub mod Objects
+pub mod Opening
+pub mod Printing
+pub mod Texts
+pub mod Words

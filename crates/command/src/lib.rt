@@ -1,0 +1,17 @@
+//! What every command of the program stands on: its words, its status, what it prints, and how it opens the archive.
+#![tactic(auto)]
+
+mod base;
+mod hanging_up;
+mod opening;
+mod printing;
+mod status;
+mod texts;
+mod words;
+
+pub use hanging_up::hang_up;
+pub use opening::open;
+pub use printing::print_as;
+pub use status::{Ran, Status};
+pub use texts::{captures_line, counts_text, damaged_capture, file_name, put_full, trial_text};
+pub use words::{Command, asked_of, command_of, is_import, is_pipe, site_of};

@@ -1,0 +1,58 @@
+//! Opens the archive on a disk, and says why it isn't opened.
+ghost use Rattle.std.specs.Prelude.{◌≡◌, ◌⊎◌, IfErr, IfOk, IfSome, List, OnOk, ℕ};
+ghost use Rattle.archive_core.specs.Holdings.{contents_of};
+ghost use Rattle.archive_core.specs.Reopening.{IsReopened};
+ghost use Rattle.command.specs.Opening.{IsNotOpened, IsOpened, usual_limits};
+ghost use Rattle.command.specs.Printing.{LacksMemory, Prints};
+ghost use Rattle.command.specs.Texts.{IsFaultText};
+ghost use Rattle.warc_text.specs.Ids.{IsUuid};
+
+use crate::printing::print_as;
+use crate::status::{Ran, Status};
+use crate::texts::fault_text;
+use archive_core::Archive;
+use archive_shelf::{Depth, ReopenFault};
+use capture::{Limits, Memory};
+use disk_model::Disk;
+use outside::Sink;
+use std::alloc::Global;
+use uuid::Uuid;
+
+/// How much an archive takes: a gigabyte a volume, and a million captures.
+const LIMITS: Limits = Limits {
+    volume_bytes: 1_000_000_000,
+    captures: 1_000_000,
+};
+
+/// Opens the archive on a disk, by all that its volumes hold. Refused, the cause was printed.
+pub fn open<D: Disk, O: Sink>(
+    alloc: Global,
+    disk: D,
+    asked: Option<Uuid>,
+    out: &mut O,
+) -> Result<Archive<D>, Ran<D>>
+    requires uuid { IfSome asked IsUuid }
+    ensures reopened { IfOk result (IsReopened D.Disk disk asked usual_limits) }
+    ensures opened { IfOk result (λ archive. IsOpened D.Disk asked disk (contents_of archive)) }
+    ensures refused { IfErr result (λ ran. IsNotOpened D.Disk O.Sink asked disk ran.disk out.old out.new ran.status) }
+    ensures prints_nothing { OnOk result (out.new ≡ out.old) }
+{
+    match Archive::reopen(alloc, disk, asked, LIMITS, Depth::Whole) {
+        Ok(archive) => Ok(archive),
+        Err((fault, disk)) => Err(Ran {
+            status: print_fault(alloc, out, &fault),
+            disk,
+        }),
+    }
+}
+
+/// Prints why an archive isn't opened, unless there is no memory.
+fn print_fault<O: Sink>(alloc: Global, out: &mut O, fault: &ReopenFault) -> Status
+    ensures { ((text : List ℕ) × IsFaultText fault.now text × Prints O.Sink Status.Archive text out.old out.new result)
+        ⊎ LacksMemory O.Sink out.old out.new result }
+{
+    match fault_text(alloc, fault) {
+        Ok(text) => print_as(out, text.as_slice(), Status::Archive),
+        Err(Memory) => Status::Memory,
+    }
+}

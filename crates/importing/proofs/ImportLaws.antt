@@ -1,0 +1,248 @@
+-- What the command `import` leaves.
+use Rattle.std.proofs.Common.{◌≡◌, ◌⊎◌, ℕ, Bool, true, IsTrue, List, [], ◌∷◌, ◌++◌, length, Option, Some, None, Result, Ok, Err, refl, sym, ap, subst, ◌∙◌, inl, inr, ⊎_elim, arith}
+use Rattle.std.specs.List.{flat_map}
+use Rattle.archive_core.proofs.TellingLaws.{quiet_muted}
+use Rattle.archive_core.specs.Holdings.{Holdings, contents_of}
+use Rattle.archive_core.specs.Reopening.{IsReopened}
+use Rattle.archive_core.specs.Told.{told_of, told_on}
+use Rattle.archive_shelf.proofs.CallLaws.{no_more, opened_before}
+use Rattle.archive_shelf.specs.Answers.{CountsIf}
+use Rattle.archive_shelf.specs.Contents.{Contents}
+use Rattle.archive_shelf.specs.Openings.{SameBook}
+use Rattle.archive_shelf.specs.Told.{Told}
+use Rattle.archive_shelf.specs.declared.fault.StoreFault.{StoreFault}
+use Rattle.archive_shelf.specs.declared.fault.StoreFault.TheVariants.{Full, DiskFault, Damaged, Memory}
+use Rattle.archive_volumes.proofs.ChangeLaws.{DiskLaws, laws_muted, opens_now}
+use Rattle.archive_volumes.proofs.StoreLaws.{opens_earlier}
+use Rattle.archive_volumes.specs.Volumes.{IsQuiet, OpensNear, crash_of, muted}
+use Rattle.capture.specs.declared.book.Book.{Book}
+use Rattle.capture.specs.declared.captured.Taken.{Taken}
+use Rattle.disk_model.specs.declared.disk.Disk.{Ghosts as Disks}
+use Rattle.outside.specs.declared.gate.Gate.{Ghosts as Gates}
+use Rattle.outside.specs.declared.sink.Sink.{Ghosts as Sinks}
+use Rattle.command.proofs.OpeningLaws.{ids_differ, only_one}
+use Rattle.importing.proofs.KeepingLaws.{keeps_none}
+use Rattle.importing.specs.Imports.{Ends, HasImported, Imports, IsTellable, Tells, TellsFile, status_after, takens_in}
+use Rattle.command.specs.Gates.{gate_told, GateTold}
+use Rattle.importing.specs.Inputs.{Gives}
+use Rattle.importing.specs.Keeping.{Keeps, OpensAtLast, OpensBehind, OpensPast, Step, is_denied}
+use Rattle.command.specs.Opening.{IsOpened, usual_limits}
+use Rattle.command.specs.Printing.{LacksMemory, Prints}
+use Rattle.importing.specs.Texts.{refusal_line, skip_line, skips_in, summary_line}
+use Rattle.importing.specs.declared.input.InputFault.{InputFault}
+use Rattle.importing.specs.declared.input.InputFault.TheVariants as input_fault
+use Rattle.command.specs.declared.status.Status.{Status}
+use Rattle.importing.specs.declared.tally.Tally.{Tally}
+use Rattle.importing.specs.steps.Importing.{ImportsFirst}
+use Rattle.importing.specs.steps.Taking.{HasBegun, HasSkips, HasTakenAll}
+use Rattle.warc_journal.specs.Journals.{disk_of}
+use Rattle.warc_reader.proofs.InTurn.{all_given}
+use Rattle.warc_reader.specs.Imports.{IsImport}
+use Rattle.warc_reader.specs.declared.import.Outcome.{Outcome}
+
+-- ---- a file
+
+pub imported_whole : {O : Type 0} (alone : Bool) (sinks : Sinks O) (file : List ℕ) (tally : Tally) (was is : Told) (out_was out_is : O) (status : Status)
+    → HasTakenAll alone file tally was is
+    → ((other : List ℕ) (outcomes : List Outcome) → IsImport other outcomes → HasSkips tally outcomes → IsTellable tally.refused
+    → TellsFile sinks (takens_in outcomes) tally.stored tally.refused out_was out_is status other)
+    → HasImported alone sinks (Ok file) was is out_was out_is status
+imported_whole alone sinks file tally was is out_was out_is status taken told = record {
+  takens = takens_in taken.outcomes;
+  stored = tally.stored;
+  refused = tally.refused;
+  keeps = taken.keeps;
+  told = told file taken.outcomes taken.import taken.skips taken.tellable;
+}
+
+pub imported_front : {O : Type 0} (alone : Bool) (sinks : Sinks O) (file : List ℕ) (was is : Told) (out_was out_is : O) (status : Status)
+    → HasBegun alone file was is → LacksMemory sinks out_was out_is status → HasImported alone sinks (Ok file) was is out_was out_is status
+imported_front alone sinks file was is out_was out_is status begun lacks = record {
+  takens = takens_in begun.outcomes;
+  stored = begun.stored;
+  refused = begun.refused;
+  keeps = begun.keeps;
+  told = inr (inr (record { outcomes = begun.outcomes; begun = inr (begun.at, begun.given); takens_are = refl; lacks = lacks }));
+}
+
+pub imported_none : {O : Type 0} (alone : Bool) (sinks : Sinks O) (input : Result (List ℕ) InputFault) (now : Told) (out_was out_is : O) (status : Status)
+    → Tells sinks [] 0 None out_was out_is status input → HasImported alone sinks input now now out_was out_is status
+imported_none alone sinks input now out_was out_is status told = record {
+  takens = [];
+  stored = 0;
+  refused = None;
+  keeps = keeps_none alone 0 None now refl refl;
+  told = told;
+}
+
+pub told_whole : {O : Type 0} (sinks : Sinks O) (file : List ℕ) (tally : Tally) (outcomes : List Outcome) (text : List ℕ) (out_was out_is : O) (status : Status)
+    → IsImport file outcomes → HasSkips tally outcomes → IsTellable tally.refused
+    → text ≡ tally.lines.items ++ (summary_line tally.stored tally.skipped ++ refusal_line tally.refused)
+    → Prints sinks (status_after tally.refused) text out_was out_is status
+    → TellsFile sinks (takens_in outcomes) tally.stored tally.refused out_was out_is status file
+told_whole sinks file tally outcomes text out_was out_is status import skips tellable is printed = inl (record {
+  outcomes = outcomes;
+  import = import;
+  takens_are = refl;
+  tellable = tellable;
+  told = subst (λ t. Prints sinks (status_after tally.refused) t out_was out_is status)
+      (is ∙ ap (λ ls. ls ++ (summary_line tally.stored tally.skipped ++ refusal_line tally.refused)) skips.lines_are
+      ∙ ap (λ (n : ℕ). flat_map skip_line (skips_in outcomes) ++ (summary_line tally.stored n ++ refusal_line tally.refused)) skips.count_is)
+      printed;
+})
+
+pub broke_off : {O : Type 0} (sinks : Sinks O) (file : List ℕ) (stored : ℕ) (refused : Option StoreFault) (out_was out_is : O) (status : Status)
+    → LacksMemory sinks out_was out_is status → TellsFile sinks [] stored refused out_was out_is status file
+broke_off sinks file stored refused out_was out_is status lacks = inr (inr (record { outcomes = []; begun = inl refl; takens_are = refl; lacks = lacks }))
+
+pub untold_whole : {O : Type 0} (sinks : Sinks O) (file : List ℕ) (tally : Tally) (outcomes : List Outcome) (out : O) (status : Status) → IsImport file outcomes
+    → LacksMemory sinks out out status → TellsFile sinks (takens_in outcomes) tally.stored tally.refused out out status file
+untold_whole sinks file tally outcomes out status import lacks = inr (inr (record {
+  outcomes = outcomes;
+  begun = inr (length file, all_given file outcomes import);
+  takens_are = refl;
+  lacks = lacks;
+}))
+
+-- ---- the gate's first connection
+
+pub first_read : {O : Type 0} (alone : Bool) (sinks : Sinks O) (clients_tell : Bool) (gate_was gate_is : GateTold) (was is : Told) (out_was out_is : O)
+    (status : Status) (input : Result (List ℕ) InputFault) → (IsTrue clients_tell → Gives gate_was gate_is input)
+    → (input ≡ Err input_fault.Failed) ⊎ (gate_is.faults ≡ gate_was.faults) → HasImported alone sinks input was is out_was out_is status
+    → ImportsFirst alone sinks clients_tell gate_was gate_is was is out_was out_is status
+first_read alone sinks clients_tell gate_was gate_is was is out_was out_is status input came failed imported = record {
+  input = input;
+  came = came;
+  gate_failed = failed;
+  imported = imported;
+}
+
+-- a fault that a result of another type tells
+abbrev fails : {E : Type 0} (T : Type 0) → E → Result T E
+fails T fault = Err fault
+
+pub failed_as : {E T U : Type 0} (fault other : E) (P : Type 0) → (fails T fault ≡ fails T other) ⊎ P → (fails U fault ≡ fails U other) ⊎ P
+failed_as {E} {T} {U} fault other P (inl same) = inl (ap (λ (e : E). fails U e) (inner same))
+  where
+    inner : fails T fault ≡ fails T other → fault ≡ other
+    inner e = cc
+failed_as fault other P (inr p) = inr p
+
+pub failed_not : {E T U : Type 0} (x : T) (y : U) (other : E) (P : Type 0) → (Ok x ≡ fails T other) ⊎ P → (Ok y ≡ fails U other) ⊎ P
+failed_not x y other P (inl same) = absurd cc
+failed_not x y other P (inr p) = inr p
+
+-- ---- the archive
+
+past_by : (fault : StoreFault) (refused : Taken) (reached now : Contents) (P Q : Book → Type 0) (x : Book) → ((b : Book) → P b → Q b)
+    → OpensPast fault refused reached now P x → OpensPast fault refused reached now Q x
+past_by (Full count limit) refused reached now P Q x f h = f x h
+past_by DiskFault refused reached now P Q x f (inl (same, h)) = inl (same, f x h)
+past_by DiskFault refused reached now P Q x f (inr other) = inr other
+past_by (Damaged number kept found) refused reached now P Q x f h = f x h
+past_by Memory refused reached now P Q x f h = f x h
+
+behind_by : (steps : List Step) (reached : Contents) (P Q : Book → Type 0) (x : Book) → ((b : Book) → P b → Q b) → OpensBehind steps reached P x
+    → OpensBehind steps reached Q x
+behind_by [] reached P Q x f h = f x h
+behind_by (step ∷ steps) reached P Q x f h = h
+
+-- of more books before, more may be opened at last
+last_by : (refused : Option StoreFault) (rest : List Taken) (steps : List Step) (reached now : Contents) (P Q : Book → Type 0) (x : Book) → ((b : Book) → P b → Q b)
+    → OpensAtLast refused rest reached now (OpensBehind steps reached P) x → OpensAtLast refused rest reached now (OpensBehind steps reached Q) x
+last_by None rest steps reached now P Q x f h = behind_by steps reached P Q x f h
+last_by (Some fault) [] steps reached now P Q x f h = behind_by steps reached P Q x f h
+last_by (Some fault) (t ∷ others) steps reached now P Q x f h =
+    past_by fault t reached now (OpensBehind steps reached P) (OpensBehind steps reached Q) x (λ b p. behind_by steps reached P Q b f p) h
+
+module _ {D : Type 0} (disks : Disks D) (laws : DiskLaws disks) (given : D) (asked : Option (List ℕ)) (held left : Holdings D)
+    (reopened : IsReopened disks given asked usual_limits held) where
+  -- from the disk that was given, over which nothing was written until the archive was opened
+  pub keeps_since : (takens : List Taken) (count : ℕ) (refused : Option StoreFault) → Keeps true takens count refused (told_of disks held) (told_of disks left)
+      → Keeps true takens count refused (told_on disks given (contents_of held)) (told_of disks left)
+  keeps_since takens count refused k =
+      let quiet : IsQuiet (muted held.told disks) given (disk_of held.journal) =
+      quiet_muted disks held.told (λ told. sym reopened.told_is ∙ told) given (disk_of held.journal) reopened.quiet in
+      record {
+        steps = k.steps;
+        rest = k.rest;
+        reached = k.reached;
+        in_order = k.in_order;
+        count_is = k.count_is;
+        stored = k.stored;
+        ends = k.ends;
+        goes_on = record {
+          grows = k.goes_on.grows;
+          shows = k.goes_on.shows;
+          mine = k.goes_on.mine;
+          same_tells = k.goes_on.same_tells;
+          same_limits = k.goes_on.same_limits;
+          consistent = k.goes_on.consistent;
+          faults = omega (arith, k.goes_on.faults, reopened.faults);
+          later = omega (arith, quiet.later, k.goes_on.later);
+          covered = λ t le all. k.goes_on.covered t (omega (arith, le, quiet.later)) (quiet.covered t le all);
+          kept = λ files has. quiet.kept files (k.goes_on.kept files has);
+        };
+        faults = subst (λ (n : ℕ). CountsIf (is_denied refused) n (told_of disks left).faults) reopened.faults k.faults;
+        moves = λ ids last t x le o. ⊎_elim
+            (λ then. inl (no_more (quiet.moves t x le then)))
+            (λ on. inr on)
+            (k.moves ids last t x (omega (arith, le, quiet.later)) o);
+        left = λ a tells ids last x o. last_by refused k.rest k.steps k.reached (contents_of left)
+            (λ b. (told_of disks held).crash.openings (told_of disks held).crash.moment b)
+            (λ b. (crash_of (muted held.told disks) given).openings (crash_of (muted held.told disks) given).moment b) x
+            (opened_before (crash_of (muted held.told disks) given) (told_of disks held).crash
+            (opens_earlier (muted held.told disks) (laws_muted disks held.told laws) (disk_of held.journal)) quiet)
+            (k.left a tells ids last x o);
+      }
+
+  pub imported_since : {O : Type 0} (sinks : Sinks O) (input : Result (List ℕ) InputFault) (out_was out_is : O) (status : Status)
+      → HasImported true sinks input (told_of disks held) (told_of disks left) out_was out_is status
+      → HasImported true sinks input (told_on disks given (contents_of held)) (told_of disks left) out_was out_is status
+  imported_since sinks input out_was out_is status imported = record {
+    takens = imported.takens;
+    stored = imported.stored;
+    refused = imported.refused;
+    keeps = keeps_since imported.takens imported.stored imported.refused imported.keeps;
+    told = imported.told;
+  }
+
+-- an archive that was opened, and what was left of it
+imports_left : {D G L P O : Type 0} (disks : Disks D) (gates : Gates G L P) (sinks : Sinks O) (clients_tell : Bool) → (laws : DiskLaws disks) (asked : Option (List ℕ))
+    (was is : Ends D G O) (status : Status) (held left : Holdings D) → IsReopened disks was.disk asked usual_limits held
+    → IsOpened disks asked was.disk (contents_of held) → (IsTrue left.told → OpensNear disks (disk_of left.journal) left.book)
+    → ImportsFirst true sinks clients_tell (gate_told gates was.gate) (gate_told gates is.gate) (told_of disks held) (told_of disks left) was.out is.out status
+    → Imports disks gates sinks clients_tell asked was (record is { disk = disk_of left.journal }) status
+unfolding imported_since keeps_since
+imports_left disks gates sinks clients_tell laws asked was is status held left reopened opened near first =
+    let k = first.imported.keeps in
+    let so : IsTrue disks.tells → IsTrue left.told = λ told. k.goes_on.same_tells ∙ reopened.told_is ∙ told in
+    record {
+      before = contents_of held;
+      after = contents_of left;
+      opened = opened;
+      input = first.input;
+      came = first.came;
+      gate_failed = first.gate_failed;
+      imported = imported_since disks laws was.disk asked held left reopened sinks first.input was.out is.out status first.imported;
+      near = λ told. near (so told);
+      left = λ told ids have last image x now stands. last_by first.imported.refused k.rest k.steps k.reached (contents_of left)
+          (λ b. (told_of disks held).crash.openings (told_of disks held).crash.moment b) (λ b. SameBook b held.book) x
+          (λ b o. only_one (reopened.state (ids_differ held.book ids) b o))
+          (k.left refl (reopened.told_is ∙ told) have last x
+          (opens_now (muted left.told disks) (laws_muted disks left.told laws) (disk_of left.journal) x image (so told) now stands));
+    }
+
+-- the archive was opened, and closed behind the import
+pub imports_by : {D G L P O : Type 0} (disks : Disks D) (gates : Gates G L P) (sinks : Sinks O) (clients_tell : Bool) → (laws : DiskLaws disks) (asked : Option (List ℕ))
+    (was is : Ends D G O) (out_opened : O) (status : Status) (held left : Holdings D) → IsReopened disks was.disk asked usual_limits held
+    → IsOpened disks asked was.disk (contents_of held) → is.disk ≡ disk_of left.journal → out_opened ≡ was.out
+    → (IsTrue left.told → OpensNear disks is.disk left.book)
+    → ImportsFirst true sinks clients_tell (gate_told gates was.gate) (gate_told gates is.gate) (told_of disks held) (told_of disks left) out_opened is.out status
+    → Imports disks gates sinks clients_tell asked was is status
+imports_by {D} {G} {L} {P} {O} disks gates sinks clients_tell laws asked was is out_opened status held left reopened opened closed silent near first =
+    subst (λ (d : D). Imports disks gates sinks clients_tell asked was (record is { disk = d }) status) (sym closed)
+    (imports_left disks gates sinks clients_tell laws asked was is status held left reopened opened
+    (λ told. subst (λ (d : D). OpensNear disks d left.book) closed (near told))
+    (subst (λ (o : O). ImportsFirst true sinks clients_tell (gate_told gates was.gate) (gate_told gates is.gate) (told_of disks held) (told_of disks left) o is.out status)
+    silent first))

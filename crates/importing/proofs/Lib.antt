@@ -1,0 +1,4 @@
+mod ImportLaws
+mod InputLaws
+mod KeepingLaws
+mod TakingLaws

@@ -1,0 +1,24 @@
+-- The archive was refused, or the gate's first connection was imported.
+use Rattle.std.proofs.Common.{refl, inl, inr}
+use Rattle.archive_volumes.proofs.ChangeLaws.{DiskLaws}
+use Rattle.importing.proofs.ImportLaws.{imports_by}
+use Rattle.importing.proofs.importing.import.Given.{Over}
+use Rattle.importing.proofs.importing.import.Goals as goal
+use Rattle.importing.specs.Imports.{ends_of}
+
+disk_laws : (g : Over) → DiskLaws g.D.Disk
+disk_laws g = record { earlier = g.met.D.Disk.earlier; now_counts = g.met.D.Disk.now_counts; now_only = g.met.D.Disk.now_only }
+
+pub open-requires : goal.open-requires
+open-requires g c = record { uuid = rw c.asked_of.ensures c.requires.uuid }
+
+pub returns-in-Err : goal.returns-in-Err
+returns-in-Err g c = inr (rw c.asked_of.ensures at c.in-Err.ensures.refused, refl)
+
+pub returns : goal.returns
+returns g c =
+    inl (imports_by g.D.Disk g.G.Gate g.O.Sink g.G.Link.Link.tells (disk_laws g) _
+    (ends_of c.args.disk c.args.gate.now c.args.out.now) (ends_of c.close.result c.import_first-status.new.gate c.import_first-status.new.out)
+    c.open.new.out c.import_first-status.result c.in-Ok.archive c.import_first-status.new.shelf
+    (rw c.asked_of.ensures at c.in-Ok.ensures.reopened) (rw c.asked_of.ensures at c.in-Ok.ensures.opened) c.close.ensures.disk
+    c.in-Ok.ensures.prints_nothing c.close.ensures.near c.import_first-status.ensures)

@@ -1,0 +1,135 @@
+//! The command `import`: stores the captures of a WARC file of another tool.
+ghost use Rattle.std.specs.Prelude.{◌≡◌, ◌≤◌, ◌⊎◌, ℕ, List, [], length, IfSome, Ok, Err, Option};
+ghost use Rattle.archive_shelf.specs.declared.fault.StoreFault.{StoreFault as Refusal};
+ghost use Rattle.importing.specs.Imports.{HasImported, Imports, IsTellable, Tells, TellsFile, ends_of, status_after as after, takens_in};
+ghost use Rattle.command.specs.Gates.{gate_told};
+ghost use Rattle.command.specs.Opening.{IsNotOpened};
+ghost use Rattle.command.specs.Words as spec;
+ghost use Rattle.importing.specs.steps.Importing.{ImportsFirst};
+ghost use Rattle.importing.specs.steps.Taking.{HasSkips};
+ghost use Rattle.importing.specs.declared.input.TheConstants.{INPUT_LIMIT as LIMIT};
+ghost use Rattle.warc_reader.specs.Files.{IsFileFault};
+ghost use Rattle.warc_reader.specs.Imports.{IsImport};
+ghost use Rattle.warc_reader.specs.declared.import.Outcome.{Outcome};
+ghost use Rattle.warc_text.specs.Ids.{IsUuid};
+
+use crate::input::{InputFault, read_first};
+use crate::taking::take_all;
+use crate::tally::{Tally, damaged_input, put_sums};
+use archive_shelf::{Shelf, StoreFault};
+use capture::Memory;
+use command::{Command, Ran, Status, asked_of, open, print_as};
+use disk_model::Disk;
+use outside::{Gate, Sink};
+use std::alloc::Global;
+use warc_reader::{CaptureReader, ImportFault};
+
+/// Opens the archive on the disk in the namespace that the command names, reads the gate's first connection to its end, stores the
+/// captures of what it gave in order, prints what was skipped and how many were stored, and closes the archive. A file that
+/// isn't records to its end gives none. Behind a capture that is refused none is stored; those before it stay.
+pub fn import<D: Disk, G: Gate, O: Sink>(
+    alloc: Global,
+    command: Command,
+    disk: D,
+    gate: &mut G,
+    out: &mut O,
+) -> Ran<D>
+    requires uuid { IfSome (spec.asked_of command) IsUuid }
+    ensures { let was = ends_of disk gate.old out.old in
+        let is = ends_of result.disk gate.new out.new in
+        Imports D.Disk G.Gate O.Sink G.Link.tells (spec.asked_of command) was is result.status
+        ⊎ (IsNotOpened D.Disk O.Sink (spec.asked_of command) disk result.disk out.old out.new result.status × (gate.new ≡ gate.old)) }
+{
+    let mut archive = match open(alloc, disk, asked_of(command), out) {
+        Ok(archive) => archive,
+        Err(ran) => return ran,
+    };
+    let status = import_first(alloc, &mut archive, gate, out);
+    Ran {
+        status,
+        disk: archive.close(),
+    }
+}
+
+/// Reads the gate's first connection to its end, and imports what it gives.
+fn import_first<S: Shelf, G: Gate, O: Sink>(
+    alloc: Global,
+    shelf: &mut S,
+    gate: &mut G,
+    out: &mut O,
+) -> Status
+    ensures { ImportsFirst S.alone O.Sink G.Link.tells (gate_told G.Gate gate.old) (gate_told G.Gate gate.new) (S.told shelf.old) (S.told shelf.new)
+        out.old out.new result }
+{
+    match read_first(alloc, gate) {
+        Ok(input) => import_file(alloc, shelf, input.as_slice(), out),
+        Err(fault) => tell_no_input(out, fault),
+    }
+}
+
+/// Tells why there is no input.
+fn tell_no_input<O: Sink>(out: &mut O, fault: InputFault) -> Status
+    ensures { (stored : ℕ) (refused : Option Refusal) → Tells O.Sink [] stored refused out.old out.new result (Err fault) }
+{
+    match fault {
+        InputFault::TooLong => print_as(out, b"input too long\n", Status::Archive),
+        InputFault::Failed => Status::Outside,
+        InputFault::Memory => Status::Memory,
+    }
+}
+
+/// Stores what the records of the file give, and tells of it.
+fn import_file<S: Shelf, O: Sink>(alloc: Global, shelf: &mut S, file: &[u8], out: &mut O) -> Status
+    requires { length file.now ≤ LIMIT }
+    ensures { HasImported S.alone O.Sink (Ok file.now) (S.told shelf.old) (S.told shelf.new) out.old out.new result }
+{
+    let mut reader = match CaptureReader::new(alloc, file) {
+        Ok(reader) => reader,
+        Err(fault) => return tell_no_file(alloc, out, fault),
+    };
+    let mut tally = Tally::new(alloc);
+    match take_all(alloc, shelf, &mut reader, &mut tally) {
+        Ok(()) => tell_all(out, tally),
+        Err(Memory) => Status::Memory,
+    }
+}
+
+/// Tells at which place the input isn't records any more, unless there is no memory.
+fn tell_no_file<O: Sink>(alloc: Global, out: &mut O, fault: ImportFault) -> Status
+    ensures { (file : List ℕ) (stored : ℕ) (refused : Option Refusal) → IsFileFault file fault → TellsFile O.Sink [] stored refused out.old out.new result file }
+{
+    match fault {
+        ImportFault::NotARecord(at) => match damaged_input(alloc, at) {
+            Ok(text) => print_as(out, text.as_slice(), Status::Archive),
+            Err(Memory) => Status::Memory,
+        },
+        ImportFault::Memory => Status::Memory,
+    }
+}
+
+/// Tells what was skipped, how many captures were stored and why no more were, unless there is no memory.
+fn tell_all<O: Sink>(out: &mut O, tally: Tally) -> Status
+    ensures { (file : List ℕ) (outcomes : List Outcome) → IsImport file outcomes → HasSkips tally outcomes → IsTellable tally.refused
+        → TellsFile O.Sink (takens_in outcomes) tally.stored tally.refused out.old out.new result file }
+{
+    let Tally {
+        mut lines,
+        skipped,
+        stored,
+        refused,
+    } = tally;
+    match put_sums(&mut lines, stored, skipped, &refused) {
+        Ok(()) => print_as(out, lines.as_slice(), status_after(&refused)),
+        Err(Memory) => Status::Memory,
+    }
+}
+
+/// The status behind an import in which a capture was refused, or none.
+fn status_after(refused: &Option<StoreFault>) -> Status
+    ensures { result ≡ after refused.now }
+{
+    match refused {
+        Some(_) => Status::Archive,
+        None => Status::Done,
+    }
+}

@@ -1,0 +1,3 @@
+pub mod FollowLaws
+mod FrontLaws
+mod TakeLaws
