@@ -1,5 +1,5 @@
 pub mod Judging
 pub mod OneVerdict
-pub mod PieceLaws
 pub mod RestLaws
 pub mod RunLaws
+pub mod ShareLaws

@@ -1,5 +1,5 @@
 -- What only proofs read.
 pub mod Files
 pub mod Nexts
-pub mod Pieces
 pub mod Runs
+pub mod Shares

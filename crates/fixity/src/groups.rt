@@ -7,15 +7,21 @@ ghost use Rattle.fixity.specs.steps.Runs.{IsFarthest};
 
 use crate::FixityFault;
 use crate::due::Due;
-use crate::reading::read_bytes;
+use crate::reading::read_into;
 use crate::run::{RunEnd, run_of};
 use disk_model::Disk;
 use std::alloc::Global;
 use std::thread::Threads;
 use uuid::Uuid;
 
-/// How many bytes are read at once, unless one group is longer: 128 MiB.
-const BATCH: u64 = 134_217_728;
+/// How many bytes are read at once, unless the next group is long: 16 MiB, which a processor's cache holds.
+const BATCH: u64 = 16_777_216;
+
+/// How many groups as long as the next one are read at once, so that each worker has some.
+const GROUPS: u64 = 32;
+
+/// How many bytes are read at once for that, at most: 128 MiB.
+const MOST_BYTES: u64 = 134_217_728;
 
 /// How far the groups of a volume stand.
 #[derive(Clone, Copy, Debug)]
@@ -50,8 +56,9 @@ pub fn find_groups<R: Threads + Sync, D: Disk>(
     let mut groups = 0;
     let mut place = start;
     let mut batch = BATCH;
+    let mut bytes = Vec::new(alloc);
     'batches: while groups < due.count {
-        let bytes = read_bytes(alloc, disk, due, place, batch)?;
+        read_into(disk, due, place, batch, &mut bytes)?;
         let room = due.len - place;
         let run = run_of(
             rt,
@@ -79,5 +86,7 @@ pub fn find_groups<R: Threads + Sync, D: Disk>(
 fn batch_for(group: u64) -> u64
     ensures { group ≤ result }
 {
-    BATCH.max(group.saturating_add(group / 8))
+    let many = MOST_BYTES.min(group.saturating_mul(GROUPS));
+    let one = group.saturating_add(group / 8);
+    BATCH.max(many).max(one)
 }

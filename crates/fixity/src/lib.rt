@@ -8,10 +8,10 @@ mod groups;
 mod info;
 mod laws;
 mod next;
-mod pieces;
 mod reading;
 mod remainder;
 mod run;
+mod shares;
 mod verdict;
 
 pub use check::check_volume;

@@ -1,10 +1,10 @@
 //! The groups that stand one behind the other in bytes that were read.
 ghost use Rattle.std.specs.Prelude.{◌≡◌, ◌+◌, ◌<◌, ◌≤◌, ◌^◌, ℕ, List, IfOk, length, take};
-ghost use Rattle.fixity.specs.steps.Pieces.{IsFront};
 ghost use Rattle.fixity.specs.steps.Runs.{IsRun, RunFits};
+ghost use Rattle.fixity.specs.steps.Shares.{IsFront};
 
 use crate::next::{Next, next_of};
-use crate::pieces::{Front, front_by};
+use crate::shares::{Front, front_by};
 use capture::Memory;
 use std::alloc::Global;
 use std::thread::Threads;
@@ -55,9 +55,9 @@ pub fn run_of<R: Threads + Sync>(
     run_behind(alloc, bytes, room, namespace, number, most, front)
 }
 
-/// The same groups, of which those at the front were read. What the workers didn't read as a group is read here, one behind the
-/// other, so that it is known why there are no more.
-fn run_behind(
+/// The same groups, of which those at the front were read. What stands behind these is read here, one group behind the other, so
+/// that it is known why there are no more.
+pub fn run_behind(
     alloc: Global,
     bytes: &[u8],
     room: u64,

@@ -2,7 +2,7 @@ use Rattle.std.proofs.Common.{◌+◌, ◌-◌, ◌≤◌, drop, length, ap, sub
 use Rattle.std.proofs.lemmas.List.{length-drop}
 use Rattle.fixity.specs.steps.Nexts.{Fits, IsNextGroup}
 use Rattle.fixity.proofs.Judging.{is_behind}
-use Rattle.fixity.proofs.PieceLaws.{no_run, runs_in_all}
+use Rattle.fixity.proofs.ShareLaws.{no_run, runs_in_all}
 use Rattle.fixity.proofs.RunLaws.{none_stands, run_goes_on}
 use Rattle.fixity.proofs.run.run_behind.Goals as goal
 

@@ -1,30 +1,9 @@
--- Pieces of a batch that are groups.
-use Rattle.std.proofs.Common.{◌≡◌, ◌<◌, ◌≤◌, ℕ, zero, suc, ◌+◌, ◌-◌, List, ◌++◌, length, take, drop, length-append, append_assoc, refl, sym, ap, subst, ◌∙◌, arith}
-use Rattle.std.proofs.lemmas.List.{drop-append-le, length-drop, take-append-drop, take_all}
-use Rattle.warc_scan.specs.Answers.{BeginsWithGroup}
+-- Shares of a batch that were read as their groups.
+use Rattle.std.proofs.Common.{◌≡◌, ◌≤◌, ℕ, zero, suc, ◌+◌, List, ◌++◌, length, take, drop, length-append, append_assoc, sym, ap, subst, ◌∙◌, arith}
+use Rattle.std.proofs.lemmas.List.{drop-append-le, length-drop, take-append-drop}
 use Rattle.fixity.specs.Verdicts.{GroupStands}
-use Rattle.fixity.specs.declared.next.Next.TheVariants.{Stands}
-use Rattle.fixity.specs.steps.Nexts.{IsNextGroup}
 use Rattle.fixity.specs.steps.Runs.{RunsTo}
-
--- a piece that is read as a group stands there
-pub piece_stands : (namespace : List ℕ) (number : ℕ) (bytes text : List ℕ) (at len n : ℕ) → text ≡ take len (drop at bytes)
-    → ((rest : List ℕ) → length rest ≡ length text → text ≡ take (length text) rest → IsNextGroup namespace number rest (Stands n)) → n ≡ len
-    → GroupStands namespace number bytes at (at + len)
-piece_stands namespace number bytes text at len n e next same =
-    let told = next text refl (sym (take_all (length text) text (omega arith))) in
-    let begins = told.1 in
-    let all : drop at bytes ≡ text ++ drop len (drop at bytes) = sym (take-append-drop len (drop at bytes)) ∙ ap (λ (t : List ℕ). t ++ drop len (drop at bytes)) (sym e) in
-    record {
-      group = told.0;
-      begins = record {
-        text = begins.text;
-        rest = begins.rest ++ drop len (drop at bytes);
-        composed = all ∙ ap (λ (t : List ℕ). t ++ drop len (drop at bytes)) begins.composed ∙ append_assoc begins.text begins.rest (drop len (drop at bytes));
-        is = begins.is;
-      };
-      ends = ap (λ k. at + k) (sym same ∙ told.2);
-    }
+use Rattle.fixity.proofs.RunLaws.{runs_on}
 
 -- a run ends inside the bytes
 group_inside : (namespace : List ℕ) (number : ℕ) (bytes : List ℕ) (from to : ℕ) → from ≤ length bytes → GroupStands namespace number bytes from to → to ≤ length bytes
@@ -62,14 +41,19 @@ runs_in_all namespace number bytes rest n place same runs =
     let all : bytes ++ drop (length bytes) rest ≡ rest = ap (λ (l : List ℕ). l ++ drop (length bytes) rest) same ∙ take-append-drop (length bytes) rest in
     subst (λ (l : List ℕ). RunsTo namespace number l n place) all (runs_more namespace number bytes (drop (length bytes) rest) n place runs)
 
--- one piece more
-pub front_goes_on : (namespace : List ℕ) (number : ℕ) (bytes : List ℕ) (n place at len : ℕ) → RunsTo namespace number bytes n place → at ≡ place
-    → GroupStands namespace (number + n) bytes at (at + len) → RunsTo namespace number bytes (n + 1) (len + place)
-front_goes_on namespace number bytes n place at len runs same group =
-    let one : suc n ≡ n + 1 = omega arith in
-    let end : at + len ≡ len + place = omega (arith, same) in
-    subst (λ k. RunsTo namespace number bytes k (len + place)) one
-    (place, runs, subst (λ to. GroupStands namespace (number + n) bytes place to) end (subst (λ from. GroupStands namespace (number + n) bytes from (at + len)) same group))
+-- a share that is read as its groups stands there
+pub share_stands : (namespace : List ℕ) (number : ℕ) (bytes text : List ℕ) (at len groups : ℕ) → text ≡ take len (drop at bytes) → length text ≡ len
+    → RunsTo namespace number text groups (length text) → RunsTo namespace number (drop at bytes) groups len
+share_stands namespace number bytes text at len groups e long runs =
+    let same : text ≡ take (length text) (drop at bytes) = subst (λ k. text ≡ take k (drop at bytes)) (sym long) e in
+    subst (λ k. RunsTo namespace number (drop at bytes) groups k) long (runs_in_all namespace number text (drop at bytes) groups (length text) same runs)
+
+-- one share more
+pub front_goes_on : (namespace : List ℕ) (number : ℕ) (bytes : List ℕ) (n place before at groups len : ℕ) → RunsTo namespace number bytes n place
+    → before ≡ n → at ≡ place → RunsTo namespace (number + before) (drop at bytes) groups len → RunsTo namespace number bytes (n + groups) (place + len)
+front_goes_on namespace number bytes n place before at groups len runs first begins share =
+    runs_on namespace number bytes n place groups len runs
+    (subst (λ k. RunsTo namespace (number + k) (drop place bytes) groups len) first (subst (λ p. RunsTo namespace (number + before) (drop p bytes) groups len) begins share))
 
 -- no groups have no length
 pub no_run : (namespace : List ℕ) (number : ℕ) (bytes : List ℕ) (n place : ℕ) → n ≡ 0 → RunsTo namespace number bytes n place → place ≡ 0
