@@ -4,6 +4,7 @@ pub mod NotingLaws
 pub mod CommitLaws
 pub mod ReadLaws
 pub mod StoreLaws
+pub mod FirstLaws
 pub mod OwnLaws
 pub mod OrderlyLaws
 pub mod SharingLaws

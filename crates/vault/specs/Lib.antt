@@ -2,6 +2,7 @@ pub mod Items
 pub mod Taking
 pub mod History
 pub mod Turns
+pub mod FirstTurns
 pub mod Noting
 pub mod Guarded
 pub mod Passes

@@ -1,4 +1,4 @@
-//! A turn that looks for the payload of a capture which is to be stored.
+//! How the payload of a capture which is to be stored is looked for.
 ghost use Rattle.std.specs.Prelude.{◌≡◌};
 ghost use Rattle.sha1.specs.Sha1.{sha1};
 ghost use Rattle.history_lock.specs.Seen.{Adds};
@@ -8,40 +8,10 @@ ghost use Rattle.vault.specs.Turns.{Compares};
 
 use crate::keeping::Keeping;
 use crate::noting::note_fault;
-use crate::published::Published;
-use crate::turning::Act;
 use archive_shelf::{Looked, StoreFault};
 use capture::Digest;
 use disk_model::Disk;
 use std::alloc::Global;
-
-/// A payload that is looked for among all captures, byte for byte. Nothing is stored.
-pub(crate) struct Compare<'p> {
-    pub(crate) alloc: Global,
-    pub(crate) payload: &'p [u8],
-    pub(crate) digest: Digest,
-}
-
-impl<'p, D: Disk> Act<D> for Compare<'p> {
-    ghost use Rattle.std.specs.Prelude.{◌≡◌};
-    ghost use Rattle.sha1.specs.Sha1.{sha1};
-    ghost use Rattle.vault.specs.Turns.{Compares};
-
-    type Answer = Result<Looked, StoreFault>;
-
-    ghost ready = { λ work found. work.digest ≡ sha1 work.payload.now };
-
-    ghost does = { λ work tells found added answer. Compares tells work.payload.now found added answer };
-
-    fn act(self, by: u32, value: &mut Published<D>) -> Result<Looked, StoreFault> {
-        let Compare {
-            alloc,
-            payload,
-            digest,
-        } = self;
-        value.compare(by, alloc, payload, &digest)
-    }
-}
 
 impl<D: Disk> Keeping<D> {
     /// Looks for a payload for the pass of this number. Room in the history is made first.

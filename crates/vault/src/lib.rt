@@ -7,6 +7,7 @@ mod closing;
 mod commit;
 mod compare;
 mod finding;
+mod first_turn;
 mod flush;
 mod gathering;
 mod item;

@@ -15,7 +15,7 @@ ghost use Rattle.vault.specs.Turns.{BringsIt, Commits, GivesIt, StoresBy};
 
 use crate::bring::{Bring, hold_back};
 use crate::commit::Commit;
-use crate::compare::Compare;
+use crate::first_turn::{FirstAnswer, FirstTurn};
 use crate::flush::Flush;
 use crate::item::Item;
 use crate::listed::{Listed, longer};
@@ -80,8 +80,8 @@ impl<D: Disk> Vault<D> {
         }
     }
 
-    /// Stores a capture, in two turns: the first one looks for its payload among all captures, the second one stores it, looks only
-    /// at those that came since, and publishes it. May wait.
+    /// Stores a capture and publishes it. One turn looks for its payload among all captures, and goes on to store it where none has it. Where
+    /// one has it, a second turn stores it, and looks only at those that came since. May wait.
     pub fn store<R: Wait>(
         &self,
         rt: &R,
@@ -104,7 +104,7 @@ impl<D: Disk> Vault<D> {
     }
 
     /// Stores a capture for what the lock knows of a pass. May wait.
-    #[tactic(auto, using(crate::proofs::StoreLaws::no_memory, crate::proofs::StoreLaws::refused_early, crate::proofs::StoreLaws::committed_later))]
+    #[tactic(auto, using(crate::proofs::StoreLaws::no_memory, crate::proofs::StoreLaws::committed_later))]
     fn store_by<R: Wait>(
         &self,
         rt: &R,
@@ -129,18 +129,20 @@ impl<D: Disk> Vault<D> {
             Err(Memory) => return Err(StoreFault::Memory),
         };
         let digest = payload_digest(payload.as_slice());
-        let compare = Compare {
+        let first = FirstTurn {
+            rt,
             alloc,
+            taken,
             payload: payload.as_slice(),
             digest,
         };
-        match self.take(rt, pass, listed, compare) {
-            Ok(looked) => {
+        match self.take(rt, pass, listed, first) {
+            FirstAnswer::Compared(looked) => {
                 // No memory is held while the second turn is waited for.
                 drop(payload);
                 self.commit(rt, alloc, pass, listed, taken, digest, looked)
             }
-            Err(fault) => Err(fault),
+            FirstAnswer::Whole(answer) => answer,
         }
     }
 
