@@ -13,7 +13,10 @@ use Rattle.disk_model.specs.declared.disk.Disk.{Ghosts}
 use Rattle.disk_model.specs.declared.kind.Kind.TheVariants.{Cdxj}
 use Rattle.warc_journal.specs.Extents.{cdxj_files}
 use Rattle.checkpoint.proofs.VolumeLaws.{sealed_lines_stay}
-use Rattle.checkpoint.specs.Checkpoints.{IsCheckpoint, checkpoint_of}
+use Rattle.checkpoint.specs.Checkpoints.{IsCheckpoint, checkpoint_of, checkpoint_text}
+use Rattle.checkpoint.specs.Putting.{HoldsCheckpoint}
+use Rattle.cdxj_line.specs.declared.line.Line.{Line}
+use Rattle.archive_opening.specs.Telling.{HasCheckpointsOf}
 use Rattle.archive_shelf.proofs.StoringLaws.{capture_grows, volume_grows}
 use Rattle.archive_shelf.specs.Openings.{KeepsCheckpoints}
 use Rattle.archive_shelf.specs.Storing.{with_capture}
@@ -42,6 +45,28 @@ has_still book k before image same count has = record {
   are = has.are;
 }
 
+-- a file with a checkpoint's text is there
+within_files : (files : List (List ℕ)) (k : ℕ) (lines : List Line) → get_or files k [] ≡ checkpoint_text lines → k < length files
+unfolding checkpoint_text
+within_files [] k lines is = let bad : ⊥ = cc in absurd bad
+within_files (f ∷ fs) zero lines is = omega arith
+within_files (f ∷ fs) (suc k) lines is = omega (arith, within_files fs k lines is)
+
+pub holds_finished : (k : ℕ) (lines : List Line) (image : Image) → IsCheckpoint k lines (checkpoint_of image k) → HoldsCheckpoint k lines image
+unfolding file_of
+holds_finished k lines image is = record { there = within_files (cdxj_files image) k lines is.text; finished = is }
+
+-- where the finished checkpoints of an image are those of a book, one that is finished is the book's
+pub has_finished : (book : Book) (k : ℕ) (lines : List Line) (image : Image) → HasCheckpointsOf image book → IsCheckpoint k lines (checkpoint_of image k)
+    → HasCheckpoint book k image
+has_finished book k lines image of is = record { lines = lines; holds = holds_finished k lines image is; are = (of.each k lines is).1 }
+
+-- images with the same checkpoints have those of the same books
+pub same_checkpoints_of : (a b : Image) (book : Book) → cdxj_files a ≡ cdxj_files b → HasCheckpointsOf b book → HasCheckpointsOf a book
+same_checkpoints_of a b book same of = record {
+  each = λ k lines is. of.each k lines (subst (λ (bytes : List ℕ). IsCheckpoint k lines bytes) (same_checkpoint a b same k) is);
+}
+
 -- ---- a book that grows
 
 -- the volume at a place
@@ -66,6 +91,16 @@ has_later was now k image grows sealed has = record {
   lines = has.lines;
   holds = has.holds;
   are = sealed_lines_stay growth_keeps_captures was now k has.lines grows sealed has.are;
+}
+
+-- the checkpoints of a book are those of one that it grew to
+pub checkpoints_later : (was now : Book) (image : Image) → Grows was now → HasCheckpointsOf image was → HasCheckpointsOf image now
+checkpoints_later was now image grows of = record {
+  each = λ k lines is.
+      let at = of.each k lines is in (
+        omega (arith, at.0, sealed_later was now (k + 1) grows (omega (arith, at.0))),
+        sealed_lines_stay growth_keeps_captures was now k lines grows at.0 at.1,
+      );
 }
 
 -- the checkpoints of the first volumes stay finished where a call leaves no others, and the book grows

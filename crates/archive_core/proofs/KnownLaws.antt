@@ -1,5 +1,5 @@
 -- What is opened by checkpoints, where its book is named or nothing is known.
-use Rattle.std.proofs.Common.{◌≡◌, ℕ, Bool, IsTrue, List, length, Option, Some, None, Result, Ok, Err, refl, sym, ap, subst, ◌∙◌, inl, inr, arith}
+use Rattle.std.proofs.Common.{◌≡◌, ℕ, Bool, IsTrue, List, length, Option, Some, None, Result, Ok, Err, refl, sym, ap, subst, ◌∙◌, inl, inr, ⊎_elim, arith}
 use Rattle.std.specs.Prelude.{IfErr, IfOk, IfSome, is_some, slice_get, true, false}
 use Rattle.std.proofs.lemmas.Bool.{false≢true}
 use Rattle.capture.specs.declared.book.Book.{Book}
@@ -18,13 +18,19 @@ use Rattle.archive_shelf.specs.declared.fault.ReopenFault.{ReopenFault}
 use Rattle.archive_volumes.proofs.ChangeLaws.{DiskLaws, quiet_by}
 use Rattle.archive_opening.specs.Gathering.{IsOpened, IsUsable}
 use Rattle.archive_volumes.specs.Held.{book_of}
+use Rattle.archive_volumes.specs.Spots.{is_told_form}
+use Rattle.capture.specs.declared.book.Volume.{Volume}
+use Rattle.checkpoint.specs.Checkpoints.{IsCheckpoint}
+use Rattle.std.proofs.lemmas.List.Elements.{All-contains}
 use Rattle.archive_volumes.specs.declared.spot.Spot.{Spot}
 use Rattle.archive_core.specs.Holdings.{Holdings}
 use Rattle.archive_opening.specs.Opening.{CountsFault, IsCause, IsDamageIn, IsOtherIn, IsOutside}
-use Rattle.archive_core.specs.Reopening.{IsMadeOf, IsNotOpened, IsReopened}
+use Rattle.archive_core.specs.Finished.{HasCheckpoint}
+use Rattle.archive_core.specs.Reopening.{AreFinishedAsTold, IsMadeOf, IsNotOpened, IsReopened}
 use Rattle.archive_core.specs.Known.{HasCheckpointsOfKnown, IsNotOpenedAt, IsNotOpenedKnown, IsReopenedAt, IsReopenedKnown, MayBeKnown, told_at}
 use Rattle.archive_opening.specs.declared.opening.Opened.{Opened}
-use Rattle.archive_opening.specs.Telling.{AreCheckpointsSynced, AreReadOrTold, IsKnownRefusal, IsOpenedBy, IsReadWhole, MayBeSettled, known_to}
+use Rattle.archive_opening.specs.Telling.{AreCheckpointsSynced, AreReadOrTold, IsKnownRefusal, IsOfLine, IsOpenedBy, IsReadWhole, MayBeSettled, known_to}
+use Rattle.archive_core.proofs.FinishedLaws.{has_finished, same_checkpoint, same_checkpoints_of}
 use Rattle.archive_core.proofs.ReopenLaws.{IsBasis, as_read, known_as, not_opened}
 
 -- ---- by checkpoints
@@ -88,6 +94,28 @@ module _ {D : Type 0} (d : Ghosts D) (laws : DiskLaws d) (disk : D) (asked : Opt
 
     same_told : IsTrue (told_at depths.Checkpoints d.tells known) → IfSome known (λ book. SameBook (book_of opened.gathered.held) book)
     same_told = of_known d.tells known (λ book. SameBook (book_of opened.gathered.held) book) is.known_is
+
+    -- a line tells of a capture only in the finished checkpoint of its volume, which each image has
+    pub finished_told : (IsTrue d.tells → AreCheckpointsSynced (d.reading disk) (d.images (disk_of opened.journal)))
+        → IsTrue (told_at depths.Checkpoints d.tells known) → AreFinishedAsTold d opened
+    finished_told synced so spot one told image left = by known may (same_told so) so
+      where
+        tells : IsTrue d.tells
+        tells = usable_told.tells so
+
+        line : IsOfLine (d.reading disk) spot
+        line = All-contains (λ (s : Spot). is_told_form s.form ≡ true → IsOfLine (d.reading disk) s) opened.gathered.spots.items spot (is.lined tells) one told
+
+        by : (k : Option Book) → MayBeSettled d disk asked k → IfSome k (λ book. SameBook (book_of opened.gathered.held) book)
+            → IsTrue (told_at depths.Checkpoints d.tells k) → HasCheckpoint (book_of opened.gathered.held) spot.volume image
+        by None settled same told_so = absurd (false≢true told_so)
+        by (Some book) settled same told_so =
+            let of = same_checkpoints_of image (d.reading disk) book (synced tells image left) (settled tells).0.checkpoints in
+            let finished = subst (λ (bytes : List ℕ). IsCheckpoint spot.volume line.lines bytes)
+            (sym (same_checkpoint image (d.reading disk) (synced tells image left) spot.volume)) line.finished in ⊎_elim
+            (λ is_it. subst (λ (b : Book). HasCheckpoint b spot.volume image) (sym is_it) (has_finished book spot.volume line.lines image of finished))
+            (λ none. absurd (omega (arith, (of.each spot.volume line.lines finished).0, ap (λ (v : List Volume). length v) none.1)))
+            same
 
     stands_told : (k : Option Book) → MayBeSettled d disk asked k → IfSome k (λ book. SameBook (book_of opened.gathered.held) book)
         → IsTrue (told_at depths.Checkpoints d.tells k) → StandsFor (warc_files (d.reading disk)) (book_of opened.gathered.held)

@@ -1,9 +1,11 @@
 -- What was opened makes an archive.
-use Rattle.std.proofs.Common.{◌≡◌, ℕ, suc, ◌+◌, ◌<◌, Bool, IsFalse, IsTrue, List, [], ◌∷◌, length, Some, refl, sym, ap, subst, ◌∙◌, cond, arith}
-use Rattle.std.specs.Prelude.{Contains, count_by, slice_get}
+use Rattle.std.proofs.Common.{◌≡◌, ℕ, suc, ◌+◌, ◌-◌, ◌<◌, ◌≤◌, Bool, IsFalse, IsTrue, List, [], ◌∷◌, length, Some, refl, sym, ap, subst, ◌∙◌, ⊎_elim, cond, arith}
+use Rattle.std.specs.Prelude.{Contains, count_by, slice_get, true, false, if◌then◌else◌}
 use Rattle.std.specs.List.Sorted.{IsPermutation, IsStrictlySortedBy}
 use Rattle.std.proofs.lemmas.List.Sorted.{Contains-permutation, IsPermutation-sym}
 use Rattle.std.proofs.lemmas.List.Sums.{sum_by-cons}
+use Rattle.std.proofs.lemmas.List.Elements.{All-contains}
+use Rattle.std.proofs.lemmas.Bool.{cases_lt, false≢true}
 use Rattle.std.proofs.lemmas.Option.{same_Some, slice_get_within}
 use Rattle.capture.specs.Captures.{captures}
 use Rattle.capture.specs.declared.book.Book.{Book}
@@ -14,23 +16,25 @@ use Rattle.capture.specs.declared.limits.Limits.{Limits}
 use Rattle.cdxj_index.specs.Facts.{Facts}
 use Rattle.cdxj_index.specs.OfBook.{AreEntries, AreOf, IsEntryOf, by_number}
 use Rattle.cdxj_index.specs.Queries.{IsIndex}
+use Rattle.disk_model.specs.Crash.{Leaves}
 use Rattle.disk_model.specs.declared.disk.Disk.{Ghosts}
 use Rattle.revisit_table.specs.Table.{Table}
-use Rattle.warc_journal.specs.Journals.{texts}
+use Rattle.warc_journal.specs.Journals.{disk_of, texts}
 use Rattle.warc_journal.specs.declared.journal.Journal.{Journal}
 use Rattle.archive_shelf.specs.Storing.{is_revisit}
 use Rattle.archive_core.proofs.ArchiveLaws.{entries_shown}
-use Rattle.archive_opening.specs.Gathering.{IsInStepWith, IsUsable}
+use Rattle.archive_opening.specs.Gathering.{AreAllRead, GroupWasRead, IsInStepWith, IsUsable}
 use Rattle.archive_volumes.proofs.ChooseLaws.{there_is}
 use Rattle.archive_volumes.specs.Held.{book_of}
+use Rattle.archive_core.specs.Finished.{AreLinedTo, FirstAreFinished, HasCheckpoint}
 use Rattle.archive_core.specs.Holdings.{AreLimits, IsArchive}
 use Rattle.archive_core.specs.Shown.{numbered}
-use Rattle.archive_volumes.specs.Spots.{AreHeldWhole, ArePlaced, AreSpotsOf, AreWithin, IsSpotOf, form_of, is_same_form}
+use Rattle.archive_volumes.specs.Spots.{AreHeldWhole, ArePlaced, AreSpotsOf, AreWithin, IsSpotOf, form_of, is_same_form, is_told_form}
 use Rattle.archive_volumes.specs.Volumes.{HoldsBook, IsMeasured}
 use Rattle.archive_opening.specs.declared.opening.Opened.{Opened}
 use Rattle.archive_volumes.specs.declared.spot.Spot.{Spot}
 use Rattle.archive_opening.specs.Telling.{AreNumbered, IsNamedAs}
-use Rattle.archive_core.specs.Reopening.{NamesCapture}
+use Rattle.archive_core.specs.Reopening.{AreFinishedAsTold, NamesCapture}
 use Rattle.archive_core.proofs.ShownLaws.{shown_from}
 use Rattle.archive_opening.specs.declared.gathered.Gathered.{Gathered}
 
@@ -85,6 +89,38 @@ of_sorted book entries index are same =
           let one = are.all number stored placed by_date in
           (one.0, Contains-permutation entries index one.0 same one.1, one.2);
     }
+
+-- ---- the checkpoints
+
+-- those of the first volumes of which lines told are finished
+pub first_told : {D : Type 0} (d : Ghosts D) (opened : Opened D) (journal : Journal D) (book : Book) (spots : List Spot) (n : ℕ) → journal ≡ opened.journal
+    → book ≡ book_of opened.gathered.held → spots ≡ opened.gathered.spots.items → AreFinishedAsTold d opened → AreLinedTo spots n
+    → Leaves (d.images (disk_of journal)) (FirstAreFinished book n)
+first_told d opened journal book spots n ej eb es finished lined image left k less =
+    let of = lined k less in
+    subst (λ (v : ℕ). HasCheckpoint book v image) of.volume_is
+    (subst (λ (b : Book). HasCheckpoint b of.spot.volume image) (sym eb)
+    (finished of.spot (subst (λ (l : List Spot). Contains l of.spot) es of.one) of.told image
+    (subst (λ (j : Journal _). d.images (disk_of j) image) ej left)))
+
+-- a volume more of which a line told
+pub lined_next : (spots : List Spot) (n : ℕ) (spot : Spot) → Contains spots spot → (is : Bool) → (IsTrue is → (is_told_form spot.form ≡ true) × (spot.volume ≡ n))
+    → (more : ℕ) → more ≡ (if is then 1 else 0) → AreLinedTo spots n → AreLinedTo spots (n + more)
+lined_next spots n spot one true tells more is lined k less = ⊎_elim
+    (λ (before : k < n). lined k before)
+    (λ (last : n ≤ k). record {
+      spot = spot;
+      one = one;
+      told = (tells refl).0;
+      volume_is = let at = (tells refl).1 in omega (arith, at, less, is, last);
+    })
+    (cases_lt k n)
+lined_next spots n spot one false tells more is lined k less = lined k (omega (arith, less, is))
+
+-- where each capture's group was read, no line told of any
+pub none_lined : {D : Type 0} (d : Ghosts D) (opened : Opened D) → AreAllRead opened.gathered.spots.items → AreFinishedAsTold d opened
+none_lined d opened read spot one told =
+    absurd (false≢true (sym (All-contains GroupWasRead opened.gathered.spots.items spot read one) ∙ told))
 
 -- ---- the archive
 
@@ -160,8 +196,9 @@ module _ {D : Type 0} (d : Ghosts D) (told : Bool) (journal : Journal D) (book :
       let named = parts.2.2 entry has at.0 at.1 in
       record { stored = is.stored; placed = is.placed; uri = named.uri ∙ is.uri; date = named.date ∙ is.date }
 
-  pub made_archive : (limits : Limits) (found revisits : ℕ) → HoldsBook d told journal book → IsMeasured journal book
-      → AreLimits limits → found ≡ length spots → revisits ≡ count_by same_spot spots
+  pub made_archive : (limits : Limits) (found revisits settled : ℕ) → HoldsBook d told journal book → IsMeasured journal book
+      → AreLimits limits → found ≡ length spots → revisits ≡ count_by same_spot spots → settled ≤ length book.volumes - 1
+      → (IsTrue told → Leaves (d.images (disk_of journal)) (FirstAreFinished book settled))
       → IsArchive d (record {
         journal = journal;
         book = book;
@@ -171,10 +208,10 @@ module _ {D : Type 0} (d : Ghosts D) (told : Bool) (journal : Journal D) (book :
         limits = limits;
         found = found;
         revisits = revisits;
-        settled = 0;
+        settled = settled;
         told = told;
       })
-  made_archive limits found revisits holds measured are_limits found_is revisits_is = record {
+  made_archive limits found revisits settled holds measured are_limits found_is revisits_is sealed first = record {
     holds = holds;
     measured = measured;
     counted = record {
@@ -183,7 +220,7 @@ module _ {D : Type 0} (d : Ghosts D) (told : Bool) (journal : Journal D) (book :
       found = omega (arith, found_is, parts.0.count);
       below = below_by;
       limits = are_limits;
-      sealed = omega arith;
+      sealed = sealed;
     };
     spots = parts.1;
     table = parts.0.table_is;
@@ -192,5 +229,5 @@ module _ {D : Type 0} (d : Ghosts D) (told : Bool) (journal : Journal D) (book :
     placed = parts.5;
     made = parts.6;
     known = λ so. of_sorted book entries index (parts.3 so).of_book same;
-    settled = λ so image left k less. absurd (omega (arith, less));
+    settled = first;
   }

@@ -1,8 +1,11 @@
 -- What may be opened between calls is next to the book that is seen.
-use Rattle.std.proofs.Common.{◌≡◌, ◌⊎◌, ℕ, ◌+◌, ◌<◌, ◌≤◌, IsTrue, List, [], ◌∷◌, length, sym, ap, subst, ◌∙◌, inl, inr, ⊎_elim, arith, length-append}
+use Rattle.std.proofs.Common.{◌≡◌, ◌⊎◌, ℕ, ◌+◌, ◌<◌, ◌≤◌, IsTrue, List, [], ◌∷◌, ◌++◌, length, sym, ap, subst, ◌∙◌, inl, inr, ⊎_elim, arith, length-append}
 use Rattle.std.proofs.lemmas.Bool.{cases_lt}
+use Rattle.capture.proofs.GrowthLaws.{grows_from_itself, growth_goes_on}
 use Rattle.capture.specs.Captures.{captures}
+use Rattle.capture.specs.Growth.{Grows}
 use Rattle.capture.specs.declared.book.Book.{Book}
+use Rattle.capture.specs.declared.book.Volume.{Volume}
 use Rattle.capture.specs.declared.captured.Stored.{Stored}
 use Rattle.disk_model.specs.Image.{Image}
 use Rattle.disk_model.specs.declared.disk.Disk.{Ghosts}
@@ -13,9 +16,9 @@ use Rattle.warc_text.specs.StandsFor.{IdsDifferIn}
 use Rattle.warc_text.specs.declared.id.IdKind.TheVariants.{Response}
 use Rattle.archive_shelf.proofs.GainingSoundness.{no_volumes}
 use Rattle.archive_shelf.proofs.GainingTexts.{same_length}
-use Rattle.archive_shelf.proofs.StoringLaws.{captures_more, captures_stay}
+use Rattle.archive_shelf.proofs.StoringLaws.{capture_grows, captures_more, captures_stay, volume_grows}
 use Rattle.archive_shelf.specs.Openings.{HasIds, ImageStandsFor, IsNext, OpensNext, SameBook}
-use Rattle.archive_shelf.specs.Storing.{with_capture, with_volume}
+use Rattle.archive_shelf.specs.Storing.{add_to_last, new_volume, with_capture, with_volume}
 use Rattle.archive_volumes.proofs.ChangeLaws.{DiskLaws, no_volumes_by, now_image, one_with}
 use Rattle.archive_volumes.specs.Volumes.{OpensNear, crash_of}
 
@@ -102,3 +105,46 @@ pub opens_next : {D : Type 0} (d : Ghosts D) (laws : DiskLaws d) (disk : D) (see
 opens_next d laws disk seen near ids x o =
     let y = near o.told o.image (now_image d laws disk x o) in
     next_by o.image seen y.0 x ids y.2 y.1 o.stands
+
+-- ---- books that grow
+
+some_volumes : (volumes : List Volume) (v : Volume) → volumes ++ v ∷ [] ≡ [] → ⊥
+some_volumes [] v e = cc
+some_volumes (first ∷ others) v e = cc
+
+-- both have no volumes
+abbrev pub AreEmpty : Book → Book → Type 0
+AreEmpty x book = (x.volumes ≡ []) × (book.volumes ≡ [])
+
+-- a book that is next to one has grown from it, or neither has volumes
+pub next_grows : (book x : Book) → IsNext book x → AreEmpty x book ⊎ Grows book x
+next_grows book x next = ⊎_elim
+    (λ same. ⊎_elim
+    (λ (is : next.room ≡ book). ⊎_elim
+    (λ here. ⊎_elim
+    (λ (x_is : x ≡ next.room). inr (subst (Grows book) (sym (x_is ∙ is)) (grows_from_itself book)))
+    (λ both. inl (both.0, sym (ap (λ (b : Book). b.volumes) is) ∙ both.1))
+    here)
+    (λ more. inr (subst (Grows book) (sym (more.1 ∙ ap (λ (b : Book). with_capture b more.0) is)) (capture_grows book more.0)))
+    next.is)
+    (λ both. ⊎_elim
+    (λ here. ⊎_elim
+    (λ (x_is : x ≡ next.room). inl (ap (λ (b : Book). b.volumes) x_is ∙ both.0, both.1))
+    (λ too. inl (too.0, both.1))
+    here)
+    (λ more. inl (
+      ap (λ (b : Book). b.volumes) more.1 ∙ ap (λ (l : List Volume). add_to_last l more.0) both.0,
+      both.1,
+    ))
+    next.is)
+    same)
+    (λ rolled. ⊎_elim
+    (λ here. ⊎_elim
+    (λ (x_is : x ≡ next.room). inr (subst (Grows book) (sym (x_is ∙ rolled.1)) (volume_grows book rolled.0)))
+    (λ both. absurd (some_volumes book.volumes (new_volume rolled.0) (sym (ap (λ (b : Book). b.volumes) rolled.1) ∙ both.1)))
+    here)
+    (λ more. inr (subst (Grows book) (sym (more.1 ∙ ap (λ (b : Book). with_capture b more.0) rolled.1))
+    (growth_goes_on book (with_volume book rolled.0) (with_capture (with_volume book rolled.0) more.0) (volume_grows book rolled.0)
+    (capture_grows (with_volume book rolled.0) more.0))))
+    next.is)
+    next.roomy

@@ -199,6 +199,7 @@ module _ {D : Type 0} (d : Ghosts D) (laws : DiskLaws d) (disk : D) (asked : Opt
         found = made.found;
         limits_are = made.limits_are;
         told_is = refl;
+        lined = made.lined;
       }) refl is.sound is.entries
 
   pub reopened : (opened : Opened D) → IsOpened d disk asked opened → (result : Result (Holdings D) (ReopenFault × D))

@@ -1,23 +1,18 @@
 -- Which checkpoints of a book's volumes are finished.
-use Rattle.std.specs.Prelude.{◌≡◌, ℕ, ◌+◌, ◌<◌, List, length}
+use Rattle.std.specs.Prelude.{◌≡◌, ℕ, ◌+◌, ◌<◌, true, List, length, Contains}
 use Rattle.capture.specs.declared.book.Book.{Book}
 use Rattle.disk_model.specs.Image.{Image}
 use Rattle.cdxj_line.specs.declared.line.Line.{Line}
-use Rattle.checkpoint.specs.Checkpoints.{IsCheckpoint, checkpoint_of}
 use Rattle.checkpoint.specs.OfVolume.{AreLinesOf}
 use Rattle.checkpoint.specs.Putting.{HoldsCheckpoint}
+use Rattle.archive_volumes.specs.Spots.{is_told_form}
+use Rattle.archive_volumes.specs.declared.spot.Spot.{Spot}
 
 -- the checkpoint of the book's volume is finished in the image: it has the lines of just that volume's captures
 pub record HasCheckpoint (book : Book) (k : ℕ) (image : Image) : Type 0 where
   pub lines : List Line
   pub holds : HoldsCheckpoint k lines image
   pub are : AreLinesOf book k lines
-
--- no finished checkpoint is there but of a volume of the book that isn't the last, with the lines of just its captures
-abbrev pub HasNoOther : Book → Image → Type 0
-HasNoOther book image =
-    (k other : ℕ) (lines : List Line) → IsCheckpoint other lines (checkpoint_of image k)
-    → (other ≡ k) × (k + 1 < length book.volumes) × AreLinesOf book k lines
 
 -- those of so many of the first volumes are
 abbrev pub FirstAreFinished : Book → ℕ → Image → Type 0
@@ -26,3 +21,16 @@ FirstAreFinished book n image = (k : ℕ) → k < n → HasCheckpoint book k ima
 -- that of each sealed volume is: of each but the last
 abbrev pub IsSettled : Book → Image → Type 0
 IsSettled book image = (k : ℕ) → k + 1 < length book.volumes → HasCheckpoint book k image
+
+-- ---- those that an opening read
+
+-- a line told of a capture of this volume
+pub record HasLined (spots : List Spot) (k : ℕ) : Type 0 where
+  pub spot : Spot
+  pub one : Contains spots spot
+  pub told : is_told_form spot.form ≡ true
+  pub volume_is : spot.volume ≡ k
+
+-- and so of each of so many of the first volumes
+abbrev pub AreLinedTo : List Spot → ℕ → Type 0
+AreLinedTo spots n = (k : ℕ) → k < n → HasLined spots k

@@ -1,5 +1,5 @@
 -- What opening an archive gives, and what it leaves on the disk.
-use Rattle.std.specs.Prelude.{◌≡◌, Bool, IsTrue, List, ℕ, [], length, slice_get, Contains, Option, Some, None}
+use Rattle.std.specs.Prelude.{◌≡◌, Bool, true, IsTrue, List, ℕ, [], length, slice_get, Contains, Option, Some, None}
 use Rattle.capture.specs.Captures.{captures}
 use Rattle.capture.specs.declared.book.Book.{Book}
 use Rattle.capture.specs.declared.captured.Stored.{Stored}
@@ -15,13 +15,16 @@ use Rattle.warc_text.specs.StandsFor.{IdsDifferIn, StandsFor}
 use Rattle.archive_shelf.specs.Openings.{ImageStandsFor, IsState, SameBook}
 use Rattle.archive_shelf.specs.declared.fault.ReopenFault.{ReopenFault}
 use Rattle.archive_volumes.specs.Held.{book_of}
+use Rattle.archive_core.specs.Finished.{AreLinedTo, HasCheckpoint}
 use Rattle.archive_core.specs.Holdings.{Holdings, contents_of}
 use Rattle.archive_opening.specs.Opening.{CountsFault, IsCause, IsDamageIn, IsIn, IsOtherIn, IsOutside}
 use Rattle.archive_opening.specs.Telling.{IsAskedFor}
 use Rattle.archive_core.specs.Shown.{numbered}
 use Rattle.archive_core.specs.Told.{told_of}
 use Rattle.archive_opening.specs.declared.opening.Opened.{Opened}
+use Rattle.archive_volumes.specs.Spots.{is_told_form}
 use Rattle.archive_volumes.specs.Volumes.{IsQuiet}
+use Rattle.archive_volumes.specs.declared.spot.Spot.{Spot}
 
 -- An archive as it is opened on a disk.
 pub record IsReopened {D : Type 0} (d : Ghosts D) (disk : D) (asked : Option (List ℕ)) (limits : Limits) (held : Holdings D) : Type 0 where
@@ -54,6 +57,11 @@ pub record NamesCapture (book : Book) (entry : Facts) : Type 0 where
   pub uri : entry.uri ≡ stored.uri
   pub date : entry.date ≡ stored.date
 
+-- where a line alone told of a capture, the checkpoint of its volume is finished in each image
+abbrev pub AreFinishedAsTold : {D : Type 0} → Ghosts D → Opened D → Type 0
+AreFinishedAsTold d opened = (spot : Spot) → Contains opened.gathered.spots.items spot → is_told_form spot.form ≡ true
+    → Leaves (d.images (disk_of opened.journal)) (HasCheckpoint (book_of opened.gathered.held) spot.volume)
+
 -- An archive as it is made of what was opened, whatever the disk tells: where the entries that were gathered are its book's, they are what is shown.
 pub record IsMadeOf {D : Type 0} (opened : Opened D) (limits : Limits) (told : Bool) (held : Holdings D) : Type 0 where
   pub journal_is : held.journal ≡ opened.journal
@@ -64,6 +72,7 @@ pub record IsMadeOf {D : Type 0} (opened : Opened D) (limits : Limits) (told : B
   pub found : held.found ≡ length (captures held.book)
   pub limits_are : held.limits ≡ limits
   pub told_is : held.told ≡ told
+  pub lined : AreLinedTo held.spots held.settled
 
 -- Why an archive isn't opened, and the disk as it is given back: nothing was written. What stands for a sound book whose namespace is asked for,
 -- or none, isn't refused for what it holds.

@@ -19,9 +19,10 @@ use Rattle.checkpoint.specs.Putting.{HoldsCheckpoint, Puts, commit_byte}
 use Rattle.checkpoint.specs.declared.fault.CheckpointFault.{CheckpointFault}
 use Rattle.checkpoint.specs.declared.fault.CheckpointFault.TheVariants as checkpoints
 use Rattle.archive_shelf.specs.Openings.{CrashStates, Moves, StaysCovered}
+use Rattle.archive_opening.specs.Telling.{HasCheckpointsOf}
 use Rattle.archive_volumes.specs.declared.spot.Spot.{Spot}
 use Rattle.volume_lines.specs.OfSpots.{AreLinesOfSpots}
-use Rattle.archive_core.specs.Finished.{FirstAreFinished, HasCheckpoint, HasNoOther, IsSettled}
+use Rattle.archive_core.specs.Finished.{FirstAreFinished, HasCheckpoint, IsSettled}
 use Rattle.archive_core.specs.Holdings.{Holdings}
 use Rattle.archive_core.specs.Looking.{OnlyLooks}
 use Rattle.archive_core.specs.Told.{told_of}
@@ -91,7 +92,7 @@ pub record HasSupplied (told : Bool) (book : Book) (spots : List Spot) (upto : �
 abbrev pub KeepsSettled : Type 0
 KeepsSettled =
     (book : Book) (spots : List Spot) (upto : ℕ) (first before image : Image) → GoesWith true book spots upto first before image
-    → HasNoOther book before → HasNoOther book image
+    → HasCheckpointsOf before book → HasCheckpointsOf image book
 
 -- nothing more may be opened, at whatever moment a crash stops the call
 pub record OpensNoMore (was is : CrashStates) : Type 0 where

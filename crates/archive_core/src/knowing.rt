@@ -42,31 +42,31 @@ impl<D: Disk> Archive<D> {
             Depth::Whole => open_whole(alloc, disk, namespace, limits),
             Depth::Checkpoints => {
                 let known = Shown::told_by(&depth);
-                open_told(alloc, disk, namespace, limits, &known)
+                Archive::reopen_told(alloc, disk, namespace, limits, &known)
             }
         }
     }
-}
 
-/// Opens the archive that a disk holds by its checkpoints.
-fn open_told<D: Disk>(
-    alloc: Global,
-    disk: D,
-    namespace: Option<Uuid>,
-    limits: Limits,
-    known: &Shown<Option<Book>>,
-) -> Result<Archive<D>, (ReopenFault, D)>
-    requires uuid { IfSome namespace IsUuid }
-    requires limits { AreLimits limits }
-    requires known { MayBeSettled D.Disk disk namespace known.now.value }
-    ensures reopened { IfOk result (IsReopenedKnown D.Disk disk namespace limits Depth.Checkpoints known.now.value) }
-    ensures refused { IfErr result (IsNotOpenedKnown D.Disk disk namespace known.now.value) }
-{
-    match open_by_checkpoints(alloc, disk, &namespace, known) {
-        Ok(opened) => {
-            let told = Shown::told_by(known);
-            archive_of(alloc, opened, limits, told)
+    /// Opens the archive that a disk holds by its checkpoints, for a caller that has its book as a value which clauses see.
+    pub fn reopen_told(
+        alloc: Global,
+        disk: D,
+        namespace: Option<Uuid>,
+        limits: Limits,
+        known: &Shown<Option<Book>>,
+    ) -> Result<Archive<D>, (ReopenFault, D)>
+        requires uuid { IfSome namespace IsUuid }
+        requires limits { AreLimits limits }
+        requires known { MayBeSettled D.Disk disk namespace known.now.value }
+        ensures reopened { IfOk result (IsReopenedKnown D.Disk disk namespace limits Depth.Checkpoints known.now.value) }
+        ensures refused { IfErr result (IsNotOpenedKnown D.Disk disk namespace known.now.value) }
+    {
+        match open_by_checkpoints(alloc, disk, &namespace, known) {
+            Ok(opened) => {
+                let told = Shown::told_by(known);
+                archive_of(alloc, opened, limits, told)
+            }
+            Err(refused) => Err(refused),
         }
-        Err(refused) => Err(refused),
     }
 }

@@ -1,19 +1,21 @@
 //! Opening an archive over a disk.
-ghost use Rattle.std.specs.Prelude.{◌≡◌, IfErr, IfOk, IfSome, IsTrue, count_by};
+ghost use Rattle.std.specs.Prelude.{◌≡◌, ◌≤◌, true, IfErr, IfOk, IfSome, IsTrue, count_by};
 ghost use Rattle.cdxj_index.specs.OfBook.{AreEntries};
 ghost use Rattle.warc_journal.specs.Journals.{disk_of};
 ghost use Rattle.warc_text.specs.Ids.{IsUuid};
 ghost use Rattle.archive_shelf.specs.declared.fault.ReopenFault.TheVariants.{Memory as IsMemory};
 ghost use Rattle.archive_opening.specs.Gathering.{IsUsable};
 ghost use Rattle.archive_opening.specs.Telling.{AreNumbered};
+ghost use Rattle.archive_core.specs.Finished.{AreLinedTo};
 ghost use Rattle.archive_core.specs.Holdings.{AreLimits};
 ghost use Rattle.archive_core.specs.Known.{IsNotOpenedAt, IsReopenedAt};
-ghost use Rattle.archive_core.specs.Reopening.{IsMadeOf, IsNotOpened, IsReopened};
+ghost use Rattle.archive_core.specs.Reopening.{AreFinishedAsTold, IsMadeOf, IsNotOpened, IsReopened};
 ghost use Rattle.archive_volumes.specs.Held.{book_of};
-ghost use Rattle.archive_volumes.specs.Spots.{is_same_form};
+ghost use Rattle.archive_volumes.specs.Spots.{is_same_form, is_told_form};
 
 use crate::Archive;
 use crate::index::index_of;
+use crate::settling::one_if;
 use archive_opening::{Opened, open_volumes};
 use archive_shelf::{Depth, ReopenFault};
 use archive_volumes::{Spot, Volumes};
@@ -67,7 +69,8 @@ pub(crate) fn open_whole<D: Disk>(
     }
 }
 
-/// The archive of what was opened, of whose book it is told what it has, or isn't.
+/// The archive of what was opened, of whose book it is told what it has, or isn't. A checkpoint whose lines told of captures is known to be
+/// finished, so that nobody settles it again.
 pub(crate) fn archive_of<D: Disk>(
     alloc: Global,
     opened: Opened<D>,
@@ -78,6 +81,7 @@ pub(crate) fn archive_of<D: Disk>(
     requires usable { IsUsable D.Disk told.value opened }
     requires numbered { AreNumbered opened.gathered }
     requires entries { IsTrue told.value → AreEntries (book_of opened.gathered.held) opened.gathered.entries.items }
+    requires finished { IsTrue told.value → AreFinishedAsTold D.Disk opened }
     ensures made { IfOk result (IsMadeOf opened limits told.value) }
     ensures memory { IfErr result (λ refused. refused ≡ (IsMemory, disk_of opened.journal)) }
 {
@@ -89,6 +93,8 @@ pub(crate) fn archive_of<D: Disk>(
     };
     let found = spots.len() as u32;
     let revisits = revisits_among(spots.as_slice()) as u32;
+    let sealed = journal.volumes().saturating_sub(1);
+    let settled = lined_volumes(spots.as_slice(), sealed);
     Ok(Archive {
         volumes: Volumes::over(journal, held, &told),
         index,
@@ -97,9 +103,36 @@ pub(crate) fn archive_of<D: Disk>(
         limits,
         found,
         revisits,
-        settled: 0,
+        settled,
         told,
     })
+}
+
+/// How many of the first volumes, up to so many, have a capture that a line alone told of.
+fn lined_volumes(spots: &[Spot], sealed: u32) -> u32
+    ensures few { result ≤ sealed }
+    ensures lined { AreLinedTo spots.now result }
+{
+    let mut rest = spots;
+    let mut lined = 0;
+    'spots: while let Some((spot, behind)) = rest.split_first() {
+        if lined == sealed {
+            return lined;
+        }
+        lined += one_if(is_lined(spot, lined));
+        rest = behind;
+    }
+    lined
+}
+
+/// Whether a line alone told of the capture, which is one of this volume.
+fn is_lined(spot: &Spot, volume: u32) -> bool
+    ensures { IsTrue result → (is_told_form spot.now.form ≡ true) × (spot.now.volume ≡ volume) }
+{
+    if !spot.form.is_told() {
+        return false;
+    }
+    spot.volume == volume
 }
 
 /// How many captures refer to an earlier one.

@@ -72,11 +72,11 @@ fn settle_volumes<D: Disk>(
     Ok(written)
 }
 
-/// How many were written, by whether it was.
-fn one_if(wrote: bool) -> u32
-    ensures { result ≡ (if wrote then 1 else 0) }
+/// One, or none.
+pub(crate) fn one_if(is: bool) -> u32
+    ensures { result ≡ (if is then 1 else 0) }
 {
-    match wrote {
+    match is {
         true => 1,
         false => 0,
     }

@@ -1,12 +1,14 @@
-use Rattle.std.proofs.Common.{rules, ◌≡◌, length, refl, sym, ap, subst, ◌∙◌}
+use Rattle.std.proofs.Common.{rules, ◌≡◌, ◌-◌, ◌≤◌, IsTrue, length, refl, sym, ap, subst, ◌∙◌, arith}
 use Rattle.std.specs.Prelude.{count_by}
 use Rattle.capture.specs.declared.book.Book.{Book}
-use Rattle.warc_journal.specs.Journals.{texts}
+use Rattle.warc_journal.specs.Journals.{disk_of, texts}
 use Rattle.warc_text.specs.Books.{AreVolumeTexts}
 use Rattle.warc_text.specs.Sound.{IsSound}
 use Rattle.archive_volumes.specs.Held.{book_of}
 use Rattle.archive_volumes.specs.declared.volumes.Volumes.{Volumes}
-use Rattle.archive_core.proofs.MadeLaws.{AreParts, entries_as, made_archive, named_by, parts_of, same_spot, shown_sorted}
+use Rattle.disk_model.specs.Crash.{Leaves}
+use Rattle.archive_core.specs.Finished.{AreLinedTo, FirstAreFinished}
+use Rattle.archive_core.proofs.MadeLaws.{AreParts, entries_as, first_told, made_archive, named_by, parts_of, same_spot, shown_sorted}
 use Rattle.archive_core.proofs.reopen.archive_of.Given.{Over}
 use Rattle.archive_core.proofs.reopen.archive_of.Goals as goal
 
@@ -35,13 +37,34 @@ over-requires-clause-sound g c told =
 found_is : (g : Over) (c : goal.After-over g) → c.len-found.result ≡ length c.into_parts-held.result.1.items
 found_is g c = search rules
 
+-- how many volumes are sealed, and of those lines told
+sealed_is : (g : Over) (c : goal.After-over g) → c.lined_volumes-settled.result ≤ length (book_of c.over.result.held).volumes - 1
+sealed_is g c = omega (
+  arith,
+  c.lined_volumes-settled.ensures.few,
+  c.saturating_sub-sealed.ensures,
+  c.volumes.ensures,
+  c.requires.usable.measured.count,
+  ap (λ (b : Book). length b.volumes) (book_is g c),
+)
+
+lined : (g : Over) (c : goal.After-over g) → AreLinedTo c.into_parts-held.result.1.items c.lined_volumes-settled.result
+lined g c = rw c.as_slice-2.ensures.value at c.lined_volumes-settled.ensures.lined
+
+first_is : (g : Over) (c : goal.After-over g) → IsTrue c.args.told.value
+    → Leaves (g.D.Disk.images (disk_of c.over.result.journal)) (FirstAreFinished (book_of c.over.result.held) c.lined_volumes-settled.result)
+first_is g c so =
+    first_told g.D.Disk c.args.opened c.over.result.journal (book_of c.over.result.held) c.into_parts-held.result.1.items c.lined_volumes-settled.result
+    (ap (λ (v : Volumes _). v.journal) c.over.ensures.value) (book_is g c) c.into_parts-held.ensures.spots (c.requires.finished so) (lined g c)
+
 pub invariant_of-result : goal.invariant_of-result
 invariant_of-result g c =
     made_archive g.D.Disk c.args.told.value c.over.result.journal (book_of c.over.result.held) c.into_parts-held.result.1.items c.into_parts-held.result.2
     c.args.opened.gathered.lengths.items c.into_parts-held.result.3.items c.in-Ok.index (parts g c) c.in-Ok.ensures.same c.in-Ok.ensures.index
-    c.args.limits c.len-found.result c.revisits_among-revisits.result
+    c.args.limits c.len-found.result c.revisits_among-revisits.result c.lined_volumes-settled.result
     c.over.ensures.holds c.over.ensures.measured c.requires.limits (found_is g c)
     (c.revisits_among-revisits.ensures ∙ ap (count_by same_spot) c.as_slice.ensures.value)
+    (sealed_is g c) (λ so. first_is g c so)
 
 pub returns-clause-made : goal.returns-clause-made
 returns-clause-made g c =
@@ -67,4 +90,5 @@ returns-clause-made g c =
       found = count ∙ are.0.count;
       limits_are = refl;
       told_is = refl;
+      lined = lined g c;
     }

@@ -3,7 +3,7 @@ use Rattle.std.specs.Prelude.{IfOk}
 use Rattle.archive_opening.specs.Gathering.{IsUsable}
 use Rattle.archive_volumes.proofs.ChangeLaws.{DiskLaws}
 use Rattle.archive_core.specs.Reopening.{IsMadeOf}
-use Rattle.archive_core.proofs.MadeLaws.{numbered_of}
+use Rattle.archive_core.proofs.MadeLaws.{none_lined, numbered_of}
 use Rattle.archive_core.proofs.ReopenLaws.{basis_of, no_memory, not_opened, reopened}
 use Rattle.archive_core.proofs.reopen.open_whole.Given.{Over}
 use Rattle.archive_core.proofs.reopen.open_whole.Goals as goal
@@ -21,6 +21,9 @@ archive_of-requires-clause-numbered g c = numbered_of c.in-Ok.opened.gathered c.
 
 pub archive_of-requires-clause-entries : goal.archive_of-requires-clause-entries
 archive_of-requires-clause-entries g c = λ so. c.in-Ok.ensures.opened.entries
+
+pub archive_of-requires-clause-finished : goal.archive_of-requires-clause-finished
+archive_of-requires-clause-finished g c = λ so. none_lined g.D.Disk c.in-Ok.opened c.in-Ok.ensures.opened.all_read
 
 pub returns-in-Ok-clause-reopened : goal.returns-in-Ok-clause-reopened
 returns-in-Ok-clause-reopened g c =

@@ -22,12 +22,12 @@ pub returns-in-Whole-clause-refused : goal.returns-in-Whole-clause-refused
 returns-in-Whole-clause-refused g c =
     none_known g.D.Disk (disk_laws g) c.args.disk c.args.namespace c.args.limits g.known c.requires.1.1.1.0 c.open_whole.result c.open_whole.ensures.refused
 
-pub open_told-requires-clause-known : goal.open_told-requires-clause-known
-open_told-requires-clause-known g c =
+pub reopen_told-requires-clause-known : goal.reopen_told-requires-clause-known
+reopen_told-requires-clause-known g c =
     subst (MayBeSettled g.D.Disk c.args.disk c.args.namespace) (sym c.told_by-known.ensures)
     (may_be_settled g.D.Disk c.args.disk c.args.namespace g.known c.requires.1.1.1.0 (c.requires.1.1.1.1 c.in-Checkpoints.is))
 
 pub returns-in-Checkpoints-clause-reopened : goal.returns-in-Checkpoints-clause-reopened
 returns-in-Checkpoints-clause-reopened g c =
-    subst (λ (depth : Depth). IfOk c.open_told.result (IsReopenedKnown g.D.Disk c.args.disk c.args.namespace c.args.limits depth g.known))
-    (sym c.in-Checkpoints.is) (rw c.told_by-known.ensures at c.open_told.ensures.reopened)
+    subst (λ (depth : Depth). IfOk c.reopen_told.result (IsReopenedKnown g.D.Disk c.args.disk c.args.namespace c.args.limits depth g.known))
+    (sym c.in-Checkpoints.is) (rw c.told_by-known.ensures at c.reopen_told.ensures.reopened)

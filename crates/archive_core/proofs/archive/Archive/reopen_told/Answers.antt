@@ -3,12 +3,12 @@ use Rattle.std.specs.Prelude.{IfOk}
 use Rattle.archive_opening.specs.Gathering.{IsUsable}
 use Rattle.archive_volumes.proofs.ChangeLaws.{DiskLaws}
 use Rattle.archive_core.specs.Reopening.{IsMadeOf}
-use Rattle.archive_core.proofs.KnownLaws.{basis_told, entries_told, may_be_known, refused_told, reopened_told, usable_told}
+use Rattle.archive_core.proofs.KnownLaws.{basis_told, entries_told, finished_told, may_be_known, refused_told, reopened_told, usable_told}
 use Rattle.archive_core.proofs.ReopenLaws.{no_memory, none_known}
 use Rattle.archive_shelf.specs.declared.depth.Depth.TheVariants.{Checkpoints}
 use Rattle.archive_core.specs.Known.{told_at}
-use Rattle.archive_core.proofs.knowing.open_told.Given.{Over}
-use Rattle.archive_core.proofs.knowing.open_told.Goals as goal
+use Rattle.archive_core.proofs.archive.Archive.reopen_told.Given.{Over}
+use Rattle.archive_core.proofs.archive.Archive.reopen_told.Goals as goal
 
 -- what is asked of the disk
 disk_laws : (g : Over) → DiskLaws g.D.Disk
@@ -26,6 +26,11 @@ pub archive_of-requires-clause-entries : goal.archive_of-requires-clause-entries
 archive_of-requires-clause-entries g c = λ so.
     entries_told g.D.Disk (disk_laws g) c.args.disk c.args.namespace c.args.limits c.args.known.now.value c.requires.known c.in-Ok.opened c.in-Ok.ensures.opened
     (sym c.told_by-told.ensures ∙ so)
+
+pub archive_of-requires-clause-finished : goal.archive_of-requires-clause-finished
+archive_of-requires-clause-finished g c = λ so.
+    finished_told g.D.Disk (disk_laws g) c.args.disk c.args.namespace c.args.limits c.args.known.now.value c.requires.known c.in-Ok.opened c.in-Ok.ensures.opened
+    c.in-Ok.ensures.synced (sym c.told_by-told.ensures ∙ so)
 
 pub returns-in-Ok-clause-reopened : goal.returns-in-Ok-clause-reopened
 returns-in-Ok-clause-reopened g c =
