@@ -1,2 +1,4 @@
 -- The laws' proofs. They stand here since the impl of `Disk` cites them.
+pub mod CountLaws
+pub mod NameLaws
 pub mod StateLaws

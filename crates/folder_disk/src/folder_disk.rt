@@ -1,11 +1,13 @@
 //! A disk of numbered files in a folder that this process holds.
 ghost use Rattle.std.specs.Prelude.{◌≡◌, IsTrue, IsErr, IfOk, MatchResult};
 ghost use Rattle.capture.specs.Faults.{CountsFaults};
+ghost use Rattle.folder_model.specs.Folder.{IsUnfailed};
 ghost use Rattle.folder_model.specs.Times.{moment_of};
 ghost use Rattle.folder_disk.specs.Kept.{state_in};
-ghost use Rattle.folder_disk.specs.State.{IsCounted, reading, images, images_since};
+ghost use Rattle.folder_disk.specs.State.{reading, images, images_since};
 ghost use Rattle.folder_disk.specs.steps.StateLaws.{reading_counts, no_more, now_counts, now_only, earlier};
 
+use crate::counting::count;
 use crate::held::Held;
 use crate::names::FileNames;
 use capture::Failed;
@@ -37,12 +39,15 @@ impl<F: Folder, N: FileNames> Model for FolderDisk<F, N> {
 }
 
 impl<F: Folder + Drop, N: FileNames> FolderDisk<F, N> {
-    /// The disk in a folder of which the files of each kind were counted. It and the folder around it are synced.
-    pub fn open(folder: F, alloc: Global, warc: u32, cdxj: u32) -> io::Result<FolderDisk<F, N>>
-        requires { IsTrue F.tells → IsCounted N.name (F.past folder) warc cdxj }
+    /// The disk in a folder, whose files are counted. A number that is missing is a failure, and never a smaller count. The folder and the one
+    /// around it are synced.
+    pub fn open(folder: F, alloc: Global) -> io::Result<FolderDisk<F, N>>
+        requires { IsTrue F.tells → IsUnfailed (F.past folder) }
         ensures { IfOk result (λ disk. disk.faults ≡ 0) }
     {
-        let held = Held::open(folder, alloc, warc, cdxj)?;
+        let mut folder = folder;
+        let counts = count::<F, N>(&mut folder, alloc)?;
+        let held = Held::open(folder, alloc, counts.warc, counts.cdxj)?;
         Ok(FolderDisk { held, faults: 0 })
     }
 }

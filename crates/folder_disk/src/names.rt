@@ -1,5 +1,6 @@
 //! The names of a disk's files in its folder.
-ghost use Rattle.std.specs.Prelude.{◌≡◌, ℕ, List, IfOk, string_bytes};
+ghost use Rattle.std.specs.Prelude.{◌≡◌, ◌<◌, ◌^◌, ℕ, Some, List, IfOk, IfSome, string_bytes};
+ghost use Rattle.std.specs.Str.{IsUtf8};
 ghost use Rattle.folder_model.specs.Seen.{NamesApart};
 
 use disk_model::Kind;
@@ -16,6 +17,14 @@ pub trait FileNames {
     fn name_of(alloc: Global, kind: Kind, file: u32) -> Result<String, AllocError>
         ensures { IfOk result (λ text. string_bytes text ≡ name kind file) };
 
+    /// The number of a file of a kind by its name, or `None` where the name is no such file's.
+    fn number_of(alloc: Global, kind: Kind, text: &str) -> Result<Option<u32>, AllocError>
+        ensures its { IfOk result (λ found. IfSome found (λ file. text.now ≡ name kind file)) }
+        ensures exact { IfOk result (λ found. (file : ℕ) → file < 2 ^ 32 → text.now ≡ name kind file → found ≡ Some file) };
+
     /// Each file has a name of its own.
     ghost apart: { NamesApart name };
+
+    /// Names are text.
+    ghost is_text: { (kind : Kind) (file : ℕ) → file < 2 ^ 32 → IsUtf8 (name kind file) };
 }

@@ -17,6 +17,6 @@ pub use folders::{Folders, Lock};
 pub use laws::{
     each_deed_is_a_step_of_the_disk, what_is_left_is_a_disk, what_was_synced_is_durable,
 };
-pub use names::Names;
+pub use names::{NameList, Names};
 pub use timed::Timed;
 pub use whole::{read_whole, write_whole};
