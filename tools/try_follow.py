@@ -60,4 +60,5 @@ def main():
         print(f"{rounds} rounds, {answered} exchanges answered; follow: {said}; source: {check[0]}; replica: {check[1]}; their volumes are {same}")
 
 
-main()
+if __name__ == "__main__":
+    main()

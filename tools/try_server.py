@@ -129,10 +129,13 @@ class Client(threading.Thread):
         self.answered, self.refused, self.wrong = [], [], []
         self.over = threading.Event()
 
+    def path_of(self, number):
+        return f"/{self.title}/{number}"
+
     def run(self):
         number, connection = 0, None
         while not self.over.is_set():
-            path = f"/{self.title}/{number}"
+            path = self.path_of(number)
             number += 1
             try:
                 if connection is None:
