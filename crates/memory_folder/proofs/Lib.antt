@@ -1,0 +1,4 @@
+mod EntriesLaws
+mod StepLaws
+mod StoreLaws
+mod TakingLaws

@@ -1,0 +1,4 @@
+pub mod Entry
+pub mod Past
+pub mod Standing
+pub mod Stopped
