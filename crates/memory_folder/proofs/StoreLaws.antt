@@ -33,16 +33,16 @@ keeps-wrote entry first deeds at some rest keeps = record {
       ap (λ (o : Option (List ℕ)). option_map (λ (old : List ℕ). written old at some) o) keeps.read
       ∙ ap (λ (xs : List ℕ). Some xs) (sym (left_all-push entry.steps (Write at some Fresh) entry.base));
   crash = λ budget. (
-      left budget entry.steps entry.base,
-      keeps.crash budget,
-      subst (Torn at (length some + rest) (left budget entry.steps entry.base)) (sym (left_push budget entry.steps (Write at some Fresh) entry.base))
-          (write_torn (rest_of budget entry.steps) at some rest (left budget entry.steps entry.base)),
+    left budget entry.steps entry.base,
+    keeps.crash budget,
+    subst (Torn at (length some + rest) (left budget entry.steps entry.base)) (sym (left_push budget entry.steps (Write at some Fresh) entry.base))
+        (write_torn (rest_of budget entry.steps) at some rest (left budget entry.steps entry.base)),
   );
   sync = λ budget. (
-      left budget (steps_synced true entry.steps) entry.base,
-      keeps.sync budget,
-      ap (λ (steps : List Step). left budget steps entry.base) (steps_synced-push true entry.steps (Write at some Fresh))
-          ∙ left_push budget (steps_synced true entry.steps) (Write at some Sure) entry.base,
+    left budget (steps_synced true entry.steps) entry.base,
+    keeps.sync budget,
+    ap (λ (steps : List Step). left budget steps entry.base) (steps_synced-push true entry.steps (Write at some Fresh))
+        ∙ left_push budget (steps_synced true entry.steps) (Write at some Sure) entry.base,
   );
   lacking = keeps.lacking;
   doubted = keeps.doubted;
@@ -55,16 +55,16 @@ keeps-shortened entry first deeds len keeps = record {
       ap (λ (o : Option (List ℕ)). option_map (take len) o) keeps.read
       ∙ ap (λ (xs : List ℕ). Some xs) (sym (left_all-push entry.steps (Truncate len Fresh) entry.base));
   crash = λ budget. (
-      left budget entry.steps entry.base,
-      keeps.crash budget,
-      subst (Cut (len - 0) (left budget entry.steps entry.base)) (sym (left_push budget entry.steps (Truncate len Fresh) entry.base))
-          (truncate_cut (rest_of budget entry.steps) len (left budget entry.steps entry.base)),
+    left budget entry.steps entry.base,
+    keeps.crash budget,
+    subst (Cut (len - 0) (left budget entry.steps entry.base)) (sym (left_push budget entry.steps (Truncate len Fresh) entry.base))
+        (truncate_cut (rest_of budget entry.steps) len (left budget entry.steps entry.base)),
   );
   sync = λ budget. (
-      left budget (steps_synced true entry.steps) entry.base,
-      keeps.sync budget,
-      ap (λ (steps : List Step). left budget steps entry.base) (steps_synced-push true entry.steps (Truncate len Fresh))
-          ∙ left_push budget (steps_synced true entry.steps) (Truncate len Sure) entry.base,
+    left budget (steps_synced true entry.steps) entry.base,
+    keeps.sync budget,
+    ap (λ (steps : List Step). left budget steps entry.base) (steps_synced-push true entry.steps (Truncate len Fresh))
+        ∙ left_push budget (steps_synced true entry.steps) (Truncate len Sure) entry.base,
   );
   lacking = keeps.lacking;
   doubted = keeps.doubted;
@@ -89,9 +89,9 @@ keeps-shortened_none entry first deeds len rest long keeps = record {
   read = ap (λ (o : Option (List ℕ)). option_map (take len) o) keeps.read ∙ ap (λ (xs : List ℕ). Some xs) (all All entry.steps (omega (arith, long)));
   crash = λ budget. (left budget entry.steps entry.base, keeps.crash budget, cut_none (len - rest) (left budget entry.steps entry.base));
   sync = λ budget. (
-      left budget (steps_synced true entry.steps) entry.base,
-      keeps.sync budget,
-      sym (all budget (steps_synced true entry.steps) (omega (arith, long, bound-synced true entry.steps (length entry.base)))),
+    left budget (steps_synced true entry.steps) entry.base,
+    keeps.sync budget,
+    sym (all budget (steps_synced true entry.steps) (omega (arith, long, bound-synced true entry.steps (length entry.base)))),
   );
   lacking = keeps.lacking;
   doubted = keeps.doubted;

@@ -97,9 +97,17 @@ impl MemoryFolder {
     fn fail_write(&mut self, name: &str, at: u64, piece: &[u8])
         ensures { WritesInPart name.now at (length piece.now) (past_of self.old.store) (past_of self.new.store) }
     {
-        let half = if self.plan.in_part { piece.len() / 2 } else { 0 };
+        let half = if self.plan.in_part {
+            piece.len() / 2
+        } else {
+            0
+        };
         let (front, back) = piece.split_at(half);
-        if self.store.write(name, at, front, back.len() as u64).is_err() {
+        if self
+            .store
+            .write(name, at, front, back.len() as u64)
+            .is_err()
+        {
             self.store.write_none(name, at, piece.len() as u64);
         }
     }

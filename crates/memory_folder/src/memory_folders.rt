@@ -5,9 +5,8 @@ use crate::memory_folder::MemoryFolder;
 use crate::plan::Plan;
 use folder_model::{Folder, Folders, Lock};
 use std::alloc::Global;
-use std::io;
 use std::io::ErrorKind;
-use std::mem;
+use std::{io, mem};
 
 /// Another process that comes before the folder is held. It makes the folder where there is none, makes a file that isn't there, writes
 /// to it, and syncs all that, or nothing of it.

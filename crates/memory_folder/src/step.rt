@@ -51,7 +51,9 @@ impl Step {
     {
         match self {
             Step::Write {
-                at, bytes: some, ..
+                at,
+                bytes: some,
+                ..
             } => overwrite(bytes, *at as usize, some.as_slice()),
             Step::Truncate { len, .. } => {
                 bytes.truncate(*len as usize);
@@ -66,7 +68,9 @@ impl Step {
         ensures bytes { OnOk result (bytes.new.items ≡ torn_by most self.now bytes.old.items) }
     {
         if let Step::Write {
-            at, bytes: some, ..
+            at,
+            bytes: some,
+            ..
         } = self
         {
             let some = some.as_slice();

@@ -12,7 +12,9 @@ use crate::entries::{bytes_at, keep_step, left_of, list_all, place_of, sync_one}
 use crate::entry::MemoryEntry;
 use crate::standing::Standing;
 use crate::step::Step;
-use crate::telling::{Telling, Sparing, cut, listed, made, new_folder, placed, settled, synced, uncut, wrote};
+use crate::telling::{
+    Sparing, Telling, cut, listed, made, new_folder, placed, settled, synced, uncut, wrote,
+};
 use crate::told::Told;
 use capture::{Bytes, Memory};
 use folder_model::Names;

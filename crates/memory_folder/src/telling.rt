@@ -91,7 +91,7 @@ pub struct Sparing<'a> {
 pub fn uncut(telling: &Sparing) -> Shown<Told>
     ensures { past_of result.value ≡ did_to (past_of telling.now.past.now.value) telling.now.name.now
         (Shortened (telling.now.len + entry_bound (found telling.now.entries.now telling.now.name.now))
-            (entry_bound (found telling.now.entries.now telling.now.name.now))) }
+        (entry_bound (found telling.now.entries.now telling.now.name.now))) }
 {
     Shown::told_by(telling)
 }
