@@ -1,11 +1,12 @@
 -- The checkpoints of an image, as the files that it has.
-use Rattle.std.proofs.Common.{◌≡◌, ℕ, zero, suc, ◌<◌, List, [], ◌∷◌, length, get_or, refl, sym, subst, arith}
+use Rattle.std.proofs.Common.{◌≡◌, ℕ, ◌<◌, List, [], get_or, refl, sym, subst, arith}
 use Rattle.capture.specs.declared.book.Book.{Book}
 use Rattle.disk_model.specs.Image.{Image, file_of}
 use Rattle.warc_journal.specs.Extents.{cdxj_files}
-use Rattle.cdxj_line.specs.declared.line.Line.{Line}
-use Rattle.checkpoint.specs.Checkpoints.{IsCheckpoint, checkpoint_of, checkpoint_text}
-use Rattle.archive_core.specs.Finished.{HasCheckpoint, HasNoOther}
+use Rattle.checkpoint.specs.Checkpoints.{IsCheckpoint, checkpoint_of}
+use Rattle.archive_core.proofs.FinishedLaws.{holds_finished}
+use Rattle.archive_core.specs.Finished.{HasCheckpoint}
+use Rattle.archive_opening.specs.Telling.{HasCheckpointsOf}
 use Rattle.archive_core.specs.Settling.{HasWithout}
 use Rattle.event_core.proofs.CountLaws.{same_without}
 use Rattle.event_core.specs.Machine.{sealed}
@@ -15,20 +16,14 @@ pub file_at : (image : Image) (k : ℕ) → checkpoint_of image k ≡ get_or (cd
 unfolding file_of
 file_at image k = refl
 
-pub right_files : (book : Book) (image : Image) → HasNoOther book image → AreRight book (cdxj_files image)
-right_files book image right k other lines is =
-    right k other lines (subst (λ (bytes : List ℕ). IsCheckpoint other lines bytes) (sym (file_at image k)) is)
+pub right_files : (book : Book) (image : Image) → HasCheckpointsOf image book → AreRight book (cdxj_files image)
+right_files book image right k lines is =
+    right.each k lines (subst (λ (bytes : List ℕ). IsCheckpoint k lines bytes) (sym (file_at image k)) is)
 
-pub right_image : (book : Book) (image : Image) → AreRight book (cdxj_files image) → HasNoOther book image
-right_image book image right k other lines is =
-    right k other lines (subst (λ (bytes : List ℕ). IsCheckpoint other lines bytes) (file_at image k) is)
-
--- a file with a checkpoint's text is there
-within : (files : List (List ℕ)) (k : ℕ) (lines : List Line) → get_or files k [] ≡ checkpoint_text lines → k < length files
-unfolding checkpoint_text
-within [] k lines is = let bad : ⊥ = cc in absurd bad
-within (f ∷ fs) zero lines is = omega arith
-within (f ∷ fs) (suc k) lines is = omega (arith, within fs k lines is)
+pub right_image : (book : Book) (image : Image) → AreRight book (cdxj_files image) → HasCheckpointsOf image book
+right_image book image right = record {
+  each = λ k lines is. right k lines (subst (λ (bytes : List ℕ). IsCheckpoint k lines bytes) (file_at image k) is);
+}
 
 pub finished_of : (book : Book) (image : Image) (k : ℕ) → HasCheckpoint book k image → HasFinished (cdxj_files image) k
 finished_of book image k has = record {
@@ -39,11 +34,8 @@ finished_of book image k has = record {
 pub checkpoint_by : (book : Book) (image : Image) (k : ℕ) → AreRight book (cdxj_files image) → HasFinished (cdxj_files image) k → HasCheckpoint book k image
 checkpoint_by book image k right has = record {
   lines = has.lines;
-  holds = record {
-    there = within (cdxj_files image) k has.lines has.is.text;
-    finished = subst (λ (bytes : List ℕ). IsCheckpoint k has.lines bytes) (sym (file_at image k)) has.is;
-  };
-  are = (right k k has.lines has.is).2;
+  holds = holds_finished k has.lines image (subst (λ (bytes : List ℕ). IsCheckpoint k has.lines bytes) (sym (file_at image k)) has.is);
+  are = (right k has.lines has.is).1;
 }
 
 -- so many of the sealed volumes have none
@@ -58,4 +50,4 @@ count_files book image count n right has =
 -- a finished one is of a sealed volume
 pub finished_sealed : (book : Book) (files : List (List ℕ)) (k : ℕ) → AreRight book files → HasFinished files k → k < sealed book
 finished_sealed book files k right has =
-    let less = (right k k has.lines has.is).1 in omega (arith, less)
+    let less = (right k has.lines has.is).0 in omega (arith, less)

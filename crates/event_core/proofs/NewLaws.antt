@@ -1,14 +1,13 @@
 -- A disk without files.
-use Rattle.std.proofs.Common.{◌≡◌, ℕ, None, List, [], refl, sym, ap, ◌∙◌, arith}
+use Rattle.std.proofs.Common.{◌≡◌, ℕ, None, List, [], refl, sym, ◌∙◌, arith}
 use Rattle.cdxj_line.specs.declared.line.Line.{Line}
 use Rattle.checkpoint.specs.Checkpoints.{checkpoint_of, checkpoint_text}
 use Rattle.disk_model.specs.Image.{file_of, files_of, no_files}
-use Rattle.warc_journal.specs.Extents.{cdxj_files}
 use Rattle.warc_text.specs.Ids.{IsUuid}
 use Rattle.archive_shelf.specs.Openings.{ImageStandsFor}
 use Rattle.archive_shelf.specs.Storing.{empty_book}
 use Rattle.archive_opening.proofs.ReadingLaws.{nothing_read}
-use Rattle.archive_core.specs.Finished.{HasNoOther}
+use Rattle.archive_opening.specs.Telling.{HasCheckpointsOf}
 use Rattle.event_core.specs.Running.{NewDisksStart}
 
 stands : (namespace : List ℕ) → IsUuid namespace → ImageStandsFor no_files (empty_book namespace)
@@ -36,15 +35,14 @@ no_bytes : (k : ℕ) → checkpoint_of no_files k ≡ []
 unfolding file_of files_of
 no_bytes k = refl
 
-right : (namespace : List ℕ) → HasNoOther (empty_book namespace) no_files
-right namespace k other lines is = absurd (no_text lines (sym (no_bytes k) ∙ is.text))
+right : (namespace : List ℕ) → HasCheckpointsOf no_files (empty_book namespace)
+right namespace = record { each = λ k lines is. absurd (no_text lines (sym (no_bytes k) ∙ is.text)) }
 
 pub new_start : NewDisksStart
 new_start fails namespace uuid = record {
   stands = stands namespace uuid;
   in_namespace = refl;
   alone = refl;
-  durable = λ image now. ap cdxj_files now;
   right = right namespace;
   settled = omega arith;
   missing = refl;

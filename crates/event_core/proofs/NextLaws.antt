@@ -1,56 +1,14 @@
 -- Books next to one another, and images that stand for them.
-use Rattle.std.proofs.Common.{◌≡◌, ◌⊎◌, ℕ, List, [], ◌∷◌, ◌++◌, length, sym, ap, subst, ◌∙◌, inl, inr, ⊎_elim, arith}
-use Rattle.capture.proofs.GrowthLaws.{grows_from_itself, growth_goes_on}
+use Rattle.std.proofs.Common.{◌≡◌, ℕ, List, [], length, sym, ap, subst, ◌∙◌, ⊎_elim, arith}
+use Rattle.capture.proofs.GrowthLaws.{grows_from_itself}
 use Rattle.capture.specs.Growth.{Grows}
 use Rattle.capture.specs.declared.book.Book.{Book}
 use Rattle.capture.specs.declared.book.Volume.{Volume}
 use Rattle.disk_model.specs.Image.{Image}
 use Rattle.warc_text.specs.Books.{AreVolumeTexts}
 use Rattle.warc_text.specs.Sound.{IsSound}
-use Rattle.archive_shelf.proofs.StoringLaws.{capture_grows, volume_grows}
+use Rattle.archive_core.proofs.NextLaws.{AreEmpty, next_grows}
 use Rattle.archive_shelf.specs.Openings.{ImageStandsFor, IsNext, SameBook}
-use Rattle.archive_shelf.specs.Storing.{add_to_last, new_volume, with_capture, with_volume}
-
-some_volumes : (volumes : List Volume) (v : Volume) → volumes ++ v ∷ [] ≡ [] → ⊥
-some_volumes [] v e = cc
-some_volumes (first ∷ others) v e = cc
-
--- both have no volumes
-abbrev pub AreEmpty : Book → Book → Type 0
-AreEmpty x book = (x.volumes ≡ []) × (book.volumes ≡ [])
-
--- a book that is next to one has grown from it, or neither has volumes
-pub next_grows : (book x : Book) → IsNext book x → AreEmpty x book ⊎ Grows book x
-next_grows book x next = ⊎_elim
-    (λ same. ⊎_elim
-    (λ (is : next.room ≡ book). ⊎_elim
-    (λ here. ⊎_elim
-    (λ (x_is : x ≡ next.room). inr (subst (Grows book) (sym (x_is ∙ is)) (grows_from_itself book)))
-    (λ both. inl (both.0, sym (ap (λ (b : Book). b.volumes) is) ∙ both.1))
-    here)
-    (λ more. inr (subst (Grows book) (sym (more.1 ∙ ap (λ (b : Book). with_capture b more.0) is)) (capture_grows book more.0)))
-    next.is)
-    (λ both. ⊎_elim
-    (λ here. ⊎_elim
-    (λ (x_is : x ≡ next.room). inl (ap (λ (b : Book). b.volumes) x_is ∙ both.0, both.1))
-    (λ too. inl (too.0, both.1))
-    here)
-    (λ more. inl (
-      ap (λ (b : Book). b.volumes) more.1 ∙ ap (λ (l : List Volume). add_to_last l more.0) both.0,
-      both.1,
-    ))
-    next.is)
-    same)
-    (λ rolled. ⊎_elim
-    (λ here. ⊎_elim
-    (λ (x_is : x ≡ next.room). inr (subst (Grows book) (sym (x_is ∙ rolled.1)) (volume_grows book rolled.0)))
-    (λ both. absurd (some_volumes book.volumes (new_volume rolled.0) (sym (ap (λ (b : Book). b.volumes) rolled.1) ∙ both.1)))
-    here)
-    (λ more. inr (subst (Grows book) (sym (more.1 ∙ ap (λ (b : Book). with_capture b more.0) rolled.1))
-    (growth_goes_on book (with_volume book rolled.0) (with_capture (with_volume book rolled.0) more.0) (volume_grows book rolled.0)
-    (capture_grows (with_volume book rolled.0) more.0))))
-    next.is)
-    next.roomy
 
 -- without volumes and in one namespace they are one
 pub empty_is : (x book : Book) → x.namespace ≡ book.namespace → AreEmpty x book → x ≡ book

@@ -1,5 +1,7 @@
 -- An archive that was opened stands in a state.
-use Rattle.std.proofs.Common.{◌≡◌, ℕ, ◌-◌, ◌^◌, ◌<◌, Bool, true, IsTrue, List, [], length, Some, None, refl, sym, subst, ◌∙◌, inl, ⊎_elim, arith}
+use Rattle.std.proofs.Common.{◌≡◌, ℕ, ◌-◌, ◌^◌, ◌<◌, Bool, true, IsTrue, List, [], length, Option, Some, None, refl, sym, subst, ◌∙◌, inl, ⊎_elim, arith}
+use Rattle.std.specs.Prelude.{IfSome, is_some}
+use Rattle.std.proofs.lemmas.Bool.{false≢true}
 use Rattle.std.proofs.lemmas.Option.{same_Some}
 use Rattle.capture.specs.Captures.{captures}
 use Rattle.capture.specs.declared.book.Book.{Book}
@@ -17,16 +19,19 @@ use Rattle.archive_shelf.specs.Told.{ShowsItsBook}
 use Rattle.archive_shelf.specs.declared.fault.ReopenFault.{ReopenFault}
 use Rattle.archive_volumes.specs.Volumes.{crash_of, muted}
 use Rattle.archive_core.specs.Holdings.{Holdings}
-use Rattle.archive_core.specs.Reopening.{IsNotOpened, IsReopened}
+use Rattle.archive_core.specs.Known.{IsNotOpenedKnown, IsReopenedKnown}
+use Rattle.archive_core.specs.Reopening.{IsReopened}
+use Rattle.archive_opening.specs.Telling.{MayBeSettled}
+use Rattle.archive_shelf.specs.declared.depth.Depth.TheVariants.{Checkpoints}
 use Rattle.archive_core.specs.Told.{told_of}
 use Rattle.event_core.proofs.ImageLaws.{count_files, finished_sealed, right_files}
 use Rattle.event_core.proofs.NextLaws.{same_is}
 use Rattle.event_core.proofs.TallyLaws.{tally_stays}
 use Rattle.event_core.specs.Machine.{State, sealed}
-use Rattle.event_core.specs.Running.{AllIdsDiffer, IsUnopened, Starts}
+use Rattle.event_core.specs.Running.{AllIdsDiffer, IsUnopened, MayStart, Starts, first_book}
 use Rattle.event_core.specs.declared.event.Event.{Event}
 use Rattle.event_core.specs.declared.reply.Reply.{Reply}
-use Rattle.event_core.specs.steps.Standing.{AreRight, Follows, HasFinished, IsTallied, Stands, Tally}
+use Rattle.event_core.specs.steps.Standing.{AreRight, Follows, HasFinished, IsStanding, IsTallied, Stands, Tally}
 
 pub few_ids : (namespace : List ℕ) (book : Book) → AllIdsDiffer namespace → book.namespace ≡ namespace → length (captures book) < 2 ^ 32 - 1 → HasIds book × IdsDifferIn book
 few_ids namespace book ids is few =
@@ -57,11 +62,11 @@ module _ {D : Type 0} (d : Ghosts D) (disk : D) (namespace : List ℕ) (limits :
   kept files left =
       opened.quiet.kept files (subst (λ (b : Bool). (crash_of (muted b d) (disk_of held.journal)).checkpoints files) opened.told_is left)
 
-  pub opened_stands : (tally : Tally)
-      → ((files : List (List ℕ)) → (crash_of d disk).checkpoints files → AreRight held.book files)
-      → IsTallied (crash_of d disk).checkpoints (sealed held.book) tally
+  stands_by : (tally : Tally)
+      → ((files : List (List ℕ)) → (told_of d held).crash.checkpoints files → AreRight held.book files)
+      → IsTallied (told_of d held).crash.checkpoints (sealed held.book) tally
       → Stands limits namespace (told_of d held) (record { book = held.book; other = None; tally = tally })
-  opened_stands tally right tallied = record {
+  stands_by tally right tallied = record {
     tells = subst IsTrue (sym opened.told_is) tells;
     limits_are = opened.limits_are;
     book = refl;
@@ -69,58 +74,100 @@ module _ {D : Type 0} (d : Ghosts D) (disk : D) (namespace : List ℕ) (limits :
     opens = opened.state opened_ids.1;
     shows = opened_shows;
     ids = ids;
-    right = λ files left. right files (kept files left);
-    tallied = tally_stays (crash_of d disk).checkpoints (told_of d held).crash.checkpoints (sealed held.book) (sealed held.book) tally kept (omega arith) tallied;
+    right = right;
+    tallied = tallied;
   }
+
+  pub opened_stands : (tally : Tally)
+      → ((files : List (List ℕ)) → (crash_of d disk).checkpoints files → AreRight held.book files)
+      → IsTallied (crash_of d disk).checkpoints (sealed held.book) tally
+      → Stands limits namespace (told_of d held) (record { book = held.book; other = None; tally = tally })
+  opened_stands tally right tallied =
+      stands_by tally (λ files left. right files (kept files left))
+      (tally_stays (crash_of d disk).checkpoints (told_of d held).crash.checkpoints (sealed held.book) (sealed held.book) tally kept (omega arith) tallied)
 
 -- the tally of the files that a read gives, where so many checkpoints are finished
 abbrev first_tally : State → Image → Tally
 first_tally start image = record { files = cdxj_files image; upto = sealed start.book; least = start.settled; most = None }
 
 -- at first
-pub first_follows : (disk : Device) (namespace : List ℕ) (limits : Limits) (held : Holdings MemoryDisk) → IsReopened ghosts disk (Some namespace) limits held
-    → AllIdsDiffer namespace → (start : State) → Starts disk namespace start
-    → Follows limits namespace start [] [] (told_of ghosts held)
-first_follows disk namespace limits held opened ids start starts =
-    let start_ids = few_ids namespace start.book ids starts.in_namespace starts.stands.sound.sound.few in
-    let book : held.book ≡ start.book =
-    same_is held.book start.book (opened.in_namespace ∙ sym starts.in_namespace)
-    (opened.one refl start.book starts.stands.sound start_ids.1 starts.stands.for) in
-    let right : AreRight start.book (cdxj_files (reading_of disk)) = right_files start.book (reading_of disk) starts.right in
-    let tally = first_tally start (reading_of disk) in
-    let same : (files : List (List ℕ)) → (crash_of ghosts disk).checkpoints files → files ≡ cdxj_files (reading_of disk) =
-    (λ files left. sym left.are ∙ starts.durable left.image left.left) in
-    let tallied : IsTallied (crash_of ghosts disk).checkpoints (sealed start.book) tally = record {
-      missing = sealed start.book - start.settled;
-      counted = count_files start.book (reading_of disk) (sealed start.book) (sealed start.book - start.settled) right starts.missing;
-      least_is = omega (arith, starts.settled);
-      within = omega arith;
-      bound = tt;
-      sure = λ files left k less has. subst (λ (fs : List (List ℕ)). HasFinished fs k) (sym (same files left)) has;
-      only = λ files left k has.
-          let here = subst (λ (fs : List (List ℕ)). HasFinished fs k) (same files left) has in
-          (finished_sealed start.book (cdxj_files (reading_of disk)) k right here, here);
-    } in
-    record {
-      is = record { book = held.book; other = None; tally = tally };
-      stands = opened_stands ghosts disk namespace limits held opened refl ids tally
-          (λ files left. subst (λ (b : Book). AreRight b files) (sym book) (subst (AreRight start.book) (sym (same files left)) right))
-          (subst (λ (b : Book). IsTallied (crash_of ghosts disk).checkpoints (sealed b) tally) (sym book) tallied);
-      runs = λ n may. λ i. record { book = book i; other = sym starts.alone i; settled = may i };
-    }
+module _ (disk : Device) (namespace : List ℕ) (limits : Limits) (start : State) (may : Starts disk namespace start × AllIdsDiffer namespace) where
+  first_follows : (held : Holdings MemoryDisk) → IsReopenedKnown ghosts disk (Some namespace) limits Checkpoints (Some start.book) held
+      → Follows limits namespace start [] [] (told_of ghosts held)
+  first_follows held known =
+      let starts = may.0 in
+      let opened : IsReopened ghosts disk (Some namespace) limits held = known.whole known.told_is in
+      let start_ids = few_ids namespace start.book may.1 starts.in_namespace starts.stands.sound.sound.few in
+      let book : held.book ≡ start.book =
+      same_is held.book start.book (opened.in_namespace ∙ sym starts.in_namespace)
+      (opened.one refl start.book starts.stands.sound start_ids.1 starts.stands.for) in
+      let right : AreRight start.book (cdxj_files (reading_of disk)) = right_files start.book (reading_of disk) starts.right in
+      let tally = first_tally start (reading_of disk) in
+      let same : (files : List (List ℕ)) → (told_of ghosts held).crash.checkpoints files → files ≡ cdxj_files (reading_of disk) =
+      (λ files left. sym left.are ∙ known.lined.synced refl left.image left.left) in
+      let tallied : IsTallied (told_of ghosts held).crash.checkpoints (sealed start.book) tally = record {
+        missing = sealed start.book - start.settled;
+        counted = count_files start.book (reading_of disk) (sealed start.book) (sealed start.book - start.settled) right starts.missing;
+        least_is = omega (arith, starts.settled);
+        within = omega arith;
+        bound = tt;
+        sure = λ files left k less has. subst (λ (fs : List (List ℕ)). HasFinished fs k) (sym (same files left)) has;
+        only = λ files left k has.
+            let here = subst (λ (fs : List (List ℕ)). HasFinished fs k) (same files left) has in
+            (finished_sealed start.book (cdxj_files (reading_of disk)) k right here, here);
+      } in
+      record {
+        is = record { book = held.book; other = None; tally = tally };
+        stands = stands_by ghosts disk namespace limits held opened refl may.1 tally
+            (λ files left. subst (λ (b : Book). AreRight b files) (sym book) (subst (AreRight start.book) (sym (same files left)) right))
+            (subst (λ (b : Book). IsTallied (told_of ghosts held).crash.checkpoints (sealed b) tally) (sym book) tallied);
+        runs = λ n may. λ i. record { book = book i; other = sym starts.alone i; settled = may i };
+      }
 
--- it wasn't opened at first, which isn't for what the disk holds
-pub first_shut : (disk : Device) (namespace : List ℕ) (limits : Limits) (events : List Event) (all : List Reply) (fault : ReopenFault) (left : Device)
-    → IsNotOpened ghosts disk (Some namespace) (fault, left) → all ≡ [] → (start : State) → Starts disk namespace start
-    → IsUnopened limits start events all fault (reading_of left)
-first_shut disk namespace limits events all fault left not none start starts = record {
-  outside = not.complete refl start.book starts.stands.sound starts.stands.for (λ ns asked. starts.in_namespace ∙ same_Some namespace ns asked);
-  ran = inl (
-    none,
+  -- it wasn't opened at first, which isn't for what the disk holds
+  first_shut : (events : List Event) (all : List Reply) (fault : ReopenFault) (left : Device)
+      → IsNotOpenedKnown ghosts disk (Some namespace) (Some start.book) (fault, left) → all ≡ [] → IsUnopened limits start events all fault (reading_of left)
+  first_shut events all fault left not none = record {
+    outside = not.complete refl;
+    ran = inl (
+      none,
+      record {
+        book = start.book;
+        stands = subst (λ (image : Image). ImageStandsFor image start.book) (sym (not.rests refl).read) may.0.stands;
+        allowed = inl refl;
+      },
+    );
+  }
+
+-- ---- where the state may be named
+
+module _ (disk : Device) (namespace : List ℕ) (limits : Limits) where
+  pub may_be_first : (start : Option State) → MayStart disk namespace start → MayBeSettled ghosts disk (Some namespace) (first_book start)
+  may_be_first None may = tt
+  may_be_first (Some s) may = λ so. (
     record {
-      book = start.book;
-      stands = subst (λ (image : Image). ImageStandsFor image start.book) (sym (not.rests refl).read) starts.stands;
-      allowed = inl refl;
+      stands = may.0.stands;
+      ids = (few_ids namespace s.book may.1 may.0.in_namespace may.0.stands.sound.sound.few).1;
+      checkpoints = may.0.right;
     },
-  );
-}
+    λ ns asked. may.0.in_namespace ∙ same_Some namespace ns asked,
+  )
+
+  pub first_stands : (start : Option State) → MayStart disk namespace start → (held : Holdings MemoryDisk)
+      → IsReopenedKnown ghosts disk (Some namespace) limits Checkpoints (first_book start) held
+      → IsTrue (is_some (first_book start)) → IsStanding limits namespace (told_of ghosts held)
+  first_stands None may held known so = absurd (false≢true so)
+  first_stands (Some s) may held known so =
+      let follows = first_follows disk namespace limits s may held known in record { was = follows.is; stands = follows.stands }
+
+  pub first_runs : (start : Option State) → MayStart disk namespace start → (held : Holdings MemoryDisk)
+      → IsReopenedKnown ghosts disk (Some namespace) limits Checkpoints (first_book start) held → (Runs : State → Type 0)
+      → (IsTrue (is_some (first_book start)) → (s : State) → Follows limits namespace s [] [] (told_of ghosts held) → Runs s) → IfSome start Runs
+  first_runs None may held known Runs by = tt
+  first_runs (Some s) may held known Runs by = by refl s (first_follows disk namespace limits s may held known)
+
+  pub first_ends : (start : Option State) → MayStart disk namespace start → (events : List Event) (all : List Reply) (fault : ReopenFault) (left : Device)
+      → IsNotOpenedKnown ghosts disk (Some namespace) (first_book start) (fault, left) → all ≡ []
+      → IfSome start (λ s. IsUnopened limits s events all fault (reading_of left))
+  first_ends None may events all fault left not none = tt
+  first_ends (Some s) may events all fault left not none = first_shut disk namespace limits s may events all fault left not none

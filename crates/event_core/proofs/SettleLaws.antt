@@ -87,7 +87,7 @@ module _ {D : Type 0} (d : Ghosts D) (was is : Holdings D) (result : Result ℕ 
       })
       (λ (new : (k < reach is.settled result) × IsSupplied true s.book was.spots first k (checkpoint_of image k)).
       let same : reading.lines ≡ new.1.lines =
-      basis.one s.book k reading.lines new.1.lines (old_right first first_now k k reading.lines reading.is).2 (new.1.missed.own.are refl) in
+      basis.one s.book k reading.lines new.1.lines (old_right first first_now k reading.lines reading.is).1 (new.1.missed.own.are refl) in
       absurd (new.1.missed.missing
       (subst (λ (bytes : List ℕ). IsCheckpoint k new.1.lines bytes) (sym (file_at first k))
       (subst (λ (lines : List Line). IsCheckpoint k lines (get_or (cdxj_files first) k [])) same reading.is))))

@@ -1,6 +1,7 @@
 -- An archive whose disk was stopped, and that was opened again or wasn't.
-use Rattle.std.proofs.Common.{◌≡◌, ℕ, ◌+◌, IsTrue, List, Some, None, Result, Ok, Err, refl, sym, ap, subst, ◌∙◌, inl, inr, ⊎_elim}
-use Rattle.std.specs.Prelude.{IfErr, IfOk}
+use Rattle.std.proofs.Common.{◌≡◌, ℕ, ◌+◌, Bool, true, false, IsTrue, List, Option, Some, None, Result, Ok, Err, refl, sym, ap, subst, ◌∙◌, inl, inr, ⊎_elim}
+use Rattle.std.specs.Prelude.{IfErr, IfOk, is_some}
+use Rattle.std.proofs.lemmas.Bool.{false≢true}
 use Rattle.std.proofs.lemmas.Option.{same_Some}
 use Rattle.capture.specs.Growth.{Grows}
 use Rattle.capture.specs.declared.book.Book.{Book}
@@ -13,7 +14,7 @@ use Rattle.disk_model.specs.declared.disk.Disk.{Ghosts}
 use Rattle.disk_model.specs.declared.memory_disk.MemoryDisk.{MemoryDisk}
 use Rattle.disk_model.specs.steps.ChangesLaws.{left_earlier, left_now, left_only_now, replayed_is_left}
 use Rattle.warc_journal.specs.Extents.{cdxj_files}
-use Rattle.warc_journal.specs.Journals.{disk_of}
+use Rattle.warc_journal.specs.Journals.{Rests, disk_of}
 use Rattle.archive_shelf.specs.Openings.{ImageStandsFor, IsNext, SameBook}
 use Rattle.archive_shelf.specs.Storing.{Storing, counts_of, stored_by}
 use Rattle.archive_shelf.specs.Told.{Told}
@@ -25,10 +26,16 @@ use Rattle.archive_shelf.specs.declared.receipt.Receipt.{Receipt}
 use Rattle.archive_volumes.proofs.ChangeLaws.{DiskLaws, laws_muted, opens_now}
 use Rattle.archive_volumes.specs.Volumes.{OpensNear, crash_of, muted}
 use Rattle.archive_core.specs.Holdings.{Holdings}
-use Rattle.archive_core.specs.Reopening.{IsNotOpened, IsReopened}
+use Rattle.archive_core.specs.Known.{IsNotOpenedKnown, IsReopenedKnown}
+use Rattle.archive_core.specs.Reopening.{IsReopened}
+use Rattle.archive_opening.specs.Opening.{IsOutside}
+use Rattle.archive_opening.specs.Telling.{IsAskedFor, IsSettledFor}
+use Rattle.archive_shelf.specs.declared.depth.Depth.TheVariants.{Checkpoints}
 use Rattle.archive_core.specs.Told.{told_of}
-use Rattle.event_core.proofs.NextLaws.{next_grows, next_in_namespace, same_is, same_stands_for}
-use Rattle.event_core.proofs.OpenLaws.{opened_stands}
+use Rattle.archive_core.proofs.NextLaws.{next_grows}
+use Rattle.event_core.proofs.NextLaws.{next_in_namespace, same_is, same_stands_for}
+use Rattle.event_core.proofs.ImageLaws.{right_image}
+use Rattle.event_core.proofs.OpenLaws.{few_ids, opened_stands}
 use Rattle.event_core.proofs.StandLaws.{has_ids, is_sound, stands_on, still_shows}
 use Rattle.event_core.proofs.TallyLaws.{least_may, right_stays, sealed_grows, tally_stays}
 use Rattle.event_core.specs.Machine as machine
@@ -38,7 +45,13 @@ use Rattle.event_core.specs.declared.event.Event.{Event}
 use Rattle.event_core.specs.declared.event.Event.TheVariants as events
 use Rattle.event_core.specs.declared.reply.Reply.{Reply}
 use Rattle.event_core.specs.declared.reply.Reply.TheVariants as replies
-use Rattle.event_core.specs.steps.Standing.{Answers, EndsBy, GoesOn, IsShut, MayBe, Standing, Stands, state_at}
+use Rattle.event_core.specs.steps.Standing.{Answers, EndsBy, GoesOn, IsShut, IsStanding, Knows, MayBe, Standing, Stands, state_at}
+
+-- a book for which the image is settled, in this namespace
+pub record IsNamed (image : Image) (namespace : List ℕ) : Type 0 where
+  pub book : Book
+  pub settled : IsSettledFor image book
+  pub asked_for : IsAskedFor (Some namespace) book
 
 module _ {D : Type 0} (d : Ghosts D) (laws : DiskLaws d) (limits : Limits) (namespace : List ℕ) (was : Holdings D) (s : Standing)
     (stands : Stands limits namespace (told_of d was) s) where
@@ -129,13 +142,29 @@ module _ {D : Type 0} (d : Ghosts D) (laws : DiskLaws d) (limits : Limits) (name
 
     -- ---- or not
 
-    pub stop_shut : OpensNear d (disk_of was.journal) was.book → (choice : ℕ) (refused : ReopenFault × D) → IsNotOpened d disk (Some namespace) refused
-        → IsShut limits s (events.Stop choice) refused.0 (d.reading refused.1)
-    stop_shut near choice refused not =
-        let holds = image_holds near (d.reading disk) left in record {
-          outside = not.complete tells holds.0.book holds.0.stands.sound holds.0.stands.for
-              (λ ns asked. holds.1 ∙ same_Some namespace ns asked);
-          holds = subst (λ (image : Image). HoldsOne image (IsEither (state_at s 0))) (sym (not.rests tells).read) holds.0;
+    pub stop_shut : OpensNear d (disk_of was.journal) was.book → (choice : ℕ) (refused : ReopenFault × D) → IsOutside refused.0
+        → (IsTrue d.tells → Rests d disk refused.1) → IsShut limits s (events.Stop choice) refused.0 (d.reading refused.1)
+    stop_shut near choice refused outside rests = record {
+      outside = outside;
+      holds = subst (λ (image : Image). HoldsOne image (IsEither (state_at s 0))) (sym (rests tells).read) (image_holds near (d.reading disk) left).0;
+    }
+
+    -- ---- what is known of it
+
+    -- the book for which it stands may be named
+    pub book_left : OpensNear d (disk_of was.journal) was.book → IsNamed (d.reading disk) namespace
+    book_left near =
+        let holds = image_holds near (d.reading disk) left in
+        let x = holds.0.book in
+        let grown = next_in_namespace s.book x (holds.1 ∙ sym stands.in_namespace) (next_to x (opened_by x (d.reading disk) left holds.0.stands)) in
+        let right = stands.right (cdxj_files (d.reading disk)) (record { told = stands.tells; image = d.reading disk; left = left; are = refl }) in record {
+          book = x;
+          settled = record {
+            stands = holds.0.stands;
+            ids = (few_ids namespace x stands.ids holds.1 holds.0.stands.sound.sound.few).1;
+            checkpoints = right_image x (d.reading disk) (right_stays s.book x (cdxj_files (d.reading disk)) grown right);
+          };
+          asked_for = λ ns asked. holds.1 ∙ same_Some namespace ns asked;
         }
 
 -- ---- a disk in memory
@@ -165,20 +194,42 @@ module _ (limits : Limits) (namespace : List ℕ) (was : Holdings MemoryDisk) (c
       (subst (λ (d : Device). images_of d image) same now)).0
 
   module _ (left : Device) (choice : ℕ) (is : left ≡ stopped closed choice) (now : images_of closed (reading_of left)) where
-    pub reopen_goes : (result : Result (Holdings MemoryDisk) (ReopenFault × Device)) → IfOk result (IsReopened ghosts left (Some namespace) limits)
-        → IfOk result (λ next. GoesOn limits namespace (told_of ghosts was) (told_of ghosts next) (events.Stop choice) (replies.Reopened (counts_of next.book)))
-    reopen_goes (Ok held) opened = λ s stands.
-        stop_answers ghosts memory_laws limits namespace was s stands left refl (subst (λ (d : Device). images_of d (reading_of left)) same now)
-        (λ image at. ap cdxj_files (stopped_alone closed left choice is image at)) held opened choice
-    reopen_goes (Err refused) opened = tt
+    -- where the archive stood, the book on the disk may be named
+    pub knows_left : (stood : Bool) → (IsTrue stood → IsStanding limits namespace (told_of ghosts was)) → (known : Option Book) × Knows left namespace stood known
+    knows_left false standing = (None, record { may = tt; named = λ so. absurd (false≢true so) })
+    knows_left true standing =
+        let at = standing refl in
+        let named = book_left ghosts memory_laws limits namespace was at.was at.stands left refl (subst (λ (d : Device). images_of d (reading_of left)) same now)
+        (λ image there. ap cdxj_files (stopped_alone closed left choice is image there))
+        (subst (λ (d : Device). OpensNear ghosts d was.book) same (near at.stands.tells)) in
+        (Some named.book, record { may = λ so. (named.settled, named.asked_for); named = λ so. refl })
 
-    pub reopen_shut : (result : Result (Holdings MemoryDisk) (ReopenFault × Device)) → IfErr result (IsNotOpened ghosts left (Some namespace))
-        → IfErr result (λ refused. EndsBy limits namespace (told_of ghosts was) (events.Stop choice) refused.0 (reading_of refused.1))
-    reopen_shut (Ok held) not = tt
-    reopen_shut (Err refused) not = λ s stands.
-        stop_shut ghosts memory_laws limits namespace was s stands left refl (subst (λ (d : Device). images_of d (reading_of left)) same now)
-        (λ image at. ap cdxj_files (stopped_alone closed left choice is image at))
-        (subst (λ (d : Device). OpensNear ghosts d was.book) same (near stands.tells)) choice refused not
+    module _ (stood : Bool) (known : Option Book) (knows : Knows left namespace stood known) where
+      -- it was opened to the book that is known
+      opened_to : (k : Option Book) (held : Holdings MemoryDisk) → IsTrue (is_some k) → IsReopenedKnown ghosts left (Some namespace) limits Checkpoints k held
+          → IsReopened ghosts left (Some namespace) limits held
+      opened_to None held so opened = absurd (false≢true so)
+      opened_to (Some book) held so opened = opened.whole opened.told_is
+
+      pub reopen_goes : (result : Result (Holdings MemoryDisk) (ReopenFault × Device)) → IfOk result (IsReopenedKnown ghosts left (Some namespace) limits Checkpoints known)
+          → IfOk result (λ next. IsTrue stood
+          → GoesOn limits namespace (told_of ghosts was) (told_of ghosts next) (events.Stop choice) (replies.Reopened (counts_of next.book)))
+      reopen_goes (Ok held) opened = λ so s stands.
+          stop_answers ghosts memory_laws limits namespace was s stands left refl (subst (λ (d : Device). images_of d (reading_of left)) same now)
+          (λ image at. ap cdxj_files (stopped_alone closed left choice is image at)) held (opened_to known held (knows.named so) opened) choice
+      reopen_goes (Err refused) opened = tt
+
+      outside_by : (k : Option Book) (refused : ReopenFault × Device) → IsTrue (is_some k) → IsNotOpenedKnown ghosts left (Some namespace) k refused → IsOutside refused.0
+      outside_by None refused so not = absurd (false≢true so)
+      outside_by (Some book) refused so not = not.complete refl
+
+      pub reopen_shut : (result : Result (Holdings MemoryDisk) (ReopenFault × Device)) → IfErr result (IsNotOpenedKnown ghosts left (Some namespace) known)
+          → IfErr result (λ refused. IsTrue stood → EndsBy limits namespace (told_of ghosts was) (events.Stop choice) refused.0 (reading_of refused.1))
+      reopen_shut (Ok held) not = tt
+      reopen_shut (Err refused) not = λ so s stands.
+          stop_shut ghosts memory_laws limits namespace was s stands left refl (subst (λ (d : Device). images_of d (reading_of left)) same now)
+          (λ image at. ap cdxj_files (stopped_alone closed left choice is image at))
+          (subst (λ (d : Device). OpensNear ghosts d was.book) same (near stands.tells)) choice refused (outside_by known refused (knows.named so) not) not.rests
 
   -- it wasn't even stopped
   pub unstopped_shut : (disk : Device) (choice : ℕ) → disk ≡ closed
@@ -329,7 +380,7 @@ module _ (limits : Limits) (namespace : List ℕ) (held : Holdings MemoryDisk) (
   still_may x o = record { told = o.told; image = o.image; left = o.left; stands = o.stands }
 
   -- the archive whose disk has a fuse stands where it stood
-  fused_stands : (s : Standing) → Stands limits namespace (told_of ghosts held) s → Stands limits namespace (told_of ghosts (fused held calls)) s
+  pub fused_stands : (s : Standing) → Stands limits namespace (told_of ghosts held) s → Stands limits namespace (told_of ghosts (fused held calls)) s
   fused_stands s stands =
       stands_on limits namespace (told_of ghosts held) (told_of ghosts (fused held calls)) s stands refl (λ x o. inl (still_may x o))
       (λ files has. record { told = has.told; image = has.image; left = has.left; are = has.are })

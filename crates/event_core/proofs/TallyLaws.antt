@@ -13,11 +13,10 @@ use Rattle.event_core.specs.steps.Standing.{AreRight, HasFinished, IsBound, IsTa
 -- ---- a book that grows
 
 pub right_stays : (was now : Book) (files : List (List ℕ)) → Grows was now → AreRight was files → AreRight now files
-right_stays was now files grows right k other lines is =
-    let at = right k other lines is in (
-      at.0,
-      omega (arith, at.1, sealed_later was now (k + 1) grows (omega (arith, at.1))),
-      sealed_lines_stay growth_keeps_captures was now k lines grows at.1 at.2,
+right_stays was now files grows right k lines is =
+    let at = right k lines is in (
+      omega (arith, at.0, sealed_later was now (k + 1) grows (omega (arith, at.0))),
+      sealed_lines_stay growth_keeps_captures was now k lines grows at.0 at.1,
     )
 
 -- how many are sealed doesn't fall

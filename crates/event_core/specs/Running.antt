@@ -1,19 +1,18 @@
 -- What a run of events answers, and what it leaves on the disk.
-use Rattle.std.specs.Prelude.{◌≡◌, ◌⊎◌, ℕ, ◌-◌, ◌^◌, ◌<◌, ◌≤◌, List, [], ◌∷◌, length, take, drop, None}
+use Rattle.std.specs.Prelude.{◌≡◌, ◌⊎◌, ℕ, ◌-◌, ◌^◌, ◌<◌, ◌≤◌, List, [], ◌∷◌, length, take, drop, IfSome, Option, None, Some}
 use Rattle.capture.specs.Captures.{captures}
 use Rattle.capture.specs.declared.book.Book.{Book}
 use Rattle.capture.specs.declared.limits.Limits.{Limits}
-use Rattle.disk_model.specs.Crash.{Leaves}
-use Rattle.disk_model.specs.Device.{Device, images_of, new_device, reading_of}
+use Rattle.disk_model.specs.Device.{Device, new_device, reading_of}
 use Rattle.disk_model.specs.Image.{Image}
-use Rattle.warc_journal.specs.Extents.{cdxj_files}
 use Rattle.warc_text.specs.Groups.{IdsDiffer}
 use Rattle.warc_text.specs.Ids.{IsUuid}
 use Rattle.archive_shelf.specs.Openings.{ImageStandsFor}
 use Rattle.archive_shelf.specs.Storing.{empty_book}
 use Rattle.archive_shelf.specs.declared.fault.ReopenFault.{ReopenFault}
-use Rattle.archive_core.specs.Finished.{HasCheckpoint, HasNoOther}
+use Rattle.archive_core.specs.Finished.{HasCheckpoint}
 use Rattle.archive_opening.specs.Opening.{IsOutside}
+use Rattle.archive_opening.specs.Telling.{HasCheckpointsOf}
 use Rattle.archive_core.specs.Settling.{HasWithout}
 use Rattle.event_core.specs.Acknowledged.{StandFrom, acknowledged}
 use Rattle.event_core.specs.Events.{Runs}
@@ -30,17 +29,24 @@ use Rattle.event_core.specs.declared.run.RanEnd.TheVariants as ends
 abbrev pub AllIdsDiffer : List ℕ → Type 0
 AllIdsDiffer namespace = IdsDiffer namespace (2 ^ 32)
 
--- The state in which the archive of a disk begins: with the book for which a read of its files stands, and no other one. Its
--- checkpoints are durable, no finished one is there but of a sealed volume with the lines of just its captures, and so many are
--- finished.
+-- The state in which the archive of a disk begins: with the book for which a read of its files stands, and no other one. Each finished
+-- checkpoint is that of a sealed volume, with the lines of just its captures, and so many are finished.
 pub record Starts (disk : Device) (namespace : List ℕ) (start : State) : Type 0 where
   pub stands : ImageStandsFor (reading_of disk) start.book
   pub in_namespace : start.book.namespace ≡ namespace
   pub alone : start.other ≡ None
-  pub durable : Leaves (images_of disk) (λ image. cdxj_files image ≡ cdxj_files (reading_of disk))
-  pub right : HasNoOther start.book (reading_of disk)
+  pub right : HasCheckpointsOf (reading_of disk) start.book
   pub settled : start.settled ≤ sealed start.book
   pub missing : HasWithout (λ k. HasCheckpoint start.book k (reading_of disk)) (sealed start.book) (sealed start.book - start.settled)
+
+-- a state that may be named of a disk: the run begins in it, and the ids of captures differ
+abbrev pub MayStart : Device → List ℕ → Option State → Type 0
+MayStart disk namespace start = IfSome start (λ s. Starts disk namespace s × AllIdsDiffer namespace)
+
+-- the book with which it begins, where the state is named
+abbrev pub first_book : Option State → Option Book
+first_book None = None
+first_book (Some s) = Some s.book
 
 -- the files of the volumes stand for an allowed book
 pub record HoldsOne (image : Image) (Allowed : Book → Type 0) : Type 0 where

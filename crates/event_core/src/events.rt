@@ -1,5 +1,5 @@
 //! One event after the other.
-ghost use Rattle.std.specs.Prelude.{◌≡◌, ℕ, IfErr, IfOk, List};
+ghost use Rattle.std.specs.Prelude.{◌≡◌, ℕ, IfErr, IfOk, IsTrue, List, is_some};
 ghost use Rattle.capture.specs.Faults.{RoseBy};
 ghost use Rattle.disk_model.specs.Device.{reading_of};
 ghost use Rattle.warc_journal.specs.Journals.{disk_of};
@@ -10,7 +10,7 @@ ghost use Rattle.archive_core.specs.Told.{told_of};
 ghost use Rattle.event_core.specs.Events.{CanCome};
 ghost use Rattle.event_core.specs.Faults.{reopen_faults, reply_faults};
 ghost use Rattle.event_core.specs.declared.event.Event.TheVariants as events;
-ghost use Rattle.event_core.specs.steps.Standing.{EndsBy, GoesOn};
+ghost use Rattle.event_core.specs.steps.Standing.{EndsBy, GoesOn, IsStanding};
 
 use crate::asking::{bring_event, date_event, map_event, roll_event, settle_event, store_event};
 use crate::opening::Opening;
@@ -33,9 +33,10 @@ fn stop_within(
     requires uuid { IsUuid opening.now.namespace }
     requires limits { AreLimits opening.now.limits }
     requires fits { Fits taken.now }
-    ensures goes_on { IfOk result (λ next. (calls : ℕ) → GoesOn opening.now.limits opening.now.namespace (told_of ⟦<MemoryDisk as Disk>⟧ archive)
+    requires stands { IsTrue (is_some opening.now.first.value) → IsStanding opening.now.limits opening.now.namespace (told_of ⟦<MemoryDisk as Disk>⟧ archive) }
+    ensures goes_on { IfOk result (λ next. (calls : ℕ) → IsTrue (is_some opening.now.first.value) → GoesOn opening.now.limits opening.now.namespace (told_of ⟦<MemoryDisk as Disk>⟧ archive)
         (told_of ⟦<MemoryDisk as Disk>⟧ next.0) (events.StopWithin taken.now calls choice) next.1) }
-    ensures refused { IfErr result (λ refused. (calls : ℕ) → EndsBy opening.now.limits opening.now.namespace (told_of ⟦<MemoryDisk as Disk>⟧ archive)
+    ensures refused { IfErr result (λ refused. (calls : ℕ) → IsTrue (is_some opening.now.first.value) → EndsBy opening.now.limits opening.now.namespace (told_of ⟦<MemoryDisk as Disk>⟧ archive)
         (events.StopWithin taken.now calls choice) refused.0 (reading_of refused.1)) }
     ensures rose { IfOk result (λ next. RoseBy (reply_faults next.1) (disk_of archive.journal).faults (disk_of next.0.journal).faults) }
     ensures faults { IfErr result (λ refused. RoseBy (reopen_faults refused.0) (disk_of archive.journal).faults refused.1.faults) }
@@ -55,9 +56,10 @@ pub(crate) fn take_event(
     requires uuid { IsUuid opening.now.namespace }
     requires limits { AreLimits opening.now.limits }
     requires comes { CanCome event.now }
-    ensures goes_on { IfOk result (λ next. GoesOn opening.now.limits opening.now.namespace (told_of ⟦<MemoryDisk as Disk>⟧ archive)
+    requires stands { IsTrue (is_some opening.now.first.value) → IsStanding opening.now.limits opening.now.namespace (told_of ⟦<MemoryDisk as Disk>⟧ archive) }
+    ensures goes_on { IfOk result (λ next. IsTrue (is_some opening.now.first.value) → GoesOn opening.now.limits opening.now.namespace (told_of ⟦<MemoryDisk as Disk>⟧ archive)
         (told_of ⟦<MemoryDisk as Disk>⟧ next.0) event.now next.1) }
-    ensures refused { IfErr result (λ refused. EndsBy opening.now.limits opening.now.namespace (told_of ⟦<MemoryDisk as Disk>⟧ archive)
+    ensures refused { IfErr result (λ refused. IsTrue (is_some opening.now.first.value) → EndsBy opening.now.limits opening.now.namespace (told_of ⟦<MemoryDisk as Disk>⟧ archive)
         event.now refused.0 (reading_of refused.1)) }
     ensures rose { IfOk result (λ next. RoseBy (reply_faults next.1) (disk_of archive.journal).faults (disk_of next.0.journal).faults) }
     ensures faults { IfErr result (λ refused. RoseBy (reopen_faults refused.0) (disk_of archive.journal).faults refused.1.faults) }

@@ -1,13 +1,15 @@
 //! How the archive of a run is opened.
 ghost use Rattle.std.specs.Prelude.{IfErr, IfOk, Some};
 ghost use Rattle.warc_text.specs.Ids.{IsUuid};
+ghost use Rattle.archive_opening.specs.Telling.{MayBeSettled};
 ghost use Rattle.archive_core.specs.Holdings.{AreLimits};
-ghost use Rattle.archive_core.specs.Reopening.{IsNotOpened, IsReopened};
+ghost use Rattle.archive_core.specs.Known.{IsNotOpenedKnown, IsReopenedKnown};
 
 use archive_core::Archive;
 use archive_shelf::{Depth, ReopenFault};
-use capture::Limits;
+use capture::{Book, Limits};
 use disk_model::{Disk, MemoryDisk};
+use shown::Shown;
 use std::alloc::Global;
 use uuid::Uuid;
 
@@ -16,20 +18,24 @@ use uuid::Uuid;
 pub(crate) struct Opening {
     pub(crate) namespace: Uuid,
     pub(crate) limits: Limits,
+    /// The book with which the run begins, where the caller's proof names it.
+    pub(crate) first: Shown<Option<Book>>,
 }
 
 impl Opening {
-    /// Opens the archive that a disk holds. Each volume is read whole.
+    /// Opens the archive that a disk holds, by its checkpoints.
     pub(crate) fn open(
         &self,
         alloc: Global,
         disk: MemoryDisk,
+        known: &Shown<Option<Book>>,
     ) -> Result<Archive<MemoryDisk>, (ReopenFault, MemoryDisk)>
         requires uuid { IsUuid self.now.namespace }
         requires limits { AreLimits self.now.limits }
-        ensures reopened { IfOk result (IsReopened ⟦<MemoryDisk as Disk>⟧ disk (Some self.now.namespace) self.now.limits) }
-        ensures refused { IfErr result (IsNotOpened ⟦<MemoryDisk as Disk>⟧ disk (Some self.now.namespace)) }
+        requires known { MayBeSettled ⟦<MemoryDisk as Disk>⟧ disk (Some self.now.namespace) known.now.value }
+        ensures reopened { IfOk result (IsReopenedKnown ⟦<MemoryDisk as Disk>⟧ disk (Some self.now.namespace) self.now.limits Depth.Checkpoints known.now.value) }
+        ensures refused { IfErr result (IsNotOpenedKnown ⟦<MemoryDisk as Disk>⟧ disk (Some self.now.namespace) known.now.value) }
     {
-        Archive::reopen(alloc, disk, Some(self.namespace), self.limits, Depth::Whole)
+        Archive::reopen_told(alloc, disk, Some(self.namespace), self.limits, known)
     }
 }

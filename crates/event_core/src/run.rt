@@ -1,5 +1,5 @@
 //! A list of events, over a disk in memory.
-ghost use Rattle.std.specs.Prelude.{◌+◌, [], All};
+ghost use Rattle.std.specs.Prelude.{◌+◌, [], All, IfSome, IsTrue, Option, is_some};
 ghost use Rattle.capture.specs.Faults.{RoseBy};
 ghost use Rattle.warc_journal.specs.Journals.{disk_of};
 ghost use Rattle.warc_text.specs.Ids.{IsUuid};
@@ -8,8 +8,8 @@ ghost use Rattle.archive_core.specs.Told.{told_of};
 ghost use Rattle.event_core.specs.Events.{CanCome};
 ghost use Rattle.event_core.specs.Faults.{disk_faults};
 ghost use Rattle.event_core.specs.Machine.{State};
-ghost use Rattle.event_core.specs.Running.{AllIdsDiffer, HasReplies, IsRun, Starts, end_faults};
-ghost use Rattle.event_core.specs.steps.Standing.{Follows};
+ghost use Rattle.event_core.specs.Running.{HasReplies, IsRun, MayStart, end_faults};
+ghost use Rattle.event_core.specs.steps.Standing.{Follows, IsStanding};
 
 use crate::events::take_event;
 use crate::opening::Opening;
@@ -19,6 +19,7 @@ use archive_core::Archive;
 use archive_shelf::ReopenFault;
 use capture::{Items, Limits};
 use disk_model::{Disk, MemoryDisk};
+use shown::Shown;
 use std::alloc::Global;
 use uuid::Uuid;
 
@@ -45,7 +46,8 @@ pub struct Ran {
 }
 
 /// Runs events over the archive that a disk in memory holds, and opens it again behind each stop. Room for each reply is made before
-/// its event begins. Where the archive isn't opened the run ends.
+/// its event begins. Where the archive isn't opened the run ends. The caller's proof may name the state in which it begins: no code sees
+/// that, and nothing depends on it.
 pub fn run_events(
     alloc: Global,
     disk: MemoryDisk,
@@ -53,15 +55,22 @@ pub fn run_events(
     limits: Limits,
     events: &[Event],
 ) -> Ran
+    ghost start: { Option State }
     requires uuid { IsUuid namespace }
     requires limits { AreLimits limits }
     requires come { All CanCome events.now }
-    ensures runs { (start : State) → Starts disk namespace start → AllIdsDiffer namespace → IsRun limits start events.now result }
+    requires starts { MayStart disk namespace start }
+    ensures runs { IfSome start (λ first. IsRun limits first events.now result) }
     ensures replies { HasReplies events.now result.replies result.end }
     ensures faults { RoseBy (disk_faults result.replies + end_faults result.end) disk.faults result.disk.faults }
 {
-    let opening = Opening { namespace, limits };
-    match opening.open(alloc, disk) {
+    let first = Shown::told_by(&limits);
+    let opening = Opening {
+        namespace,
+        limits,
+        first,
+    };
+    match opening.open(alloc, disk, &opening.first) {
         Ok(archive) => run_all(alloc, archive, &opening, events),
         Err((fault, disk)) => Ran {
             replies: Items::of(Vec::new(alloc)),
@@ -76,8 +85,9 @@ fn run_all(alloc: Global, archive: Archive<MemoryDisk>, opening: &Opening, event
     requires uuid { IsUuid opening.now.namespace }
     requires limits { AreLimits opening.now.limits }
     requires come { All CanCome events.now }
-    ensures runs { (start : State) → Follows opening.now.limits opening.now.namespace start [] [] (told_of ⟦<MemoryDisk as Disk>⟧ archive)
-        → IsRun opening.now.limits start events.now result }
+    requires stands { IsTrue (is_some opening.now.first.value) → IsStanding opening.now.limits opening.now.namespace (told_of ⟦<MemoryDisk as Disk>⟧ archive) }
+    ensures runs { IsTrue (is_some opening.now.first.value) → (start : State)
+        → Follows opening.now.limits opening.now.namespace start [] [] (told_of ⟦<MemoryDisk as Disk>⟧ archive) → IsRun opening.now.limits start events.now result }
     ensures replies { HasReplies events.now result.replies result.end }
     ensures faults { RoseBy (disk_faults result.replies + end_faults result.end) (disk_of archive.journal).faults result.disk.faults }
 {

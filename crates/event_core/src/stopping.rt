@@ -1,5 +1,5 @@
 //! A disk that is stopped, and its archive that is opened again.
-ghost use Rattle.std.specs.Prelude.{◌≡◌, ℕ, IfErr, IfOk, IsTrue, List};
+ghost use Rattle.std.specs.Prelude.{◌≡◌, ℕ, IfErr, IfOk, IsTrue, List, is_some};
 ghost use Rattle.capture.specs.Faults.{RoseBy};
 ghost use Rattle.capture.specs.declared.limits.Limits.{Limits};
 ghost use Rattle.disk_model.specs.Device.{images_of, reading_of};
@@ -15,14 +15,17 @@ ghost use Rattle.event_core.specs.Machine.{IsEither};
 ghost use Rattle.event_core.specs.Running.{HoldsOne};
 ghost use Rattle.event_core.specs.declared.event.Event.TheVariants as events;
 ghost use Rattle.event_core.specs.declared.reply.Reply.TheVariants as replies;
-ghost use Rattle.event_core.specs.steps.Standing.{EndsBy, GoesOn, Standing, Stands, state_at};
+ghost use Rattle.event_core.specs.steps.Standing.{EndsBy, GoesOn, IsStanding, Standing, Stands, state_at};
 
 use crate::Reply;
 use crate::opening::Opening;
 use archive_core::Archive;
 use archive_shelf::ReopenFault;
+use capture::Book;
 use disk_model::{Disk, MemoryDisk};
+use shown::{Choice, Shown};
 use std::alloc::Global;
+use uuid::Uuid;
 
 /// Gives the disk of an archive back: each of its images stands for the book, or for the other one that may be opened.
 pub(crate) fn close(archive: Archive<MemoryDisk>) -> MemoryDisk
@@ -34,7 +37,23 @@ pub(crate) fn close(archive: Archive<MemoryDisk>) -> MemoryDisk
     archive.close()
 }
 
-/// Stops the disk of an archive with this choice, and opens it again.
+/// A disk behind a stop, and whether the archive on it stood in a state of the machine.
+struct Left {
+    disk: MemoryDisk,
+    namespace: Uuid,
+    stood: Shown<bool>,
+}
+
+/// The book on such a disk, where the archive stood: the stop left that or another one, for which its files stand.
+struct IsKnown;
+
+impl Choice<Left, Option<Book>> for IsKnown {
+    ghost use Rattle.event_core.specs.steps.Standing.{Knows};
+
+    ghost holds = { λ left known. Knows left.disk left.namespace left.stood.value known };
+}
+
+/// Stops the disk of an archive with this choice, and opens it again by its checkpoints.
 fn reopen(
     alloc: Global,
     archive: Archive<MemoryDisk>,
@@ -43,15 +62,30 @@ fn reopen(
 ) -> Result<Archive<MemoryDisk>, (ReopenFault, MemoryDisk)>
     requires uuid { IsUuid opening.now.namespace }
     requires limits { AreLimits opening.now.limits }
-    ensures goes_on { IfOk result (λ next. GoesOn opening.now.limits opening.now.namespace (told_of ⟦<MemoryDisk as Disk>⟧ archive)
+    requires stands { IsTrue (is_some opening.now.first.value) → IsStanding opening.now.limits opening.now.namespace (told_of ⟦<MemoryDisk as Disk>⟧ archive) }
+    ensures goes_on { IfOk result (λ next. IsTrue (is_some opening.now.first.value) → GoesOn opening.now.limits opening.now.namespace (told_of ⟦<MemoryDisk as Disk>⟧ archive)
         (told_of ⟦<MemoryDisk as Disk>⟧ next) (events.Stop choice) (replies.Reopened (counts_of next.book))) }
-    ensures refused { IfErr result (λ refused. EndsBy opening.now.limits opening.now.namespace (told_of ⟦<MemoryDisk as Disk>⟧ archive)
+    ensures refused { IfErr result (λ refused. IsTrue (is_some opening.now.first.value) → EndsBy opening.now.limits opening.now.namespace (told_of ⟦<MemoryDisk as Disk>⟧ archive)
         (events.Stop choice) refused.0 (reading_of refused.1)) }
     ensures same_faults { IfOk result (λ next. (disk_of next.journal).faults ≡ (disk_of archive.journal).faults) }
     ensures faults { IfErr result (λ refused. RoseBy (reopen_faults refused.0) (disk_of archive.journal).faults refused.1.faults) }
 {
+    let stood = Shown::told_by(&opening.first);
     match close(archive).stop(choice) {
-        Ok(disk) => opening.open(alloc, disk),
+        Ok(disk) => {
+            let left = Left {
+                disk,
+                namespace: opening.namespace,
+                stood,
+            };
+            let known = Shown::chosen::<Left, IsKnown>(&left);
+            let Left {
+                disk,
+                namespace: _,
+                stood: _stood,
+            } = left;
+            opening.open(alloc, disk, &known)
+        }
         Err(disk) => Err((ReopenFault::Memory, disk)),
     }
 }
@@ -65,9 +99,10 @@ pub(crate) fn stop_event(
 ) -> Result<(Archive<MemoryDisk>, Reply), (ReopenFault, MemoryDisk)>
     requires uuid { IsUuid opening.now.namespace }
     requires limits { AreLimits opening.now.limits }
-    ensures goes_on { IfOk result (λ next. GoesOn opening.now.limits opening.now.namespace (told_of ⟦<MemoryDisk as Disk>⟧ archive)
+    requires stands { IsTrue (is_some opening.now.first.value) → IsStanding opening.now.limits opening.now.namespace (told_of ⟦<MemoryDisk as Disk>⟧ archive) }
+    ensures goes_on { IfOk result (λ next. IsTrue (is_some opening.now.first.value) → GoesOn opening.now.limits opening.now.namespace (told_of ⟦<MemoryDisk as Disk>⟧ archive)
         (told_of ⟦<MemoryDisk as Disk>⟧ next.0) (events.Stop choice) next.1) }
-    ensures refused { IfErr result (λ refused. EndsBy opening.now.limits opening.now.namespace (told_of ⟦<MemoryDisk as Disk>⟧ archive)
+    ensures refused { IfErr result (λ refused. IsTrue (is_some opening.now.first.value) → EndsBy opening.now.limits opening.now.namespace (told_of ⟦<MemoryDisk as Disk>⟧ archive)
         (events.Stop choice) refused.0 (reading_of refused.1)) }
     ensures rose { IfOk result (λ next. RoseBy (reply_faults next.1) (disk_of archive.journal).faults (disk_of next.0.journal).faults) }
     ensures faults { IfErr result (λ refused. RoseBy (reopen_faults refused.0) (disk_of archive.journal).faults refused.1.faults) }

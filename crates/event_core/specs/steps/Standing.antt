@@ -1,15 +1,18 @@
 -- How an archive alone stands in a state of the machine, and in which states an event leaves it.
-use Rattle.std.specs.Prelude.{◌≡◌, ℕ, ◌+◌, ◌<◌, ◌≤◌, IsTrue, List, [], length, get_or, Option, None, Some, true, ⊤}
+use Rattle.std.specs.Prelude.{◌≡◌, ℕ, ◌+◌, ◌<◌, ◌≤◌, Bool, IsTrue, List, [], length, get_or, is_some, Option, None, Some, true, ⊤}
 use Rattle.capture.specs.declared.book.Book.{Book}
 use Rattle.capture.specs.declared.limits.Limits.{Limits}
 use Rattle.cdxj_line.specs.declared.line.Line.{Line}
 use Rattle.checkpoint.specs.Checkpoints.{IsCheckpoint}
 use Rattle.checkpoint.specs.OfVolume.{AreLinesOf}
+use Rattle.disk_model.specs.Device.{Device}
 use Rattle.disk_model.specs.Image.{Image}
+use Rattle.disk_model.specs.contracts.memory_disk.MemoryDiskDisk.TheImpl.{ghosts}
 use Rattle.archive_shelf.specs.Openings.{IsState}
 use Rattle.archive_shelf.specs.Told.{ShowsItsBook, Told}
 use Rattle.archive_shelf.specs.declared.fault.ReopenFault.{ReopenFault}
 use Rattle.archive_opening.specs.Opening.{IsOutside}
+use Rattle.archive_opening.specs.Telling.{MayBeSettled}
 use Rattle.archive_core.specs.Settling.{HasWithout}
 use Rattle.event_core.specs.Events.{Runs, Steps}
 use Rattle.event_core.specs.Machine.{State, sealed}
@@ -27,8 +30,8 @@ pub record HasFinished (files : List (List ℕ)) (k : ℕ) : Type 0 where
 -- no finished one is there but of a sealed volume, with the lines of just its captures
 abbrev pub AreRight : Book → List (List ℕ) → Type 0
 AreRight book files =
-    (k other : ℕ) (lines : List Line) → IsCheckpoint other lines (get_or files k [])
-    → (other ≡ k) × (k + 1 < length book.volumes) × AreLinesOf book k lines
+    (k : ℕ) (lines : List Line) → IsCheckpoint k lines (get_or files k [])
+    → (k + 1 < length book.volumes) × AreLinesOf book k lines
 
 -- How many checkpoints may be finished whatever a crash leaves. Of so many of the first volumes those are that these files have, which
 -- are the least. No others are, or else those below a number may be: of volumes that a refused call may have written.
@@ -88,6 +91,16 @@ pub record Stands (limits : Limits) (namespace : List ℕ) (now : Told) (s : Sta
   pub ids : AllIdsDiffer namespace
   pub right : (files : List (List ℕ)) → now.crash.checkpoints files → AreRight s.book files
   pub tallied : IsTallied now.crash.checkpoints (sealed s.book) s.tally
+
+-- it stands in some state
+pub record IsStanding (limits : Limits) (namespace : List ℕ) (now : Told) : Type 0 where
+  pub was : Standing
+  pub stands : Stands limits namespace now was
+
+-- What is known of the book on a disk behind a stop: the one that is named is such, and one is named where the archive stood.
+pub record Knows (disk : Device) (namespace : List ℕ) (stood : Bool) (known : Option Book) : Type 0 where
+  pub may : MayBeSettled ghosts disk (Some namespace) known
+  pub named : IsTrue stood → IsTrue (is_some known)
 
 -- An event made the machine's step: however many checkpoints may be finished now, it is a step from so many as might have been before.
 pub record Answers (limits : Limits) (namespace : List ℕ) (now : Told) (was : Standing) (event : Event) (reply : Reply) : Type 0 where
