@@ -1,6 +1,7 @@
 -- What a shelf's calls answer, by cases of the answer, and what they leave.
 use Rattle.std.specs.Prelude.{◌≡◌, ◌≢◌, ◌⊎◌, ℕ, ◌<◌, ◌≤◌, Bool, true, false, IsTrue, IsFalse, List, [], ◌∷◌, ◌++◌, length, slice_get, Contains, Option, Some, None, Result, Ok, Err, ⊤}
 use Rattle.httparse.specs.Grammar.{ResponseHead}
+use Rattle.sha1.specs.Sha1.{sha1}
 use Rattle.capture.specs.Captures.{captures, IsPayloadOf}
 use Rattle.capture.specs.Faults.{Rose}
 use Rattle.capture.specs.Message.{IsResponseHeadText}
@@ -133,12 +134,26 @@ AgreesAt shelf number = (entry : Facts) → Contains shelf.shown entry → entry
 abbrev pub ShowsNone : Contents → ℕ → Type 0
 ShowsNone shelf number = (entry : Facts) → Contains shelf.shown entry → entry.number ≢ number
 
+-- what is brought is what an entry tells: its target, its date, and the digest of its payload
+pub record IsAsShown (entry : Facts) (brought : Brought) : Type 0 where
+  pub uri : entry.uri ≡ brought.uri
+  pub date : entry.date ≡ brought.date
+  pub digest : entry.digest ≡ sha1 brought.payload
+
+-- so it is by each of these entries under the number
+abbrev pub BringsAsShown : List Facts → ℕ → Brought → Type 0
+BringsAsShown entries number brought = (entry : Facts) → Contains entries entry → entry.number ≡ number → IsAsShown entry brought
+
+-- each of these entries under the number tells this digest
+abbrev pub TellDigest : List Facts → ℕ → List ℕ → Type 0
+TellDigest entries number digest = (entry : Facts) → Contains entries entry → entry.number ≡ number → entry.digest ≡ digest
+
 -- What bringing a capture answers, by what is seen and shown after it. There is none exactly where the number isn't below the
--- count; want of memory may be answered anywhere.
+-- count; want of memory may be answered anywhere. Whatever is told, what is brought is what the entry tells that is shown.
 abbrev pub Brings : Contents → ℕ → Result Brought BringFault → Type 0
 Brings is number (Ok brought) =
     (number < length (captures is.seen)) × IsReplayable brought × IsNamed is.seen number brought
-    × (IsTrue is.tells → IsBrought is.seen number brought × AgreesAt is number)
+    × (IsTrue is.tells → IsBrought is.seen number brought × AgreesAt is number) × BringsAsShown is.shown number brought
 Brings is number (Err (brings.NoSuch count)) =
     (count ≡ length (captures is.seen)) × (count ≤ number) × ShowsNone is number
 Brings is number (Err brings.DiskFault) = number < length (captures is.seen)
@@ -154,7 +169,8 @@ is_store_fault (Err stores.DiskFault) = true
 is_store_fault (Err (stores.Damaged number kept found)) = false
 is_store_fault (Err stores.Memory) = false
 
-abbrev pub is_bring_fault : Result Brought BringFault → Bool
+-- of bringing a capture, or its piece
+abbrev pub is_bring_fault : {T : Type 0} → Result T BringFault → Bool
 is_bring_fault (Ok brought) = false
 is_bring_fault (Err (brings.NoSuch count)) = false
 is_bring_fault (Err brings.DiskFault) = true

@@ -1,13 +1,14 @@
 -- The piece of a capture: its group, and the warcinfo of its volume before it where it is the first of that.
-use Rattle.std.specs.Prelude.{◌≡◌, ◌≢◌, ◌⊎◌, ℕ, ◌<◌, ◌≤◌, Bool, false, true, IsTrue, List, [], ◌++◌, length, slice_get, Option, Some, Result, Ok, Err, ⊤}
+use Rattle.std.specs.Prelude.{◌≡◌, ◌≢◌, ◌⊎◌, ℕ, ◌<◌, ◌≤◌, IsTrue, List, [], ◌++◌, length, slice_get, Option, Some, Result, Ok, Err, ⊤}
 use Rattle.capture.specs.Captures.{captures, first_number}
 use Rattle.capture.specs.declared.book.Book.{Book}
 use Rattle.capture.specs.declared.book.Volume.{Volume}
 use Rattle.capture.specs.declared.captured.Taken.{Taken}
+use Rattle.cdxj_index.specs.Facts.{Facts}
 use Rattle.warc_text.specs.Books.{IsGroupText}
 use Rattle.warc_text.specs.Records.{group_text, info_text}
 use Rattle.warc_text.specs.References.{Reference}
-use Rattle.archive_shelf.specs.Answers.{IsDamaged}
+use Rattle.archive_shelf.specs.Answers.{IsDamaged, ShowsNone, TellDigest}
 use Rattle.archive_shelf.specs.Contents.{Contents}
 use Rattle.archive_shelf.specs.declared.fault.BringFault.{BringFault}
 use Rattle.archive_shelf.specs.declared.fault.BringFault.TheVariants as brings
@@ -46,21 +47,19 @@ pub record IsSomePiece (book : Book) (number : ℕ) (bytes : List ℕ) : Type 0 
   pub before : IsFront book number front
   pub composed : bytes ≡ front ++ group_text book.namespace number taken digest same
 
--- What asking for a piece answers, by what is seen after it. There is none exactly where the number isn't below the count; want
--- of memory may be answered anywhere.
+-- and its group tells the digest of each of these entries under the number
+pub record IsShownPiece (book : Book) (entries : List Facts) (number : ℕ) (bytes : List ℕ) : Type 0 where
+  pub piece : IsSomePiece book number bytes
+  pub digest : TellDigest entries number piece.digest
+
+-- What asking for a piece answers, by what is seen and shown after it. There is none exactly where the number isn't below the
+-- count; want of memory may be answered anywhere.
 abbrev pub GivesPiece : Contents → ℕ → Result (List ℕ) BringFault → Type 0
 GivesPiece is number (Ok bytes) =
-    (number < length (captures is.seen)) × IsSomePiece is.seen number bytes × (IsTrue is.tells → IsPiece is.seen number bytes)
-GivesPiece is number (Err (brings.NoSuch count)) = (count ≡ length (captures is.seen)) × (count ≤ number)
+    (number < length (captures is.seen)) × IsShownPiece is.seen is.shown number bytes × (IsTrue is.tells → IsPiece is.seen number bytes)
+GivesPiece is number (Err (brings.NoSuch count)) =
+    (count ≡ length (captures is.seen)) × (count ≤ number) × ShowsNone is number
 GivesPiece is number (Err brings.DiskFault) = number < length (captures is.seen)
 GivesPiece is number (Err (brings.Damaged at kept found)) =
     (number < length (captures is.seen)) × (at ≡ number) × IsDamaged is.tells kept found
 GivesPiece is number (Err brings.Memory) = ⊤
-
--- a fault of the disk is the answer
-abbrev pub is_piece_fault : Result (List ℕ) BringFault → Bool
-is_piece_fault (Ok bytes) = false
-is_piece_fault (Err (brings.NoSuch count)) = false
-is_piece_fault (Err brings.DiskFault) = true
-is_piece_fault (Err (brings.Damaged at kept found)) = false
-is_piece_fault (Err brings.Memory) = false

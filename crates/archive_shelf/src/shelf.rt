@@ -2,7 +2,7 @@
 ghost use Rattle.warc_text.specs.Fits.{Fits};
 ghost use Rattle.archive_shelf.specs.Answers.{Brings, NamesKeeper, is_bring_fault};
 ghost use Rattle.archive_shelf.specs.Digests.{GoesByDigest, PieceGoesByDigest};
-ghost use Rattle.archive_shelf.specs.Pieces.{GivesPiece, is_piece_fault};
+ghost use Rattle.archive_shelf.specs.Pieces.{GivesPiece};
 ghost use Rattle.archive_shelf.specs.Told.{HoldsJust, ReadsOn, ShowsItsBook, StoresOn};
 
 use crate::{BringFault, Finder, Receipt, StoreFault};
@@ -32,6 +32,6 @@ pub trait Shelf: Finder {
     fn piece(&mut self, alloc: Global, number: u32) -> Result<Bytes, BringFault>
         ensures gives { GivesPiece (Self.told self.new).contents number result }
         ensures digests { PieceGoesByDigest (Self.told self.new).contents.seen number result }
-        ensures reads { ReadsOn Self.alone (is_piece_fault result) (Self.told self.old) (Self.told self.new) }
+        ensures reads { ReadsOn Self.alone (is_bring_fault result) (Self.told self.old) (Self.told self.new) }
         ensures shows { ShowsItsBook Self.alone (Self.told self.new) };
 }
