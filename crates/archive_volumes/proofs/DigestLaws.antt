@@ -2,10 +2,12 @@
 use Rattle.std.proofs.Common.{◌≡◌, ◌≢◌, ◌⊎◌, ℕ, ◌<◌, ◌++◌, Bool, true, not, List, [], Option, None, get_or, length, Result, Ok, Err, Some, false, refl, sym, ap, subst, ◌∙◌, inl, inr, ⊎_elim, arith}
 use Rattle.std.specs.Prelude.{slice_get}
 use Rattle.std.specs.Str.{bytes_eq}
+use Rattle.std.proofs.lemmas.Bool.{false≢true}
 use Rattle.std.proofs.lemmas.Option.{same_Some}
 use Rattle.std.proofs.lemmas.Slice.Eq.{bytes_eq-Decides}
 use Rattle.sha1.specs.Sha1.{sha1}
 use Rattle.capture.specs.Captures.{IsPayloadBy, IsPayloadOf, taken_back}
+use Rattle.capture.proofs.PayloadLaws.{captures_have_one}
 use Rattle.capture.specs.declared.book.Book.{Book}
 use Rattle.capture.specs.declared.captured.Brought.{Brought}
 use Rattle.capture.specs.declared.captured.Kept.{Kept}
@@ -20,9 +22,9 @@ use Rattle.archive_shelf.specs.declared.fault.BringFault.{BringFault}
 use Rattle.archive_shelf.specs.declared.fault.BringFault.TheVariants as brings
 use Rattle.archive_volumes.proofs.BringLaws.{keeper_keeps, keeps_same, refers_to}
 use Rattle.archive_volumes.proofs.GroupLaws.{got}
-use Rattle.archive_volumes.specs.Digests.{GoesByKeeper, GoesByKept, GoesByLine, GoesByOwn, HasKeptDigest, IsKeptAt}
+use Rattle.archive_volumes.specs.Digests.{BringsDigest, GoesByKeeper, GoesByKept, GoesByLine, GoesByOwn, HasKeptDigest, IsKeptAt}
 use Rattle.archive_volumes.specs.KeptGroups.{HasFront, IsTold, PieceGoesByKept, TellsDigest}
-use Rattle.archive_volumes.specs.Spots.{HasOwnDigest, IsSpotOf, form_of, is_same_form, is_told_form}
+use Rattle.archive_volumes.specs.Spots.{HasOwnDigest, IsPlaced, IsSpotOf, form_of, is_same_form, is_told_form}
 use Rattle.archive_volumes.specs.declared.spot.Form.TheVariants as forms
 use Rattle.archive_volumes.specs.declared.spot.Spot.{Spot}
 
@@ -243,6 +245,30 @@ keeper_goes spots first keeper other there is number at found which = (which, ap
 pub line_goes : (spots : List Spot) (number : ℕ) (spot other : Spot) → slice_get spots number ≡ Some spot → slice_get spots number ≡ Some other
     → GoesByLine number other.digest (Err (brings.Damaged number spot.digest None))
 line_goes spots number spot other here at = (refl, refl, ap (λ (s : Spot). s.digest) (one_spot spots number spot other here at))
+
+-- what goes by the digest that is kept of the capture itself has just that
+pub own_brings : (number : ℕ) (digest : List ℕ) (result : Result Brought BringFault) → GoesByOwn number digest result → BringsDigest digest result
+own_brings number digest (Ok brought) by = by
+own_brings number digest (Err fault) by = tt
+
+pub line_brings : (number : ℕ) (digest : List ℕ) (result : Result Brought BringFault) → GoesByLine number digest result → BringsDigest digest result
+line_brings number digest (Ok brought) by = by
+line_brings number digest (Err fault) by = tt
+
+-- where the book is told, a capture has the digest of the one that keeps its payload
+pub same_digest : (texts : List (List ℕ)) (book : Book) (number first : ℕ) (spot keeper : Spot) (is : IsSpotOf book number spot) (form : spot.form ≡ forms.Same first)
+    → IsPlaced texts book number spot → IsPlaced texts book first keeper → keeper.digest ≡ spot.digest
+same_digest texts book number first spot keeper is form here there =
+    let stored : Stored = is.stored in
+    let by : IsPayloadBy book stored stored.kept there.payload =
+    subst (λ (k : Kept). IsPayloadBy book stored k there.payload) (sym (keeps_same book number spot is first form))
+    (same_payload book number spot is first form there.payload there.has) in
+    let has : IsPayloadOf book number there.payload = record { stored = stored; placed = is.placed; by_kept = by } in
+    there.digest ∙ ap sha1 (captures_have_one book number there.payload here.payload has here.has) ∙ sym here.digest
+
+-- two texts of which a test says that they differ
+pub differ : (a b : List ℕ) (t : Bool) → t ≡ not (bytes_eq a b) → t ≡ true → Some b ≢ Some a
+differ a b t is e same = absurd (false≢true (sym (ap not ((bytes_eq-Decides a b).1 (sym (same_Some b a same)))) ∙ sym is ∙ e))
 
 -- ---- which digest is kept
 

@@ -1,5 +1,5 @@
 -- How what is read of one capture goes by the digest that is kept of it, whatever the disk tells.
-use Rattle.std.specs.Prelude.{◌≡◌, ◌⊎◌, ℕ, List, slice_get, Some, None, Result, Ok, Err, ⊤}
+use Rattle.std.specs.Prelude.{◌≡◌, ◌⊎◌, ℕ, List, slice_get, IfOk, Some, None, Result, Ok, Err, ⊤}
 use Rattle.sha1.specs.Sha1.{sha1}
 use Rattle.capture.specs.declared.captured.Brought.{Brought}
 use Rattle.archive_shelf.specs.declared.fault.BringFault.{BringFault}
@@ -31,6 +31,10 @@ GoesByLine number digest (Err (brings.NoSuch count)) = ⊤
 GoesByLine number digest (Err brings.DiskFault) = ⊤
 GoesByLine number digest (Err (brings.Damaged at kept found)) = (at ≡ number) × (found ≡ None) × (kept ≡ digest)
 GoesByLine number digest (Err brings.Memory) = ⊤
+
+-- a payload that is brought has this digest
+abbrev pub BringsDigest : List ℕ → Result Brought BringFault → Type 0
+BringsDigest digest result = IfOk result (λ brought. sha1 brought.payload ≡ digest)
 
 -- ---- which digest is kept of a payload
 

@@ -7,7 +7,7 @@ ghost use Rattle.archive_shelf.specs.Answers.{CountsIf, NamesKeeper, is_bring_fa
 ghost use Rattle.archive_shelf.specs.Digests.{GoesByDigest};
 ghost use Rattle.archive_shelf.specs.declared.fault.BringFault.TheVariants.{Damaged as DamagedAt};
 ghost use Rattle.archive_volumes.specs.Bringing.{BringsFrom, OnlyReads, brought_of};
-ghost use Rattle.archive_volumes.specs.Digests.{GoesByKeeper, GoesByKept, GoesByLine, GoesByOwn};
+ghost use Rattle.archive_volumes.specs.Digests.{BringsDigest, GoesByKeeper, GoesByKept, GoesByLine, GoesByOwn};
 ghost use Rattle.archive_volumes.specs.Held.{book_of};
 ghost use Rattle.archive_volumes.specs.Rereading.{IsBroughtThere};
 ghost use Rattle.archive_volumes.specs.Spots.{AreSpotsOf, ArePlaced, AreWithin, is_same_form, whole_from};
@@ -89,7 +89,7 @@ impl<D: Disk> Volumes<D> {
     }
 
     /// Brings a capture of which another one, the keeper, has the payload. The head is the capture's own; damage of that is told
-    /// under its own number, by the digest of the payload.
+    /// under its own number, by the digest of the payload. A keeper with another digest isn't read.
     fn bring_same(
         &mut self,
         told: &Shown<bool>,
@@ -107,11 +107,19 @@ impl<D: Disk> Volumes<D> {
         requires form { (spot : SpotValue) → slice_get spots.now number ≡ Some spot → spot.form ≡ forms.Same first }
         ensures brings { BringsFrom told.now.value (book_of self.old.held) number result }
         ensures digest { (keeper : SpotValue) → slice_get spots.now first ≡ Some keeper → GoesByKeeper number first keeper.digest result }
+        ensures own { (spot : SpotValue) → slice_get spots.now number ≡ Some spot → BringsDigest spot.digest result }
         ensures reads { OnlyReads D.Disk self.old self.new }
         ensures faults { CountsIf (is_bring_fault result) (D.faults (disk_of self.old.journal)) (D.faults (disk_of self.new.journal)) }
     {
         let spot = &spots[number as usize];
         let keeper = &spots[first as usize];
+        if keeper.digest != spot.digest {
+            return Err(BringFault::Damaged {
+                number: first,
+                kept: keeper.digest,
+                found: Some(spot.digest),
+            });
+        }
         let head = self.read_part(alloc, spot.head_place())?;
         if !is_response_head(alloc, head.as_slice())? {
             return Err(BringFault::Damaged {
@@ -195,6 +203,7 @@ impl<D: Disk> Volumes<D> {
         ensures brings { BringsFrom told.now.value (book_of self.old.held) number result }
         ensures names { NamesKeeper (book_of self.old.held) number result }
         ensures kept { GoesByKept spots.now number result }
+        ensures own { (spot : SpotValue) → slice_get spots.now number ≡ Some spot → BringsDigest spot.digest result }
         ensures there { IsTrue D.tells → (spot : SpotValue) → slice_get spots.now number ≡ Some spot
             → IfOk result (IsBroughtThere (texts D.Disk self.old.journal) (book_of self.old.held).namespace number spot) }
         ensures digests { GoesByDigest (book_of self.old.held) number result }

@@ -1,9 +1,9 @@
 //! The piece of a capture: its group, with the warcinfo of its volume before it where it is the first of that.
 ghost use Rattle.std.specs.Prelude.{◌≡◌, ◌<◌, ℕ, IfOk, IsFalse, IsTrue, Some, length, slice_get};
 ghost use Rattle.warc_journal.specs.Journals.{disk_of, texts};
-ghost use Rattle.archive_shelf.specs.Answers.{CountsIf};
+ghost use Rattle.archive_shelf.specs.Answers.{CountsIf, is_bring_fault};
 ghost use Rattle.archive_shelf.specs.Digests.{PieceGoesByDigest};
-ghost use Rattle.archive_shelf.specs.Pieces.{IsFirstOf, is_piece_fault};
+ghost use Rattle.archive_shelf.specs.Pieces.{IsFirstOf};
 ghost use Rattle.archive_volumes.specs.Bringing.{OnlyReads};
 ghost use Rattle.archive_volumes.specs.Held.{book_of};
 ghost use Rattle.archive_volumes.specs.KeptGroups.{GivesPieceFrom, HasFront, PieceGoesByKept};
@@ -79,7 +79,7 @@ impl<D: Disk> Volumes<D> {
         ensures kept { (spot : Spot) → slice_get spots.now number ≡ Some spot → PieceGoesByKept (book_of self.old.held) number spot.digest result }
         ensures digests { PieceGoesByDigest (book_of self.old.held) number result }
         ensures reads { OnlyReads D.Disk self.old self.new }
-        ensures faults { CountsIf (is_piece_fault result) (D.faults (disk_of self.old.journal)) (D.faults (disk_of self.new.journal)) }
+        ensures faults { CountsIf (is_bring_fault result) (D.faults (disk_of self.old.journal)) (D.faults (disk_of self.new.journal)) }
     {
         let read = self.read_group(told, alloc, spots, number)?;
         let kept = spots[number as usize].digest;

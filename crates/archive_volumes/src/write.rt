@@ -1,5 +1,5 @@
 //! How a capture is written, in a volume that is begun for it where it needs one, and kept in memory.
-ghost use Rattle.std.specs.Prelude.{◌≡◌, ◌⊎◌, ◌+◌, ◌-◌, ◌^◌, ◌<◌, IsTrue, IfOk, OnErr, OnOk, length, Some, vec_len};
+ghost use Rattle.std.specs.Prelude.{◌≡◌, ◌⊎◌, ◌+◌, ◌-◌, ◌^◌, ◌<◌, ◌++◌, ◌∷◌, [], IsTrue, IfOk, OnErr, OnOk, length, Some, vec_len};
 ghost use Rattle.capture.specs.Captures.{captures};
 ghost use Rattle.capture.specs.Faults.{CountsFaults};
 ghost use Rattle.capture.specs.Tails.{IsCommitted};
@@ -14,7 +14,7 @@ ghost use Rattle.archive_volumes.specs.Held.{book_of, stored_in};
 ghost use Rattle.archive_volumes.specs.Writing.{HasRoomFor, Writes, end_with, texts_with, with_prepared};
 ghost use Rattle.archive_volumes.specs.Volumes.{HoldsBook, IsMeasured, muted};
 ghost use Rattle.std.specs.Vec.{vec_capacity};
-ghost use Rattle.archive_volumes.specs.Ready.{CanCommit};
+ghost use Rattle.archive_volumes.specs.Ready.{CanCommit, spot_in};
 ghost use Rattle.archive_volumes.specs.Spots.{AreHeldWhole, AreSpotsOf, ArePlaced, AreWithin, whole_from};
 
 use crate::ready::Ready;
@@ -105,6 +105,8 @@ impl<D: Disk> Volumes<D> {
         ensures holds { HoldsBook D.Disk told.now.value self.new.journal (book_of self.new.held) }
         ensures measured { IsMeasured self.new.journal (book_of self.new.held) }
         ensures last_len { OnOk result (last_len self.new.journal ≡ end_with self.old ready.prepared + length ready.group) }
+        ensures kept { OnOk result (spots.new.items ≡ spots.old.items ++ spot_in self.old ready ∷ []) }
+        ensures unkept { OnErr result (spots.new.items ≡ spots.old.items) }
         ensures spots { AreSpotsOf (book_of self.new.held) spots.new.items }
         ensures within { IsTrue D.tells → AreWithin (texts D.Disk self.new.journal) spots.new.items }
         ensures placed { IsTrue told.now.value → ArePlaced (texts D.Disk self.new.journal) (book_of self.new.held) spots.new.items }

@@ -3,7 +3,7 @@ use Rattle.warc_journal.specs.Journals.{texts}
 use Rattle.std.proofs.Common.{Bool, ℕ, List, ap, ◌∙◌, arith}
 use Rattle.revisit_table.specs.Table.{numbers_of}
 use Rattle.archive_volumes.proofs.BringLaws.{refers_to}
-use Rattle.archive_volumes.proofs.DigestLaws.{form_at, line_digests, line_goes_by_kept, line_names, one_spot, own_digests, own_goes_by_kept, own_names, same_digests, same_goes_by_kept, same_names}
+use Rattle.archive_volumes.proofs.DigestLaws.{form_at, line_brings, line_digests, line_goes_by_kept, line_names, one_spot, own_brings, own_digests, own_goes_by_kept, own_names, same_digests, same_goes_by_kept, same_names}
 use Rattle.archive_volumes.proofs.GroupLaws.{got}
 use Rattle.archive_volumes.proofs.PieceFronts.{spot_there}
 use Rattle.archive_volumes.specs.Held.{book_of}
@@ -175,3 +175,15 @@ returns-in-Same-clause-there g c tells other at =
     let here = got c.args.spots.now c.args.number spot c.requires.below c.index-spots-number.is in
     untold_there (texts g.D.Disk c.args.self.now.journal) (book_of c.args.self.now.held).namespace c.args.number other
     (ap is_told_form (form_at c.args.spots.now c.args.number spot other here at ∙ c.in-Same.is)) c.bring_same.result
+
+pub returns-in-Whole-clause-own : goal.returns-in-Whole-clause-own
+returns-in-Whole-clause-own g c other at = own_brings c.args.number other.digest c.bring_own.result (c.bring_own.ensures.digest other at)
+
+pub returns-in-Cut-clause-own : goal.returns-in-Cut-clause-own
+returns-in-Cut-clause-own g c other at = own_brings c.args.number other.digest c.bring_own-in-Cut.result (c.bring_own-in-Cut.ensures.digest other at)
+
+pub returns-else-revisit-clause-own : goal.returns-else-revisit-clause-own
+returns-else-revisit-clause-own g c other at = own_brings c.args.number other.digest c.bring_own-in-Told.result (c.bring_own-in-Told.ensures.digest other at)
+
+pub returns-then-revisit-clause-own : goal.returns-then-revisit-clause-own
+returns-then-revisit-clause-own g c other at = line_brings c.args.number other.digest c.bring_told.result (c.bring_told.ensures.digest other at)

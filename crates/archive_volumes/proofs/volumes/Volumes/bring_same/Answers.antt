@@ -1,17 +1,18 @@
-use Rattle.std.proofs.Common.{ℕ, ◌<◌, ◌+◌, ◌≤◌, IsTrue, false, true, List, length, None, Ok, refl, sym, ap, subst, ◌∙◌, inl, inr, arith}
+use Rattle.std.proofs.Common.{◌≡◌, ℕ, ◌<◌, ◌+◌, ◌≤◌, IsTrue, false, true, List, length, None, Some, Ok, refl, sym, ap, subst, ◌∙◌, inl, inr, arith}
 use Rattle.capture.specs.declared.book.Book.{Book}
 use Rattle.capture.specs.declared.captured.Brought.{Brought}
 use Rattle.warc_journal.specs.Journals.{texts}
 use Rattle.warc_journal.specs.declared.place.Place.{Place}
 use Rattle.archive_volumes.proofs.BringLaws.{damaged, has_head, keeper_keeps, keeps_payload, named, no_digest, placed_on, reads_then, refers_to, replayable, same_brought, spots_on, within_on}
-use Rattle.archive_volumes.proofs.DigestLaws.{keeper_goes}
+use Rattle.archive_volumes.proofs.DigestLaws.{alike, differ, keeper_goes, one_spot, same_digest}
 use Rattle.archive_volumes.proofs.GroupLaws.{got}
 use Rattle.archive_volumes.specs.Bringing.{BringsFrom, IsChecked, IsReadRight}
-use Rattle.archive_volumes.specs.Digests.{GoesByKeeper}
+use Rattle.archive_volumes.specs.Digests.{BringsDigest, GoesByKeeper}
 use Rattle.archive_volumes.specs.Decoding.{IsHead}
 use Rattle.archive_volumes.specs.Held.{book_of}
 use Rattle.archive_volumes.specs.Spots.{text_at}
 use Rattle.archive_volumes.specs.declared.payload.ReadBack.{ReadBack}
+use Rattle.archive_volumes.specs.declared.spot.Spot.{Spot}
 use Rattle.archive_volumes.proofs.volumes.Volumes.bring_same.Goals as goal
 
 pub bounds-spots-first : goal.bounds-spots-first
@@ -172,3 +173,50 @@ returns-in-Damaged-clause-digest g c other at =
     let keeper = c.index-spots-first.result in
     let there = got c.args.spots.now c.args.first keeper (omega (arith, refers.0, c.requires.below)) c.index-spots-first.is in
     keeper_goes c.args.spots.now c.args.first keeper other there at c.args.number c.args.first c.in-Damaged.found (inl refl)
+
+pub returns-then-ne-clause-brings : goal.returns-then-ne-clause-brings
+returns-then-ne-clause-brings g c =
+    let book = book_of c.args.self.now.held in
+    let spot = c.index-spots-number.result in
+    let here = got c.args.spots.now c.args.number spot c.requires.below c.index-spots-number.is in
+    let its = c.requires.spots.each c.args.number spot here in
+    let form = c.requires.form spot here in
+    let refers = refers_to book c.args.number spot its c.args.first form in
+    let keeper = c.index-spots-first.result in
+    let there = got c.args.spots.now c.args.first keeper (omega (arith, refers.0, c.requires.below)) c.index-spots-first.is in
+    let other = differ keeper.digest spot.digest c.ne.result c.ne.ensures c.if-ne.true in (
+      omega (arith, refers.0),
+      keeps_payload book c.args.number spot its c.args.first form,
+      damaged c.args.told.now.value keeper.digest (Some spot.digest)
+          (λ told. let placed = c.requires.placed told in
+          other (ap Some (sym (same_digest (texts g.D.Disk c.args.self.now.journal) book c.args.number c.args.first spot keeper its form
+          (placed.each c.args.number spot here) (placed.each c.args.first keeper there)))))
+          other,
+    )
+
+pub returns-then-ne-clause-digest : goal.returns-then-ne-clause-digest
+returns-then-ne-clause-digest g c other at =
+    let book = book_of c.args.self.now.held in
+    let spot = c.index-spots-number.result in
+    let here = got c.args.spots.now c.args.number spot c.requires.below c.index-spots-number.is in
+    let its = c.requires.spots.each c.args.number spot here in
+    let form = c.requires.form spot here in
+    let refers = refers_to book c.args.number spot its c.args.first form in
+    let keeper = c.index-spots-first.result in
+    let there = got c.args.spots.now c.args.first keeper (omega (arith, refers.0, c.requires.below)) c.index-spots-first.is in
+    keeper_goes c.args.spots.now c.args.first keeper other there at c.args.number c.args.first (Some spot.digest) (inl refl)
+
+pub returns-in_ok-brought-in-Right-clause-own : goal.returns-in_ok-brought-in-Right-clause-own
+returns-in_ok-brought-in-Right-clause-own g c other at =
+    let book = book_of c.args.self.now.held in
+    let spot = c.index-spots-number.result in
+    let here = got c.args.spots.now c.args.number spot c.requires.below c.index-spots-number.is in
+    let its = c.requires.spots.each c.args.number spot here in
+    let form = c.requires.form spot here in
+    let refers = refers_to book c.args.number spot its c.args.first form in
+    let keeper = c.index-spots-first.result in
+    let there = got c.args.spots.now c.args.first keeper (omega (arith, refers.0, c.requires.below)) c.index-spots-first.is in
+    let same : keeper.digest ≡ spot.digest = alike keeper.digest spot.digest c.ne.result c.ne.ensures c.if-ne.false in
+    subst (λ (b : Brought). BringsDigest other.digest (Ok b)) (sym c.in_ok-brought-in-Right.ensures)
+    ((subst (λ (r : ReadBack). IsChecked keeper.digest r) c.in-Right.is (c.in_ok-read.ensures.checked keeper there)).1 ∙ same
+    ∙ ap (λ (s : Spot). s.digest) (one_spot c.args.spots.now c.args.number spot other here at))

@@ -1,4 +1,4 @@
-use Rattle.std.proofs.Common.{rules, ◌≡◌, ◌+◌, List, ℕ, ap, ◌∙◌}
+use Rattle.std.proofs.Common.{rules, ◌≡◌, ◌+◌, List, [], ◌∷◌, ◌++◌, ℕ, ap, ◌∙◌}
 use Rattle.warc_journal.specs.Journals.{disk_of, texts}
 use Rattle.warc_journal.specs.Texts.{with_more}
 use Rattle.warc_journal.specs.declared.place.Place.{Place}
@@ -87,3 +87,11 @@ returns-clause-placed g c told =
     c.args.spots.now.items c.keep.new.spots.items c.standing-spot.result c.requires.spots (c.requires.placed told)
     (c.in_ok-place.ensures.text (c.requires.holds.tells told) ∙ ap (λ (t : List ℕ). with_more all t) given)
     c.in_ok-place.ensures.stored c.keep.ensures.spots is_spot
+
+pub returns-clause-kept : goal.returns-clause-kept
+returns-clause-kept g c =
+    let is_spot : c.standing-spot.result ≡ spot_in c.args.self.now c.args.ready =
+    c.standing-spot.ensures
+    ∙ ap (λ (s : Spot). record s { volume = c.in_ok-place.place.volume; at = c.in_ok-place.place.at; head_at = c.in_ok-place.place.at + c.args.ready.layout.head_at }) c.requires.ready.kept
+    ∙ ap (λ (p : Place). spot_of (stored_in c.args.ready.stored) c.args.ready.digest p.volume p.at (p.at + c.args.ready.layout.head_at)) c.in_ok-place.ensures.place in
+    c.keep.ensures.spots ∙ ap (λ (s : Spot). c.args.spots.now.items ++ s ∷ []) is_spot
