@@ -105,7 +105,7 @@ numbered q view form number asks wanted (inl (other, past, none)) =
     let below : number < length (captures view.book) = subst (λ (f : Form). HasWanted view (question_of f)) same wanted in
     let bad : ⊥ = omega (arith, below, past) in
     absurd bad
-numbered q view form number asks wanted (inr (other, past)) =
+numbered q view form number asks wanted (inr (other, past, none)) =
     let same : form ≡ Ship number = one_form (parts_at q.address) form (Ship number) asks.is other.is in
     let below : number ≤ length (captures view.book) = subst (λ (f : Form). HasWanted view (question_of f)) same wanted in
     let bad : ⊥ = omega (arith, below, past) in

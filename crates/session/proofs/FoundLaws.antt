@@ -39,12 +39,13 @@ pub found_replayed : (terms : Terms) (alone : Bool) (q : SiteRequest) (sought : 
     (mid is : Contents) → ReachesJust q mid.shown sought number → LeadsShown alone mid.shown is.shown
     → Brings is number (Ok brought) → is.tells ≡ terms.tells
     → IsReplayed terms q (record { book = is.seen; shown = mid.shown; dialer_faults = faults; disk_faults = disk }) (ForNearest sought) brought
-found_replayed terms alone q sought number faults disk brought mid is h later (there, replayable, named, known) same = record {
+found_replayed terms alone q sought number faults disk brought mid is h later (there, replayable, named, known, as_shown) same = record {
   number = number;
   wants = record { wanted = h; there = there };
   capture = refl;
   replayable = replayable;
   named = named;
+  as_shown = λ entry shown. as_shown entry (shown_on alone mid.shown is.shown entry later shown);
   brought_is = λ tells. (known (rw same tells)).0;
   agrees = λ tells entry shown at. (known (rw same tells)).1 entry (shown_on alone mid.shown is.shown entry later shown) at;
 }
@@ -52,7 +53,7 @@ found_replayed terms alone q sought number faults disk brought mid is h later (t
 -- or it wasn't brought
 pub found_unbrought : (alone : Bool) (setting : Setting) (q : SiteRequest) (sought : Nearest) (number : ℕ) (fault : BringFault) (asks closes : Bool)
     (result : Result Given Memory) (was mid is : Told) → IsEarlier is.crash → LooksOn alone was mid → FindsJust alone mid.contents q sought number
-    → asks ≡ answers_head q → Brings is.contents number (Err fault) → ReadsOn alone (is_bring_fault (Err fault)) mid is
+    → asks ≡ answers_head q → Brings is.contents number (Err fault) → ReadsOn alone (is_bring_fault {T = Brought} (Err fault)) mid is
     → Declines (refusal_by_bring number fault) asks closes result → AnswersVisit alone setting q closes result was is
 found_unbrought alone setting q sought number (brings.NoSuch count) asks closes result was mid is earlier looks h same b reads declines =
     found_there alone mid.contents is.contents q sought number count h.reaches reads.stays.shown b

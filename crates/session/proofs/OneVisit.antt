@@ -254,7 +254,7 @@ past_number : (terms : Terms) (q : SiteRequest) (view : View) (number count : �
     → Answers terms q view (Refuses (NoSuch number count))
 past_number terms q view number count (inl (asks, past, none), is) =
     Asking (Number number) asks (PastAll (ap (λ n. Refuses (NoSuch number n)) is) past)
-past_number terms q view number count (inr (asks, past), is) =
+past_number terms q view number count (inr (asks, past, none), is) =
     Asking (Ship number) asks (PastNext (ap (λ n. Refuses (NoSuch number n)) is) past)
 
 rejected : (terms : Terms) (q : SiteRequest) (refusal : Refusal) (view : View) → IsTrue terms.tells → is_disk_fault refusal ≡ 0

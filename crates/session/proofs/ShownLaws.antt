@@ -1,18 +1,16 @@
 -- What is shown stays, and is replayed.
-use Rattle.std.proofs.Common.{◌≡◌, inl, inr, ℕ, ◌+◌, List, [], ◌∷◌, refl, sym, subst, arith}
+use Rattle.std.proofs.Common.{◌≡◌, ◌≢◌, inl, inr, ℕ, ◌+◌, List, [], ◌∷◌, refl, sym, subst, arith}
 use Rattle.std.specs.Prelude.{Contains}
 use Rattle.std.proofs.lemmas.List.Elements.{Contains-append_left, Contains-append_cases}
 use Rattle.archive_shelf.proofs.CallLaws.{begins_both, leads_begins}
 use Rattle.archive_shelf.specs.Contents.{Begins}
 use Rattle.cdxj_index.specs.Facts.{Facts}
 use Rattle.cdxj_index.specs.OfBook.{IsEntryOf}
+use Rattle.capture.specs.declared.refusal.Refusal.TheVariants.{NoSuch}
 use Rattle.archive_shelf.specs.Answers.{IsBrought}
-use Rattle.replay_url.proofs.OneForm.{one_form}
-use Rattle.replay_url.specs.Address.{parts_at}
-use Rattle.replay_url.specs.declared.form.Form.TheVariants.{Number, Ship}
 use Rattle.session.specs.Laws.{FoundCapturesAreReplayed, ShownNumbersAreThere}
-use Rattle.session.specs.Rounds.{Round, Outcome, IsCourse, IsDecided}
-use Rattle.session.specs.SiteAnswers.{SiteRequest, Asks, IsPast}
+use Rattle.session.specs.Rounds.{Round, Outcome, IsCourse, IsDecided, Visited}
+use Rattle.session.specs.SiteAnswers.{SiteRequest, IsPast, Refuses, HasNoMore}
 use Rattle.session.specs.Traces.{Terms, View}
 use Rattle.session.proofs.GrowingLaws.{decided_leaves, leaves_shows}
 use Rattle.session.proofs.StayLaws.{IsIn, lawful_in, only_this}
@@ -41,20 +39,16 @@ shown_in terms served was (r ∷ rounds) is x (lawful, leads, knows, last, other
 still_shown : (a b : List Facts) (entry : Facts) → Begins a b → Contains a entry → Contains b entry
 still_shown a b entry h there = rw h.joined (Contains-append_left a h.rest entry there)
 
-no_piece : {P : Type 0} (n : ℕ) → Number n ≡ Ship n → P
-no_piece n e = let bad : ⊥ = cc in absurd bad
-
-not_past : {P : Type 0} (q : SiteRequest) (view : View) (entry : Facts) → Asks q (Number entry.number) → Contains view.shown entry
-    → IsPast q view entry.number → P
-not_past q view entry asks there (inl (other, past, none)) = absurd (none entry there refl)
-not_past q view entry asks there (inr (other, past)) =
-    let same : Number entry.number ≡ Ship entry.number = one_form (parts_at q.address) (Number entry.number) (Ship entry.number) asks.is other.is in
-    no_piece entry.number same
+not_past : (q : SiteRequest) (view : View) (entry : Facts) → Contains view.shown entry → IsPast q view entry.number → ⊥
+not_past q view entry there (inl (asks, past, none)) = none entry there refl
+not_past q view entry there (inr (asks, past, none)) = none entry there refl
 
 pub shown_there : ShownNumbersAreThere
-shown_there terms served was rounds is r q count entry course there shown asks refused =
+shown_there terms served was rounds is r q count entry course there shown =
     let found : IsIn terms r = lawful_in terms served was rounds is r course there in
-    let decided = subst (λ (o : Outcome). IsDecided terms r o) refused found.lawful.decided in
-    not_past q r.traces.before entry asks
-    (still_shown was.shown r.traces.before.shown entry (shown_in terms served was rounds is r course there) shown)
-    decided.2.0
+    let decided : (o : Outcome) → r.outcome ≡ o → IsDecided terms r o = λ o same. subst (λ (o : Outcome). IsDecided terms r o) same found.lawful.decided in
+    let still : Contains r.traces.before.shown entry
+    = still_shown was.shown r.traces.before.shown entry (shown_in terms served was rounds is r course there) shown in (
+      λ refused. not_past q r.traces.before entry still (decided (Visited q (Refuses (NoSuch entry.number count))) refused).2.0,
+      λ more. (decided (Visited q (HasNoMore entry.number)) more).2.none entry still refl,
+    )

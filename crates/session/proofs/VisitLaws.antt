@@ -10,7 +10,7 @@ use Rattle.archive_shelf.proofs.CallLaws.{reads_itself, shown_itself, stays_tell
 use Rattle.archive_shelf.specs.Answers.{Brings, CountsIf, IsDamaged, is_bring_fault}
 use Rattle.archive_shelf.specs.Contents.{Contents, LeadsShown, Shows}
 use Rattle.archive_shelf.specs.Openings.{IsEarlier}
-use Rattle.archive_shelf.specs.Pieces.{GivesPiece, is_piece_fault}
+use Rattle.archive_shelf.specs.Pieces.{GivesPiece}
 use Rattle.archive_shelf.specs.Told.{ReadsOn, Told}
 use Rattle.archive_shelf.specs.declared.fault.BringFault.{BringFault}
 use Rattle.archive_shelf.specs.declared.fault.BringFault.TheVariants as brings
@@ -314,12 +314,13 @@ brought_visits alone setting q reply fault was is h met unshown by = record {
 pub number_replayed : (terms : Terms) (q : SiteRequest) (number : ℕ) (brought : Brought) (is : Contents) (faults disk : ℕ) → Asks q (Number number)
     → Brings is number (Ok brought) → is.tells ≡ terms.tells
     → IsReplayed terms q (record { book = is.seen; shown = is.shown; dialer_faults = faults; disk_faults = disk }) (ForNumber number) brought
-number_replayed terms q number brought is faults disk asks (there, replayable, named, known) same = record {
+number_replayed terms q number brought is faults disk asks (there, replayable, named, known, shown) same = record {
   number = number;
   wants = record { wanted = (asks, refl); there = there };
   capture = refl;
   replayable = replayable;
   named = named;
+  as_shown = shown;
   brought_is = λ tells. (known (rw same tells)).0;
   agrees = λ tells. (known (rw same tells)).1;
 }
@@ -364,7 +365,7 @@ lacking_bring alone setting q closes (Err memory) was is earlier h err = bring_l
 -- a capture with this number, which wasn't brought
 pub unbrought_answers : (alone : Bool) (setting : Setting) (q : SiteRequest) (number : ℕ) (fault : BringFault) (asks closes : Bool)
     (result : Result Given Memory) (was is : Told) → IsEarlier is.crash → Asks q (Number number) → asks ≡ answers_head q
-    → Brings is.contents number (Err fault) → ReadsOn alone (is_bring_fault (Err fault)) was is
+    → Brings is.contents number (Err fault) → ReadsOn alone (is_bring_fault {T = Brought} (Err fault)) was is
     → Declines (refusal_by_bring number fault) asks closes result → AnswersVisit alone setting q closes result was is
 unbrought_answers alone setting q number (brings.NoSuch count) asks closes result was is earlier asked same h reads declines =
     bring_answers alone setting q (Refuses (NoSuch number count)) closes false result was is earlier reads refl refl
@@ -390,7 +391,7 @@ unbrought_answers alone setting q number brings.Memory asks closes result was is
 -- or its piece
 pub unshipped_answers : (alone : Bool) (setting : Setting) (q : SiteRequest) (number : ℕ) (fault : BringFault) (asks closes : Bool)
     (result : Result Given Memory) (was is : Told) → IsEarlier is.crash → Asks q (Ship number) → asks ≡ answers_head q
-    → GivesPiece is.contents number (Err fault) → ReadsOn alone (is_piece_fault (Err fault)) was is
+    → GivesPiece is.contents number (Err fault) → ReadsOn alone (is_bring_fault {T = List ℕ} (Err fault)) was is
     → DeclinesPiece number fault asks closes result → IfOk result (λ answer. answer.closes ≡ closes)
     → AnswersVisit alone setting q closes result was is
 unshipped_answers alone setting q number (brings.NoSuch count) asks closes result was is earlier asked same h reads declines closed =
@@ -401,11 +402,11 @@ unshipped_answers alone setting q number (brings.NoSuch count) asks closes resul
       by_test true e text =
           let next : number ≡ count = eqb-true number count e in
           bring_answers alone setting q (HasNoMore number) closes false result was is earlier reads refl refl
-          (λ faults. record { asks = asked; next = next ∙ h.0 }) text closed
+          (λ faults. record { asks = asked; next = next ∙ h.0; none = h.2 }) text closed
       by_test false e refuses =
           let other : number ≢ count = eqb-false number count e in
           bring_answers alone setting q (Refuses (NoSuch number count)) closes false result was is earlier reads refl refl
-          (λ faults. (inr (asked, omega (arith, h.0, h.1, other)), h.0))
+          (λ faults. (inr (asked, omega (arith, h.0, h.1, other), h.2), h.0))
           (refusal_is result (NoSuch number count) asks (answers_head q) closes same refuses.text_is) closed
 unshipped_answers alone setting q number brings.DiskFault asks closes result was is earlier asked same h reads declines closed =
     bring_answers alone setting q (Refuses DiskFault) closes true result was is earlier reads refl refl

@@ -25,8 +25,7 @@ use Rattle.capture.specs.declared.refusal.Refusal.TheVariants.{NoSuch}
 use Rattle.cdxj_index.specs.Facts.{Facts}
 use Rattle.cdxj_index.specs.OfBook.{IsEntryOf}
 use Rattle.replay_url.specs.Questions.{Nearest, ForNearest}
-use Rattle.replay_url.specs.declared.form.Form.TheVariants.{Number}
-use Rattle.session.specs.SiteAnswers.{SiteRequest, Refuses, Asks, Reaches, IsReplayed}
+use Rattle.session.specs.SiteAnswers.{SiteRequest, Refuses, HasNoMore, Reaches, IsReplayed}
 
 -- the book only grows, from round to round and over a course
 abbrev pub CoursesGrow : Type 0
@@ -112,9 +111,9 @@ FoundCapturesAreReplayed =
     → IsReplayed terms q view (ForNearest sought) brought → IsTrue terms.tells
     → (entry : Facts) × Reaches q view.shown sought entry × IsEntryOf view.book entry.number entry × IsBrought view.book entry.number brought
 
--- a number under which an entry was shown is told as that of no capture in no later round, also in company
+-- a number under which an entry was shown is told as that of no capture, nor as that of the next piece, in no later round, also in company
 abbrev pub ShownNumbersAreThere : Type 0
 ShownNumbersAreThere =
     (terms : Terms) (served : ℕ) (was : View) (rounds : List Round) (is : View) (r : Round) (q : SiteRequest) (count : ℕ) (entry : Facts)
-    → IsCourse terms served was rounds is → Contains rounds r → Contains was.shown entry → Asks q (Number entry.number)
-    → r.outcome ≢ Visited q (Refuses (NoSuch entry.number count))
+    → IsCourse terms served was rounds is → Contains rounds r → Contains was.shown entry
+    → (r.outcome ≢ Visited q (Refuses (NoSuch entry.number count))) × (r.outcome ≢ Visited q (HasNoMore entry.number))

@@ -1,8 +1,8 @@
 -- A request to the archive's own site, and how it is answered (RFC 7089, sections 2 to 5). Refusals come in this order: for the
 -- method, for the address, for the date or the query that is asked for, for want of a capture, for the disk.
 use Rattle.std.specs.Prelude.{◌≡◌, ◌≢◌, ◌⊎◌, ℕ, ◌<◌, ◌≤◌, Bool, true, false, ◌||◌, List, [], ◌++◌, length, map, codes, bytes_eq, Contains, Option, Some, None, IsTrue, ⊤, slice_get}
-use Rattle.archive_shelf.specs.Answers.{IsBrought, IsDamaged, IsNamed, IsReplayable, KeepsPayloadOf}
-use Rattle.archive_shelf.specs.Pieces.{IsPiece, IsSomePiece}
+use Rattle.archive_shelf.specs.Answers.{BringsAsShown, IsBrought, IsDamaged, IsNamed, IsReplayable, KeepsPayloadOf}
+use Rattle.archive_shelf.specs.Pieces.{IsPiece, IsShownPiece}
 use Rattle.archive_shelf.specs.Queries.{ArePicked}
 use Rattle.capture.specs.Captures.{captures}
 use Rattle.capture.specs.Fields.{values_of}
@@ -148,11 +148,11 @@ abbrev pub ShowsNone : View → ℕ → Type 0
 ShowsNone view number = (entry : Facts) → Contains view.shown entry → entry.number ≢ number
 
 -- The number that is asked for is that of no capture of the book, nor of one that is shown; or it is that of no piece, nor of the next
--- one, which is still to come.
+-- one, which is still to come, and nothing is shown under it.
 abbrev pub IsPast : SiteRequest → View → ℕ → Type 0
 IsPast q view number =
     (Asks q (Number number) × (length (captures view.book) ≤ number) × ShowsNone view number)
-    ⊎ (Asks q (Ship number) × (length (captures view.book) < number))
+    ⊎ (Asks q (Ship number) × (length (captures view.book) < number) × ShowsNone view number)
 
 -- the damaged capture: the one whose piece is asked for, or the one that keeps the payload
 abbrev pub IsDamagedIn : View → Question → ℕ → ℕ → Type 0
@@ -186,13 +186,15 @@ asks_for_capture (ForNearest sought) = true
 asks_for_capture (ForNumber number) = true
 asks_for_capture other = false
 
--- the capture that was wanted is replayed
+-- The capture that was wanted is replayed. Whatever is told, it is what each entry tells that is shown under its number: its target, its date
+-- and the digest of its payload.
 pub record IsReplayed (terms : Terms) (q : SiteRequest) (view : View) (question : Question) (brought : Brought) : Type 0 where
   pub number : ℕ
   pub wants : Wants q view question number
   pub capture : asks_for_capture question ≡ true
   pub replayable : IsReplayable brought
   pub named : IsNamed view.book number brought
+  pub as_shown : BringsAsShown view.shown number brought
   pub brought_is : IsTrue terms.tells → IsBrought view.book number brought
   pub agrees : IsTrue terms.tells → AgreesAt view number
 
@@ -209,16 +211,17 @@ pub record IsFoundBy (q : SiteRequest) (view : View) (query : Query) (found : Li
   pub asks : AsksQuery q query
   pub answers : IsAnswer query view.shown found
 
--- the piece of the capture with this number is shipped
+-- The piece of the capture with this number is shipped. Whatever is told, its group tells the digest of each entry that is shown under the number.
 pub record IsShipped (terms : Terms) (q : SiteRequest) (view : View) (number : ℕ) (piece : List ℕ) : Type 0 where
   pub wants : Wants q view (ForPiece number) number
-  pub some : IsSomePiece view.book number piece
+  pub some : IsShownPiece view.book view.shown number piece
   pub piece_is : IsTrue terms.tells → IsPiece view.book number piece
 
--- the piece that is asked for is the next one, which is still to come
+-- the piece that is asked for is the next one, which is still to come: nothing is shown under its number
 pub record IsNext (q : SiteRequest) (view : View) (number : ℕ) : Type 0 where
   pub asks : Asks q (Ship number)
   pub next : number ≡ length (captures view.book)
+  pub none : ShowsNone view number
 
 -- a redirect leads to the capture that is nearest, unless the address names its date
 pub record IsRedirected (q : SiteRequest) (view : View) (sought : Nearest) (entry : Facts) : Type 0 where
