@@ -57,7 +57,11 @@ entry_for : (line : Line) (n : ℕ) → line.number ≡ n → (entry : Option Fa
 entry_for line n is None enters = tt
 entry_for line n is (Some e) enters = record {
   number_is = ap (λ (f : Facts). f.number) enters.2 ∙ is;
-  named = record { uri = ap (λ (f : Facts). f.uri) enters.2; date = ap (λ (f : Facts). f.date) enters.2 };
+  named = record {
+    uri = ap (λ (f : Facts). f.uri) enters.2;
+    date = ap (λ (f : Facts). f.date) enters.2;
+    digest = ap (λ (f : Facts). f.digest) enters.2;
+  };
 }
 
 pub more_captures : (was is : Gathered) (stored : Stored) (line : Line) → IsSteady was → line.number ≡ length was.spots.items → 0 < length (book_of was.held).volumes

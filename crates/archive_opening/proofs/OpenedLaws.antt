@@ -1,10 +1,16 @@
 -- What was read to its end is what is opened.
 use Rattle.std.proofs.Common.{◌≡◌, ◌≢◌, ℕ, zero, suc, ◌+◌, ◌^◌, ◌<◌, ◌≤◌, IsTrue, List, [], length, refl, sym, ap, subst, ◌∙◌, ⊎_elim, arith, length-append}
-use Rattle.std.specs.Prelude.{IfOk, Option, Some, None, Result, Ok, Err, slice_index_or}
+use Rattle.std.specs.Prelude.{Contains, IfOk, Option, Some, None, Result, Ok, Err, slice_get, slice_index_or}
 use Rattle.std.proofs.lemmas.Bool.{cases_lt}
-use Rattle.std.proofs.lemmas.Option.{get_or_from_slice_get}
+use Rattle.std.proofs.lemmas.Option.{get_or_from_slice_get, same_Some}
+use Rattle.sha1.specs.Sha1.{sha1}
+use Rattle.capture.proofs.PayloadLaws.{captures_have_one}
+use Rattle.capture.specs.Captures.{IsPayloadOf}
 use Rattle.capture.specs.declared.book.Book.{Book}
 use Rattle.capture.specs.declared.book.Volume.{Volume}
+use Rattle.capture.specs.declared.captured.Stored.{Stored}
+use Rattle.cdxj_index.specs.Facts.{Facts}
+use Rattle.cdxj_index.specs.OfBook.{AreEntries, IsEntryOf}
 use Rattle.disk_model.specs.Crash.{Leaves}
 use Rattle.disk_model.specs.Image.{Image}
 use Rattle.disk_model.proofs.MomentLaws.{none_added}
@@ -26,15 +32,34 @@ use Rattle.warc_text.specs.StandsFor.{StandsFor}
 use Rattle.archive_opening.proofs.FollowingLaws.{rests_on}
 use Rattle.archive_opening.proofs.KnownLaws.{none_made}
 use Rattle.archive_opening.proofs.RefusalLaws.{none_joined}
-use Rattle.archive_opening.specs.Gathering.{HasAll, IsGathered, IsOpened, IsSteady}
+use Rattle.archive_opening.specs.Gathering.{AreNamed, HasAll, IsGathered, IsNamedAs, IsOpened, IsSteady}
 use Rattle.archive_volumes.specs.Held.{book_of}
 use Rattle.archive_opening.specs.Opening.{IsCause, IsDamageIn, IsIn, IsOther, IsOtherIn, IsReadRefusal}
 use Rattle.archive_opening.specs.Reading.{IsRead}
 use Rattle.archive_volumes.proofs.BringLaws.{within_of}
-use Rattle.archive_volumes.specs.Spots.{ArePlaced, AreWithin}
+use Rattle.archive_volumes.specs.Spots.{ArePlaced, AreSpotsOf, AreWithin, IsPlaced, IsSpotOf}
 use Rattle.archive_volumes.specs.Volumes.{IsMeasured}
 use Rattle.archive_opening.specs.declared.gathered.Gathered.{Gathered}
 use Rattle.archive_opening.specs.declared.opening.Opened.{Opened}
+use Rattle.archive_volumes.specs.declared.spot.Spot.{Spot}
+
+-- an entry of a book tells what is kept of its capture
+named_as : (texts : List (List ℕ)) (book : Book) (entry : Facts) (spot : Spot) → IsEntryOf book entry.number entry → IsSpotOf book entry.number spot
+    → IsPlaced texts book entry.number spot → IsNamedAs spot entry
+named_as texts book entry spot of is placed =
+    let same : of.group.stored ≡ is.stored = same_Some of.group.stored is.stored (sym of.group.placed ∙ is.placed) in
+    let has : IsPayloadOf book entry.number of.group.payload =
+    record { stored = of.group.stored; placed = of.group.placed; by_kept = of.group.payload_is } in
+    record {
+      uri = of.uri_is ∙ ap (λ (s : Stored). s.uri) same ∙ sym is.uri;
+      date = of.date_is ∙ ap (λ (s : Stored). s.date) same ∙ sym is.date;
+      digest = of.digest_is ∙ ap sha1 (captures_have_one book entry.number of.group.payload placed.payload has placed.has) ∙ sym placed.digest;
+    }
+
+named_all : (texts : List (List ℕ)) (book : Book) (spots : List Spot) (entries : List Facts) → AreSpotsOf book spots → ArePlaced texts book spots
+    → AreEntries book entries → AreNamed spots entries
+named_all texts book spots entries are placed of entry has spot at =
+    named_as texts book entry spot (of.of_book.each entry has) (are.each entry.number spot at) (placed.each entry.number spot at)
 
 -- nothing was done on a disk
 pub rests_itself : {D : Type 0} (d : Ghosts D) (disk other : D) → other ≡ disk → Rests d disk other
@@ -110,6 +135,7 @@ module _ {D : Type 0} (d : Ghosts D) (s : Scanning D) (g : Gathered) (all : HasA
     };
     sound = gathered.read.sound;
     entries = gathered.entries_are;
+    named = named_all all.follows.texts (book_of other.held) other.spots.items other.entries.items gathered.spots_are gathered.placed gathered.entries_are;
     all_read = gathered.all_read;
     stands = λ told. record { texts = all.follows.texts; are = gathered.read.are; held = all.held told };
     in_namespace = in_it;
@@ -125,6 +151,7 @@ opened_on d disk mid asked opened rests steady_count is = record {
   usable = is.usable;
   sound = is.sound;
   entries = is.entries;
+  named = is.named;
   all_read = is.all_read;
   stands = λ told. subst (λ (i : Image). StandsFor (warc_files i) (book_of opened.gathered.held)) (rests told).read (is.stands told);
   in_namespace = is.in_namespace;

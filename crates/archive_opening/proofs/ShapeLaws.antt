@@ -47,9 +47,9 @@ use Rattle.archive_volumes.specs.declared.spot.Form.TheVariants as forms
 use Rattle.archive_volumes.specs.declared.spot.Spot.{Spot}
 use Rattle.archive_opening.proofs.PlaceLaws.{first_within}
 use Rattle.archive_opening.proofs.TakeLaws.{get_before, sorted_push}
-use Rattle.archive_opening.specs.Gathering.{HasAdded, IsSteady}
+use Rattle.archive_opening.specs.Gathering.{HasAdded, IsNamedAs, IsSteady}
 use Rattle.archive_opening.specs.Noting.{IsNoted, IsWithin, record_at, referring}
-use Rattle.archive_opening.specs.Telling.{AreFilledBefore, AreNumbered, AreRequested, HasTakenOne, IsMadeUp, IsNamedAs, RefersAt}
+use Rattle.archive_opening.specs.Telling.{AreFilledBefore, AreNumbered, AreRequested, HasTakenOne, IsMadeUp, RefersAt}
 use Rattle.archive_opening.specs.declared.gathered.Gathered.{Gathered}
 use Rattle.archive_opening.specs.declared.noting.Noted.{Noted}
 
@@ -132,7 +132,7 @@ last_some (v ∷ []) stored some (suc k) volume last at none = omega (arith, las
 last_some (v ∷ w ∷ others) stored some zero volume last at none = omega (arith, last, same_length (w ∷ others) stored)
 last_some (v ∷ w ∷ others) stored some (suc k) volume last at none = last_some (w ∷ others) stored (omega arith) k volume (omega (arith, last)) at none
 
--- a capture's entry has its number, its target and its date
+-- a capture's entry has its number, its target, its date and its digest
 pub record IsEntryFor (number : ℕ) (spot : Spot) (entry : Facts) : Type 0 where
   pub number_is : entry.number ≡ number
   pub named : IsNamedAs spot entry
@@ -366,5 +366,6 @@ module _ (was is : Gathered) (place : Place) (group : Group) (namespace : List �
         named = record {
           uri = enters.uri ∙ ap (λ (s : Stored). s.uri) n.stored;
           date = enters.date ∙ ap (λ (s : Stored). s.date) n.stored;
+          digest = enters.digest;
         };
       }

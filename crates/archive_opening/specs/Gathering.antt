@@ -1,5 +1,5 @@
 -- What is gathered of the volumes that were read: their book, what is kept of its captures, and their entries.
-use Rattle.std.specs.Prelude.{◌≡◌, ◌≢◌, ℕ, ◌+◌, ◌-◌, ◌^◌, ◌<◌, Bool, true, false, All, IsFalse, IsTrue, List, [], ◌∷◌, ◌++◌, length, slice_get, slice_index_or, option_to_list, IfNone, IfSome, Option, Some, None, ⊤}
+use Rattle.std.specs.Prelude.{◌≡◌, ◌≢◌, ℕ, ◌+◌, ◌-◌, ◌^◌, ◌<◌, Bool, true, false, All, Contains, IsFalse, IsTrue, List, [], ◌∷◌, ◌++◌, length, slice_get, slice_index_or, option_to_list, IfNone, IfSome, Option, Some, None, ⊤}
 use Rattle.capture.specs.Captures.{KeepsPayload, captures}
 use Rattle.capture.specs.declared.book.Book.{Book}
 use Rattle.capture.specs.declared.captured.Stored.{Stored}
@@ -60,6 +60,16 @@ pub record IsInStepWith (book : Book) (spots : List Spot) (table : Table) (lengt
 -- each capture's group was read
 abbrev pub AreAllRead : List Spot → Type 0
 AreAllRead spots = All GroupWasRead spots
+
+-- an entry tells the target, the date and the digest that are kept of its capture
+pub record IsNamedAs (spot : Spot) (entry : Facts) : Type 0 where
+  pub uri : entry.uri ≡ spot.uri
+  pub date : entry.date ≡ spot.date
+  pub digest : entry.digest ≡ spot.digest
+
+-- so does each of these entries
+abbrev pub AreNamed : List Spot → List Facts → Type 0
+AreNamed spots entries = (entry : Facts) → Contains entries entry → (spot : Spot) → slice_get spots entry.number ≡ Some spot → IsNamedAs spot entry
 
 -- they tell of the book whose texts these are; where none is known, each capture was read
 pub record TellsOf (known : Option Book) (book : Book) (texts : List (List ℕ)) (spots : List Spot) (lengths : List ℕ) (entries : List Facts) : Type 0 where
@@ -198,6 +208,7 @@ pub record IsOpened {D : Type 0} (d : Ghosts D) (disk : D) (asked : Option (List
   pub usable : IsUsable d d.tells opened
   pub sound : IsSound (book_of opened.gathered.held)
   pub entries : AreEntries (book_of opened.gathered.held) opened.gathered.entries.items
+  pub named : AreNamed opened.gathered.spots.items opened.gathered.entries.items
   pub all_read : AreAllRead opened.gathered.spots.items
   pub stands : IsTrue d.tells → StandsFor (warc_files (d.reading disk)) (book_of opened.gathered.held)
   pub in_namespace : IsIn asked (book_of opened.gathered.held)

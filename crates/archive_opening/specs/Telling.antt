@@ -29,7 +29,7 @@ use Rattle.archive_shelf.specs.Openings.{ImageStandsFor, SameBook}
 use Rattle.archive_volumes.specs.Held.{book_of}
 use Rattle.archive_volumes.specs.Lines.{told_spot}
 use Rattle.archive_volumes.specs.Spots.{AreHeldWhole, AreSpotsOf, AreWithin, is_told_form}
-use Rattle.archive_opening.specs.Gathering.{Follows, HasAll, IsGathered, IsSteady, IsUsable, left}
+use Rattle.archive_opening.specs.Gathering.{AreNamed, Follows, HasAll, IsGathered, IsSteady, IsUsable, left}
 use Rattle.archive_shelf.specs.declared.fault.ReopenFault.{ReopenFault}
 use Rattle.archive_opening.specs.Opening.{IsIn, IsOutside}
 use Rattle.archive_opening.specs.declared.telling.Step.{Step}
@@ -91,16 +91,11 @@ pub record IsOfLine (image : Image) (spot : Spot) : Type 0 where
 abbrev pub AreReadOrTold : Image → List Spot → Type 0
 AreReadOrTold image spots = All (λ spot. is_told_form spot.form ≡ true → IsOfLine image spot) spots
 
--- an entry tells the target and the date that are kept of its capture
-pub record IsNamedAs (spot : Spot) (entry : Facts) : Type 0 where
-  pub uri : entry.uri ≡ spot.uri
-  pub date : entry.date ≡ spot.date
-
--- the entries are in order of their numbers, which are those of captures, and tell their targets and dates
+-- the entries are in order of their numbers, which are those of captures, and tell their targets, dates and digests
 pub record AreNumbered (g : Gathered) : Type 0 where
   pub in_order : IsStrictlySortedBy by_number g.entries.items
   pub below : (entry : Facts) → Contains g.entries.items entry → entry.number < length (captures (book_of g.held))
-  pub named : (entry : Facts) → Contains g.entries.items entry → (spot : Spot) → slice_get g.spots.items entry.number ≡ Some spot → IsNamedAs spot entry
+  pub named : AreNamed g.spots.items g.entries.items
 
 -- the book has the request of each capture that was read
 pub record AreRequested (g : Gathered) : Type 0 where
@@ -230,7 +225,7 @@ pub record IsOpenedBy {D : Type 0} (d : Ghosts D) (disk : D) (asked : Option (Li
   pub usable : IsUsable d (is_some known) opened
   pub known_is : IfSome known (λ book. SameBook (book_of opened.gathered.held) book)
   pub entries : IfSome known (λ _. AreEntries (book_of opened.gathered.held) opened.gathered.entries.items)
-  -- whatever the disk tells, the entries are in order of their numbers, which are those of captures, and tell their targets and dates
+  -- whatever the disk tells, the entries are in order of their numbers, which are those of captures, and tell what is kept of those
   pub numbered : AreNumbered opened.gathered
   -- and the book has the request of each capture that was read
   pub requested : AreRequested opened.gathered
