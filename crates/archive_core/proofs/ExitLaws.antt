@@ -47,7 +47,7 @@ use Rattle.archive_core.proofs.FinishedLaws.{ready_grows, room_grows}
 use Rattle.archive_core.specs.Finished.{FirstAreFinished}
 use Rattle.archive_core.specs.Holdings.{AreLimits, Holdings, IsArchive, contents_of}
 use Rattle.archive_core.specs.Looking.{IsDigestOf, RefersTo}
-use Rattle.archive_volumes.specs.Ready.{CanCommit, Incoming, IsReady, record_in}
+use Rattle.archive_volumes.specs.Ready.{CanCommit, Incoming, IsReady, record_in, spot_in}
 use Rattle.archive_core.specs.Shown.{numbered, numbers_from}
 use Rattle.archive_volumes.specs.Spots.{AreHeldWhole, ArePlaced, AreSpotsOf, AreWithin, text_at, whole_from}
 use Rattle.archive_core.specs.Stores.{FillsVolumes, Stores}
@@ -69,6 +69,7 @@ use Rattle.archive_volumes.proofs.StoreLaws.{quiet_itself, store_covered, store_
 use Rattle.archive_core.proofs.StoredLaws.{archive_left, archive_stored}
 use Rattle.archive_volumes.proofs.TakenGroup.{IsGroupWith}
 use Rattle.archive_volumes.proofs.WayLaws.{by_rule, group_with, needed_by, room_captures, room_gains, room_namespace, room_some, way}
+use Rattle.archive_core.proofs.NamedLaws.{behind_new, named_after, named_same, numbered_new}
 
 -- ---- without memory: all is as it was, but for what is reserved
 
@@ -94,6 +95,7 @@ module _ {D : Type 0} (d : Ghosts D) (was is : Holdings D) (journal_is : is.jour
         spots = subst (λ (l : List Spot). AreSpotsOf is.book l) (sym spots_are) (subst (λ (b : Book). AreSpotsOf b was.spots) (sym book_is) archive.spots);
         table = kept ∙ archive.table ∙ sym (ap (λ (l : List Spot). whole_from 0 l) spots_are);
         indexed = subst IsIndex (sym index_is) archive.indexed;
+        named = named_same was.spots is.spots was.index is.index archive.named spots_are index_is;
         within = λ tells. subst (λ (l : List Spot). AreWithin (texts d is.journal) l) (sym spots_are)
             (subst (λ (j : Journal D). AreWithin (texts d j) was.spots) (sym journal_is) (archive.within tells));
         placed = λ told. subst (λ (l : List Spot). ArePlaced (texts d is.journal) is.book l) (sym spots_are)
@@ -333,21 +335,12 @@ module _ {D : Type 0} (d : Ghosts D) (basis : StoringBasis) (was : Holdings D) (
 
   module _ (at : RecordAt) (n : ℕ) (at_is : at ≡ record_in now ready n) (n_is : n ≡ length (captures (book_of now.held))) (entry : Option Facts)
       (enters : (h : grammar.ResponseHead) → IsResponseHeadText (stored_in ready.stored).head h → EntersAs (stored_in ready.stored) h at entry) where
-    number_by : (e : Option Facts) → EntersAs (stored_in ready.stored) u.has.parsed at e → IfSome e (λ (f : Facts). f.number ≡ length (captures (book_of now.held)))
-    number_by None is = tt
-    number_by (Some e) is = is.number ∙ ap (λ (a : RecordAt). a.number) at_is ∙ n_is
-
-    numbered_so : IfSome entry (λ (f : Facts). f.number ≡ length (captures (book_of now.held)))
-    numbered_so = number_by entry (enters u.has.parsed ready_head)
-
-    behind_by : (e : Option Facts) → IfSome e (λ (f : Facts). f.number ≡ length (captures (book_of now.held)))
-        → IfSome e (λ (f : Facts). (other : Facts) → Contains was.index other → other.number < f.number)
-    behind_by None is = tt
-    behind_by (Some e) is = λ other has. omega (arith, u.is.counted.below other has, is)
+    numbered_so : IfSome entry (λ (f : Facts). f.number ≡ number)
+    numbered_so = numbered_new now ready at n at_is number n_is u.has.parsed entry (enters u.has.parsed ready_head)
 
     -- the entry stands behind all others
     pub entry_behind : IfSome entry (λ (e : Facts). (other : Facts) → Contains was.index other → other.number < e.number)
-    entry_behind = behind_by entry numbered_so
+    entry_behind = behind_new was.index number u.is.counted.below entry numbered_so
 
     -- ---- the index with it is that of the book
 
@@ -426,13 +419,14 @@ module _ {D : Type 0} (d : Ghosts D) (basis : StoringBasis) (was : Holdings D) (
             (λ (more : after ≡ room). ap (λ (b : Book). captures b) more ∙ room_captures book ready.prepared)
             left
 
-        pub refused_archive : {T E : Type 0} (fault : E)
+        pub refused_archive : {T E : Type 0} (fault : E) → spots ≡ was.spots
             → Writes {T = T} {E = E} (muted was.told d) (disk_of now.journal) (disk_of journal) (book_of now.held) (with_prepared (book_of now.held) ready.prepared)
             (with_capture (with_prepared (book_of now.held) ready.prepared) (stored_in ready.stored)) after (Err fault)
             → IsArchive d (record was { journal = journal; book = after; table = table; index = index; spots = spots })
-        refused_archive fault writes =
+        refused_archive fault kept writes =
             archive_left d (in_volumes was now) u.is journal after table holds measured (room_grows book after ready.prepared left) writes.kept index spots captures_stay index_stays table_is spots_are within placed made
             (λ told. known_left basis.stay basis.itself book after ready.prepared was.index left (u.is.known told))
+            (named_same was.spots spots was.index index u.is.named kept index_stays)
 
         pub refused_stores : {T E : Type 0} (fault : E)
             → Writes {T = T} {E = E} (muted was.told d) (disk_of now.journal) (disk_of journal) (book_of now.held) (with_prepared (book_of now.held) ready.prepared)
@@ -492,12 +486,12 @@ module _ {D : Type 0} (d : Ghosts D) (basis : StoringBasis) (was : Holdings D) (
         gains : captures after ≡ captures book ++ stored ∷ []
         gains = ap (λ (b : Book). captures b) stored_is ∙ room_gains book ready.prepared stored some
 
-        pub stored_archive : {T E : Type 0} (value : T)
+        pub stored_archive : {T E : Type 0} (value : T) → spots ≡ was.spots ++ spot_in now ready ∷ []
             → Writes {T = T} {E = E} (muted was.told d) (disk_of now.journal) (disk_of journal) (book_of now.held) (with_prepared (book_of now.held) ready.prepared)
             (with_capture (with_prepared (book_of now.held) ready.prepared) (stored_in ready.stored)) after (Ok value)
             → IsIndex index → revisits ≡ was.revisits + (if is_some incoming.same then 1 else 0)
             → IsArchive d (record was { journal = journal; book = after; table = table; index = index; spots = spots; revisits = revisits })
-        stored_archive value writes indexed more =
+        stored_archive value kept writes indexed more =
             archive_stored d (in_volumes was now) u.is journal after table holds measured
             (subst (Grows book) (sym with_it) (ready_grows book ready.prepared (stored_in ready.stored))) writes.kept stored index spots revisits gains u.not_full
             (subst (λ (l : List Facts). (l ≡ was.index) ⊎ ((e : Facts) × (e.number ≡ number) × (l ≡ with_entry e was.index))) (sym index_is)
@@ -507,6 +501,8 @@ module _ {D : Type 0} (d : Ghosts D) (basis : StoringBasis) (was : Holdings D) (
             table_is spots_are within placed made
             (λ told. subst (λ (b : Book). AreOf b index) (sym with_it)
             (subst (λ (l : List Facts). AreOf (with_capture room (stored_in ready.stored)) l) (sym index_is) (known_after told)))
+            (named_after now ready at n at_is u.has.parsed entry (enters u.has.parsed ready_head) was.spots was.index u.is.named number u.is.spots.count u.is.counted.below
+            numbered_so spots index kept index_is)
 
         has_stored : (receipt : Receipt) → receipt.number ≡ number → receipt.same_as ≡ incoming.same
             → HasStored true incoming.taken before

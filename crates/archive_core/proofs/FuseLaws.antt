@@ -19,6 +19,7 @@ fused_is held calls is = record {
   spots = is.spots;
   table = is.table;
   indexed = is.indexed;
+  named = is.named;
   within = is.within;
   placed = is.placed;
   made = is.made;

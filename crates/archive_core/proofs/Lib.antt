@@ -15,6 +15,7 @@ pub mod KnownLaws
 pub mod MadeLaws
 pub mod MatchLaws
 pub mod MissingLaws
+pub mod NamedLaws
 pub mod NamespaceLaws
 pub mod NextLaws
 pub mod PayloadLaws

@@ -14,7 +14,7 @@ use Rattle.capture.specs.declared.captured.Kept.TheVariants as keeps
 use Rattle.capture.specs.declared.captured.Stored.{Stored}
 use Rattle.capture.specs.declared.limits.Limits.{Limits}
 use Rattle.cdxj_index.specs.Facts.{Facts}
-use Rattle.cdxj_index.specs.OfBook.{AreEntries, AreOf, IsEntryOf, by_number}
+use Rattle.cdxj_index.specs.OfBook.{AreEntries, AreOf, by_number}
 use Rattle.cdxj_index.specs.Queries.{IsIndex}
 use Rattle.disk_model.specs.Crash.{Leaves}
 use Rattle.disk_model.specs.declared.disk.Disk.{Ghosts}
@@ -23,17 +23,17 @@ use Rattle.warc_journal.specs.Journals.{disk_of, texts}
 use Rattle.warc_journal.specs.declared.journal.Journal.{Journal}
 use Rattle.archive_shelf.specs.Storing.{is_revisit}
 use Rattle.archive_core.proofs.ArchiveLaws.{entries_shown}
-use Rattle.archive_opening.specs.Gathering.{AreAllRead, GroupWasRead, IsInStepWith, IsUsable}
+use Rattle.archive_opening.specs.Gathering.{AreAllRead, AreNamed, GroupWasRead, IsInStepWith, IsUsable}
 use Rattle.archive_volumes.proofs.ChooseLaws.{there_is}
 use Rattle.archive_volumes.specs.Held.{book_of}
 use Rattle.archive_core.specs.Finished.{AreLinedTo, FirstAreFinished, HasCheckpoint}
 use Rattle.archive_core.specs.Holdings.{AreLimits, IsArchive}
 use Rattle.archive_core.specs.Shown.{numbered}
-use Rattle.archive_volumes.specs.Spots.{AreHeldWhole, ArePlaced, AreSpotsOf, AreWithin, IsSpotOf, form_of, is_same_form, is_told_form}
+use Rattle.archive_volumes.specs.Spots.{AreHeldWhole, ArePlaced, AreSpotsOf, AreWithin, form_of, is_same_form, is_told_form}
 use Rattle.archive_volumes.specs.Volumes.{HoldsBook, IsMeasured}
 use Rattle.archive_opening.specs.declared.opening.Opened.{Opened}
 use Rattle.archive_volumes.specs.declared.spot.Spot.{Spot}
-use Rattle.archive_opening.specs.Telling.{AreNumbered, IsNamedAs}
+use Rattle.archive_opening.specs.Telling.{AreNumbered}
 use Rattle.archive_core.specs.Reopening.{AreFinishedAsTold, NamesCapture}
 use Rattle.archive_core.proofs.ShownLaws.{shown_from}
 use Rattle.archive_opening.specs.declared.gathered.Gathered.{Gathered}
@@ -128,26 +128,17 @@ none_lined d opened read spot one told =
 abbrev pub HaveNumbers : Book → List Spot → List Facts → Type 0
 HaveNumbers book spots entries =
     IsStrictlySortedBy by_number entries × ((entry : Facts) → Contains entries entry → entry.number < length (captures book))
-    × ((entry : Facts) → Contains entries entry → (spot : Spot) → slice_get spots entry.number ≡ Some spot → IsNamedAs spot entry)
+    × AreNamed spots entries
 
--- an entry of a capture tells what is kept of it
-named_as : (book : Book) (entry : Facts) (spot : Spot) → IsEntryOf book entry.number entry → IsSpotOf book entry.number spot → IsNamedAs spot entry
-named_as book entry spot of is =
-    let same : of.group.stored ≡ is.stored = same_Some of.group.stored is.stored (sym of.group.placed ∙ is.placed) in
-    record {
-      uri = of.uri_is ∙ ap (λ (s : Stored). s.uri) same ∙ sym is.uri;
-      date = of.date_is ∙ ap (λ (s : Stored). s.date) same ∙ sym is.date;
-    }
-
--- the entries of a book are such
-pub numbered_of : (gathered : Gathered) → AreSpotsOf (book_of gathered.held) gathered.spots.items
-    → AreEntries (book_of gathered.held) gathered.entries.items → AreNumbered gathered
-numbered_of gathered spots are = record {
+-- the entries of a book are such, where they tell what is kept of its captures
+pub numbered_of : (gathered : Gathered) → AreEntries (book_of gathered.held) gathered.entries.items → AreNamed gathered.spots.items gathered.entries.items
+    → AreNumbered gathered
+numbered_of gathered are named = record {
   in_order = are.in_order;
   below = λ entry has.
       let of = are.of_book.each entry has in
       slice_get_within (captures (book_of gathered.held)) entry.number of.group.stored of.group.placed;
-  named = λ entry has spot at. named_as (book_of gathered.held) entry spot (are.of_book.each entry has) (spots.each entry.number spot at);
+  named = named;
 }
 
 -- entries of a book, as they are taken out
@@ -225,6 +216,7 @@ module _ {D : Type 0} (d : Ghosts D) (told : Bool) (journal : Journal D) (book :
     spots = parts.1;
     table = parts.0.table_is;
     indexed = is;
+    named = λ entry has. parts.2.2 entry (gathered_too entry has);
     within = parts.4;
     placed = parts.5;
     made = parts.6;

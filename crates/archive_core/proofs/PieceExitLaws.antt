@@ -41,7 +41,7 @@ use Rattle.archive_opening.specs.Reading.{Laws}
 use Rattle.archive_volumes.proofs.WayLaws.{room_captures, room_gains}
 use Rattle.archive_volumes.specs.Entries.{EntersAs, IsEntryAt, entered}
 use Rattle.archive_volumes.specs.Held.{book_of, stored_in}
-use Rattle.archive_volumes.specs.Ready.{CanCommit, record_in}
+use Rattle.archive_volumes.specs.Ready.{CanCommit, record_in, spot_in}
 use Rattle.archive_volumes.specs.Spots.{AreHeldWhole, ArePlaced, AreSpotsOf, AreWithin, IsPlaced, spot_of, text_at, whole_from}
 use Rattle.archive_volumes.specs.Volumes.{HoldsBook, IsMeasured, muted}
 use Rattle.archive_volumes.specs.Writing.{Writes, end_with, texts_with, with_prepared}
@@ -64,6 +64,7 @@ use Rattle.archive_core.proofs.FinishedLaws.{ready_grows, room_grows}
 use Rattle.archive_core.proofs.PieceReadyLaws.{HasRoomBy, can_commit_piece, good_group, good_place, good_target}
 use Rattle.archive_core.proofs.ReadyLaws.{with_count, with_end}
 use Rattle.archive_core.proofs.StoredLaws.{archive_left, archive_stored}
+use Rattle.archive_core.proofs.NamedLaws.{behind_new, named_after, named_same, numbered_new}
 
 -- ---- without memory
 
@@ -231,21 +232,12 @@ module _ {D : Type 0} (d : Ghosts D) (basis : StoringBasis) (reading : Laws) (wa
 
   module _ (at : RecordAt) (n : ℕ) (at_is : at ≡ record_in now ready n) (n_is : n ≡ length (captures (book_of now.held))) (entry : Option Facts)
       (enters : (h : grammar.ResponseHead) → IsResponseHeadText (stored_in ready.stored).head h → EntersAs (stored_in ready.stored) h at entry) where
-    number_by : (e : Option Facts) → EntersAs (stored_in ready.stored) head_there.head at e → IfSome e (λ (f : Facts). f.number ≡ length (captures (book_of now.held)))
-    number_by None is = tt
-    number_by (Some e) is = is.number ∙ ap (λ (a : RecordAt). a.number) at_is ∙ n_is
-
-    numbered_so : IfSome entry (λ (f : Facts). f.number ≡ length (captures (book_of now.held)))
-    numbered_so = number_by entry (enters head_there.head ready_head)
-
-    behind_by : (e : Option Facts) → IfSome e (λ (f : Facts). f.number ≡ length (captures (book_of now.held)))
-        → IfSome e (λ (f : Facts). (other : Facts) → Contains was.index other → other.number < f.number)
-    behind_by None is = tt
-    behind_by (Some e) is = λ other has. omega (arith, t.is.counted.below other has, is)
+    numbered_so : IfSome entry (λ (f : Facts). f.number ≡ number)
+    numbered_so = numbered_new now ready at n at_is number n_is head_there.head entry (enters head_there.head ready_head)
 
     -- the entry stands behind all others
     pub entry_behind : IfSome entry (λ (e : Facts). (other : Facts) → Contains was.index other → other.number < e.number)
-    entry_behind = behind_by entry numbered_so
+    entry_behind = behind_new was.index number t.is.counted.below entry numbered_so
 
     -- ---- the index with it is that of the book
 
@@ -356,13 +348,14 @@ module _ {D : Type 0} (d : Ghosts D) (basis : StoringBasis) (reading : Laws) (wa
             (λ (more : after ≡ room). ap (λ (b : Book). captures b) more ∙ room_captures book ready.prepared)
             left
 
-        pub refused_archive : {T E : Type 0} (fault : E)
+        pub refused_archive : {T E : Type 0} (fault : E) → spots ≡ was.spots
             → Writes {T = T} {E = E} (muted was.told d) (disk_of now.journal) (disk_of journal) (book_of now.held) (with_prepared (book_of now.held) ready.prepared)
             (with_capture (with_prepared (book_of now.held) ready.prepared) (stored_in ready.stored)) after (Err fault)
             → IsArchive d (record was { journal = journal; book = after; table = table; index = index; spots = spots })
-        refused_archive fault writes =
+        refused_archive fault kept writes =
             archive_left d (in_volumes was now) t.is journal after table holds measured (room_grows book after ready.prepared left) writes.kept index spots captures_stay index_stays table_is spots_are within placed made
             (λ told. known_left basis.stay basis.itself book after ready.prepared was.index left (t.is.known told))
+            (named_same was.spots spots was.index index t.is.named kept index_stays)
 
         pub refused_puts : {T E : Type 0} (fault : E)
             → Writes {T = T} {E = E} (muted was.told d) (disk_of now.journal) (disk_of journal) (book_of now.held) (with_prepared (book_of now.held) ready.prepared)
@@ -410,12 +403,12 @@ module _ {D : Type 0} (d : Ghosts D) (basis : StoringBasis) (reading : Laws) (wa
         gains : captures after ≡ captures book ++ stored ∷ []
         gains = ap (λ (b : Book). captures b) stored_is ∙ room_gains book ready.prepared stored t.room_is.some
 
-        pub stored_archive : {T E : Type 0} (value : T)
+        pub stored_archive : {T E : Type 0} (value : T) → spots ≡ was.spots ++ spot_in now ready ∷ []
             → Writes {T = T} {E = E} (muted was.told d) (disk_of now.journal) (disk_of journal) (book_of now.held) (with_prepared (book_of now.held) ready.prepared)
             (with_capture (with_prepared (book_of now.held) ready.prepared) (stored_in ready.stored)) after (Ok value)
             → IsIndex index → revisits ≡ was.revisits + (if is_some first then 1 else 0)
             → IsArchive d (record was { journal = journal; book = after; table = table; index = index; spots = spots; revisits = revisits })
-        stored_archive value writes indexed more =
+        stored_archive value kept writes indexed more =
             archive_stored d (in_volumes was now) t.is journal after table holds measured
             (subst (λ (b : Book). Grows book b) (sym with_it) (ready_grows book ready.prepared (stored_in ready.stored))) writes.kept stored index spots revisits gains t.not_full
             (subst (λ (l : List Facts). (l ≡ was.index) ⊎ ((e : Facts) × (e.number ≡ number) × (l ≡ with_entry e was.index))) (sym index_is)
@@ -425,6 +418,8 @@ module _ {D : Type 0} (d : Ghosts D) (basis : StoringBasis) (reading : Laws) (wa
             table_is spots_are within placed made
             (λ told. subst (λ (b : Book). AreOf b index) (sym with_it)
             (subst (λ (l : List Facts). AreOf (with_capture room (stored_in ready.stored)) l) (sym index_is) (known_after told)))
+            (named_after now ready at n at_is head_there.head entry (enters head_there.head ready_head) was.spots was.index t.is.named number t.is.spots.count t.is.counted.below
+            numbered_so spots index kept index_is)
 
         pub stored_puts : {T E : Type 0} (value : T)
             → Writes {T = T} {E = E} (muted was.told d) (disk_of now.journal) (disk_of journal) (book_of now.held) (with_prepared (book_of now.held) ready.prepared)

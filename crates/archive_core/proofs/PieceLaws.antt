@@ -1,6 +1,7 @@
 -- What asking an archive for a piece answers, and how many volumes it has.
-use Rattle.std.proofs.Common.{◌≡◌, ℕ, suc, ◌+◌, ◌-◌, ◌^◌, ◌<◌, ◌≤◌, List, [], ◌∷◌, length, Some, Result, Ok, Err, refl, arith, length-append}
+use Rattle.std.proofs.Common.{◌≡◌, ℕ, suc, ◌+◌, ◌-◌, ◌^◌, ◌<◌, ◌≤◌, List, [], ◌∷◌, length, Some, Result, Ok, Err, refl, sym, ap, ◌∙◌, arith, length-append}
 use Rattle.std.specs.Prelude.{slice_get}
+use Rattle.std.proofs.lemmas.Option.{same_Some}
 use Rattle.capture.specs.Captures.{captures, captures_in}
 use Rattle.capture.specs.declared.book.Book.{Book}
 use Rattle.capture.specs.declared.book.Volume.{Volume}
@@ -9,17 +10,31 @@ use Rattle.warc_journal.specs.declared.journal.Journal.{Journal}
 use Rattle.archive_shelf.specs.Pieces.{GivesPiece}
 use Rattle.archive_shelf.specs.declared.fault.BringFault.{BringFault}
 use Rattle.archive_shelf.specs.declared.fault.BringFault.TheVariants as brings
+use Rattle.archive_volumes.proofs.ChooseLaws.{there_is}
 use Rattle.archive_volumes.specs.KeptGroups.{GivesPieceFrom}
 use Rattle.archive_volumes.specs.Volumes.{IsMeasured}
-use Rattle.archive_core.specs.Holdings.{Holdings, contents_of}
+use Rattle.archive_volumes.specs.declared.spot.Spot.{Spot}
+use Rattle.archive_core.proofs.NamedLaws.{digest_shown}
+use Rattle.archive_core.specs.Bringing.{PieceTellsKept}
+use Rattle.archive_core.specs.Holdings.{Holdings, IsArchive, contents_of}
 
-pub gives_by : {D : Type 0} (d : Ghosts D) (held : Holdings D) (number : ℕ) (result : Result (List ℕ) BringFault) → number < length (captures held.book)
-    → GivesPieceFrom held.told held.book number result → GivesPiece (contents_of held) number result
-gives_by d held number (Ok bytes) less from = (less, from.0, from.1)
-gives_by d held number (Err (brings.NoSuch count)) less from = absurd from
-gives_by d held number (Err brings.DiskFault) less from = less
-gives_by d held number (Err (brings.Damaged at kept found)) less from = (less, from.0, from.1)
-gives_by d held number (Err brings.Memory) less from = tt
+pub gives_by : {D : Type 0} (d : Ghosts D) (held : Holdings D) (number : ℕ) (result : Result (List ℕ) BringFault) → IsArchive d held
+    → number < length (captures held.book) → GivesPieceFrom held.told held.book number result → PieceTellsKept held number result
+    → GivesPiece (contents_of held) number result
+gives_by d held number (Ok bytes) is less from tells =
+    let one = there_is held.spots number (omega (arith, less, is.spots.count)) in
+    let by = tells one.0 one.1 in (
+      less,
+      record {
+        piece = by.piece;
+        digest = digest_shown d held number is by.piece.digest (λ spot at. by.is ∙ ap (λ (s : Spot). s.digest) (same_Some one.0 spot (sym one.1 ∙ at)));
+      },
+      from.1,
+    )
+gives_by d held number (Err (brings.NoSuch count)) is less from tells = absurd from
+gives_by d held number (Err brings.DiskFault) is less from tells = less
+gives_by d held number (Err (brings.Damaged at kept found)) is less from tells = (less, from.0, from.1)
+gives_by d held number (Err brings.Memory) is less from tells = tt
 
 -- ---- how many volumes there are
 

@@ -1,6 +1,6 @@
 -- An archive after a call that only reads its disk.
-use Rattle.std.proofs.Common.{◌≡◌, ℕ, ◌<◌, ◌≤◌, IsTrue, List, Result, Ok, Err, sym, ap, subst, ◌∙◌, arith}
-use Rattle.std.specs.Prelude.{count_by, length}
+use Rattle.std.proofs.Common.{◌≡◌, ℕ, ◌<◌, ◌≤◌, IsTrue, List, Some, Result, Ok, Err, sym, ap, subst, ◌∙◌, arith}
+use Rattle.std.specs.Prelude.{count_by, length, slice_get}
 use Rattle.capture.proofs.GrowthLaws.{grows_from_itself}
 use Rattle.capture.specs.Captures.{captures}
 use Rattle.capture.specs.declared.book.Book.{Book}
@@ -29,6 +29,9 @@ use Rattle.archive_volumes.specs.Volumes.{HoldsBook, IsMeasured, IsQuiet}
 use Rattle.archive_volumes.specs.declared.volumes.Volumes.{Volumes}
 use Rattle.archive_core.proofs.ShownLaws.{shown_from}
 use Rattle.archive_core.proofs.TellingLaws.{quiet_muted}
+use Rattle.archive_core.proofs.NamedLaws.{as_shown}
+use Rattle.archive_volumes.specs.Digests.{BringsDigest}
+use Rattle.archive_volumes.specs.declared.spot.Spot.{Spot}
 
 module _ {D : Type 0} (d : Ghosts D) (held : Holdings D) (old new : Volumes D)
     (journal_is : held.journal ≡ old.journal) (book_is : held.book ≡ book_of old.held) (reads : OnlyReads d old new) where
@@ -60,6 +63,7 @@ module _ {D : Type 0} (d : Ghosts D) (held : Holdings D) (old new : Volumes D)
     spots = subst (λ (b : Book). AreSpotsOf b held.spots) (sym same_book) is.spots;
     table = is.table;
     indexed = is.indexed;
+    named = is.named;
     within = λ tells. subst (λ (all : List (List ℕ)). AreWithin all held.spots) (sym (same_texts tells)) (is.within tells);
     placed = λ told. subst (λ (b : Book). ArePlaced (texts d new.journal) b held.spots) (sym same_book)
         (subst (λ (all : List (List ℕ)). ArePlaced all held.book held.spots) (sym (same_texts (is.holds.tells told))) (is.placed told));
@@ -98,10 +102,11 @@ none_shown d held number is above entry has same =
 -- what bringing a capture that is there answers
 pub brings_by : {D : Type 0} (d : Ghosts D) (held : Holdings D) (number : ℕ) (result : Result Brought BringFault) → IsArchive d held
     → number < length (captures held.book) → BringsFrom held.told held.book number result
+    → ((spot : Spot) → slice_get held.spots number ≡ Some spot → BringsDigest spot.digest result)
     → Brings (contents_of held) number result
-brings_by d held number (Ok brought) is below answer =
-    (below, answer.0, answer.1, λ told. (answer.2 told, agrees d held number is told))
-brings_by d held number (Err (brings.NoSuch count)) is below answer = absurd answer
-brings_by d held number (Err brings.DiskFault) is below answer = below
-brings_by d held number (Err (brings.Damaged at kept found)) is below answer = (below, answer.0, answer.1, answer.2)
-brings_by d held number (Err brings.Memory) is below answer = tt
+brings_by d held number (Ok brought) is below answer own =
+    (below, answer.0, answer.1, (λ told. (answer.2 told, agrees d held number is told)), as_shown d held number is brought answer.1 own)
+brings_by d held number (Err (brings.NoSuch count)) is below answer own = absurd answer
+brings_by d held number (Err brings.DiskFault) is below answer own = below
+brings_by d held number (Err (brings.Damaged at kept found)) is below answer own = (below, answer.0, answer.1, answer.2)
+brings_by d held number (Err brings.Memory) is below answer own = tt

@@ -78,6 +78,7 @@ stays_archive d entries_stay was journal book is holds measured same grows kept 
   spots = spots_stay was.book book same grows was.spots is.spots;
   table = is.table;
   indexed = is.indexed;
+  named = is.named;
   within = λ tells. within_stay (texts d was.journal) (texts d journal) (on tells) was.spots (is.within tells);
   placed = λ told. placed_stay (texts d was.journal) (texts d journal) (on (is.holds.tells told)) was.book book []
       (same ∙ sym (append-nil (captures was.book))) grows was.spots (is.placed told);

@@ -60,6 +60,7 @@ module _ {D : Type 0} (d : Ghosts D) (laws : DiskLaws d) (base : Holdings D) (ol
     spots = is.spots;
     table = is.table;
     indexed = is.indexed;
+    named = is.named;
     within = λ tells. subst (λ (all : List (List ℕ)). AreWithin all base.spots) (sym (texts_kept d laws base.told old new keeps tells)) (is.within tells);
     placed = λ told. subst (λ (all : List (List ℕ)). ArePlaced all (book_of old.held) base.spots)
         (sym (texts_kept d laws base.told old new keeps (is.holds.tells told))) (is.placed told);

@@ -22,6 +22,7 @@ use Rattle.archive_core.specs.Holdings.{Holdings, IsArchive}
 use Rattle.archive_volumes.specs.Spots.{AreHeldWhole, ArePlaced, AreSpotsOf, AreWithin, whole_from}
 use Rattle.archive_volumes.specs.Volumes.{HoldsBook, IsMeasured, crash_of, muted}
 use Rattle.archive_volumes.specs.declared.spot.Spot.{Spot}
+use Rattle.archive_opening.specs.Gathering.{AreNamed}
 
 one_more : (b : Bool) (n : ℕ) → n + (cond b 1 0 + 0) ≡ n + (if b then 1 else 0)
 one_more true n = omega arith
@@ -44,8 +45,8 @@ module _ {D : Type 0} (d : Ghosts D) (was : Holdings D) (is : IsArchive d was) (
       → table.kept ≡ whole_from 0 spots → AreSpotsOf now spots
       → (IsTrue d.tells → AreWithin (texts d journal) spots)
       → (IsTrue was.told → ArePlaced (texts d journal) now spots) → (IsFalse was.told → AreHeldWhole now spots) → (IsTrue was.told → AreOf now was.index)
-      → IsArchive d (record was { journal = journal; book = now; table = table; index = index; spots = spots })
-  archive_left index spots same stays kept are within placed made known =
+      → AreNamed spots index → IsArchive d (record was { journal = journal; book = now; table = table; index = index; spots = spots })
+  archive_left index spots same stays kept are within placed made known named =
       let count : length (captures now) ≡ length (captures was.book) = ap (λ (l : List Stored). length l) same in
       record {
         holds = holds;
@@ -61,6 +62,7 @@ module _ {D : Type 0} (d : Ghosts D) (was : Holdings D) (is : IsArchive d was) (
         spots = are;
         table = kept;
         indexed = subst IsIndex (sym stays) is.indexed;
+        named = named;
         within = within;
         placed = placed;
         made = made;
@@ -76,8 +78,8 @@ module _ {D : Type 0} (d : Ghosts D) (was : Holdings D) (is : IsArchive d was) (
       → table.kept ≡ whole_from 0 spots → AreSpotsOf now spots
       → (IsTrue d.tells → AreWithin (texts d journal) spots)
       → (IsTrue was.told → ArePlaced (texts d journal) now spots) → (IsFalse was.told → AreHeldWhole now spots) → (IsTrue was.told → AreOf now index)
-      → IsArchive d (record was { journal = journal; book = now; table = table; index = index; spots = spots; revisits = revisits })
-  archive_stored stored index spots revisits gains not_full entered indexed more kept are within placed made known =
+      → AreNamed spots index → IsArchive d (record was { journal = journal; book = now; table = table; index = index; spots = spots; revisits = revisits })
+  archive_stored stored index spots revisits gains not_full entered indexed more kept are within placed made known named =
       let count : length (captures now) ≡ length (captures was.book) + 1 =
       ap (λ (l : List Stored). length l) gains ∙ length-append (captures was.book) (stored ∷ []) in
       record {
@@ -104,6 +106,7 @@ module _ {D : Type 0} (d : Ghosts D) (was : Holdings D) (is : IsArchive d was) (
         spots = are;
         table = kept;
         indexed = indexed;
+        named = named;
         within = within;
         placed = placed;
         made = made;

@@ -19,6 +19,7 @@ use Rattle.archive_core.specs.Shown.{numbered, numbers_from}
 use Rattle.archive_volumes.specs.Spots.{AreHeldWhole, ArePlaced, AreSpotsOf, AreWithin, whole_from}
 use Rattle.archive_volumes.specs.Volumes.{HoldsBook, IsMeasured}
 use Rattle.archive_volumes.specs.declared.spot.Spot.{Spot}
+use Rattle.archive_opening.specs.Gathering.{AreNamed}
 
 -- What an archive holds: the journal of its volumes and their book, the index, the table of digests, what is kept of each
 -- capture, its limits, how many captures it found when it was opened, how many refer to another one, how many of the first volumes are
@@ -61,6 +62,7 @@ pub record IsArchive {D : Type 0} (d : Ghosts D) (held : Holdings D) : Type 0 wh
   pub spots : AreSpotsOf held.book held.spots
   pub table : held.table.kept ≡ whole_from 0 held.spots
   pub indexed : IsIndex held.index
+  pub named : AreNamed held.spots held.index
   pub within : IsTrue d.tells → AreWithin (texts d held.journal) held.spots
   pub placed : IsTrue held.told → ArePlaced (texts d held.journal) held.book held.spots
   pub made : IsFalse held.told → AreHeldWhole held.book held.spots

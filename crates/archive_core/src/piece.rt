@@ -1,8 +1,8 @@
 //! The piece of a capture by its number.
 ghost use Rattle.warc_journal.specs.Journals.{disk_of};
-ghost use Rattle.archive_shelf.specs.Answers.{CountsIf};
+ghost use Rattle.archive_shelf.specs.Answers.{CountsIf, is_bring_fault};
 ghost use Rattle.archive_shelf.specs.Digests.{PieceGoesByDigest};
-ghost use Rattle.archive_shelf.specs.Pieces.{GivesPiece, is_piece_fault};
+ghost use Rattle.archive_shelf.specs.Pieces.{GivesPiece};
 ghost use Rattle.archive_core.specs.Bringing.{PieceTellsKept};
 ghost use Rattle.archive_core.specs.Holdings.{contents_of};
 ghost use Rattle.archive_core.specs.Looking.{OnlyLooks};
@@ -20,7 +20,7 @@ impl<D: Disk> Archive<D> {
         ensures kept { PieceTellsKept self.old number result }
         ensures digests { PieceGoesByDigest self.new.book number result }
         ensures looks { OnlyLooks D.Disk self.old self.new }
-        ensures faults { CountsIf (is_piece_fault result) (D.faults (disk_of self.old.journal)) (D.faults (disk_of self.new.journal)) }
+        ensures faults { CountsIf (is_bring_fault result) (D.faults (disk_of self.old.journal)) (D.faults (disk_of self.new.journal)) }
     {
         let count = self.spots.len() as u32;
         if number >= count {

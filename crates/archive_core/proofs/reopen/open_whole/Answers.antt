@@ -17,7 +17,7 @@ archive_of-requires-clause-usable g c =
     subst (λ (told : Bool). IsUsable g.D.Disk told c.in-Ok.opened) (sym c.told_by-told.ensures) c.in-Ok.ensures.opened.usable
 
 pub archive_of-requires-clause-numbered : goal.archive_of-requires-clause-numbered
-archive_of-requires-clause-numbered g c = numbered_of c.in-Ok.opened.gathered c.in-Ok.ensures.opened.usable.spots c.in-Ok.ensures.opened.entries
+archive_of-requires-clause-numbered g c = numbered_of c.in-Ok.opened.gathered c.in-Ok.ensures.opened.entries c.in-Ok.ensures.opened.named
 
 pub archive_of-requires-clause-entries : goal.archive_of-requires-clause-entries
 archive_of-requires-clause-entries g c = λ so. c.in-Ok.ensures.opened.entries

@@ -57,6 +57,7 @@ returns-clause-brings g c =
     (laws.reads_archive g.D.Disk (holdings_of c.self.inside) c.self.inside.volumes c.bring.new.self refl refl c.bring.ensures.reads c.self.invariant)
     (subst (λ (b : Book). c.args.number < length (captures b)) (sym same) (omega (arith, many, c.self.invariant.spots.count, c.if-number-count.false)))
     (subst (λ (b : Book). BringsFrom c.self.inside.told.value b c.args.number c.bring.result) (sym same) c.bring.ensures.brings)
+    (λ spot at. c.bring.ensures.own spot (ap (λ (l : List Spot). slice_get l c.args.number) c.as_slice.ensures.value ∙ at))
 
 pub returns-clause-names : goal.returns-clause-names
 returns-clause-names g c =

@@ -1,15 +1,15 @@
-use Rattle.std.proofs.Common.{rules, ◌≡◌, ◌<◌, List, refl, sym, ap, subst, ◌∙◌, arith}
+use Rattle.std.proofs.Common.{rules, ◌≡◌, ◌<◌, ◌≤◌, List, refl, sym, ap, subst, ◌∙◌, arith}
 use Rattle.std.specs.Prelude.{length, slice_get}
 use Rattle.capture.specs.Captures.{captures}
 use Rattle.capture.specs.declared.book.Book.{Book}
 use Rattle.archive_shelf.specs.Digests.{PieceGoesByDigest}
 use Rattle.archive_volumes.specs.Held.{book_of}
-use Rattle.archive_volumes.specs.KeptGroups.{GivesPieceFrom}
+use Rattle.archive_volumes.specs.KeptGroups.{GivesPieceFrom, PieceGoesByKept}
 use Rattle.warc_journal.specs.Journals.{texts}
 use Rattle.archive_volumes.specs.Spots.{ArePlaced, AreWithin}
 use Rattle.archive_volumes.specs.declared.spot.Spot.{Spot}
 use Rattle.archive_core.specs.Bringing.{PieceTellsKept}
-use Rattle.archive_core.specs.Holdings.{Holdings}
+use Rattle.archive_core.specs.Holdings.{Holdings, IsArchive}
 use Rattle.archive_core.specs.Looking.{OnlyLooks}
 use Rattle.archive_core.specs.View.{holdings_of}
 use Rattle.archive_core.proofs.PieceLaws.{gives_by}
@@ -18,10 +18,12 @@ use Rattle.archive_core.proofs.archive.Archive.piece_numbered.Goals as goal
 
 pub returns-then-number-count-clause-gives : goal.returns-then-number-count-clause-gives
 returns-then-number-count-clause-gives g c =
+    let is = subst (λ (held : Holdings _). IsArchive g.D.Disk held) c.self.view_is c.self.invariant in
     let many : c.len-count.result ≡ length c.self.inside.spots.items = search rules in
     let count : c.len-count.result ≡ length (captures c.args.self.now.book) =
     many ∙ subst (λ (held : Holdings _). length c.self.inside.spots.items ≡ length (captures held.book)) c.self.view_is c.self.invariant.spots.count in
-    (count, c.if-number-count.true)
+    let above : length (captures c.args.self.now.book) ≤ c.args.number = omega (arith, count, c.if-number-count.true) in
+    (count, c.if-number-count.true, laws.none_shown g.D.Disk c.args.self.now c.args.number is above)
 
 pub piece-requires-clause-holds : goal.piece-requires-clause-holds
 piece-requires-clause-holds g c =
@@ -47,8 +49,11 @@ returns-clause-gives g c =
     let same = laws.same_book g.D.Disk (holdings_of c.self.inside) c.self.inside.volumes c.piece.new.self refl refl c.piece.ensures.reads in
     gives_by g.D.Disk (record (holdings_of c.self.inside) { journal = c.piece.new.self.journal; book = book_of c.piece.new.self.held })
     c.args.number c.piece.result
+    (laws.reads_archive g.D.Disk (holdings_of c.self.inside) c.self.inside.volumes c.piece.new.self refl refl c.piece.ensures.reads c.self.invariant)
     (subst (λ (b : Book). c.args.number < length (captures b)) (sym same) (omega (arith, many, c.self.invariant.spots.count, c.if-number-count.false)))
     (subst (λ (b : Book). GivesPieceFrom c.self.inside.told.value b c.args.number c.piece.result) (sym same) c.piece.ensures.gives)
+    (λ spot at. subst (λ (b : Book). PieceGoesByKept b c.args.number spot.digest c.piece.result) (sym same)
+    (c.piece.ensures.kept spot (ap (λ (l : List Spot). slice_get l c.args.number) c.as_slice.ensures.value ∙ at)))
 
 pub returns-clause-digests : goal.returns-clause-digests
 returns-clause-digests g c =

@@ -1,4 +1,4 @@
-use Rattle.std.proofs.Common.{rules, ◌≡◌, ◌+◌, ℕ, List, length, Some, Ok, Err, refl, sym, ap, subst, ◌∙◌, arith}
+use Rattle.std.proofs.Common.{rules, ◌≡◌, ◌+◌, ℕ, List, length, Some, Ok, Err, refl, sym, ap, subst, ◌∙◌, arith, ◌++◌, [], ◌∷◌}
 use Rattle.std.specs.Prelude.{is_some}
 use Rattle.capture.specs.Captures.{captures}
 use Rattle.capture.specs.Message.{IsResponseHeadText}
@@ -21,6 +21,7 @@ use Rattle.archive_pieces.specs.declared.fault.PieceFault.TheVariants as pieces
 use Rattle.archive_core.proofs.ExitLaws as exits
 use Rattle.archive_core.proofs.PieceExitLaws as laws
 use Rattle.archive_core.proofs.archive.Archive.put_piece.Goals as goal
+use Rattle.archive_volumes.specs.Ready.{spot_in}
 
 pub make_piece_ready-requires-clause-holds : goal.make_piece_ready-requires-clause-holds
 make_piece_ready-requires-clause-holds g c =
@@ -353,7 +354,7 @@ invariant_of-self-in-Err g c =
     c.commit.ensures.holds c.commit.ensures.measured c.commit.ensures.table c.commit.ensures.spots c.commit.ensures.within c.commit.ensures.placed
     (λ untold. c.commit.ensures.made (subst (λ (l : List Spot). AreHeldWhole (book_of now.held) l) (sym c.reserve_kept.ensures.spots) (t.is.made untold)))
     c.commit.ensures.others
-    c.in-Err.ensures.left back c.in-Err.field-0 c.in-Err.ensures.writes
+    c.in-Err.ensures.left back c.in-Err.field-0 (c.in-Err.ensures.unkept ∙ c.reserve_kept.ensures.spots) c.in-Err.ensures.writes
 
 pub returns-clause-puts : goal.returns-clause-puts
 returns-clause-puts g c =
@@ -429,7 +430,8 @@ invariant_of-self-in-Ok g c =
     c.commit.ensures.holds c.commit.ensures.measured c.commit.ensures.table c.commit.ensures.spots c.commit.ensures.within c.commit.ensures.placed
     (λ untold. c.commit.ensures.made (subst (λ (l : List Spot). AreHeldWhole (book_of now.held) l) (sym c.reserve_kept.ensures.spots) (t.is.made untold)))
     c.commit.ensures.others
-    (c.self.inside.revisits + c.revisits_in.result) c.in-Ok.ensures.stored c.in_ok-enter.ensures.entered c.in-Ok.field-0 c.in-Ok.ensures.writes c.enter.ensures.indexed more
+    (c.self.inside.revisits + c.revisits_in.result) c.in-Ok.ensures.stored c.in_ok-enter.ensures.entered c.in-Ok.field-0
+    (c.in-Ok.ensures.kept ∙ ap (λ (l : List Spot). l ++ spot_in now ready ∷ []) c.reserve_kept.ensures.spots) c.in-Ok.ensures.writes c.enter.ensures.indexed more
 
 pub returns-in-Ok-clause-puts : goal.returns-in-Ok-clause-puts
 returns-in-Ok-clause-puts g c =

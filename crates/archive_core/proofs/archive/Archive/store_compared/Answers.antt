@@ -1,4 +1,4 @@
-use Rattle.std.proofs.Common.{rules, ◌≡◌, ◌+◌, ℕ, List, length, Some, Ok, Err, refl, sym, ap, subst, ◌∙◌, arith}
+use Rattle.std.proofs.Common.{rules, ◌≡◌, ◌+◌, ℕ, List, length, Some, Ok, Err, refl, sym, ap, subst, ◌∙◌, arith, ◌++◌, [], ◌∷◌}
 use Rattle.std.specs.Prelude.{is_some}
 use Rattle.capture.specs.Captures.{captures}
 use Rattle.capture.specs.Message.{IsResponseHeadText}
@@ -17,7 +17,7 @@ use Rattle.archive_volumes.specs.Held.{book_of, stored_in}
 use Rattle.archive_core.specs.Holdings.{Holdings, contents_of}
 use Rattle.archive_core.specs.Looking.{RefersTo}
 use Rattle.archive_volumes.specs.Spots.{AreHeldWhole, ArePlaced, AreSpotsOf, AreWithin, whole_from}
-use Rattle.archive_volumes.specs.Ready.{incoming_of}
+use Rattle.archive_volumes.specs.Ready.{incoming_of, spot_in}
 use Rattle.archive_core.specs.Stores.{Stores}
 use Rattle.archive_core.specs.View.{holdings_of}
 use Rattle.archive_volumes.specs.declared.spot.Spot.{Spot}
@@ -308,7 +308,7 @@ invariant_of-self-in-Err g c =
     c.commit.ensures.holds c.commit.ensures.measured c.commit.ensures.table c.commit.ensures.spots c.commit.ensures.within c.commit.ensures.placed
     (λ untold. c.commit.ensures.made (subst (λ (l : List Spot). AreHeldWhole (book_of now.held) l) (sym c.reserve_kept.ensures.spots) (u.is.made untold)))
     c.commit.ensures.others
-    c.in-Err.ensures.left back c.in-Err.field-0 c.in-Err.ensures.writes
+    c.in-Err.ensures.left back c.in-Err.field-0 (c.in-Err.ensures.unkept ∙ c.reserve_kept.ensures.spots) c.in-Err.ensures.writes
 
 pub returns-in-Err-clause-stores : goal.returns-in-Err-clause-stores
 returns-in-Err-clause-stores g c =
@@ -380,7 +380,8 @@ invariant_of-self-in-Ok g c =
     c.commit.ensures.holds c.commit.ensures.measured c.commit.ensures.table c.commit.ensures.spots c.commit.ensures.within c.commit.ensures.placed
     (λ untold. c.commit.ensures.made (subst (λ (l : List Spot). AreHeldWhole (book_of now.held) l) (sym c.reserve_kept.ensures.spots) (u.is.made untold)))
     c.commit.ensures.others
-    (c.self.inside.revisits + c.revisits_in.result) c.in-Ok.ensures.stored c.in_ok-enter.ensures.entered c.in-Ok.field-0 c.in-Ok.ensures.writes
+    (c.self.inside.revisits + c.revisits_in.result) c.in-Ok.ensures.stored c.in_ok-enter.ensures.entered c.in-Ok.field-0
+    (c.in-Ok.ensures.kept ∙ ap (λ (l : List Spot). l ++ spot_in now ready ∷ []) c.reserve_kept.ensures.spots) c.in-Ok.ensures.writes
     c.enter.ensures.indexed more
 
 pub returns-in-Ok-clause-stores : goal.returns-in-Ok-clause-stores
