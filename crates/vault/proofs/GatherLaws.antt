@@ -116,9 +116,10 @@ module _ (count : ℕ) (source index : List Facts) (has : HasBelow count source 
   to_source e there less = there_by e (with_number e.number source) refl there less
 
 pub gathered_is : (tells : Bool) (book : Book) (source index : List Facts) → HasBelow (length (captures book)) source index → IsIndex index
-    → (IsTrue tells → AreEntries book (numbered source)) → IsGathered tells book index
+    → (IsTrue tells → AreEntries book (numbered source)) → IsGathered tells book source index
 gathered_is tells book source index has of shows = record {
   indexed = of;
+  shown = λ e there. shown_all source e (from_source (length (captures book)) source index has e of there).0;
   below = λ e there. (from_source (length (captures book)) source index has e of there).1;
   of_book = λ told.
       let are = (shows told).of_book in

@@ -70,7 +70,7 @@ sorted_place (Some e) = (tt, tt)
 -- ---- books that have grown
 
 module _ (keeps : GrowthKeepsCaptures) where
-  pub count_grows : (a b : Book) → Grows a b → length (captures a) ≤ length (captures b)
+  count_grows : (a b : Book) → Grows a b → length (captures a) ≤ length (captures b)
   count_grows a b grow =
       let kept = keeps a b grow in omega (arith, ap (λ (l : List Stored). length l) kept.1, length-append (captures a) kept.0)
 

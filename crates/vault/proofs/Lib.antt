@@ -1,3 +1,4 @@
+pub mod AnswerLaws
 pub mod HistoryLaws
 pub mod FaultLaws
 pub mod NotingLaws

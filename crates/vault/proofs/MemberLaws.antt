@@ -9,22 +9,21 @@ use Rattle.capture.specs.declared.captured.Taken.{Taken}
 use Rattle.warc_text.specs.Sound.{IsSound}
 use Rattle.archive_shelf.specs.Answers.{NamesKeeper, is_bring_fault, is_store_fault}
 use Rattle.archive_shelf.specs.Digests.{GoesByDigest, PieceGoesByDigest}
-use Rattle.archive_shelf.specs.Pieces.{GivesPiece, is_piece_fault}
 use Rattle.archive_shelf.specs.Told.{ReadsOn, ShowsItsBook, StoresOn}
 use Rattle.archive_shelf.specs.declared.fault.BringFault.{BringFault}
 use Rattle.archive_shelf.specs.declared.fault.StoreFault.{StoreFault}
 use Rattle.archive_shelf.specs.declared.receipt.Receipt.{Receipt}
 use Rattle.history_lock.specs.Known.{IsSamePass, Known, LockId}
 use Rattle.history_lock.specs.Seen.{Turn}
-use Rattle.vault.specs.Company.{Passing, contents_at, told_at}
-use Rattle.vault.specs.History.{IsBegun, IsOpening, by_of, is_told, told_book, told_in, told_limits}
+use Rattle.vault.specs.Company.{Passing, told_at}
+use Rattle.vault.specs.History.{IsBegun, IsOpening, by_of, is_told, told_book, told_limits}
+use Rattle.vault.specs.Items.{shown_in}
 use Rattle.vault.specs.Members.{AreMembers, AreNewMembers, IsMember, IsMemberAt, IsNewMember, VaultName, name_of}
 use Rattle.vault.specs.Orderly.{IsOrderly}
 use Rattle.vault.specs.Own.{count_faults, own_captures, own_faults}
 use Rattle.vault.specs.Passes.{IsNew}
 use Rattle.vault.specs.Turns.{AddsFaultAlone, BringsIt, GivesIt, StoresBy}
 use Rattle.vault.specs.declared.noted.Noted.{Noted}
-use Rattle.vault.proofs.BringLaws.{gives_as}
 use Rattle.vault.proofs.FaultLaws.{one_if}
 use Rattle.vault.proofs.OrderlyLaws.{fault_at_most, named_begun, new_are_orderly, reads_keep, stores_keep}
 use Rattle.vault.proofs.PassLaws.{all_of}
@@ -191,7 +190,7 @@ module _ (vault : VaultName) (was is : Passing) (same : IsSamePass was.known is.
   at_stores taken result stores = stores_on taken was is same shown (member_begun vault was.known member) member.alone result stores
 
   module _ (number : ℕ) (result : Result Brought BringFault)
-      (turn : Turn by_of was.known is.known.seen (λ found added. BringsIt (is_told was.known.seen) number found added result)) where
+      (turn : Turn by_of was.known is.known.seen (λ found added. BringsIt (is_told was.known.seen) (shown_in is.shown.items) number found added result)) where
     pub bring_member : IsMember vault is.known
     bring_member = member_read vault was.known is.known same member _ (is_bring_fault result) turn (λ found added done. done.adds) (λ found added done. done.sound)
 
@@ -210,21 +209,17 @@ module _ (vault : VaultName) (was is : Passing) (same : IsSamePass was.known is.
     bring_digests = subst (λ (b : Book). GoesByDigest b number result) (sym bring_book) turn.adds.done.digests
 
   module _ (number : ℕ) (result : Result (List ℕ) BringFault)
-      (turn : Turn by_of was.known is.known.seen (λ found added. GivesIt (is_told was.known.seen) number found added result)) where
+      (turn : Turn by_of was.known is.known.seen (λ found added. GivesIt (is_told was.known.seen) (shown_in is.shown.items) number found added result)) where
     pub piece_member : IsMember vault is.known
-    piece_member = member_read vault was.known is.known same member _ (is_piece_fault result) turn (λ found added done. done.adds) (λ found added done. done.sound)
+    piece_member = member_read vault was.known is.known same member _ (is_bring_fault result) turn (λ found added done. done.adds) (λ found added done. done.sound)
 
-    piece_leaves : Leaves was.known.numbers was.known.seen is.known.seen [] (one_if (is_piece_fault result))
-    piece_leaves = read_turn was.known is.known.seen _ (member_begun vault was.known member) member.alone turn (is_piece_fault result) (λ found added done. done.adds)
-
-    pub piece_reads : ReadsOn false (is_piece_fault result) (told_at was) (told_at is)
-    piece_reads = reads_on was is same shown (is_piece_fault result) piece_leaves
+    pub piece_reads : ReadsOn false (is_bring_fault result) (told_at was) (told_at is)
+    piece_reads =
+        reads_on was is same shown (is_bring_fault result)
+        (read_turn was.known is.known.seen _ (member_begun vault was.known member) member.alone turn (is_bring_fault result) (λ found added done. done.adds))
 
     piece_book : told_book is.known.seen ≡ told_book turn.found
-    piece_book = read_book was.known is.known.seen _ (member_begun vault was.known member) member.alone turn (is_piece_fault result) (λ found added done. done.adds)
-
-    pub piece_gives : GivesPiece (contents_at is) number result
-    piece_gives = gives_as (told_in (is_told was.known.seen) turn.found) (contents_at is) piece_book piece_leaves.told number result turn.adds.done.gives
+    piece_book = read_book was.known is.known.seen _ (member_begun vault was.known member) member.alone turn (is_bring_fault result) (λ found added done. done.adds)
 
     pub piece_digests : PieceGoesByDigest (told_book is.known.seen) number result
     piece_digests = subst (λ (b : Book). PieceGoesByDigest b number result) (sym piece_book) turn.adds.done.digests

@@ -1,6 +1,6 @@
 -- The list that is published goes with the archive and its history.
-use Rattle.std.proofs.Common.{◌≡◌, ℕ, ◌+◌, ◌<◌, ◌≤◌, Bool, true, false, not, IsTrue, List, [], ◌∷◌, ◌++◌, length, Result, Ok, Err, refl, sym, ap, subst, ◌∙◌, inl, inr, ⊎_elim, arith}
-use Rattle.std.specs.Prelude.{Contains, Option, Some, None, IfNone, IfSome, option_to_list}
+use Rattle.std.proofs.Common.{append_assoc, ◌≡◌, ℕ, ◌+◌, ◌<◌, ◌≤◌, Bool, true, false, not, IsTrue, List, [], ◌∷◌, ◌++◌, length, Result, Ok, Err, refl, sym, ap, subst, ◌∙◌, inl, inr, ⊎_elim, arith}
+use Rattle.std.specs.Prelude.{Contains, Option, Some, None, IfNone, IfOk, IfSome, option_to_list}
 use Rattle.std.specs.List.Sorted.{IsStrictlySortedBy}
 use Rattle.std.proofs.lemmas.Bool.{cases_lt}
 use Rattle.std.proofs.lemmas.List.{append-nil, length-append}
@@ -29,10 +29,10 @@ use Rattle.index_snapshot.specs.Entries.{IsNew, entries_in}
 use Rattle.index_snapshot.specs.Edges.{Edge}
 use Rattle.index_snapshot.specs.Publishing.{Print, full_of}
 use Rattle.logbook.specs.Pages.{Book as LogBook}
-use Rattle.vault.specs.Guarded.{Publishes, Stands}
+use Rattle.vault.specs.Guarded.{AreShown, KeepsShown, Publishes, Stands}
 use Rattle.vault.specs.History.{IsBegun, Names, after_kind, is_told, told_book}
 use Rattle.vault.specs.Items.{AreItems, GoesBehind, book_in, brings_of, last_book, tells_in}
-use Rattle.vault.specs.Listing.{HasBook, IsCurrent, IsListed}
+use Rattle.vault.specs.Listing.{HasBook, IsListed}
 use Rattle.vault.specs.Taking.{IsGathered, TakesItem}
 use Rattle.vault.specs.Turns.{AddsFaultAlone, CommitAnswers, changes}
 use Rattle.vault.specs.declared.item.Item.{Item}
@@ -58,6 +58,12 @@ items_more : (items : List Item) (item : Item) → 0 < length items → AreItems
 items_more [] item some are goes = absurd (omega (arith, some))
 items_more (first ∷ others) item some are goes =
     (are.0, behind_joined first.told.value (book_in first) (brings_of first) others (item ∷ []) are.1 (goes, tt))
+
+entries_more : (items : List Item) (item : Item) → entries_in brings_of (items ++ item ∷ []) ≡ entries_in brings_of items ++ brings_of item
+entries_more [] item = append-nil (brings_of item)
+entries_more (first ∷ others) item =
+    ap (λ (l : List Facts). brings_of first ++ l) (entries_more others item)
+    ∙ sym (append_assoc (brings_of first) (entries_in brings_of others) (brings_of item))
 
 last_more : (items : List Item) (item : Item) → last_book (items ++ item ∷ []) ≡ book_in item
 last_more [] item = refl
@@ -158,6 +164,12 @@ module _ (keeps : GrowthKeepsCaptures) (itself : GrowsFromItself) {D : Type 0} (
         told = is.told;
         list_told = tells_more print.full item is.some ∙ is.list_told;
         fits = next_fits;
+        shown = λ e has.
+            subst (λ (l : List Facts). Contains l e → Contains (numbered held.index) e) (sym (entries_more print.full item))
+            (λ there. elim (Among-append entries (brings_of item) e (among_from_contains (entries ++ brings_of item) e there)) [
+              | inl a ↦ is.shown e (contains_from_among entries e a)
+              | inr b ↦ in_place place (λ f. Contains (numbered held.index) f) takes.shown e (brought e (contains_from_among (brings_of item) e b))
+            ]) has;
         some = omega (arith, is.some, length-append print.full (item ∷ []));
         grows = subst (λ (b : Book). Grows b held.book) (sym here) (itself held.book);
         count = ap (λ (b : Book). length (captures b)) here ∙ sym count_is;
@@ -226,15 +238,16 @@ not_true false is = refl
 module _ (itself : GrowsFromItself) (goes_on : GrowthGoesOn) {D : Type 0} (history after : List Noted) (held now : Holdings D)
     (print : Print Item) (appended : ℕ) (was : Stands history held) (is : Stands after now) (added : List Noted) (joined : after ≡ history ++ added) where
   -- the book is the same
-  pub publishes_same : (whole : Bool) → Publishes (is_told history) history held print whole appended → told_book (history ++ added) ≡ told_book history
-      → Publishes (is_told after) after now print whole appended
-  publishes_same whole p same =
+  pub publishes_same : (whole : Bool) → Publishes (is_told history) history held print whole appended → KeepsShown held now
+      → told_book (history ++ added) ≡ told_book history → Publishes (is_told after) after now print whole appended
+  publishes_same whole p keeps same =
       let book : now.book ≡ held.book = is.book ∙ (ap told_book joined ∙ (same ∙ sym was.book)) in
       record {
         named = subst (λ (l : List Noted). Names l print.of) (sym joined) (names_append history added print.of p.named);
         told = refl;
         list_told = p.list_told ∙ sym (ap is_told joined ∙ told_stays history added was.begun);
         fits = p.fits;
+        shown = λ e has. keeps e (p.shown e has);
         some = p.some;
         grows = subst (λ (b : Book). Grows (last_book print.full) b) (sym book) p.grows;
         count = p.count;
@@ -243,8 +256,9 @@ module _ (itself : GrowsFromItself) (goes_on : GrowthGoesOn) {D : Type 0} (histo
       }
 
   pub publishes_after : (taken : Taken) (t : Bool) (result : Result Receipt StoreFault) (whole : Bool) → Publishes (is_told history) history held print true appended
-      → CommitAnswers t taken history added result → whole ≡ not (changes result) → Publishes (is_told after) after now print whole appended
-  publishes_after taken t result whole p answers whole_is =
+      → KeepsShown held now → CommitAnswers t taken history added result → whole ≡ not (changes result)
+      → Publishes (is_told after) after now print whole appended
+  publishes_after taken t result whole p keeps answers whole_is =
       let last : last_book print.full ≡ told_book history = p.same refl ∙ was.book in
       let book : now.book ≡ told_book (history ++ added) = is.book ∙ ap told_book joined in
       record {
@@ -252,6 +266,7 @@ module _ (itself : GrowsFromItself) (goes_on : GrowthGoesOn) {D : Type 0} (histo
         told = refl;
         list_told = p.list_told ∙ sym (ap is_told joined ∙ told_stays history added was.begun);
         fits = p.fits;
+        shown = λ e has. keeps e (p.shown e has);
         some = p.some;
         grows = subst (λ (b : Book). Grows b now.book) (sym last) (subst (λ (b : Book). Grows (told_book history) b) (sym book) (told_grows itself goes_on history added was.begun));
         count = p.count;
@@ -274,17 +289,9 @@ listed_now tells history held print whole appended p stands note note_is =
       book = λ t. has_book history print.full p.some (p.same t ∙ stands.book);
     })
 
-pub current_now : {D : Type 0} (tells : Bool) (history : List Noted) (held : Holdings D) (print : Print Item) (whole : Bool) (appended : ℕ)
-    → Publishes tells history held print whole appended → Stands history held → (note : Edge Item) → note ≡ full_of print → IsCurrent history note.items
-current_now tells history held print whole appended p stands note note_is =
-    subst (λ (n : Edge Item). IsCurrent history n.items) (sym note_is) (record {
-      fits = p.fits;
-      grows = subst (λ (b : Book). Grows (last_book print.full) b) stands.book p.grows;
-    })
-
-pub opens_so : (tells : Bool) (book : Book) (index : List Facts) (item : Item) → IsGathered tells book index → item.told.value ≡ tells → book_in item ≡ book
+pub opens_so : (tells : Bool) (book : Book) (source index : List Facts) (item : Item) → IsGathered tells book source index → item.told.value ≡ tells → book_in item ≡ book
     → brings_of item ≡ index → AreItems (item ∷ [])
-opens_so tells book index item of told_is book_is brings_is = (
+opens_so tells book source index item of told_is book_is brings_is = (
   record {
     indexed = subst (λ (l : List Facts). IsIndex l) (sym brings_is) of.indexed;
     below = λ e has. subst (λ (b : Book). e.number < length (captures b)) (sym book_is) (of.below e (subst (λ (l : List Facts). Contains l e) brings_is has));
@@ -295,14 +302,30 @@ opens_so tells book index item of told_is book_is brings_is = (
   tt,
 )
 
+-- what the first item brings is what the archive shows
+pub first_shown : {D : Type 0} (held : Holdings D) (items : List Item) (index : List Facts) (item : Item) → IsGathered held.told held.book held.index index
+    → brings_of item ≡ index → items ≡ item ∷ [] → AreShown (entries_in brings_of items) held
+first_shown held items index item of brings_is items_are e has =
+    of.shown e (subst (λ (l : List Facts). Contains l e) (append-nil index)
+    (subst (λ (l : List Facts). Contains (l ++ []) e) brings_is
+    (subst (λ (l : List Item). Contains (entries_in brings_of l) e) items_are has)))
+
+pub on_shown : {D E : Type 0} {T : Type 0} (held : Holdings D) (index : List Facts) (item : Item) → IsGathered held.told held.book held.index index → brings_of item ≡ index
+    → (result : Result (Print Item × T) E) → IfOk result (λ r. (r.0.published ≡ item ∷ []) × (r.0.full ≡ item ∷ []))
+    → IfOk result (λ r. AreShown (entries_in brings_of r.0.full) held)
+on_shown held index item of brings_is (Ok r) is = first_shown held r.0.full index item of brings_is is.1
+on_shown held index item of brings_is (Err e) is = tt
+
 pub first_publishes : GrowsFromItself → {D : Type 0} (tells : Bool) (history : List Noted) (held : Holdings D) (print : Print Item) (appended : ℕ)
     → Names history print.of → is_told history ≡ tells → tells_in print.full ≡ tells → AreItems print.full × (0 < length print.full)
+    → AreShown (entries_in brings_of print.full) held
     → last_book print.full ≡ held.book → appended ≡ length (captures held.book) → Publishes tells history held print true appended
-first_publishes itself tells history held print appended names told list_told fits book_is count = record {
+first_publishes itself tells history held print appended names told list_told fits shown book_is count = record {
   named = names;
   told = told;
   list_told = list_told;
   fits = fits.0;
+  shown = shown;
   some = fits.1;
   grows = subst (λ (b : Book). Grows b held.book) (sym book_is) (itself held.book);
   count = ap (λ (b : Book). length (captures b)) book_is ∙ sym count;

@@ -1,5 +1,5 @@
 -- Turns that only read.
-use Rattle.std.proofs.Common.{◌≡◌, ℕ, ◌<◌, ◌≤◌, Bool, true, false, IsTrue, List, ◌++◌, length, Result, Ok, Err, refl, sym, ap, subst, ◌∙◌, arith}
+use Rattle.std.proofs.Common.{◌≡◌, ℕ, ◌<◌, ◌≤◌, Bool, true, false, IsTrue, List, ◌++◌, length, Result, Ok, Err, refl, sym, ap, subst, ◌∙◌}
 use Rattle.capture.specs.Captures.{captures}
 use Rattle.capture.specs.declared.book.Book.{Book}
 use Rattle.capture.specs.declared.captured.Brought.{Brought}
@@ -7,25 +7,26 @@ use Rattle.capture.specs.declared.limits.Limits.{Limits}
 use Rattle.disk_model.specs.declared.disk.Disk.{Ghosts}
 use Rattle.warc_journal.specs.Journals.{disk_of}
 use Rattle.warc_text.specs.Sound.{IsSound}
-use Rattle.archive_shelf.specs.Answers.{Brings, CountsIf, IsBrought, IsNamed, KeepsPayloadOf, NamesKeeper, is_bring_fault}
+use Rattle.archive_shelf.specs.Answers.{Brings, CountsIf, NamesKeeper, is_bring_fault}
 use Rattle.archive_shelf.specs.Comparing.{IsRight}
 use Rattle.archive_shelf.specs.Digests.{GoesByDigest, PieceGoesByDigest}
-use Rattle.archive_shelf.specs.Pieces.{GivesPiece, IsPiece, IsSomePiece, is_piece_fault}
+use Rattle.archive_shelf.specs.Pieces.{GivesPiece}
 use Rattle.archive_shelf.specs.declared.fault.BringFault.{BringFault}
-use Rattle.archive_shelf.specs.declared.fault.BringFault.TheVariants as brings
 use Rattle.archive_shelf.specs.declared.fault.StoreFault.{StoreFault}
 use Rattle.archive_shelf.specs.declared.fault.StoreFault.TheVariants as stores
 use Rattle.archive_shelf.specs.declared.looked.Looked.{Looked}
 use Rattle.archive_volumes.specs.Choosing.{is_look_fault}
 use Rattle.archive_core.specs.Holdings.{Holdings, contents_of}
 use Rattle.archive_core.specs.Looking.{Looks}
+use Rattle.archive_core.specs.Shown.{numbered}
 use Rattle.history_lock.specs.Seen.{Adds, All}
 use Rattle.vault.specs.Guarded.{Stands}
-use Rattle.vault.specs.History.{by_of, is_told, told_book, told_in, told_limits}
+use Rattle.vault.specs.History.{by_of, is_told, showing, told_book, told_in, told_limits}
 use Rattle.vault.specs.Noting.{failing}
 use Rattle.vault.specs.Own.{AreCounted}
 use Rattle.vault.specs.Turns.{AddsFaultAlone, BringsIt, Compares, GivesIt}
 use Rattle.vault.specs.declared.noted.Noted.{Noted}
+use Rattle.vault.proofs.AnswerLaws.{brings_as, gives_as}
 use Rattle.vault.proofs.FaultLaws.{read_counted}
 use Rattle.vault.proofs.HistoryLaws.{as_told, begun_append, limits_append, told_append, told_stays}
 
@@ -61,38 +62,6 @@ module _ {D : Type 0} (d : Ghosts D) (by : ℕ) (history : List Noted) (was is :
     limits = limits_to ∙ sym (limits_append history (failing by failed) stands.begun);
     told = told_to ∙ sym (told_stays history (failing by failed) stands.begun);
   }
-
-  brings_told : (tells : Bool) (number : ℕ) (result : Result Brought BringFault) → Brings (as_told tells is) number result
-      → Brings (told_in tells history) number result
-  brings_told tells number (Ok brought) h = (
-    subst (λ (b : Book). number < length (captures b)) to h.0,
-    h.1,
-    subst (λ (b : Book). IsNamed b number brought) to h.2,
-    λ told. (subst (λ (b : Book). IsBrought b number brought) to (h.3 told).0, λ entry has same. absurd (omega (arith, has.1))),
-  )
-  brings_told tells number (Err (brings.NoSuch count)) h =
-      (h.0 ∙ ap (λ (b : Book). length (captures b)) to, h.1, λ entry has. absurd (omega (arith, has.1)))
-  brings_told tells number (Err brings.DiskFault) h = subst (λ (b : Book). number < length (captures b)) to h
-  brings_told tells number (Err (brings.Damaged at kept found)) h = (
-    subst (λ (b : Book). number < length (captures b)) to h.0,
-    h.1,
-    subst (λ (b : Book). KeepsPayloadOf b number at) to h.2,
-    h.3,
-  )
-  brings_told tells number (Err brings.Memory) h = tt
-
-  gives_told : (tells : Bool) (number : ℕ) (result : Result (List ℕ) BringFault) → GivesPiece (as_told tells is) number result
-      → GivesPiece (told_in tells history) number result
-  gives_told tells number (Ok bytes) h = (
-    subst (λ (b : Book). number < length (captures b)) to h.0,
-    subst (λ (b : Book). IsSomePiece b number bytes) to h.1,
-    λ told. subst (λ (b : Book). IsPiece b number bytes) to (h.2 told),
-  )
-  gives_told tells number (Err (brings.NoSuch count)) h = (h.0 ∙ ap (λ (b : Book). length (captures b)) to, h.1)
-  gives_told tells number (Err brings.DiskFault) h = subst (λ (b : Book). number < length (captures b)) to h
-  gives_told tells number (Err (brings.Damaged at kept found)) h =
-      (subst (λ (b : Book). number < length (captures b)) to h.0, h.1, h.2)
-  gives_told tells number (Err brings.Memory) h = tt
 
   looks_told : (tells : Bool) (payload : List ℕ) (result : Result Looked StoreFault) → Looks (as_told tells is) payload result
       → Looks (told_in tells history) payload result
@@ -141,10 +110,10 @@ module _ {D : Type 0} (d : Ghosts D) (by : ℕ) (history : List Noted) (was is :
         → CountsIf (is_bring_fault result) (d.faults (disk_of was.journal)) (d.faults (disk_of is.journal))
         → Brings (contents_of is) number result → NamesKeeper is.book number result → GoesByDigest is.book number result → (IsTrue is.told → IsSound is.book)
         → (Stands after is × AreCounted after (d.faults (disk_of is.journal)))
-        × Adds by_of by history after (λ added. BringsIt (is_told history) number history added result)
+        × Adds by_of by history after (λ added. BringsIt (is_told history) (numbered is.index) number history added result)
     all_brought result joined counts brought names digests sound =
-        left_by (is_bring_fault result) after (λ added. BringsIt (is_told history) number history added result) joined counts (record {
-          brings = brings_told (is_told history) number result (subst (λ (t : Bool). Brings (as_told t is) number result) told_to brought);
+        left_by (is_bring_fault result) after (λ added. BringsIt (is_told history) (numbered is.index) number history added result) joined counts (record {
+          brings = brings_as (contents_of is) (showing (numbered is.index) (is_told history) history) (sym to) (sym told_to) (λ e has. has) number result brought;
           names = subst (λ (b : Book). NamesKeeper b number result) to names;
           digests = subst (λ (b : Book). GoesByDigest b number result) to digests;
           adds = adds_fault by (is_bring_fault result);
@@ -152,17 +121,17 @@ module _ {D : Type 0} (d : Ghosts D) (by : ℕ) (history : List Noted) (was is :
         })
 
     -- a turn that gave a capture as a piece, or failed to
-    pub all_given : (result : Result (List ℕ) BringFault) → after ≡ history ++ failing by (is_piece_fault result)
-        → CountsIf (is_piece_fault result) (d.faults (disk_of was.journal)) (d.faults (disk_of is.journal))
+    pub all_given : (result : Result (List ℕ) BringFault) → after ≡ history ++ failing by (is_bring_fault result)
+        → CountsIf (is_bring_fault result) (d.faults (disk_of was.journal)) (d.faults (disk_of is.journal))
         → GivesPiece (contents_of is) number result → PieceGoesByDigest is.book number result → (IsTrue is.told → IsSound is.book)
         → (Stands after is × AreCounted after (d.faults (disk_of is.journal)))
-        × Adds by_of by history after (λ added. GivesIt (is_told history) number history added result)
+        × Adds by_of by history after (λ added. GivesIt (is_told history) (numbered is.index) number history added result)
     all_given result joined counts given digests sound =
-        left_by (is_piece_fault result) after (λ added. GivesIt (is_told history) number history added result) joined counts (record {
-          gives = gives_told (is_told history) number result (subst (λ (t : Bool). GivesPiece (as_told t is) number result) told_to given);
+        left_by (is_bring_fault result) after (λ added. GivesIt (is_told history) (numbered is.index) number history added result) joined counts (record {
+          gives = gives_as (contents_of is) (showing (numbered is.index) (is_told history) history) (sym to) (sym told_to) (λ e has. has) number result given;
           digests = subst (λ (b : Book). PieceGoesByDigest b number result) to digests;
-          adds = adds_fault by (is_piece_fault result);
-          sound = sound_then (is_piece_fault result) sound;
+          adds = adds_fault by (is_bring_fault result);
+          sound = sound_then (is_bring_fault result) sound;
         })
 
   -- a turn that looked for a payload, or failed to

@@ -6,23 +6,20 @@ use Rattle.history_lock.specs.Known.{Known}
 use Rattle.history_lock.specs.Seen.{Adds, Shows, Turn}
 use Rattle.index_snapshot.specs.Edges.{Edge}
 use Rattle.vault.specs.History.{IsBegun, KeepsNames, Names, by_of, is_told}
-use Rattle.vault.specs.Listing.{IsCurrent, IsListed}
+use Rattle.vault.specs.Listing.{IsListed}
 use Rattle.vault.specs.declared.item.Item.{Item}
 use Rattle.vault.specs.declared.noted.Noted.{Noted}
 use Rattle.vault.proofs.HistoryLaws.{begun_append, told_stays}
 use Rattle.vault.proofs.PublishLaws.{names_append}
 
--- what was added, and the list as it stands then, from whose last book the archive's has grown
-pub adds_current : (by : ℕ) (before after : List Noted) (does : List Noted → Type 0) (note : Edge Item) (whole : Bool) → Adds by_of by before after does → IsListed after note whole
-    → IsCurrent after note.items → Adds by_of by before after (λ added. (does added × IsCurrent (before ++ added) note.items) × IsListed (before ++ added) note whole)
-adds_current by before after does note whole adds listed current = record {
+-- what was added, and the list as it stands then
+pub adds_listed : (by : ℕ) (before after : List Noted) (does : List Noted → Type 0) (note : Edge Item) (whole : Bool) → Adds by_of by before after does
+    → IsListed after note whole → Adds by_of by before after (λ added. does added × IsListed (before ++ added) note whole)
+adds_listed by before after does note whole adds listed = record {
   added = adds.added;
   is_before_and_added = adds.is_before_and_added;
   of_pass = adds.of_pass;
-  done = (
-    (adds.done, subst (λ (l : List Noted). IsCurrent l note.items) adds.is_before_and_added current),
-    subst (λ (l : List Noted). IsListed l note whole) adds.is_before_and_added listed,
-  );
+  done = (adds.done, subst (λ (l : List Noted). IsListed l note whole) adds.is_before_and_added listed);
 }
 
 -- nothing was added
@@ -32,7 +29,7 @@ adds_none by before after same = record { added = []; is_before_and_added = same
 -- ---- a turn
 
 module _ (was : Known Noted) (after : List Noted) (does : Bool → List Noted → List Noted → Type 0) (note : Edge Item) (whole : Bool) (begun : IsBegun was.seen)
-    (turn : Turn by_of was after (λ found added. (does (is_told found) found added × IsCurrent (found ++ added) note.items) × IsListed (found ++ added) note whole)) where
+    (turn : Turn by_of was after (λ found added. does (is_told found) found added × IsListed (found ++ added) note whole)) where
   told_found : is_told turn.found ≡ is_told was.seen
   told_found = ap is_told turn.shows.is_seen_and_more ∙ told_stays was.seen turn.shows.more begun
 
@@ -44,15 +41,12 @@ module _ (was : Known Noted) (after : List Noted) (does : Bool → List Noted �
       added = turn.adds.added;
       is_before_and_added = turn.adds.is_before_and_added;
       of_pass = turn.adds.of_pass;
-      done = subst (λ (t : Bool). does t turn.found turn.adds.added) told_found turn.adds.done.0.0;
+      done = subst (λ (t : Bool). does t turn.found turn.adds.added) told_found turn.adds.done.0;
     };
   }
 
   pub turn_listed : IsListed after note whole
   turn_listed = subst (λ (l : List Noted). IsListed l note whole) (sym turn.adds.is_before_and_added) turn.adds.done.1
-
-  pub turn_current : IsCurrent after note.items
-  turn_current = subst (λ (l : List Noted). IsCurrent l note.items) (sym turn.adds.is_before_and_added) turn.adds.done.0.1
 
   found_begun : IsBegun turn.found
   found_begun = subst IsBegun (sym turn.shows.is_seen_and_more) (begun_append was.seen turn.shows.more begun)

@@ -2,6 +2,7 @@
 use Rattle.std.specs.Prelude.{◌≡◌, ℕ, Bool, false, List, [], ◌∷◌}
 use Rattle.capture.specs.declared.book.Book.{Book}
 use Rattle.capture.specs.declared.limits.Limits.{Limits}
+use Rattle.cdxj_index.specs.Facts.{Facts}
 use Rattle.archive_shelf.specs.Contents.{Contents}
 use Rattle.archive_shelf.specs.Storing.{as_stored, empty_book, with_capture, with_volume}
 use Rattle.archive_volumes.specs.Held.{book_of}
@@ -107,6 +108,10 @@ IsBegun (noted ∷ others) = Unit {0}
 abbrev pub told_in : Bool → List Noted → Contents
 told_in tells history =
     record { tells = tells; seen = told_book history; shown = []; mine = []; limits = told_limits history }
+
+-- the same, where these entries are shown
+abbrev pub showing : List Facts → Bool → List Noted → Contents
+showing entries tells history = record (told_in tells history) { shown = entries }
 
 -- the history of an archive with this book and these limits, to which no turn has added anything
 abbrev pub IsOpening : Book → Limits → List Noted → Type 0

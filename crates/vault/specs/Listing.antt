@@ -1,10 +1,9 @@
 -- What a pass knows of the list that is published.
 use Rattle.std.specs.Prelude.{◌≡◌, Bool, true, IsTrue, List, ◌∷◌}
 use mathlib.Core.List.{IsPrefix}
-use Rattle.capture.specs.Growth.{Grows}
 use Rattle.index_snapshot.specs.Edges.{Edge}
 use Rattle.vault.specs.History.{Names, is_told, told_book}
-use Rattle.vault.specs.Items.{AreItems, book_in, last_book, last_from, tells_in}
+use Rattle.vault.specs.Items.{AreItems, book_in, last_from, tells_in}
 use Rattle.vault.specs.declared.item.Item.{Item}
 use Rattle.vault.specs.declared.noted.Noted.{Noted}
 
@@ -20,11 +19,6 @@ pub record IsListed (history : List Noted) (note : Edge Item) (whole : Bool) : T
   pub named : Names history note.of
   pub told : tells_in note.items ≡ is_told history
   pub book : IsTrue whole → HasBook history note.items
-
--- the list may be published, and the book that the history tells has grown from its last one
-pub record IsCurrent (history : List Noted) (items : List Item) : Type 0 where
-  pub fits : AreItems items
-  pub grows : Grows (last_book items) (told_book history)
 
 -- this list was seen, which may be published, and begins with all that is known of it
 pub record HasSeen (note : Edge Item) (whole : Bool) (items : List Item) : Type 0 where

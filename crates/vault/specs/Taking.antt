@@ -24,8 +24,9 @@ pub record TakesItem {D : Type 0} (tells : Bool) (held : Holdings D) (number : �
 abbrev pub HasBelow : ℕ → List Facts → List Facts → Type 0
 HasBelow count source index = (number : ℕ) → with_number number index ≡ (if nat_lt number count then with_number number source else None)
 
--- an index of all entries of the book
-pub record IsGathered (tells : Bool) (book : Book) (index : List Facts) : Type 0 where
+-- an index of all entries of the book, which an archive shows that has these
+pub record IsGathered (tells : Bool) (book : Book) (source index : List Facts) : Type 0 where
   pub indexed : IsIndex index
+  pub shown : (entry : Facts) → Contains index entry → Contains (numbered source) entry
   pub below : (entry : Facts) → Contains index entry → entry.number < length (captures book)
   pub of_book : IsTrue tells → AreOf book index

@@ -7,7 +7,7 @@ use Rattle.warc_text.specs.Sound.{IsSound}
 use Rattle.archive_shelf.specs.Answers.{Brings, HasVolumeAlone, IsByRule, IsDamaged, IsFull, IsNotFull, NamesKeeper, is_bring_fault}
 use Rattle.archive_shelf.specs.Comparing.{CanRefer}
 use Rattle.archive_shelf.specs.Digests.{GoesByDigest, PieceGoesByDigest}
-use Rattle.archive_shelf.specs.Pieces.{GivesPiece, is_piece_fault}
+use Rattle.archive_shelf.specs.Pieces.{GivesPiece}
 use Rattle.archive_shelf.specs.Storing.{Gains, as_stored}
 use Rattle.archive_shelf.specs.declared.fault.BringFault.{BringFault}
 use Rattle.archive_shelf.specs.declared.fault.BringFault.TheVariants as brings
@@ -17,9 +17,10 @@ use Rattle.archive_shelf.specs.declared.looked.Looked.{Looked}
 use Rattle.archive_shelf.specs.declared.receipt.Receipt.{Receipt}
 use Rattle.archive_core.specs.Looking.{Looks}
 use Rattle.archive_volumes.specs.Choosing.{is_look_fault}
+use Rattle.cdxj_index.specs.Facts.{Facts}
 use Rattle.history_lock.specs.Known.{Known}
 use Rattle.history_lock.specs.Seen.{Turn}
-use Rattle.vault.specs.History.{by_of, told_book, told_in, told_limits}
+use Rattle.vault.specs.History.{by_of, showing, told_book, told_in, told_limits}
 use Rattle.vault.specs.declared.noted.Kind.{Kind}
 use Rattle.vault.specs.declared.noted.Kind.TheVariants.{Opened, Began, Stored, Failed}
 use Rattle.vault.specs.declared.noted.Noted.{Noted}
@@ -109,25 +110,25 @@ pub record Compares (tells : Bool) (payload : List ℕ) (found added : List Note
   pub adds : AddsFaultAlone (is_look_fault result) added
   pub sound : IsTrue tells → IsSound (told_book (found ++ added))
 
--- A turn that brings a capture.
-pub record BringsIt (tells : Bool) (number : ℕ) (found added : List Noted) (result : Result Brought BringFault) : Type 0 where
-  pub brings : Brings (told_in tells found) number result
+-- A turn that brings a capture, where these entries are shown.
+pub record BringsIt (tells : Bool) (entries : List Facts) (number : ℕ) (found added : List Noted) (result : Result Brought BringFault) : Type 0 where
+  pub brings : Brings (showing entries tells found) number result
   pub names : NamesKeeper (told_book found) number result
   pub digests : GoesByDigest (told_book found) number result
   pub adds : AddsFaultAlone (is_bring_fault result) added
   pub sound : IsTrue tells → IsSound (told_book (found ++ added))
 
--- A turn that gives a capture as a piece.
-pub record GivesIt (tells : Bool) (number : ℕ) (found added : List Noted) (result : Result (List ℕ) BringFault) : Type 0 where
-  pub gives : GivesPiece (told_in tells found) number result
+-- A turn that gives a capture as a piece, where these entries are shown.
+pub record GivesIt (tells : Bool) (entries : List Facts) (number : ℕ) (found added : List Noted) (result : Result (List ℕ) BringFault) : Type 0 where
+  pub gives : GivesPiece (showing entries tells found) number result
   pub digests : PieceGoesByDigest (told_book found) number result
-  pub adds : AddsFaultAlone (is_piece_fault result) added
+  pub adds : AddsFaultAlone (is_bring_fault result) added
   pub sound : IsTrue tells → IsSound (told_book (found ++ added))
 
 -- the answer of such a turn, where what is shown by date is known to go with it, and else want of memory in place of what would say something of that
-abbrev pub held_back : Bool → Result Brought BringFault → Result Brought BringFault
+abbrev pub held_back : {T : Type 0} → Bool → Result T BringFault → Result T BringFault
 held_back true answer = answer
-held_back false (Ok brought) = Err brings.Memory
+held_back false (Ok value) = Err brings.Memory
 held_back false (Err (brings.NoSuch count)) = Err brings.Memory
 held_back false (Err brings.DiskFault) = Err brings.DiskFault
 held_back false (Err (brings.Damaged number kept digest)) = Err (brings.Damaged number kept digest)

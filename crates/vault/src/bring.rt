@@ -1,7 +1,9 @@
 //! A turn that brings a capture.
 ghost use Rattle.std.specs.Prelude.{◌≡◌};
 ghost use Rattle.archive_shelf.specs.Answers.{is_bring_fault};
+ghost use Rattle.archive_core.specs.Shown.{numbered};
 ghost use Rattle.history_lock.specs.Seen.{Adds};
+ghost use Rattle.vault.specs.Guarded.{KeepsShown};
 ghost use Rattle.vault.specs.History.{by_of, is_told};
 ghost use Rattle.vault.specs.Turns.{BringsIt, held_back};
 
@@ -28,7 +30,7 @@ impl<D: Disk> Act<D> for Bring {
 
     ghost ready = { λ work found. Unit {0} };
 
-    ghost does = { λ work tells found added answer. BringsIt tells work.number found added answer };
+    ghost does = { λ work tells entries found added answer. BringsIt tells entries work.number found added answer };
 
     fn act(self, by: u32, value: &mut Published<D>) -> Result<Brought, BringFault> {
         value.bring(by, self.alloc, self.number)
@@ -43,7 +45,8 @@ impl<D: Disk> Keeping<D> {
         alloc: Global,
         number: u32,
     ) -> Result<Brought, BringFault>
-        ensures { Adds by_of by self.old.history self.new.history (λ added. BringsIt (is_told self.old.history) number self.old.history added result) }
+        ensures adds { Adds by_of by self.old.history self.new.history (λ added. BringsIt (is_told self.old.history) (numbered self.new.holdings.index) number self.old.history added result) }
+        ensures shows { KeepsShown self.old.holdings self.new.holdings }
     {
         self.archive.shows_its_book();
         if self.history.reserve(1).is_err() {
@@ -56,7 +59,7 @@ impl<D: Disk> Keeping<D> {
 }
 
 /// Whether the disk failed.
-fn is_disk_fault(answer: &Result<Brought, BringFault>) -> bool
+pub(crate) fn is_disk_fault<T>(answer: &Result<T, BringFault>) -> bool
     ensures { result ≡ is_bring_fault answer.now }
 {
     match answer {
@@ -75,10 +78,10 @@ fn is_disk_fault(answer: &Result<Brought, BringFault>) -> bool
 }
 
 /// The answer, where what is shown by date is known to go with it. Else there is said to be no memory, where it would say something of that.
-pub(crate) fn hold_back(
-    answer: Result<Brought, BringFault>,
+pub(crate) fn hold_back<T: Drop>(
+    answer: Result<T, BringFault>,
     agrees: bool,
-) -> Result<Brought, BringFault>
+) -> Result<T, BringFault>
     ensures { result ≡ held_back agrees answer }
 {
     if agrees {

@@ -7,6 +7,7 @@ ghost use Rattle.archive_core.specs.Looking.{IsDigestOf, IsRightOf};
 ghost use Rattle.archive_core.specs.Stores.{Stores};
 ghost use Rattle.archive_core.specs.Told.{told_of};
 ghost use Rattle.history_lock.specs.Seen.{Adds};
+ghost use Rattle.vault.specs.Guarded.{KeepsShown};
 ghost use Rattle.vault.specs.History.{by_of, is_told, told_in};
 ghost use Rattle.vault.specs.Turns.{Commits};
 
@@ -42,7 +43,7 @@ impl<'a, 't, R: Wait, D: Disk> Act<D> for Commit<'a, 't, R> {
 
     ghost ready = { λ work found. Fits work.taken.now × IsDigestOf work.taken.now work.digest × IsRightOf (told_in (is_told found) found) work.taken.now work.looked };
 
-    ghost does = { λ work tells found added answer. Commits tells work.taken.now found added answer };
+    ghost does = { λ work tells entries found added answer. Commits tells work.taken.now found added answer };
 
     fn act(self, by: u32, value: &mut Published<D>) -> Result<Receipt, StoreFault> {
         let Commit {
@@ -93,7 +94,8 @@ impl<D: Disk> Keeping<D> {
         requires fits { Fits taken.now }
         requires digest { IsDigestOf taken.now digest.now }
         requires right { IsRightOf (told_in (is_told self.old.history) self.old.history) taken.now looked }
-        ensures { Adds by_of by self.old.history self.new.history (λ added. Commits (is_told self.old.history) taken.now self.old.history added result) }
+        ensures adds { Adds by_of by self.old.history self.new.history (λ added. Commits (is_told self.old.history) taken.now self.old.history added result) }
+        ensures shows { KeepsShown self.old.holdings self.new.holdings }
     {
         self.archive.shows_its_book();
         if self.history.reserve(2).is_err() {

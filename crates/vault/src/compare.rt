@@ -3,6 +3,7 @@ ghost use Rattle.std.specs.Prelude.{◌≡◌};
 ghost use Rattle.sha1.specs.Sha1.{sha1};
 ghost use Rattle.history_lock.specs.Seen.{Adds};
 ghost use Rattle.archive_volumes.specs.Choosing.{is_look_fault};
+ghost use Rattle.vault.specs.Guarded.{KeepsShown};
 ghost use Rattle.vault.specs.History.{by_of, is_told};
 ghost use Rattle.vault.specs.Turns.{Compares};
 
@@ -23,7 +24,8 @@ impl<D: Disk> Keeping<D> {
         digest: &Digest,
     ) -> Result<Looked, StoreFault>
         requires { digest.now ≡ sha1 payload.now }
-        ensures { Adds by_of by self.old.history self.new.history (λ added. Compares (is_told self.old.history) payload.now self.old.history added result) }
+        ensures adds { Adds by_of by self.old.history self.new.history (λ added. Compares (is_told self.old.history) payload.now self.old.history added result) }
+        ensures shows { KeepsShown self.old.holdings self.new.holdings }
     {
         self.archive.shows_its_book();
         if self.history.reserve(1).is_err() {

@@ -36,7 +36,7 @@ impl<'a, 't, 'p, R: Wait, D: Disk> Act<D> for FirstTurn<'a, 't, 'p, R> {
 
     ghost ready = { λ work found. IsReady work.taken.now work.payload.now work.digest };
 
-    ghost does = { λ work tells found added answer. Begins tells work.taken.now work.payload.now found added answer };
+    ghost does = { λ work tells entries found added answer. Begins tells work.taken.now work.payload.now found added answer };
 
     fn act(self, by: u32, value: &mut Published<D>) -> FirstAnswer {
         compared_payloads_serve_later();

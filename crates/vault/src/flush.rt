@@ -19,7 +19,7 @@ impl<'a, R: Wait, D: Disk> Act<D> for Flush<'a, R> {
 
     ghost ready = { λ work found. Unit {0} };
 
-    ghost does = { λ work tells found added answer. added ≡ [] };
+    ghost does = { λ work tells entries found added answer. added ≡ [] };
 
     #[tactic(auto, using(crate::proofs::TellingLaws::adds_none))]
     fn act(self, _by: u32, value: &mut Published<D>) {

@@ -66,7 +66,7 @@ pub(crate) fn item_of<D: Disk>(
 
 /// An index of all entries that the archive shows.
 pub(crate) fn gathered<D: Disk>(alloc: Global, archive: &Archive<D>) -> Result<Index, Memory>
-    ensures { IfOk result (λ index. IsGathered archive.now.told archive.now.book index) }
+    ensures { IfOk result (λ index. IsGathered archive.now.told archive.now.book archive.now.index index) }
 {
     let index = gathered_by_number(alloc, archive)?;
     archive.shows_its_book();
@@ -107,7 +107,7 @@ fn put<D: Disk>(
 
 /// The first item of the list, with the entries of this index.
 pub(crate) fn first_item<D: Disk>(archive: &Archive<D>, index: &Index) -> Item
-    requires { IsGathered archive.now.told archive.now.book index.now }
+    requires { IsGathered archive.now.told archive.now.book archive.now.index index.now }
     ensures told { result.told.value ≡ archive.now.told }
     ensures book { book_in result ≡ archive.now.book }
     ensures entries { brings_of result ≡ index.now }

@@ -6,11 +6,12 @@ ghost use Rattle.warc_journal.specs.Journals.{disk_of};
 ghost use Rattle.warc_text.specs.Fits.{Fits};
 ghost use Rattle.archive_core.specs.Looking.{IsDigestOf, IsRightOf};
 ghost use Rattle.history_lock.specs.Seen.{Adds};
+ghost use Rattle.index_snapshot.specs.Entries.{entries_in};
 ghost use Rattle.index_snapshot.specs.Publishing.{edge_of, full_of};
-ghost use Rattle.vault.specs.Guarded.{Stands};
+ghost use Rattle.vault.specs.Guarded.{AreShown, Stands};
 ghost use Rattle.vault.specs.History.{IsOpening, by_of, given_faults, is_told, told_in};
-ghost use Rattle.vault.specs.Items.{AreItems, last_book, tells_in};
-ghost use Rattle.vault.specs.Listing.{IsCurrent, IsListed};
+ghost use Rattle.vault.specs.Items.{AreItems, brings_of, last_book, tells_in};
+ghost use Rattle.vault.specs.Listing.{IsListed};
 ghost use Rattle.vault.specs.Own.{AreCounted};
 ghost use Rattle.vault.specs.Turns.{BringsIt, Commits, Compares, GivesIt, changes};
 
@@ -73,6 +74,7 @@ fn publisher_of<R: Wait, D: Disk>(
     ensures told { IfOk result (λ r. tells_in r.0.full ≡ archive.now.told) }
     ensures fits { IfOk result (λ r. AreItems r.0.full × (0 < length r.0.full)) }
     ensures book { IfOk result (λ r. last_book r.0.full ≡ archive.now.book) }
+    ensures shown { IfOk result (λ r. AreShown (entries_in brings_of r.0.full) archive.now) }
     ensures all { IfOk result (λ r. r.0.published ≡ r.0.full) }
     ensures viewers { IfOk result (λ r. (length r.1.items ≡ readers) × All (λ v. v ≡ edge_of r.0) r.1.items) }
 {
@@ -153,7 +155,6 @@ impl<D: Disk> Published<D> {
     /// All that was appended.
     pub(crate) fn tell(&self) -> Listed
         ensures listed { IsListed self.now.kept.history result.note result.whole }
-        ensures current { IsCurrent self.now.kept.history result.note.items }
         ensures note { result.note ≡ full_of self.now.print }
     {
         self.keeping.stands();
@@ -219,7 +220,7 @@ impl<D: Disk> Published<D> {
         alloc: Global,
         number: u32,
     ) -> Result<Brought, BringFault>
-        ensures { Adds by_of by self.old.kept.history self.new.kept.history (λ added. BringsIt (is_told self.old.kept.history) number self.old.kept.history added result) }
+        ensures { Adds by_of by self.old.kept.history self.new.kept.history (λ added. BringsIt (is_told self.old.kept.history) (entries_in brings_of self.new.print.full) number self.old.kept.history added result) }
     {
         growth_keeps_captures();
         self.keeping.stands();
@@ -230,7 +231,7 @@ impl<D: Disk> Published<D> {
 
     /// Gives a capture as a piece to the pass of this number.
     pub(crate) fn piece(&mut self, by: u32, alloc: Global, number: u32) -> Result<Bytes, BringFault>
-        ensures { Adds by_of by self.old.kept.history self.new.kept.history (λ added. GivesIt (is_told self.old.kept.history) number self.old.kept.history added result) }
+        ensures { Adds by_of by self.old.kept.history self.new.kept.history (λ added. GivesIt (is_told self.old.kept.history) (entries_in brings_of self.new.print.full) number self.old.kept.history added result) }
     {
         growth_keeps_captures();
         self.keeping.stands();

@@ -7,6 +7,9 @@ use history_lock::Work;
 /// What a pass does in its turn with what lies behind the lock.
 pub(crate) trait Act<D: Disk> {
     ghost use Rattle.std.specs.Prelude.{Bool, List};
+    ghost use Rattle.cdxj_index.specs.Facts.{Facts};
+    ghost use Rattle.index_snapshot.specs.Entries.{entries_in};
+    ghost use Rattle.vault.specs.Items.{brings_of};
     ghost use Rattle.history_lock.specs.Seen.{Adds};
     ghost use Rattle.vault.specs.History.{by_of, is_told};
     ghost use Rattle.vault.specs.declared.noted.Noted.{Noted};
@@ -16,13 +19,14 @@ pub(crate) trait Act<D: Disk> {
     /// The histories at which it can be done.
     ghost ready: { Self → List Noted → Type 0 };
 
-    /// Of the act, whether the book is told, the history found, what was added to it, and the answer.
-    ghost does: { Self → Bool → List Noted → List Noted → Self.Answer → Type 0 };
+    /// Of the act, whether the book is told, the entries of the list as it stands behind it, the history found, what was added to that, and the
+    /// answer.
+    ghost does: { Self → Bool → List Facts → List Noted → List Noted → Self.Answer → Type 0 };
 
     /// Does it for the pass of this number.
     fn act(self, by: u32, value: &mut Published<D>) -> Self::Answer
         requires { ready self value.old.kept.history }
-        ensures { Adds by_of by value.old.kept.history value.new.kept.history (λ added. does self (is_told value.old.kept.history) value.old.kept.history added result) };
+        ensures { Adds by_of by value.old.kept.history value.new.kept.history (λ added. does self (is_told value.old.kept.history) (entries_in brings_of value.new.print.full) value.old.kept.history added result) };
 }
 
 /// An act, behind which the list is told as it stands.
@@ -32,16 +36,17 @@ pub(crate) struct Telling<A> {
 
 impl<D: Disk, A: Act<D>> Work<Published<D>> for Telling<A> {
     ghost use Rattle.std.specs.Prelude.{◌++◌};
+    ghost use Rattle.index_snapshot.specs.Entries.{entries_in};
+    ghost use Rattle.vault.specs.Items.{brings_of};
     ghost use Rattle.vault.specs.History.{is_told};
-    ghost use Rattle.vault.specs.Listing.{IsCurrent, IsListed};
+    ghost use Rattle.vault.specs.Listing.{IsListed};
 
     type Reply = (A::Answer, Listed);
 
     ghost ready = { λ work found. A.ready work.act found };
 
-    ghost does = { λ work by found added reply. (A.does work.act (is_told found) found added reply.0 × IsCurrent (found ++ added) reply.1.note.items) × IsListed (found ++ added) reply.1.note reply.1.whole };
+    ghost does = { λ work by found added reply. A.does work.act (is_told found) (entries_in brings_of reply.1.note.items) found added reply.0 × IsListed (found ++ added) reply.1.note reply.1.whole };
 
-    #[tactic(auto, using(crate::proofs::TellingLaws::adds_current))]
     fn act(self, by: u32, value: &mut Published<D>) -> (A::Answer, Listed) {
         let Telling { act } = self;
         let answer = act.act(by, value);

@@ -4,12 +4,15 @@ ghost use mathlib.Core.List.{IsPrefix};
 ghost use Rattle.warc_journal.specs.Journals.{disk_of};
 ghost use Rattle.warc_text.specs.Fits.{Fits};
 ghost use Rattle.archive_shelf.specs.Answers.{Brings};
+ghost use Rattle.archive_shelf.specs.Pieces.{GivesPiece};
 ghost use Rattle.archive_core.specs.Looking.{IsDigestOf, IsRightOf};
 ghost use Rattle.history_lock.specs.Known.{IsSamePass};
 ghost use Rattle.history_lock.specs.Seen.{Shows, Turn};
 ghost use Rattle.vault.specs.History.{IsBegun, KeepsNames, Names, by_of, is_told, told_in};
 ghost use Rattle.vault.specs.Company.{contents_at};
-ghost use Rattle.vault.specs.Listing.{IsCurrent, IsListed};
+ghost use Rattle.vault.specs.Items.{brings_of, shown_in};
+ghost use Rattle.index_snapshot.specs.Entries.{entries_in};
+ghost use Rattle.vault.specs.Listing.{IsListed};
 ghost use Rattle.vault.specs.Passes.{IsLeft, IsNew};
 ghost use Rattle.vault.specs.Turns.{BringsIt, Commits, GivesIt, StoresBy};
 
@@ -187,12 +190,11 @@ impl<D: Disk> Vault<D> {
         number: u32,
     ) -> Result<Brought, BringFault>
         requires pass { pass.old.known.lock ≡ self.now }
-        ensures turn { Turn by_of pass.old.known pass.new.known.seen (λ found added. BringsIt (is_told pass.old.known.seen) number found added result) }
+        ensures turn { Turn by_of pass.old.known pass.new.known.seen (λ found added. BringsIt (is_told pass.old.known.seen) (shown_in pass.new.shown.items) number found added result) }
         ensures brings { Brings (contents_at pass.new) number result }
         ensures same { IsSamePass pass.old.known pass.new.known }
         ensures shown { pass.new.shown ≡ pass.old.shown }
     {
-        growth_keeps_captures();
         let VaultPass {
             known,
             viewer,
@@ -216,14 +218,13 @@ impl<D: Disk> Vault<D> {
         requires pass { pass.old.lock ≡ self.now }
         requires begun { IsBegun pass.old.seen }
         requires names { Names pass.old.seen shown.now.of }
-        ensures turn { Turn by_of pass.old pass.new.seen (λ found added. BringsIt (is_told pass.old.seen) number found added result) }
+        ensures turn { Turn by_of pass.old pass.new.seen (λ found added. BringsIt (is_told pass.old.seen) (shown_in shown.now.items) number found added result) }
         ensures brings { Brings (contents_at (record { known = pass.new; shown = shown.now })) number result }
         ensures same { IsSamePass pass.old pass.new }
         ensures listed { IsListed pass.new.seen listed.new.note listed.new.whole }
         ensures names { KeepsNames pass.old.seen pass.new.seen }
         ensures told { is_told pass.new.seen ≡ is_told pass.old.seen }
     {
-        growth_keeps_captures();
         let answer = self.take(rt, pass, listed, Bring { alloc, number });
         let agrees = shown.begins(&listed.note);
         hold_back(answer, agrees)
@@ -239,16 +240,43 @@ impl<D: Disk> Vault<D> {
         number: u32,
     ) -> Result<Bytes, BringFault>
         requires pass { pass.old.known.lock ≡ self.now }
-        ensures turn { Turn by_of pass.old.known pass.new.known.seen (λ found added. GivesIt (is_told pass.old.known.seen) number found added result) }
+        ensures turn { Turn by_of pass.old.known pass.new.known.seen (λ found added. GivesIt (is_told pass.old.known.seen) (shown_in pass.new.shown.items) number found added result) }
+        ensures gives { GivesPiece (contents_at pass.new) number result }
         ensures same { IsSamePass pass.old.known pass.new.known }
         ensures shown { pass.new.shown ≡ pass.old.shown }
     {
         let VaultPass {
             known,
-            viewer: _,
+            viewer,
             listed,
         } = pass;
-        self.take(rt, known, listed, Piece { alloc, number })
+        let note = viewer.note();
+        self.piece_beside(rt, alloc, known, listed, &note, number)
+    }
+
+    /// Gives a capture as a piece for what the lock knows of a pass, where the list that was seen goes with it. May wait.
+    fn piece_beside<R: Wait>(
+        &self,
+        rt: &R,
+        alloc: Global,
+        pass: &mut Pass<Noted>,
+        listed: &mut Listed,
+        shown: &Note<Item>,
+        number: u32,
+    ) -> Result<Bytes, BringFault>
+        requires pass { pass.old.lock ≡ self.now }
+        requires begun { IsBegun pass.old.seen }
+        requires names { Names pass.old.seen shown.now.of }
+        ensures turn { Turn by_of pass.old pass.new.seen (λ found added. GivesIt (is_told pass.old.seen) (shown_in shown.now.items) number found added result) }
+        ensures gives { GivesPiece (contents_at (record { known = pass.new; shown = shown.now })) number result }
+        ensures same { IsSamePass pass.old pass.new }
+        ensures listed { IsListed pass.new.seen listed.new.note listed.new.whole }
+        ensures names { KeepsNames pass.old.seen pass.new.seen }
+        ensures told { is_told pass.new.seen ≡ is_told pass.old.seen }
+    {
+        let answer = self.take(rt, pass, listed, Piece { alloc, number });
+        let agrees = shown.begins(&listed.note);
+        hold_back(answer, agrees)
     }
 
     /// Publishes what is stored, as far as there was no memory for that before. May wait, also for readers.
@@ -277,10 +305,9 @@ impl<D: Disk> Vault<D> {
         requires pass { pass.old.lock ≡ self.now }
         requires begun { IsBegun pass.old.seen }
         requires ready { (found : List Noted) → Shows by_of pass.old.passes pass.old.numbers pass.old.seen found → A.ready act found }
-        ensures turn { Turn by_of pass.old pass.new.seen (λ found added. A.does act (is_told pass.old.seen) found added result) }
+        ensures turn { Turn by_of pass.old pass.new.seen (λ found added. A.does act (is_told pass.old.seen) (entries_in brings_of listed.new.note.items) found added result) }
         ensures same { IsSamePass pass.old pass.new }
         ensures listed { IsListed pass.new.seen listed.new.note listed.new.whole }
-        ensures current { IsCurrent pass.new.seen listed.new.note.items }
         ensures names { KeepsNames pass.old.seen pass.new.seen }
         ensures told { is_told pass.new.seen ≡ is_told pass.old.seen }
     {

@@ -1,8 +1,11 @@
 -- A capture was brought, or not.
-use Rattle.std.proofs.Common.{ap, subst}
+use Rattle.std.proofs.Common.{List, ap, subst, sym}
+use Rattle.std.specs.Prelude.{Contains}
+use Rattle.cdxj_index.specs.Facts.{Facts}
 use Rattle.archive_shelf.specs.Contents.{Contents}
+use Rattle.archive_core.specs.Shown.{numbered}
 use Rattle.history_lock.specs.Seen.{Adds}
-use Rattle.vault.specs.Guarded.{Guarded}
+use Rattle.vault.specs.Guarded.{Guarded, KeepsShown}
 use Rattle.vault.specs.History.{by_of, is_told}
 use Rattle.vault.specs.Turns.{BringsIt}
 use Rattle.vault.proofs.NotingLaws.{joined_by, values}
@@ -19,10 +22,10 @@ invariant_of-self-2 g c =
     c.bring-answer.ensures.reads.faults c.bring-answer.ensures.brings c.bring-answer.ensures.names
     c.bring-answer.ensures.digests c.bring-answer.ensures.shows.consistent.sound).0
 
-pub returns : goal.returns
-returns g c =
+pub returns-clause-adds : goal.returns-clause-adds
+returns-clause-adds g c =
     subst (λ (kept : Guarded _). Adds by_of c.args.by kept.history (values c.note_fault.new.history.items)
-    (λ added. BringsIt (is_told kept.history) c.args.number kept.history added c.bring-answer.result)) c.self.view_is
+    (λ added. BringsIt (is_told kept.history) (numbered c.bring-answer.new.self.index) c.args.number kept.history added c.bring-answer.result)) c.self.view_is
     (all_brought g.D.Disk c.args.by (values c.self.inside.history.items) c.self.inside.archive c.bring-answer.new.self c.self.invariant.0 c.self.invariant.1
     c.bring-answer.ensures.reads.stays.seen (ap (λ (now : Contents). now.limits) c.bring-answer.ensures.reads.stays.others)
     (ap (λ (now : Contents). now.tells) c.bring-answer.ensures.reads.stays.others) c.args.number (values c.note_fault.new.history.items) c.bring-answer.result
@@ -30,3 +33,8 @@ returns g c =
     c.reserve.ensures.items c.is_disk_fault.ensures c.note_fault.ensures)
     c.bring-answer.ensures.reads.faults c.bring-answer.ensures.brings c.bring-answer.ensures.names
     c.bring-answer.ensures.digests c.bring-answer.ensures.shows.consistent.sound).1
+
+pub returns-clause-shows : goal.returns-clause-shows
+returns-clause-shows g c =
+    subst (λ (kept : Guarded _). KeepsShown kept.holdings c.bring-answer.new.self) c.self.view_is
+    (λ e has. subst (λ (l : List Facts). Contains l e) (sym c.bring-answer.ensures.reads.stays.shown) has)

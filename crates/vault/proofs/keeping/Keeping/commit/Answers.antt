@@ -1,9 +1,15 @@
 -- A capture was stored, or not.
-use Rattle.std.proofs.Common.{Bool, List, sym, subst}
+use Rattle.std.proofs.Common.{Bool, true, List, sym, subst}
+use Rattle.std.specs.Prelude.{Contains}
+use Rattle.std.proofs.lemmas.List.Elements.{Contains-append_left}
 use Rattle.capture.specs.declared.book.Book.{Book}
 use Rattle.archive_shelf.specs.Comparing.{IsRight}
 use Rattle.history_lock.specs.Seen.{Adds}
-use Rattle.vault.specs.Guarded.{Guarded}
+use Rattle.archive_core.specs.Shown.{numbered}
+use Rattle.archive_core.specs.Told.{told_of}
+use Rattle.archive_shelf.proofs.CallLaws.{stored_goes_on}
+use Rattle.cdxj_index.specs.Facts.{Facts}
+use Rattle.vault.specs.Guarded.{Guarded, KeepsShown}
 use Rattle.vault.specs.History.{by_of, is_told, told_book}
 use Rattle.vault.specs.Noting.{Notes}
 use Rattle.vault.specs.Turns.{Commits}
@@ -28,8 +34,8 @@ invariant_of-self-2 g c =
     (λ (added : List Noted). Notes c.args.by c.args.taken.now c.stored-answer.result.1 c.stored-answer.result.0 added)
     c.reserve.ensures.items c.note_store.ensures)).0
 
-pub returns : goal.returns
-returns g c =
+pub returns-clause-adds : goal.returns-clause-adds
+returns-clause-adds g c =
     subst (λ (kept : Guarded _). Adds by_of c.args.by kept.history (values c.note_store.new.history.items)
     (λ added. Commits (is_told kept.history) c.args.taken.now kept.history added c.stored-answer.result.0)) c.self.view_is
     (all_committed g.D.Disk c.args.by c.args.taken.now (values c.self.inside.history.items) (values c.note_store.new.history.items)
@@ -38,3 +44,10 @@ returns g c =
     (noting_from c.self.inside.history.items c.reserve.new.self.items (values c.note_store.new.history.items)
     (λ (added : List Noted). Notes c.args.by c.args.taken.now c.stored-answer.result.1 c.stored-answer.result.0 added)
     c.reserve.ensures.items c.note_store.ensures)).1
+
+pub returns-clause-shows : goal.returns-clause-shows
+returns-clause-shows g c =
+    let more = (stored_goes_on true c.args.taken.now (told_of g.D.Disk c.self.inside.archive) (told_of g.D.Disk c.stored-answer.new.archive) c.stored-answer.result.0
+    c.stored-answer.ensures.shows.consistent c.stored-answer.ensures.stores.told).shows in
+    subst (λ (kept : Guarded _). KeepsShown kept.holdings c.stored-answer.new.archive) c.self.view_is
+    (λ e has. subst (λ (l : List Facts). Contains l e) (sym more.joined) (Contains-append_left (numbered c.self.inside.archive.index) more.rest e has))

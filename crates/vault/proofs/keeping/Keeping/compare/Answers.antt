@@ -1,8 +1,10 @@
 -- A payload was looked for.
-use Rattle.std.proofs.Common.{ap, subst}
+use Rattle.std.proofs.Common.{ap, subst, sym}
+use Rattle.std.specs.Prelude.{Contains}
 use Rattle.archive_core.specs.Holdings.{Holdings}
+use Rattle.archive_core.specs.Shown.{numbered}
 use Rattle.history_lock.specs.Seen.{Adds}
-use Rattle.vault.specs.Guarded.{Guarded}
+use Rattle.vault.specs.Guarded.{Guarded, KeepsShown}
 use Rattle.vault.specs.History.{by_of, is_told}
 use Rattle.vault.specs.Turns.{Compares}
 use Rattle.vault.proofs.NotingLaws.{joined_by, values}
@@ -20,8 +22,8 @@ invariant_of-self-2 g c =
     c.reserve.ensures.items c.is_disk_fault.ensures c.note_fault.ensures)
     c.compare-answer.ensures.faults c.compare-answer.ensures.looks c.shows_its_book-2.ensures.shows.consistent.sound).0
 
-pub returns : goal.returns
-returns g c =
+pub returns-clause-adds : goal.returns-clause-adds
+returns-clause-adds g c =
     subst (λ (kept : Guarded _). Adds by_of c.args.by kept.history (values c.note_fault.new.history.items)
     (λ added. Compares (is_told kept.history) c.args.payload.now kept.history added c.compare-answer.result)) c.self.view_is
     (all_compared g.D.Disk c.args.by (values c.self.inside.history.items) c.self.inside.archive c.compare-answer.new.self c.self.invariant.0 c.self.invariant.1
@@ -32,3 +34,8 @@ returns g c =
     (joined_by c.self.inside.history.items c.reserve.new.self.items c.note_fault.new.history.items c.args.by c.is_disk_fault.result _
     c.reserve.ensures.items c.is_disk_fault.ensures c.note_fault.ensures)
     c.compare-answer.ensures.faults c.compare-answer.ensures.looks c.shows_its_book-2.ensures.shows.consistent.sound).1
+
+pub returns-clause-shows : goal.returns-clause-shows
+returns-clause-shows g c =
+    subst (λ (kept : Guarded _). KeepsShown kept.holdings c.compare-answer.new.self) c.self.view_is
+    (λ e has. subst (λ (held : Holdings _). Contains (numbered held.index) e) (sym c.compare-answer.ensures.only_looks.others) has)

@@ -1,8 +1,11 @@
 -- A capture was given as a piece, or not.
-use Rattle.std.proofs.Common.{ap, subst}
+use Rattle.std.proofs.Common.{List, ap, subst, sym}
+use Rattle.std.specs.Prelude.{Contains}
+use Rattle.cdxj_index.specs.Facts.{Facts}
 use Rattle.archive_shelf.specs.Contents.{Contents}
+use Rattle.archive_core.specs.Shown.{numbered}
 use Rattle.history_lock.specs.Seen.{Adds}
-use Rattle.vault.specs.Guarded.{Guarded}
+use Rattle.vault.specs.Guarded.{Guarded, KeepsShown}
 use Rattle.vault.specs.History.{by_of, is_told}
 use Rattle.vault.specs.Turns.{GivesIt}
 use Rattle.vault.proofs.NotingLaws.{joined_by, values}
@@ -18,13 +21,18 @@ invariant_of-self-2 g c =
     c.reserve.ensures.items c.is_disk_fault.ensures c.note_fault.ensures)
     c.piece-answer.ensures.reads.faults c.piece-answer.ensures.gives c.piece-answer.ensures.digests c.piece-answer.ensures.shows.consistent.sound).0
 
-pub returns : goal.returns
-returns g c =
+pub returns-clause-adds : goal.returns-clause-adds
+returns-clause-adds g c =
     subst (λ (kept : Guarded _). Adds by_of c.args.by kept.history (values c.note_fault.new.history.items)
-    (λ added. GivesIt (is_told kept.history) c.args.number kept.history added c.piece-answer.result)) c.self.view_is
+    (λ added. GivesIt (is_told kept.history) (numbered c.piece-answer.new.self.index) c.args.number kept.history added c.piece-answer.result)) c.self.view_is
     (all_given g.D.Disk c.args.by (values c.self.inside.history.items) c.self.inside.archive c.piece-answer.new.self c.self.invariant.0 c.self.invariant.1
     c.piece-answer.ensures.reads.stays.seen (ap (λ (now : Contents). now.limits) c.piece-answer.ensures.reads.stays.others)
     (ap (λ (now : Contents). now.tells) c.piece-answer.ensures.reads.stays.others) c.args.number (values c.note_fault.new.history.items) c.piece-answer.result
     (joined_by c.self.inside.history.items c.reserve.new.self.items c.note_fault.new.history.items c.args.by c.is_disk_fault.result _
     c.reserve.ensures.items c.is_disk_fault.ensures c.note_fault.ensures)
     c.piece-answer.ensures.reads.faults c.piece-answer.ensures.gives c.piece-answer.ensures.digests c.piece-answer.ensures.shows.consistent.sound).1
+
+pub returns-clause-shows : goal.returns-clause-shows
+returns-clause-shows g c =
+    subst (λ (kept : Guarded _). KeepsShown kept.holdings c.piece-answer.new.self) c.self.view_is
+    (λ e has. subst (λ (l : List Facts). Contains l e) (sym c.piece-answer.ensures.reads.stays.shown) has)

@@ -17,14 +17,14 @@ invariant_of-self g c =
     let at_first : c.self.inside.whole ≡ true = subst (λ (p : Publication _). p.whole ≡ true) (sym c.self.view_is) c.requires.whole in
     publishes_after c.growth_keeps_captures.ensures.itself c.growth_keeps_captures.ensures.steps c.self.inside.keeping.history
     c.commit-answer.new.self.history c.self.inside.keeping.holdings c.commit-answer.new.self.holdings c.self.inside.publisher c.self.inside.appended
-    c.stands.ensures c.stands-2.ensures c.commit-answer.ensures.added c.commit-answer.ensures.is_before_and_added c.args.taken.now
+    c.stands.ensures c.stands-2.ensures c.commit-answer.ensures.adds.added c.commit-answer.ensures.adds.is_before_and_added c.args.taken.now
     (is_told c.self.inside.keeping.history)
     c.commit-answer.result (not c.may_change-changed.result)
     (subst (λ (b : Bool). Publishes (is_told c.self.inside.keeping.history) c.self.inside.keeping.history c.self.inside.keeping.holdings c.self.inside.publisher b c.self.inside.appended)
     at_first c.self.invariant)
-    c.commit-answer.ensures.done.answers (ap not c.may_change-changed.ensures)
+    c.commit-answer.ensures.shows c.commit-answer.ensures.adds.done.answers (ap not c.may_change-changed.ensures)
 
 pub returns : goal.returns
 returns g c =
     subst (λ (p : Publication _). Adds by_of c.args.by p.kept.history c.commit-answer.new.self.history
-    (λ added. Commits (is_told p.kept.history) c.args.taken.now p.kept.history added c.commit-answer.result)) c.self.view_is c.commit-answer.ensures
+    (λ added. Commits (is_told p.kept.history) c.args.taken.now p.kept.history added c.commit-answer.result)) c.self.view_is c.commit-answer.ensures.adds

@@ -1,18 +1,12 @@
 use Rattle.std.proofs.Common.{subst}
 use Rattle.vault.specs.Guarded.{Publication}
-use Rattle.vault.specs.Listing.{IsCurrent, IsListed}
+use Rattle.vault.specs.Listing.{IsListed}
 use Rattle.vault.specs.History.{is_told}
-use Rattle.vault.proofs.PublishLaws.{current_now, listed_now}
+use Rattle.vault.proofs.PublishLaws.{listed_now}
 use Rattle.vault.proofs.published.Published.tell.Goals as goal
 
 pub returns-clause-listed : goal.returns-clause-listed
 returns-clause-listed g c =
     subst (λ (p : Publication _). IsListed p.kept.history c.note.result c.self.inside.whole) c.self.view_is
     (listed_now (is_told c.self.inside.keeping.history) c.self.inside.keeping.history c.self.inside.keeping.holdings c.self.inside.publisher c.self.inside.whole c.self.inside.appended
-    c.self.invariant c.stands.ensures c.note.result c.note.ensures)
-
-pub returns-clause-current : goal.returns-clause-current
-returns-clause-current g c =
-    subst (λ (p : Publication _). IsCurrent p.kept.history c.note.result.items) c.self.view_is
-    (current_now (is_told c.self.inside.keeping.history) c.self.inside.keeping.history c.self.inside.keeping.holdings c.self.inside.publisher c.self.inside.whole c.self.inside.appended
     c.self.invariant c.stands.ensures c.note.result c.note.ensures)

@@ -1,12 +1,11 @@
 -- The answer is held back where the list that was seen isn't the beginning of the one that the turn tells of.
 use Rattle.std.proofs.Common.{sym, subst}
 use Rattle.std.specs.Prelude.{Result}
-use Rattle.archive_shelf.specs.Answers.{Brings}
 use Rattle.archive_shelf.specs.declared.fault.BringFault.{BringFault}
 use Rattle.capture.specs.declared.captured.Brought.{Brought}
 use Rattle.history_lock.specs.Seen.{Turn}
-use Rattle.vault.specs.Company.{contents_at}
 use Rattle.vault.specs.History.{by_of, is_told}
+use Rattle.vault.specs.Items.{shown_in}
 use Rattle.vault.specs.Turns.{BringsIt}
 use Rattle.vault.proofs.BringLaws.{names_one, prefix_if, turn_brings, turn_held}
 use Rattle.vault.proofs.vault.Vault.bring_beside.Goals as goal
@@ -19,16 +18,12 @@ begins-agrees-requires g c =
 pub returns-clause-turn : goal.returns-clause-turn
 returns-clause-turn g c =
     subst (λ (r : Result Brought BringFault). Turn by_of c.args.pass.now c.take-answer.new.pass.seen
-    (λ found added. BringsIt (is_told c.args.pass.now.seen) c.args.number found added r)) (sym c.hold_back.ensures)
-    (turn_held c.growth_keeps_captures.ensures.keeps c.args.pass.now c.take-answer.new.pass c.args.number c.take-answer.new.listed.note c.args.shown.now
-    c.take-answer.new.listed.whole c.begins-agrees.result c.take-answer.result c.requires.begun c.take-answer.ensures.listed c.take-answer.ensures.told c.take-answer.ensures.current
+    (λ found added. BringsIt (is_told c.args.pass.now.seen) (shown_in c.args.shown.now.items) c.args.number found added r)) (sym c.hold_back.ensures)
+    (turn_held c.args.pass.now c.take-answer.new.pass.seen c.args.number c.take-answer.new.listed.note.items c.args.shown.now.items c.begins-agrees.result
+    (prefix_if c.begins-agrees.result c.args.shown.now.items c.take-answer.new.listed.note.items c.begins-agrees.ensures) c.take-answer.result
     c.take-answer.ensures.turn)
 
 pub returns-clause-brings : goal.returns-clause-brings
 returns-clause-brings g c =
-    subst (λ (r : Result Brought BringFault). Brings (contents_at (record { known = c.take-answer.new.pass; shown = c.args.shown.now })) c.args.number r)
-    (sym c.hold_back.ensures)
-    (turn_brings c.growth_keeps_captures.ensures.keeps c.args.pass.now c.take-answer.new.pass c.args.number c.take-answer.new.listed.note c.args.shown.now
-    c.take-answer.new.listed.whole c.begins-agrees.result c.take-answer.result c.requires.begun c.take-answer.ensures.listed c.take-answer.ensures.told c.take-answer.ensures.current
-    c.take-answer.ensures.turn
-    (prefix_if c.begins-agrees.result c.args.shown.now.items c.take-answer.new.listed.note.items c.begins-agrees.ensures))
+    turn_brings c.args.pass.now c.take-answer.new.pass c.args.shown.now c.requires.begun c.take-answer.ensures.told c.args.number c.hold_back.result
+    (returns-clause-turn g c)
