@@ -28,7 +28,8 @@ use Rattle.archive_volumes.specs.Spots.{AreHeldWhole, AreSpotsOf, AreWithin, Has
 use Rattle.archive_volumes.specs.declared.spot.Form.TheVariants as forms
 use Rattle.archive_opening.proofs.ShapeLaws.{IsEntryFor, last_some, numbered_with, requested_with, same_length, sealed_at}
 use Rattle.archive_opening.proofs.TakeLaws.{get_before}
-use Rattle.archive_opening.specs.Telling.{AreFilledBefore, AreNumbered, AreRequested, IsMadeUp}
+use Rattle.archive_opening.proofs.SealedLaws.{sealed_with}
+use Rattle.archive_opening.specs.Telling.{AreFilledBefore, AreNumbered, AreRequested, IsMadeUp, sealed_in}
 use Rattle.archive_opening.proofs.ToldLaws.{begun_told, tells_told}
 use Rattle.archive_opening.specs.Gathering.{IsSteady, TellsOf}
 use Rattle.archive_opening.specs.Lines.{Comes, EntersLine, HasAddedLine, IsLastFilled, capture_by, made_of}
@@ -46,6 +47,7 @@ captured_so b line stored at = ap (λ (o : Option Stored). unwrap_or o (made_of 
 pub record HasOneMore (was is : Gathered) : Type 0 where
   pub captures_are : length (captures (book_of is.held)) ≡ length (captures (book_of was.held)) + 1
   pub volumes : length (book_of is.held).volumes ≡ length (book_of was.held).volumes
+  pub sealed : sealed_in (book_of is.held).volumes ≡ sealed_in (book_of was.held).volumes
   pub namespace : (book_of is.held).namespace ≡ (book_of was.held).namespace
   pub spots : length is.spots.items ≡ suc (length was.spots.items)
   pub filled : AreFilledBefore (book_of was.held) → AreFilledBefore (book_of is.held)
@@ -75,6 +77,7 @@ more_captures was is stored line steady number some added =
     record {
       captures_are = count;
       volumes = ap (λ (b : Book). length b.volumes) added.book ∙ same_length book.volumes stored;
+      sealed = ap (λ (b : Book). sealed_in b.volumes) added.book ∙ sealed_with book.volumes stored;
       namespace = ap (λ (b : Book). b.namespace) added.book;
       spots = omega (arith, ap length added.spots, length-append was.spots.items (told_spot line ∷ []));
       filled = λ filled. subst AreFilledBefore (sym added.book) (λ k volume at less.

@@ -2,11 +2,15 @@ pub mod BeginLaws
 pub mod CandidateLaws
 pub mod CaptureLaws
 pub mod ComeLaws
+pub mod CountLaws
+pub mod CountedLaws
 pub mod EndLaws
 pub mod FirstLaws
 pub mod FollowingLaws
 pub mod FrontLaws
 pub mod KnownLaws
+pub mod LineOrderLaws
+pub mod LinedLaws
 pub mod MeasuringLaws
 pub mod OpenedLaws
 pub mod OriginalLaws
@@ -14,6 +18,7 @@ pub mod PlaceLaws
 pub mod ReadingLaws
 pub mod RefusalLaws
 pub mod RevisitLaws
+pub mod SealedLaws
 pub mod ShapeLaws
 pub mod SkipLaws
 pub mod SpottedLaws

@@ -46,10 +46,11 @@ use Rattle.archive_volumes.specs.declared.spot.Form.{Form}
 use Rattle.archive_volumes.specs.declared.spot.Form.TheVariants as forms
 use Rattle.archive_volumes.specs.declared.spot.Spot.{Spot}
 use Rattle.archive_opening.proofs.PlaceLaws.{first_within}
+use Rattle.archive_opening.proofs.SealedLaws.{sealed_with}
 use Rattle.archive_opening.proofs.TakeLaws.{get_before, sorted_push}
 use Rattle.archive_opening.specs.Gathering.{HasAdded, IsNamedAs, IsSteady}
 use Rattle.archive_opening.specs.Noting.{IsNoted, IsWithin, record_at, referring}
-use Rattle.archive_opening.specs.Telling.{AreFilledBefore, AreNumbered, AreRequested, HasTakenOne, IsMadeUp, RefersAt}
+use Rattle.archive_opening.specs.Telling.{AreFilledBefore, AreNumbered, AreRequested, HasTakenOne, IsMadeUp, RefersAt, sealed_in}
 use Rattle.archive_opening.specs.declared.gathered.Gathered.{Gathered}
 use Rattle.archive_opening.specs.declared.noting.Noted.{Noted}
 
@@ -336,6 +337,7 @@ module _ (was is : Gathered) (place : Place) (group : Group) (namespace : List �
   taken_one whole = record {
     captures_are = ap (λ (b : Book). length (captures b)) book_is ∙ ap length gains ∙ length-append (captures book) (stored ∷ []);
     volumes = ap (λ (b : Book). length b.volumes) book_is ∙ same_length book.volumes stored;
+    sealed = ap (λ (b : Book). sealed_in b.volumes) book_is ∙ sealed_with book.volumes stored;
     namespace = ap (λ (b : Book). b.namespace) book_is;
     filled = λ filled. subst AreFilledBefore (sym book_is) (λ k volume at less.
         filled k volume (sealed_at book.volumes stored k volume at less) (omega (arith, less, same_length book.volumes stored)));

@@ -40,9 +40,17 @@ use Rattle.archive_opening.specs.declared.telling.FileLines.{FileLines}
 -- ---- the lines, whatever is known
 
 -- a file of an image
-file_is : (image : Image) (k : ℕ) → file_of image Warc k ≡ get_or (warc_files image) k []
+pub file_is : (image : Image) (k : ℕ) → file_of image Warc k ≡ get_or (warc_files image) k []
 unfolding file_of
 file_is image k = refl
+
+-- what wasn't read of the last volume's file
+pub rest_is_drop : (position : Position) (files : List (List ℕ)) (k : ℕ) → k + 1 ≡ position.extent.volumes
+    → unread position files ≡ drop position.extent.end (get_or files k [])
+rest_is_drop position files k is =
+    let at : position.extent.volumes - 1 ≡ k = omega (arith, is) in
+    ap (λ (i : ℕ). drop position.extent.end (get_or (take position.extent.volumes files) i [])) at
+    ∙ ap (λ (f : List ℕ). drop position.extent.end f) (get_or-take position.extent.volumes files k [] (omega (arith, is)))
 
 pub few_next : (first len : ℕ) (lines : List Line) → first < 2 ^ 32 - 1 → AreNext first len lines → first + length lines < 2 ^ 32 - 1
 few_next first len [] few are = omega (arith, few)
@@ -108,10 +116,7 @@ module _ {D : Type 0} (d : Ghosts D) (known : Option Book) (old new : Scanning D
   whole tells = last_with_more ts rest k (at_last tells)
 
   rest_is : rest ≡ drop (position_of old).extent.end (get_or (files_in d old) k [])
-  rest_is =
-      let at : (position_of old).extent.volumes - 1 ≡ k = omega (arith, opens.volume_is) in
-      ap (λ (i : ℕ). drop (position_of old).extent.end (get_or (take (position_of old).extent.volumes (files_in d old)) i [])) at
-      ∙ ap (λ (f : List ℕ). drop (position_of old).extent.end f) (get_or-take (position_of old).extent.volumes (files_in d old) k [] (omega (arith, opens.volume_is)))
+  rest_is = rest_is_drop (position_of old) (files_in d old) k opens.volume_is
 
   file_long : IsTrue d.tells → length (get_or (files_in d old) k []) ≡ told.len
   file_long tells = sym ((read_of tells).len_is ∙ ap length (file_is (d.reading (disk_of old)) k))

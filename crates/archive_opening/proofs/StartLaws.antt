@@ -17,12 +17,13 @@ use Rattle.archive_volumes.proofs.SpotLaws.{made_stay, spots_stay}
 use Rattle.archive_volumes.specs.Held.{book_of}
 use Rattle.archive_volumes.specs.Spots.{AreHeldWhole, AreSpotsOf}
 use Rattle.archive_volumes.specs.declared.spot.Spot.{Spot}
+use Rattle.archive_opening.proofs.SealedLaws.{sealed_push}
 use Rattle.archive_opening.specs.Gathering.{HasVolumeMore, IsSteady}
-use Rattle.archive_opening.specs.Telling.{AreFilledBefore, HasBegunOne}
+use Rattle.archive_opening.specs.Telling.{AreFilledBefore, HasBegunOne, sealed_in}
 use Rattle.archive_opening.specs.declared.gathered.Gathered.{Gathered}
 
 -- each volume before a new one is one of those that were there
-before_new : (volumes : List Volume) (last volume : Volume) (k : ℕ) → slice_get (volumes ++ last ∷ []) k ≡ Some volume → k < length volumes
+pub before_new : (volumes : List Volume) (last volume : Volume) (k : ℕ) → slice_get (volumes ++ last ∷ []) k ≡ Some volume → k < length volumes
     → slice_get volumes k ≡ Some volume
 before_new [] last volume k at less = absurd (omega (arith, less))
 before_new (v ∷ vs) last volume zero at less = at
@@ -39,7 +40,9 @@ begun_one was is born filled more =
     record {
       captures_are = same_is;
       volumes = ap (λ (b : Book). length b.volumes) more.book ∙ length_push old.volumes (new_volume born);
+      sealed = ap (λ (b : Book). sealed_in b.volumes) more.book ∙ sealed_push old.volumes (new_volume born);
       namespace_is = ap (λ (b : Book). b.namespace) more.book;
+      namespace_stays = λ some. ap (λ (b : Book). b.namespace) more.book;
       spots = more.spots;
       filled = λ before. subst AreFilledBefore (sym more.book) (λ k volume at less.
           let within : k < length old.volumes = omega (arith, less, length_push old.volumes (new_volume born)) in
@@ -91,7 +94,9 @@ begun_anew was first is namespace born steady none empty no_spots no_entries mor
     record {
       captures_are = one.captures_are ∙ first_none ∙ sym nothing;
       volumes = omega (arith, one.volumes, none, ap (λ (b : Book). length b.volumes) empty);
+      sealed = one.sealed ∙ ap (λ (b : Book). b.volumes) empty ∙ sym (no_volume (book_of was.held).volumes none);
       namespace_is = one.namespace_is ∙ ap (λ (b : Book). b.namespace) empty;
+      namespace_stays = λ some. absurd (omega (arith, some, none));
       spots = one.spots ∙ no_spots ∙ sym spots;
       filled = λ before. one.filled (λ k volume at less.
           absurd (omega (arith, less, ap (λ (b : Book). length b.volumes) empty)));
@@ -112,5 +117,9 @@ begun_anew was first is namespace born steady none empty no_spots no_entries mor
       });
     }
   where
+    no_volume : (volumes : List Volume) → length volumes ≡ 0 → volumes ≡ []
+    no_volume [] e = refl
+    no_volume (v ∷ vs) e = absurd (omega (arith, e))
+
     none_in : (e : Facts) → Contains [] e → ⊥
     none_in e has = omega (arith, has.1)

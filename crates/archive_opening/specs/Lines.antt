@@ -1,5 +1,8 @@
 -- What is gathered of the lines of a volume.
 use Rattle.std.specs.Prelude.{◌≡◌, ◌≢◌, ℕ, suc, ◌+◌, ◌-◌, ◌^◌, ◌<◌, ◌≤◌, List, [], ◌∷◌, ◌++◌, length, codes, if◌then◌else◌, option_to_list, Option, Some, None, slice_get, slice_index_or, unwrap_or, ⊤}
+use Rattle.std.specs.List.Sorted.{IsPermutation}
+use Rattle.std.specs.Ordering.{nat_cmp}
+use Rattle.std.specs.declared.cmp.Ordering.{Ordering}
 use Rattle.capture.specs.Captures.{captures}
 use Rattle.capture.specs.declared.book.Book.{Book}
 use Rattle.capture.specs.declared.captured.Kept.TheVariants.{Wire, Same}
@@ -17,7 +20,7 @@ use Rattle.warc_text.specs.StandsFor.{IdsDifferIn}
 use Rattle.archive_shelf.specs.Storing.{with_capture}
 use Rattle.archive_opening.specs.Gathering.{IsGathered}
 use Rattle.archive_opening.specs.Reading.{IsBegunBy}
-use Rattle.archive_opening.specs.Telling.{AreFilledBefore, AreNumbered, AreRequested}
+use Rattle.archive_opening.specs.Telling.{AreFilledBefore, AreNumbered, AreRequested, sealed_in}
 use Rattle.archive_volumes.specs.Spots.{HasPlace}
 use Rattle.capture.specs.declared.book.Volume.{Volume}
 use Rattle.archive_volumes.specs.Held.{book_of}
@@ -57,6 +60,23 @@ abbrev pub AreNext : ℕ → ℕ → List Line → Type 0
 AreNext first len [] = ⊤
 AreNext first len (line ∷ lines) = IsNext first len line × AreNext (suc first) len lines
 
+-- the record of each line stands behind that of the line before it, the first one behind this place
+abbrev pub AreBehind : ℕ → List Line → Type 0
+AreBehind at [] = ⊤
+AreBehind at (line ∷ lines) = (at ≤ line.offset) × AreBehind (line.offset + line.length) lines
+
+-- by the numbers of their captures
+abbrev pub line_numbers : Line → Line → Ordering
+line_numbers a b = nat_cmp a.number b.number
+
+-- Lines, in whatever order, that are taken in place of groups: they are those of the captures from this number on, one each, whose records stand one
+-- behind the other in a file of this length.
+pub record AreTakable (first len : ℕ) (lines : List Line) : Type 0 where
+  pub in_order : List Line
+  pub moved : IsPermutation lines in_order
+  pub next : AreNext first len in_order
+  pub behind : AreBehind 0 in_order
+
 -- what is added of a line whose capture is this one
 pub record HasAddedLine (was is : Gathered) (stored : Stored) (line : Line) : Type 0 where
   pub book : book_of is.held ≡ with_capture (book_of was.held) stored
@@ -74,6 +94,7 @@ IsLastFilled book = (k : ℕ) (volume : Volume) → k + 1 ≡ length book.volume
 pub record HasMoreCaptures (was is : Gathered) (count : ℕ) : Type 0 where
   pub captures_are : length (captures (book_of is.held)) ≡ length (captures (book_of was.held)) + count
   pub volumes : length (book_of is.held).volumes ≡ length (book_of was.held).volumes
+  pub sealed : sealed_in (book_of is.held).volumes ≡ sealed_in (book_of was.held).volumes
   pub namespace : (book_of is.held).namespace ≡ (book_of was.held).namespace
   pub filled : AreFilledBefore (book_of was.held) → AreFilledBefore (book_of is.held)
   pub last : 0 < count → IsLastFilled (book_of is.held)

@@ -74,6 +74,12 @@ AreCheckpointsSynced reading images = Leaves images (λ image. cdxj_files image 
 abbrev pub AreFilledBefore : Book → Type 0
 AreFilledBefore book = (k : ℕ) (volume : Volume) → slice_get book.volumes k ≡ Some volume → k + 1 < length book.volumes → 0 < length volume.captures
 
+-- the volumes but the last
+abbrev pub sealed_in : List Volume → List Volume
+sealed_in [] = []
+sealed_in (volume ∷ []) = []
+sealed_in (volume ∷ next ∷ others) = volume ∷ sealed_in (next ∷ others)
+
 -- where no book is known, what is kept of the captures agrees with a book, in which each that a line told of keeps its whole wire
 pub record IsMadeUp (g : Gathered) : Type 0 where
   pub spots : AreSpotsOf (book_of g.held) g.spots.items
@@ -110,7 +116,9 @@ RefersAt same (Some first) = same ≢ None
 pub record HasBegunOne (was is : Gathered) (namespace : List ℕ) : Type 0 where
   pub captures_are : captures (book_of is.held) ≡ captures (book_of was.held)
   pub volumes : length (book_of is.held).volumes ≡ length (book_of was.held).volumes + 1
+  pub sealed : sealed_in (book_of is.held).volumes ≡ (book_of was.held).volumes
   pub namespace_is : (book_of is.held).namespace ≡ namespace
+  pub namespace_stays : 0 < length (book_of was.held).volumes → (book_of is.held).namespace ≡ (book_of was.held).namespace
   pub spots : is.spots.items ≡ was.spots.items
   pub filled : AreFilledBefore (book_of was.held) → AreFilledBefore (book_of is.held)
   pub numbered : AreNumbered was → AreNumbered is
@@ -121,6 +129,7 @@ pub record HasBegunOne (was is : Gathered) (namespace : List ℕ) : Type 0 where
 pub record HasTakenOne (was is : Gathered) (place : Place) : Type 0 where
   pub captures_are : length (captures (book_of is.held)) ≡ length (captures (book_of was.held)) + 1
   pub volumes : length (book_of is.held).volumes ≡ length (book_of was.held).volumes
+  pub sealed : sealed_in (book_of is.held).volumes ≡ sealed_in (book_of was.held).volumes
   pub namespace : (book_of is.held).namespace ≡ (book_of was.held).namespace
   pub filled : AreFilledBefore (book_of was.held) → AreFilledBefore (book_of is.held)
   pub last : (k : ℕ) (volume : Volume) → k + 1 ≡ length (book_of is.held).volumes → slice_get (book_of is.held).volumes k ≡ Some volume → volume.captures ≢ []

@@ -1,6 +1,6 @@
 //! Opening by checkpoints: a volume behind which another one stands isn't read past its warcinfo, where a finished checkpoint tells of its
 //! captures.
-ghost use Rattle.std.specs.Prelude.{◌≡◌, ◌+◌, ◌<◌, ◌≤◌, ◌^◌, ⊤, IfErr, IfOk, IfSome, IsTrue, None, OnOk, Option, length};
+ghost use Rattle.std.specs.Prelude.{◌≡◌, ◌+◌, ◌<◌, ◌≤◌, ◌^◌, ⊤, IfErr, IfNone, IfOk, IfSome, IsTrue, None, OnOk, Option, length};
 ghost use Rattle.capture.specs.declared.book.Book.{Book as BookValue};
 ghost use Rattle.warc_journal.specs.Extents.{warc_files};
 ghost use Rattle.warc_journal.specs.Journals.{Rests, disk_of as disk_of_journal};
@@ -8,9 +8,12 @@ ghost use Rattle.volume_scan.specs.Scannings.{IsInPlace, disk_of, file_count, fi
 ghost use Rattle.volume_scan.specs.declared.position.Stage.TheVariants.{Done as IsDone};
 ghost use Rattle.disk_model.specs.Image as images;
 ghost use Rattle.checkpoint.specs.Checkpoints.{AreLinesFor, IsCheckpoint, checkpoint_of};
+ghost use Rattle.checkpoint.specs.Reading.{IsNoCheckpoint};
 ghost use Rattle.warc_text.specs.Ids.{IsUuid};
+ghost use Rattle.archive_opening.specs.Counting.{CountsOn, CountsOnTo, CountsTo, CountsUpTo, HasCountsOf};
 ghost use Rattle.archive_opening.specs.Lines.{FitsVolume, IsReadOf};
 ghost use Rattle.archive_opening.specs.Gathering.{HasAll, IsOpened, IsSteady, left};
+ghost use Rattle.archive_volumes.specs.Held.{book_of};
 ghost use Rattle.archive_opening.specs.Opening.{CountsFault, IsCause, IsDamageIn, IsOtherIn, IsOutside, IsReadRefusal};
 ghost use Rattle.archive_opening.specs.Telling.{AreCheckpointsSynced, GoesWith, HasAllOf, IsAskedFor, IsKnownRefusal, IsOpenedBy, IsReadWhole, IsSmall, MayBeSettled, OpensAt, ReadsWhole, ReadsWholeOn, ReadsWholeTo, StepsOn, TellsOn, known_to, step_of};
 
@@ -71,6 +74,8 @@ fn read_found<D: Disk>(
     requires in_place { IsInPlace D.Disk scanning.old }
     requires steady { IsSteady gathered.old }
     requires goes { GoesWith D.Disk known.now.value scanning.old gathered.old }
+    requires counts { IsTrue D.tells → CountsOn (D.reading (disk_of scanning.old)) (position_of scanning.old) (book_of gathered.old.held) }
+    ensures counts { IsTrue D.tells → IfOk result (CountsTo (D.reading (disk_of scanning.new)) (position_of scanning.new) (book_of gathered.new.held)) }
     ensures steps { IfOk result (StepsOn D.Disk known.now.value scanning.old scanning.new gathered.new) }
     ensures refused { IfErr result (IsKnownRefusal known.now.value) }
     ensures whole { ReadsWhole D.Disk scanning.old gathered.old → IfOk result (ReadsWholeTo D.Disk scanning.new gathered.new) }
@@ -123,6 +128,8 @@ fn take_lines<D: Disk>(
     requires another { told.volume + 1 < file_count scanning.old }
     requires fit { AreLinesFor told.volume told.lines.items }
     requires read { IsTrue D.tells → IsReadOf (D.reading (disk_of scanning.old)) told }
+    requires counts { IsTrue D.tells → CountsUpTo (D.reading (disk_of scanning.old)) (position_of scanning.old) (book_of gathered.old.held) }
+    ensures counts { IsTrue D.tells → OnOk result (CountsOn (D.reading (disk_of scanning.new)) (position_of scanning.new) (book_of gathered.new.held)) }
     ensures goes { OnOk result (GoesWith D.Disk known.now.value scanning.new gathered.new) }
     ensures steady { OnOk result (IsSteady gathered.new) }
     ensures left { OnOk result (left scanning.new ≤ left scanning.old) }
@@ -174,6 +181,7 @@ fn lines_for<D: Disk>(
     volume: u32,
 ) -> Result<Option<Vec<Line>>, ReopenFault>
     ensures read { IsTrue D.tells → IfOk result (λ read. IfSome read (λ lines. IsCheckpoint volume lines.items (checkpoint_of (D.reading disk.old) volume))) }
+    ensures none { IsTrue D.tells → IfOk result (λ read. IfNone read (IsNoCheckpoint volume (checkpoint_of (D.reading disk.old) volume))) }
     ensures fit { IfOk result (λ read. IfSome read (λ lines. AreLinesFor volume lines.items)) }
     ensures rests { IsTrue D.tells → Rests D.Disk disk.old disk.new }
     ensures still { OnOk result (D.faults disk.new ≡ D.faults disk.old) }
@@ -195,6 +203,7 @@ fn file_lines<D: Disk>(
 ) -> Result<Option<FileLines>, ReopenFault>
     requires there { IsTrue D.tells → volume < images.file_count (D.reading disk.old) Kind.Warc }
     ensures read { IsTrue D.tells → IfOk result (λ read. IfSome read (IsReadOf (D.reading disk.old))) }
+    ensures none { IsTrue D.tells → IfOk result (λ read. IfNone read (IsNoCheckpoint volume (checkpoint_of (D.reading disk.old) volume))) }
     ensures fit { IfOk result (λ read. IfSome read (FitsVolume volume)) }
     ensures rests { IsTrue D.tells → Rests D.Disk disk.old disk.new }
     ensures still { OnOk result (D.faults disk.new ≡ D.faults disk.old) }
@@ -221,6 +230,8 @@ fn tell_volume<D: Disk>(
     requires steady { IsSteady gathered.old }
     requires goes { GoesWith D.Disk known.now.value scanning.old gathered.old }
     requires opens { OpensAt scanning.old volume }
+    requires counts { IsTrue D.tells → CountsUpTo (D.reading (disk_of scanning.old)) (position_of scanning.old) (book_of gathered.old.held) }
+    ensures counts { IsTrue D.tells → OnOk result (CountsOn (D.reading (disk_of scanning.new)) (position_of scanning.new) (book_of gathered.new.held)) }
     ensures goes { OnOk result (GoesWith D.Disk known.now.value scanning.new gathered.new) }
     ensures whole { ReadsWhole D.Disk scanning.old gathered.old → OnOk result (ReadsWhole D.Disk scanning.new gathered.new) }
     ensures steady { OnOk result (IsSteady gathered.new) }
@@ -253,6 +264,8 @@ fn read_next<D: Disk>(
     requires in_place { IsInPlace D.Disk scanning.old }
     requires steady { IsSteady gathered.old }
     requires goes { GoesWith D.Disk known.now.value scanning.old gathered.old }
+    requires counts { IsTrue D.tells → CountsOn (D.reading (disk_of scanning.old)) (position_of scanning.old) (book_of gathered.old.held) }
+    ensures counts { IsTrue D.tells → IfOk result (CountsOnTo (D.reading (disk_of scanning.new)) (position_of scanning.new) (book_of gathered.new.held)) }
     ensures tells { IfOk result (TellsOn D.Disk known.now.value scanning.old scanning.new gathered.new) }
     ensures refused { IfErr result (IsKnownRefusal known.now.value) }
     ensures whole { ReadsWhole D.Disk scanning.old gathered.old → IfOk result (ReadsWholeOn D.Disk scanning.new gathered.new) }
@@ -284,6 +297,8 @@ fn read_each<D: Disk>(
     requires in_place { IsInPlace D.Disk scanning.old }
     requires steady { IsSteady gathered.old }
     requires goes { GoesWith D.Disk known.now.value scanning.old gathered.old }
+    requires counts { IsTrue D.tells → CountsOn (D.reading (disk_of scanning.old)) (position_of scanning.old) (book_of gathered.old.held) }
+    ensures counts { IsTrue D.tells → OnOk result (HasCountsOf (D.reading (disk_of scanning.new)) (book_of gathered.new.held)) }
     ensures all { OnOk result (HasAllOf D.Disk known.now.value scanning.new gathered.new) }
     ensures done { OnOk result ((position_of scanning.new).stage ≡ IsDone) }
     ensures steady { OnOk result (IsSteady gathered.new) }
@@ -314,6 +329,8 @@ fn finish<D: Disk>(
     requires done { (position_of scanning).stage ≡ IsDone }
     requires steady { IsSteady gathered }
     requires asked_for { IfSome known.now.value (IsAskedFor asked.now) }
+    requires counts { IsTrue D.tells → HasCountsOf (D.reading (disk_of scanning)) (book_of gathered.held) }
+    ensures counts { IsTrue D.tells → IfOk result (λ opened. HasCountsOf (D.reading (disk_of scanning)) (book_of opened.gathered.held)) }
     ensures opened { IfOk result (IsOpenedBy D.Disk (disk_of scanning) asked.now known.now.value) }
     ensures refused { IfErr result (λ refused. IsKnownRefusal known.now.value refused.0) }
     ensures whole { HasAll D.Disk scanning gathered → IfOk result (IsOpened D.Disk (disk_of scanning) asked.now) }
@@ -357,6 +374,7 @@ pub fn open_by_checkpoints<D: Disk>(
     requires uuid { IfSome asked.now IsUuid }
     requires known { MayBeSettled D.Disk disk asked.now known.now.value }
     ensures opened { IfOk result (IsOpenedBy D.Disk disk asked.now (known_to D.tells known.now.value)) }
+    ensures counts { IsTrue D.tells → IfOk result (λ opened. HasCountsOf (D.reading disk) (book_of opened.gathered.held)) }
     ensures refused { IfErr result (λ refused. IsKnownRefusal (known_to D.tells known.now.value) refused.0) }
     ensures whole { IsTrue D.tells → IsReadWhole (D.reading disk) → IfOk result (IsOpened D.Disk disk asked.now) }
     ensures damage { IsTrue D.tells → IsReadWhole (D.reading disk) → IfErr result (λ refused. IsDamageIn (warc_files (D.reading disk)) refused.0) }

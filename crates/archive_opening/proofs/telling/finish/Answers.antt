@@ -5,6 +5,8 @@ use Rattle.warc_journal.specs.Journals.{last_len}
 use Rattle.warc_journal.specs.declared.extent.Extent.{Extent}
 use Rattle.archive_opening.proofs.BeginLaws.{no_texts}
 use Rattle.archive_opening.proofs.EndLaws.{opened_empty, opened_told, other_isnt_known, some_volumes_told}
+use Rattle.volume_scan.specs.Scannings.{disk_of}
+use Rattle.archive_opening.proofs.LinedLaws.{counts_none}
 use Rattle.archive_opening.proofs.OpenedLaws.{cause_other, opened_by}
 use Rattle.archive_opening.proofs.WholeLaws.{short_whole}
 use Rattle.archive_opening.specs.Gathering.{IsGathered}
@@ -62,3 +64,9 @@ returns-then-last_len-ge-TEXT_BOUND-clause-damage g c = λ whole.
       short_whole g.D.Disk c.args.scanning c.args.gathered whole c.finish-journal.result c.finish-journal.ensures.disk
           c.finish-journal.ensures.extent,
     ))
+
+pub returns-then-volumes-eq0-clause-counts : goal.returns-then-volumes-eq0-clause-counts
+returns-then-volumes-eq0-clause-counts g c = λ told.
+    counts_none (g.D.Disk.reading (disk_of c.args.scanning)) (book_of c.args.gathered.held) (book_of c.in_namespace.result.held)
+    (omega (arith, c.if-volumes-eq0.true, c.volumes.ensures, ap (λ (e : Extent). e.volumes) c.finish-journal.ensures.extent, c.requires.all.goes.volumes))
+    (sym (c.in_namespace.ensures.gathered None).read.are.count) (c.requires.counts told)

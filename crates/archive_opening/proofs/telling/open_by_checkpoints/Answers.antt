@@ -1,8 +1,11 @@
 use Rattle.std.proofs.Common.{rules, sym, subst}
-use Rattle.std.specs.Prelude.{IfErr, IfOk, IfSome, IsTrue, Option}
+use Rattle.std.specs.Prelude.{IfErr, IfOk, IfSome, IsTrue, None, Option}
 use Rattle.capture.specs.declared.book.Book.{Book}
 use Rattle.disk_model.specs.Image.{Image}
-use Rattle.volume_scan.specs.Scannings.{disk_of}
+use Rattle.volume_scan.specs.Scannings.{disk_of, position_of}
+use Rattle.archive_volumes.specs.Held.{book_of}
+use Rattle.archive_opening.specs.Counting.{HasCountsOf}
+use Rattle.archive_opening.proofs.LinedLaws.{counts_first}
 use Rattle.warc_journal.specs.Extents.{warc_files}
 use Rattle.archive_opening.specs.Opening.{IsDamageIn, IsOtherIn, IsReadRefusal}
 use Rattle.archive_opening.specs.Telling.{GoesWith, IsAskedFor, IsOpenedBy, ReadsWhole}
@@ -18,6 +21,17 @@ read_each-requires-clause-goes g c =
     subst (λ (o : Option Book). GoesWith d o c.in-Ok.scanning c.in_namespace-gathered.result) (sym c.told_by-sure.ensures)
     (goes_first d c.in-Ok.scanning c.in_namespace-gathered.result c.in-Ok.ensures.begins c.in_namespace-gathered.ensures.gathered _
     (settled_first d c.args.disk c.in-Ok.scanning c.args.asked.now c.args.known.now.value c.in-Ok.ensures.rests c.requires.known))
+
+pub read_each-requires-clause-counts : goal.read_each-requires-clause-counts
+read_each-requires-clause-counts g c = λ tells.
+    counts_first (g.D.Disk.reading (disk_of c.in-Ok.scanning)) (position_of c.in-Ok.scanning) (book_of c.in_namespace-gathered.result.held)
+    (sym (c.in_namespace-gathered.ensures.gathered None).read.are.count)
+
+pub returns-in-Ok-read_each-clause-counts : goal.returns-in-Ok-read_each-clause-counts
+returns-in-Ok-read_each-clause-counts g c = λ tells.
+    let d = g.D.Disk in
+    let rests = rests_on d c.args.disk (disk_of c.in-Ok.scanning) (disk_of c.read_each.new.scanning) (c.in-Ok.ensures.rests tells) (c.read_each.ensures.rests tells) in
+    subst (λ (i : Image). IfOk c.finish.result (λ opened. HasCountsOf i (book_of opened.gathered.held))) rests.read (c.finish.ensures.counts tells)
 
 pub finish-requires-clause-asked_for : goal.finish-requires-clause-asked_for
 finish-requires-clause-asked_for g c =

@@ -1,5 +1,7 @@
 use Rattle.std.proofs.Common.{true, subst, ◌∙◌}
-use Rattle.volume_scan.specs.Scannings.{disk_of}
+use Rattle.volume_scan.specs.Scannings.{disk_of, position_of}
+use Rattle.archive_volumes.specs.Held.{book_of}
+use Rattle.archive_opening.specs.Counting.{CountsOnTo}
 use Rattle.archive_opening.proofs.FollowingLaws.{rests_on}
 use Rattle.archive_opening.specs.Telling.{ReadsWholeOn, TellsOn}
 use Rattle.archive_opening.proofs.telling.read_each.Goals as goal
@@ -13,6 +15,9 @@ steps-preserved g c =
       in_place = c.read_next.ensures.in_place;
       steady = tells.1;
       goes = tells.0;
+      counts = λ told.
+          subst (CountsOnTo (d.reading (disk_of c.read_next.new.scanning)) (position_of c.read_next.new.scanning) (book_of c.read_next.new.gathered.held)) c.if-branch.true
+          (c.in_ok-read_next.ensures.counts told);
       whole = λ reads.
           subst (ReadsWholeOn d c.read_next.new.scanning c.read_next.new.gathered) c.if-branch.true (c.in_ok-read_next.ensures.whole (c.steps.invariant.whole reads));
       rests = λ told. rests_on d (disk_of c.args.scanning.now) (disk_of c.steps.scanning) (disk_of c.read_next.new.scanning) (c.steps.invariant.rests told)
@@ -31,3 +36,8 @@ returns-clause-rests g c = λ told.
 pub returns-clause-whole : goal.returns-clause-whole
 returns-clause-whole g c = λ reads.
     subst (ReadsWholeOn g.D.Disk c.read_next.new.scanning c.read_next.new.gathered) c.if-branch.false (c.in_ok-read_next.ensures.whole (c.steps.invariant.whole reads))
+
+pub returns-clause-counts : goal.returns-clause-counts
+returns-clause-counts g c = λ told.
+    subst (CountsOnTo (g.D.Disk.reading (disk_of c.read_next.new.scanning)) (position_of c.read_next.new.scanning) (book_of c.read_next.new.gathered.held)) c.if-branch.false
+    (c.in_ok-read_next.ensures.counts told)

@@ -1,7 +1,10 @@
 use Rattle.std.proofs.Common.{rules, ℕ, sym, subst}
 use Rattle.std.specs.Prelude.{IfSome, Option, Some, None}
 use Rattle.capture.specs.declared.book.Book.{Book}
-use Rattle.volume_scan.specs.Scannings.{disk_of, files_in, texts as texts_read}
+use Rattle.volume_scan.specs.Scannings.{disk_of, files_in, position_of, texts as texts_read}
+use Rattle.archive_volumes.specs.Held.{book_of}
+use Rattle.archive_opening.specs.Counting.{CountsTo}
+use Rattle.archive_opening.proofs.CountLaws.{counts_by}
 use Rattle.archive_shelf.specs.declared.fault.ReopenFault.{ReopenFault}
 use Rattle.archive_opening.specs.Opening.{CountsFault, IsOutside, IsReadRefusal}
 use Rattle.archive_opening.specs.Telling.{IsKnownRefusal, IsTold, ReadsWholeTo, StepsOn}
@@ -18,6 +21,15 @@ returns-in-Ok-gather-clause-steps g c =
     (steps_by d c.args.known.now.value c.args.scanning.now c.step.new.self c.args.gathered.now c.gather.new.self c.requires.goes c.requires.in_place
     c.step.ensures.in_place c.step.ensures.rests c.files_begin_with_what_was_read.ensures c.step.ensures.count (search rules) c.in-Ok.found _
     c.in-Ok.ensures.finds c.in-Ok-gather.ensures.shapes (search rules) (λ b ts gathered. c.in-Ok-gather.ensures.gathers (Some b) ts gathered) c.in-Ok-gather.ensures.steady)
+
+pub returns-in-Ok-gather-clause-counts : goal.returns-in-Ok-gather-clause-counts
+returns-in-Ok-gather-clause-counts g c = λ tells.
+    let d = g.D.Disk in
+    let new = c.step.new.self in
+    subst (CountsTo (d.reading (disk_of new)) (position_of new) (book_of c.gather.new.self.held)) (sym c.step_to-step.ensures.step)
+    (counts_by d c.args.known.now.value c.args.scanning.now new c.args.gathered.now c.gather.new.self c.requires.goes c.requires.in_place
+    c.step.ensures.in_place (c.step.ensures.rests tells) tells c.files_begin_with_what_was_read.ensures (c.requires.counts tells) c.in-Ok.found _
+    c.in-Ok.ensures.finds c.in-Ok-gather.ensures.shapes)
 
 pub returns-in-Err-clause-refused : goal.returns-in-Err-clause-refused
 returns-in-Err-clause-refused g c = by c.args.known.now.value c.requires.goes.told

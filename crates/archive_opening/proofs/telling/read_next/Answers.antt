@@ -11,3 +11,13 @@ pub returns-in-Ok-End-clause-whole : goal.returns-in-Ok-End-clause-whole
 returns-in-Ok-End-clause-whole g c = λ reads.
     let whole = rw c.in-Ok-End.field-0-is at c.in-Ok-End.ensures.whole in
     whole reads
+
+pub returns-in-Err-tell_volume-clause-rests : goal.returns-in-Err-tell_volume-clause-rests
+returns-in-Err-tell_volume-clause-rests g c = λ told.
+    rests_on g.D.Disk (disk_of c.args.scanning.now) (disk_of c.read_found.new.scanning) (disk_of c.tell_volume.new.scanning)
+    (c.read_found.ensures.rests told) (c.tell_volume.ensures.rests told)
+
+pub returns-in-Ok-More-clause-counts : goal.returns-in-Ok-More-clause-counts
+returns-in-Ok-More-clause-counts g c = λ told.
+    let counts = rw c.in-Ok-More.field-0-is at c.in-Ok-More.ensures.counts in
+    counts told

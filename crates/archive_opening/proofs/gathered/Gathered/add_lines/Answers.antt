@@ -47,6 +47,7 @@ lines-preserved c =
     record {
       steady = c.in_ok-add_line.ensures.steady;
       volumes = more.volumes ∙ c.lines.invariant.volumes;
+      sealed = more.sealed ∙ c.lines.invariant.sealed;
       namespace = more.namespace ∙ c.lines.invariant.namespace;
       count = omega (arith, more.captures_are, c.lines.invariant.count, ap length left);
       next = subst (λ (n : ℕ). AreNext n c.args.len rest) (sym more.spots) next.1;

@@ -9,7 +9,7 @@ use Rattle.archive_volumes.specs.Held.{book_of}
 use Rattle.archive_volumes.specs.Lines.{told_spot}
 use Rattle.archive_opening.specs.Gathering.{IsSteady}
 use Rattle.archive_opening.specs.Lines.{AreLinesIn, AreNext, ArePlacedIn, Comes, IsLastFilled, IsSoFar}
-use Rattle.archive_opening.specs.Telling.{AreFilledBefore, AreNumbered, AreRequested, IsMadeUp}
+use Rattle.archive_opening.specs.Telling.{AreFilledBefore, AreNumbered, AreRequested, IsMadeUp, sealed_in}
 use Rattle.archive_volumes.specs.Spots.{AreWithin}
 use Rattle.archive_opening.proofs.gathered.Gathered.add_lines.Given as goal
 
@@ -17,6 +17,7 @@ abbrev pub invariant-lines : goal.invariant-lines
 invariant-lines l = record {
   steady : IsSteady l.self;
   volumes : length (book_of l.self.held).volumes ≡ length (book_of l.fn.self.held).volumes;
+  sealed : sealed_in (book_of l.self.held).volumes ≡ sealed_in (book_of l.fn.self.held).volumes;
   namespace : (book_of l.self.held).namespace ≡ (book_of l.fn.self.held).namespace;
   count : length (captures (book_of l.self.held)) + length (into_iter_items l.rest) ≡ length (captures (book_of l.fn.self.held)) + length l.fn.lines.items;
   next : AreNext (length l.self.spots.items) l.fn.len (into_iter_items l.rest);
