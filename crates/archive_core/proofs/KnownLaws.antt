@@ -24,6 +24,7 @@ use Rattle.checkpoint.specs.Checkpoints.{IsCheckpoint}
 use Rattle.std.proofs.lemmas.List.Elements.{All-contains}
 use Rattle.archive_volumes.specs.declared.spot.Spot.{Spot}
 use Rattle.archive_core.specs.Holdings.{Holdings}
+use Rattle.archive_opening.specs.Counting.{HasCountsOf}
 use Rattle.archive_opening.specs.Opening.{CountsFault, IsCause, IsDamageIn, IsOtherIn, IsOutside}
 use Rattle.archive_core.specs.Finished.{HasCheckpoint}
 use Rattle.archive_core.specs.Reopening.{AreFinishedAsTold, IsMadeOf, IsNotOpened, IsReopened}
@@ -134,20 +135,22 @@ module _ {D : Type 0} (d : Ghosts D) (laws : DiskLaws d) (disk : D) (asked : Opt
     }
 
     pub reopened_told : (IsTrue d.tells → IsReadWhole (d.reading disk) → IsOpened d disk asked opened)
-        → (IsTrue d.tells → AreCheckpointsSynced (d.reading disk) (d.images (disk_of opened.journal))) → (result : Result (Holdings D) (ReopenFault × D))
+        → (IsTrue d.tells → AreCheckpointsSynced (d.reading disk) (d.images (disk_of opened.journal)))
+        → (IsTrue d.tells → HasCountsOf (d.reading disk) (book_of opened.gathered.held)) → (result : Result (Holdings D) (ReopenFault × D))
         → IfOk result (IsMadeOf opened limits (told_at depths.Checkpoints d.tells known))
         → IfOk result (IsReopenedKnown d disk asked limits depths.Checkpoints known)
-    reopened_told read synced (Ok held) made =
+    reopened_told read synced counts (Ok held) made =
         known_as d laws disk asked limits (told_at depths.Checkpoints d.tells known) opened basis_told held made depths.Checkpoints known refl
         (λ so. subst (λ (b : Book). IfSome known (λ book. SameBook b book)) (sym made.book_is) (same_told so))
         (record {
           requested = λ number spot at read_it. subst (λ (b : Book). HasRequest b number) (sym made.book_is)
               (is.requested.each number spot (subst (λ (spots : List Spot). slice_get spots number ≡ Some spot) made.spots_are at) read_it);
           read = λ so. subst (AreReadOrTold (d.reading disk)) (sym made.spots_are) (is.lined so);
+          counts = λ so. subst (HasCountsOf (d.reading disk)) (sym made.book_is) (counts so);
           synced = λ so. subst (λ (j : Journal D). AreCheckpointsSynced (d.reading disk) (d.images (disk_of j))) (sym made.journal_is) (synced so);
         })
         (λ so whole. as_read d laws disk asked limits (told_at depths.Checkpoints d.tells known) opened (read so whole) held made)
-    reopened_told read synced (Err refused) made = tt
+    reopened_told read synced counts (Err refused) made = tt
 
   pub refused_told : (refused : ReopenFault × D) → IsKnownRefusal (known_to d.tells known) refused.0 → IsCause asked refused.0
       → (IsTrue d.tells → IsReadWhole (d.reading disk) → IsDamageIn (warc_files (d.reading disk)) refused.0)

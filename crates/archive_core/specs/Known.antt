@@ -12,6 +12,7 @@ use Rattle.archive_shelf.specs.declared.depth.Depth.{Depth}
 use Rattle.archive_shelf.specs.declared.depth.Depth.TheVariants as depths
 use Rattle.archive_shelf.specs.declared.fault.ReopenFault.{ReopenFault}
 use Rattle.archive_core.specs.Holdings.{Holdings, contents_of}
+use Rattle.archive_opening.specs.Counting.{HasCountsOf}
 use Rattle.archive_opening.specs.Opening.{CountsFault, IsCause, IsIn, IsOutside}
 use Rattle.archive_opening.specs.Telling.{AreCheckpointsSynced, AreReadOrTold, HasCheckpointsOf, IsAskedFor, IsReadWhole}
 use Rattle.archive_core.specs.Reopening.{IsNotOpened, IsReopened, NamesCapture}
@@ -41,11 +42,12 @@ told_at depths.Checkpoints tells None = false
 told_at depths.Checkpoints tells (Some book) = tells
 
 -- What bytes alone say of an archive that was opened by checkpoints. Whatever the disk tells, its book has the request of each capture that was read.
--- Where the disk tells, a line of its volume's finished checkpoint told of each other one; and all files of checkpoints are synced, so a crash leaves
--- those that a read gives.
+-- Where the disk tells, a line of its volume's finished checkpoint told of each other one; its volumes are those that stand there, each with as many
+-- captures as its groups are or its checkpoint tells; and all files of checkpoints are synced, so a crash leaves those that a read gives.
 pub record IsLined {D : Type 0} (d : Ghosts D) (disk : D) (held : Holdings D) : Type 0 where
   pub requested : (number : ℕ) (spot : Spot) → slice_get held.spots number ≡ Some spot → is_told_form spot.form ≡ false → HasRequest held.book number
   pub read : IsTrue d.tells → AreReadOrTold (d.reading disk) held.spots
+  pub counts : IsTrue d.tells → HasCountsOf (d.reading disk) held.book
   pub synced : IsTrue d.tells → AreCheckpointsSynced (d.reading disk) (d.images (disk_of held.journal))
 
 abbrev pub IsLinedAt : {D : Type 0} → Depth → Ghosts D → D → Holdings D → Type 0

@@ -35,7 +35,7 @@ archive_of-requires-clause-finished g c = λ so.
 pub returns-in-Ok-clause-reopened : goal.returns-in-Ok-clause-reopened
 returns-in-Ok-clause-reopened g c =
     reopened_told g.D.Disk (disk_laws g) c.args.disk c.args.namespace c.args.limits c.args.known.now.value c.requires.known c.in-Ok.opened c.in-Ok.ensures.opened
-    c.in-Ok.ensures.whole c.in-Ok.ensures.synced c.archive_of.result
+    c.in-Ok.ensures.whole c.in-Ok.ensures.synced c.in-Ok.ensures.counts c.archive_of.result
     (subst (λ (told : Bool). IfOk c.archive_of.result (IsMadeOf c.in-Ok.opened c.args.limits told)) c.told_by-told.ensures c.archive_of.ensures.made)
 
 pub returns-in-Ok-clause-refused : goal.returns-in-Ok-clause-refused
