@@ -42,7 +42,7 @@ use Rattle.archive_opening.specs.declared.gathered.Gathered.{Gathered}
 
 -- ---- what begins with a committed text is neither nothing nor a tail
 
-rest_is_uncommitted : (text rest bytes : List ℕ) → bytes ≡ text ++ rest → IsCommitted commit_byte text → IsRest commit_byte bytes → ⊥
+pub rest_is_uncommitted : (text rest bytes : List ℕ) → bytes ≡ text ++ rest → IsCommitted commit_byte text → IsRest commit_byte bytes → ⊥
 rest_is_uncommitted text rest bytes e is (inl none) = omega (arith, is.more, ap length e, ap length none, length-append text rest)
 rest_is_uncommitted text rest bytes e is (inr tail) =
     let first : slice_index bytes 0 ≡ commit_byte = ap (λ (l : List ℕ). slice_index l 0) e ∙ get_or_append_left text rest 0 0 (omega (arith, is.more)) ∙ is.begins in

@@ -12,6 +12,7 @@ pub mod KnownLaws
 pub mod LineOrderLaws
 pub mod LinedLaws
 pub mod MeasuringLaws
+pub mod OneCountLaws
 pub mod OpenedLaws
 pub mod OriginalLaws
 pub mod PlaceLaws

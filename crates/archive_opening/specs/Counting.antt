@@ -14,6 +14,7 @@ use Rattle.volume_scan.specs.declared.position.Stage.TheVariants.{Opened, Skippe
 use Rattle.warc_scan.specs.Answers.{BeginsWithGroup, BeginsWithInfo}
 use Rattle.warc_scan.specs.declared.group.Group.{Group}
 use Rattle.warc_text.specs.StandsFor.{commit_byte}
+use Rattle.archive_volumes.specs.Facts.{facts_of}
 use Rattle.archive_opening.specs.Lines.{AreTakable}
 use Rattle.archive_opening.specs.Telling.{sealed_in}
 use Rattle.archive_opening.specs.declared.telling.Step.{Step}
@@ -106,6 +107,15 @@ pub record HasCountsOf (image : Image) (book : Book) : Type 0 where
   pub infos : (k : ℕ) → k < length book.volumes → HasInfo image book.namespace k
   pub none : (k : ℕ) (namespace : List ℕ) → length book.volumes ≤ k → HasInfo image namespace k → ⊥
   pub counts : (k : ℕ) (volume : Volume) → slice_get book.volumes k ≡ Some volume → HasCountOf image (counted_in book k (length volume.captures))
+
+-- the same volumes by how many captures they have, in one namespace, if there are any
+pub record SameCounts (a b : Book) : Type 0 where
+  pub facts : facts_of a ≡ facts_of b
+  pub namespace : 0 < length a.volumes → a.namespace ≡ b.namespace
+
+-- what bytes say of that is one
+abbrev pub BytesHaveOneCount : Type 0
+BytesHaveOneCount = (image : Image) (a b : Book) → HasCountsOf image a → HasCountsOf image b → SameCounts a b
 
 -- ---- while it reads
 

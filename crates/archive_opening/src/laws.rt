@@ -1,4 +1,5 @@
-//! What lower crates promise of texts and books, as an opening cites it.
+//! What lower crates promise of texts and books, as an opening cites it; and that how many captures stand in files is one.
+ghost use Rattle.archive_opening.specs.Counting.{BytesHaveOneCount};
 ghost use Rattle.archive_opening.specs.Reading.{Laws};
 
 use capture::{captures_have_one_payload, growth_keeps_captures};
@@ -18,3 +19,9 @@ pub fn reading_laws()
     captures_have_one_payload();
     growth_keeps_captures();
 }
+
+/// What bytes say of how many captures each volume has is one: books of which it is true have the same volumes by how many captures they
+/// have, in one namespace, if there are any. It does nothing: what it says is proved.
+pub fn bytes_have_one_count()
+    ensures { BytesHaveOneCount }
+{}

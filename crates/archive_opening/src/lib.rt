@@ -12,6 +12,6 @@ mod starting;
 mod telling;
 
 pub use gathered::Gathered;
-pub use laws::reading_laws;
+pub use laws::{bytes_have_one_count, reading_laws};
 pub use opening::{Opened, open_volumes};
 pub use telling::open_by_checkpoints;
