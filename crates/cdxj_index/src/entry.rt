@@ -9,6 +9,8 @@ ghost use Rattle.time_text.specs.Texts.{InRange};
 use crate::entry_map::Moment;
 use capture::{Digest, Memory, Text};
 use cdxj_line::{Line, LineParts};
+use short_text::ShortText;
+use std::alloc::Global;
 use std::marker::Model;
 use surt_key::Key;
 
@@ -26,7 +28,7 @@ pub struct Entry {
     /// The target that the client sent, in absolute form.
     pub uri: Text,
     /// The media type.
-    pub mime: Text,
+    pub mime: ShortText,
     /// The response's status.
     pub status: u16,
     /// The digest of the payload.
@@ -70,7 +72,7 @@ impl Entry {
         })
     }
 
-    /// The entry of a line's capture, without copies. Takes no memory.
+    /// The entry of a line's capture. Takes no memory.
     pub fn of_line(line: Line) -> Entry
         requires { IsWritable line }
         ensures { result ≡ facts_of line }
@@ -93,7 +95,7 @@ impl Entry {
             date,
             number,
             uri: url,
-            mime,
+            mime: ShortText::of(mime),
             status,
             digest,
             volume,
@@ -102,10 +104,10 @@ impl Entry {
         }
     }
 
-    /// The line of the entry's capture, which was asked for by this method, without copies. Takes no memory.
-    pub fn into_line(self, method: Text) -> Line
-        ensures line { result ≡ line_at self method }
-        ensures writable { IsWritable result }
+    /// The line of the entry's capture, which was asked for by this method. Only the media type is copied.
+    pub fn into_line(self, alloc: Global, method: Text) -> Result<Line, Memory>
+        ensures line { IfOk result (λ line. line ≡ line_at self method) }
+        ensures writable { IfOk result IsWritable }
     {
         let Entry {
             key,
@@ -119,19 +121,19 @@ impl Entry {
             offset,
             length,
         } = self;
-        Line {
+        Ok(Line {
             key,
             date,
             digest,
             volume,
             length,
             method,
-            mime,
+            mime: mime.to_text(alloc)?,
             number,
             offset,
             status,
             url: uri,
-        }
+        })
     }
 
     /// The parts of that line, lent.
