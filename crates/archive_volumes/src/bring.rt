@@ -29,11 +29,11 @@ use std::alloc::Global;
 
 impl Spot {
     /// The capture with its head and its payload.
-    fn brought(&self, head: Bytes, payload: Bytes) -> Result<Brought, Memory>
+    fn brought(&self, alloc: Global, head: Bytes, payload: Bytes) -> Result<Brought, Memory>
         ensures { IfOk result (λ brought. brought ≡ brought_of self.now head payload) }
     {
         Ok(Brought {
-            method: self.method.copy()?,
+            method: self.method.to_text(alloc)?,
             uri: self.uri.copy()?,
             date: self.date,
             head,
@@ -79,7 +79,7 @@ impl<D: Disk> Volumes<D> {
         let spot = &spots[number as usize];
         let read = self.read_own(told, alloc, spots, number)?;
         match read {
-            ReadBack::Right { head, payload } => Ok(spot.brought(head, payload)?),
+            ReadBack::Right { head, payload } => Ok(spot.brought(alloc, head, payload)?),
             ReadBack::Damaged(found) => Err(BringFault::Damaged {
                 number,
                 kept: spot.digest,
@@ -130,7 +130,11 @@ impl<D: Disk> Volumes<D> {
         }
         let read = self.read_own(told, alloc, spots, first)?;
         match read {
-            ReadBack::Right { head: _, payload } => Ok(spot.brought(Bytes::of(head), payload)?),
+            ReadBack::Right { head: _, payload } => Ok(spot.brought(
+                alloc,
+                Bytes::of(head),
+                payload,
+            )?),
             ReadBack::Damaged(found) => Err(BringFault::Damaged {
                 number: first,
                 kept: keeper.digest,
@@ -176,7 +180,7 @@ impl<D: Disk> Volumes<D> {
             } => not_as_told(number, spot.digest),
             Reread::Same { head, same } => {
                 match self.original_payload(told, alloc, spots, candidates, &same)? {
-                    Some(payload) => Ok(spot.brought(head, payload)?),
+                    Some(payload) => Ok(spot.brought(alloc, head, payload)?),
                     None => not_as_told(number, spot.digest),
                 }
             }

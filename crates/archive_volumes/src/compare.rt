@@ -200,7 +200,7 @@ impl<D: Disk> Volumes<D> {
         wires_have_one_payload();
         captures_have_one_payload();
         let head = self.read_part(alloc, spot.head_place())?;
-        let kept = match framing_behind(alloc, &spot.method, head.as_slice())? {
+        let kept = match framing_behind(alloc, spot.method.as_slice(), head.as_slice())? {
             Some(kept) => kept,
             None => return Ok(Compared::Damaged(None)),
         };

@@ -4,16 +4,16 @@ ghost use Rattle.capture.specs.Methods.{asks_for_head};
 ghost use Rattle.archive_volumes.specs.Decoding as spec;
 ghost use Rattle.archive_volumes.specs.Decoding.{HoldsPayload, IsHead, TellsFraming};
 
-use capture::{Bytes, Framing, Memory, Text};
+use capture::{Bytes, Framing, Memory};
 use http_head::{WireFault, read_head};
 use message_body::{PayloadFault, framing_of, joined_in_place};
 use std::alloc::Global;
 
 /// Whether a request of this method asks for a head alone (RFC 9110, section 9.3.2).
-pub fn is_head(method: &Text) -> bool
+pub fn is_head(method: &[u8]) -> bool
     ensures { result ≡ asks_for_head method.now }
 {
-    method.as_slice() == b"HEAD".as_slice()
+    method == b"HEAD".as_slice()
 }
 
 /// Whether the text is the head of a response.
@@ -30,7 +30,7 @@ pub(crate) fn is_response_head(alloc: Global, text: &[u8]) -> Result<bool, Memor
 
 /// The framing of what stands behind a head that answers a request of this method (RFC 9112, section 6.3); none where the
 /// text is no head, or tells no framing.
-pub fn framing_behind(alloc: Global, method: &Text, head: &[u8]) -> Result<Option<Framing>, Memory>
+pub fn framing_behind(alloc: Global, method: &[u8], head: &[u8]) -> Result<Option<Framing>, Memory>
     ensures { IfOk result (TellsFraming method.now head.now) }
 {
     let parts = match read_head(alloc, head) {

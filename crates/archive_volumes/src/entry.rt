@@ -22,6 +22,7 @@ use cdxj_index::Entry;
 use cdxj_line::{REVISIT, media_type};
 use disk_model::Disk;
 use http_head::{ResponseHead, WireFault, first_value, read_head};
+use short_text::ShortText;
 use std::alloc::Global;
 use surt_key::{KeyFault, key_of};
 
@@ -47,7 +48,7 @@ pub struct RecordAt {
 #[derive(Clone, Copy, Debug)]
 pub struct Asked<'s> {
     /// The request's method.
-    pub method: &'s Text,
+    pub method: &'s [u8],
     /// The target that the client sent, in absolute form.
     pub uri: &'s Text,
     /// When it was fetched, in milliseconds since 1970.
@@ -69,7 +70,7 @@ pub fn entry_of(
     ensures { (text : List ℕ) (h : grammar.ResponseHead) → HoldsResponseParts text h head.now → IfOk result (EntersAs stored.now h at) }
 {
     let asked = Asked {
-        method: &stored.method,
+        method: stored.method.as_slice(),
         uri: &stored.uri,
         date: stored.date,
         revisit: is_revisit(&stored.kept),
@@ -100,7 +101,7 @@ fn entry_by(
     ensures { (stored : Capture) (text : List ℕ) (h : grammar.ResponseHead) → IsAskedOf stored asked.now.method.now asked.now.uri.now asked.now.date asked.now.revisit
         → HoldsResponseParts text h head.now → IfOk result (EntersAs stored h at) }
 {
-    if asked.method.as_slice() != b"GET".as_slice() {
+    if asked.method != b"GET".as_slice() {
         return Ok(None);
     }
     if head.status == NOT_MODIFIED {
@@ -141,13 +142,13 @@ pub fn told_entry(
 }
 
 /// The media type of an entry: that of a revisit is its own.
-fn mime_of(alloc: Global, revisit: bool, head: &ResponseHead) -> Result<Text, Memory>
+fn mime_of(alloc: Global, revisit: bool, head: &ResponseHead) -> Result<ShortText, Memory>
     ensures { (kept : Keeping) (text : List ℕ) (h : grammar.ResponseHead) → revisit ≡ is_same_form (form_of kept) → HoldsResponseParts text h head.now
         → IfOk result (λ mime. mime ≡ mime_by kept (named_values h.fields)) }
 {
     match revisit {
-        true => Text::from_str(alloc, REVISIT),
-        false => media_type(alloc, content_type(head)),
+        true => ShortText::from_str(alloc, REVISIT),
+        false => Ok(ShortText::of(media_type(alloc, content_type(head))?)),
     }
 }
 
@@ -201,7 +202,7 @@ pub fn entry_for(
     ensures { (h : grammar.ResponseHead) → IsResponseHeadText head.now h → IfOk result (EntersAs (stored_in ready.now.stored) h at) }
 {
     let asked = Asked {
-        method: &ready.spot.method,
+        method: ready.spot.method.as_slice(),
         uri: &ready.spot.uri,
         date: ready.spot.date,
         revisit: ready.spot.form.is_same(),

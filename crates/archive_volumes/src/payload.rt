@@ -76,7 +76,7 @@ impl<D: Disk> Volumes<D> {
     {
         wires_have_one_payload();
         let head = self.read_part(alloc, spot.head_place())?;
-        let framing = match framing_behind(alloc, &spot.method, head.as_slice())? {
+        let framing = match framing_behind(alloc, spot.method.as_slice(), head.as_slice())? {
             Some(framing) => framing,
             None => return Ok(ReadBack::Damaged(None)),
         };

@@ -51,7 +51,7 @@ fn own(alloc: Global, method: &Text, head: Bytes, wire: Bytes, cut: bool) -> Res
     ensures { (payload : List ℕ) → HasPayload cut method.now head wire payload → IfOk result (λ read. read ≡ OwnRead head payload cut) }
 {
     wires_have_one_payload();
-    let framing = match framing_behind(alloc, method, head.as_slice())? {
+    let framing = match framing_behind(alloc, method.as_slice(), head.as_slice())? {
         Some(framing) => framing,
         None => unreachable!(),
     };
@@ -73,7 +73,7 @@ fn is_stored_of(stored: &Stored, spot: &Spot) -> bool
     if stored.uri != spot.uri {
         return false;
     }
-    if stored.method != spot.method {
+    if stored.method.as_slice() != spot.method.as_slice() {
         return false;
     }
     form_kept(&stored.kept).is_same() == spot.form.is_same()

@@ -9,6 +9,7 @@ ghost use Rattle.std.specs.Vec.{vec_capacity};
 use capture::{Digest, Kept, Memory, Stored, Taken, Text};
 use cdxj_line::{Line, REVISIT};
 use revisit_table::Digests;
+use short_text::ShortText;
 use std::alloc::Global;
 use warc_journal::Place;
 
@@ -69,7 +70,7 @@ impl Form {
 #[derive(Debug, Drop)]
 pub struct Spot {
     /// The request's method.
-    pub method: Text,
+    pub method: ShortText,
     /// The target that the client sent, in absolute form.
     pub uri: Text,
     /// When it was fetched, in milliseconds since 1970.
@@ -109,7 +110,7 @@ impl Spot {
         let wire_len = wire_len_of(&kept);
         let form = form_kept(&kept);
         Spot {
-            method,
+            method: ShortText::of(method),
             uri,
             date,
             digest,
@@ -132,7 +133,7 @@ impl Spot {
         ensures { IfOk result (λ spot. spot ≡ spot_of (as_stored taken.now same) digest.now 0 0 0) }
     {
         Ok(Spot {
-            method: taken.method.copy()?,
+            method: ShortText::copy_of(&taken.method)?,
             uri: taken.uri.copy()?,
             date: taken.date,
             digest: *digest,
@@ -151,7 +152,7 @@ impl Spot {
     {
         let revisit = is_of_revisit(line);
         Ok(Spot {
-            method: line.method.copy()?,
+            method: ShortText::copy_of(&line.method)?,
             uri: line.url.copy()?,
             date: line.date,
             digest: line.digest,

@@ -17,7 +17,7 @@ returns-in-Ok c h is =
     subst (λ (k : grammar.ResponseHead). IfOk c.entry_by.result (EntersAs (stored_in c.args.ready.now.stored) k c.args.at)) same
     (c.entry_by.ensures (stored_in c.args.ready.now.stored) text found.0
     (record {
-      method_is = sym (ap (λ (s : Spot). s.method) kept);
+      method_is = sym (c.as_slice.ensures.value ∙ ap (λ (s : Spot). s.method) kept);
       uri_is = sym (ap (λ (s : Spot). s.uri) kept);
       date_is = sym (ap (λ (s : Spot). s.date) kept);
       revisit_is = c.is_same.ensures ∙ ap (λ (s : Spot). is_same_form s.form) kept;

@@ -15,7 +15,7 @@ returns-in-None-clause-compares g c payload number is told kept =
     let head : c.in_ok-head.head.items ≡ head_in (texts g.D.Disk c.args.self.now.journal) spot =
     (rw c.head_place.ensures at c.in_ok-head.ensures.bytes told) in
     let tells : TellsFraming spot.method c.in_ok-head.head.items None =
-    subst (λ (f : Option Framing). TellsFraming spot.method c.in_ok-head.head.items f) c.in-None.is (rw c.as_slice.ensures.value at c.in_ok-kept.ensures) in
+    subst (λ (f : Option Framing). TellsFraming spot.method c.in_ok-head.head.items f) c.in-None.is (rw c.as_slice-2.ensures.value at (rw c.as_slice.ensures.value at c.in_ok-kept.ensures)) in
     kept_tells (texts g.D.Disk c.args.self.now.journal) (book_of c.args.self.now.held) number spot kept
     (subst (λ (h : List ℕ). TellsFraming spot.method h None) head tells)
 
@@ -27,7 +27,7 @@ pub returns-then-same-clause-compares : goal.returns-then-same-clause-compares
 returns-then-same-clause-compares g c payload number is told kept =
     let spot = c.args.spot.now in
     let tells : TellsFraming spot.method c.in_ok-head.head.items (Some c.in-Some.kept) =
-    subst (λ (f : Option Framing). TellsFraming spot.method c.in_ok-head.head.items f) c.in-Some.is (rw c.as_slice.ensures.value at c.in_ok-kept.ensures) in
+    subst (λ (f : Option Framing). TellsFraming spot.method c.in_ok-head.head.items f) c.in-Some.is (rw c.as_slice-2.ensures.value at (rw c.as_slice.ensures.value at c.in_ok-kept.ensures)) in
     same_right c.wires_have_one_payload.ensures.one (texts g.D.Disk c.args.self.now.journal) (book_of c.args.self.now.held) number spot kept
     c.in_ok-head.head.items (rw c.head_place.ensures at c.in_ok-head.ensures.bytes told) (texts g.D.Disk c.read_part.new.self.journal)
     (texts_stay g.D.Disk c.args.self.now c.read_part.new.self c.read_part.ensures.reads told) payload
@@ -49,7 +49,7 @@ returns-clause-compares g c payload number is told kept =
     let reads : OnlyReads g.D.Disk c.args.self.now c.keeps_wire.new.self =
     reads_then g.D.Disk c.args.self.now c.read_part.new.self c.keeps_wire.new.self c.read_part.ensures.reads c.keeps_wire.ensures.reads in
     let tells : TellsFraming spot.method c.in_ok-head.head.items (Some c.in-Some.kept) =
-    subst (λ (f : Option Framing). TellsFraming spot.method c.in_ok-head.head.items f) c.in-Some.is (rw c.as_slice.ensures.value at c.in_ok-kept.ensures) in
+    subst (λ (f : Option Framing). TellsFraming spot.method c.in_ok-head.head.items f) c.in-Some.is (rw c.as_slice-2.ensures.value at (rw c.as_slice.ensures.value at c.in_ok-kept.ensures)) in
     data_right c.wires_have_one_payload.ensures.one (texts g.D.Disk c.args.self.now.journal) (book_of c.args.self.now.held) number spot kept
     c.in_ok-head.head.items (rw c.head_place.ensures at c.in_ok-head.ensures.bytes told) (texts g.D.Disk c.keeps_wire.new.self.journal)
     (texts_stay g.D.Disk c.args.self.now c.keeps_wire.new.self reads told) payload c.captures_have_one_payload.ensures c.compare_read.result

@@ -23,7 +23,7 @@ returns-clause-right g c number told kept =
     let head : c.in_ok-head.head.items ≡ head_in (texts g.D.Disk c.args.self.now.journal) spot =
     (rw c.head_place.ensures at c.in_ok-head.ensures.bytes told) in
     let tells : TellsFraming spot.method c.in_ok-head.head.items (Some c.in-Some.framing) =
-    subst (λ (f : Option _). TellsFraming spot.method c.in_ok-head.head.items f) c.in-Some.is (rw c.as_slice.ensures.value at c.in_ok-framing.ensures) in
+    subst (λ (f : Option _). TellsFraming spot.method c.in_ok-head.head.items f) c.in-Some.is (rw c.as_slice-2.ensures.value at (rw c.as_slice.ensures.value at c.in_ok-framing.ensures)) in
     let holds : HoldsPayload (is_cut_form spot.form) c.in-Some.framing (wire_in (texts g.D.Disk c.args.self.now.journal) spot) c.in_ok-found.found =
     subst (λ (t : List (List ℕ)). HoldsPayload (is_cut_form spot.form) c.in-Some.framing (wire_in t spot) c.in_ok-found.found) same
     (c.in_ok-found.ensures.payload told) in
@@ -38,6 +38,6 @@ returns-in-None-clause-right g c number told kept =
     let head : c.in_ok-head.head.items ≡ head_in (texts g.D.Disk c.args.self.now.journal) spot =
     (rw c.head_place.ensures at c.in_ok-head.ensures.bytes told) in
     let tells : TellsFraming spot.method c.in_ok-head.head.items None =
-    subst (λ (f : Option _). TellsFraming spot.method c.in_ok-head.head.items f) c.in-None.is (rw c.as_slice.ensures.value at c.in_ok-framing.ensures) in
+    subst (λ (f : Option _). TellsFraming spot.method c.in_ok-head.head.items f) c.in-None.is (rw c.as_slice-2.ensures.value at (rw c.as_slice.ensures.value at c.in_ok-framing.ensures)) in
     kept_tells (texts g.D.Disk c.args.self.now.journal) (book_of c.args.self.now.held) number spot kept
     (subst (λ (h : List ℕ). TellsFraming spot.method h None) head tells)
