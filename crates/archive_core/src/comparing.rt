@@ -83,7 +83,7 @@ pub(crate) fn framing_of_taken(alloc: Global, taken: &Taken) -> Result<Framing, 
     ensures { IfOk result (IsFramedBy taken.now) }
 {
     wires_have_one_payload();
-    match framing_behind(alloc, &taken.method, taken.head.as_slice())? {
+    match framing_behind(alloc, taken.method.as_slice(), taken.head.as_slice())? {
         Some(framing) => Ok(framing),
         None => unreachable!(),
     }

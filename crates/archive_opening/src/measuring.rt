@@ -24,7 +24,7 @@ pub(crate) enum Told {
 pub(crate) fn told_length(method: &Text, head: &ResponseHead) -> Told
     ensures { (text : List ℕ) (h : grammar.ResponseHead) → HoldsResponseParts text h head.now → TellsLength method.now h result }
 {
-    match framing_of(is_head(method), head) {
+    match framing_of(is_head(method.as_slice()), head) {
         Ok(Framing::Length(n)) => Told::Exactly(n),
         Ok(Framing::Empty) => Told::Any,
         Ok(Framing::Chunked) => Told::Any,

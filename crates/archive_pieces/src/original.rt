@@ -57,7 +57,7 @@ fn agrees(framing: Option<Framing>, len: u64) -> bool
 fn agrees_with(alloc: Global, stored: &Stored, len: u64) -> Result<bool, Memory>
     ensures { IfOk result (Agrees stored.now.method stored.now.head len) }
 {
-    let framing = framing_behind(alloc, &stored.method, stored.head.as_slice())?;
+    let framing = framing_behind(alloc, stored.method.as_slice(), stored.head.as_slice())?;
     Ok(agrees(framing, len))
 }
 

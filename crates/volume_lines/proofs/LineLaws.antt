@@ -223,10 +223,10 @@ has_key keys namespace number bytes group is none = keys group.stored.uri is.tar
 
 -- this is told of the group's capture
 pub asked_of : (namespace : List ℕ) (number : ℕ) (bytes : List ℕ) (group : Group) → IsGroup namespace number bytes group
-    → (outline : Outline) → IsOutlineOf group outline → (revisit : Bool) → revisit ≡ is_some outline.same
-    → IsAskedOf group.stored outline.method outline.uri outline.date revisit
-asked_of namespace number bytes group is outline of revisit some = record {
-  method_is = sym of.method_is;
+    → (outline : Outline) → IsOutlineOf group outline → (method : List ℕ) → method ≡ outline.method
+    → (revisit : Bool) → revisit ≡ is_some outline.same → IsAskedOf group.stored method outline.uri outline.date revisit
+asked_of namespace number bytes group is outline of method same revisit some = record {
+  method_is = sym (same ∙ of.method_is);
   uri_is = sym of.uri_is;
   date_is = sym of.date_is;
   revisit_is = some ∙ ap is_some of.same_is ∙ some_in group.same

@@ -20,7 +20,7 @@ fn tells_spot(line: &Line, spot: &Spot) -> bool
     if line.url != spot.uri {
         return false;
     }
-    line.method == spot.method
+    line.method.as_slice() == spot.method.as_slice()
 }
 
 /// A line, and where its capture's group ends, if it tells what is kept of the capture with this number.

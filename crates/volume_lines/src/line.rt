@@ -43,7 +43,7 @@ pub(crate) fn line_of(
         len: _,
     } = outline;
     let asked = Asked {
-        method: &method,
+        method: method.as_slice(),
         uri: &uri,
         date,
         revisit: same.is_some(),
@@ -56,7 +56,7 @@ pub(crate) fn line_of(
         len: first_len,
     };
     match told_entry(alloc, &asked, &head, at)? {
-        Some(entry) => Ok(Some(entry.into_line(method))),
+        Some(entry) => Ok(Some(entry.into_line(alloc, method)?)),
         None => Ok(None),
     }
 }

@@ -8,12 +8,12 @@ pub unreachable-requires : goal.unreachable-requires
 unreachable-requires c =
     let taken = c.args.taken.now in
     let tells : TellsFraming taken.method taken.head None =
-    subst (λ (f : Option Framing). TellsFraming taken.method taken.head f) c.in-None.is (rw c.as_slice.ensures at c.in_ok-framing.ensures) in
+    subst (λ (f : Option Framing). TellsFraming taken.method taken.head f) c.in-None.is (rw c.as_slice-2.ensures at (rw c.as_slice.ensures.value at c.in_ok-framing.ensures)) in
     tells_one c.wires_have_one_payload.ensures.whole c.wires_have_one_payload.ensures.cut taken c.requires.fits tells
 
 pub returns : goal.returns
 returns c =
     let taken = c.args.taken.now in
     let tells : TellsFraming taken.method taken.head (Some c.in-Some.framing) =
-    subst (λ (f : Option Framing). TellsFraming taken.method taken.head f) c.in-Some.is (rw c.as_slice.ensures at c.in_ok-framing.ensures) in
+    subst (λ (f : Option Framing). TellsFraming taken.method taken.head f) c.in-Some.is (rw c.as_slice-2.ensures at (rw c.as_slice.ensures.value at c.in_ok-framing.ensures)) in
     framed_by c.wires_have_one_payload.ensures.whole c.wires_have_one_payload.ensures.cut taken c.requires.fits c.in-Some.framing tells
