@@ -3,6 +3,7 @@ ghost use Rattle.std.specs.Prelude.{◌≡◌, IfOk};
 
 use capture::{Memory, Text};
 use cdxj_index::Entry;
+use short_text::ShortText;
 use std::alloc::Global;
 use surt_key::{KeyFault, key_of};
 
@@ -39,7 +40,7 @@ pub fn entry_of(alloc: Global, site: u32, number: u32) -> Result<Entry, Memory>
         date: NOON + u64::from(number),
         number,
         uri: text_of(alloc, uri.as_str())?,
-        mime: text_of(alloc, "text/html")?,
+        mime: ShortText::from_str(alloc, "text/html")?,
         status: 200,
         digest: [7; 20],
         volume: 0,

@@ -6,6 +6,7 @@ use capture::{Memory, Text};
 use case_language::{number_in, split_part, split_word};
 use case_texts::{always, key_in, number, put_next_number, told};
 use cdxj_index::{Entry, Index, Steps};
+use short_text::ShortText;
 use std::alloc::Global;
 use std::marker::Brand;
 use std::sync::ledger::{Blank, Ledger};
@@ -167,7 +168,7 @@ pub fn entry_of(
         date,
         number,
         uri,
-        mime: Text::from_str(alloc, "text/html")?,
+        mime: ShortText::from_str(alloc, "text/html")?,
         status: 200,
         digest: [0; 20],
         volume: 0,
