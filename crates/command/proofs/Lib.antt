@@ -3,3 +3,4 @@ pub mod GateLaws
 mod HostTexts
 pub mod OpeningLaws
 mod WordsLemmas
+pub mod SettlingLaws

@@ -5,13 +5,15 @@ mod base;
 mod hanging_up;
 mod opening;
 mod printing;
+mod settling;
 mod status;
 mod texts;
 mod words;
 
 pub use hanging_up::hang_up;
-pub use opening::open;
+pub use opening::{Known, Unknown, open};
 pub use printing::print_as;
+pub use settling::{open_and_settle, settle_and_close};
 pub use status::{Ran, Status};
 pub use texts::{captures_line, counts_text, damaged_capture, file_name, put_full, trial_text};
 pub use words::{Command, asked_of, command_of, is_import, is_pipe, site_of};

@@ -1,6 +1,8 @@
 //! Opens the archive on a disk, and says why it isn't opened.
 ghost use Rattle.std.specs.Prelude.{◌≡◌, ◌⊎◌, IfErr, IfOk, IfSome, List, OnOk, ℕ};
+ghost use Rattle.archive_opening.specs.Telling.{MayBeSettled};
 ghost use Rattle.archive_core.specs.Holdings.{contents_of};
+ghost use Rattle.archive_core.specs.Known.{IsReopenedKnown};
 ghost use Rattle.archive_core.specs.Reopening.{IsReopened};
 ghost use Rattle.command.specs.Opening.{IsNotOpened, IsOpened, usual_limits};
 ghost use Rattle.command.specs.Printing.{LacksMemory, Prints};
@@ -24,20 +26,40 @@ const LIMITS: Limits = Limits {
     captures: 1_000_000,
 };
 
-/// Opens the archive on a disk, by all that its volumes hold. Refused, the cause was printed.
-pub fn open<D: Disk, O: Sink>(
+/// Names the book for which a disk is settled, where a caller's proof knows it: one that kept the disk. No code sees it, and nothing depends on it.
+pub trait Known {
+    ghost use Rattle.std.specs.Prelude.{Option};
+    ghost use Rattle.capture.specs.declared.book.Book.{Book};
+
+    ghost book: { Option Book };
+}
+
+/// Nobody knows which book a disk holds.
+pub struct Unknown;
+
+impl Known for Unknown {
+    ghost use Rattle.std.specs.Prelude.{None};
+
+    ghost book = { None };
+}
+
+/// Opens the archive on a disk, as deep as that. Refused, the cause was printed.
+pub fn open<K: Known, D: Disk, O: Sink>(
     alloc: Global,
     disk: D,
     asked: Option<Uuid>,
+    depth: Depth,
     out: &mut O,
 ) -> Result<Archive<D>, Ran<D>>
     requires uuid { IfSome asked IsUuid }
-    ensures reopened { IfOk result (IsReopened D.Disk disk asked usual_limits) }
-    ensures opened { IfOk result (λ archive. IsOpened D.Disk asked disk (contents_of archive)) }
-    ensures refused { IfErr result (λ ran. IsNotOpened D.Disk O.Sink asked disk ran.disk out.old out.new ran.status) }
+    requires known { MayBeSettled D.Disk disk asked K.book }
+    ensures reopened { IfOk result (IsReopenedKnown D.Disk disk asked usual_limits depth K.book) }
+    ensures whole { depth ≡ Depth.Whole → IfOk result (IsReopened D.Disk disk asked usual_limits) }
+    ensures opened { IfOk result (λ archive. IsOpened D.Disk depth K.book asked disk (contents_of archive)) }
+    ensures refused { IfErr result (λ ran. IsNotOpened D.Disk O.Sink depth K.book asked disk ran.disk out.old out.new ran.status) }
     ensures prints_nothing { OnOk result (out.new ≡ out.old) }
 {
-    match Archive::reopen(alloc, disk, asked, LIMITS, Depth::Whole) {
+    match Archive::reopen_known(alloc, disk, asked, LIMITS, depth) {
         Ok(archive) => Ok(archive),
         Err((fault, disk)) => Err(Ran {
             status: print_fault(alloc, out, &fault),

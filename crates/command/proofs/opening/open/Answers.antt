@@ -1,11 +1,30 @@
 -- The archive was opened, or it was refused.
-use Rattle.command.proofs.OpeningLaws.{opened_by, refused_by}
+use Rattle.std.proofs.Common.{arith}
+use Rattle.archive_core.proofs.KnownLaws.{may_be_known}
+use Rattle.command.proofs.OpeningLaws.{opened_as, refused_as}
+use Rattle.command.proofs.SettlingLaws.{checkpoints_known}
 use Rattle.command.proofs.opening.open.Goals as goal
+
+pub reopen_known-requires : goal.reopen_known-requires
+reopen_known-requires g c = λ κs within. (
+  within,
+  (
+    c.requires.uuid,
+    (
+      record { captures = omega arith; volume_bytes = omega arith },
+      (
+        may_be_known g.D.Disk c.args.disk c.args.asked g.K.Known.book c.requires.known,
+        λ at. checkpoints_known g.D.Disk c.args.disk c.args.asked g.K.Known.book c.requires.known,
+      ),
+    ),
+  ),
+)
 
 pub returns-in-Ok-clause-opened : goal.returns-in-Ok-clause-opened
 returns-in-Ok-clause-opened g c =
-    opened_by g.D.Disk c.args.disk c.args.asked c.in-Ok.archive c.in-Ok.ensures.reopened
+    opened_as g.D.Disk c.args.disk c.args.asked g.K.Known.book c.args.depth c.in-Ok.archive c.in-Ok.ensures.reopened
 
 pub returns-in-Err-clause-refused : goal.returns-in-Err-clause-refused
 returns-in-Err-clause-refused g c =
-    refused_by g.D.Disk g.O.Sink c.args.asked c.args.disk _ c.args.out.now c.print_fault.new.out _ c.in-Err.ensures.refused c.print_fault.ensures
+    refused_as g.D.Disk c.args.disk c.args.asked g.K.Known.book c.args.depth g.O.Sink _ c.in-Err.ensures.refused c.in-Err.ensures.whole_refused
+    c.args.out.now c.print_fault.new.out _ c.print_fault.ensures
