@@ -3,7 +3,12 @@ use Rattle.std.proofs.Common.{◌≡◌, ◌⊎◌, ℕ, Bool, true, IsTrue, Lis
 use Rattle.std.specs.List.{flat_map}
 use Rattle.archive_core.proofs.TellingLaws.{quiet_muted}
 use Rattle.archive_core.specs.Holdings.{Holdings, contents_of}
-use Rattle.archive_core.specs.Reopening.{IsReopened}
+use Rattle.archive_core.proofs.FinishedLaws.{checkpoints_later, same_checkpoints_of}
+use Rattle.archive_core.specs.Known.{IsReopenedKnown}
+use Rattle.command.specs.Settling.{IsOf}
+use Rattle.disk_model.specs.Crash.{Leaves}
+use Rattle.warc_journal.specs.Extents.{cdxj_files}
+use Rattle.archive_shelf.specs.declared.depth.Depth.TheVariants.{Checkpoints}
 use Rattle.archive_core.specs.Told.{told_of, told_on}
 use Rattle.archive_shelf.proofs.CallLaws.{no_more, opened_before}
 use Rattle.archive_shelf.specs.Answers.{CountsIf}
@@ -156,13 +161,17 @@ last_by (Some fault) (t ∷ others) steps reached now P Q x f h =
     past_by fault t reached now (OpensBehind steps reached P) (OpensBehind steps reached Q) x (λ b p. behind_by steps reached P Q b f p) h
 
 module _ {D : Type 0} (disks : Disks D) (laws : DiskLaws disks) (given : D) (asked : Option (List ℕ)) (held left : Holdings D)
-    (reopened : IsReopened disks given asked usual_limits held) where
+    (known : Option Book) (reopened : IsReopenedKnown disks given asked usual_limits Checkpoints known held) where
+  -- its book is told only where the disk tells
+  told_tells : IsTrue held.told → IsTrue disks.tells
+  told_tells told = sym (reopened.whole told).told_is ∙ told
+
   -- from the disk that was given, over which nothing was written until the archive was opened
   pub keeps_since : (takens : List Taken) (count : ℕ) (refused : Option StoreFault) → Keeps true takens count refused (told_of disks held) (told_of disks left)
       → Keeps true takens count refused (told_on disks given (contents_of held)) (told_of disks left)
   keeps_since takens count refused k =
       let quiet : IsQuiet (muted held.told disks) given (disk_of held.journal) =
-      quiet_muted disks held.told (λ told. sym reopened.told_is ∙ told) given (disk_of held.journal) reopened.quiet in
+      quiet_muted disks held.told told_tells given (disk_of held.journal) reopened.quiet in
       record {
         steps = k.steps;
         rest = k.rest;
@@ -209,14 +218,15 @@ module _ {D : Type 0} (disks : Disks D) (laws : DiskLaws disks) (given : D) (ask
 
 -- an archive that was opened, and what was left of it
 imports_left : {D G L P O : Type 0} (disks : Disks D) (gates : Gates G L P) (sinks : Sinks O) (clients_tell : Bool) → (laws : DiskLaws disks) (asked : Option (List ℕ))
-    (was is : Ends D G O) (status : Status) (held left : Holdings D) → IsReopened disks was.disk asked usual_limits held
-    → IsOpened disks asked was.disk (contents_of held) → (IsTrue left.told → OpensNear disks (disk_of left.journal) left.book)
+    (was is : Ends D G O) (status : Status) (held left : Holdings D) (known : Option Book) → IsReopenedKnown disks was.disk asked usual_limits Checkpoints known held
+    → IsOpened disks Checkpoints known asked was.disk (contents_of held)
+    → (IsTrue held.told → Leaves (disks.images (disk_of held.journal)) (IsOf held.book)) → (IsTrue left.told → OpensNear disks (disk_of left.journal) left.book)
     → ImportsFirst true sinks clients_tell (gate_told gates was.gate) (gate_told gates is.gate) (told_of disks held) (told_of disks left) was.out is.out status
-    → Imports disks gates sinks clients_tell asked was (record is { disk = disk_of left.journal }) status
+    → Imports disks gates sinks clients_tell known asked was (record is { disk = disk_of left.journal }) status
 unfolding imported_since keeps_since
-imports_left disks gates sinks clients_tell laws asked was is status held left reopened opened near first =
+imports_left disks gates sinks clients_tell laws asked was is status held left known reopened opened are near first =
     let k = first.imported.keeps in
-    let so : IsTrue disks.tells → IsTrue left.told = λ told. k.goes_on.same_tells ∙ reopened.told_is ∙ told in
+    let so : IsTrue held.told → IsTrue left.told = λ told. k.goes_on.same_tells ∙ told in
     record {
       before = contents_of held;
       after = contents_of left;
@@ -224,25 +234,30 @@ imports_left disks gates sinks clients_tell laws asked was is status held left r
       input = first.input;
       came = first.came;
       gate_failed = first.gate_failed;
-      imported = imported_since disks laws was.disk asked held left reopened sinks first.input was.out is.out status first.imported;
+      imported = imported_since disks laws was.disk asked held left known reopened sinks first.input was.out is.out status first.imported;
       near = λ told. near (so told);
+      right = λ told image now.
+          let before = k.goes_on.kept (cdxj_files image) (record { told = so told; image = image; left = now; are = refl }) in
+          checkpoints_later held.book left.book image k.goes_on.grows
+          (same_checkpoints_of image before.image held.book (sym before.are) (are told before.image before.left).checkpoints);
       left = λ told ids have last image x now stands. last_by first.imported.refused k.rest k.steps k.reached (contents_of left)
           (λ b. (told_of disks held).crash.openings (told_of disks held).crash.moment b) (λ b. SameBook b held.book) x
-          (λ b o. only_one (reopened.state (ids_differ held.book ids) b o))
-          (k.left refl (reopened.told_is ∙ told) have last x
+          (λ b o. only_one ((reopened.whole told).state (ids_differ held.book ids) b o))
+          (k.left refl told have last x
           (opens_now (muted left.told disks) (laws_muted disks left.told laws) (disk_of left.journal) x image (so told) now stands));
     }
 
 -- the archive was opened, and closed behind the import
 pub imports_by : {D G L P O : Type 0} (disks : Disks D) (gates : Gates G L P) (sinks : Sinks O) (clients_tell : Bool) → (laws : DiskLaws disks) (asked : Option (List ℕ))
-    (was is : Ends D G O) (out_opened : O) (status : Status) (held left : Holdings D) → IsReopened disks was.disk asked usual_limits held
-    → IsOpened disks asked was.disk (contents_of held) → is.disk ≡ disk_of left.journal → out_opened ≡ was.out
+    (was is : Ends D G O) (out_opened : O) (status : Status) (held left : Holdings D) (known : Option Book)
+    → IsReopenedKnown disks was.disk asked usual_limits Checkpoints known held → IsOpened disks Checkpoints known asked was.disk (contents_of held)
+    → (IsTrue held.told → Leaves (disks.images (disk_of held.journal)) (IsOf held.book)) → is.disk ≡ disk_of left.journal → out_opened ≡ was.out
     → (IsTrue left.told → OpensNear disks is.disk left.book)
     → ImportsFirst true sinks clients_tell (gate_told gates was.gate) (gate_told gates is.gate) (told_of disks held) (told_of disks left) out_opened is.out status
-    → Imports disks gates sinks clients_tell asked was is status
-imports_by {D} {G} {L} {P} {O} disks gates sinks clients_tell laws asked was is out_opened status held left reopened opened closed silent near first =
-    subst (λ (d : D). Imports disks gates sinks clients_tell asked was (record is { disk = d }) status) (sym closed)
-    (imports_left disks gates sinks clients_tell laws asked was is status held left reopened opened
+    → Imports disks gates sinks clients_tell known asked was is status
+imports_by {D} {G} {L} {P} {O} disks gates sinks clients_tell laws asked was is out_opened status held left known reopened opened are closed silent near first =
+    subst (λ (d : D). Imports disks gates sinks clients_tell known asked was (record is { disk = d }) status) (sym closed)
+    (imports_left disks gates sinks clients_tell laws asked was is status held left known reopened opened are
     (λ told. subst (λ (d : D). OpensNear disks d left.book) closed (near told))
     (subst (λ (o : O). ImportsFirst true sinks clients_tell (gate_told gates was.gate) (gate_told gates is.gate) (told_of disks held) (told_of disks left) o is.out status)
     silent first))

@@ -2,10 +2,9 @@
 use Rattle.std.proofs.Common.{◌≡◌, ◌⊎◌, ℕ, ◌+◌, ◌≤◌, Bool, IsTrue, List, [], ◌∷◌, ◌++◌, length, map, Option, Some, None, Ok, Err, refl, sym, ap, subst, ◌∙◌, inl, inr, ⊎_elim, arith, append-nil, append_assoc, length-append}
 use Rattle.std.proofs.lemmas.List.{map-append}
 use Rattle.archive_shelf.proofs.CallLaws.{goes_on_both, goes_on_itself, no_more, stored_goes_on}
-use Rattle.archive_shelf.specs.Answers.{CountsIf, HasStored, StoreLeaves, is_store_fault}
+use Rattle.archive_shelf.specs.Answers.{CountsIf, HasStored, is_store_fault}
 use Rattle.archive_shelf.specs.Contents.{Contents, IsConsistent}
-use Rattle.archive_shelf.specs.Openings.{CrashStates, HasIds, IsEarlier, IsRefused, IsState, MayLeave, Moves, SameBook}
-use Rattle.archive_shelf.specs.Storing.{stored_by}
+use Rattle.archive_shelf.specs.Openings.{CrashStates, HasIds, IsEarlier, IsRefused, MayLeave, Moves, SameBook}
 use Rattle.archive_shelf.specs.Told.{GoesOn, StoresOn, Told}
 use Rattle.archive_shelf.specs.declared.fault.StoreFault.{StoreFault}
 use Rattle.archive_shelf.specs.declared.fault.StoreFault.TheVariants.{Full, DiskFault, Damaged, Memory}
@@ -13,7 +12,7 @@ use Rattle.archive_shelf.specs.declared.receipt.Receipt.{Receipt}
 use Rattle.capture.specs.declared.book.Book.{Book}
 use Rattle.capture.specs.declared.captured.Taken.{Taken}
 use Rattle.command.proofs.OpeningLaws.{only_one}
-use Rattle.importing.specs.Keeping.{AreStored, EndsBy, HaveIds, IsOfDenied, IsOfRefused, IsOnWay, Keeps, OpensAtLast, OpensBehind, OpensPast, Step}
+use Rattle.importing.specs.Keeping.{AreStored, HaveIds, IsOfRefused, IsOnWay, Keeps, OpensAtLast, OpensBehind, OpensPast, Step}
 
 -- ---- steps
 

@@ -11,7 +11,7 @@ use Rattle.importing.specs.Imports.{IsTellable, taken_in, takens_in}
 use Rattle.importing.specs.Keeping.{Keeps, Step}
 use Rattle.importing.specs.Texts.{skip_in, skip_line, skips_in}
 use Rattle.importing.specs.declared.tally.Tally.{Tally}
-use Rattle.importing.specs.steps.Taking.{FitsIn, HasBegun, HasSkips, HasTaken, HasTakenAll, Stands}
+use Rattle.importing.specs.steps.Taking.{FitsIn, HasBegun, HasTaken, HasTakenAll, Stands}
 use Rattle.warc_reader.proofs.InTurn.{GivesOne, given_all, given_few, given_more, given_none}
 use Rattle.warc_reader.proofs.StorableLaws.{captures_can_be_stored}
 use Rattle.warc_reader.specs.Files.{FileReading, Gives, HasGiven, IsBetween}

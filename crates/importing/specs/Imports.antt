@@ -6,10 +6,13 @@ use Rattle.archive_volumes.specs.Volumes.{OpensNear}
 use Rattle.archive_shelf.specs.Contents.{Contents}
 use Rattle.archive_shelf.specs.Openings.{HasIds, ImageStandsFor, SameBook}
 use Rattle.archive_shelf.specs.Told.{Told}
+use Rattle.archive_shelf.specs.declared.depth.Depth.TheVariants.{Checkpoints}
 use Rattle.archive_shelf.specs.declared.fault.StoreFault.{StoreFault}
 use Rattle.archive_shelf.specs.declared.fault.StoreFault.TheVariants as stores
 use Rattle.capture.specs.declared.book.Book.{Book}
 use Rattle.capture.specs.declared.captured.Taken.{Taken}
+use Rattle.archive_opening.specs.Telling.{HasCheckpointsOf}
+use Rattle.disk_model.specs.Crash.{Leaves}
 use Rattle.command.specs.Gates.{gate_told}
 use Rattle.disk_model.specs.Image.{Image}
 use Rattle.disk_model.specs.declared.disk.Disk.{Ghosts as Disks}
@@ -109,18 +112,20 @@ abbrev pub ends_of : {D G O : Type 0} → D → G → O → Ends D G O
 ends_of disk gate out = record { disk = disk; gate = gate; out = out }
 
 module _ {D G L P O : Type 0} (disks : Disks D) (gates : Gates G L P) (sinks : Sinks O) (clients_tell : Bool) where
-  -- The archive was opened, the gate's first connection was read to its end and hung up, and what it gave was imported.
-  pub record Imports (asked : Option (List ℕ)) (was is : Ends D G O) (status : Status) : Type 0 where
+  -- The archive was opened by its checkpoints, the gate's first connection was read to its end and hung up, and what it gave was imported.
+  pub record Imports (known : Option Book) (asked : Option (List ℕ)) (was is : Ends D G O) (status : Status) : Type 0 where
     pub before : Contents
     pub after : Contents
-    pub opened : IsOpened disks asked was.disk before
+    pub opened : IsOpened disks Checkpoints known asked was.disk before
     pub input : Result (List ℕ) InputFault
     pub came : IsTrue clients_tell → Gives (gate_told gates was.gate) (gate_told gates is.gate) input
     pub gate_failed : (input ≡ Err input_fault.Failed) ⊎ (gates.faults is.gate ≡ gates.faults was.gate)
     pub imported : HasImported true sinks input (told_on disks was.disk before) (told_on disks is.disk after) was.out is.out status
-    pub near : IsTrue disks.tells → OpensNear disks is.disk after.seen
-    -- where ids differ, each image that a crash may leave, and so what a read gives, stands for just what was stored
-    pub left : IsTrue disks.tells → HasIds before.seen → HaveIds imported.keeps.steps → HasIds imported.keeps.reached.seen
+    pub near : IsTrue before.tells → OpensNear disks is.disk after.seen
+    -- where the book is told, the finished checkpoints of each image that a crash may leave are those of its sealed volumes
+    pub right : IsTrue before.tells → Leaves (disks.images is.disk) (λ image. HasCheckpointsOf image after.seen)
+    -- where the book is told and ids differ, each image that a crash may leave, and so what a read gives, stands for just what was stored
+    pub left : IsTrue before.tells → HasIds before.seen → HaveIds imported.keeps.steps → HasIds imported.keeps.reached.seen
         → (image : Image) (x : Book) → disks.images is.disk image → ImageStandsFor image x
         → OpensAtLast imported.refused imported.keeps.rest imported.keeps.reached after
         (OpensBehind imported.keeps.steps imported.keeps.reached (λ b. SameBook b before.seen)) x

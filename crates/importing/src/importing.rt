@@ -1,5 +1,6 @@
 //! The command `import`: stores the captures of a WARC file of another tool.
 ghost use Rattle.std.specs.Prelude.{◌≡◌, ◌≤◌, ◌⊎◌, ℕ, List, [], length, IfSome, Ok, Err, Option};
+ghost use Rattle.archive_opening.specs.Telling.{MayBeSettled};
 ghost use Rattle.archive_shelf.specs.declared.fault.StoreFault.{StoreFault as Refusal};
 ghost use Rattle.importing.specs.Imports.{HasImported, Imports, IsTellable, Tells, TellsFile, ends_of, status_after as after, takens_in};
 ghost use Rattle.command.specs.Gates.{gate_told};
@@ -16,18 +17,18 @@ ghost use Rattle.warc_text.specs.Ids.{IsUuid};
 use crate::input::{InputFault, read_first};
 use crate::taking::take_all;
 use crate::tally::{Tally, damaged_input, put_sums};
-use archive_shelf::{Shelf, StoreFault};
+use archive_shelf::{Depth, Shelf, StoreFault};
 use capture::Memory;
-use command::{Command, Ran, Status, asked_of, open, print_as};
+use command::{Command, Known, Ran, Status, asked_of, open, print_as};
 use disk_model::Disk;
 use outside::{Gate, Sink};
 use std::alloc::Global;
 use warc_reader::{CaptureReader, ImportFault};
 
-/// Opens the archive on the disk in the namespace that the command names, reads the gate's first connection to its end, stores the
+/// Opens the archive on the disk in the namespace that the command names, by its checkpoints, reads the gate's first connection to its end, stores the
 /// captures of what it gave in order, prints what was skipped and how many were stored, and closes the archive. A file that
 /// isn't records to its end gives none. Behind a capture that is refused none is stored; those before it stay.
-pub fn import<D: Disk, G: Gate, O: Sink>(
+pub fn import<K: Known, D: Disk, G: Gate, O: Sink>(
     alloc: Global,
     command: Command,
     disk: D,
@@ -35,12 +36,19 @@ pub fn import<D: Disk, G: Gate, O: Sink>(
     out: &mut O,
 ) -> Ran<D>
     requires uuid { IfSome (spec.asked_of command) IsUuid }
+    requires known { MayBeSettled D.Disk disk (spec.asked_of command) K.book }
     ensures { let was = ends_of disk gate.old out.old in
         let is = ends_of result.disk gate.new out.new in
-        Imports D.Disk G.Gate O.Sink G.Link.tells (spec.asked_of command) was is result.status
-        ⊎ (IsNotOpened D.Disk O.Sink (spec.asked_of command) disk result.disk out.old out.new result.status × (gate.new ≡ gate.old)) }
+        Imports D.Disk G.Gate O.Sink G.Link.tells K.book (spec.asked_of command) was is result.status
+        ⊎ (IsNotOpened D.Disk O.Sink Depth.Checkpoints K.book (spec.asked_of command) disk result.disk out.old out.new result.status × (gate.new ≡ gate.old)) }
 {
-    let mut archive = match open(alloc, disk, asked_of(command), out) {
+    let mut archive = match open::<K, D, O>(
+        alloc,
+        disk,
+        asked_of(command),
+        Depth::Checkpoints,
+        out,
+    ) {
         Ok(archive) => archive,
         Err(ran) => return ran,
     };

@@ -1,6 +1,7 @@
 -- The archive was refused, or the gate's first connection was imported.
 use Rattle.std.proofs.Common.{refl, inl, inr}
 use Rattle.archive_volumes.proofs.ChangeLaws.{DiskLaws}
+use Rattle.command.proofs.SettlingLaws.{opened_is_of}
 use Rattle.importing.proofs.ImportLaws.{imports_by}
 use Rattle.importing.proofs.importing.import.Given.{Over}
 use Rattle.importing.proofs.importing.import.Goals as goal
@@ -9,8 +10,11 @@ use Rattle.importing.specs.Imports.{ends_of}
 disk_laws : (g : Over) → DiskLaws g.D.Disk
 disk_laws g = record { earlier = g.met.D.Disk.earlier; now_counts = g.met.D.Disk.now_counts; now_only = g.met.D.Disk.now_only }
 
-pub open-requires : goal.open-requires
-open-requires g c = record { uuid = rw c.asked_of.ensures c.requires.uuid }
+pub open-requires-clause-uuid : goal.open-requires-clause-uuid
+open-requires-clause-uuid g c = rw c.asked_of.ensures c.requires.uuid
+
+pub open-requires-clause-known : goal.open-requires-clause-known
+open-requires-clause-known g c = rw c.asked_of.ensures c.requires.known
 
 pub returns-in-Err : goal.returns-in-Err
 returns-in-Err g c = inr (rw c.asked_of.ensures at c.in-Err.ensures.refused, refl)
@@ -19,6 +23,7 @@ pub returns : goal.returns
 returns g c =
     inl (imports_by g.D.Disk g.G.Gate g.O.Sink g.G.Link.Link.tells (disk_laws g) _
     (ends_of c.args.disk c.args.gate.now c.args.out.now) (ends_of c.close.result c.import_first-status.new.gate c.import_first-status.new.out)
-    c.open.new.out c.import_first-status.result c.in-Ok.archive c.import_first-status.new.shelf
-    (rw c.asked_of.ensures at c.in-Ok.ensures.reopened) (rw c.asked_of.ensures at c.in-Ok.ensures.opened) c.close.ensures.disk
+    c.open.new.out c.import_first-status.result c.in-Ok.archive c.import_first-status.new.shelf g.K.Known.book
+    (rw c.asked_of.ensures at c.in-Ok.ensures.reopened) (rw c.asked_of.ensures at c.in-Ok.ensures.opened)
+    (opened_is_of g.D.Disk c.args.disk _ g.K.Known.book c.requires.known c.in-Ok.archive (rw c.asked_of.ensures at c.in-Ok.ensures.reopened)) c.close.ensures.disk
     c.in-Ok.ensures.prints_nothing c.close.ensures.near c.import_first-status.ensures)

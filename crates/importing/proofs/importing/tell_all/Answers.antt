@@ -1,5 +1,5 @@
 -- All was told, or memory ran out.
-use Rattle.std.proofs.Common.{refl, inr}
+use Rattle.std.proofs.Common.{refl}
 use Rattle.importing.proofs.ImportLaws.{told_whole, untold_whole}
 use Rattle.importing.proofs.importing.tell_all.Goals as goal
 

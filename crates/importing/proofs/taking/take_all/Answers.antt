@@ -1,5 +1,5 @@
 -- The reader goes farther until no record is left.
-use Rattle.std.proofs.Common.{refl, sym, subst, ap, ◌∙◌, arith, length}
+use Rattle.std.proofs.Common.{refl, subst, ap, ◌∙◌, arith, length}
 use Rattle.importing.proofs.TakingLaws.{taken_few}
 use Rattle.importing.specs.steps.Taking.{HasBegun, HasTakenAll}
 use Rattle.importing.proofs.taking.take_all.Goals as goal
