@@ -113,6 +113,13 @@ module _ {D : Type 0} (d : Disks D) (source : Target) (tells : Bool) where
   only_last was mid piece number t same ids =
       subst (λ (told : Bool). IsState (crash_of (muted told d) (disk_of mid.journal)) mid.book None) (sym same) (t.writes.only ids)
 
+  -- no moment before it is later
+  pub taken_later : (was mid : Holdings D) (piece : List ℕ) → TakesPiece d was mid piece (Ok (length (captures was.book)))
+      → (told_of d was).crash.moment ≤ (told_of d mid).crash.moment
+  taken_later was mid piece takes =
+      let t = taken_so d was mid piece (length (captures was.book)) takes.leaves.1 in
+      later_by was mid t.same_told t.room mid.book mid.book _ t.writes
+
   pub at_last : (result : Result ⊤ Stop) (piece : List ℕ) (reached : Holdings D) (last : Book) (Before Now : Book → Type 0) (x : Book) → (Before x → Now x)
       → OpensAtLast result piece reached last Before x → OpensAtLast result piece reached last Now x
   at_last (Ok done) piece reached last Before Now x go o = go o

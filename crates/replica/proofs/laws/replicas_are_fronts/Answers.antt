@@ -6,4 +6,5 @@ pub returns : goal.returns
 returns g c = record {
   fronts = laws.replicas_are_fronts g.D.Disk c.next_pieces_lead_on.ensures;
   taken = laws.pieces_are_taken g.D.Disk c.next_pieces_lead_on.ensures;
+  left = laws.stops_leave_fronts g.D.Disk c.taken_pieces_lead_on.ensures;
 }
