@@ -1,32 +1,49 @@
 -- A run over a disk that is ready isn't refused.
-use Rattle.std.proofs.Common.{◌≡◌, ◌⊎◌, ℕ, ◌<◌, ◌≤◌, Bool, true, true≢false, IsTrue, List, [], length, Option, Some, None, Result, Ok, Err, refl, sym, ap, subst, ◌∙◌, inl, inr, ⊎_elim, arith}
-use Rattle.std.proofs.lemmas.Bool.{cases_lt}
-use Rattle.std.specs.Prelude.{⊤}
-use Rattle.archive_opening.specs.Opening.{CountsFault, HoldsOther, IsDamageIn, IsOtherIn}
+use Rattle.std.proofs.Common.{◌≡◌, ◌≢◌, ◌⊎◌, ℕ, ◌-◌, ◌^◌, ◌<◌, ◌≤◌, Bool, true, true≢false, IsTrue, List, length, Option, Some, None, Result, Ok, Err, refl, sym, ap, subst, ◌∙◌, inl, inr, ⊎_elim, arith}
+use Rattle.std.specs.Prelude.{IfSome, ⊤}
+use Rattle.archive_opening.specs.Opening.{CountsFault, HoldsOther, IsDamageIn, IsOtherIn, IsOutside}
+use Rattle.archive_core.proofs.FinishedLaws.{checkpoints_later, same_checkpoints_of}
+use Rattle.archive_core.specs.Finished.{IsSettled}
 use Rattle.archive_core.specs.Holdings.{Holdings}
+use Rattle.archive_core.specs.Known.{told_at}
+use Rattle.archive_core.specs.Settling.{KeepsSettled}
+use Rattle.archive_opening.specs.Telling.{HasCheckpointsOf}
+use Rattle.archive_shelf.specs.declared.depth.Depth.TheVariants.{Checkpoints, Whole}
+use Rattle.checkpoint.specs.declared.fault.CheckpointFault.{CheckpointFault}
+use Rattle.checkpoint.specs.declared.fault.CheckpointFault.TheVariants as checkpoints
+use Rattle.command.specs.Settling.{HasSettled, settled_status}
+use Rattle.disk_model.specs.Crash.{Leaves}
 use Rattle.archive_core.specs.Told.{told_on}
-use Rattle.archive_shelf.proofs.CallLaws.{stored_tells}
+use Rattle.archive_core.proofs.TellingLaws.{quiet_muted}
+use Rattle.archive_shelf.proofs.CallLaws.{no_more, stored_tells}
 use Rattle.archive_shelf.specs.Answers.{CountsIf, IsDamaged}
 use Rattle.archive_shelf.specs.Contents.{Contents}
 use Rattle.archive_shelf.specs.declared.fault.StoreFault.{StoreFault}
 use Rattle.archive_shelf.specs.declared.fault.StoreFault.TheVariants as stores
-use Rattle.archive_shelf.specs.Openings.{ImageStandsFor}
+use Rattle.archive_shelf.specs.Openings.{HasIds, ImageStandsFor, SameBook}
+use Rattle.archive_volumes.proofs.ChangeLaws.{one_of}
+use Rattle.archive_volumes.specs.Volumes.{crash_of, muted}
 use Rattle.archive_shelf.specs.declared.fault.ReopenFault.{ReopenFault}
 use Rattle.archive_shelf.specs.declared.fault.ReopenFault.TheVariants as faults
 use Rattle.capture.specs.Captures.{captures}
-use Rattle.capture.specs.Faults.{Rose}
+use Rattle.capture.specs.Faults.{Rose, RoseBy}
 use Rattle.capture.specs.declared.book.Book.{Book}
 use Rattle.capture.specs.declared.site.Site.{Site}
 use Rattle.disk_model.specs.Image.{Image}
 use Rattle.outside.specs.declared.sink.Sink.{Ghosts as Sinks}
-use Rattle.proxy_run.proofs.NextLaws.{all_next, ready_next}
-use Rattle.proxy_run.specs.Complete.{CapturesComeBack, ChecksAreAnswered, EndsBadly, FollowsAreAnswered, FollowsBadly, FollowsLeaveReady, ImportsAreAnswered, ImportsBadly, ImportsLeaveReady, IsFullBefore, IsNotFollowed, IsNotTaken, IsReady, IsSteady, NoFaults, PipesAreAnswered, PipesLeaveReady, ServesBadly}
+use Rattle.command.proofs.OpeningLaws.{ids_differ}
+use Rattle.command.proofs.SettlingLaws.{settled_all, settled_from, settled_opens, settled_right, settled_rose, told_tells}
+use Rattle.proxy_run.proofs.ConnectionLaws.{course_one, ids_earlier}
+use Rattle.proxy_run.proofs.PipeLaws.{ready_faults, served_faults}
+use Rattle.proxy_run.proofs.StatusLaws.{settled_answered}
+use Rattle.proxy_run.proofs.NextLaws.{all_next, settled_next, sound_still, stands_same}
+use Rattle.proxy_run.specs.Complete.{CapturesComeBack, ChecksAreAnswered, EndsBadly, FollowsAreAnswered, FollowsBadly, FollowsLeaveReady, ImportsAreAnswered, ImportsBadly, ImportsLeaveReady, IsFullBefore, IsNotFollowed, IsNotTaken, IsReady, IsLeftSettled, IsSteady, NoFaults, PipesAreAnswered, PipesLeaveReady, PipesLeaveSettled, PipesLeaveTheLast, PipesPassOn, ServesBadly}
 use Rattle.replica.specs.Following.{EndsBy as FollowEnds, is_disk_stop}
 use Rattle.proxy_run.specs.Follows.{TellsEnd}
 use Rattle.importing.specs.Imports.{IsTellable, Tells, status_after}
 use Rattle.importing.specs.Keeping.{EndsBy, Keeps, is_denied}
 use Rattle.command.specs.Objects.{Kinds, Objects, UsesFirst, with_one}
-use Rattle.proxy_run.specs.Pipes.{HasServed, HasServedNone, Refuses}
+use Rattle.proxy_run.specs.Pipes.{HasServed, HasServedNone, Pipes, Refuses, pipe_terms}
 use Rattle.command.specs.Printing.{LacksMemory, Prints}
 use Rattle.proxy_run.specs.Runs.{HasChecked, HasPiped, HasReplicated, HasTakenIn, LacksWords}
 use Rattle.proxy_run.specs.Serving.{IsReason, status_of}
@@ -40,10 +57,13 @@ use Rattle.importing.specs.declared.input.InputFault.{InputFault}
 use Rattle.importing.specs.declared.input.InputFault.TheVariants as input_fault
 use Rattle.command.specs.declared.status.Status.{Status}
 use Rattle.command.specs.declared.status.Status.TheVariants.{Done, Words, Archive, Outside, Memory}
+use Rattle.session.specs.Laws.{CoursesCountFaults, IdsDifferOnTheWay}
+use Rattle.session.specs.Rounds.{disk_faults}
 use Rattle.session.specs.declared.served.Served.{Served}
 use Rattle.session.specs.declared.served.Served.TheVariants as served
-use Rattle.warc_journal.specs.Extents.{warc_files}
-use Rattle.warc_text.specs.StandsFor.{FilesStandForNoVolume, FilesStandForOneBook}
+use Rattle.warc_journal.specs.Extents.{cdxj_files, warc_files}
+use Rattle.warc_text.specs.Sound.{IsSound}
+use Rattle.warc_text.specs.StandsFor.{FilesStandForNoVolume, FilesStandForOneBook, StandsFor}
 
 -- ---- counts and what was printed
 
@@ -58,23 +78,6 @@ printed_or_lacked sinks told text was is status steady (inl (inr broke)) = absur
 printed_or_lacked sinks told text was is status steady (inr lacked) = inr lacked.status_is
 
 -- ---- refusals
-
-named_other : (namespace : List ℕ) (files : List (List ℕ)) (other : List ℕ) (book : Book) → (book.volumes ≡ []) ⊎ (book.namespace ≡ namespace)
-    → 0 < length book.volumes → (holds : HoldsOther files (Some namespace) other) → book ≡ holds.book → ⊥
-named_other namespace files other book (inl none) some holds same = absurd (omega (arith, some, ap length none))
-named_other namespace files other book (inr named) some holds same =
-    holds.differs namespace refl (sym holds.namespace ∙ ap (λ (b : Book). b.namespace) (sym same) ∙ named)
-
-not_other : FilesStandForOneBook → FilesStandForNoVolume → (namespace : List ℕ) (image : Image) (other : List ℕ) → IsReady (Some namespace) image
-    → HoldsOther (warc_files image) (Some namespace) other → ⊥
-not_other one no_volume namespace image other ready holds = ⊎_elim
-    (λ (some : 0 < length ready.book.volumes).
-    named_other namespace (warc_files image) other ready.book ready.in_namespace some holds
-    (one (warc_files image) ready.book holds.book ready.stands.sound holds.sound ready.ids ready.stands.for holds.for some))
-    (λ (few : length ready.book.volumes ≤ 0).
-    let none : length ready.book.volumes ≡ 0 = omega (arith, few) in
-    absurd (omega (arith, holds.some, no_volume (warc_files image) ready.book holds.book ready.stands.for holds.for none)))
-    (cases_lt 0 (length ready.book.volumes))
 
 -- the files stand for a sound book, in no other namespace than the one that is asked for: only memory can be wanting
 lacks_memory : {O : Type 0} (sinks : Sinks O) (asked : Option (List ℕ)) (image : Image) (book : Book) (before now : ℕ) (out_was out_is : O) (status : Status)
@@ -91,26 +94,48 @@ lacks_memory sinks asked image book before now out_was out_is status stands none
 lacks_memory sinks asked image book before now out_was out_is status stands none steady faults.Memory damage other counts (inl printed) = absurd printed.1
 lacks_memory sinks asked image book before now out_was out_is status stands none steady faults.Memory damage other counts (inr lacked) = lacked.status_is
 
+-- one that isn't for what the disk holds
+lacks_by : {O : Type 0} (sinks : Sinks O) (before now : ℕ) (out_was out_is : O) (status : Status) → IsSteady before now
+    → (fault : ReopenFault) → IsOutside fault → CountsFault before now fault
+    → ((text : List ℕ) × IsFaultText fault text × Prints sinks Archive text out_was out_is status) ⊎ LacksMemory sinks out_was out_is status
+    → status ≡ Memory
+lacks_by sinks before now out_was out_is status steady (faults.Damaged kind file place) outside counts told = absurd outside
+lacks_by sinks before now out_was out_is status steady (faults.OtherNamespace name) outside counts told = absurd outside
+lacks_by sinks before now out_was out_is status steady faults.DiskFault outside counts told = absurd (not_risen before now steady counts)
+lacks_by sinks before now out_was out_is status steady faults.Memory outside counts (inl printed) = absurd printed.1
+lacks_by sinks before now out_was out_is status steady faults.Memory outside counts (inr lacked) = lacked.status_is
+
+-- what holds of a known book of a disk that tells holds where the book is told
+of_known : (tells : Bool) (known : Option Book) (P : Type 0) → IsTrue (told_at Checkpoints tells known) → IfSome known (λ book. IsTrue tells → P) → P
+of_known tells None P so has = absurd (true≢false (sym so))
+of_known tells (Some book) P so has = has so
+
 module _ {D G L P N M C O : Type 0} (kinds : Kinds D G L P N M C O) where
+  pub refused_known : (known : Option Book) (asked : Option (List ℕ)) (was is : Objects D G (List (N × C)) O) (status : Status)
+      → IsTrue (told_at Checkpoints kinds.disks.tells known) → NoFaults kinds was is → Refuses kinds Checkpoints known asked was is status → status ≡ Memory
+  refused_known known asked was is status told steady refuses =
+      lacks_by kinds.sinks (kinds.disks.faults was.disk) (kinds.disks.faults is.disk) was.out is.out status steady.disk refuses.refused.fault
+      (of_known kinds.disks.tells known (IsOutside refuses.refused.fault) told refuses.refused.complete) refuses.refused.counts refuses.refused.told
+
   pub refused_for_memory : (asked : Option (List ℕ)) (was is : Objects D G (List (N × C)) O) (status : Status) → IsTrue kinds.disks.tells
       → IsReady asked (kinds.disks.reading was.disk)
       → ((other : List ℕ) → HoldsOther (warc_files (kinds.disks.reading was.disk)) asked other → ⊥)
-      → NoFaults kinds was is → Refuses kinds asked was is status → status ≡ Memory
+      → NoFaults kinds was is → Refuses kinds Whole None asked was is status → status ≡ Memory
   refused_for_memory asked was is status told ready none steady refuses =
       lacks_memory kinds.sinks asked (kinds.disks.reading was.disk) ready.book (kinds.disks.faults was.disk) (kinds.disks.faults is.disk) was.out is.out status
-      ready.stands none steady.disk refuses.refused.fault (refuses.refused.damage told) (refuses.refused.other told) refuses.refused.counts refuses.refused.told
+      ready.stands none steady.disk refuses.refused.fault (refuses.refused.damage told tt) (refuses.refused.other told tt) refuses.refused.counts refuses.refused.told
 
   -- ---- `check`
 
-  check_answered : (was is : Objects D G (List (N × C)) O) (status : Status) → IsTrue kinds.disks.tells → IsReady None (kinds.disks.reading was.disk)
-      → NoFaults kinds was is → HasChecked kinds was is status ⊎ Refuses kinds None was is status → (status ≡ Done) ⊎ (status ≡ Memory)
-  check_answered was is status told ready steady (inl checked) =
+  check_answered : (known : Option Book) (was is : Objects D G (List (N × C)) O) (status : Status) → IsTrue kinds.disks.tells → IsReady None (kinds.disks.reading was.disk)
+      → NoFaults kinds was is → HasChecked kinds known was is status ⊎ Refuses kinds Whole None None was is status → (status ≡ Done) ⊎ (status ≡ Memory)
+  check_answered known was is status told ready steady (inl checked) =
       printed_or_lacked kinds.sinks Done _ was.out is.out status steady.out checked.counted.printed
-  check_answered was is status told ready steady (inr refuses) =
+  check_answered known was is status told ready steady (inr refuses) =
       inr (refused_for_memory None was is status told ready (λ other holds. holds.asked_for refl) steady refuses)
 
   pub checks_answered : ChecksAreAnswered kinds
-  checks_answered was is status told ready steady site runs = check_answered was is status told ready steady runs
+  checks_answered was is status told ready steady known site runs = check_answered known was is status told ready steady runs
 
   -- ---- `pipe`
 
@@ -121,12 +146,13 @@ module _ {D G L P N M C O : Type 0} (kinds : Kinds D G L P N M C O) where
   ends_or_badly (served.ClientRefused refusal) status e = inl e
   ends_or_badly served.WantOfMemory status e = inr (inl e)
 
-  badly : (was is : Objects D G (List (N × C)) O) (before after : Contents) (status : Status) (first : UsesFirst was.crew is.crew)
-      (s : HasServed kinds (with_one was first.before) (with_one is first.after) before after status)
+  badly : (was is : Objects D G (List (N × C)) O) (before after : Contents) (ready left : D) (status : Status) (first : UsesFirst was.crew is.crew)
+      (s : HasServed kinds (record (with_one was first.before) { disk = ready }) (record (with_one is first.after) { disk = left }) before after status)
       → (status ≡ Done) ⊎ (status ≡ Memory) ⊎ EndsBadly s.one.served → (status ≡ Done) ⊎ (status ≡ Memory) ⊎ ServesBadly kinds was is status
-  badly was is before after status first s (inl done) = inl done
-  badly was is before after status first s (inr (inl memory)) = inr (inl memory)
-  badly was is before after status first s (inr (inr ends)) = inr (inr (record { before = before; after = after; first = first; served = s; badly = ends }))
+  badly was is before after ready left status first s (inl done) = inl done
+  badly was is before after ready left status first s (inr (inl memory)) = inr (inl memory)
+  badly was is before after ready left status first s (inr (inr ends)) =
+      inr (inr (record { before = before; after = after; ready = ready; left = left; first = first; served = s; badly = ends }))
 
   without : (closed : Bool) (before now : ℕ) (status : Status) → IsSteady before now → IsReason closed before now status
       → (status ≡ Done) ⊎ (status ≡ Memory)
@@ -140,45 +166,49 @@ module _ {D G L P N M C O : Type 0} (kinds : Kinds D G L P N M C O) where
   one_more (inl a) = inl a
   one_more (inr b) = inr (inl b)
 
-  served_answered : (was is : Objects D G (List (N × C)) O) (before after : Contents) (status : Status) (first : UsesFirst was.crew is.crew) → NoFaults kinds was is
-      → HasServed kinds (with_one was first.before) (with_one is first.after) before after status
-      ⊎ HasServedNone kinds (with_one was first.before) (with_one is first.after) before after status
+  served_answered : (was is : Objects D G (List (N × C)) O) (before after : Contents) (ready left : D) (status : Status) (first : UsesFirst was.crew is.crew)
+      → NoFaults kinds was is
+      → HasServed kinds (record (with_one was first.before) { disk = ready }) (record (with_one is first.after) { disk = left }) before after status
+      ⊎ HasServedNone kinds (record (with_one was first.before) { disk = ready }) (record (with_one is first.after) { disk = left }) before after status
       → (status ≡ Done) ⊎ (status ≡ Memory) ⊎ ServesBadly kinds was is status
-  served_answered was is before after status first steady (inl s) = badly was is before after status first s (ends_or_badly s.one.served status s.one.status_is)
-  served_answered was is before after status first steady (inr n) =
+  served_answered was is before after ready left status first steady (inl s) =
+      badly was is before after ready left status first s (ends_or_badly s.one.served status s.one.status_is)
+  served_answered was is before after ready left status first steady (inr n) =
       one_more (without (kinds.gates.closed was.gate) (kinds.gates.faults was.gate) (kinds.gates.faults is.gate) status steady.gate n.none.reason)
 
-  pipe_answered : FilesStandForOneBook → FilesStandForNoVolume → (namespace : List ℕ) (was is : Objects D G (List (N × C)) O) (status : Status) → IsTrue kinds.disks.tells
-      → IsTrue kinds.clients_tell → IsTrue kinds.origins_tell → IsReady (Some namespace) (kinds.disks.reading was.disk) → NoFaults kinds was is
-      → HasPiped kinds namespace was is status ⊎ Refuses kinds (Some namespace) was is status
+  pipe_answered : (known : Option Book) (namespace : List ℕ) (was is : Objects D G (List (N × C)) O) (status : Status)
+      → IsTrue (told_at Checkpoints kinds.disks.tells known) → IsTrue kinds.clients_tell → IsTrue kinds.origins_tell → NoFaults kinds was is
+      → HasPiped kinds known namespace was is status ⊎ Refuses kinds Checkpoints known (Some namespace) was is status
       → (status ≡ Done) ⊎ (status ≡ Memory) ⊎ ServesBadly kinds was is status
-  pipe_answered one no_volume namespace was is status told clients origins ready steady (inl piped) =
-      served_answered was is piped.piped.before piped.piped.after status piped.first steady (piped.piped.serves clients origins)
-  pipe_answered one no_volume namespace was is status told clients origins ready steady (inr refuses) =
-      inr (inl (refused_for_memory (Some namespace) was is status told ready
-      (λ other holds. not_other one no_volume namespace (kinds.disks.reading was.disk) other ready holds) steady refuses))
+  pipe_answered known namespace was is status told clients origins steady (inl piped) =
+      let p = piped.piped in
+      settled_answered (λ (s : Status). ServesBadly kinds was is s) p.closed.answer p.said status p.closed.status_is
+      (served_answered was is p.before p.after p.ready p.served p.said piped.first steady (p.serves clients origins))
+  pipe_answered known namespace was is status told clients origins steady (inr refuses) =
+      inr (inl (refused_known known (Some namespace) was is status told steady refuses))
 
-  pub pipes_answered : FilesStandForOneBook → FilesStandForNoVolume → PipesAreAnswered kinds
-  pipes_answered one no_volume namespace was is status told clients origins ready steady site runs =
-      pipe_answered one no_volume namespace was is status told clients origins ready steady runs
+  pub pipes_answered : PipesAreAnswered kinds
+  pipes_answered known namespace was is status told clients origins steady site runs =
+      pipe_answered known namespace was is status told clients origins steady runs
 
   -- ---- `import`
 
   damage_is_untold : (told : Bool) (kept : List ℕ) (found : Option (List ℕ)) → IsTrue told → IsDamaged told kept found → ⊥
   damage_is_untold told kept found tells damaged = true≢false (sym tells ∙ damaged.untold)
 
-  read_answered : (namespace : List ℕ) (was is : Objects D G (List (N × C)) O) (status : Status) (taken : HasTakenIn kinds namespace was is status) → IsTrue kinds.disks.tells
+  read_answered : (known : Option Book) (namespace : List ℕ) (was is : Objects D G (List (N × C)) O) (status : Status) (taken : HasTakenIn kinds known namespace was is status)
+      → IsTrue (told_at Checkpoints kinds.disks.tells known)
       → NoFaults kinds was is → (file : List ℕ) → taken.imported.input ≡ Ok file → (refused : Option StoreFault) → taken.imported.imported.refused ≡ refused
       → IsTellable refused → (text : List ℕ) → Prints kinds.sinks (status_after refused) text was.out is.out status
-      → (status ≡ Done) ⊎ (status ≡ Memory) ⊎ ImportsBadly kinds namespace was is status
-  read_answered namespace was is status taken told steady file whole None none tellable text printed =
+      → (status ≡ Done) ⊎ (status ≡ Memory) ⊎ ImportsBadly kinds known namespace was is status
+  read_answered known namespace was is status taken told steady file whole None none tellable text printed =
       one_more (printed_or_lacked kinds.sinks Done text was.out is.out status steady.out (inl printed))
-  read_answered namespace was is status taken told steady file whole (Some (stores.Full count limit)) full tellable text printed =
+  read_answered known namespace was is status taken told steady file whole (Some (stores.Full count limit)) full tellable text printed =
       inr (inr (record { taken = taken; badly = subst (λ i. IsNotTaken i taken.imported.imported.refused) (sym whole) (inr (subst IsFullBefore (sym full) tt)) }))
-  read_answered namespace was is status taken told steady file whole (Some stores.DiskFault) fault tellable text printed =
+  read_answered known namespace was is status taken told steady file whole (Some stores.DiskFault) fault tellable text printed =
       absurd (not_risen (kinds.disks.faults was.disk) (kinds.disks.faults is.disk) steady.disk
       (subst (λ r. CountsIf (is_denied r) (kinds.disks.faults was.disk) (kinds.disks.faults is.disk)) fault taken.imported.imported.keeps.faults).1)
-  read_answered namespace was is status taken told steady file whole (Some (stores.Damaged number kept found)) fault tellable text printed =
+  read_answered known namespace was is status taken told steady file whole (Some (stores.Damaged number kept found)) fault tellable text printed =
       absurd (undamaged (subst (λ r. EndsBy true r k.rest k.reached taken.imported.after) fault k.ends))
     where
       k : Keeps true taken.imported.imported.takens taken.imported.imported.stored taken.imported.imported.refused (told_on kinds.disks was.disk taken.imported.before) (told_on kinds.disks is.disk taken.imported.after)
@@ -189,113 +219,220 @@ module _ {D G L P N M C O : Type 0} (kinds : Kinds D G L P N M C O) where
           damage_is_untold k.reached.tells kept found
           (subst IsTrue (sym taken.imported.opened.same_tells ∙ sym k.goes_on.same_tells ∙ stored_tells true ends.0 k.reached taken.imported.after (Err (stores.Damaged number kept found)) ends.3) told)
           ends.3.3
-  read_answered namespace was is status taken told steady file whole (Some stores.Memory) fault tellable text printed = absurd tellable
+  read_answered known namespace was is status taken told steady file whole (Some stores.Memory) fault tellable text printed = absurd tellable
 
-  taken_answered : (namespace : List ℕ) (was is : Objects D G (List (N × C)) O) (status : Status) (taken : HasTakenIn kinds namespace was is status) → IsTrue kinds.disks.tells
+  taken_answered : (known : Option Book) (namespace : List ℕ) (was is : Objects D G (List (N × C)) O) (status : Status) (taken : HasTakenIn kinds known namespace was is status)
+      → IsTrue (told_at Checkpoints kinds.disks.tells known)
       → NoFaults kinds was is → (input : Result (List ℕ) InputFault) → taken.imported.input ≡ input
       → Tells kinds.sinks taken.imported.imported.takens taken.imported.imported.stored taken.imported.imported.refused was.out is.out status input
-      → (status ≡ Done) ⊎ (status ≡ Memory) ⊎ ImportsBadly kinds namespace was is status
-  taken_answered namespace was is status taken told steady (Ok file) whole (inl read) =
-      read_answered namespace was is status taken told steady file whole taken.imported.imported.refused refl read.tellable _ read.told
-  taken_answered namespace was is status taken told steady (Ok file) whole (inr (inl none)) =
+      → (status ≡ Done) ⊎ (status ≡ Memory) ⊎ ImportsBadly kinds known namespace was is status
+  taken_answered known namespace was is status taken told steady (Ok file) whole (inl read) =
+      read_answered known namespace was is status taken told steady file whole taken.imported.imported.refused refl read.tellable _ read.told
+  taken_answered known namespace was is status taken told steady (Ok file) whole (inr (inl none)) =
       inr (inr (record { taken = taken; badly = subst (λ i. IsNotTaken i taken.imported.imported.refused) (sym whole) (inl (none.at, none.none)) }))
-  taken_answered namespace was is status taken told steady (Ok file) whole (inr (inr breaks)) = inr (inl breaks.lacks.status_is)
-  taken_answered namespace was is status taken told steady (Err input_fault.TooLong) same tells =
+  taken_answered known namespace was is status taken told steady (Ok file) whole (inr (inr breaks)) = inr (inl breaks.lacks.status_is)
+  taken_answered known namespace was is status taken told steady (Err input_fault.TooLong) same tells =
       inr (inr (record { taken = taken; badly = subst (λ i. IsNotTaken i taken.imported.imported.refused) (sym same) tt }))
-  taken_answered namespace was is status taken told steady (Err input_fault.Failed) same tells =
+  taken_answered known namespace was is status taken told steady (Err input_fault.Failed) same tells =
       inr (inr (record { taken = taken; badly = subst (λ i. IsNotTaken i taken.imported.imported.refused) (sym same) tt }))
-  taken_answered namespace was is status taken told steady (Err input_fault.Memory) same tells = inr (inl tells.1.status_is)
+  taken_answered known namespace was is status taken told steady (Err input_fault.Memory) same tells = inr (inl tells.1.status_is)
 
-  import_answered : FilesStandForOneBook → FilesStandForNoVolume → (namespace : List ℕ) (was is : Objects D G (List (N × C)) O) (status : Status) → IsTrue kinds.disks.tells
-      → IsReady (Some namespace) (kinds.disks.reading was.disk) → NoFaults kinds was is
-      → HasTakenIn kinds namespace was is status ⊎ Refuses kinds (Some namespace) was is status
-      → (status ≡ Done) ⊎ (status ≡ Memory) ⊎ ImportsBadly kinds namespace was is status
-  import_answered one no_volume namespace was is status told ready steady (inl taken) =
-      taken_answered namespace was is status taken told steady taken.imported.input refl taken.imported.imported.told
-  import_answered one no_volume namespace was is status told ready steady (inr refuses) =
-      inr (inl (refused_for_memory (Some namespace) was is status told ready
-      (λ other holds. not_other one no_volume namespace (kinds.disks.reading was.disk) other ready holds) steady refuses))
+  import_answered : (known : Option Book) (namespace : List ℕ) (was is : Objects D G (List (N × C)) O) (status : Status)
+      → IsTrue (told_at Checkpoints kinds.disks.tells known) → NoFaults kinds was is
+      → HasTakenIn kinds known namespace was is status ⊎ Refuses kinds Checkpoints known (Some namespace) was is status
+      → (status ≡ Done) ⊎ (status ≡ Memory) ⊎ ImportsBadly kinds known namespace was is status
+  import_answered known namespace was is status told steady (inl taken) =
+      taken_answered known namespace was is status taken told steady taken.imported.input refl taken.imported.imported.told
+  import_answered known namespace was is status told steady (inr refuses) =
+      inr (inl (refused_known known (Some namespace) was is status told steady refuses))
 
-  pub imports_answered : FilesStandForOneBook → FilesStandForNoVolume → ImportsAreAnswered kinds
-  imports_answered one no_volume namespace was is status told ready steady site runs = import_answered one no_volume namespace was is status told ready steady runs
+  pub imports_answered : ImportsAreAnswered kinds
+  imports_answered known namespace was is status told steady site runs = import_answered known namespace was is status told steady runs
 
   -- ---- `follow`
 
-  told_then : (namespace : List ℕ) (site : Site) (was is : Objects D G (List (N × C)) O) (status : Status) (taken : HasReplicated kinds namespace site was is status) → IsTrue kinds.disks.tells
+  told_then : (known : Option Book) (namespace : List ℕ) (site : Site) (was is : Objects D G (List (N × C)) O) (status : Status) (taken : HasReplicated kinds known namespace site was is status)
+      → IsTrue (told_at Checkpoints kinds.disks.tells known)
       → (number at : ℕ) (kept : List ℕ) (found : Option (List ℕ))
       → FollowEnds kinds.disks (source_of site) kinds.origins_tell (Err (Piece number (pieces.Damaged at kept found))) taken.follows.follows.followed.refused
       taken.follows.follows.followed.reached taken.follows.follows.followed.links taken.follows.after (kinds.dialers.links taken.first.after.0) → ⊥
-  told_then namespace site was is status taken told number at kept found ends =
+  told_then known namespace site was is status taken told number at kept found ends =
       let f = taken.follows.follows.followed in
       damage_is_untold f.reached.told kept found
       (sym (ap (λ (h : Holdings D). h.told) ends.2.leaves.1.others) ∙ f.goes_on.same_told ∙ taken.follows.opened.same_tells ∙ told) ends.2.leaves.3
 
-  ended_answered : (namespace : List ℕ) (site : Site) (was is : Objects D G (List (N × C)) O) (status : Status) (taken : HasReplicated kinds namespace site was is status)
-      → IsTrue kinds.disks.tells → NoFaults kinds was is → (result : Result ⊤ Stop) → taken.follows.follows.result ≡ result
+  ended_answered : (known : Option Book) (namespace : List ℕ) (site : Site) (was is : Objects D G (List (N × C)) O) (status : Status) (taken : HasReplicated kinds known namespace site was is status)
+      → IsTrue (told_at Checkpoints kinds.disks.tells known) → NoFaults kinds was is → (result : Result ⊤ Stop) → taken.follows.follows.result ≡ result
       → TellsEnd kinds.sinks (length (captures taken.follows.after.book)) result was.out is.out status
       → FollowEnds kinds.disks (source_of site) kinds.origins_tell result taken.follows.follows.followed.refused
       taken.follows.follows.followed.reached taken.follows.follows.followed.links taken.follows.after (kinds.dialers.links taken.first.after.0)
       → CountsIf (is_disk_stop result) (kinds.disks.faults was.disk) (kinds.disks.faults is.disk)
-      → (status ≡ Done) ⊎ (status ≡ Memory) ⊎ FollowsBadly kinds namespace site was is status
-  ended_answered namespace site was is status taken told steady (Ok done) same tells ends counts =
+      → (status ≡ Done) ⊎ (status ≡ Memory) ⊎ FollowsBadly kinds known namespace site was is status
+  ended_answered known namespace site was is status taken told steady (Ok done) same tells ends counts =
       one_more (printed_or_lacked kinds.sinks Done _ was.out is.out status steady.out tells)
-  ended_answered namespace site was is status taken told steady (Err (Source number sources.DialFault)) same tells ends counts =
+  ended_answered known namespace site was is status taken told steady (Err (Source number sources.DialFault)) same tells ends counts =
       inr (inr (record { taken = taken; badly = subst IsNotFollowed (sym same) tt }))
-  ended_answered namespace site was is status taken told steady (Err (Source number sources.OriginFault)) same tells ends counts =
+  ended_answered known namespace site was is status taken told steady (Err (Source number sources.OriginFault)) same tells ends counts =
       inr (inr (record { taken = taken; badly = subst IsNotFollowed (sym same) tt }))
-  ended_answered namespace site was is status taken told steady (Err (Source number sources.Malformed)) same tells ends counts =
+  ended_answered known namespace site was is status taken told steady (Err (Source number sources.Malformed)) same tells ends counts =
       inr (inr (record { taken = taken; badly = subst IsNotFollowed (sym same) tt }))
-  ended_answered namespace site was is status taken told steady (Err (Source number sources.TooLong)) same tells ends counts =
+  ended_answered known namespace site was is status taken told steady (Err (Source number sources.TooLong)) same tells ends counts =
       inr (inr (record { taken = taken; badly = subst IsNotFollowed (sym same) tt }))
-  ended_answered namespace site was is status taken told steady (Err (Source number (sources.Refused code))) same tells ends counts =
+  ended_answered known namespace site was is status taken told steady (Err (Source number (sources.Refused code))) same tells ends counts =
       inr (inr (record { taken = taken; badly = subst IsNotFollowed (sym same) tt }))
-  ended_answered namespace site was is status taken told steady (Err (Source number sources.Memory)) same (inl printed) ends counts = absurd printed.1
-  ended_answered namespace site was is status taken told steady (Err (Source number sources.Memory)) same (inr lacked) ends counts = inr (inl lacked.status_is)
-  ended_answered namespace site was is status taken told steady (Err (Piece number (pieces.Full count limit))) same tells ends counts =
+  ended_answered known namespace site was is status taken told steady (Err (Source number sources.Memory)) same (inl printed) ends counts = absurd printed.1
+  ended_answered known namespace site was is status taken told steady (Err (Source number sources.Memory)) same (inr lacked) ends counts = inr (inl lacked.status_is)
+  ended_answered known namespace site was is status taken told steady (Err (Piece number (pieces.Full count limit))) same tells ends counts =
       inr (inr (record { taken = taken; badly = subst IsNotFollowed (sym same) tt }))
-  ended_answered namespace site was is status taken told steady (Err (Piece number pieces.NotAPiece)) same tells ends counts =
+  ended_answered known namespace site was is status taken told steady (Err (Piece number pieces.NotAPiece)) same tells ends counts =
       inr (inr (record { taken = taken; badly = subst IsNotFollowed (sym same) tt }))
-  ended_answered namespace site was is status taken told steady (Err (Piece number pieces.DiskFault)) same tells ends counts =
+  ended_answered known namespace site was is status taken told steady (Err (Piece number pieces.DiskFault)) same tells ends counts =
       absurd (not_risen (kinds.disks.faults was.disk) (kinds.disks.faults is.disk) steady.disk counts.1)
-  ended_answered namespace site was is status taken told steady (Err (Piece number (pieces.Damaged at kept found))) same tells ends counts =
-      absurd (told_then namespace site was is status taken told number at kept found ends)
-  ended_answered namespace site was is status taken told steady (Err (Piece number pieces.Memory)) same (inl printed) ends counts = absurd printed.1
-  ended_answered namespace site was is status taken told steady (Err (Piece number pieces.Memory)) same (inr lacked) ends counts = inr (inl lacked.status_is)
+  ended_answered known namespace site was is status taken told steady (Err (Piece number (pieces.Damaged at kept found))) same tells ends counts =
+      absurd (told_then known namespace site was is status taken told number at kept found ends)
+  ended_answered known namespace site was is status taken told steady (Err (Piece number pieces.Memory)) same (inl printed) ends counts = absurd printed.1
+  ended_answered known namespace site was is status taken told steady (Err (Piece number pieces.Memory)) same (inr lacked) ends counts = inr (inl lacked.status_is)
 
-  follow_answered : FilesStandForOneBook → FilesStandForNoVolume → (namespace : List ℕ) (site : Site) (was is : Objects D G (List (N × C)) O) (status : Status)
-      → IsTrue kinds.disks.tells → IsReady (Some namespace) (kinds.disks.reading was.disk) → NoFaults kinds was is
-      → HasReplicated kinds namespace site was is status ⊎ Refuses kinds (Some namespace) was is status ⊎ LacksWords kinds was is status
-      → (status ≡ Done) ⊎ (status ≡ Memory) ⊎ FollowsBadly kinds namespace site was is status
-  follow_answered one no_volume namespace site was is status told ready steady (inl taken) =
-      ended_answered namespace site was is status taken told steady taken.follows.follows.result refl taken.follows.follows.told taken.follows.follows.followed.ends
+  follow_answered : (known : Option Book) (namespace : List ℕ) (site : Site) (was is : Objects D G (List (N × C)) O) (status : Status)
+      → IsTrue (told_at Checkpoints kinds.disks.tells known) → NoFaults kinds was is
+      → HasReplicated kinds known namespace site was is status ⊎ Refuses kinds Checkpoints known (Some namespace) was is status ⊎ LacksWords kinds known was is status
+      → (status ≡ Done) ⊎ (status ≡ Memory) ⊎ FollowsBadly kinds known namespace site was is status
+  follow_answered known namespace site was is status told steady (inl taken) =
+      ended_answered known namespace site was is status taken told steady taken.follows.follows.result refl taken.follows.follows.told taken.follows.follows.followed.ends
       taken.follows.disk_faults
-  follow_answered one no_volume namespace site was is status told ready steady (inr (inl refuses)) =
-      inr (inl (refused_for_memory (Some namespace) was is status told ready
-      (λ other holds. not_other one no_volume namespace (kinds.disks.reading was.disk) other ready holds) steady refuses))
-  follow_answered one no_volume namespace site was is status told ready steady (inr (inr lacks)) = inr (inl lacks.status_is)
+  follow_answered known namespace site was is status told steady (inr (inl refuses)) =
+      inr (inl (refused_known known (Some namespace) was is status told steady refuses))
+  follow_answered known namespace site was is status told steady (inr (inr lacks)) = inr (inl lacks.status_is)
 
-  pub follows_answered : FilesStandForOneBook → FilesStandForNoVolume → FollowsAreAnswered kinds
-  follows_answered one no_volume namespace site was is status told ready steady runs =
-      follow_answered one no_volume namespace site was is status told ready steady runs
+  pub follows_answered : FollowsAreAnswered kinds
+  follows_answered known namespace site was is status told steady runs = follow_answered known namespace site was is status told steady runs
 
   pub follows_leave_ready : FollowsLeaveReady kinds
-  follows_leave_ready namespace site was is status taken told ids image now =
+  follows_leave_ready known namespace site was is status taken told ids image now =
       let f = taken.follows in
-      let x = f.near told image now in
-      ready_next namespace image f.after.book x.0 (f.follows.followed.goes_on.grows.namespace ∙ f.opened.in_namespace) ids x.2 x.1
+      let so : IsTrue f.before.told = f.opened.same_tells ∙ told in
+      let x = f.near so image now in
+      let grows = f.follows.followed.goes_on.grows in
+      settled_next namespace image f.after.book x.0 (grows.namespace ∙ f.opened.in_namespace)
+      (sound_still f.before.book f.after.book grows (f.opened.consistent.sound so)) ids x.2 x.1 (f.right so image now)
 
   pub imports_leave_ready : ImportsLeaveReady kinds
-  imports_leave_ready namespace was is status taken told ids image now =
+  imports_leave_ready known namespace was is status taken told ids image now =
       let i = taken.imported in
-      let x = i.near told image now in
-      ready_next namespace image i.after.seen x.0 (i.imported.keeps.goes_on.grows.namespace ∙ i.opened.in_namespace) ids x.2 x.1
+      let so : IsTrue i.before.tells = i.opened.same_tells ∙ told in
+      let g = i.imported.keeps.goes_on in
+      let x = i.near so image now in
+      settled_next namespace image i.after.seen x.0 (g.grows.namespace ∙ i.opened.in_namespace)
+      (λ none. (g.consistent i.opened.consistent).sound (g.same_tells ∙ so)) ids x.2 x.1 (i.right so image now)
 
-  pub pipes_leave_ready : PipesLeaveReady kinds
-  pipes_leave_ready namespace was is status piped told ids image now =
-      let x = piped.near told image now in
-      ready_next namespace image piped.after.seen x.0 (piped.grows.namespace ∙ piped.opened.in_namespace) ids x.2 x.1
+  -- ---- what `pipe` leaves
+
+  module _ (known : Option Book) (asked : Option (List ℕ)) (was is : Objects D G (N × C) O) (status : Status) (piped : Pipes kinds known asked was is status)
+      (told : IsTrue (told_at Checkpoints kinds.disks.tells known)) where
+    tells : IsTrue kinds.disks.tells
+    tells = told_tells Checkpoints kinds.disks.tells known told
+
+    told_first : IsTrue piped.before.tells
+    told_first = piped.opened.opened.same_tells ∙ told
+
+    told_last : IsTrue piped.after.tells
+    told_last = piped.goes_on.same_tells ∙ told_first
+
+    sound_last : IsSound piped.after.seen
+    sound_last = (piped.goes_on.consistent piped.opened.opened.consistent).sound told_last
+
+    -- the finished checkpoints are those of the last book, in each image that the connection leaves
+    right_then : Leaves (kinds.disks.images piped.served) (λ image. HasCheckpointsOf image piped.after.seen)
+    right_then image left =
+        let before = piped.goes_on.kept (cdxj_files image) (record { told = told_last; image = image; left = left; are = refl }) in
+        checkpoints_later piped.before.seen piped.after.seen image piped.goes_on.grows
+        (same_checkpoints_of image before.image piped.before.seen (sym before.are) (piped.opened.left told_first before.image before.left).checkpoints)
+
+    right_last : KeepsSettled → Leaves (kinds.disks.images is.disk) (λ image. HasCheckpointsOf image piped.after.seen)
+    right_last stays =
+        settled_right kinds.disks piped.after piped.served is.disk piped.closed.answer piped.closed.settles stays tells told_last right_then
+
+    all_done : (answer : Result ℕ CheckpointFault) → HasSettled kinds.disks piped.after piped.served is.disk answer → status ≡ settled_status answer piped.said
+        → kinds.disks.faults is.disk ≡ kinds.disks.faults piped.served → kinds.disks.faults piped.served < 2 ^ 64 - 1 → status ≢ Memory
+        → Leaves (kinds.disks.images is.disk) (IsSettled piped.after.seen)
+    all_done (Ok n) settles says same below some = settled_all kinds.disks piped.after piped.served is.disk (Ok n) settles n refl told_last
+    all_done (Err checkpoints.DiskFault) settles says same below some =
+        absurd (not_risen (kinds.disks.faults piped.served) (kinds.disks.faults is.disk) (record { same = same; below = below })
+        (settled_rose kinds.disks piped.after piped.served is.disk settles))
+    all_done (Err checkpoints.Memory) settles says same below some = absurd (some says)
+
+    pub left_settled : IsSteady (kinds.disks.faults was.disk) (kinds.disks.faults is.disk) → status ≢ Memory
+        → Leaves (kinds.disks.images is.disk) (IsLeftSettled piped.after.seen)
+    left_settled steady some image left =
+        let at = piped.near told_first image left in
+        let same : kinds.disks.faults is.disk ≡ kinds.disks.faults piped.served = steady.same ∙ sym (served_faults kinds piped steady.same) in record {
+          x = at.0;
+          stands = at.1;
+          next = at.2;
+          checkpoints = all_done piped.closed.answer piped.closed.settles piped.closed.status_is same (omega (arith, same, steady.same, steady.below)) some image left;
+        }
+
+    -- ---- where the disk didn't fail
+
+    -- what an image stands for, that the connection leaves, is the last book
+    last_then : CoursesCountFaults → IdsDifferOnTheWay → HasIds piped.after.seen → IsSteady (kinds.disks.faults was.disk) (kinds.disks.faults is.disk)
+        → HasServed kinds (record was { disk = piped.ready }) (record is { disk = piped.served }) piped.before piped.after piped.said
+        ⊎ HasServedNone kinds (record was { disk = piped.ready }) (record is { disk = piped.served }) piped.before piped.after piped.said
+        → (image : Image) (x : Book) → kinds.disks.images piped.served image → ImageStandsFor image x → SameBook x piped.after.seen
+    last_then counts differ ids steady (inl s) image x left stands =
+        let c = s.one.connection in
+        let met : RoseBy (disk_faults c.rounds) (kinds.disks.faults piped.ready) (kinds.disks.faults piped.served) = (counts _ _ _ c.rounds _ c.lawful).1.rose in
+        let none : disk_faults c.rounds ≡ 0 =
+        omega (arith, met, ready_faults kinds piped steady.same, served_faults kinds piped steady.same, steady.same, steady.below) in
+        course_one (pipe_terms piped.before) 0 _ c.rounds _ (λ book. SameBook book piped.before.seen) x refl c.lawful none (λ b same. same)
+        (s.left told_first (ids_earlier piped.before.seen piped.after.seen piped.goes_on.grows ids) (differ _ _ _ c.rounds _ c.lawful ids) image x left stands)
+    last_then counts differ ids steady (inr n) image x left stands =
+        let at : ImageStandsFor image piped.before.seen =
+        (piped.opened.left told_first image (subst (λ (d : D). kinds.disks.images d image) n.unasked left)).stands in
+        subst (λ (now : Contents). SameBook x now.seen) (sym n.same)
+        (one_of image x piped.before.seen stands at (ids_differ piped.before.seen (ids_earlier piped.before.seen piped.after.seen piped.goes_on.grows ids)))
+
+    pub left_last : CoursesCountFaults → IdsDifferOnTheWay → IsTrue kinds.clients_tell → IsTrue kinds.origins_tell
+        → IsSteady (kinds.disks.faults was.disk) (kinds.disks.faults is.disk) → HasIds piped.after.seen
+        → Leaves (kinds.disks.images is.disk) (λ image. ImageStandsFor image piped.after.seen)
+    left_last counts differ clients origins steady ids image left =
+        let at = piped.near told_first image left in
+        let from = settled_from kinds.disks piped.after piped.served is.disk piped.closed.answer piped.closed.settles tells image left in
+        let stood : ImageStandsFor from.0 at.0 =
+        record { for = subst (λ (files : List (List ℕ)). StandsFor files at.0) from.2 at.1.for; sound = at.1.sound } in
+        stands_same image at.0 piped.after.seen (last_then counts differ ids steady (piped.serves clients origins) from.0 at.0 from.1 stood) sound_last at.1
+
+  pub pipes_leave_settled : PipesLeaveSettled kinds
+  pipes_leave_settled known namespace was is status piped told steady some = left_settled known (Some namespace) was is status piped told steady some
+
+  pub pipes_leave_the_last : CoursesCountFaults → IdsDifferOnTheWay → PipesLeaveTheLast kinds
+  pipes_leave_the_last counts differ known namespace was is status piped told clients origins steady ids =
+      left_last known (Some namespace) was is status piped told counts differ clients origins steady ids
+
+  pub pipes_pass_on : PipesPassOn kinds
+  pipes_pass_on known namespace was is status piped s ids t x le o =
+      let quiet = quiet_muted kinds.disks piped.before.tells
+      (λ so. told_tells Checkpoints kinds.disks.tells known (sym piped.opened.opened.same_tells ∙ so)) was.disk piped.opened.begun piped.opened.unchanged.quiet in
+      let first = settled_opens kinds.disks piped.before piped.opened.begun piped.ready piped.opened.answer piped.opened.settles in
+      let during = s.one.connection.images in
+      let last = settled_opens kinds.disks piped.after piped.served is.disk piped.closed.answer piped.closed.settles in
+      let later : (crash_of (muted piped.before.tells kinds.disks) was.disk).moment ≤ (crash_of (muted piped.before.tells kinds.disks) piped.ready).moment =
+      omega (arith, quiet.later, first.later) in
+      let then = no_more (last.moves t x (omega (arith, le, later, during.later))
+      (subst (λ (b : Bool). (crash_of (muted b kinds.disks) is.disk).openings t x) (sym piped.goes_on.same_tells) o)) in
+      ⊎_elim
+      (λ before. inl (no_more (quiet.moves t x le (no_more (first.moves t x (omega (arith, le, quiet.later)) before)))))
+      (λ passed. inr passed)
+      (during.opened refl ids t x (omega (arith, le, later)) then)
+
+  pub pipes_leave_ready : KeepsSettled → PipesLeaveReady kinds
+  pipes_leave_ready stays known namespace was is status piped told ids image now =
+      let x = piped.near (told_first known (Some namespace) was is status piped told) image now in
+      settled_next namespace image piped.after.seen x.0 (piped.goes_on.grows.namespace ∙ piped.opened.opened.in_namespace)
+      (λ none. sound_last known (Some namespace) was is status piped told) ids x.2 x.1
+      (right_last known (Some namespace) was is status piped told stays image now)
 
   pub captures_come_back : FilesStandForOneBook → FilesStandForNoVolume → CapturesComeBack kinds
-  captures_come_back one no_volume namespace was is status piped told ids image x now stands =
-      let y = piped.near told image now in
+  captures_come_back one no_volume known namespace was is status piped told ids image x now stands =
+      let y = piped.near (told_first known (Some namespace) was is status piped told) image now in
       all_next one no_volume image piped.after.seen y.0 x ids y.2 y.1 stands

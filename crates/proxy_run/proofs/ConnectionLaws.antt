@@ -1,62 +1,103 @@
--- A connection over an archive, said of the disk that was given.
-use Rattle.std.proofs.Common.{◌≡◌, ℕ, Bool, true, IsTrue, List, Option, refl, subst, ◌∙◌}
-use Rattle.archive_core.proofs.TellingLaws.{quiet_muted}
+-- What a connection over an archive leaves of its images.
+use Rattle.std.proofs.Common.{◌≡◌, ℕ, ◌+◌, ◌≤◌, IsTrue, List, [], ◌∷◌, length, refl, sym, ap, subst, ◌∙◌, inl, inr, arith, length-append}
 use Rattle.archive_core.specs.Holdings.{Holdings, contents_of}
-use Rattle.archive_core.specs.Reopening.{IsReopened}
-use Rattle.archive_core.specs.Told.{told_of, told_on}
-use Rattle.archive_volumes.proofs.ChangeLaws.{DiskLaws, laws_muted, opens_now}
-use Rattle.archive_volumes.proofs.StoreLaws.{opens_earlier}
+use Rattle.archive_core.specs.Told.{told_of}
+use Rattle.archive_shelf.proofs.CallLaws.{leads_same}
+use Rattle.archive_volumes.proofs.ChangeLaws.{DiskLaws, laws_muted, now_image, one_of, opens_now}
 use Rattle.archive_volumes.specs.Volumes.{muted}
-use Rattle.archive_shelf.specs.Openings.{SameBook}
+use Rattle.archive_shelf.specs.Openings.{HasIds, ImageStandsFor, SameBook}
+use Rattle.capture.proofs.GrowthLaws.{growth_keeps_captures}
+use Rattle.capture.specs.Captures.{captures}
+use Rattle.capture.specs.Growth.{Grows}
+use Rattle.capture.specs.declared.book.Book.{Book}
+use Rattle.capture.specs.declared.captured.Stored.{Stored}
+use Rattle.capture.specs.declared.refusal.Refusal.{Refusal}
+use Rattle.capture.specs.declared.refusal.Refusal.TheVariants.{Malformed, TargetRefused, BadTime, BadAcceptDatetime, BadQuery, NotAForm, NoCapture, NoSuch, MethodRefused, BodyTooLong, HeadTooLong, ClockRange, ConnectRefused, SecureRefused, CodingRefused, DialFault, OriginFault, OriginEnded, OriginMalformed, OriginTooLong, TooManyInterim, Full, DiskFault, Damaged}
+use Rattle.disk_model.specs.Crash.{Leaves}
 use Rattle.disk_model.specs.declared.disk.Disk.{Ghosts as Disks}
-use Rattle.command.proofs.OpeningLaws.{ids_differ, only_one}
-use Rattle.command.specs.Objects.{Around}
-use Rattle.command.specs.Opening.{IsUnchanged, usual_limits}
+use Rattle.command.proofs.OpeningLaws.{ids_differ}
 use Rattle.proxy_run.specs.Pipes.{LeavesJust, pipe_terms}
-use Rattle.proxy_run.specs.Serving.{ServesOne, pipe_setting}
-use Rattle.command.specs.declared.status.Status.{Status}
-use Rattle.session.proofs.ImageLaws.{images_behind, opens_more}
-use Rattle.session.specs.Images.{KeepsImages}
-use Rattle.session.specs.Rounds.{Round, IsCourse}
-use Rattle.session.specs.Traces.{view_of}
+use Rattle.session.proofs.ImageLaws.{opens_more}
+use Rattle.session.specs.Exchanges.{Exchange, Fails, IsFailure, Passes}
+use Rattle.session.specs.Images.{KeepsImages, OpensAtLast, OpensBehind, deed_of, deed_of_failure}
+use Rattle.session.specs.Rounds.{Exchanged, IsCourse, IsDecided, Outcome, Refused, Round, Undecided, Visited, disk_fault, disk_faults, is_disk_fault}
+use Rattle.session.specs.Traces.{StaysView, Terms, Traces, View}
 use Rattle.warc_journal.specs.Journals.{disk_of}
 
--- ---- the connection
-
--- from the disk that was given, over which nothing was written until the archive was opened
-unfoldable pub served_over : {D : Type 0} (disks : Disks D) → DiskLaws disks → (given : D) (clock_tells : Bool) (told now : Around) (was is : Holdings D) (status : Status)
-    → (IsTrue was.told → IsTrue disks.tells) → IsUnchanged disks given (disk_of was.journal) → disks.faults (disk_of was.journal) ≡ disks.faults given
-    → ServesOne true (pipe_setting clock_tells) told now (told_of disks was) (told_of disks is) status
-    → ServesOne true (pipe_setting clock_tells) told now (told_on disks given (contents_of was)) (told_of disks is) status
-served_over disks laws given clock_tells told now was is status only same faults one =
-    let k = one.connection in
-    record {
-      heard = one.heard;
-      served = one.served;
-      logged = one.logged;
-      connection = record {
-        rounds = k.rounds;
-        rest = k.rest;
-        given = k.given;
-        lawful = subst (λ n. IsCourse (pipe_terms (contents_of was)) 0 (view_of (contents_of was) told.dialer_faults n) k.rounds
-            (view_of (contents_of is) now.dialer_faults (disks.faults (disk_of is.journal)))) faults k.lawful;
-        ends = k.ends;
-        gained = record { around = record { asked = k.gained.around.asked; logged = k.gained.around.logged }; stored = k.gained.stored };
-        images = images_behind (pipe_terms (contents_of was)) k.rounds (told_on disks given (contents_of was)) (told_of disks was)
-            (told_of disks is) (opens_earlier (muted was.told disks) (laws_muted disks was.told laws) (disk_of was.journal))
-            (λ alone tells. (same.rests (only tells)).read) (quiet_muted disks was.told only given (disk_of was.journal) same.quiet) k.images;
-      };
-      status_is = one.status_is;
-    }
-
--- ---- what is left
-
-pub leaves_just : {D : Type 0} (disks : Disks D) → DiskLaws disks → (given : D) (asked : Option (List ℕ)) (rounds : List Round) (was is : Holdings D)
-    → is.told ≡ was.told → IsReopened disks given asked usual_limits was → KeepsImages (pipe_terms (contents_of was)) rounds (told_of disks was) (told_of disks is)
+-- where each image stood for the book before the connection
+pub leaves_just : {D : Type 0} (disks : Disks D) → DiskLaws disks → (rounds : List Round) (was is : Holdings D) → is.told ≡ was.told
+    → (IsTrue was.told → Leaves (disks.images (disk_of was.journal)) (λ image. ImageStandsFor image was.book))
+    → KeepsImages (pipe_terms (contents_of was)) rounds (told_of disks was) (told_of disks is)
     → LeavesJust disks (contents_of was) rounds (disk_of is.journal)
-leaves_just disks laws given asked rounds was is same reopened k told ids all image x now stands =
+leaves_just disks laws rounds was is same stood k told ids all image x now stands =
     opens_more (pipe_terms (contents_of was)) rounds
     (λ b. (told_of disks was).crash.openings (told_of disks was).crash.moment b) (λ b. SameBook b was.book)
-    (λ b o. only_one (reopened.state (ids_differ was.book ids) b o)) x
-    (k.left refl (reopened.told_is ∙ told) all x
-    (opens_now (muted is.told disks) (laws_muted disks is.told laws) (disk_of is.journal) x image (same ∙ reopened.told_is ∙ told) now stands))
+    (λ b o. one_of o.image b was.book o.stands
+    (stood told o.image (now_image (muted was.told disks) (laws_muted disks was.told laws) (disk_of was.journal) b o)) (ids_differ was.book ids)) x
+    (k.left refl told all x
+    (opens_now (muted is.told disks) (laws_muted disks is.told laws) (disk_of is.journal) x image (same ∙ told) now stands))
+
+-- ---- where the disk didn't fail
+
+stays_one : (terms : Terms) (traces : Traces) (Before : Book → Type 0) (x : Book) → StaysView terms traces.before traces.after
+    → (Before x → SameBook x traces.before.book) → Before x → SameBook x traces.after.book
+stays_one terms traces Before x stays one before = subst (λ (b : Book). SameBook x b) (sym stays.book) (one before)
+
+-- the book stays where no response is passed on
+failed_one : (terms : Terms) (e : Exchange) (refusal : Refusal) (traces : Traces) (Before : Book → Type 0) (x : Book) → IsFailure terms e refusal traces
+    → is_disk_fault refusal ≡ 0 → (Before x → SameBook x traces.before.book) → OpensBehind terms traces (deed_of_failure e refusal) Before x
+    → SameBook x traces.after.book
+failed_one terms e (ClockRange now) traces Before x h none one o = stays_one terms traces Before x h.untouched one o
+failed_one terms e DialFault traces Before x h none one o = stays_one terms traces Before x h.untouched one o
+failed_one terms e OriginFault traces Before x h none one o = stays_one terms traces Before x h.untouched one o
+failed_one terms e OriginEnded traces Before x h none one o = stays_one terms traces Before x h.untouched one o
+failed_one terms e OriginMalformed traces Before x h none one o = stays_one terms traces Before x h.untouched one o
+failed_one terms e OriginTooLong traces Before x h none one o = stays_one terms traces Before x h.untouched one o
+failed_one terms e TooManyInterim traces Before x h none one o = stays_one terms traces Before x h.untouched one o
+failed_one terms e (Full count limit) traces Before x h none one o = stays_one terms traces Before x h.untouched one o
+failed_one terms e (Damaged number kept found) traces Before x h none one o = stays_one terms traces Before x h.0.untouched one o
+failed_one terms e DiskFault traces Before x h none one o = absurd (omega (arith, none))
+failed_one terms e (NoSuch number count) traces Before x h none one o = absurd h
+failed_one terms e Malformed traces Before x h none one o = absurd h
+failed_one terms e TargetRefused traces Before x h none one o = absurd h
+failed_one terms e BadQuery traces Before x h none one o = absurd h
+failed_one terms e BadTime traces Before x h none one o = absurd h
+failed_one terms e BadAcceptDatetime traces Before x h none one o = absurd h
+failed_one terms e NotAForm traces Before x h none one o = absurd h
+failed_one terms e NoCapture traces Before x h none one o = absurd h
+failed_one terms e MethodRefused traces Before x h none one o = absurd h
+failed_one terms e BodyTooLong traces Before x h none one o = absurd h
+failed_one terms e HeadTooLong traces Before x h none one o = absurd h
+failed_one terms e ConnectRefused traces Before x h none one o = absurd h
+failed_one terms e SecureRefused traces Before x h none one o = absurd h
+failed_one terms e CodingRefused traces Before x h none one o = absurd h
+
+-- behind a round in which the disk didn't fail just its book may be opened, where just the one before it might be
+behind_one : (terms : Terms) (r : Round) (outcome : Outcome) (Before : Book → Type 0) (x : Book) → IsDecided terms r outcome → disk_fault outcome ≡ 0
+    → (Before x → SameBook x r.traces.before.book) → OpensBehind terms r.traces (deed_of outcome) Before x → SameBook x r.traces.after.book
+behind_one terms r Undecided Before x (lacking, inl (begun, idle)) none one o = stays_one terms r.traces Before x idle.untouched one o
+behind_one terms r Undecided Before x (lacking, inr (e, asked, out)) none one o = stays_one terms r.traces Before x out.untouched one o
+behind_one terms r (Refused head refusal) Before x h none one o = stays_one terms r.traces Before x h.1.untouched one o
+behind_one terms r (Exchanged e (Fails refusal)) Before x h none one o = failed_one terms e refusal r.traces Before x h.1 none one o
+behind_one terms r (Exchanged e (Passes received payload)) Before x h none one o = o
+behind_one terms r (Visited q reply) Before x h none one o = stays_one terms r.traces Before x h.1.untouched one o
+
+-- and so behind a course
+pub course_one : (terms : Terms) (served : ℕ) (was : View) (rounds : List Round) (is : View) (Before : Book → Type 0) (x : Book) → IsTrue terms.alone
+    → IsCourse terms served was rounds is → disk_faults rounds ≡ 0 → ((b : Book) → Before b → SameBook b was.book) → OpensAtLast terms Before rounds x
+    → SameBook x is.book
+course_one terms served was [] is Before x alone leads none one o =
+    subst (λ (b : Book). SameBook x b) (sym (leads_same terms.alone was.book is.book alone leads.book)) (one x o)
+course_one terms served was (r ∷ rounds) is Before x alone (lawful, leads, knows, last, others) none one o =
+    let before : (b : Book) → Before b → SameBook b r.traces.before.book =
+    λ b h. subst (λ (y : Book). SameBook b y) (sym (leads_same terms.alone was.book r.traces.before.book alone leads.book)) (one b h) in
+    course_one terms (served + 1) r.traces.after rounds is (OpensBehind terms r.traces (deed_of r.outcome) Before) x alone others (omega (arith, none))
+    (λ b behind. behind_one terms r r.outcome Before b lawful.decided (omega (arith, none)) (before b) behind) o
+
+-- the ids of a book that grew differ where those of the later one do
+pub ids_earlier : (was now : Book) → Grows was now → HasIds now → HasIds was
+ids_earlier was now grows ids =
+    let kept = growth_keeps_captures was now grows in
+    let few : length (captures was) ≤ length (captures now) =
+    omega (arith, ap (λ (l : List Stored). length l) kept.1, length-append (captures was) kept.0) in
+    λ m n less less₂ e. ids m n (omega (arith, few, less)) (omega (arith, few, less₂)) (rw grows.namespace e)

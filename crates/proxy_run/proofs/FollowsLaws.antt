@@ -1,10 +1,15 @@
 -- What the command `follow` leaves.
 use Rattle.std.proofs.Common.{◌≡◌, ◌⊎◌, ℕ, Bool, IsTrue, List, [], ◌∷◌, length, Option, Err, refl, sym, subst, ◌∙◌, inl, inr, ⊎_elim, arith}
 use Rattle.archive_core.specs.Holdings.{Holdings, contents_of}
-use Rattle.archive_core.specs.Reopening.{IsReopened}
+use Rattle.archive_core.proofs.FinishedLaws.{checkpoints_later, same_checkpoints_of}
+use Rattle.archive_core.specs.Known.{IsReopenedKnown}
+use Rattle.command.specs.Settling.{IsOf}
+use Rattle.disk_model.specs.Crash.{Leaves}
+use Rattle.warc_journal.specs.Extents.{cdxj_files}
 use Rattle.archive_core.specs.Told.{told_of}
 use Rattle.archive_shelf.proofs.CallLaws.{no_more}
 use Rattle.archive_shelf.specs.Answers.{CountsIf}
+use Rattle.archive_shelf.specs.declared.depth.Depth.TheVariants.{Checkpoints}
 use Rattle.archive_shelf.specs.Openings.{Moves, SameBook, StaysCovered}
 use Rattle.archive_volumes.proofs.ChangeLaws.{DiskLaws, laws_muted, opens_now}
 use Rattle.archive_volumes.specs.Volumes.{OpensNear, crash_of, muted}
@@ -56,15 +61,16 @@ moves_so disks was is before after Allowed same_before same_after moves =
     subst (λ (told : Bool). Moves (crash_of disks was) (crash_of (muted told disks) is) Allowed) same_after
     (subst (λ (told : Bool). Moves (crash_of (muted told disks) was) (crash_of (muted after disks) is) Allowed) same_before moves)
 
-follows_left : {D N M C O : Type 0} (disks : Disks D) (dialers : Dialers N M) (sinks : Sinks O) (tells : Bool) → (laws : DiskLaws disks) (asked : Option (List ℕ)) (site : Site)
-    (was : D) (member_was member_is : N × C) (out_was out_is : O) (status : Status) (held left : Holdings D) → IsReopened disks was asked usual_limits held
-    → IsOpened disks asked was (contents_of held) → (IsTrue left.told → OpensNear disks (disk_of left.journal) left.book)
+follows_left : {D N M C O : Type 0} (disks : Disks D) (known : Option Book) (dialers : Dialers N M) (sinks : Sinks O) (tells : Bool) → (laws : DiskLaws disks) (asked : Option (List ℕ)) (site : Site)
+    (was : D) (member_was member_is : N × C) (out_was out_is : O) (status : Status) (held left : Holdings D) → IsReopenedKnown disks was asked usual_limits Checkpoints known held
+    → IsOpened disks Checkpoints known asked was (contents_of held) → (IsTrue held.told → Leaves (disks.images (disk_of held.journal)) (IsOf held.book))
+    → (IsTrue left.told → OpensNear disks (disk_of left.journal) left.book)
     → FollowsTo disks sinks (source_of site) tells held left (dialers.links member_was.0) (dialers.links member_is.0) (dialers.faults member_was.0)
     (dialers.faults member_is.0) out_was out_is status
-    → member_is.1 ≡ member_was.1 → Follows disks dialers sinks tells asked site was (disk_of left.journal) member_was member_is out_was out_is status
-follows_left disks dialers sinks tells laws asked site was member_was member_is out_was out_is status held left reopened opened near follows clock =
+    → member_is.1 ≡ member_was.1 → Follows disks known dialers sinks tells asked site was (disk_of left.journal) member_was member_is out_was out_is status
+follows_left disks known dialers sinks tells laws asked site was member_was member_is out_was out_is status held left reopened opened are near follows clock =
     let f = follows.followed in
-    let same = f.goes_on.same_told ∙ reopened.told_is in
+    let stays = f.goes_on.same_told in
     let quiet = reopened.quiet in
     record {
       before = held;
@@ -72,37 +78,46 @@ follows_left disks dialers sinks tells laws asked site was member_was member_is 
       opened = opened;
       follows = follows;
       closed = refl;
-      near = λ told. near (same ∙ told);
-      covered = λ t le all. covered_so disks (disk_of held.journal) (disk_of left.journal) held.told left.told reopened.told_is same f.goes_on.covered t
+      near = λ told. near (stays ∙ told);
+      right = λ told image now.
+          let before = f.goes_on.kept (cdxj_files image) (record { told = stays ∙ told; image = image; left = now; are = refl }) in
+          checkpoints_later held.book left.book image f.goes_on.grows
+          (same_checkpoints_of image before.image held.book (sym before.are) (are told before.image before.left).checkpoints);
+      covered = λ told t le all.
+          let tells = (reopened.whole told).told_is in
+          covered_so disks (disk_of held.journal) (disk_of left.journal) held.told left.told tells (stays ∙ tells) f.goes_on.covered t
           (omega (arith, le, quiet.later)) (quiet.covered t le all);
       disk_faults = subst (λ (n : ℕ). CountsIf (is_disk_stop follows.result) n (told_of disks left).faults) reopened.faults f.faults;
-      moves = λ ids last t x le o. ⊎_elim
+      moves = λ told ids last t x le o.
+          let tells = (reopened.whole told).told_is in
+          ⊎_elim
           (λ then. inl (no_more (quiet.moves t x le then)))
           (λ on. inr on)
           (moves_so disks (disk_of held.journal) (disk_of left.journal) held.told left.told
-          (λ y. IsOnWay f.steps y ⊎ IsOfRefused follows.result f.refused f.reached y) reopened.told_is same (f.moves ids last) t x
+          (λ y. IsOnWay f.steps y ⊎ IsOfRefused follows.result f.refused f.reached y) tells (stays ∙ tells) (f.moves ids last) t x
           (omega (arith, le, quiet.later)) o);
       left = λ told ids have last image x now stands. at_last disks (source_of site) tells follows.result f.refused f.reached left.book
           (OpensBehind f.steps f.reached.book (λ b. (told_of disks held).crash.openings (told_of disks held).crash.moment b))
           (OpensBehind f.steps f.reached.book (λ b. SameBook b held.book)) x
           (λ behind. behind_so f.steps f.reached.book (λ b. (told_of disks held).crash.openings (told_of disks held).crash.moment b) (λ b. SameBook b held.book) x
-          (λ o. only_one (reopened.state (ids_differ held.book ids) x o)) behind)
-          (f.left have last x (opens_now (muted left.told disks) (laws_muted disks left.told laws) (disk_of left.journal) x image (same ∙ told) now stands));
+          (λ o. only_one ((reopened.whole told).state (ids_differ held.book ids) x o)) behind)
+          (f.left have last x (opens_now (muted left.told disks) (laws_muted disks left.told laws) (disk_of left.journal) x image (stays ∙ told) now stands));
       same_clock = clock;
     }
 
 -- the archive was opened, and closed behind its source
-pub follows_by : {D N M C O : Type 0} (disks : Disks D) (dialers : Dialers N M) (sinks : Sinks O) (tells : Bool) → (laws : DiskLaws disks) (asked : Option (List ℕ))
+pub follows_by : {D N M C O : Type 0} (disks : Disks D) (known : Option Book) (dialers : Dialers N M) (sinks : Sinks O) (tells : Bool) → (laws : DiskLaws disks) (asked : Option (List ℕ))
     (site : Site) (was is : D) (member_was member_is : N × C) (out_was out_opened out_is : O) (status : Status) (held left : Holdings D)
-    → IsReopened disks was asked usual_limits held → IsOpened disks asked was (contents_of held) → is ≡ disk_of left.journal → out_opened ≡ out_was
+    → IsReopenedKnown disks was asked usual_limits Checkpoints known held → IsOpened disks Checkpoints known asked was (contents_of held)
+    → (IsTrue held.told → Leaves (disks.images (disk_of held.journal)) (IsOf held.book)) → is ≡ disk_of left.journal → out_opened ≡ out_was
     → (IsTrue left.told → OpensNear disks is left.book)
     → FollowsTo disks sinks (source_of site) tells held left (dialers.links member_was.0) (dialers.links member_is.0) (dialers.faults member_was.0)
     (dialers.faults member_is.0) out_opened out_is status
-    → member_is.1 ≡ member_was.1 → Follows disks dialers sinks tells asked site was is member_was member_is out_was out_is status
-follows_by {D} {N} {M} {C} {O} disks dialers sinks tells laws asked site was is member_was member_is out_was out_opened out_is status held left reopened opened closed
+    → member_is.1 ≡ member_was.1 → Follows disks known dialers sinks tells asked site was is member_was member_is out_was out_is status
+follows_by {D} {N} {M} {C} {O} disks known dialers sinks tells laws asked site was is member_was member_is out_was out_opened out_is status held left reopened opened are closed
     silent near follows clock =
-    subst (λ (x : D). Follows disks dialers sinks tells asked site was x member_was member_is out_was out_is status) (sym closed)
-    (follows_left disks dialers sinks tells laws asked site was member_was member_is out_was out_is status held left reopened opened
+    subst (λ (x : D). Follows disks known dialers sinks tells asked site was x member_was member_is out_was out_is status) (sym closed)
+    (follows_left disks known dialers sinks tells laws asked site was member_was member_is out_was out_is status held left reopened opened are
     (λ told. subst (λ (x : D). OpensNear disks x left.book) closed (near told))
     (subst (λ (o : O). FollowsTo disks sinks (source_of site) tells held left (dialers.links member_was.0) (dialers.links member_is.0) (dialers.faults member_was.0)
     (dialers.faults member_is.0) o out_is status) silent follows) clock)

@@ -9,6 +9,7 @@ mod RunLaws
 mod SeatLaws
 mod ServeLaws
 mod SoundVolumes
+mod StatusLaws
 mod TrialLaws
 mod VaultSeats
 mod VerifiedLaws

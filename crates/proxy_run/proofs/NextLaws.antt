@@ -1,18 +1,24 @@
 -- Books that are next to a book open in its namespace.
-use Rattle.std.proofs.Common.{◌≡◌, ◌⊎◌, ℕ, ◌+◌, ◌<◌, ◌≤◌, List, [], ◌∷◌, ◌++◌, length, Some, refl, sym, ap, subst, ◌∙◌, inl, inr, ⊎_elim, arith}
+use Rattle.std.proofs.Common.{◌≡◌, ◌⊎◌, ℕ, ◌-◌, ◌<◌, ◌≤◌, List, [], ◌∷◌, ◌++◌, length, Some, refl, sym, ap, subst, ◌∙◌, inl, inr, ⊎_elim, arith}
 use Rattle.std.proofs.lemmas.Bool.{cases_lt}
 use Rattle.std.proofs.lemmas.List.{append-nil}
+use Rattle.std.proofs.lemmas.Option.{same_Some, slice_get_within}
 use Rattle.archive_shelf.proofs.StoringLaws.{captures_more, captures_stay}
-use Rattle.archive_core.proofs.NextLaws.{ids_like, like_by}
+use Rattle.archive_core.proofs.FinishedLaws.{checkpoints_later, volume_at}
+use Rattle.archive_core.proofs.NextLaws.{AreEmpty, ids_like, like_by, next_grows}
 use Rattle.archive_shelf.specs.Openings.{HasIds, ImageStandsFor, IsNext, SameBook}
 use Rattle.archive_shelf.specs.Storing.{with_capture, with_volume}
 use Rattle.capture.specs.Captures.{captures}
+use Rattle.capture.specs.Growth.{Grows}
 use Rattle.capture.specs.declared.book.Book.{Book}
 use Rattle.capture.specs.declared.book.Volume.{Volume}
 use Rattle.capture.specs.declared.captured.Stored.{Stored}
+use Rattle.command.proofs.OpeningLaws.{ids_differ}
 use Rattle.disk_model.specs.Image.{Image}
-use Rattle.proxy_run.specs.Complete.{HoldsAll, IsReady}
+use Rattle.archive_opening.specs.Telling.{HasCheckpointsOf}
+use Rattle.proxy_run.specs.Complete.{HoldsAll, IsReadied}
 use Rattle.warc_journal.specs.Extents.{warc_files}
+use Rattle.warc_text.specs.Sound.{IsSound}
 use Rattle.warc_text.specs.StandsFor.{FilesStandForNoVolume, FilesStandForOneBook, IdsDifferIn}
 
 pub none_by_length : (volumes : List Volume) → length volumes ≡ 0 → volumes ≡ []
@@ -27,21 +33,68 @@ ids_next : (seen x : Book) → HasIds seen → IsNext seen x → 0 < length x.vo
 ids_next seen x ids next some =
     ids_like seen x (like_by seen x next.room next.roomy next.is some) ids
 
-pub ready_next : (namespace : List ℕ) (image : Image) (seen x : Book) → seen.namespace ≡ namespace → HasIds seen → IsNext seen x → ImageStandsFor image x
-    → IsReady (Some namespace) image
-ready_next namespace image seen x named ids next stands = ⊎_elim
-    (λ (some : 0 < length x.volumes).
-    let like = like_by seen x next.room next.roomy next.is some in
-    record {
-      book = x;
-      stands = stands;
-      ids = ids_next seen x ids next some;
-      in_namespace = inr (like.namespace ∙ named);
-    })
-    (λ (few : length x.volumes ≤ 0).
-    let none : x.volumes ≡ [] = none_by_length x.volumes (omega (arith, few)) in
-    record { book = x; stands = stands; ids = no_captures x none; in_namespace = inl none })
+pub next_ids : (seen x : Book) → HasIds seen → IsNext seen x → IdsDifferIn x
+next_ids seen x ids next = ⊎_elim
+    (λ (some : 0 < length x.volumes). ids_next seen x ids next some)
+    (λ (few : length x.volumes ≤ 0). no_captures x (none_by_length x.volumes (omega (arith, few))))
     (cases_lt 0 (length x.volumes))
+
+-- of books without volumes an image stands for each sound one
+pub stands_same : (image : Image) (x book : Book) → SameBook x book → IsSound book → ImageStandsFor image x → ImageStandsFor image book
+stands_same image x book (inl is) sound stands = subst (λ (b : Book). ImageStandsFor image b) is stands
+stands_same image x book (inr (none, none₂)) sound stands = record {
+  for = record {
+    texts = stands.for.texts;
+    are = record {
+      count = stands.for.are.count ∙ ap (λ (v : List Volume). length v) (none ∙ sym none₂);
+      each = λ k less. absurd (omega (arith, less, stands.for.are.count, ap (λ (v : List Volume). length v) none));
+    };
+    held = stands.for.held;
+  };
+  sound = sound;
+}
+
+none_before : (was now : Book) → Grows was now → now.volumes ≡ [] → was.volumes ≡ []
+none_before was now grows none = ⊎_elim
+    (λ (some : 0 < length was.volumes).
+    let v = volume_at was.volumes (length was.volumes - 1) (omega (arith, some)) in
+    let at = grows.last (length was.volumes - 1) v.0 (omega (arith, some)) v.1 in
+    absurd (omega (
+      arith,
+      slice_get_within now.volumes (length was.volumes - 1) at.volume at.placed,
+      ap (λ (l : List Volume). length l) none,
+    )))
+    (λ (few : length was.volumes ≤ 0). none_by_length was.volumes (omega (arith, few)))
+    (cases_lt 0 (length was.volumes))
+
+-- a book without volumes that has grown from one is that one
+pub sound_still : (was now : Book) → Grows was now → IsSound was → now.volumes ≡ [] → IsSound now
+sound_still was now grows sound none =
+    let namespace : was.namespace ≡ now.namespace = sym grows.namespace in
+    let volumes : was.volumes ≡ now.volumes = none_before was now grows none ∙ sym none in
+    let same : was ≡ now = λ i. record { namespace = namespace i; volumes = volumes i } in
+    subst IsSound same sound
+
+-- ---- the next run
+
+settled_by : (namespace : List ℕ) (image : Image) (seen x : Book) → seen.namespace ≡ namespace → (seen.volumes ≡ [] → IsSound seen) → HasIds seen → IsNext seen x
+    → ImageStandsFor image x → HasCheckpointsOf image seen → AreEmpty x seen ⊎ Grows seen x → IsReadied (Some namespace) image
+settled_by namespace image seen x named sound ids next stands right (inl (none, none₂)) = record {
+  book = seen;
+  settled = record { stands = stands_same image x seen (inr (none, none₂)) (sound none₂) stands; ids = ids_differ seen ids; checkpoints = right };
+  asked_for = λ ns is. named ∙ same_Some namespace ns is;
+}
+settled_by namespace image seen x named sound ids next stands right (inr grows) = record {
+  book = x;
+  settled = record { stands = stands; ids = next_ids seen x ids next; checkpoints = checkpoints_later seen x image grows right };
+  asked_for = λ ns is. grows.namespace ∙ named ∙ same_Some namespace ns is;
+}
+
+-- an image that is left is settled for a book that the next run may know
+pub settled_next : (namespace : List ℕ) (image : Image) (seen x : Book) → seen.namespace ≡ namespace → (seen.volumes ≡ [] → IsSound seen) → HasIds seen → IsNext seen x
+    → ImageStandsFor image x → HasCheckpointsOf image seen → IsReadied (Some namespace) image
+settled_next namespace image seen x named sound ids next stands right =
+    settled_by namespace image seen x named sound ids next stands right (next_grows seen x next)
 
 -- ---- captures
 

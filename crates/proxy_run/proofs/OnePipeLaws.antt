@@ -1,5 +1,5 @@
 -- What `pipe` answers is told by what it is given.
-use Rattle.std.proofs.Common.{◌≡◌, ◌≢◌, ◌⊎◌, inl, inr, ℕ, List, Some, true, false, IsTrue, refl, sym, ◌∙◌, ap, subst}
+use Rattle.std.proofs.Common.{◌≡◌, ◌≢◌, ◌⊎◌, inl, inr, ℕ, Bool, List, Option, Some, None, true, false, IsTrue, refl, sym, ◌∙◌, ap, subst}
 use Rattle.std.proofs.lemmas.List.{append_cancel_left}
 use Rattle.archive_shelf.specs.Contents.{Contents}
 use Rattle.archive_shelf.specs.Openings.{SameBook}
@@ -10,7 +10,13 @@ use Rattle.disk_model.specs.declared.disk.Disk.{Ghosts as Disks}
 use Rattle.outside.specs.Records.{Links}
 use Rattle.outside.specs.declared.dialer.Transcript.{Transcript}
 use Rattle.outside.specs.declared.gate.Heard.{Heard}
-use Rattle.proxy_run.specs.Complete.{IsReady}
+use Rattle.archive_core.specs.Known.{told_at}
+use Rattle.archive_shelf.specs.declared.depth.Depth.TheVariants.{Checkpoints}
+use Rattle.proxy_run.proofs.PipeLaws.{ready_faults, served_faults}
+use Rattle.proxy_run.proofs.StatusLaws.{memory_told, said_by}
+use Rattle.session.specs.Rounds.{IsCourse}
+use Rattle.std.specs.Prelude.{IfSome}
+use Rattle.std.proofs.lemmas.Bool.{false≢true}
 use Rattle.command.specs.Objects.{Kinds, Objects}
 use Rattle.proxy_run.specs.OnePipe.{PipesLeaveNoChoice, PipesWell}
 use Rattle.command.specs.Opening.{IsOpened}
@@ -70,11 +76,17 @@ contents_same : (a b : Contents) → a.tells ≡ b.tells → a.seen ≡ b.seen �
 contents_same a b tells seen shown mine limits =
     λ i. record { tells = tells i; seen = seen i; shown = shown i; mine = mine i; limits = limits i }
 
-opened_same : {D : Type 0} (disks : Disks D) (namespace : List ℕ) (disk : D) (a b : Contents) → BooksHaveOneListOfEntries → IsTrue disks.tells
-    → IsReady (Some namespace) (disks.reading disk) → IsOpened disks (Some namespace) disk a → IsOpened disks (Some namespace) disk b → a ≡ b
-opened_same disks namespace disk a b one tells ready h k =
+known_same : (known : Option Book) (tells : Bool) (a b : Book) → IsTrue (told_at Checkpoints tells known) → a.namespace ≡ b.namespace
+    → IfSome known (λ book. SameBook a book) → IfSome known (λ book. SameBook b book) → a ≡ b
+known_same None tells a b told namespace same also = absurd (false≢true told)
+known_same (Some book) tells a b told namespace same also = both_same a b book namespace same also
+
+opened_same : {D : Type 0} (disks : Disks D) (known : Option Book) (namespace : List ℕ) (disk : D) (a b : Contents) → BooksHaveOneListOfEntries
+    → IsTrue (told_at Checkpoints disks.tells known) → IsOpened disks Checkpoints known (Some namespace) disk a
+    → IsOpened disks Checkpoints known (Some namespace) disk b → a ≡ b
+opened_same disks known namespace disk a b one tells h k =
     let seen : a.seen ≡ b.seen =
-    both_same a.seen b.seen ready.book (h.in_namespace ∙ sym k.in_namespace) (h.one tells ready.book ready.stands ready.ids) (k.one tells ready.book ready.stands ready.ids) in
+    known_same known disks.tells a.seen b.seen tells (h.in_namespace ∙ sym k.in_namespace) (h.known_is (h.same_tells ∙ tells)) (k.known_is (k.same_tells ∙ tells)) in
     let shown : a.shown ≡ b.shown =
     one a.seen a.shown b.shown (h.consistent.shown refl (h.same_tells ∙ tells))
     (subst (λ (x : Book). AreEntries x b.shown) (sym seen) (k.consistent.shown refl (k.same_tells ∙ tells))) in
@@ -87,39 +99,47 @@ module _ {D G L P N M C O : Type 0} (kinds : Kinds D G L P N M C O) where
   abbrev seen_by : Objects D G (N × C) O → Contents → View
   seen_by objects now = view_of now (kinds.dialers.faults objects.crew.0) (kinds.disks.faults objects.disk)
 
-  module _ {namespace : List ℕ} {was is : Objects D G (N × C) O} {status : Status} (piped : Pipes kinds (Some namespace) was is status) (a : PipesWell kinds piped) where
+  module _ {known : Option Book} {namespace : List ℕ} {was is : Objects D G (N × C) O} {status : Status} (piped : Pipes kinds known (Some namespace) was is status)
+      (a : PipesWell kinds piped) where
     abbrev course_of : Course
     course_of = record { served = 0; rounds = a.served.one.connection.rounds; rest = a.served.one.connection.rest }
 
     whole : lacks a.served.one.connection.rounds ≡ false
     whole =
         whole_of a.served.one.served pipe_site course_of unheard a.served.one.heard a.served.one.connection.ends
-        (λ e. a.memory (a.served.one.status_is ∙ ap status_of e))
+        (λ e. a.memory (memory_told piped.closed.answer piped.said status piped.closed.status_is (a.served.one.status_is ∙ ap status_of e)))
 
-    went_well : WentWell (pipe_terms piped.before) (seen_by was piped.before) course_of (seen_by is piped.after)
+    -- what isn't want of memory is the connection's status
+    pub said : status ≡ piped.said
+    said = said_by piped.closed.answer piped.said status piped.closed.status_is a.memory
+
+    went_well : WentWell (pipe_terms piped.before) (seen_by was piped.before) course_of (seen_by (record is { disk = was.disk }) piped.after)
     went_well = record {
-      lawful = a.served.one.connection.lawful;
+      lawful = subst (λ (n : ℕ). IsCourse (pipe_terms piped.before) 0 (view_of piped.before (kinds.dialers.faults was.crew.0) n) a.served.one.connection.rounds
+          (view_of piped.after (kinds.dialers.faults is.crew.0) (kinds.disks.faults was.disk))) (ready_faults kinds piped a.disk.same)
+          (subst (λ (n : ℕ). IsCourse (pipe_terms piped.before) 0 (view_of piped.before (kinds.dialers.faults was.crew.0) (kinds.disks.faults piped.ready))
+          a.served.one.connection.rounds (view_of piped.after (kinds.dialers.faults is.crew.0) n)) (served_faults kinds piped a.disk.same) a.served.one.connection.lawful);
       memory = whole;
       dialer = a.dialer.same;
       dialer_counts = a.dialer.below;
-      disk = a.disk.same;
+      disk = refl;
       disk_counts = a.disk.below;
       all = all_of a.served.one.served pipe_site course_of unheard a.served.one.heard a.served.one.connection.ends a.client whole;
     }
 
 pub pipes_one_way : {D G L P N M C O : Type 0} (kinds : Kinds D G L P N M C O) → BooksHaveOneListOfEntries → CoursesLeaveNoChoice → CoursesEndOneWay
     → PipesLeaveNoChoice kinds
-pipes_one_way kinds entries one ends namespace was is other status end piped also a b tells clock_tells ready same =
+pipes_one_way kinds entries one ends known namespace was is other status end piped also a b tells clock_tells same =
     let mine = a.served.one.connection in
     let its = b.served.one.connection in
     let first : Course = course_of kinds piped a in
     let second : Course = course_of kinds also b in
-    let opened : also.before ≡ piped.before = opened_same kinds.disks namespace was.disk also.before piped.before entries tells ready also.opened piped.opened in
-    let well : WentWell (pipe_terms piped.before) (seen_by kinds was piped.before) second (seen_by kinds other also.after) =
-    subst (λ (x : Contents). WentWell (pipe_terms x) (seen_by kinds was x) second (seen_by kinds other also.after)) opened (went_well kinds also b) in
-    let courses : AreOneCourse first second (seen_by kinds is piped.after) (seen_by kinds other also.after) =
-    one (pipe_terms piped.before) (seen_by kinds was piped.before) first second (seen_by kinds is piped.after) (seen_by kinds other also.after) refl
-    (piped.opened.same_tells ∙ tells) piped.opened.consistent.shown (went_well kinds piped a) well (record {
+    let opened : also.before ≡ piped.before = opened_same kinds.disks known namespace was.disk also.before piped.before entries tells also.opened.opened piped.opened.opened in
+    let well : WentWell (pipe_terms piped.before) (seen_by kinds was piped.before) second (seen_by kinds (record other { disk = was.disk }) also.after) =
+    subst (λ (x : Contents). WentWell (pipe_terms x) (seen_by kinds was x) second (seen_by kinds (record other { disk = was.disk }) also.after)) opened (went_well kinds also b) in
+    let courses : AreOneCourse first second (seen_by kinds (record is { disk = was.disk }) piped.after) (seen_by kinds (record other { disk = was.disk }) also.after) =
+    one (pipe_terms piped.before) (seen_by kinds was piped.before) first second (seen_by kinds (record is { disk = was.disk }) piped.after) (seen_by kinds (record other { disk = was.disk }) also.after) refl
+    (piped.opened.opened.same_tells ∙ tells) piped.opened.opened.consistent.shown (went_well kinds piped a) well (record {
       served = refl;
       bytes = sym mine.given ∙ same.bytes ∙ its.given;
       times = append_cancel_left (kinds.clocks.answers was.crew.1) (gains_of mine.rounds).times (gains_of its.rounds).times
@@ -127,12 +147,12 @@ pipes_one_way kinds entries one ends namespace was is other status end piped als
       transcripts = append_cancel_left (kinds.dialers.links was.crew.0).log (gains_of mine.rounds).transcripts (gains_of its.rounds).transcripts
           (sym (ap (λ (l : Links Transcript). l.log) mine.gained.around.logged) ∙ same.transcripts ∙ ap (λ (l : Links Transcript). l.log) its.gained.around.logged);
     }) in
-    let alike = ends pipe_site first second (seen_by kinds is piped.after) (seen_by kinds other also.after)
+    let alike = ends pipe_site first second (seen_by kinds (record is { disk = was.disk }) piped.after) (seen_by kinds (record other { disk = was.disk }) also.after)
     a.served.one.served b.served.one.served unheard a.served.one.heard b.served.one.heard courses (whole kinds piped a) (whole kinds also b)
     mine.ends its.ends a.client b.client in
     record {
       written = alike.1;
       seen = courses.book;
       shown = courses.shown;
-      status_is = a.served.one.status_is ∙ ap status_of alike.0 ∙ sym b.served.one.status_is;
+      status_is = said kinds piped a ∙ a.served.one.status_is ∙ ap status_of alike.0 ∙ sym b.served.one.status_is ∙ sym (said kinds also b);
     }

@@ -1,5 +1,8 @@
 -- What a run leaves, by what its words ask for.
 use Rattle.std.proofs.Common.{◌≡◌, ◌⊎◌, ℕ, List, ◌∷◌, Option, Some, None, refl, sym, ap, subst, ◌∙◌, inl, inr}
+use Rattle.archive_shelf.specs.declared.depth.Depth.{Depth}
+use Rattle.archive_shelf.specs.declared.depth.Depth.TheVariants.{Checkpoints, Whole}
+use Rattle.capture.specs.declared.book.Book.{Book}
 use Rattle.capture.specs.declared.site.Site.{Site}
 use Rattle.proxy_run.specs.Checks.{IsCounted}
 use Rattle.proxy_run.specs.Follows.{Follows}
@@ -9,7 +12,6 @@ use Rattle.command.specs.Opening.{IsNotOpened}
 use Rattle.proxy_run.specs.Pipes.{Pipes, Refuses}
 use Rattle.command.specs.Printing.{Prints}
 use Rattle.proxy_run.specs.Runs.{NamesNone, Runs}
-use Rattle.proxy_run.specs.Serves.{LacksShelves, Serves}
 use Rattle.command.specs.Texts.{usage}
 use Rattle.proxy_run.specs.Trials.{Tries}
 use Rattle.proxy_run.specs.Verifies.{IsVerified}
@@ -17,58 +19,58 @@ use Rattle.command.specs.Words.{asked_of}
 use Rattle.command.specs.declared.status.Status.{Status}
 use Rattle.command.specs.declared.status.Status.TheVariants.{Memory, Words}
 use Rattle.command.specs.declared.words.Command.{Command}
-use Rattle.command.specs.declared.words.Command.TheVariants.{Check, Follow, Import, Pipe, Serve, Trial, Verify}
+use Rattle.command.specs.declared.words.Command.TheVariants.{Check, Follow, Import, Pipe, Trial, Verify}
 
-module _ {D G L P N M C O : Type 0} (kinds : Kinds D G L P N M C O) (found : Option Command) (site : Option Site) where
+module _ {D G L P N M C O : Type 0} (kinds : Kinds D G L P N M C O) (known : Option Book) (found : Option Command) (site : Option Site) where
   pub runs_none : (was : Objects D G (List (N × C)) O) (out : O) (status : Status) → found ≡ None → Prints kinds.sinks Words usage was.out out status
-      → Runs kinds found site was (record was { out = out }) status
+      → Runs kinds known found site was (record was { out = out }) status
   runs_none was out status none printed =
-      subst (λ f. Runs kinds f site was (record was { out = out }) status) (sym none) (record { printed = printed; untouched = refl })
+      subst (λ f. Runs kinds known f site was (record was { out = out }) status) (sym none) (record { printed = printed; untouched = refl })
 
   checked : (was : Objects D G (List (N × C)) O) (disk : D) (out : O) (status : Status)
-      → IsCounted kinds.disks kinds.sinks was.disk disk was.out out status ⊎ IsNotOpened kinds.disks kinds.sinks None was.disk disk was.out out status
-      → Runs kinds (Some Check) site was (record was { disk = disk; out = out }) status
+      → IsCounted kinds.disks kinds.sinks was.disk disk was.out out status ⊎ IsNotOpened kinds.disks kinds.sinks Whole None None was.disk disk was.out out status
+      → Runs kinds known (Some Check) site was (record was { disk = disk; out = out }) status
   checked was disk out status (inl counted) = inl (record { counted = counted; untouched = refl })
   checked was disk out status (inr refused) = inr (record { refused = refused; untouched = refl })
 
   pub runs_check : (command : Command) (was : Objects D G (List (N × C)) O) (disk : D) (out : O) (status : Status) → found ≡ Some command → command ≡ Check
-      → IsCounted kinds.disks kinds.sinks was.disk disk was.out out status ⊎ IsNotOpened kinds.disks kinds.sinks None was.disk disk was.out out status
-      → Runs kinds found site was (record was { disk = disk; out = out }) status
+      → IsCounted kinds.disks kinds.sinks was.disk disk was.out out status ⊎ IsNotOpened kinds.disks kinds.sinks Whole None None was.disk disk was.out out status
+      → Runs kinds known found site was (record was { disk = disk; out = out }) status
   runs_check command was disk out status is_command is_check result =
-      subst (λ f. Runs kinds f site was (record was { disk = disk; out = out }) status) (sym (is_command ∙ ap (λ (c : Command). Some c) is_check))
+      subst (λ f. Runs kinds known f site was (record was { disk = disk; out = out }) status) (sym (is_command ∙ ap (λ (c : Command). Some c) is_check))
       (checked was disk out status result)
 
   verified_in : (workers : ℕ) (was : Objects D G (List (N × C)) O) (disk : D) (out : O) (status : Status)
-      → IsVerified kinds.disks kinds.sinks was.disk disk was.out out status ⊎ IsNotOpened kinds.disks kinds.sinks None was.disk disk was.out out status
-      → Runs kinds (Some (Verify workers)) site was (record was { disk = disk; out = out }) status
+      → IsVerified kinds.disks kinds.sinks was.disk disk was.out out status ⊎ IsNotOpened kinds.disks kinds.sinks Whole None None was.disk disk was.out out status
+      → Runs kinds known (Some (Verify workers)) site was (record was { disk = disk; out = out }) status
   verified_in workers was disk out status (inl verified) = inl (record { verified = verified; untouched = refl })
   verified_in workers was disk out status (inr refused) = inr (record { refused = refused; untouched = refl })
 
   pub runs_verify : (command : Command) (workers : ℕ) (was : Objects D G (List (N × C)) O) (disk : D) (out : O) (status : Status) → found ≡ Some command
       → command ≡ Verify workers
-      → IsVerified kinds.disks kinds.sinks was.disk disk was.out out status ⊎ IsNotOpened kinds.disks kinds.sinks None was.disk disk was.out out status
-      → Runs kinds found site was (record was { disk = disk; out = out }) status
+      → IsVerified kinds.disks kinds.sinks was.disk disk was.out out status ⊎ IsNotOpened kinds.disks kinds.sinks Whole None None was.disk disk was.out out status
+      → Runs kinds known found site was (record was { disk = disk; out = out }) status
   runs_verify command workers was disk out status is_command is_verify result =
-      subst (λ f. Runs kinds f site was (record was { disk = disk; out = out }) status) (sym (is_command ∙ ap (λ (c : Command). Some c) is_verify))
+      subst (λ f. Runs kinds known f site was (record was { disk = disk; out = out }) status) (sym (is_command ∙ ap (λ (c : Command). Some c) is_verify))
       (verified_in workers was disk out status result)
 
   tried_in : (count seed : ℕ) (was : Objects D G (List (N × C)) O) (disk : D) (out : O) (status : Status) → Tries kinds.sinks count seed was.out out status
-      → disk ≡ was.disk → Runs kinds (Some (Trial count seed)) site was (record was { disk = disk; out = out }) status
+      → disk ≡ was.disk → Runs kinds known (Some (Trial count seed)) site was (record was { disk = disk; out = out }) status
   tried_in count seed was disk out status tries same =
-      subst (λ d. Runs kinds (Some (Trial count seed)) site was (record was { disk = d; out = out }) status) (sym same)
+      subst (λ d. Runs kinds known (Some (Trial count seed)) site was (record was { disk = d; out = out }) status) (sym same)
       (record { tried = tries; untouched = refl })
 
   pub runs_trial : (command : Command) (count seed : ℕ) (was : Objects D G (List (N × C)) O) (disk : D) (out : O) (status : Status) → found ≡ Some command
       → command ≡ Trial count seed → Tries kinds.sinks count seed was.out out status → disk ≡ was.disk
-      → Runs kinds found site was (record was { disk = disk; out = out }) status
+      → Runs kinds known found site was (record was { disk = disk; out = out }) status
   runs_trial command count seed was disk out status is_command is_trial tries same =
-      subst (λ f. Runs kinds f site was (record was { disk = disk; out = out }) status) (sym (is_command ∙ ap (λ (c : Command). Some c) is_trial))
+      subst (λ f. Runs kinds known f site was (record was { disk = disk; out = out }) status) (sym (is_command ∙ ap (λ (c : Command). Some c) is_trial))
       (tried_in count seed was disk out status tries same)
 
-  refuses_all : (asked : Option (List ℕ)) (was is : Objects D G (List (N × C)) O) (status : Status) (before after : N × C) (others : List (N × C))
-      → was.crew ≡ before ∷ others → is.crew ≡ after ∷ others → Refuses kinds asked (with_one was before) (with_one is after) status
-      → Refuses kinds asked was is status
-  refuses_all asked was is status before after others were are refuses = record {
+  refuses_all : (depth : Depth) (book : Option Book) (asked : Option (List ℕ)) (was is : Objects D G (List (N × C)) O) (status : Status) (before after : N × C) (others : List (N × C))
+      → was.crew ≡ before ∷ others → is.crew ≡ after ∷ others → Refuses kinds depth book asked (with_one was before) (with_one is after) status
+      → Refuses kinds depth book asked was is status
+  refuses_all depth book asked was is status before after others were are refuses = record {
     refused = refuses.refused;
     untouched =
         ap (λ (w : List (N × C)). objects_of is.disk is.gate w is.out) are
@@ -78,54 +80,54 @@ module _ {D G L P N M C O : Type 0} (kinds : Kinds D G L P N M C O) (found : Opt
 
   piped : (namespace : List ℕ) (was is : Objects D G (List (N × C)) O) (status : Status) (before after : N × C) (others : List (N × C))
       → was.crew ≡ before ∷ others → is.crew ≡ after ∷ others
-      → Pipes kinds (Some namespace) (with_one was before) (with_one is after) status
-      ⊎ Refuses kinds (Some namespace) (with_one was before) (with_one is after) status → Runs kinds (Some (Pipe namespace)) site was is status
+      → Pipes kinds known (Some namespace) (with_one was before) (with_one is after) status
+      ⊎ Refuses kinds Checkpoints known (Some namespace) (with_one was before) (with_one is after) status → Runs kinds known (Some (Pipe namespace)) site was is status
   piped namespace was is status before after others were are (inl pipes) =
       inl (record { first = record { before = before; after = after; others = others; were = were; are = are }; piped = pipes })
   piped namespace was is status before after others were are (inr refuses) =
-      inr (refuses_all (Some namespace) was is status before after others were are refuses)
+      inr (refuses_all Checkpoints known (Some namespace) was is status before after others were are refuses)
 
   pub runs_pipe : (command : Command) (namespace : List ℕ) (was is : Objects D G (List (N × C)) O) (status : Status) (before after : N × C) (others : List (N × C))
       → found ≡ Some command → command ≡ Pipe namespace → was.crew ≡ before ∷ others → is.crew ≡ after ∷ others
-      → Pipes kinds (asked_of command) (with_one was before) (with_one is after) status
-      ⊎ Refuses kinds (asked_of command) (with_one was before) (with_one is after) status → Runs kinds found site was is status
+      → Pipes kinds known (asked_of command) (with_one was before) (with_one is after) status
+      ⊎ Refuses kinds Checkpoints known (asked_of command) (with_one was before) (with_one is after) status → Runs kinds known found site was is status
   runs_pipe command namespace was is status before after others is_command is_pipe were are result =
-      subst (λ f. Runs kinds f site was is status) (sym (is_command ∙ ap (λ (c : Command). Some c) is_pipe))
+      subst (λ f. Runs kinds known f site was is status) (sym (is_command ∙ ap (λ (c : Command). Some c) is_pipe))
       (piped namespace was is status before after others were are
-      (subst (λ c. Pipes kinds (asked_of c) (with_one was before) (with_one is after) status
-      ⊎ Refuses kinds (asked_of c) (with_one was before) (with_one is after) status) is_pipe result))
+      (subst (λ c. Pipes kinds known (asked_of c) (with_one was before) (with_one is after) status
+      ⊎ Refuses kinds Checkpoints known (asked_of c) (with_one was before) (with_one is after) status) is_pipe result))
 
   taken_in : (namespace : List ℕ) (was : Objects D G (List (N × C)) O) (disk : D) (gate : G) (out : O) (status : Status)
-      → Imports kinds.disks kinds.gates kinds.sinks kinds.clients_tell (Some namespace) (ends_of was.disk was.gate was.out) (ends_of disk gate out) status
-      ⊎ (IsNotOpened kinds.disks kinds.sinks (Some namespace) was.disk disk was.out out status × (gate ≡ was.gate))
-      → Runs kinds (Some (Import namespace)) site was (record was { disk = disk; gate = gate; out = out }) status
+      → Imports kinds.disks kinds.gates kinds.sinks kinds.clients_tell known (Some namespace) (ends_of was.disk was.gate was.out) (ends_of disk gate out) status
+      ⊎ (IsNotOpened kinds.disks kinds.sinks Checkpoints known (Some namespace) was.disk disk was.out out status × (gate ≡ was.gate))
+      → Runs kinds known (Some (Import namespace)) site was (record was { disk = disk; gate = gate; out = out }) status
   taken_in namespace was disk gate out status (inl imports) = inl (record { imported = imports; untouched = refl })
   taken_in namespace was disk gate out status (inr (refused, same)) =
       inr (record { refused = refused; untouched = ap (λ (g : G). record was { disk = disk; gate = g; out = out }) same })
 
   pub runs_import : (command : Command) (namespace : List ℕ) (was : Objects D G (List (N × C)) O) (disk : D) (gate : G) (out : O) (status : Status)
       → found ≡ Some command → command ≡ Import namespace
-      → Imports kinds.disks kinds.gates kinds.sinks kinds.clients_tell (asked_of command) (ends_of was.disk was.gate was.out) (ends_of disk gate out) status
-      ⊎ (IsNotOpened kinds.disks kinds.sinks (asked_of command) was.disk disk was.out out status × (gate ≡ was.gate))
-      → Runs kinds found site was (record was { disk = disk; gate = gate; out = out }) status
+      → Imports kinds.disks kinds.gates kinds.sinks kinds.clients_tell known (asked_of command) (ends_of was.disk was.gate was.out) (ends_of disk gate out) status
+      ⊎ (IsNotOpened kinds.disks kinds.sinks Checkpoints known (asked_of command) was.disk disk was.out out status × (gate ≡ was.gate))
+      → Runs kinds known found site was (record was { disk = disk; gate = gate; out = out }) status
   runs_import command namespace was disk gate out status is_command is_import result =
-      subst (λ f. Runs kinds f site was (record was { disk = disk; gate = gate; out = out }) status) (sym (is_command ∙ ap (λ (c : Command). Some c) is_import))
+      subst (λ f. Runs kinds known f site was (record was { disk = disk; gate = gate; out = out }) status) (sym (is_command ∙ ap (λ (c : Command). Some c) is_import))
       (taken_in namespace was disk gate out status
-      (subst (λ c. Imports kinds.disks kinds.gates kinds.sinks kinds.clients_tell (asked_of c) (ends_of was.disk was.gate was.out) (ends_of disk gate out) status
-      ⊎ (IsNotOpened kinds.disks kinds.sinks (asked_of c) was.disk disk was.out out status × (gate ≡ was.gate))) is_import result))
+      (subst (λ c. Imports kinds.disks kinds.gates kinds.sinks kinds.clients_tell known (asked_of c) (ends_of was.disk was.gate was.out) (ends_of disk gate out) status
+      ⊎ (IsNotOpened kinds.disks kinds.sinks Checkpoints known (asked_of c) was.disk disk was.out out status × (gate ≡ was.gate))) is_import result))
 
   replicated : (namespace : List ℕ) (base : Site) (was is : Objects D G (List (N × C)) O) (status : Status) (before after : N × C) (others : List (N × C))
       → was.crew ≡ before ∷ others → is.crew ≡ after ∷ others → is.gate ≡ was.gate
-      → Follows kinds.disks kinds.dialers kinds.sinks kinds.origins_tell (Some namespace) base was.disk is.disk before after was.out is.out status
-      ⊎ (IsNotOpened kinds.disks kinds.sinks (Some namespace) was.disk is.disk was.out is.out status × (after ≡ before))
-      → Runs kinds (Some (Follow namespace)) (Some base) was is status
+      → Follows kinds.disks known kinds.dialers kinds.sinks kinds.origins_tell (Some namespace) base was.disk is.disk before after was.out is.out status
+      ⊎ (IsNotOpened kinds.disks kinds.sinks Checkpoints known (Some namespace) was.disk is.disk was.out is.out status × (after ≡ before))
+      → Runs kinds known (Some (Follow namespace)) (Some base) was is status
   replicated namespace base was is status before after others were are gate (inl follows) = inl (record {
     first = record { before = before; after = after; others = others; were = were; are = are };
     follows = follows;
     untouched = gate;
   })
   replicated namespace base was is status before after others were are gate (inr (refused, same)) =
-      inr (inl (refuses_all (Some namespace) was is status before after others were are (record {
+      inr (inl (refuses_all Checkpoints known (Some namespace) was is status before after others were are (record {
         refused = refused;
         untouched =
             ap (λ (m : N × C). objects_of is.disk is.gate m is.out) same ∙ ap (λ (g : G). objects_of is.disk g before is.out) gate;
@@ -134,72 +136,33 @@ module _ {D G L P N M C O : Type 0} (kinds : Kinds D G L P N M C O) (found : Opt
   pub runs_follow : (command : Command) (namespace : List ℕ) (base : Site) (was is : Objects D G (List (N × C)) O) (status : Status) (before after : N × C)
       (others : List (N × C)) → found ≡ Some command → command ≡ Follow namespace → Some base ≡ site → was.crew ≡ before ∷ others → is.crew ≡ after ∷ others
       → is.gate ≡ was.gate
-      → Follows kinds.disks kinds.dialers kinds.sinks kinds.origins_tell (asked_of command) base was.disk is.disk before after was.out is.out status
-      ⊎ (IsNotOpened kinds.disks kinds.sinks (asked_of command) was.disk is.disk was.out is.out status × (after ≡ before))
-      → Runs kinds found site was is status
+      → Follows kinds.disks known kinds.dialers kinds.sinks kinds.origins_tell (asked_of command) base was.disk is.disk before after was.out is.out status
+      ⊎ (IsNotOpened kinds.disks kinds.sinks Checkpoints known (asked_of command) was.disk is.disk was.out is.out status × (after ≡ before))
+      → Runs kinds known found site was is status
   runs_follow command namespace base was is status before after others is_command is_follow is_site were are gate result =
-      subst (λ (s : Option Site). Runs kinds found s was is status) is_site
-      (subst (λ f. Runs kinds f (Some base) was is status) (sym (is_command ∙ ap (λ (c : Command). Some c) is_follow))
+      subst (λ (s : Option Site). Runs kinds known found s was is status) is_site
+      (subst (λ f. Runs kinds known f (Some base) was is status) (sym (is_command ∙ ap (λ (c : Command). Some c) is_follow))
       (replicated namespace base was is status before after others were are gate
-      (subst (λ c. Follows kinds.disks kinds.dialers kinds.sinks kinds.origins_tell (asked_of c) base was.disk is.disk before after was.out is.out status
-      ⊎ (IsNotOpened kinds.disks kinds.sinks (asked_of c) was.disk is.disk was.out is.out status × (after ≡ before))) is_follow result)))
+      (subst (λ c. Follows kinds.disks known kinds.dialers kinds.sinks kinds.origins_tell (asked_of c) base was.disk is.disk before after was.out is.out status
+      ⊎ (IsNotOpened kinds.disks kinds.sinks Checkpoints known (asked_of c) was.disk is.disk was.out is.out status × (after ≡ before))) is_follow result)))
 
   follow_lacking : (namespace : List ℕ) (base : Option Site) (was : Objects D G (List (N × C)) O) (status : Status) → status ≡ Memory
-      → Runs kinds (Some (Follow namespace)) base was was status
+      → Runs kinds known (Some (Follow namespace)) base was was status
   follow_lacking namespace None was status memory = inr (record { status_is = memory; untouched = refl })
   follow_lacking namespace (Some base) was status memory = inr (inr (record { status_is = memory; untouched = refl }))
 
   siteless : (namespace : List ℕ) (was : Objects D G (List (N × C)) O) (out : O) (status : Status) → NamesNone kinds.sinks site was.out out status
-      → Runs kinds (Some (Follow namespace)) site was (record was { out = out }) status
+      → Runs kinds known (Some (Follow namespace)) site was (record was { out = out }) status
   siteless namespace was out status (inl (none, printed)) =
-      subst (λ (s : Option Site). Runs kinds (Some (Follow namespace)) s was (record was { out = out }) status) (sym none)
+      subst (λ (s : Option Site). Runs kinds known (Some (Follow namespace)) s was (record was { out = out }) status) (sym none)
       (inl (record { printed = printed; untouched = refl }))
   siteless namespace was out status (inr lacks) =
-      subst (λ (o : O). Runs kinds (Some (Follow namespace)) site was (record was { out = o }) status) (sym lacks.same)
+      subst (λ (o : O). Runs kinds known (Some (Follow namespace)) site was (record was { out = o }) status) (sym lacks.same)
       (follow_lacking namespace site was status lacks.status_is)
 
   -- the base is none, or there was no memory to look at it
   pub follow_siteless : (command : Command) (namespace : List ℕ) (was : Objects D G (List (N × C)) O) (out : O) (status : Status) → found ≡ Some command
-      → command ≡ Follow namespace → NamesNone kinds.sinks site was.out out status → Runs kinds found site was (record was { out = out }) status
+      → command ≡ Follow namespace → NamesNone kinds.sinks site was.out out status → Runs kinds known found site was (record was { out = out }) status
   follow_siteless command namespace was out status is_command is_follow none =
-      subst (λ f. Runs kinds f site was (record was { out = out }) status) (sym (is_command ∙ ap (λ (c : Command). Some c) is_follow))
+      subst (λ f. Runs kinds known f site was (record was { out = out }) status) (sym (is_command ∙ ap (λ (c : Command). Some c) is_follow))
       (siteless namespace was out status none)
-
-  served : (namespace : List ℕ) (workers : ℕ) (base : Site) (was is : Objects D G (List (N × C)) O) (status : Status)
-      → Serves kinds (Some namespace) base workers was is status ⊎ LacksShelves kinds (Some namespace) was is status ⊎ Refuses kinds (Some namespace) was is status
-      → Runs kinds (Some (Serve namespace workers)) (Some base) was is status
-  served namespace workers base was is status (inl serves) = inl serves
-  served namespace workers base was is status (inr (inl lacks)) = inr (inl lacks)
-  served namespace workers base was is status (inr (inr refuses)) = inr (inr (inl refuses))
-
-  pub runs_serve : (command : Command) (namespace : List ℕ) (workers : ℕ) (base : Site) (was is : Objects D G (List (N × C)) O) (status : Status) → found ≡ Some command
-      → command ≡ Serve namespace workers → Some base ≡ site
-      → Serves kinds (asked_of command) base workers was is status ⊎ LacksShelves kinds (asked_of command) was is status ⊎ Refuses kinds (asked_of command) was is status
-      → Runs kinds found site was is status
-  runs_serve command namespace workers base was is status is_command is_serve is_site result =
-      subst (λ (s : Option Site). Runs kinds found s was is status) is_site
-      (subst (λ f. Runs kinds f (Some base) was is status) (sym (is_command ∙ ap (λ (c : Command). Some c) is_serve))
-      (served namespace workers base was is status
-      (subst (λ c. Serves kinds (asked_of c) base workers was is status ⊎ LacksShelves kinds (asked_of c) was is status ⊎ Refuses kinds (asked_of c) was is status) is_serve result)))
-
-  serve_lacking : (namespace : List ℕ) (workers : ℕ) (base : Option Site) (was : Objects D G (List (N × C)) O) (status : Status) → status ≡ Memory
-      → Runs kinds (Some (Serve namespace workers)) base was was status
-  serve_lacking namespace workers None was status memory = inr (record { status_is = memory; untouched = refl })
-  serve_lacking namespace workers (Some base) was status memory = inr (inr (inr (record { status_is = memory; untouched = refl })))
-
-  unserved : (namespace : List ℕ) (workers : ℕ) (was : Objects D G (List (N × C)) O) (out : O) (status : Status) → NamesNone kinds.sinks site was.out out status
-      → Runs kinds (Some (Serve namespace workers)) site was (record was { out = out }) status
-  unserved namespace workers was out status (inl (none, printed)) =
-      subst (λ (s : Option Site). Runs kinds (Some (Serve namespace workers)) s was (record was { out = out }) status) (sym none)
-      (inl (record { printed = printed; untouched = refl }))
-  unserved namespace workers was out status (inr lacks) =
-      subst (λ (o : O). Runs kinds (Some (Serve namespace workers)) site was (record was { out = o }) status) (sym lacks.same)
-      (serve_lacking namespace workers site was status lacks.status_is)
-
-  -- the base is none, or there was no memory to look at it
-  pub serve_siteless : (command : Command) (namespace : List ℕ) (workers : ℕ) (was : Objects D G (List (N × C)) O) (out : O) (status : Status)
-      → found ≡ Some command → command ≡ Serve namespace workers → NamesNone kinds.sinks site was.out out status
-      → Runs kinds found site was (record was { out = out }) status
-  serve_siteless command namespace workers was out status is_command is_serve none =
-      subst (λ f. Runs kinds f site was (record was { out = out }) status) (sym (is_command ∙ ap (λ (c : Command). Some c) is_serve))
-      (unserved namespace workers was out status none)

@@ -1,11 +1,18 @@
 -- What a server promises, from what it leaves.
-use Rattle.std.proofs.Common.{◌≡◌, ◌⊎◌, ℕ, suc, ◌+◌, ◌≤◌, Bool, true, false, IsTrue, IsPermutation, List, [], ◌∷◌, ◌++◌, drop, length, refl, sym, ap, ◌∙◌, subst, inl, inr, arith, append_assoc}
+use Rattle.std.proofs.Common.{◌≡◌, ◌⊎◌, ℕ, suc, ◌+◌, ◌≤◌, Bool, true, false, IsTrue, IsPermutation, List, [], ◌∷◌, ◌++◌, drop, length, Option, Some, Result, Ok, Err, refl, sym, ap, ◌∙◌, subst, inl, inr, ⊎_elim, arith, append_assoc}
 use Rattle.std.specs.Prelude.{IfSome, slice_get}
 use Rattle.std.specs.List.{flat_map, range_with_len, sum_by}
 use Rattle.std.proofs.lemmas.List.Sums.{sum_by-cons}
 use Rattle.std.proofs.lemmas.List.{append-nil, length-append}
+use Rattle.archive_core.specs.Finished.{IsSettled}
 use Rattle.archive_shelf.specs.Contents.{Contents}
+use Rattle.archive_core.specs.Known.{told_at}
 use Rattle.archive_shelf.specs.Told.{Told}
+use Rattle.archive_shelf.specs.declared.depth.Depth.TheVariants.{Checkpoints}
+use Rattle.checkpoint.specs.declared.fault.CheckpointFault.{CheckpointFault}
+use Rattle.checkpoint.specs.declared.fault.CheckpointFault.TheVariants as checkpoints
+use Rattle.disk_model.specs.Crash.{Leaves}
+use Rattle.disk_model.specs.declared.disk.Disk.{Ghosts as Disks}
 use Rattle.capture.specs.Captures.{captures}
 use Rattle.capture.proofs.GrowthLaws.{growth_goes_on}
 use Rattle.capture.specs.Faults.{Rose, RoseBy}
@@ -18,10 +25,17 @@ use Rattle.outside.specs.declared.dialer.Dialer.{Ghosts as Dialers}
 use Rattle.outside.specs.declared.gate.Heard.{Heard}
 use Rattle.outside.specs.declared.sink.Sink.{Ghosts as Sinks}
 use Rattle.crew.specs.Crews.{IsEnd, all_hung_up}
-use Rattle.command.specs.Objects.{Kinds}
+use Rattle.command.specs.Objects.{Kinds, Objects}
+use Rattle.command.proofs.SettlingLaws.{settled_all, settled_faults, settled_rose}
 use Rattle.command.specs.Printing.{LacksMemory, Prints}
-use Rattle.proxy_run.specs.Promises.{AllAreHungUp, AllAreReadOut, AreReadOut, BooksLeadOn, BooksOnlyGrow, CapturesAreStoredOnce, FaultsAreCounted, GatesAreEmptied, IsHeardOut, IsReadOut, LeadTo, LeadsTo, LogsAreInOrder, numbers_of, rounds_in, rounds_of}
-use Rattle.proxy_run.specs.Serves.{AreNewcomers, HasShare, Seat, all_faults, all_mine, told_by, worst}
+use Rattle.command.specs.Settling.{HasSettled, settled_status}
+use Rattle.proxy_run.proofs.CompleteLaws.{not_risen, printed_or_lacked, refused_known}
+use Rattle.proxy_run.specs.Complete.{IsSteady, NoFaults}
+use Rattle.proxy_run.specs.Pipes.{Refuses}
+use Rattle.proxy_run.proofs.StatusLaws.{memory_told, said_by, settled_well}
+use Rattle.proxy_run.specs.Promises.{AllAreHungUp, AllAreReadOut, AreReadOut, BooksLeadOn, BooksOnlyGrow, CapturesAreStoredOnce, FaultsAreCounted, GatesAreEmptied, IsHeardOut, IsReadOut, LeadTo, LeadsTo, LogsAreInOrder, ServersAreAnswered, ServersLeaveSettled, numbers_of, rounds_in, rounds_of}
+use Rattle.proxy_run.specs.Runs.{LacksWords}
+use Rattle.proxy_run.specs.Serves.{AreNewcomers, HasShare, LacksShelves, Seat, Serves, all_faults, all_mine, told_by, worst}
 use Rattle.command.specs.Gates.{unheard}
 use Rattle.crew.specs.Shifts.{AreShifts, Hand, IsShift, hand_of, hands_of}
 use Rattle.command.specs.Texts.{captures_line}
@@ -56,6 +70,25 @@ all_printed : {O : Type 0} (sinks : Sinks O) (count : ℕ) (said printed : Statu
 all_printed sinks count said printed was is (inl (inl all)) done tells = all.written tells
 all_printed sinks count said printed was is (inl (inr broke)) done tells = cc (done, broke.status_is)
 all_printed sinks count said printed was is (inr lacks) done tells = cc (done, lacks.status_is)
+
+-- nobody who accepted failed, and what was printed was printed whole
+counted_well : (closed : Bool) (before now : ℕ) (said printed : Status) → IsSteady before now → IsEnd closed before now said → (printed ≡ said) ⊎ (printed ≡ Memory)
+    → (worst said printed ≡ Done) ⊎ (worst said printed ≡ Memory)
+counted_well closed before now Done printed steady end tells = tells
+counted_well closed before now Words printed steady end tells = absurd end
+counted_well closed before now Archive printed steady end tells = absurd end
+counted_well closed before now Outside printed steady end tells = absurd (not_risen before now steady end)
+counted_well closed before now Memory printed steady end tells = inr refl
+
+-- ---- what a settling leaves
+
+module _ {D : Type 0} (disks : Disks D) (now : Contents) (was is : D) where
+  -- all checkpoints are finished behind one that wasn't refused
+  finished : (answer : Result ℕ CheckpointFault) (said status : Status) → HasSettled disks now was is answer → IsTrue now.tells → status ≡ settled_status answer said
+      → (status ≡ Memory → ⊥) → (Rose (disks.faults was) (disks.faults is) → ⊥) → Leaves (disks.images is) (IsSettled now.seen)
+  finished (Ok n) said status settled told same spared calm = settled_all disks now was is (Ok n) settled n refl told
+  finished (Err checkpoints.DiskFault) said status settled told same spared calm = absurd (calm (settled_rose disks now was is settled))
+  finished (Err checkpoints.Memory) said status settled told same spared calm = absurd (spared same)
 
 -- ---- shifts
 
@@ -253,15 +286,16 @@ module _ {N M C : Type 0} (dialers : Dialers N M) (clocks : Clocks C) (setting :
 
 module _ {D G L P N M C O : Type 0} (kinds : Kinds D G L P N M C O) where
   pub books_only_grow : BooksOnlyGrow kinds
-  books_only_grow asked site workers was is status s = (
+  books_only_grow known asked site workers was is status s = (
     s.shared.grows,
     λ done tells.
-        all_printed kinds.sinks (length (captures s.book)) s.said s.told.printed was.out is.out s.told.prints
-        (worst_done s.said s.told.printed (sym s.told.status_is ∙ done)) tells,
+        all_printed kinds.sinks (length (captures s.after.seen)) s.said s.told.printed was.out is.out s.told.prints
+        (worst_done s.said s.told.printed
+        (sym s.told.status_is ∙ (sym (said_by s.closed.answer s.counted status s.closed.status_is (λ memory. cc (done, memory))) ∙ done))) tells,
   )
 
   pub all_are_hung_up : AllAreHungUp kinds
-  all_are_hung_up asked site workers was is status s clients origins =
+  all_are_hung_up known asked site workers was is status s clients origins =
       let served = s.serves clients origins in
       hung (all_of served.heards) served.logged
     where
@@ -282,11 +316,12 @@ module _ {D G L P N M C O : Type 0} (kinds : Kinds D G L P N M C O) where
   emptied closed before now Memory printed status is ended = inr (inr is)
 
   pub gates_are_emptied : GatesAreEmptied kinds
-  gates_are_emptied asked site workers was is status s =
-      emptied (kinds.gates.closed is.gate) (kinds.gates.faults was.gate) (kinds.gates.faults is.gate) s.said s.told.printed status s.told.status_is s.ended
+  gates_are_emptied known asked site workers was is status s =
+      ⊎_elim (λ closed. inl closed) (λ other. inr (⊎_elim (λ rose. inl rose) (λ memory. inr (memory_told s.closed.answer s.counted status s.closed.status_is memory)) other))
+      (emptied (kinds.gates.closed is.gate) (kinds.gates.faults was.gate) (kinds.gates.faults is.gate) s.said s.told.printed s.counted s.told.status_is s.ended)
 
   pub logs_are_in_order : LogsAreInOrder kinds
-  logs_are_in_order asked site workers was is status s clients origins few =
+  logs_are_in_order known asked site workers was is status s clients origins few =
       let served = s.serves clients origins in
       let setting : Setting = record { site = site; clock_tells = kinds.clocks.tells } in
       let start = s.starts in
@@ -301,38 +336,74 @@ module _ {D G L P N M C O : Type 0} (kinds : Kinds D G L P N M C O) where
       )
 
   pub captures_are_stored_once : CapturesAreStoredOnce kinds
-  captures_are_stored_once asked site workers was is status s clients origins few room =
+  captures_are_stored_once known asked site workers was is status s clients origins few room =
       let served = s.serves clients origins in
       let setting : Setting = record { site = site; clock_tells = kinds.clocks.tells } in
       let before = hands_of kinds.dialers kinds.clocks s.starts was.crew in
       let after = hands_of kinds.dialers kinds.clocks s.seats is.crew in
       let numbers = flat_map numbers_of (rounds_of false told_by setting before served.heards after served.shifts) in
       let same : numbers ≡ all_mine s.seats =
-      sym (all_mine_on false told_by setting before served.heards after served.shifts (none_stored kinds.dialers kinds.clocks setting s.before s.opened.none_stored s.starts was.crew s.new))
+      sym (all_mine_on false told_by setting before served.heards after served.shifts (none_stored kinds.dialers kinds.clocks setting s.before s.opened.opened.none_stored s.starts was.crew s.new))
       ∙ mine_of_hands kinds.dialers kinds.clocks setting s.seats is.crew (omega (arith, room, s.count)) in (
         subst (λ ns. IsPermutation ns (range_with_len (length (captures s.before.seen)) (length ns))) (sym same) s.shared.once,
         s.shared.count ∙ ap (λ ns. length (captures s.before.seen) + length ns) (sym same),
       )
 
   pub books_lead_on : CoursesGrow → BooksLeadOn kinds
-  books_lead_on grow asked site workers was is status s clients origins =
+  books_lead_on grow known asked site workers was is status s clients origins =
       let served = s.serves clients origins in
       let setting : Setting = record { site = site; clock_tells = kinds.clocks.tells } in
-      lead_to false told_by setting grow s.book (hands_of kinds.dialers kinds.clocks s.starts was.crew) served.heards
-      (hands_of kinds.dialers kinds.clocks s.seats is.crew) served.shifts (hands_grow kinds.dialers kinds.clocks setting s.book s.seats is.crew s.shared.each)
+      lead_to false told_by setting grow s.after.seen (hands_of kinds.dialers kinds.clocks s.starts was.crew) served.heards
+      (hands_of kinds.dialers kinds.clocks s.seats is.crew) served.shifts (hands_grow kinds.dialers kinds.clocks setting s.after.seen s.seats is.crew s.shared.each)
 
   pub faults_are_counted : CoursesCountFaults → FaultsAreCounted kinds
-  faults_are_counted counts asked site workers was is status s clients origins room =
+  faults_are_counted counts known asked site workers was is status s clients origins room =
       let served = s.serves clients origins in
       let setting : Setting = record { site = site; clock_tells = kinds.clocks.tells } in
       let before = hands_of kinds.dialers kinds.clocks s.starts was.crew in
       let after = hands_of kinds.dialers kinds.clocks s.seats is.crew in
       let met = all_faults_on false told_by setting counts before served.heards after served.shifts (none_met kinds.dialers kinds.clocks setting s.before s.starts was.crew s.new) in
-      omega (arith, met, faults_of_hands kinds.dialers kinds.clocks setting s.seats is.crew (omega (arith, room, s.count)), s.disk_faults)
+      let first = settled_faults kinds.disks s.before s.opened.begun s.ready s.opened.answer s.opened.settles in
+      let last = settled_faults kinds.disks s.after s.left is.disk s.closed.answer s.closed.settles in
+      omega (arith, met, faults_of_hands kinds.dialers kinds.clocks setting s.seats is.crew (omega (arith, room, s.count)), s.disk_faults, s.opened.same_faults, first, last)
 
   pub all_are_read_out : AllAreReadOut kinds
-  all_are_read_out asked site workers was is status s clients origins =
+  all_are_read_out known asked site workers was is status s clients origins =
       let served = s.serves clients origins in
       let setting : Setting = record { site = site; clock_tells = kinds.clocks.tells } in
       are_read_out false told_by setting (hands_of kinds.dialers kinds.clocks s.starts was.crew) served.heards
       (hands_of kinds.dialers kinds.clocks s.seats is.crew) served.shifts
+
+  pub servers_leave_settled : ServersLeaveSettled kinds
+  servers_leave_settled known asked site workers was is status s told steady spared image left =
+      let first = settled_faults kinds.disks s.before s.opened.begun s.ready s.opened.answer s.opened.settles in
+      let last = settled_faults kinds.disks s.after s.left is.disk s.closed.answer s.closed.settles in
+      let so : IsTrue s.before.tells = s.opened.opened.same_tells ∙ told in
+      let near = s.near so image left in
+      record {
+        x = near.0;
+        stands = near.1;
+        next = near.2;
+        checkpoints = finished kinds.disks s.after s.left is.disk s.closed.answer s.counted status s.closed.settles (s.same_tells ∙ so) s.closed.status_is
+            spared (λ rose. grind (arith, rose, steady.same, steady.below, s.disk_faults, s.opened.same_faults, first, last)) image left;
+      }
+
+  server_answered : (known : Option Book) (namespace : List ℕ) (site : Site) (workers : ℕ) (was is : Objects D G (List (N × C)) O) (status : Status)
+      → IsTrue (told_at Checkpoints kinds.disks.tells known) → NoFaults kinds was is
+      → Serves kinds known (Some namespace) site workers was is status ⊎ LacksShelves kinds known (Some namespace) was is status
+      ⊎ Refuses kinds Checkpoints known (Some namespace) was is status ⊎ LacksWords kinds known was is status
+      → (status ≡ Done) ⊎ (status ≡ Memory)
+  server_answered known namespace site workers was is status told steady (inl s) =
+      let printed = printed_or_lacked kinds.sinks s.said (captures_line (length (captures s.after.seen))) was.out is.out s.told.printed steady.out s.told.prints in
+      settled_well s.closed.answer s.counted status s.closed.status_is
+      (subst (λ (c : Status). (c ≡ Done) ⊎ (c ≡ Memory)) (sym s.told.status_is)
+      (counted_well (kinds.gates.closed is.gate) (kinds.gates.faults was.gate) (kinds.gates.faults is.gate) s.said s.told.printed steady.gate s.ended printed))
+  server_answered known namespace site workers was is status told steady (inr (inl lacks)) =
+      settled_well lacks.closed.answer Memory status lacks.closed.status_is (inr refl)
+  server_answered known namespace site workers was is status told steady (inr (inr (inl refuses))) =
+      inr (refused_known kinds known (Some namespace) was is status told steady refuses)
+  server_answered known namespace site workers was is status told steady (inr (inr (inr lacks))) = inr lacks.status_is
+
+  pub servers_answered : ServersAreAnswered kinds
+  servers_answered known namespace site workers was is status told steady runs =
+      server_answered known namespace site workers was is status told steady runs

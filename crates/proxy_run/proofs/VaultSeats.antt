@@ -1,5 +1,5 @@
 -- The passes of a vault, told as the seats of a crew.
-use Rattle.std.proofs.Common.{◌≡◌, ℕ, zero, suc, ◌+◌, Bool, false, IsTrue, List, [], ◌∷◌, ◌++◌, drop, length, get_or, map, Option, None, Some, refl, sym, ap, subst, ◌∙◌, arith}
+use Rattle.std.proofs.Common.{◌≡◌, ℕ, zero, suc, ◌+◌, false, IsTrue, List, [], ◌∷◌, ◌++◌, drop, length, get_or, map, Option, None, Some, refl, sym, ap, subst, ◌∙◌, arith}
 use Rattle.std.specs.Prelude.{IfSome, IsPermutation, slice_get}
 use Rattle.std.specs.List.{All, AllByRecursion, flat_map, range_with_len, sum_by}
 use Rattle.std.proofs.lemmas.List.{length-map}
@@ -10,7 +10,6 @@ use Rattle.archive_shelf.specs.Contents.{Contents}
 use Rattle.archive_volumes.specs.Volumes.{OpensNear}
 use Rattle.capture.specs.Captures.{captures}
 use Rattle.capture.specs.declared.book.Book.{Book}
-use Rattle.capture.specs.declared.limits.Limits.{Limits}
 use Rattle.capture.specs.declared.site.Site.{Site}
 use Rattle.cdxj_index.specs.OfBook.{AreEntries}
 use Rattle.history_lock.specs.Known.{Known}
@@ -24,7 +23,7 @@ use Rattle.vault.specs.declared.noted.Noted.{Noted}
 use Rattle.vault.proofs.MemberLaws.{new_captures, new_faults}
 use Rattle.crew.specs.Crews.{IsEnd, ServesAll}
 use Rattle.command.specs.Objects.{Kinds, Objects}
-use Rattle.command.specs.Opening.{IsOpened}
+use Rattle.command.specs.Settling.{ClosesSettled, OpensSettled}
 use Rattle.proxy_run.specs.Serves.{AreNewcomers, HasShare, IsNewcomer, IsSharedOut, Seat, Serves, TellsCount, all_faults, all_mine, told_by}
 use Rattle.crew.specs.Shifts.{hands_of}
 use Rattle.command.specs.declared.status.Status.{Status}
@@ -138,41 +137,48 @@ shared_out book passes history shared =
 
 -- ---- what is left
 
-module _ {D G L P N M C O : Type 0} (kinds : Kinds D G L P N M C O) (asked : Option (List ℕ)) (site : Site) (was is : Objects D G (List (N × C)) O)
-    (vault : VaultName) (starts seats : List Passing) where
-  -- all that a crew serves over a vault of an archive that was opened
-  pub serves_over : (before : Contents) → IsOpened kinds.disks asked was.disk before → IsNameOf vault before (kinds.disks.faults was.disk)
-      → AreNewMembers vault starts → AreMembers vault seats → (said : Status)
+module _ {D G L P N M C O : Type 0} (kinds : Kinds D G L P N M C O) (known : Option Book) (asked : Option (List ℕ)) (site : Site)
+    (was is : Objects D G (List (N × C)) O) (vault : VaultName) (starts seats : List Passing) where
+  -- all that a crew serves over a vault of an archive that was opened and settled
+  pub serves_over : (before after : Contents) (ready left : D) → OpensSettled kinds.disks known asked was.disk before ready
+      → IsNameOf vault before (kinds.disks.faults ready) → AreNewMembers vault starts → AreMembers vault seats → (said : Status)
       → (IsTrue kinds.clients_tell → IsTrue kinds.origins_tell
       → ServesAll false told_at (record { site = site; clock_tells = kinds.clocks.tells }) (kinds.gates.connections was.gate) (kinds.gates.connections is.gate)
       (hands_of kinds.dialers kinds.clocks starts was.crew) (hands_of kinds.dialers kinds.clocks seats is.crew))
       → IsEnd (kinds.gates.closed is.gate) (kinds.gates.faults was.gate) (kinds.gates.faults is.gate) said
-      → (book : Book) (limits : Limits) (told : Bool) → IsLeftByAll vault (map known_of seats) book limits told (kinds.disks.faults is.disk)
-      → (IsTrue told → OpensNear kinds.disks is.disk book)
-      → (status : Status) → TellsCount kinds.sinks (length (captures book)) said was.out is.out status
-      → drop vault.passes is.crew ≡ drop vault.passes was.crew → Serves kinds asked site vault.passes was is status
-  serves_over before opened name new back said serves ended book limits told left near status tells others = record {
-    before = before;
-    book = book;
-    starts = map seat_of starts;
-    seats = map seat_of seats;
-    said = said;
-    opened = opened;
-    new = newcomers vault before (kinds.disks.faults was.disk) name opened.none_stored (λ k. k + 1) starts new.each;
-    workers_are = length-map starts seat_of ∙ new.count;
-    count = length-map seats seat_of ∙ back.count;
-    serves = λ t u.
-        serves_as seat_of kinds.dialers kinds.clocks false told_at told_by (record { site = site; clock_tells = kinds.clocks.tells })
-        (λ w i heard this. record { served = this.served; connection = this.connection })
-        (kinds.gates.connections was.gate) (kinds.gates.connections is.gate) starts seats was.crew is.crew (serves t u);
-    ended = ended;
-    shared = subst (λ (z : Book × Book). IsSharedOut z.0 (map seat_of seats) z.1) (λ i. (name.book i, sym left.book_is i))
-        (shared_out vault.book seats left.history left.shared);
-    near = λ t. near (left.told_is ∙ (name.tells ∙ (opened.same_tells ∙ t)));
-    disk_faults =
-        let met = faults_as seats in
-        let counted = left.counted in
-        omega (arith, met, counted, name.met);
-    told = tells;
-    others = others;
-  }
+      → IsLeftByAll vault (map known_of seats) after.seen after.limits after.tells (kinds.disks.faults left)
+      → (counted : Status) → TellsCount kinds.sinks (length (captures after.seen)) said was.out is.out counted
+      → (status : Status) → ClosesSettled kinds.disks after left counted is.disk status → (IsTrue after.tells → OpensNear kinds.disks is.disk after.seen)
+      → drop vault.passes is.crew ≡ drop vault.passes was.crew → Serves kinds known asked site vault.passes was is status
+  serves_over before after ready left opened name new back said serves ended of_all counted tells status closed near others =
+      let same : after.tells ≡ before.tells = of_all.told_is ∙ name.tells in
+      record {
+        before = before;
+        after = after;
+        ready = ready;
+        left = left;
+        starts = map seat_of starts;
+        seats = map seat_of seats;
+        said = said;
+        counted = counted;
+        opened = opened;
+        new = newcomers vault before (kinds.disks.faults ready) name opened.opened.none_stored (λ k. k + 1) starts new.each;
+        workers_are = length-map starts seat_of ∙ new.count;
+        count = length-map seats seat_of ∙ back.count;
+        serves = λ t u.
+            serves_as seat_of kinds.dialers kinds.clocks false told_at told_by (record { site = site; clock_tells = kinds.clocks.tells })
+            (λ w i heard this. record { served = this.served; connection = this.connection })
+            (kinds.gates.connections was.gate) (kinds.gates.connections is.gate) starts seats was.crew is.crew (serves t u);
+        ended = ended;
+        shared = subst (λ (z : Book × Book). IsSharedOut z.0 (map seat_of seats) z.1) (λ i. (name.book i, sym of_all.book_is i))
+            (shared_out vault.book seats of_all.history of_all.shared);
+        same_tells = same;
+        disk_faults =
+            let met = faults_as seats in
+            let risen = of_all.counted in
+            omega (arith, met, risen, name.met);
+        told = tells;
+        closed = closed;
+        near = λ t. near (same ∙ t);
+        others = others;
+      }

@@ -17,6 +17,7 @@ use Rattle.disk_model.specs.declared.kind.Kind.TheVariants.{Warc}
 use Rattle.fixity.specs.Verdicts.{IsVerdict, volume_of}
 use Rattle.fixity.specs.declared.verdict.Verdict.{Verdict}
 use Rattle.outside.specs.declared.sink.Sink.{Ghosts as Sinks}
+use Rattle.archive_shelf.specs.declared.depth.Depth.TheVariants.{Whole}
 use Rattle.command.specs.Opening.{IsOpened, usual_limits}
 use Rattle.command.specs.Printing.{Prints}
 use Rattle.proxy_run.specs.Verifies.{Checked, ChecksVolumes, IsRight, IsVerified, facts_in, has_damage, is_damaged, lines_of, verdict_line}
@@ -140,7 +141,7 @@ checks_from disks sinks namespace volumes was closed is out_was out_is status re
 
 -- an archive that was opened, checked and closed
 pub verified_by : {D O : Type 0} (disks : Disks D) (sinks : Sinks O) (was closed is : D) (held : Holdings D) (plan : Plan) (out_was out_opened out_is : O) (status : Status)
-    → IsReopened disks was None usual_limits held → IsOpened disks None was (contents_of held) → closed ≡ disk_of held.journal
+    → IsReopened disks was None usual_limits held → IsOpened disks Whole None None was (contents_of held) → closed ≡ disk_of held.journal
     → plan.namespace ≡ held.book.namespace → plan.volumes.items ≡ facts_of held.book → out_opened ≡ out_was
     → ChecksVolumes disks sinks plan.namespace plan.volumes.items closed is out_opened out_is status → (IsTrue disks.tells → disks.reading is ≡ disks.reading closed)
     → IsVerified disks sinks was is out_was out_is status

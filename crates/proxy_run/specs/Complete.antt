@@ -1,17 +1,23 @@
 -- When a run isn't refused, and what the next one finds.
-use Rattle.std.specs.Prelude.{◌≡◌, ◌⊎◌, ℕ, ◌-◌, ◌^◌, ◌<◌, ◌≤◌, List, [], ◌++◌, length, IsTrue, Option, Some, None, Result, Ok, Err, ⊤}
+use Rattle.std.specs.Prelude.{◌≡◌, ◌≢◌, ◌⊎◌, ℕ, ◌-◌, ◌^◌, ◌<◌, ◌≤◌, List, [], ◌++◌, length, IsTrue, Option, Some, None, Result, Ok, Err, ⊤}
+use Rattle.archive_core.specs.Finished.{IsSettled}
+use Rattle.archive_core.specs.Known.{told_at}
 use Rattle.archive_opening.specs.Opening.{IsIn}
+use Rattle.archive_opening.specs.Telling.{IsAskedFor, IsSettledFor}
 use Rattle.archive_shelf.specs.Contents.{Contents}
-use Rattle.archive_shelf.specs.Openings.{HasIds, ImageStandsFor}
+use Rattle.archive_shelf.specs.Openings.{HasIds, ImageStandsFor, IsNext, Moves}
+use Rattle.archive_volumes.specs.Volumes.{crash_of, muted}
+use Rattle.archive_shelf.specs.declared.depth.Depth.TheVariants.{Checkpoints}
 use Rattle.archive_shelf.specs.declared.fault.StoreFault.{StoreFault}
 use Rattle.archive_shelf.specs.declared.fault.StoreFault.TheVariants as stores
 use Rattle.capture.specs.Captures.{captures}
 use Rattle.capture.specs.declared.book.Book.{Book}
 use Rattle.capture.specs.declared.captured.Stored.{Stored}
 use Rattle.capture.specs.declared.site.Site.{Site}
+use Rattle.disk_model.specs.Crash.{Leaves}
 use Rattle.disk_model.specs.Image.{Image}
 use Rattle.command.specs.Objects.{Kinds, Objects, UsesFirst, with_one}
-use Rattle.proxy_run.specs.Pipes.{HasServed, Pipes}
+use Rattle.proxy_run.specs.Pipes.{HasServed, Pipes, pipe_terms}
 use Rattle.proxy_run.specs.Runs.{HasReplicated, HasTakenIn, Runs}
 use Rattle.replica.specs.declared.asking.SourceFault.TheVariants as sources
 use Rattle.replica.specs.declared.following.Stop.{Stop}
@@ -22,6 +28,7 @@ use Rattle.command.specs.declared.status.Status.{Status}
 use Rattle.command.specs.declared.status.Status.TheVariants.{Done, Memory}
 use Rattle.archive_pieces.specs.declared.fault.PieceFault.TheVariants as pieces
 use Rattle.command.specs.declared.words.Command.TheVariants.{Check, Follow, Import, Pipe}
+use Rattle.session.specs.Images.{HasAllIds, IsPassed}
 use Rattle.session.specs.declared.served.Served.{Served}
 use Rattle.session.specs.declared.served.Served.TheVariants as served
 use Rattle.warc_reader.specs.Records.{HasNoRecordAt}
@@ -84,6 +91,19 @@ IsNotFollowed (Err (Piece number pieces.DiskFault)) = ⊥
 IsNotFollowed (Err (Piece number (pieces.Damaged at kept found))) = ⊥
 IsNotFollowed (Err (Piece number pieces.Memory)) = ⊥
 
+-- The image is settled for a book whose namespace is asked for: so the next run may know it.
+pub record IsReadied (asked : Option (List ℕ)) (image : Image) : Type 0 where
+  pub book : Book
+  pub settled : IsSettledFor image book
+  pub asked_for : IsAskedFor asked book
+
+-- The image stands for a book next to this one, and has the finished checkpoints of all of this one's sealed volumes.
+pub record IsLeftSettled (book : Book) (image : Image) : Type 0 where
+  pub x : Book
+  pub stands : ImageStandsFor image x
+  pub next : IsNext book x
+  pub checkpoints : IsSettled book image
+
 module _ {D G L P N M C O : Type 0} (kinds : Kinds D G L P N M C O) where
   -- neither the disk, nor the gate, nor the output failed
   pub record NoFaults {W : Type 0} (was is : Objects D G W O) : Type 0 where
@@ -95,71 +115,101 @@ module _ {D G L P N M C O : Type 0} (kinds : Kinds D G L P N M C O) where
   pub record ServesBadly (was is : Objects D G (List (N × C)) O) (status : Status) : Type 0 where
     pub before : Contents
     pub after : Contents
+    pub ready : D
+    pub left : D
     pub first : UsesFirst was.crew is.crew
-    pub served : HasServed kinds (with_one was first.before) (with_one is first.after) before after status
+    pub served : HasServed kinds (record (with_one was first.before) { disk = ready }) (record (with_one is first.after) { disk = left }) before after status
     pub badly : EndsBadly served.one.served
 
   -- Where nothing failed and what a read gives is ready, `check` prints how much there is, or memory ran out.
   abbrev pub ChecksAreAnswered : Type 0
   ChecksAreAnswered =
       (was is : Objects D G (List (N × C)) O) (status : Status) → IsTrue kinds.disks.tells → IsReady None (kinds.disks.reading was.disk) → NoFaults was is
-      → (site : Option Site) → Runs kinds (Some Check) site was is status → (status ≡ Done) ⊎ (status ≡ Memory)
+      → (known : Option Book) (site : Option Site) → Runs kinds known (Some Check) site was is status → (status ≡ Done) ⊎ (status ≡ Memory)
 
-  -- And so `pipe` goes well, unless its connection ends badly.
+  -- Where nothing failed and the book is known, `pipe` goes well, unless its connection ends badly.
   abbrev pub PipesAreAnswered : Type 0
   PipesAreAnswered =
-      (namespace : List ℕ) (was is : Objects D G (List (N × C)) O) (status : Status) → IsTrue kinds.disks.tells → IsTrue kinds.clients_tell
-      → IsTrue kinds.origins_tell → IsReady (Some namespace) (kinds.disks.reading was.disk) → NoFaults was is
-      → (site : Option Site) → Runs kinds (Some (Pipe namespace)) site was is status → (status ≡ Done) ⊎ (status ≡ Memory) ⊎ ServesBadly was is status
+      (known : Option Book) (namespace : List ℕ) (was is : Objects D G (List (N × C)) O) (status : Status)
+      → IsTrue (told_at Checkpoints kinds.disks.tells known) → IsTrue kinds.clients_tell → IsTrue kinds.origins_tell → NoFaults was is
+      → (site : Option Site) → Runs kinds known (Some (Pipe namespace)) site was is status → (status ≡ Done) ⊎ (status ≡ Memory) ⊎ ServesBadly was is status
 
   -- an import took not all
-  pub record ImportsBadly (namespace : List ℕ) (was is : Objects D G (List (N × C)) O) (status : Status) : Type 0 where
-    pub taken : HasTakenIn kinds namespace was is status
+  pub record ImportsBadly (known : Option Book) (namespace : List ℕ) (was is : Objects D G (List (N × C)) O) (status : Status) : Type 0 where
+    pub taken : HasTakenIn kinds known namespace was is status
     pub badly : IsNotTaken taken.imported.input taken.imported.imported.refused
 
   -- And so `import` goes well, unless its input isn't taken whole.
   abbrev pub ImportsAreAnswered : Type 0
   ImportsAreAnswered =
-      (namespace : List ℕ) (was is : Objects D G (List (N × C)) O) (status : Status) → IsTrue kinds.disks.tells
-      → IsReady (Some namespace) (kinds.disks.reading was.disk) → NoFaults was is → (site : Option Site) → Runs kinds (Some (Import namespace)) site was is status
-      → (status ≡ Done) ⊎ (status ≡ Memory) ⊎ ImportsBadly namespace was is status
+      (known : Option Book) (namespace : List ℕ) (was is : Objects D G (List (N × C)) O) (status : Status)
+      → IsTrue (told_at Checkpoints kinds.disks.tells known) → NoFaults was is → (site : Option Site)
+      → Runs kinds known (Some (Import namespace)) site was is status
+      → (status ≡ Done) ⊎ (status ≡ Memory) ⊎ ImportsBadly known namespace was is status
 
   -- a source wasn't followed to its end
-  pub record FollowsBadly (namespace : List ℕ) (site : Site) (was is : Objects D G (List (N × C)) O) (status : Status) : Type 0 where
-    pub taken : HasReplicated kinds namespace site was is status
+  pub record FollowsBadly (known : Option Book) (namespace : List ℕ) (site : Site) (was is : Objects D G (List (N × C)) O) (status : Status) : Type 0 where
+    pub taken : HasReplicated kinds known namespace site was is status
     pub badly : IsNotFollowed taken.follows.follows.result
 
   -- And so `follow` goes well, unless its source isn't followed to its end.
   abbrev pub FollowsAreAnswered : Type 0
   FollowsAreAnswered =
-      (namespace : List ℕ) (site : Site) (was is : Objects D G (List (N × C)) O) (status : Status) → IsTrue kinds.disks.tells
-      → IsReady (Some namespace) (kinds.disks.reading was.disk) → NoFaults was is → Runs kinds (Some (Follow namespace)) (Some site) was is status
-      → (status ≡ Done) ⊎ (status ≡ Memory) ⊎ FollowsBadly namespace site was is status
+      (known : Option Book) (namespace : List ℕ) (site : Site) (was is : Objects D G (List (N × C)) O) (status : Status)
+      → IsTrue (told_at Checkpoints kinds.disks.tells known) → NoFaults was is → Runs kinds known (Some (Follow namespace)) (Some site) was is status
+      → (status ≡ Done) ⊎ (status ≡ Memory) ⊎ FollowsBadly known namespace site was is status
 
-  -- Each image that `follow` may leave, and so what a read gives, is ready for the next run, where the ids differ.
+  -- Each image that `follow` may leave, and so what a read gives, is settled for a book that the next run may know, where the ids differ.
   abbrev pub FollowsLeaveReady : Type 0
   FollowsLeaveReady =
-      (namespace : List ℕ) (site : Site) (was is : Objects D G (List (N × C)) O) (status : Status) (taken : HasReplicated kinds namespace site was is status)
-      → IsTrue kinds.disks.tells → HasIds taken.follows.after.book → (image : Image) → kinds.disks.images is.disk image
-      → IsReady (Some namespace) image
+      (known : Option Book) (namespace : List ℕ) (site : Site) (was is : Objects D G (List (N × C)) O) (status : Status)
+      (taken : HasReplicated kinds known namespace site was is status)
+      → IsTrue (told_at Checkpoints kinds.disks.tells known) → HasIds taken.follows.after.book → (image : Image) → kinds.disks.images is.disk image
+      → IsReadied (Some namespace) image
 
-  -- Each image that `import` may leave, and so what a read gives, is ready for the next run, where the ids differ.
+  -- Each image that `import` may leave, and so what a read gives, is settled for a book that the next run may know, where the ids differ.
   abbrev pub ImportsLeaveReady : Type 0
   ImportsLeaveReady =
-      (namespace : List ℕ) (was is : Objects D G (List (N × C)) O) (status : Status) (taken : HasTakenIn kinds namespace was is status)
-      → IsTrue kinds.disks.tells → HasIds taken.imported.after.seen → (image : Image) → kinds.disks.images is.disk image
-      → IsReady (Some namespace) image
+      (known : Option Book) (namespace : List ℕ) (was is : Objects D G (List (N × C)) O) (status : Status) (taken : HasTakenIn kinds known namespace was is status)
+      → IsTrue (told_at Checkpoints kinds.disks.tells known) → HasIds taken.imported.after.seen → (image : Image) → kinds.disks.images is.disk image
+      → IsReadied (Some namespace) image
 
-  -- Each image that `pipe` may leave, and so what a read gives, is ready for the next run, where the ids differ.
+  -- Each image that `pipe` may leave, and so what a read gives, is settled for a book that the next run may know, where the ids differ.
   abbrev pub PipesLeaveReady : Type 0
   PipesLeaveReady =
-      (namespace : List ℕ) (was is : Objects D G (N × C) O) (status : Status) (piped : Pipes kinds (Some namespace) was is status)
-      → IsTrue kinds.disks.tells → HasIds piped.after.seen → (image : Image) → kinds.disks.images is.disk image → IsReady (Some namespace) image
+      (known : Option Book) (namespace : List ℕ) (was is : Objects D G (N × C) O) (status : Status) (piped : Pipes kinds known (Some namespace) was is status)
+      → IsTrue (told_at Checkpoints kinds.disks.tells known) → HasIds piped.after.seen → (image : Image) → kinds.disks.images is.disk image
+      → IsReadied (Some namespace) image
+
+  -- Where the disk didn't fail and memory sufficed, each image that `pipe` may leave has the finished checkpoint of each volume of the last book but the last,
+  -- with the lines of just that volume's captures.
+  abbrev pub PipesLeaveSettled : Type 0
+  PipesLeaveSettled =
+      (known : Option Book) (namespace : List ℕ) (was is : Objects D G (N × C) O) (status : Status) (piped : Pipes kinds known (Some namespace) was is status)
+      → IsTrue (told_at Checkpoints kinds.disks.tells known) → IsSteady (kinds.disks.faults was.disk) (kinds.disks.faults is.disk) → status ≢ Memory
+      → Leaves (kinds.disks.images is.disk) (IsLeftSettled piped.after.seen)
+
+  -- Where the disk didn't fail, the links tell their traffic and the ids differ, each image that `pipe` may leave stands for the last book.
+  abbrev pub PipesLeaveTheLast : Type 0
+  PipesLeaveTheLast =
+      (known : Option Book) (namespace : List ℕ) (was is : Objects D G (N × C) O) (status : Status) (piped : Pipes kinds known (Some namespace) was is status)
+      → IsTrue (told_at Checkpoints kinds.disks.tells known) → IsTrue kinds.clients_tell → IsTrue kinds.origins_tell
+      → IsSteady (kinds.disks.faults was.disk) (kinds.disks.faults is.disk) → HasIds piped.after.seen
+      → Leaves (kinds.disks.images is.disk) (λ image. ImageStandsFor image piped.after.seen)
+
+  -- Each book that may be opened since an earlier moment might have been before the call, or one of the connection's rounds may leave it, wherever it is stopped.
+  abbrev pub PipesPassOn : Type 0
+  PipesPassOn =
+      (known : Option Book) (namespace : List ℕ) (was is : Objects D G (N × C) O) (status : Status) (piped : Pipes kinds known (Some namespace) was is status)
+      (s : HasServed kinds (record was { disk = piped.ready }) (record is { disk = piped.served }) piped.before piped.after piped.said)
+      → HasAllIds s.one.connection.rounds
+      → Moves (crash_of (muted piped.before.tells kinds.disks) was.disk) (crash_of (muted piped.before.tells kinds.disks) is.disk)
+      (IsPassed (pipe_terms piped.before) s.one.connection.rounds)
 
   -- What was stored comes back: each book for which such an image stands holds all captures of the last book in order, and one more
   -- at most.
   abbrev pub CapturesComeBack : Type 0
   CapturesComeBack =
-      (namespace : List ℕ) (was is : Objects D G (N × C) O) (status : Status) (piped : Pipes kinds (Some namespace) was is status)
-      → IsTrue kinds.disks.tells → HasIds piped.after.seen → (image : Image) (x : Book) → kinds.disks.images is.disk image
+      (known : Option Book) (namespace : List ℕ) (was is : Objects D G (N × C) O) (status : Status) (piped : Pipes kinds known (Some namespace) was is status)
+      → IsTrue (told_at Checkpoints kinds.disks.tells known) → HasIds piped.after.seen → (image : Image) (x : Book) → kinds.disks.images is.disk image
       → ImageStandsFor image x → HoldsAll piped.after.seen x

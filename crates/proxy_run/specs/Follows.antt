@@ -2,11 +2,14 @@
 use Rattle.std.specs.Prelude.{◌≡◌, ◌⊎◌, ℕ, Bool, List, length, IsTrue, Option, Result, Ok, Err, ⊤}
 use Rattle.archive_core.specs.Holdings.{Holdings, contents_of}
 use Rattle.archive_shelf.specs.Answers.{CountsIf}
+use Rattle.archive_opening.specs.Telling.{HasCheckpointsOf}
+use Rattle.archive_shelf.specs.declared.depth.Depth.TheVariants.{Checkpoints}
 use Rattle.archive_shelf.specs.Openings.{HasIds, ImageStandsFor, Moves, SameBook, StaysCovered}
 use Rattle.archive_volumes.specs.Volumes.{OpensNear, crash_of}
 use Rattle.capture.specs.Captures.{captures}
 use Rattle.capture.specs.declared.book.Book.{Book}
 use Rattle.capture.specs.declared.site.Site.{Site}
+use Rattle.disk_model.specs.Crash.{Leaves}
 use Rattle.disk_model.specs.Image.{Image}
 use Rattle.disk_model.specs.declared.disk.Disk.{Ghosts as Disks}
 use Rattle.exchange.specs.declared.aim.Target.{Target}
@@ -52,23 +55,26 @@ pub record FollowsTo {D O : Type 0} (disks : Disks D) (sinks : Sinks O) (source 
   pub dialer_faults : CountsIf (is_outside_stop result) faults_was faults_is
   pub told : TellsEnd sinks (length (captures is.book)) result out_was out_is status
 
--- The archive on a disk was opened, and followed the source at the site, by a member's dialer; its clock wasn't asked. Whatever a crash leaves since an earlier moment
--- stands for a sound book where it did before; and what it may leave at last is the last book alone, but for what a refusal by the disk may leave.
-pub record Follows {D N M C O : Type 0} (disks : Disks D) (dialers : Dialers N M) (sinks : Sinks O) (tells : Bool) (asked : Option (List ℕ)) (site : Site)
+-- The archive on a disk was opened by its checkpoints, and followed the source at the site, by a member's dialer; its clock wasn't asked. Where the book is told,
+-- whatever a crash leaves since an earlier moment stands for a sound book where it did before; and what it may leave at last is the last book alone, but for
+-- what a refusal by the disk may leave.
+pub record Follows {D N M C O : Type 0} (disks : Disks D) (known : Option Book) (dialers : Dialers N M) (sinks : Sinks O) (tells : Bool) (asked : Option (List ℕ)) (site : Site)
     (was is : D) (member_was member_is : N × C) (out_was out_is : O) (status : Status) : Type 0 where
   pub before : Holdings D
   pub after : Holdings D
-  pub opened : IsOpened disks asked was (contents_of before)
+  pub opened : IsOpened disks Checkpoints known asked was (contents_of before)
   pub follows : FollowsTo disks sinks (source_of site) tells before after (dialers.links member_was.0) (dialers.links member_is.0)
       (dialers.faults member_was.0) (dialers.faults member_is.0) out_was out_is status
   pub closed : is ≡ disk_of after.journal
-  pub near : IsTrue disks.tells → OpensNear disks is after.book
-  pub covered : StaysCovered (crash_of disks was) (crash_of disks is)
+  pub near : IsTrue before.told → OpensNear disks is after.book
+  -- the finished checkpoints of each image that a crash may leave are those of its sealed volumes
+  pub right : IsTrue before.told → Leaves (disks.images is) (λ image. HasCheckpointsOf image after.book)
+  pub covered : IsTrue before.told → StaysCovered (crash_of disks was) (crash_of disks is)
   pub disk_faults : CountsIf (is_disk_stop follows.result) (disks.faults was) (disks.faults is)
-  pub moves : HaveIds follows.followed.steps → HasIds follows.followed.reached.book
+  pub moves : IsTrue before.told → HaveIds follows.followed.steps → HasIds follows.followed.reached.book
       → Moves (crash_of disks was) (crash_of disks is)
       (λ x. IsOnWay follows.followed.steps x ⊎ IsOfRefused follows.result follows.followed.refused follows.followed.reached x)
-  pub left : IsTrue disks.tells → HasIds before.book → HaveIds follows.followed.steps → HasIds follows.followed.reached.book
+  pub left : IsTrue before.told → HasIds before.book → HaveIds follows.followed.steps → HasIds follows.followed.reached.book
       → (image : Image) (x : Book) → disks.images is image → ImageStandsFor image x
       → OpensAtLast follows.result follows.followed.refused follows.followed.reached after.book
       (OpensBehind follows.followed.steps follows.followed.reached.book (λ b. SameBook b before.book)) x

@@ -1,15 +1,17 @@
 -- What the command `pipe` leaves.
 use Rattle.std.specs.Prelude.{◌≡◌, ◌⊎◌, ◌≤◌, ℕ, List, true, IsTrue, Option}
 use Rattle.archive_core.specs.Told.{told_on}
-use Rattle.archive_volumes.specs.Volumes.{OpensNear, crash_of}
+use Rattle.archive_volumes.specs.Volumes.{OpensNear, crash_of, muted}
 use Rattle.archive_shelf.specs.Contents.{Contents}
 use Rattle.archive_shelf.specs.Openings.{HasIds, ImageStandsFor, SameBook, StaysCovered}
-use Rattle.capture.specs.Growth.{Grows}
+use Rattle.archive_shelf.specs.Told.{GoesOn}
+use Rattle.archive_shelf.specs.declared.depth.Depth.{Depth}
 use Rattle.capture.specs.declared.book.Book.{Book}
 use Rattle.disk_model.specs.Image.{Image}
 use Rattle.disk_model.specs.declared.disk.Disk.{Ghosts as Disks}
 use Rattle.command.specs.Objects.{Around, Kinds, Objects, told_around}
-use Rattle.command.specs.Opening.{IsNotOpened, IsOpened, IsUnchanged}
+use Rattle.command.specs.Opening.{IsNotOpened}
+use Rattle.command.specs.Settling.{ClosesSettled, OpensSettled}
 use Rattle.proxy_run.specs.Serving.{IsServedStatus, ServesNone, ServesOne, pipe_setting, pipe_site}
 use Rattle.command.specs.declared.status.Status.{Status}
 use Rattle.command.specs.declared.status.Status.TheVariants.{Outside}
@@ -21,11 +23,11 @@ use Rattle.session.specs.Traces.{Terms, terms_of}
 abbrev pub pipe_terms : Contents → Terms
 pipe_terms now = terms_of pipe_site true now
 
--- Where ids differ, each book for which an image stands that a crash may leave, and so what a read gives, is one that these rounds
+-- Where the book is told and ids differ, each book for which an image stands that a crash may leave, and so what a read gives, is one that these rounds
 -- leave of the book that was there before.
 abbrev pub LeavesJust : {D : Type 0} → Disks D → Contents → List Round → D → Type 0
 LeavesJust disks before rounds disk =
-    IsTrue disks.tells → HasIds before.seen → HasAllIds rounds
+    IsTrue before.tells → HasIds before.seen → HasAllIds rounds
     → (image : Image) (x : Book) → disks.images disk image → ImageStandsFor image x
     → OpensAtLast (pipe_terms before) (λ book. SameBook book before.seen) rounds x
 
@@ -40,31 +42,38 @@ module _ {D G L P N M C O : Type 0} (kinds : Kinds D G L P N M C O) where
         (told_on kinds.disks was.disk before) (told_on kinds.disks is.disk after) status
     pub left : LeavesJust kinds.disks before one.connection.rounds is.disk
 
-  -- the gate gave no connection, and nothing was written
+  -- the gate gave no connection, and the disk wasn't asked
   pub record HasServedNone (was is : Objects D G (N × C) O) (before after : Contents) (status : Status) : Type 0 where
     pub none : ServesNone (kinds.gates.closed was.gate) (kinds.gates.faults was.gate) (kinds.gates.faults is.gate)
         (around_in was) (around_in is) status
-    pub unchanged : IsUnchanged kinds.disks was.disk is.disk
+    pub unasked : is.disk ≡ was.disk
     pub same : after ≡ before
 
-  -- The archive was opened. What holds whatever the links tell: nothing was printed; the book has only grown, and each image that a
-  -- crash may leave, and so what a read gives, stands for a sound book that is that one or next to it; each image since an earlier
-  -- moment stands for a sound book where it did before; a fault of the gate is told.
-  pub record Pipes (asked : Option (List ℕ)) (was is : Objects D G (N × C) O) (status : Status) : Type 0 where
+  -- The archive was opened by its checkpoints, those that were missing were written, the connection was served, and those that were missing then were written.
+  -- What holds whatever the links tell: nothing was printed; the book has only grown, and where it is told, each image that a crash may leave, and so what a
+  -- read gives, stands for a sound book that is that one or next to it; each image since an earlier moment stands for a sound book where it did before; a
+  -- fault of the gate is told.
+  pub record Pipes (known : Option Book) (asked : Option (List ℕ)) (was is : Objects D G (N × C) O) (status : Status) : Type 0 where
     pub before : Contents
     pub after : Contents
-    pub opened : IsOpened kinds.disks asked was.disk before
+    -- the disk as the first settling left it, and as the connection did, with that one's status
+    pub ready : D
+    pub served : D
+    pub said : Status
+    pub opened : OpensSettled kinds.disks known asked was.disk before ready
     pub serves : IsTrue kinds.clients_tell → IsTrue kinds.origins_tell
-        → HasServed was is before after status ⊎ HasServedNone was is before after status
-    pub grows : Grows before.seen after.seen
-    pub near : IsTrue kinds.disks.tells → OpensNear kinds.disks is.disk after.seen
-    pub covered : StaysCovered (crash_of kinds.disks was.disk) (crash_of kinds.disks is.disk)
-    pub ends : IsServedStatus status
-    pub gate_failed : (status ≡ Outside) ⊎ (kinds.gates.faults is.gate ≡ kinds.gates.faults was.gate)
+        → HasServed (record was { disk = ready }) (record is { disk = served }) before after said
+        ⊎ HasServedNone (record was { disk = ready }) (record is { disk = served }) before after said
+    pub goes_on : GoesOn true (told_on kinds.disks ready before) (told_on kinds.disks served after)
+    pub closed : ClosesSettled kinds.disks after served said is.disk status
+    pub near : IsTrue before.tells → OpensNear kinds.disks is.disk after.seen
+    pub covered : StaysCovered (crash_of (muted before.tells kinds.disks) was.disk) (crash_of (muted before.tells kinds.disks) is.disk)
+    pub ends : IsServedStatus said
+    pub gate_failed : (said ≡ Outside) ⊎ (kinds.gates.faults is.gate ≡ kinds.gates.faults was.gate)
     pub disk_faults : kinds.disks.faults was.disk ≤ kinds.disks.faults is.disk
     pub prints_nothing : is.out ≡ was.out
 
   -- The archive was refused, and neither gate nor crew was touched.
-  pub record Refuses {W : Type 0} (asked : Option (List ℕ)) (was is : Objects D G W O) (status : Status) : Type 0 where
-    pub refused : IsNotOpened kinds.disks kinds.sinks asked was.disk is.disk was.out is.out status
+  pub record Refuses {W : Type 0} (depth : Depth) (known : Option Book) (asked : Option (List ℕ)) (was is : Objects D G W O) (status : Status) : Type 0 where
+    pub refused : IsNotOpened kinds.disks kinds.sinks depth known asked was.disk is.disk was.out is.out status
     pub untouched : is ≡ record was { disk = is.disk; out = is.out }

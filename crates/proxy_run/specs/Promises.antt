@@ -1,20 +1,26 @@
 -- What a server promises, sentence by sentence.
-use Rattle.std.specs.Prelude.{◌≡◌, ◌≢◌, ◌⊎◌, ℕ, ◌+◌, ◌≤◌, Bool, true, false, IsTrue, IsPermutation, List, [], ◌∷◌, ◌++◌, drop, length, Option}
+use Rattle.std.specs.Prelude.{◌≡◌, ◌≢◌, ◌⊎◌, ℕ, ◌+◌, ◌≤◌, Bool, true, false, IsTrue, IsPermutation, List, [], ◌∷◌, ◌++◌, drop, length, Option, Some}
 use Rattle.std.specs.List.{flat_map, range_with_len, sum_by}
+use Rattle.archive_core.specs.Known.{told_at}
 use Rattle.archive_shelf.specs.Told.{Told}
+use Rattle.archive_shelf.specs.declared.depth.Depth.TheVariants.{Checkpoints}
 use Rattle.capture.specs.Captures.{captures}
 use Rattle.capture.specs.Faults.{Rose, RoseBy}
 use Rattle.capture.specs.Growth.{Grows}
 use Rattle.capture.specs.declared.book.Book.{Book}
 use Rattle.capture.specs.declared.site.Site.{Site}
+use Rattle.disk_model.specs.Crash.{Leaves}
 use Rattle.link_queue.specs.Serving.{all_of}
 use Rattle.outside.specs.declared.gate.Heard.{Heard}
 use Rattle.command.specs.Objects.{Kinds, Objects}
+use Rattle.proxy_run.specs.Complete.{IsLeftSettled, IsSteady, NoFaults}
+use Rattle.proxy_run.specs.Runs.{Runs}
 use Rattle.proxy_run.specs.Serves.{Serves, told_by}
 use Rattle.crew.specs.Shifts.{AreShifts, Hand, IsShift, hands_of}
 use Rattle.command.specs.Texts.{captures_line}
 use Rattle.command.specs.declared.status.Status.{Status}
 use Rattle.command.specs.declared.status.Status.TheVariants.{Done, Memory}
+use Rattle.command.specs.declared.words.Command.TheVariants.{Serve}
 use Rattle.session.specs.Connection.{Setting}
 use Rattle.session.specs.Gains.{gains_of}
 use Rattle.session.specs.Rounds.{Round, disk_faults, is_closed, lacks}
@@ -80,14 +86,14 @@ module _ {D G L P N M C O : Type 0} (kinds : Kinds D G L P N M C O) where
   -- the book has only grown, and how many captures it has was printed where all went well
   abbrev pub BooksOnlyGrow : Type 0
   BooksOnlyGrow =
-      (asked : Option (List ℕ)) (site : Site) (workers : ℕ) (was is : Objects D G (List (N × C)) O) (status : Status) (s : Serves kinds asked site workers was is status)
-      → Grows s.before.seen s.book
-      × (status ≡ Done → IsTrue kinds.sinks.tells → kinds.sinks.written is.out ≡ kinds.sinks.written was.out ++ captures_line (length (captures s.book)))
+      (known : Option Book) (asked : Option (List ℕ)) (site : Site) (workers : ℕ) (was is : Objects D G (List (N × C)) O) (status : Status) (s : Serves kinds known asked site workers was is status)
+      → Grows s.before.seen s.after.seen
+      × (status ≡ Done → IsTrue kinds.sinks.tells → kinds.sinks.written is.out ≡ kinds.sinks.written was.out ++ captures_line (length (captures s.after.seen)))
 
   -- as many connections were hung up as the gate gave, whatever the status, and as many are out as were before
   abbrev pub AllAreHungUp : Type 0
   AllAreHungUp =
-      (asked : Option (List ℕ)) (site : Site) (workers : ℕ) (was is : Objects D G (List (N × C)) O) (status : Status) (s : Serves kinds asked site workers was is status)
+      (known : Option Book) (asked : Option (List ℕ)) (site : Site) (workers : ℕ) (was is : Objects D G (List (N × C)) O) (status : Status) (s : Serves kinds known asked site workers was is status)
       → IsTrue kinds.clients_tell → IsTrue kinds.origins_tell
       → ((kinds.gates.connections is.gate).gave + length (kinds.gates.connections was.gate).log
       ≡ (kinds.gates.connections was.gate).gave + length (kinds.gates.connections is.gate).log)
@@ -96,13 +102,13 @@ module _ {D G L P N M C O : Type 0} (kinds : Kinds D G L P N M C O) where
   -- the gate was asked until it was closed, unless it failed or memory ran out
   abbrev pub GatesAreEmptied : Type 0
   GatesAreEmptied =
-      (asked : Option (List ℕ)) (site : Site) (workers : ℕ) (was is : Objects D G (List (N × C)) O) (status : Status) (s : Serves kinds asked site workers was is status)
+      (known : Option Book) (asked : Option (List ℕ)) (site : Site) (workers : ℕ) (was is : Objects D G (List (N × C)) O) (status : Status) (s : Serves kinds known asked site workers was is status)
       → (kinds.gates.closed is.gate ≡ true) ⊎ Rose (kinds.gates.faults was.gate) (kinds.gates.faults is.gate) ⊎ (status ≡ Memory)
 
   -- What the log gains is one list for each member that works, in the members' order; the others gain nothing.
   abbrev pub LogsAreInOrder : Type 0
   LogsAreInOrder =
-      (asked : Option (List ℕ)) (site : Site) (workers : ℕ) (was is : Objects D G (List (N × C)) O) (status : Status) (s : Serves kinds asked site workers was is status)
+      (known : Option Book) (asked : Option (List ℕ)) (site : Site) (workers : ℕ) (was is : Objects D G (List (N × C)) O) (status : Status) (s : Serves kinds known asked site workers was is status)
       → IsTrue kinds.clients_tell → IsTrue kinds.origins_tell → workers ≤ length was.crew
       → ((heards : List (List Heard)) × (length heards ≡ workers)
       × ((kinds.gates.connections is.gate).log ≡ (kinds.gates.connections was.gate).log ++ all_of heards))
@@ -112,28 +118,28 @@ module _ {D G L P N M C O : Type 0} (kinds : Kinds D G L P N M C O) where
   -- one member in the order of its rounds.
   abbrev pub CapturesAreStoredOnce : Type 0
   CapturesAreStoredOnce =
-      (asked : Option (List ℕ)) (site : Site) (workers : ℕ) (was is : Objects D G (List (N × C)) O) (status : Status) (s : Serves kinds asked site workers was is status)
+      (known : Option Book) (asked : Option (List ℕ)) (site : Site) (workers : ℕ) (was is : Objects D G (List (N × C)) O) (status : Status) (s : Serves kinds known asked site workers was is status)
       (clients : IsTrue kinds.clients_tell) (origins : IsTrue kinds.origins_tell) → workers ≤ length was.crew → workers ≤ length is.crew
       → let served = s.serves clients origins in
       let rounds = rounds_of false told_by (record { site = site; clock_tells = kinds.clocks.tells })
       (hands_of kinds.dialers kinds.clocks s.starts was.crew) served.heards (hands_of kinds.dialers kinds.clocks s.seats is.crew) served.shifts in
       let numbers = flat_map numbers_of rounds in
       IsPermutation numbers (range_with_len (length (captures s.before.seen)) (length numbers))
-      × (length (captures s.book) ≡ length (captures s.before.seen) + length numbers)
+      × (length (captures s.after.seen) ≡ length (captures s.before.seen) + length numbers)
 
   -- What each connection begins with has grown from the book that was opened, with what is shown of it, into the book that is left.
   abbrev pub BooksLeadOn : Type 0
   BooksLeadOn =
-      (asked : Option (List ℕ)) (site : Site) (workers : ℕ) (was is : Objects D G (List (N × C)) O) (status : Status) (s : Serves kinds asked site workers was is status)
+      (known : Option Book) (asked : Option (List ℕ)) (site : Site) (workers : ℕ) (was is : Objects D G (List (N × C)) O) (status : Status) (s : Serves kinds known asked site workers was is status)
       (clients : IsTrue kinds.clients_tell) (origins : IsTrue kinds.origins_tell)
       → let served = s.serves clients origins in
-      LeadTo false told_by (record { site = site; clock_tells = kinds.clocks.tells }) s.book
+      LeadTo false told_by (record { site = site; clock_tells = kinds.clocks.tells }) s.after.seen
       (hands_of kinds.dialers kinds.clocks s.starts was.crew) served.heards (hands_of kinds.dialers kinds.clocks s.seats is.crew) served.shifts
 
   -- The faults of the disk that rounds met are together at most the rise of its count.
   abbrev pub FaultsAreCounted : Type 0
   FaultsAreCounted =
-      (asked : Option (List ℕ)) (site : Site) (workers : ℕ) (was is : Objects D G (List (N × C)) O) (status : Status) (s : Serves kinds asked site workers was is status)
+      (known : Option Book) (asked : Option (List ℕ)) (site : Site) (workers : ℕ) (was is : Objects D G (List (N × C)) O) (status : Status) (s : Serves kinds known asked site workers was is status)
       (clients : IsTrue kinds.clients_tell) (origins : IsTrue kinds.origins_tell) → workers ≤ length is.crew
       → let served = s.serves clients origins in
       RoseBy (sum_by disk_faults (rounds_of false told_by (record { site = site; clock_tells = kinds.clocks.tells })
@@ -143,8 +149,23 @@ module _ {D G L P N M C O : Type 0} (kinds : Kinds D G L P N M C O) where
   -- Each connection was read to its end or to the answer that closes, unless its link failed or memory ran out.
   abbrev pub AllAreReadOut : Type 0
   AllAreReadOut =
-      (asked : Option (List ℕ)) (site : Site) (workers : ℕ) (was is : Objects D G (List (N × C)) O) (status : Status) (s : Serves kinds asked site workers was is status)
+      (known : Option Book) (asked : Option (List ℕ)) (site : Site) (workers : ℕ) (was is : Objects D G (List (N × C)) O) (status : Status) (s : Serves kinds known asked site workers was is status)
       (clients : IsTrue kinds.clients_tell) (origins : IsTrue kinds.origins_tell)
       → let served = s.serves clients origins in
       AreReadOut false told_by (record { site = site; clock_tells = kinds.clocks.tells })
       (hands_of kinds.dialers kinds.clocks s.starts was.crew) served.heards (hands_of kinds.dialers kinds.clocks s.seats is.crew) served.shifts
+
+  -- Where neither the disk failed nor memory was wanting, each image that a crash may leave stands for the last book or one next to it, and has the finished
+  -- checkpoint of each volume of the last book but the last, with the lines of just that volume's captures.
+  abbrev pub ServersLeaveSettled : Type 0
+  ServersLeaveSettled =
+      (known : Option Book) (asked : Option (List ℕ)) (site : Site) (workers : ℕ) (was is : Objects D G (List (N × C)) O) (status : Status)
+      (s : Serves kinds known asked site workers was is status) → IsTrue (told_at Checkpoints kinds.disks.tells known)
+      → IsSteady (kinds.disks.faults was.disk) (kinds.disks.faults is.disk) → status ≢ Memory → Leaves (kinds.disks.images is.disk) (IsLeftSettled s.after.seen)
+
+  -- Where nothing failed and the book is known, it goes well, or memory ran out.
+  abbrev pub ServersAreAnswered : Type 0
+  ServersAreAnswered =
+      (known : Option Book) (namespace : List ℕ) (site : Site) (workers : ℕ) (was is : Objects D G (List (N × C)) O) (status : Status)
+      → IsTrue (told_at Checkpoints kinds.disks.tells known) → NoFaults kinds was is
+      → Runs kinds known (Some (Serve namespace workers)) (Some site) was is status → (status ≡ Done) ⊎ (status ≡ Memory)

@@ -1,5 +1,7 @@
 -- What a run leaves, by what its words ask for.
 use Rattle.std.specs.Prelude.{◌≡◌, ◌⊎◌, ℕ, List, Option, Some, None}
+use Rattle.archive_shelf.specs.declared.depth.Depth.TheVariants.{Checkpoints, Whole}
+use Rattle.capture.specs.declared.book.Book.{Book}
 use Rattle.capture.specs.declared.site.Site.{Site}
 use Rattle.outside.specs.declared.sink.Sink.{Ghosts as Sinks}
 use Rattle.proxy_run.specs.Checks.{IsCounted}
@@ -21,7 +23,7 @@ use Rattle.command.specs.declared.words.Command.TheVariants.{Check, Follow, Impo
 abbrev pub NamesNone : {O : Type 0} → Sinks O → Option Site → O → O → Status → Type 0
 NamesNone sinks site was is result = ((site ≡ None) × Prints sinks status.Words usage was is result) ⊎ LacksMemory sinks was is result
 
-module _ {D G L P N M C O : Type 0} (kinds : Kinds D G L P N M C O) where
+module _ {D G L P N M C O : Type 0} (kinds : Kinds D G L P N M C O) (known : Option Book) where
   -- the words ask for nothing: the usage was printed, and nothing else was touched
   pub record Misspells (was is : Objects D G (List (N × C)) O) (result : Status) : Type 0 where
     pub printed : Prints kinds.sinks status.Words usage was.out is.out result
@@ -35,11 +37,11 @@ module _ {D G L P N M C O : Type 0} (kinds : Kinds D G L P N M C O) where
   -- the gate's first connection was served with the first member of the crew, and the others stay
   pub record HasPiped (namespace : List ℕ) (was is : Objects D G (List (N × C)) O) (result : Status) : Type 0 where
     pub first : UsesFirst was.crew is.crew
-    pub piped : Pipes kinds (Some namespace) (with_one was first.before) (with_one is first.after) result
+    pub piped : Pipes kinds known (Some namespace) (with_one was first.before) (with_one is first.after) result
 
   -- the archive took the gate's first connection in; the crew wasn't touched
   pub record HasTakenIn (namespace : List ℕ) (was is : Objects D G (List (N × C)) O) (result : Status) : Type 0 where
-    pub imported : Imports kinds.disks kinds.gates kinds.sinks kinds.clients_tell (Some namespace) (ends_of was.disk was.gate was.out)
+    pub imported : Imports kinds.disks kinds.gates kinds.sinks kinds.clients_tell known (Some namespace) (ends_of was.disk was.gate was.out)
         (ends_of is.disk is.gate is.out) result
     pub untouched : is.crew ≡ was.crew
 
@@ -56,8 +58,8 @@ module _ {D G L P N M C O : Type 0} (kinds : Kinds D G L P N M C O) where
   -- the source at the site was followed with the dialer of the crew's first member, and the others stay; the gate wasn't touched
   pub record HasReplicated (namespace : List ℕ) (site : Site) (was is : Objects D G (List (N × C)) O) (result : Status) : Type 0 where
     pub first : UsesFirst was.crew is.crew
-    pub follows : Follows kinds.disks kinds.dialers kinds.sinks kinds.origins_tell (Some namespace) site was.disk is.disk first.before first.after was.out is.out
-        result
+    pub follows : Follows kinds.disks known kinds.dialers kinds.sinks kinds.origins_tell (Some namespace) site was.disk is.disk first.before first.after was.out
+        is.out result
     pub untouched : is.gate ≡ was.gate
 
   -- there was no memory to look at the base, and nothing was touched
@@ -65,18 +67,18 @@ module _ {D G L P N M C O : Type 0} (kinds : Kinds D G L P N M C O) where
     pub status_is : result ≡ status.Memory
     pub untouched : is ≡ was
 
-  -- By what the words ask for, and the site of a base among them. Of a check of bytes it doesn't depend on how many workers made it.
+  -- By what the words ask for, and the site of a base among them, and which book is known of the disk, if one is. Of a check of bytes it doesn't depend on how many workers made it.
   abbrev pub Runs : Option Command → Option Site → Objects D G (List (N × C)) O → Objects D G (List (N × C)) O → Status → Type 0
   Runs None site was is result = Misspells was is result
-  Runs (Some (Pipe namespace)) site was is result = HasPiped namespace was is result ⊎ Refuses kinds (Some namespace) was is result
-  Runs (Some (Import namespace)) site was is result = HasTakenIn namespace was is result ⊎ Refuses kinds (Some namespace) was is result
-  Runs (Some Check) site was is result = HasChecked was is result ⊎ Refuses kinds None was is result
+  Runs (Some (Pipe namespace)) site was is result = HasPiped namespace was is result ⊎ Refuses kinds Checkpoints known (Some namespace) was is result
+  Runs (Some (Import namespace)) site was is result = HasTakenIn namespace was is result ⊎ Refuses kinds Checkpoints known (Some namespace) was is result
+  Runs (Some Check) site was is result = HasChecked was is result ⊎ Refuses kinds Whole None None was is result
   Runs (Some (Follow namespace)) None was is result = Misspells was is result ⊎ LacksWords was is result
   Runs (Some (Follow namespace)) (Some site) was is result =
-      HasReplicated namespace site was is result ⊎ Refuses kinds (Some namespace) was is result ⊎ LacksWords was is result
+      HasReplicated namespace site was is result ⊎ Refuses kinds Checkpoints known (Some namespace) was is result ⊎ LacksWords was is result
   Runs (Some (Serve namespace workers)) None was is result = Misspells was is result ⊎ LacksWords was is result
   Runs (Some (Serve namespace workers)) (Some site) was is result =
-      Serves kinds (Some namespace) site workers was is result ⊎ LacksShelves kinds (Some namespace) was is result
-      ⊎ Refuses kinds (Some namespace) was is result ⊎ LacksWords was is result
+      Serves kinds known (Some namespace) site workers was is result ⊎ LacksShelves kinds known (Some namespace) was is result
+      ⊎ Refuses kinds Checkpoints known (Some namespace) was is result ⊎ LacksWords was is result
   Runs (Some (Trial count seed)) site was is result = HasTried count seed was is result
-  Runs (Some (Verify workers)) site was is result = Verifies was is result ⊎ Refuses kinds None was is result
+  Runs (Some (Verify workers)) site was is result = Verifies was is result ⊎ Refuses kinds Whole None None was is result

@@ -15,8 +15,8 @@ use Rattle.disk_model.specs.Image.{no_files}
 use Rattle.outside.specs.declared.sink.Sink.{Ghosts as Sinks}
 use Rattle.crew.specs.Crews.{IsEnd, ServesAll}
 use Rattle.command.specs.Objects.{Kinds, Objects}
-use Rattle.command.specs.Opening.{IsOpened, IsUnchanged}
 use Rattle.command.specs.Printing.{LacksMemory, Prints}
+use Rattle.command.specs.Settling.{ClosesSettled, OpensSettled}
 use Rattle.crew.specs.Shifts.{hands_of}
 use Rattle.command.specs.Texts.{captures_line}
 use Rattle.command.specs.declared.status.Status.{Status}
@@ -84,16 +84,21 @@ pub record TellsCount {O : Type 0} (sinks : Sinks O) (count : ℕ) (said : Statu
   pub prints : Prints sinks said (captures_line count) was is printed ⊎ LacksMemory sinks was is printed
   pub status_is : status ≡ worst said printed
 
-module _ {D G L P N M C O : Type 0} (kinds : Kinds D G L P N M C O) where
-  -- The archive was opened, and the gate's connections were served over it by so many members of the crew, of whom each had a shelf of its
-  -- own; the others stay. What of it hangs on the links is said where they tell their traffic.
+module _ {D G L P N M C O : Type 0} (kinds : Kinds D G L P N M C O) (known : Option Book) where
+  -- The archive was opened, and the checkpoints that were missing were written. The gate's connections were served over it by so many members
+  -- of the crew, of whom each had a shelf of its own; the others stay. How many captures there are was printed, and then the checkpoints that
+  -- were missing by then were written. So there are four disks: as it was given, was settled, was served over, and was settled at last. What
+  -- hangs on the links is said where they tell their traffic, and what hangs on the disk where the book is told.
   pub record Serves (asked : Option (List ℕ)) (site : Site) (workers : ℕ) (was is : Objects D G (List (N × C)) O) (status : Status) : Type 0 where
     pub before : Contents
-    pub book : Book
+    pub after : Contents
+    pub ready : D
+    pub left : D
     pub starts : List Seat
     pub seats : List Seat
     pub said : Status
-    pub opened : IsOpened kinds.disks asked was.disk before
+    pub counted : Status
+    pub opened : OpensSettled kinds.disks known asked was.disk before ready
     pub new : AreNewcomers before starts
     pub workers_are : length starts ≡ workers
     pub count : length seats ≡ workers
@@ -101,16 +106,18 @@ module _ {D G L P N M C O : Type 0} (kinds : Kinds D G L P N M C O) where
         → ServesAll false told_by (record { site = site; clock_tells = kinds.clocks.tells }) (kinds.gates.connections was.gate) (kinds.gates.connections is.gate)
         (hands_of kinds.dialers kinds.clocks starts was.crew) (hands_of kinds.dialers kinds.clocks seats is.crew)
     pub ended : IsEnd (kinds.gates.closed is.gate) (kinds.gates.faults was.gate) (kinds.gates.faults is.gate) said
-    pub shared : IsSharedOut before.seen seats book
-    pub near : IsTrue kinds.disks.tells → OpensNear kinds.disks is.disk book
-    pub disk_faults : RoseBy (all_faults seats) (kinds.disks.faults was.disk) (kinds.disks.faults is.disk)
-    pub told : TellsCount kinds.sinks (length (captures book)) said was.out is.out status
+    pub shared : IsSharedOut before.seen seats after.seen
+    pub same_tells : after.tells ≡ before.tells
+    pub disk_faults : RoseBy (all_faults seats) (kinds.disks.faults ready) (kinds.disks.faults left)
+    pub told : TellsCount kinds.sinks (length (captures after.seen)) said was.out is.out counted
+    pub closed : ClosesSettled kinds.disks after left counted is.disk status
+    pub near : IsTrue before.tells → OpensNear kinds.disks is.disk after.seen
     pub others : drop workers is.crew ≡ drop workers was.crew
 
-  -- The archive was opened, but there was no memory for so many shelves: nothing else was touched.
+  -- The archive was opened and settled, but there was no memory for so many shelves: it was settled again, and nothing else was touched.
   pub record LacksShelves (asked : Option (List ℕ)) (was is : Objects D G (List (N × C)) O) (status : Status) : Type 0 where
     pub before : Contents
-    pub opened : IsOpened kinds.disks asked was.disk before
-    pub unchanged : IsUnchanged kinds.disks was.disk is.disk
+    pub ready : D
+    pub opened : OpensSettled kinds.disks known asked was.disk before ready
+    pub closed : ClosesSettled kinds.disks before ready Memory is.disk status
     pub untouched : is ≡ record was { disk = is.disk }
-    pub status_is : status ≡ Memory

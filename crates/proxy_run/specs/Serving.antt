@@ -1,5 +1,5 @@
 -- What serving the gate's first connection leaves.
-use Rattle.std.specs.Prelude.{◌≡◌, ℕ, Bool, true, [], codes, ⊤}
+use Rattle.std.specs.Prelude.{◌≡◌, ℕ, Bool, true, codes, ⊤}
 use Rattle.archive_shelf.specs.Told.{Told}
 use Rattle.capture.specs.Faults.{Rose}
 use Rattle.capture.specs.declared.site.Site.{Site}

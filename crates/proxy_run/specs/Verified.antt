@@ -23,4 +23,4 @@ SoundVolumesVerify =
 abbrev pub VerifiesAreAnswered : {D G L P N M C O : Type 0} → Kinds D G L P N M C O → Type 0
 VerifiesAreAnswered {D = D} {G = G} {N = N} {C = C} {O = O} kinds =
     (workers : ℕ) (was is : Objects D G (List (N × C)) O) (status : Status) → IsTrue kinds.disks.tells → IsReady None (kinds.disks.reading was.disk)
-    → NoFaults kinds was is → (site : Option Site) → Runs kinds (Some (Verify workers)) site was is status → (status ≡ Done) ⊎ (status ≡ Memory)
+    → NoFaults kinds was is → (known : Option Book) (site : Option Site) → Runs kinds known (Some (Verify workers)) site was is status → (status ≡ Done) ⊎ (status ≡ Memory)

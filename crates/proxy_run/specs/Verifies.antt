@@ -13,6 +13,7 @@ use Rattle.fixity.specs.declared.verdict.Verdict.{Verdict}
 use Rattle.fixity.specs.declared.verdict.Verdict.TheVariants.{Sound, Damaged}
 use Rattle.httparse.specs.Ascii.{line_feed}
 use Rattle.outside.specs.declared.sink.Sink.{Ghosts as Sinks}
+use Rattle.archive_shelf.specs.declared.depth.Depth.TheVariants.{Whole}
 use Rattle.command.specs.Opening.{IsOpened}
 use Rattle.command.specs.Printing.{LacksMemory, Prints}
 use Rattle.command.specs.Texts.{file_name}
@@ -104,6 +105,6 @@ module _ {D O : Type 0} (disks : Disks D) (sinks : Sinks O) (namespace : List �
 -- The archive was opened, and its volumes were checked. A read gives what it gave.
 pub record IsVerified {D O : Type 0} (disks : Disks D) (sinks : Sinks O) (was is : D) (out_was out_is : O) (status : Status) : Type 0 where
   pub now : Contents
-  pub opened : IsOpened disks None was now
+  pub opened : IsOpened disks Whole None None was now
   pub reading : IsTrue disks.tells → disks.reading is ≡ disks.reading was
   pub checked : ChecksVolumes disks sinks now.seen.namespace (facts_of now.seen) was is out_was out_is status

@@ -5,9 +5,9 @@ ghost use Rattle.command.specs.Opening.{IsNotOpened};
 ghost use Rattle.command.specs.Printing.{LacksMemory, Prints};
 ghost use Rattle.command.specs.Texts as spec;
 
-use archive_shelf::Counts;
+use archive_shelf::{Counts, Depth};
 use capture::Memory;
-use command::{Ran, Status, counts_text, open, print_as};
+use command::{Ran, Status, Unknown, counts_text, open, print_as};
 use disk_model::Disk;
 use outside::Sink;
 use std::alloc::Global;
@@ -15,9 +15,9 @@ use std::alloc::Global;
 /// Opens the archive on the disk, prints how much it holds, and closes it. Nothing is written.
 pub fn check<D: Disk, O: Sink>(alloc: Global, disk: D, out: &mut O) -> Ran<D>
     ensures { IsCounted D.Disk O.Sink disk result.disk out.old out.new result.status
-        ⊎ IsNotOpened D.Disk O.Sink None disk result.disk out.old out.new result.status }
+        ⊎ IsNotOpened D.Disk O.Sink Depth.Whole None None disk result.disk out.old out.new result.status }
 {
-    let archive = match open(alloc, disk, None, out) {
+    let archive = match open::<Unknown, D, O>(alloc, disk, None, Depth::Whole, out) {
         Ok(archive) => archive,
         Err(ran) => return ran,
     };

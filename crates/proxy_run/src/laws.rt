@@ -1,10 +1,11 @@
 //! What runs promise to those who build on them.
-ghost use Rattle.proxy_run.specs.Complete.{CapturesComeBack, ChecksAreAnswered, FollowsAreAnswered, FollowsLeaveReady, ImportsAreAnswered, ImportsLeaveReady, PipesAreAnswered, PipesLeaveReady};
+ghost use Rattle.proxy_run.specs.Complete.{CapturesComeBack, ChecksAreAnswered, FollowsAreAnswered, FollowsLeaveReady, ImportsAreAnswered, ImportsLeaveReady, PipesAreAnswered, PipesLeaveReady, PipesLeaveSettled, PipesLeaveTheLast, PipesPassOn};
 ghost use Rattle.command.specs.Objects.{kinds_of};
 ghost use Rattle.proxy_run.specs.OnePipe.{PipesLeaveNoChoice};
-ghost use Rattle.proxy_run.specs.Promises.{AllAreHungUp, AllAreReadOut, BooksLeadOn, BooksOnlyGrow, CapturesAreStoredOnce, FaultsAreCounted, GatesAreEmptied, LogsAreInOrder};
+ghost use Rattle.proxy_run.specs.Promises.{AllAreHungUp, AllAreReadOut, BooksLeadOn, BooksOnlyGrow, CapturesAreStoredOnce, FaultsAreCounted, GatesAreEmptied, LogsAreInOrder, ServersAreAnswered, ServersLeaveSettled};
 ghost use Rattle.proxy_run.specs.Verified.{SoundVolumesVerify, VerifiesAreAnswered};
 
+use archive_core::settling_keeps_checkpoints_right;
 use cdxj_index::books_have_one_index;
 use disk_model::Disk;
 use outside::{Clock, Dialer, Gate, Sink};
@@ -12,9 +13,12 @@ use session::{courses_leave_no_choice, courses_only_grow};
 use warc_text::files_stand_for_one_book;
 
 /// Where no count of faults rises, over a disk that stands for a sound book in the namespace that is asked for, `check` prints how
-/// much there is, `pipe` goes well unless its client's link fails or ends inside a message, and `import` unless its input isn't a whole file of
-/// records or the archive gets full, and `follow` unless its source isn't followed to its end: or memory ran out. Each image that they may leave is ready for the next run, and each that
-/// `pipe` may leave stands for a book that holds all captures of the last one in order, and one more at most.
+/// much there is, and over one that is settled for a book that is known `pipe` goes well unless its client's link fails or ends inside a message, and `import` unless its
+/// input isn't a whole file of records or the archive gets full, and `follow` unless its source isn't followed to its end: or memory ran out. Each image that they may leave
+/// is ready for the next run, those of `pipe` and `import` with a book that this may know, and each that
+/// `pipe` may leave stands for a book that holds all captures of the last one in order, and one more at most. Where the disk didn't fail it stands for the last one itself, if links
+/// tell their traffic; and where memory sufficed besides, it has the finished checkpoint of each sealed volume. What might be opened at any moment of `pipe` might have been before it, or a round of its
+/// connection may leave it.
 pub fn ready_archives_are_served<D: Disk, G: Gate, N: Dialer, C: Clock, O: Sink>()
     ensures checks { ChecksAreAnswered (kinds_of D.Disk G.Gate N.Dialer C.Clock O.Sink G.Link.tells N.Link.tells) }
     ensures pipes { PipesAreAnswered (kinds_of D.Disk G.Gate N.Dialer C.Clock O.Sink G.Link.tells N.Link.tells) }
@@ -24,8 +28,13 @@ pub fn ready_archives_are_served<D: Disk, G: Gate, N: Dialer, C: Clock, O: Sink>
     ensures goes_on { ImportsLeaveReady (kinds_of D.Disk G.Gate N.Dialer C.Clock O.Sink G.Link.tells N.Link.tells) }
     ensures again { PipesLeaveReady (kinds_of D.Disk G.Gate N.Dialer C.Clock O.Sink G.Link.tells N.Link.tells) }
     ensures back { CapturesComeBack (kinds_of D.Disk G.Gate N.Dialer C.Clock O.Sink G.Link.tells N.Link.tells) }
+    ensures settled { PipesLeaveSettled (kinds_of D.Disk G.Gate N.Dialer C.Clock O.Sink G.Link.tells N.Link.tells) }
+    ensures last { PipesLeaveTheLast (kinds_of D.Disk G.Gate N.Dialer C.Clock O.Sink G.Link.tells N.Link.tells) }
+    ensures passed { PipesPassOn (kinds_of D.Disk G.Gate N.Dialer C.Clock O.Sink G.Link.tells N.Link.tells) }
 {
+    courses_only_grow();
     files_stand_for_one_book();
+    settling_keeps_checkpoints_right();
 }
 
 /// Where what a read gives stands for a sound book, `verify` finds no volume of it damaged; and where no count of faults rises it goes
@@ -35,7 +44,7 @@ pub fn sound_archives_verify<D: Disk, G: Gate, N: Dialer, C: Clock, O: Sink>()
     ensures done { VerifiesAreAnswered (kinds_of D.Disk G.Gate N.Dialer C.Clock O.Sink G.Link.tells N.Link.tells) }
 {}
 
-/// Over a disk that is ready and told, `pipe` answers the same bytes, times and transcripts in one way: by the same texts, the same
+/// Over a disk whose book is known and told, `pipe` answers the same bytes, times and transcripts in one way: by the same texts, the same
 /// book and the same status. That is so where neither its client's link nor one to an origin failed, nor the dialer or the disk, and
 /// where memory sufficed.
 pub fn pipes_leave_no_choice<D: Disk, G: Gate, N: Dialer, C: Clock, O: Sink>()
@@ -48,8 +57,10 @@ pub fn pipes_leave_no_choice<D: Disk, G: Gate, N: Dialer, C: Clock, O: Sink>()
 /// What a server of many clients promises: the book only grows, and its count is printed; all that the gate gave was hung up, and the gate
 /// was asked until it was closed; what the log gains stands in the members' order; each connection was read to its end or to the answer that
 /// closes, unless its link failed or memory ran out; each capture that a round stored stands in the book once, which has no other behind
-/// those that were there; what each connection begins with has grown into that book; and rounds met no more faults of the disk than it
-/// counted.
+/// those that were there; what each connection begins with has grown into that book; rounds met no more faults of the disk than it
+/// counted; where it ended otherwise than for want of memory and the disk counted none, each image that a crash may leave has the
+/// finished checkpoint of each volume but the last; and where no count of faults rose, over a disk that is settled for a book that is known,
+/// it went well or memory ran out.
 pub fn servers_keep_their_promise<D: Disk, G: Gate, N: Dialer, C: Clock, O: Sink>()
     ensures grow { BooksOnlyGrow (kinds_of D.Disk G.Gate N.Dialer C.Clock O.Sink G.Link.tells N.Link.tells) }
     ensures hung_up { AllAreHungUp (kinds_of D.Disk G.Gate N.Dialer C.Clock O.Sink G.Link.tells N.Link.tells) }
@@ -59,6 +70,8 @@ pub fn servers_keep_their_promise<D: Disk, G: Gate, N: Dialer, C: Clock, O: Sink
     ensures once { CapturesAreStoredOnce (kinds_of D.Disk G.Gate N.Dialer C.Clock O.Sink G.Link.tells N.Link.tells) }
     ensures lead { BooksLeadOn (kinds_of D.Disk G.Gate N.Dialer C.Clock O.Sink G.Link.tells N.Link.tells) }
     ensures faults { FaultsAreCounted (kinds_of D.Disk G.Gate N.Dialer C.Clock O.Sink G.Link.tells N.Link.tells) }
+    ensures settled { ServersLeaveSettled (kinds_of D.Disk G.Gate N.Dialer C.Clock O.Sink G.Link.tells N.Link.tells) }
+    ensures answered { ServersAreAnswered (kinds_of D.Disk G.Gate N.Dialer C.Clock O.Sink G.Link.tells N.Link.tells) }
 {
     courses_only_grow();
 }

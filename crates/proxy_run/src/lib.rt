@@ -15,8 +15,9 @@ mod serving;
 mod trying;
 mod verifying;
 
+pub use command::{Known, Unknown};
 pub use laws::{
     pipes_leave_no_choice, ready_archives_are_served, servers_keep_their_promise,
     sound_archives_verify,
 };
-pub use running::{CREW, Crew, run};
+pub use running::{CREW, Crew, run, run_known};

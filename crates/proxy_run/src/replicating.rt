@@ -7,21 +7,25 @@ ghost use Rattle.replica.specs.Sources.{source_of as spec_source_of};
 ghost use Rattle.command.specs.Texts as text;
 ghost use Rattle.proxy_run.specs.StopTexts as spec;
 ghost use Rattle.command.specs.Words as word;
+ghost use Rattle.archive_opening.specs.Telling.{MayBeSettled};
+ghost use Rattle.archive_shelf.specs.declared.depth.Depth.TheVariants.{Checkpoints};
 ghost use Rattle.warc_text.specs.Ids.{IsUuid};
 
 use archive_core::Archive;
 use archive_pieces::PieceFault;
+use archive_shelf::Depth;
 use capture::{Memory, Site, put_all, put_number};
-use command::{Command, Ran, Status, asked_of, damaged_capture, open, print_as, put_full};
+use command::{Command, Known, Ran, Status, asked_of, damaged_capture, open, print_as, put_full};
 use disk_model::Disk;
 use exchange::Window;
 use outside::{Clock, Dialer, Sink};
 use replica::{SourceFault, Stop, follow_source, source_of};
 use std::alloc::Global;
 
-/// Opens the archive on the disk in the namespace that the command names, follows the source at the site with the member's dialer, prints how
-/// many captures the archive has then, or why it takes no more, and closes it. The captures that were taken before a stop stay.
-pub fn follow<D: Disk, N: Dialer, C: Clock, O: Sink>(
+/// Opens the archive on the disk by its checkpoints, in the namespace that the command names, follows the source at the site with the member's dialer,
+/// prints how many captures the archive has then, or why it takes no more, and closes it. The captures that were taken before a stop stay. It writes no
+/// checkpoint.
+pub fn follow<K: Known, D: Disk, N: Dialer, C: Clock, O: Sink>(
     alloc: Global,
     command: Command,
     site: &Site,
@@ -30,10 +34,18 @@ pub fn follow<D: Disk, N: Dialer, C: Clock, O: Sink>(
     out: &mut O,
 ) -> Ran<D>
     requires uuid { IfSome (word.asked_of command) IsUuid }
-    ensures { Follows D.Disk N.Dialer O.Sink N.Link.tells (word.asked_of command) site.now disk result.disk member.old member.new out.old out.new result.status
-        ⊎ (IsNotOpened D.Disk O.Sink (word.asked_of command) disk result.disk out.old out.new result.status × (member.new ≡ member.old)) }
+    requires known { MayBeSettled D.Disk disk (word.asked_of command) K.book }
+    ensures { Follows D.Disk K.book N.Dialer O.Sink N.Link.tells (word.asked_of command) site.now disk result.disk member.old member.new out.old out.new
+        result.status
+        ⊎ (IsNotOpened D.Disk O.Sink Checkpoints K.book (word.asked_of command) disk result.disk out.old out.new result.status × (member.new ≡ member.old)) }
 {
-    let mut archive = match open(alloc, disk, asked_of(command), out) {
+    let mut archive = match open::<K, D, O>(
+        alloc,
+        disk,
+        asked_of(command),
+        Depth::Checkpoints,
+        out,
+    ) {
         Ok(archive) => archive,
         Err(ran) => return ran,
     };

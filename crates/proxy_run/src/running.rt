@@ -1,5 +1,6 @@
 //! The call that the program makes.
-ghost use Rattle.std.specs.Prelude.{◌≡◌, length, IfErr, IfOk, OnOk, Some};
+ghost use Rattle.std.specs.Prelude.{◌≡◌, length, IfErr, IfOk, IfSome, OnOk, None, Some};
+ghost use Rattle.archive_opening.specs.Telling.{MayBeSettled};
 ghost use Rattle.command.specs.Base.{site_among};
 ghost use Rattle.command.specs.Objects.{kinds_of, objects_of};
 ghost use Rattle.proxy_run.specs.Runs.{NamesNone, Runs};
@@ -12,7 +13,7 @@ use crate::server::{Service, serve_many};
 use crate::trying::trial;
 use crate::verifying::verify;
 use capture::{Memory, Site};
-use command::{Command, Ran, Status, command_of, print_as, site_of};
+use command::{Command, Known, Ran, Status, Unknown, command_of, print_as, site_of};
 use disk_model::Disk;
 use importing::import;
 use outside::{Clock, Dialer, Gate, Sink};
@@ -41,8 +42,13 @@ pub struct Crew<N, C> {
 /// stores so many exchanges of the load with that number in memory, brings them back, and prints how much that is. `verify WORKERS`
 /// checks the bytes of the archive's volumes by so many workers, 1 to 16, and prints the verdicts. All other words print the usage.
 ///
+/// `follow NS BASE` opens the archive, and takes the captures of the server at that base piece by piece, with the first member's dialer.
+///
+/// `pipe` and `serve` write the checkpoints that are missing, before they serve and behind that. These two, `import` and `follow` open the archive by its
+/// checkpoints, `check` and `verify` by all that its volumes hold.
+///
 /// Nothing is required of the disk. What is claimed of an archive is claimed of the book for which the disk stands, and each disk that
-/// is handed back stands for one.
+/// is handed back stands for one. Of an archive that was opened by checkpoints it is claimed of a book that is known, and nobody knows it here: see `run_known`.
 pub fn run<R, D, G, N, C, O>(
     rt: &R,
     alloc: Global,
@@ -67,7 +73,39 @@ where
     ensures { let kinds = kinds_of D.Disk G.Gate N.Dialer C.Clock O.Sink G.Link.tells N.Link.tells in
         let was = objects_of disk gate.old crew.old.members.items out.old in
         let is = objects_of result.disk gate.new crew.new.members.items out.new in
-        Runs kinds (word.command_of (word.texts words.now)) (site_among (word.texts words.now)) was is result.status }
+        Runs kinds None (word.command_of (word.texts words.now)) (site_among (word.texts words.now)) was is result.status }
+{
+    run_known::<R, D, G, N, C, O, Unknown>(rt, alloc, words, disk, gate, crew, out)
+}
+
+/// The same as `run`, for a caller whose proof may know the book on the disk, which `K` names: one that kept the disk.
+pub fn run_known<R, D, G, N, C, O, K>(
+    rt: &R,
+    alloc: Global,
+    words: &[&str],
+    disk: D,
+    gate: &mut G,
+    crew: &mut Crew<N, C>,
+    out: &mut O,
+) -> Ran<D>
+where
+    R: Threads + Wait + Sync,
+    D: Disk + Send,
+    G: Gate + Send,
+    G::Link: Send,
+    G::Past: Send,
+    N: Dialer + Send,
+    N::Link: Send,
+    C: Clock + Send,
+    O: Sink,
+    K: Known,
+    requires crew { length crew.old.members.items ≡ CREW }
+    requires known { IfSome (word.command_of (word.texts words.now)) (λ command. MayBeSettled D.Disk disk (word.asked_of command) K.book) }
+
+    ensures { let kinds = kinds_of D.Disk G.Gate N.Dialer C.Clock O.Sink G.Link.tells N.Link.tells in
+        let was = objects_of disk gate.old crew.old.members.items out.old in
+        let is = objects_of result.disk gate.new crew.new.members.items out.new in
+        Runs kinds K.book (word.command_of (word.texts words.now)) (site_among (word.texts words.now)) was is result.status }
 {
     let Some(command) = command_of(words) else {
         return Ran {
@@ -80,14 +118,14 @@ where
         Command::Follow(_) => match named_site(alloc, words, out) {
             Ok(site) => {
                 let first = &mut crew.members[0];
-                follow(alloc, command, &site, disk, first, out)
+                follow::<K, D, N, C, O>(alloc, command, &site, disk, first, out)
             }
             Err(status) => Ran { status, disk },
         },
-        Command::Import(_) => import(alloc, command, disk, gate, out),
+        Command::Import(_) => import::<K, D, G, O>(alloc, command, disk, gate, out),
         Command::Pipe(_) => {
             let member = &mut crew.members[0];
-            pipe(alloc, command, disk, gate, member, out)
+            pipe::<K, D, G, N, C, O>(alloc, command, disk, gate, member, out)
         }
         Command::Serve(_, workers) => match named_site(alloc, words, out) {
             Ok(site) => {
@@ -96,7 +134,8 @@ where
                     site: &site,
                     workers,
                 };
-                serve_many(rt, alloc, service, disk, gate, &mut crew.members, out)
+                let members = &mut crew.members;
+                serve_many::<K, R, D, G, N, C, O>(rt, alloc, service, disk, gate, members, out)
             }
             Err(status) => Ran { status, disk },
         },

@@ -1,8 +1,11 @@
 //! The command `serve`: the connections of many clients over one archive.
 ghost use Rattle.std.specs.Prelude.{◌⊎◌, ◌≡◌, ◌<◌, ◌≤◌, ℕ, IfSome, List, Option, length};
+ghost use Rattle.archive_opening.specs.Telling.{MayBeSettled};
 ghost use Rattle.archive_shelf.specs.Contents.{Contents};
+ghost use Rattle.archive_shelf.specs.declared.depth.Depth.TheVariants.{Checkpoints};
+ghost use Rattle.capture.specs.declared.book.Book.{Book};
 ghost use Rattle.command.specs.Objects.{kinds_of, objects_of};
-ghost use Rattle.command.specs.Opening.{IsOpened};
+ghost use Rattle.command.specs.Settling.{OpensSettled};
 ghost use Rattle.proxy_run.specs.Pipes.{Refuses};
 ghost use Rattle.proxy_run.specs.Serves.{LacksShelves, Serves};
 ghost use Rattle.command.specs.Words as spec;
@@ -12,7 +15,7 @@ ghost use Rattle.warc_text.specs.Ids.{IsUuid};
 use crate::counting::tell_count;
 use crate::seating::serve_by;
 use capture::Site;
-use command::{Command, Ran, Status, asked_of, open};
+use command::{Command, Known, Ran, Status, asked_of, open_and_settle, settle_and_close};
 use disk_model::Disk;
 use outside::{Clock, Dialer, Gate, Sink};
 use std::alloc::Global;
@@ -31,9 +34,10 @@ pub struct Service<'a> {
     pub workers: u32,
 }
 
-/// Opens the archive on the disk in the namespace that the command names, serves the gate's connections over it by so many members of the
-/// crew until the gate is closed, prints how many captures there are, and closes the archive. May wait.
-pub fn serve_many<R, D, G, N, C, O>(
+/// Opens the archive on the disk by its checkpoints, in the namespace that the command names, writes those that are missing, serves the gate's
+/// connections over it by so many members of the crew until the gate is closed, prints how many captures there are, writes the checkpoints that
+/// are missing by then, and closes the archive. What stops a checkpoint changes nothing else. May wait.
+pub fn serve_many<K, R, D, G, N, C, O>(
     rt: &R,
     alloc: Global,
     service: Service,
@@ -43,6 +47,7 @@ pub fn serve_many<R, D, G, N, C, O>(
     out: &mut O,
 ) -> Ran<D>
 where
+    K: Known,
     R: Threads + Wait + Sync,
     D: Disk + Send,
     G: Gate + Send,
@@ -53,21 +58,23 @@ where
     C: Clock + Send,
     O: Sink,
     requires uuid { IfSome (spec.asked_of service.command) IsUuid }
+    requires known { MayBeSettled D.Disk disk (spec.asked_of service.command) K.book }
     requires some { 0 < service.workers }
     requires few { service.workers ≤ 16 }
     requires enough { service.workers ≤ length crew.old.items }
     ensures { let kinds = kinds_of D.Disk G.Gate N.Dialer C.Clock O.Sink G.Link.tells N.Link.tells in
         let was = objects_of disk gate.old crew.old.items out.old in
         let is = objects_of result.disk gate.new crew.new.items out.new in
-        Serves kinds (spec.asked_of service.entry.command) service.entry.site.now service.entry.workers was is result.status
-        ⊎ LacksShelves kinds (spec.asked_of service.entry.command) was is result.status ⊎ Refuses kinds (spec.asked_of service.entry.command) was is result.status }
+        Serves kinds K.book (spec.asked_of service.entry.command) service.entry.site.now service.entry.workers was is result.status
+        ⊎ LacksShelves kinds K.book (spec.asked_of service.entry.command) was is result.status
+        ⊎ Refuses kinds Checkpoints K.book (spec.asked_of service.entry.command) was is result.status }
 {
     let Service {
         command,
         site,
         workers,
     } = service;
-    let archive = match open(alloc, disk, asked_of(command), out) {
+    let archive = match open_and_settle::<K, D, O>(alloc, disk, asked_of(command), out) {
         Ok(archive) => archive,
         Err(ran) => return ran,
     };
@@ -75,14 +82,12 @@ where
         Ok(unnamed) => {
             serve_named::<R, D, G, N, C, O, Brand>(rt, alloc, unnamed, site, gate, crew, out)
         }
-        Err(archive) => Ran {
-            status: Status::Memory,
-            disk: archive.close(),
-        },
+        Err(archive) => settle_and_close(alloc, archive, Status::Memory),
     }
 }
 
-/// Serves over a vault under a name, ends it, prints how many captures there are, and closes the archive. May wait.
+/// Serves over a vault under a name, ends it, prints how many captures there are, writes the checkpoints that are missing, and closes the
+/// archive. May wait.
 fn serve_named<R, D, G, N, C, O, J>(
     rt: &R,
     alloc: Global,
@@ -108,16 +113,13 @@ where
     requires few { unnamed.passes ≤ 16 }
     requires enough { unnamed.passes ≤ length crew.old.items }
     ensures { let kinds = kinds_of D.Disk G.Gate N.Dialer C.Clock O.Sink G.Link.tells N.Link.tells in
-        (asked : Option (List ℕ)) (disk : D) (before : Contents) → IsOpened D.Disk asked disk before → IsNameOf unnamed before (D.faults disk)
-        → Serves kinds asked site.now unnamed.passes (objects_of disk gate.old crew.old.items out.old)
+        (known : Option Book) (asked : Option (List ℕ)) (disk : D) (before : Contents) (ready : D) → OpensSettled D.Disk known asked disk before ready
+        → IsNameOf unnamed before (D.faults ready) → Serves kinds known asked site.now unnamed.passes (objects_of disk gate.old crew.old.items out.old)
         (objects_of result.disk gate.new crew.new.items out.new) result.status }
 {
     let (vault, mut passes) = unnamed.named::<J>();
     let said = serve_by::<R, D, G, N, C, J>(rt, alloc, &vault, &mut passes, site, gate, crew);
     let archive = vault.close_all::<R, J>(rt, passes);
-    let status = tell_count(alloc, out, archive.counts().captures, said);
-    Ran {
-        status,
-        disk: archive.close(),
-    }
+    let counted = tell_count(alloc, out, archive.counts().captures, said);
+    settle_and_close(alloc, archive, counted)
 }

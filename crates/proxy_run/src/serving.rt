@@ -1,7 +1,6 @@
 //! Serves the gate's first connection.
-ghost use Rattle.std.specs.Prelude.{◌≡◌, ◌<◌, ◌≤◌, ◌⊎◌, IsTrue, IfOk};
-ghost use Rattle.archive_shelf.specs.Openings.{StaysCovered};
-ghost use Rattle.capture.specs.Growth.{Grows};
+ghost use Rattle.std.specs.Prelude.{◌≡◌, ◌<◌, ◌⊎◌, IsTrue, IfOk};
+ghost use Rattle.archive_shelf.specs.Told.{GoesOn};
 ghost use Rattle.outside.specs.Gate.{Connections, one_given};
 ghost use Rattle.outside.specs.Link.{IsFresh};
 ghost use Rattle.command.specs.Objects.{told_around};
@@ -27,10 +26,7 @@ pub fn serve_first<S: Shelf, G: Gate, N: Dialer, C: Clock>(
         (told_around G.Gate N.Dialer C.Clock gate.new member.new) (S.told shelf.old) (S.told shelf.new) result
         ⊎ (ServesNone (G.closed gate.old) (G.faults gate.old) (G.faults gate.new) (told_around G.Gate N.Dialer C.Clock gate.old member.old)
         (told_around G.Gate N.Dialer C.Clock gate.new member.new) result × (shelf.new ≡ shelf.old)) }
-    ensures grows { Grows (S.told shelf.old).contents.seen (S.told shelf.new).contents.seen }
-    ensures faults { (S.told shelf.old).faults ≤ (S.told shelf.new).faults }
-    ensures covered { StaysCovered (S.told shelf.old).crash (S.told shelf.new).crash }
-    ensures same_tells { (S.told shelf.new).contents.tells ≡ (S.told shelf.old).contents.tells }
+    ensures goes_on { GoesOn S.alone (S.told shelf.old) (S.told shelf.new) }
     ensures ends { IsServedStatus result }
     ensures gate_failed { (result ≡ Status.Outside) ⊎ (G.faults gate.new ≡ G.faults gate.old) }
 {
@@ -64,10 +60,7 @@ fn serve_link<S: Shelf, G: Gate, N: Dialer, C: Clock>(
         → ServesOne S.alone (pipe_setting C.tells)
         (record (told_around G.Gate N.Dialer C.Clock gate.old member.old) { connections = before })
         (told_around G.Gate N.Dialer C.Clock gate.new member.new) (S.told shelf.old) (S.told shelf.new) result }
-    ensures grows { Grows (S.told shelf.old).contents.seen (S.told shelf.new).contents.seen }
-    ensures faults { (S.told shelf.old).faults ≤ (S.told shelf.new).faults }
-    ensures covered { StaysCovered (S.told shelf.old).crash (S.told shelf.new).crash }
-    ensures same_tells { (S.told shelf.new).contents.tells ≡ (S.told shelf.old).contents.tells }
+    ensures goes_on { GoesOn S.alone (S.told shelf.old) (S.told shelf.new) }
     ensures ends { IsServedStatus result }
     ensures same_faults { G.faults gate.new ≡ G.faults gate.old }
 {

@@ -11,9 +11,10 @@ ghost use Rattle.proxy_run.specs.steps.Verifying.{ChecksUpTo, HasChecked, IsPlan
 use crate::plan::Plan;
 use crate::report::Report;
 use archive_core::Archive;
+use archive_shelf::Depth;
 use archive_volumes::VolumeFacts;
 use capture::{Memory, put_all};
-use command::{Ran, Status, open, print_as};
+use command::{Ran, Status, Unknown, open, print_as};
 use disk_model::Disk;
 use fixity::{FixityFault, check_volume};
 use outside::Sink;
@@ -32,9 +33,9 @@ pub fn verify<R: Threads + Sync, D: Disk, O: Sink>(
 ) -> Ran<D>
     requires { (0 < workers) × (workers ≤ 16) }
     ensures { IsVerified D.Disk O.Sink disk result.disk out.old out.new result.status
-        ⊎ IsNotOpened D.Disk O.Sink None disk result.disk out.old out.new result.status }
+        ⊎ IsNotOpened D.Disk O.Sink Depth.Whole None None disk result.disk out.old out.new result.status }
 {
-    let archive = match open(alloc, disk, None, out) {
+    let archive = match open::<Unknown, D, O>(alloc, disk, None, Depth::Whole, out) {
         Ok(archive) => archive,
         Err(ran) => return ran,
     };

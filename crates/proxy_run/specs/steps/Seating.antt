@@ -3,7 +3,7 @@ use Rattle.std.specs.Prelude.{◌≡◌, ◌≤◌, ℕ}
 use Rattle.archive_shelf.specs.Contents.{Contents}
 use Rattle.vault.specs.Members.{VaultName}
 
--- The vault was given an archive of which this is told, and which had met so many faults of the disk or more.
+-- The vault was given an archive of which this is told, whose disk had counted so many faults.
 pub record IsNameOf (vault : VaultName) (now : Contents) (faults : ℕ) : Type 0 where
   pub book : vault.book ≡ now.seen
   pub limits : vault.limits ≡ now.limits

@@ -1,6 +1,6 @@
 -- The sentences.
 use Rattle.command.specs.Objects.{kinds_of}
-use Rattle.proxy_run.proofs.ServeLaws.{all_are_hung_up, all_are_read_out, books_lead_on, books_only_grow, captures_are_stored_once, faults_are_counted, gates_are_emptied, logs_are_in_order}
+use Rattle.proxy_run.proofs.ServeLaws.{all_are_hung_up, all_are_read_out, books_lead_on, books_only_grow, captures_are_stored_once, faults_are_counted, gates_are_emptied, logs_are_in_order, servers_answered, servers_leave_settled}
 use Rattle.proxy_run.proofs.laws.servers_keep_their_promise.Goals as goal
 
 pub returns : goal.returns
@@ -15,4 +15,6 @@ returns g c =
       once = captures_are_stored_once kinds;
       lead = books_lead_on kinds c.courses_only_grow.ensures.grow;
       faults = faults_are_counted kinds c.courses_only_grow.ensures.faults;
+      settled = servers_leave_settled kinds;
+      answered = servers_answered kinds;
     }

@@ -1,6 +1,7 @@
 -- The archive was refused, or it followed its source.
 use Rattle.std.proofs.Common.{refl, inl}
 use Rattle.archive_volumes.proofs.ChangeLaws.{DiskLaws}
+use Rattle.command.proofs.SettlingLaws.{opened_is_of}
 use Rattle.proxy_run.proofs.FollowsLaws.{follows_by}
 use Rattle.proxy_run.proofs.replicating.follow.Given.{Over}
 use Rattle.proxy_run.proofs.replicating.follow.Goals as goal
@@ -10,7 +11,14 @@ disk_laws g = record { earlier = g.met.D.Disk.earlier; now_counts = g.met.D.Disk
 
 pub returns : goal.returns
 returns g c =
-    inl (follows_by g.D.Disk g.N.Dialer g.O.Sink g.N.Link.Link.tells (disk_laws g) _ c.args.site.now c.args.disk c.close.result c.args.member.now _ c.args.out.now
+    inl (follows_by g.D.Disk g.K.Known.book g.N.Dialer g.O.Sink g.N.Link.Link.tells (disk_laws g) _ c.args.site.now c.args.disk c.close.result c.args.member.now _ c.args.out.now
     c.open.new.out c.follow_site-status.new.out c.follow_site-status.result c.in-Ok.archive c.follow_site-status.new.archive
-    (rw c.asked_of.ensures at c.in-Ok.ensures.reopened) (rw c.asked_of.ensures at c.in-Ok.ensures.opened) c.close.ensures.disk c.in-Ok.ensures.prints_nothing
+    (rw c.asked_of.ensures at c.in-Ok.ensures.reopened) (rw c.asked_of.ensures at c.in-Ok.ensures.opened)
+    (opened_is_of g.D.Disk c.args.disk _ g.K.Known.book c.requires.known c.in-Ok.archive (rw c.asked_of.ensures at c.in-Ok.ensures.reopened)) c.close.ensures.disk c.in-Ok.ensures.prints_nothing
     c.close.ensures.near c.follow_site-status.ensures refl)
+
+pub open-requires-clause-uuid : goal.open-requires-clause-uuid
+open-requires-clause-uuid g c = rw c.asked_of.ensures c.requires.uuid
+
+pub open-requires-clause-known : goal.open-requires-clause-known
+open-requires-clause-known g c = rw c.asked_of.ensures c.requires.known

@@ -1,28 +1,27 @@
 -- What is told of the passes is told of the crew's seats.
-use Rattle.std.proofs.Common.{◌≡◌, drop, map, vec_len, sym, ap, subst, arith}
-use Rattle.vault.specs.Sharing.{IsLeftByAll}
+use Rattle.std.proofs.Common.{◌≡◌, drop, vec_len, sym, ap, subst, arith}
+use Rattle.archive_core.specs.Holdings.{contents_of}
 use Rattle.command.specs.Objects.{kinds_of, objects_of}
 use Rattle.proxy_run.specs.Serves.{Serves, TellsCount}
 use Rattle.proxy_run.specs.steps.Seating.{IsNameOf}
-use Rattle.proxy_run.proofs.VaultSeats.{known_of, serves_over}
+use Rattle.proxy_run.proofs.VaultSeats.{serves_over}
 use Rattle.proxy_run.proofs.server.serve_named.Goals as goal
+use Rattle.warc_journal.specs.Journals.{disk_of}
 
 pub returns : goal.returns
-returns g c = λ asked disk before opened name.
+returns g c = λ known asked disk before ready opened name.
     let kinds = kinds_of g.D.Disk g.G.Gate g.N.Dialer g.C.Clock g.O.Sink g.G.Link.Link.tells g.N.Link.Link.tells in
     let was = objects_of disk c.args.gate.now c.args.crew.now.items c.args.out.now in
-    let is = objects_of c.close.result c.serve_by-said.new.gate c.serve_by-said.new.crew.items c.tell_count-status.new.out in
+    let is = objects_of c.settle_and_close.result.disk c.serve_by-said.new.gate c.serve_by-said.new.crew.items c.tell_count-counted.new.out in
     let starts = c.named-vault.result.1 in
     let many : vec_len starts ≡ g.J.Naming.vault.passes = omega (arith, starts.ok.0, c.named-vault.ensures.passes.count) in
-    let book = c.close_all-archive.result.book in
-    subst (λ v. Serves kinds asked c.args.site.now v.passes was is c.tell_count-status.result) (sym c.requires.name)
-    (serves_over kinds asked c.args.site.now was is g.J.Naming.vault starts.items c.serve_by-said.new.passes.items before opened
-    (subst (λ v. IsNameOf v before (g.D.Disk.faults disk)) c.requires.name name) c.named-vault.ensures.passes c.serve_by-said.ensures.members
-    c.serve_by-said.result (λ t u. c.serve_by-said.ensures.serves t u) c.serve_by-said.ensures.ended
-    book c.close_all-archive.result.limits c.close_all-archive.result.told
-    (subst (λ d. IsLeftByAll g.J.Naming.vault (map known_of c.serve_by-said.new.passes.items) book c.close_all-archive.result.limits c.close_all-archive.result.told (g.D.Disk.faults d))
-    (sym c.close.ensures.disk) c.close_all-archive.ensures)
-    c.close.ensures.near c.tell_count-status.result
-    (subst (λ n. TellsCount g.O.Sink n c.serve_by-said.result c.args.out.now c.tell_count-status.new.out c.tell_count-status.result)
-    (ap (λ k. k.captures) c.counts.ensures) c.tell_count-status.ensures)
+    let left = c.close_all-archive.result in
+    subst (λ v. Serves kinds known asked c.args.site.now v.passes was is c.settle_and_close.result.status) (sym c.requires.name)
+    (serves_over kinds known asked c.args.site.now was is g.J.Naming.vault starts.items c.serve_by-said.new.passes.items before (contents_of left) ready
+    (disk_of left.journal) opened
+    (subst (λ v. IsNameOf v before (g.D.Disk.faults ready)) c.requires.name name) c.named-vault.ensures.passes c.serve_by-said.ensures.members
+    c.serve_by-said.result (λ t u. c.serve_by-said.ensures.serves t u) c.serve_by-said.ensures.ended c.close_all-archive.ensures c.tell_count-counted.result
+    (subst (λ n. TellsCount g.O.Sink n c.serve_by-said.result c.args.out.now c.tell_count-counted.new.out c.tell_count-counted.result)
+    (ap (λ k. k.captures) c.counts.ensures) c.tell_count-counted.ensures)
+    c.settle_and_close.result.status c.settle_and_close.ensures.closed c.settle_and_close.ensures.near
     (subst (λ n. drop n c.serve_by-said.new.crew.items ≡ drop n c.args.crew.now.items) many c.serve_by-said.ensures.same_others))
