@@ -1,7 +1,7 @@
 //! Calls of a disk in memory, one by one, and what its files hold behind them.
 use crate::call::Call;
 use crate::deed::Deed;
-use crate::disk::{DiskSetting, behind_volumes, set};
+use crate::disk::{DiskSetting, behind_files, set};
 use crate::outcome::Outcome;
 use crate::reaching::Absent;
 use crate::told::Told;
@@ -40,11 +40,14 @@ pub fn outcome_of_calls<R: Threads + Sync>(
     }
 }
 
-/// The disk on which the volumes stand, durably. Its calls are numbered from 0 behind that.
+/// The disk on which the volumes and checkpoints stand, durably. Its calls are numbered from 0 behind that.
 fn standing(alloc: Global, setting: DiskSetting) -> Result<MemoryDisk, Memory> {
-    let mut disk = MemoryDisk::new(alloc, behind_volumes(alloc, setting)?);
+    let mut disk = MemoryDisk::new(alloc, behind_files(alloc, setting)?);
     for text in setting.volumes {
         put(&mut disk, Kind::Warc, text.as_slice());
+    }
+    for text in setting.checkpoints {
+        put(&mut disk, Kind::Cdxj, text.as_slice());
     }
     Ok(set(disk, setting))
 }

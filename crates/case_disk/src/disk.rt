@@ -8,6 +8,8 @@ use std::alloc::{AllocError, Global};
 pub struct DiskSetting<'a> {
     /// The volumes that stand on the disk.
     pub volumes: &'a [Vec<u8>],
+    /// The checkpoints that stand there, of the first volumes.
+    pub checkpoints: &'a [Vec<u8>],
     /// The numbers of the calls that are to fail, from 0.
     pub fails: &'a [u64],
     /// How many calls pass before each of them fails.
@@ -19,14 +21,19 @@ pub struct DiskSetting<'a> {
 /// How many calls of the disk it takes to make a file that holds a text.
 const CALLS: u64 = 3;
 
-/// The disk on which the volumes stand, durably. Its calls are numbered from 0 behind that.
+/// The disk on which the volumes and checkpoints stand, durably. Its calls are numbered from 0 behind that.
 pub fn disk_of(
     alloc: Global,
     setting: DiskSetting,
 ) -> Result<Result<MemoryDisk, Failed>, AllocError> {
-    let mut disk = MemoryDisk::new(alloc, behind_volumes(alloc, setting)?);
+    let mut disk = MemoryDisk::new(alloc, behind_files(alloc, setting)?);
     for text in setting.volumes {
-        if put_volume(&mut disk, text.as_slice()).is_err() {
+        if put_file(&mut disk, Kind::Warc, text.as_slice()).is_err() {
+            return Ok(Err(Failed));
+        }
+    }
+    for text in setting.checkpoints {
+        if put_file(&mut disk, Kind::Cdxj, text.as_slice()).is_err() {
             return Ok(Err(Failed));
         }
     }
@@ -45,9 +52,11 @@ pub fn set(disk: MemoryDisk, setting: DiskSetting) -> MemoryDisk {
     disk
 }
 
-/// The numbers of the calls that are to fail, counted from the first by which the volumes are put.
-pub fn behind_volumes(alloc: Global, setting: DiskSetting) -> Result<Vec<u64>, AllocError> {
-    let made = CALLS.saturating_mul(setting.volumes.len() as u64);
+/// The numbers of the calls that are to fail, counted from the first by which the files are put.
+pub fn behind_files(alloc: Global, setting: DiskSetting) -> Result<Vec<u64>, AllocError> {
+    let checkpoints = setting.checkpoints.len() as u64;
+    let files = checkpoints.saturating_add(setting.volumes.len() as u64);
+    let made = CALLS.saturating_mul(files);
     let mut fails = Vec::new(alloc);
     for number in setting.fails {
         fails.push(number.saturating_add(made))?;
@@ -55,10 +64,10 @@ pub fn behind_volumes(alloc: Global, setting: DiskSetting) -> Result<Vec<u64>, A
     Ok(fails)
 }
 
-/// Puts a volume, by `CALLS` calls.
+/// Puts a file of this kind, by `CALLS` calls.
 #[tactic(auto, using(crate::proofs::FileLaws::is_there, crate::proofs::FileLaws::still_there))]
-fn put_volume<D: Disk>(disk: &mut D, text: &[u8]) -> Result<(), Failed> {
-    let file = disk.create(Kind::Warc)?;
-    disk.write_at(Kind::Warc, file, 0, text)?;
-    disk.sync(Kind::Warc, file)
+fn put_file<D: Disk>(disk: &mut D, kind: Kind, text: &[u8]) -> Result<(), Failed> {
+    let file = disk.create(kind)?;
+    disk.write_at(kind, file, 0, text)?;
+    disk.sync(kind, file)
 }

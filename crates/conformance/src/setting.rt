@@ -87,6 +87,8 @@ pub struct Setting<'a> {
     pub origin_front: usize,
     /// The volumes that stand on the disk.
     pub volumes: Vec<Vec<u8>>,
+    /// The checkpoints that stand there, of the first volumes.
+    pub checkpoints: Vec<Vec<u8>>,
     /// What is done to the journal of the volumes before they are opened again.
     pub steps: Vec<Step>,
     /// What is done with an archive, or with the disk.
@@ -116,6 +118,7 @@ impl<'a> Setting<'a> {
             client_front: usize::MAX,
             origin_front: usize::MAX,
             volumes: Vec::new(alloc),
+            checkpoints: Vec::new(alloc),
             steps: Vec::new(alloc),
             deeds: Vec::new(alloc),
             stops: Stops {
@@ -139,6 +142,7 @@ impl<'a> Setting<'a> {
     pub fn disk(&self) -> DiskSetting<'_> {
         DiskSetting {
             volumes: self.volumes.as_slice(),
+            checkpoints: self.checkpoints.as_slice(),
             fails: self.fails.disk.as_slice(),
             fuse: self.disk_fuse,
             half_makes: self.disk_half_makes,
@@ -148,7 +152,9 @@ impl<'a> Setting<'a> {
     /// Whether this is a run over a disk that is there, of which no call is to fail by its number.
     pub fn goes_on(&self) -> bool {
         match self.played {
-            Played::Program => self.volumes.is_empty() && self.fails.disk.is_empty(),
+            Played::Program => {
+                self.volumes.is_empty() && self.checkpoints.is_empty() && self.fails.disk.is_empty()
+            }
             _ => false,
         }
     }
@@ -176,6 +182,7 @@ impl<'a> Setting<'a> {
             "client" => push_text(alloc, &mut self.clients, line.rest, names),
             "origin" => push_text(alloc, &mut self.origins, line.rest, names),
             "volume" => push_text(alloc, &mut self.volumes, line.rest, names),
+            "checkpoint" => push_text(alloc, &mut self.checkpoints, line.rest, names),
             "pieces" => Ok(take_length(&mut self.pieces, line.rest, names.k)),
             "client-front" => Ok(take_length(&mut self.client_front, line.rest, names.k)),
             "origin-front" => Ok(take_length(&mut self.origin_front, line.rest, names.k)),
