@@ -7,7 +7,7 @@ use Rattle.archive_core.specs.Finished.{IsSettled}
 use Rattle.archive_core.specs.Holdings.{Holdings}
 use Rattle.archive_core.specs.Known.{told_at}
 use Rattle.archive_core.specs.Settling.{KeepsSettled}
-use Rattle.archive_opening.specs.Telling.{HasCheckpointsOf}
+use Rattle.archive_opening.specs.Telling.{HasCheckpointsOf, IsReadWhole}
 use Rattle.archive_shelf.specs.declared.depth.Depth.TheVariants.{Checkpoints, Whole}
 use Rattle.checkpoint.specs.declared.fault.CheckpointFault.{CheckpointFault}
 use Rattle.checkpoint.specs.declared.fault.CheckpointFault.TheVariants as checkpoints
@@ -116,6 +116,15 @@ module _ {D G L P N M C O : Type 0} (kinds : Kinds D G L P N M C O) where
   refused_known known asked was is status told steady refuses =
       lacks_by kinds.sinks (kinds.disks.faults was.disk) (kinds.disks.faults is.disk) was.out is.out status steady.disk refuses.refused.fault
       (of_known kinds.disks.tells known (IsOutside refuses.refused.fault) told refuses.refused.complete) refuses.refused.counts refuses.refused.told
+
+  -- each volume was read
+  pub refused_unsettled : (known : Option Book) (was is : Objects D G (List (N × C)) O) (status : Status) → IsTrue kinds.disks.tells
+      → IsReady None (kinds.disks.reading was.disk) → IsReadWhole (kinds.disks.reading was.disk)
+      → NoFaults kinds was is → Refuses kinds Checkpoints known None was is status → status ≡ Memory
+  refused_unsettled known was is status told ready whole steady refuses =
+      lacks_memory kinds.sinks None (kinds.disks.reading was.disk) ready.book (kinds.disks.faults was.disk) (kinds.disks.faults is.disk) was.out is.out status
+      ready.stands (λ other holds. holds.asked_for refl) steady.disk refuses.refused.fault (refuses.refused.damage told whole) (refuses.refused.other told whole)
+      refuses.refused.counts refuses.refused.told
 
   pub refused_for_memory : (asked : Option (List ℕ)) (was is : Objects D G (List (N × C)) O) (status : Status) → IsTrue kinds.disks.tells
       → IsReady asked (kinds.disks.reading was.disk)

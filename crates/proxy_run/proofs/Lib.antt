@@ -6,6 +6,7 @@ mod NextLaws
 mod OnePipeLaws
 mod PipeLaws
 mod RunLaws
+mod SameVerdicts
 mod SeatLaws
 mod ServeLaws
 mod SoundVolumes

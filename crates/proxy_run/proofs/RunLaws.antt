@@ -41,14 +41,16 @@ module _ {D G L P N M C O : Type 0} (kinds : Kinds D G L P N M C O) (known : Opt
       (checked was disk out status result)
 
   verified_in : (workers : ℕ) (was : Objects D G (List (N × C)) O) (disk : D) (out : O) (status : Status)
-      → IsVerified kinds.disks kinds.sinks was.disk disk was.out out status ⊎ IsNotOpened kinds.disks kinds.sinks Whole None None was.disk disk was.out out status
+      → IsVerified kinds.disks kinds.sinks known was.disk disk was.out out status
+      ⊎ IsNotOpened kinds.disks kinds.sinks Checkpoints known None was.disk disk was.out out status
       → Runs kinds known (Some (Verify workers)) site was (record was { disk = disk; out = out }) status
   verified_in workers was disk out status (inl verified) = inl (record { verified = verified; untouched = refl })
   verified_in workers was disk out status (inr refused) = inr (record { refused = refused; untouched = refl })
 
   pub runs_verify : (command : Command) (workers : ℕ) (was : Objects D G (List (N × C)) O) (disk : D) (out : O) (status : Status) → found ≡ Some command
       → command ≡ Verify workers
-      → IsVerified kinds.disks kinds.sinks was.disk disk was.out out status ⊎ IsNotOpened kinds.disks kinds.sinks Whole None None was.disk disk was.out out status
+      → IsVerified kinds.disks kinds.sinks known was.disk disk was.out out status
+      ⊎ IsNotOpened kinds.disks kinds.sinks Checkpoints known None was.disk disk was.out out status
       → Runs kinds known found site was (record was { disk = disk; out = out }) status
   runs_verify command workers was disk out status is_command is_verify result =
       subst (λ f. Runs kinds known f site was (record was { disk = disk; out = out }) status) (sym (is_command ∙ ap (λ (c : Command). Some c) is_verify))

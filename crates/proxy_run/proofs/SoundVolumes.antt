@@ -161,7 +161,7 @@ facts_are before (v ∷ volumes) =
     (subst (λ m. All (IsFact ((before ++ v ∷ []) ++ volumes)) (facts_from (length (before ++ v ∷ [])) m volumes)) sum (facts_are (before ++ v ∷ []) volumes))) in
     All-cons (IsFact all) _ (facts_from (suc (length before)) (length (captures_in before) + length v.captures) volumes) here rest
 
-facts_long : (volume first : ℕ) (volumes : List Volume) → length (facts_from volume first volumes) ≡ length volumes
+pub facts_long : (volume first : ℕ) (volumes : List Volume) → length (facts_from volume first volumes) ≡ length volumes
 facts_long volume first [] = refl
 facts_long volume first (v ∷ volumes) = ap (λ n. suc n) (facts_long (suc volume) (first + length v.captures) volumes)
 

@@ -1,32 +1,39 @@
 -- A volume more was checked; what an archive tells of its volumes; and what was told of them all.
-use Rattle.std.proofs.Common.{◌≡◌, ℕ, suc, ◌+◌, ◌<◌, ◌≤◌, Bool, true, false, ◌||◌, nat_eq, List, [], ◌∷◌, ◌++◌, length, All, refl, sym, ap, subst, ◌∙◌, inl, inr, arith, append_assoc, append-nil, length-append}
-use Rattle.std.specs.Prelude.{IsTrue, None, codes}
+use Rattle.std.proofs.Common.{◌≡◌, ℕ, zero, suc, ◌+◌, ◌<◌, ◌≤◌, Bool, true, false, ◌||◌, nat_eq, List, [], ◌∷◌, ◌++◌, length, get_or, All, refl, sym, ap, subst, ◌∙◌, inl, inr, ⊎_elim, arith, append_assoc, append-nil, length-append}
+use Rattle.std.specs.Prelude.{IsTrue, None, Option, codes}
+use Rattle.std.proofs.lemmas.Bool.{cases_lt}
 use Rattle.std.proofs.lemmas.List.{map-append}
 use Rattle.std.proofs.lemmas.List.Concat.{flat_map-append}
 use Rattle.std.proofs.lemmas.List.Elements.{All-append, All-cons, All-nil}
 use Rattle.archive_core.specs.Holdings.{Holdings, contents_of}
+use Rattle.archive_core.specs.Known.{IsReopenedKnown}
 use Rattle.archive_core.specs.Reopening.{IsReopened}
+use Rattle.archive_opening.specs.Counting.{HasCountsOf, HasInfo}
 use Rattle.archive_volumes.specs.Facts.{facts_from, facts_of}
 use Rattle.archive_volumes.specs.declared.volume_facts.VolumeFacts.{VolumeFacts}
 use Rattle.capture.specs.Captures.{captures_in}
 use Rattle.capture.specs.Faults.{Rose}
+use Rattle.capture.specs.Tails.{IsCommitted}
+use Rattle.capture.specs.declared.book.Book.{Book}
 use Rattle.capture.specs.declared.book.Volume.{Volume}
-use Rattle.disk_model.specs.Image.{Image, file_of, files_of}
+use Rattle.disk_model.specs.Image.{Image, file_count, file_of, files_of}
 use Rattle.disk_model.specs.declared.disk.Disk.{Ghosts as Disks}
 use Rattle.disk_model.specs.declared.kind.Kind.TheVariants.{Warc}
 use Rattle.fixity.specs.Verdicts.{IsVerdict, volume_of}
 use Rattle.fixity.specs.declared.verdict.Verdict.{Verdict}
 use Rattle.outside.specs.declared.sink.Sink.{Ghosts as Sinks}
-use Rattle.archive_shelf.specs.declared.depth.Depth.TheVariants.{Whole}
+use Rattle.archive_shelf.specs.declared.depth.Depth.TheVariants.{Checkpoints, Whole}
 use Rattle.command.specs.Opening.{IsOpened, usual_limits}
 use Rattle.command.specs.Printing.{Prints}
 use Rattle.proxy_run.specs.Verifies.{Checked, ChecksVolumes, IsRight, IsVerified, facts_in, has_damage, is_damaged, lines_of, verdict_line}
 use Rattle.proxy_run.specs.declared.plan.Plan.{Plan}
 use Rattle.proxy_run.specs.declared.report.Report.{Report}
 use Rattle.command.specs.declared.status.Status.{Status}
-use Rattle.command.specs.declared.status.Status.TheVariants.{Archive}
+use Rattle.command.specs.declared.status.Status.TheVariants.{Archive, Memory}
 use Rattle.proxy_run.specs.steps.Verifying.{HasChecked, IsThere}
 use Rattle.warc_journal.specs.Journals.{disk_of}
+use Rattle.warc_text.proofs.InfoLaws.{infos_are_committed}
+use Rattle.warc_text.specs.StandsFor.{commit_byte}
 
 -- ---- a volume more
 
@@ -90,15 +97,37 @@ facts_there files volume first (v ∷ volumes) le =
     All-cons (λ (facts : VolumeFacts). facts.volume < files) _ (facts_from (suc volume) (first + length v.captures) volumes) (omega (arith, le))
     (facts_there files (suc volume) (first + length v.captures) volumes (omega (arith, le)))
 
+-- a file that begins with a warcinfo is there
+info_there : (image : Image) (namespace : List ℕ) (volume : ℕ) → HasInfo image namespace volume → volume < file_count image Warc
+unfolding file_of
+info_there image namespace volume info = ⊎_elim
+    (λ (there : volume < file_count image Warc). there)
+    (λ (past : file_count image Warc ≤ volume).
+    let begins = info.1.begins in
+    let some : 1 < length begins.text = (subst (IsCommitted commit_byte) (sym begins.is.composed) (infos_are_committed namespace volume info.1.born)).more in
+    absurd (omega (arith, some, ap length (sym (get_or_past (files_of image Warc) volume past) ∙ begins.composed), length-append begins.text begins.rest)))
+    (cases_lt volume (file_count image Warc))
+  where
+    get_or_past : (files : List (List ℕ)) (n : ℕ) → length files ≤ n → get_or files n [] ≡ []
+    get_or_past [] n past = refl
+    get_or_past (f ∷ fs) zero past = absurd (omega (arith, past))
+    get_or_past (f ∷ fs) (suc n) past = get_or_past fs n (omega (arith, past))
+
+counted_there : (image : Image) (book : Book) → HasCountsOf image book → length book.volumes ≤ file_count image Warc
+counted_there image book counts = by (length book.volumes) refl
+  where
+    by : (n : ℕ) → length book.volumes ≡ n → length book.volumes ≤ file_count image Warc
+    by zero none = omega (arith, none)
+    by (suc n) some = omega (arith, some, info_there image book.namespace n (counts.infos n (omega (arith, some))))
+
 -- the files of an archive that was opened are there
-pub reopened_there : {D : Type 0} (disks : Disks D) (disk is : D) (held : Holdings D) (items : List VolumeFacts)
-    → IsReopened disks disk None usual_limits held → is ≡ disk_of held.journal → items ≡ facts_of held.book → IsTrue disks.tells
+pub reopened_there : {D : Type 0} (disks : Disks D) (known : Option Book) (disk is : D) (held : Holdings D) (items : List VolumeFacts)
+    → IsReopenedKnown disks disk None usual_limits Checkpoints known held → is ≡ disk_of held.journal → items ≡ facts_of held.book → IsTrue disks.tells
     → All (IsThere (disks.reading is)) items
-reopened_there disks disk is held items reopened closed listed told =
+reopened_there disks known disk is held items reopened closed listed told =
     let same : disks.reading is ≡ disks.reading disk = ap disks.reading closed ∙ (reopened.rests told).read in
-    let stands = reopened.stands told in
     let there : All (IsThere (disks.reading disk)) (facts_of held.book) =
-    facts_there (length (files_of (disks.reading disk) Warc)) 0 0 held.book.volumes (omega (arith, stands.held.enough, stands.are.count)) in
+    facts_there (file_count (disks.reading disk) Warc) 0 0 held.book.volumes (omega (arith, counted_there (disks.reading disk) held.book (reopened.lined.counts told))) in
     subst (λ (i : Image). All (IsThere i) items) (sym same) (subst (λ (l : List VolumeFacts). All (IsThere (disks.reading disk)) l) (sym listed) there)
 
 -- ---- what was told
@@ -139,21 +168,51 @@ checks_from disks sinks namespace volumes was closed is out_was out_is status re
 }))
 checks_from disks sinks namespace volumes was closed is out_was out_is status read faults (inr (inr lacks)) = inr (inr lacks)
 
--- an archive that was opened, checked and closed
-pub verified_by : {D O : Type 0} (disks : Disks D) (sinks : Sinks O) (was closed is : D) (held : Holdings D) (plan : Plan) (out_was out_opened out_is : O) (status : Status)
-    → IsReopened disks was None usual_limits held → IsOpened disks Whole None None was (contents_of held) → closed ≡ disk_of held.journal
-    → plan.namespace ≡ held.book.namespace → plan.volumes.items ≡ facts_of held.book → out_opened ≡ out_was
-    → ChecksVolumes disks sinks plan.namespace plan.volumes.items closed is out_opened out_is status → (IsTrue disks.tells → disks.reading is ≡ disks.reading closed)
-    → IsVerified disks sinks was is out_was out_is status
-verified_by {O = O} disks sinks was closed is held plan out_was out_opened out_is status reopened opened shut namespace volumes silent checks reading =
-    let read : IsTrue disks.tells → disks.reading closed ≡ disks.reading was = λ told. ap disks.reading shut ∙ (reopened.rests told).read in
-    let faults : disks.faults closed ≡ disks.faults was = ap disks.faults shut ∙ reopened.faults in
+-- what is told of an archive with each volume read
+opened_whole : {D : Type 0} (disks : Disks D) (disk : D) (held : Holdings D) → IsReopened disks disk None usual_limits held
+    → IsOpened disks Whole None None disk (contents_of held)
+opened_whole disks disk held is =
+    let tells : IsTrue held.told → IsTrue disks.tells = λ so. sym is.told_is ∙ so in
     record {
-      now = contents_of held;
-      opened = opened;
-      reading = λ told. reading told ∙ read told;
-      checked = checks_from disks sinks _ _ was closed is out_was out_is status read faults
-          (subst (λ (o : O). ChecksVolumes disks sinks held.book.namespace (facts_of held.book) closed is o out_is status) silent
-          (subst (λ (l : List VolumeFacts). ChecksVolumes disks sinks held.book.namespace l closed is out_opened out_is status) volumes
-          (subst (λ (n : List ℕ). ChecksVolumes disks sinks n plan.volumes.items closed is out_opened out_is status) namespace checks)));
+      same_tells = is.told_is;
+      stands = λ so. record { for = is.stands (tells so); sound = is.sound };
+      one = λ so book stands ids. is.one (tells so) book stands.sound ids stands.for;
+      known_is = λ so. tt;
+      in_namespace = is.in_namespace;
+      consistent = record { sound = λ so. is.sound; shown = λ alone so. is.shown };
+      limits_are = is.limits_are;
+      none_stored = is.mine;
     }
+
+-- an archive that was opened
+module _ {D O : Type 0} (disks : Disks D) (sinks : Sinks O) (known : Option Book) (was closed : D) (held : Holdings D)
+    (reopened : IsReopenedKnown disks was None usual_limits Checkpoints known held) (opened : IsOpened disks Checkpoints known None was (contents_of held))
+    (shut : closed ≡ disk_of held.journal) (out_was out_opened : O) (silent : out_opened ≡ out_was) where
+  read : IsTrue disks.tells → disks.reading closed ≡ disks.reading was
+  read told = ap disks.reading shut ∙ (reopened.rests told).read
+
+  verified : (is : D) (out_is : O) (status : Status) → (IsTrue disks.tells → disks.reading is ≡ disks.reading was)
+      → ChecksVolumes disks sinks held.book.namespace (facts_of held.book) was is out_was out_is status → IsVerified disks sinks known was is out_was out_is status
+  verified is out_is status reading checked = record {
+    now = contents_of held;
+    opened = opened;
+    counts = reopened.lined.counts;
+    unsettled = λ told whole. opened_whole disks was (record held { told = disks.tells }) (reopened.unsettled told whole);
+    reading = reading;
+    checked = checked;
+  }
+
+  -- it was checked and closed
+  pub verified_by : (is : D) (plan : Plan) (out_is : O) (status : Status) → plan.namespace ≡ held.book.namespace → plan.volumes.items ≡ facts_of held.book
+      → ChecksVolumes disks sinks plan.namespace plan.volumes.items closed is out_opened out_is status → (IsTrue disks.tells → disks.reading is ≡ disks.reading closed)
+      → IsVerified disks sinks known was is out_was out_is status
+  verified_by is plan out_is status namespace volumes checks reading =
+      verified is out_is status (λ told. reading told ∙ read told)
+      (checks_from disks sinks _ _ was closed is out_was out_is status read (ap disks.faults shut ∙ reopened.faults)
+      (subst (λ (o : O). ChecksVolumes disks sinks held.book.namespace (facts_of held.book) closed is o out_is status) silent
+      (subst (λ (l : List VolumeFacts). ChecksVolumes disks sinks held.book.namespace l closed is out_opened out_is status) volumes
+      (subst (λ (n : List ℕ). ChecksVolumes disks sinks n plan.volumes.items closed is out_opened out_is status) namespace checks))))
+
+  -- there was no memory to say what is due
+  pub not_planned : IsVerified disks sinks known was closed out_was out_opened Memory
+  not_planned = verified closed out_opened Memory read (inr (inr (record { status_is = refl; same = silent })))

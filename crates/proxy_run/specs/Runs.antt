@@ -52,7 +52,7 @@ module _ {D G L P N M C O : Type 0} (kinds : Kinds D G L P N M C O) (known : Opt
 
   -- the bytes of the archive's volumes were checked; neither gate nor crew was touched
   pub record Verifies (was is : Objects D G (List (N × C)) O) (result : Status) : Type 0 where
-    pub verified : IsVerified kinds.disks kinds.sinks was.disk is.disk was.out is.out result
+    pub verified : IsVerified kinds.disks kinds.sinks known was.disk is.disk was.out is.out result
     pub untouched : is ≡ record was { disk = is.disk; out = is.out }
 
   -- the source at the site was followed with the dialer of the crew's first member, and the others stay; the gate wasn't touched
@@ -81,4 +81,4 @@ module _ {D G L P N M C O : Type 0} (kinds : Kinds D G L P N M C O) (known : Opt
       Serves kinds known (Some namespace) site workers was is result ⊎ LacksShelves kinds known (Some namespace) was is result
       ⊎ Refuses kinds Checkpoints known (Some namespace) was is result ⊎ LacksWords was is result
   Runs (Some (Trial count seed)) site was is result = HasTried count seed was is result
-  Runs (Some (Verify workers)) site was is result = Verifies was is result ⊎ Refuses kinds Whole None None was is result
+  Runs (Some (Verify workers)) site was is result = Verifies was is result ⊎ Refuses kinds Checkpoints known None was is result

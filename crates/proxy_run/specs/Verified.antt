@@ -1,10 +1,15 @@
 -- What `verify` tells of an archive whose bytes are what was written.
 use Rattle.std.specs.Prelude.{◌≡◌, ◌⊎◌, ℕ, false, List, length, All, IsTrue, Some, None, Option}
+use Rattle.archive_core.specs.Known.{told_at}
+use Rattle.archive_opening.specs.Counting.{HasCountsOf}
+use Rattle.archive_opening.specs.Telling.{IsReadWhole}
 use Rattle.archive_shelf.specs.Openings.{ImageStandsFor}
+use Rattle.archive_shelf.specs.declared.depth.Depth.TheVariants.{Checkpoints}
 use Rattle.archive_volumes.specs.Facts.{facts_of}
 use Rattle.capture.specs.declared.book.Book.{Book}
 use Rattle.capture.specs.declared.site.Site.{Site}
 use Rattle.disk_model.specs.Image.{Image}
+use Rattle.disk_model.specs.declared.disk.Disk.{Ghosts as Disks}
 use Rattle.proxy_run.specs.Complete.{IsReady, NoFaults}
 use Rattle.command.specs.Objects.{Kinds, Objects}
 use Rattle.proxy_run.specs.Runs.{Runs}
@@ -19,8 +24,21 @@ SoundVolumesVerify =
     (image : Image) (book : Book) (checked : List Checked) → ImageStandsFor image book → facts_in checked ≡ facts_of book
     → All (IsRight book.namespace (length (facts_of book)) image) checked → has_damage checked ≡ false
 
--- Where nothing failed and what a read gives is ready, `verify` finds each volume sound, or memory ran out.
+-- The verdicts on volumes that are due by bytes alone are one, whoever finds them, and whatever is known of the book.
+abbrev pub VolumesVerifyOneWay : Type 0
+VolumesVerifyOneWay =
+    (image : Image) (book other : Book) (checked others : List Checked) → HasCountsOf image book → HasCountsOf image other
+    → facts_in checked ≡ facts_of book → facts_in others ≡ facts_of other
+    → All (IsRight book.namespace (length (facts_of book)) image) checked → All (IsRight other.namespace (length (facts_of other)) image) others
+    → checked ≡ others
+
+-- the book on a disk that tells is known, or what a read gives is ready and has no checkpoint that is taken in place of a volume
+abbrev pub IsSureOf : {D : Type 0} → Disks D → Option Book → D → Type 0
+IsSureOf disks known disk =
+    IsTrue (told_at Checkpoints disks.tells known) ⊎ (IsTrue disks.tells × IsReady None (disks.reading disk) × IsReadWhole (disks.reading disk))
+
+-- Where nothing failed and the book is sure, `verify` finds each volume sound, or memory ran out.
 abbrev pub VerifiesAreAnswered : {D G L P N M C O : Type 0} → Kinds D G L P N M C O → Type 0
 VerifiesAreAnswered {D = D} {G = G} {N = N} {C = C} {O = O} kinds =
-    (workers : ℕ) (was is : Objects D G (List (N × C)) O) (status : Status) → IsTrue kinds.disks.tells → IsReady None (kinds.disks.reading was.disk)
-    → NoFaults kinds was is → (known : Option Book) (site : Option Site) → Runs kinds known (Some (Verify workers)) site was is status → (status ≡ Done) ⊎ (status ≡ Memory)
+    (workers : ℕ) (was is : Objects D G (List (N × C)) O) (status : Status) (known : Option Book) → IsSureOf kinds.disks known was.disk → NoFaults kinds was is
+    → (site : Option Site) → Runs kinds known (Some (Verify workers)) site was is status → (status ≡ Done) ⊎ (status ≡ Memory)

@@ -1,10 +1,13 @@
 -- What the command `verify` leaves.
-use Rattle.std.specs.Prelude.{◌≡◌, ◌⊎◌, ℕ, suc, Bool, true, false, nat_eq, ◌||◌, List, [], ◌∷◌, ◌++◌, codes, decimal, length, map, All, None, IsTrue}
+use Rattle.std.specs.Prelude.{◌≡◌, ◌⊎◌, ℕ, suc, Bool, true, false, nat_eq, ◌||◌, List, [], ◌∷◌, ◌++◌, codes, decimal, length, map, All, None, Option, IsTrue}
 use Rattle.std.specs.List.{flat_map}
+use Rattle.archive_opening.specs.Counting.{HasCountsOf}
+use Rattle.archive_opening.specs.Telling.{IsReadWhole}
 use Rattle.archive_shelf.specs.Contents.{Contents}
 use Rattle.archive_volumes.specs.Facts.{facts_of}
 use Rattle.archive_volumes.specs.declared.volume_facts.VolumeFacts.{VolumeFacts}
 use Rattle.capture.specs.Faults.{Rose}
+use Rattle.capture.specs.declared.book.Book.{Book}
 use Rattle.disk_model.specs.Image.{Image, file_of}
 use Rattle.disk_model.specs.declared.disk.Disk.{Ghosts as Disks}
 use Rattle.disk_model.specs.declared.kind.Kind.TheVariants.{Warc}
@@ -13,7 +16,7 @@ use Rattle.fixity.specs.declared.verdict.Verdict.{Verdict}
 use Rattle.fixity.specs.declared.verdict.Verdict.TheVariants.{Sound, Damaged}
 use Rattle.httparse.specs.Ascii.{line_feed}
 use Rattle.outside.specs.declared.sink.Sink.{Ghosts as Sinks}
-use Rattle.archive_shelf.specs.declared.depth.Depth.TheVariants.{Whole}
+use Rattle.archive_shelf.specs.declared.depth.Depth.TheVariants.{Checkpoints, Whole}
 use Rattle.command.specs.Opening.{IsOpened}
 use Rattle.command.specs.Printing.{LacksMemory, Prints}
 use Rattle.command.specs.Texts.{file_name}
@@ -102,9 +105,13 @@ module _ {D O : Type 0} (disks : Disks D) (sinks : Sinks O) (namespace : List �
   abbrev pub ChecksVolumes : Type 0
   ChecksVolumes = ChecksAll ⊎ BreaksOff ⊎ LacksMemory sinks out_was out_is status
 
--- The archive was opened, and its volumes were checked. A read gives what it gave.
-pub record IsVerified {D O : Type 0} (disks : Disks D) (sinks : Sinks O) (was is : D) (out_was out_is : O) (status : Status) : Type 0 where
+-- The archive was opened by its checkpoints, and its volumes were checked. A read gives what it gave.
+pub record IsVerified {D O : Type 0} (disks : Disks D) (sinks : Sinks O) (known : Option Book) (was is : D) (out_was out_is : O) (status : Status) : Type 0 where
   pub now : Contents
-  pub opened : IsOpened disks Whole None None was now
+  pub opened : IsOpened disks Checkpoints known None was now
+  -- whatever is known, what is due is told by bytes alone: the volumes that stand there, each with as many captures as its groups are or its checkpoint tells
+  pub counts : IsTrue disks.tells → HasCountsOf (disks.reading was) now.seen
+  -- where no checkpoint was taken in place of a volume, it is the archive that was opened with each of them read
+  pub unsettled : IsTrue disks.tells → IsReadWhole (disks.reading was) → IsOpened disks Whole None None was (record now { tells = disks.tells })
   pub reading : IsTrue disks.tells → disks.reading is ≡ disks.reading was
   pub checked : ChecksVolumes disks sinks now.seen.namespace (facts_of now.seen) was is out_was out_is status

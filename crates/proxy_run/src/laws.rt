@@ -3,7 +3,7 @@ ghost use Rattle.proxy_run.specs.Complete.{CapturesComeBack, ChecksAreAnswered, 
 ghost use Rattle.command.specs.Objects.{kinds_of};
 ghost use Rattle.proxy_run.specs.OnePipe.{PipesLeaveNoChoice};
 ghost use Rattle.proxy_run.specs.Promises.{AllAreHungUp, AllAreReadOut, BooksLeadOn, BooksOnlyGrow, CapturesAreStoredOnce, FaultsAreCounted, GatesAreEmptied, LogsAreInOrder, ServersAreAnswered, ServersLeaveSettled};
-ghost use Rattle.proxy_run.specs.Verified.{SoundVolumesVerify, VerifiesAreAnswered};
+ghost use Rattle.proxy_run.specs.Verified.{SoundVolumesVerify, VerifiesAreAnswered, VolumesVerifyOneWay};
 
 use archive_core::settling_keeps_checkpoints_right;
 use cdxj_index::books_have_one_index;
@@ -37,10 +37,11 @@ pub fn ready_archives_are_served<D: Disk, G: Gate, N: Dialer, C: Clock, O: Sink>
     settling_keeps_checkpoints_right();
 }
 
-/// Where what a read gives stands for a sound book, `verify` finds no volume of it damaged; and where no count of faults rises it goes
-/// well, or memory ran out.
+/// Where what a read gives stands for a sound book, `verify` finds no volume of it damaged; and where that book is known, or no checkpoint is taken
+/// in place of a volume, and no count of faults rises, it goes well, or memory ran out. What it finds of the same bytes is one, whatever is known.
 pub fn sound_archives_verify<D: Disk, G: Gate, N: Dialer, C: Clock, O: Sink>()
     ensures sound { SoundVolumesVerify }
+    ensures one { VolumesVerifyOneWay }
     ensures done { VerifiesAreAnswered (kinds_of D.Disk G.Gate N.Dialer C.Clock O.Sink G.Link.tells N.Link.tells) }
 {}
 

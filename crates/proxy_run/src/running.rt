@@ -44,8 +44,8 @@ pub struct Crew<N, C> {
 ///
 /// `follow NS BASE` opens the archive, and takes the captures of the server at that base piece by piece, with the first member's dialer.
 ///
-/// `pipe` and `serve` write the checkpoints that are missing, before they serve and behind that. These two, `import` and `follow` open the archive by its
-/// checkpoints, `check` and `verify` by all that its volumes hold.
+/// `pipe` and `serve` write the checkpoints that are missing, before they serve and behind that. These two, `import`, `follow` and `verify` open the
+/// archive by its checkpoints, `check` by all that its volumes hold.
 ///
 /// Nothing is required of the disk. What is claimed of an archive is claimed of the book for which the disk stands, and each disk that
 /// is handed back stands for one. Of an archive that was opened by checkpoints it is claimed of a book that is known, and nobody knows it here: see `run_known`.
@@ -140,7 +140,7 @@ where
             Err(status) => Ran { status, disk },
         },
         Command::Trial(count, seed) => trial(alloc, count, seed, disk, out),
-        Command::Verify(workers) => verify(rt, alloc, workers, disk, out),
+        Command::Verify(workers) => verify::<K, R, D, O>(rt, alloc, workers, disk, out),
     }
 }
 

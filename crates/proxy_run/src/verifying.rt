@@ -1,9 +1,9 @@
 //! The command `verify`: whether the bytes of an archive are still what it wrote.
 ghost use Rattle.std.specs.Prelude.{◌≡◌, ◌⊎◌, ◌+◌, ◌<◌, ◌≤◌, [], ◌∷◌, false, All, IfOk, IsTrue, List, None};
-ghost use Rattle.archive_core.specs.Holdings.{contents_of};
 ghost use Rattle.archive_volumes.specs.Facts.{facts_of};
 ghost use Rattle.archive_volumes.specs.declared.volume_facts.VolumeFacts.{VolumeFacts as Facts};
 ghost use Rattle.fixity.specs.Faults.{CountsDisk};
+ghost use Rattle.archive_opening.specs.Telling.{MayBeSettled};
 ghost use Rattle.command.specs.Opening.{IsNotOpened};
 ghost use Rattle.proxy_run.specs.Verifies.{ChecksVolumes, IsVerified};
 ghost use Rattle.proxy_run.specs.steps.Verifying.{ChecksUpTo, HasChecked, IsPlan, IsSmall, IsThere};
@@ -14,7 +14,7 @@ use archive_core::Archive;
 use archive_shelf::Depth;
 use archive_volumes::VolumeFacts;
 use capture::{Memory, put_all};
-use command::{Ran, Status, Unknown, open, print_as};
+use command::{Known, Ran, Status, open, print_as};
 use disk_model::Disk;
 use fixity::{FixityFault, check_volume};
 use outside::Sink;
@@ -22,20 +22,21 @@ use std::alloc::Global;
 use std::thread::Threads;
 use uuid::Uuid;
 
-/// Opens the archive on the disk, checks the bytes of each of its volumes by at most so many workers, prints the verdicts, and
-/// closes it. Nothing is written.
-pub fn verify<R: Threads + Sync, D: Disk, O: Sink>(
+/// Opens the archive on the disk by its checkpoints, checks the bytes of each of its volumes by at most so many workers, prints the
+/// verdicts, and closes it. Nothing is written.
+pub fn verify<K: Known, R: Threads + Sync, D: Disk, O: Sink>(
     rt: &R,
     alloc: Global,
     workers: u32,
     disk: D,
     out: &mut O,
 ) -> Ran<D>
-    requires { (0 < workers) × (workers ≤ 16) }
-    ensures { IsVerified D.Disk O.Sink disk result.disk out.old out.new result.status
-        ⊎ IsNotOpened D.Disk O.Sink Depth.Whole None None disk result.disk out.old out.new result.status }
+    requires workers { (0 < workers) × (workers ≤ 16) }
+    requires known { MayBeSettled D.Disk disk None K.book }
+    ensures { IsVerified D.Disk O.Sink K.book disk result.disk out.old out.new result.status
+        ⊎ IsNotOpened D.Disk O.Sink Depth.Checkpoints K.book None disk result.disk out.old out.new result.status }
 {
-    let archive = match open::<Unknown, D, O>(alloc, disk, None, Depth::Whole, out) {
+    let archive = match open::<K, D, O>(alloc, disk, None, Depth::Checkpoints, out) {
         Ok(archive) => archive,
         Err(ran) => return ran,
     };

@@ -59,9 +59,14 @@ returns-in-Trial g c =
     (objects_of c.args.disk c.args.gate.now c.args.crew.now.members.items c.args.out.now) c.trial.result.disk c.trial.new.out
     c.trial.result.status (sym c.command_of.ensures.value ∙ c.in-Some.is) c.in-Trial.is c.trial.ensures.tries c.trial.ensures.same_disk
 
-pub verify-requires : goal.verify-requires
-verify-requires g c =
-    (c.type_bounds.sync-R, subst (λ command. IfSome (workers_of command) (λ n. (0 < n) × (n ≤ 16))) c.in-Verify.is c.in-Some.ensures.workers)
+pub verify-requires-clause-workers : goal.verify-requires-clause-workers
+verify-requires-clause-workers g c = λ κs outlives.
+    subst (λ command. IfSome (workers_of command) (λ n. (0 < n) × (n ≤ 16))) c.in-Verify.is c.in-Some.ensures.workers
+
+pub verify-requires-clause-known : goal.verify-requires-clause-known
+verify-requires-clause-known g c = λ κs outlives.
+    subst (λ command. MayBeSettled g.D.Disk c.args.disk (asked_of command) g.K.Known.book) c.in-Verify.is
+    (subst (λ found. IfSome found (λ command. MayBeSettled g.D.Disk c.args.disk (asked_of command) g.K.Known.book)) (sym c.command_of.ensures.value ∙ c.in-Some.is) c.requires.known)
 
 pub returns-in-Verify : goal.returns-in-Verify
 returns-in-Verify g c =
