@@ -1,5 +1,5 @@
 -- What is counted of a folder's files.
-use Rattle.std.specs.Prelude.{◌≡◌, ◌≢◌, ◌<◌, ◌≤◌, ◌^◌, ℕ, None, List}
+use Rattle.std.specs.Prelude.{◌≡◌, ◌<◌, ◌≤◌, ◌^◌, ℕ, None, List}
 use Rattle.std.specs.List.{Contains}
 use Rattle.disk_model.specs.declared.kind.Kind.{Kind}
 use Rattle.folder_model.specs.Folder.{FolderPast, contents_of}

@@ -1,18 +1,23 @@
 -- A disk over a folder with its count of faults, as contracts see it.
-use Rattle.std.specs.Prelude.{ℕ, Bool}
+use Rattle.std.specs.Prelude.{ℕ, Bool, Option, Some, None}
 use Rattle.folder_model.specs.Folder.{FolderPast}
 use Rattle.folder_model.specs.Times.{Times}
-use Rattle.folder_disk.specs.State.{State}
+use Rattle.folder_disk.specs.State.{State, no_folder}
 
-pub record Kept (F : Type 0) : Type 0 where
+-- the folder that a disk has, and what it knows of it
+pub record InFolder (F : Type 0) : Type 0 where
   pub folder : F
   pub warc : ℕ
   pub cdxj : ℕ
   pub gave_up : Bool
   pub times : Times
+
+pub record Kept (F : Type 0) : Type 0 where
+  pub held : Option (InFolder F)
   -- how often a call has failed
   pub faults : ℕ
 
--- the state, by what its folder tells
-abbrev pub state_in : {F : Type 0} → (F → FolderPast) → Kept F → State
-state_in past kept = record { past = past kept.folder; warc = kept.warc; cdxj = kept.cdxj; gave_up = kept.gave_up; times = kept.times }
+-- the state, by what the folder tells
+abbrev pub state_in : {F : Type 0} → (F → FolderPast) → Option (InFolder F) → State
+state_in past None = no_folder
+state_in past (Some held) = record { past = past held.folder; warc = held.warc; cdxj = held.cdxj; gave_up = held.gave_up; times = held.times }

@@ -1,8 +1,11 @@
+pub mod Begun
 pub mod Calls
 pub mod Counting
 pub mod Held
 pub mod Kept
 pub mod NameTexts
+pub mod OpenFiles
+pub mod Standing
 pub mod State
 pub mod View
 pub mod steps

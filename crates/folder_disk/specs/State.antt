@@ -1,11 +1,11 @@
 -- A disk over a folder as contracts see it.
-use Rattle.std.specs.Prelude.{◌≡◌, ◌⊎◌, ◌+◌, ℕ, Bool, true, IsTrue, List}
+use Rattle.std.specs.Prelude.{◌^◌, ◌≡◌, ◌⊎◌, ◌<◌, ◌+◌, ℕ, Bool, true, false, IsTrue, None, List, []}
 use Rattle.disk_model.specs.Image.{Image, file_count}
 use Rattle.disk_model.specs.declared.kind.Kind.{Kind}
 use Rattle.disk_model.specs.declared.kind.Kind.TheVariants.{Warc, Cdxj}
 use Rattle.folder_model.specs.Folder.{FolderPast, contents_of, IsUnfailed}
 use Rattle.folder_model.specs.Seen.{IsSeen, images_of}
-use Rattle.folder_model.specs.Times.{Times, goes_on, images_since_of}
+use Rattle.folder_model.specs.Times.{Times, moment_of, goes_on, images_since_of}
 use Rattle.folder_model.specs.Known.{Knows, reading_of}
 
 -- what was done in the folder, how many files of each kind the disk knows of, whether it has given up, and its clock
@@ -15,6 +15,16 @@ pub record State : Type 0 where
   pub cdxj : ℕ
   pub gave_up : Bool
   pub times : Times
+
+-- The state of a disk that has no folder: that of one without files, in which nothing was done.
+unfoldable pub no_folder : State
+no_folder = record {
+  past = record { first = λ name. None; there = true; deeds = [] };
+  warc = 0;
+  cdxj = 0;
+  gave_up = false;
+  times = record { made = 0; begun = [] };
+}
 
 -- how many files of a kind are known
 abbrev pub known_of : ℕ → ℕ → Kind → ℕ
@@ -50,9 +60,17 @@ grown Cdxj s = record s { cdxj = s.cdxj + 1 }
 abbrev pub given_up : State → State
 given_up s = record s { gave_up = true }
 
--- The folder has so many files of each kind, without a gap, and no sync in it has failed since the machine was started.
+-- The folder has so many files of each kind, fewer than 2 ^ 32 and without a gap, and no sync in it has failed since the machine was started.
 pub record IsCounted (name : Kind → ℕ → List ℕ) (past : FolderPast) (warc cdxj : ℕ) : Type 0 where
   pub unfailed : IsUnfailed past
   pub image : Image
   pub seen : IsSeen name (contents_of past) image
   pub counts : (kind : Kind) → file_count image kind ≡ known_of warc cdxj kind
+  pub numbers : (kind : Kind) → known_of warc cdxj kind < 2 ^ 32
+
+-- A disk that was just made: it has so many files of each kind, hasn't given up, and its first moment has begun.
+pub record IsNew (warc cdxj : ℕ) (s : State) : Type 0 where
+  pub warc_is : s.warc ≡ warc
+  pub cdxj_is : s.cdxj ≡ cdxj
+  pub going : s.gave_up ≡ false
+  pub first : moment_of s.times ≡ 0

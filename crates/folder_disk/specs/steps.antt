@@ -1,4 +1,6 @@
 -- The laws' proofs. They stand here since the impl of `Disk` cites them.
+pub mod BegunLaws
 pub mod CountLaws
 pub mod NameLaws
+pub mod OpenLaws
 pub mod StateLaws

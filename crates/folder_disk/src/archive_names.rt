@@ -6,13 +6,37 @@ ghost use Rattle.folder_disk.specs.steps.NameLaws.{names_apart, name_is_text};
 use crate::names::FileNames;
 use disk_model::Kind;
 use std::alloc::{AllocError, Global};
+use std::fmt;
+use std::fmt::{Display, Formatter};
 use std::str::from_utf8;
+
+/// The folder of the archive, in the folder where the program runs.
+pub const FOLDER: &str = "archive";
+
+/// The folder around it.
+pub(crate) const AROUND: &str = ".";
 
 /// `vol-NNNNNN.warc` and `vol-NNNNNN.cdxj`, with six digits or more.
 #[derive(Drop)]
 pub struct ArchiveNames;
 
+/// A file of the archive, which is printed as its path.
+#[derive(Clone, Copy, Debug)]
+pub struct ArchiveFile {
+    kind: Kind,
+    number: u32,
+}
+
+impl Display for ArchiveFile {
+    fn fmt<W: fmt::Write>(&self, f: &mut Formatter<W>) -> fmt::Result {
+        let (number, ending) = (self.number, ending_of(self.kind));
+        write!(f, "archive/vol-{number:06}{ending}")
+    }
+}
+
 impl FileNames for ArchiveNames {
+    type Path = ArchiveFile;
+
     ghost name = { spec.name_of };
 
     fn name_of(alloc: Global, kind: Kind, file: u32) -> Result<String, AllocError> {
@@ -21,6 +45,10 @@ impl FileNames for ArchiveNames {
 
     fn number_of(alloc: Global, kind: Kind, text: &str) -> Result<Option<u32>, AllocError> {
         number_of(alloc, kind, text)
+    }
+
+    fn path_of(kind: Kind, file: u32) -> ArchiveFile {
+        ArchiveFile { kind, number: file }
     }
 
     ghost apart = { names_apart };

@@ -2,7 +2,7 @@
 ghost use Rattle.std.specs.Prelude.{◌≡◌, ◌≢◌, ◌<◌, ◌≤◌, ◌^◌, ◌++◌, ◌∷◌, [], ℕ, None, List, IsTrue, IfOk, OnOk, max};
 ghost use Rattle.folder_model.specs.Folder.{contents_of, IsUnfailed};
 ghost use Rattle.folder_disk.specs.Counting.{HasNoMore};
-ghost use Rattle.folder_disk.specs.State.{IsCounted};
+ghost use Rattle.folder_disk.specs.State.{IsCounted, known_of};
 
 use crate::names::FileNames;
 use disk_model::Kind;
@@ -18,6 +18,18 @@ use std::marker::{Model, PhantomData};
 pub(crate) struct Counts {
     pub(crate) warc: u32,
     pub(crate) cdxj: u32,
+}
+
+impl Counts {
+    /// How many files of a kind there are.
+    pub(crate) fn of(&self, kind: Kind) -> u32
+        ensures { result ≡ known_of self.now.warc self.now.cdxj kind }
+    {
+        match kind {
+            Kind::Warc => self.warc,
+            Kind::Cdxj => self.cdxj,
+        }
+    }
 }
 
 /// Takes a folder's list of names, in whatever order they come, and keeps of each kind the greatest number and one more, or
@@ -82,7 +94,7 @@ fn past_of<N: FileNames>(alloc: Global, kind: Kind, name: &str) -> Result<u64, A
 }
 
 /// The greater of two numbers.
-fn greater(a: u64, b: u64) -> u64
+pub(crate) fn greater(a: u64, b: u64) -> u64
     ensures { result ≡ max a b }
 {
     if a < b {
@@ -125,7 +137,7 @@ pub(crate) fn count<F: Folder, N: FileNames>(folder: &mut F, alloc: Global) -> i
 }
 
 /// The greatest number of each kind among a folder's files, and one more. It has no file of a further number.
-fn listed<F: Folder, N: FileNames>(folder: &mut F, alloc: Global) -> io::Result<Counts>
+pub(crate) fn listed<F: Folder, N: FileNames>(folder: &mut F, alloc: Global) -> io::Result<Counts>
     ensures past { IsTrue F.tells → F.past folder.new ≡ F.past folder.old }
     ensures no_more { IsTrue F.tells → IfOk result (λ counts. HasNoMore N.name (F.past folder.new) counts.warc counts.cdxj) }
     ensures warc { IfOk result (λ counts. counts.warc < 2 ^ 32) }

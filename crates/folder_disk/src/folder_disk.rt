@@ -1,130 +1,188 @@
-//! A disk of numbered files in a folder that this process holds.
-ghost use Rattle.std.specs.Prelude.{◌≡◌, IsTrue, IsErr, IfOk, MatchResult};
-ghost use Rattle.capture.specs.Faults.{CountsFaults};
-ghost use Rattle.folder_model.specs.Folder.{IsUnfailed};
+//! A disk of numbered files in the folder `archive`.
+ghost use Rattle.std.specs.Prelude.{◌≡◌};
 ghost use Rattle.folder_model.specs.Times.{moment_of};
 ghost use Rattle.folder_disk.specs.Kept.{state_in};
 ghost use Rattle.folder_disk.specs.State.{reading, images, images_since};
 ghost use Rattle.folder_disk.specs.steps.StateLaws.{reading_counts, no_more, now_counts, now_only, earlier};
 
-use crate::counting::count;
-use crate::held::Held;
+use crate::archive_names::FOLDER;
+use crate::beginning::found;
+use crate::causes::{Causes, told};
 use crate::names::FileNames;
+use crate::standing::Standing;
 use capture::Failed;
 use disk_model::{Disk, Kind};
-use folder_model::Folder;
+use folder_model::Folders;
 use std::alloc::Global;
-use std::io;
 use std::marker::Model;
 
-/// A disk in a folder, which tells what its files hold where the folder tells what was done in it.
+/// A disk in the folder `archive`, which tells what its files hold where the folder tells what was done in it. The cause of
+/// each fault is told.
 #[derive(Drop)]
-pub struct FolderDisk<F: Folder, N: FileNames> {
-    held: Held<F, N>,
+pub struct FolderDisk<S: Folders, N: FileNames> {
+    system: S,
+    alloc: Global,
+    standing: Standing<S, N>,
     faults: u64,
 }
 
-impl<F: Folder, N: FileNames> Model for FolderDisk<F, N> {
+impl<S: Folders, N: FileNames> Model for FolderDisk<S, N> {
     ghost use Rattle.std.specs.Prelude.{IsTrue};
-    ghost use Rattle.folder_disk.specs.Kept.{Kept, state_in};
+    ghost use Rattle.folder_disk.specs.Kept.{Kept};
+    ghost use Rattle.folder_disk.specs.Standing.{state_at, AreOpenAt};
     ghost use Rattle.folder_disk.specs.State.{IsKnown};
 
-    ghost Value = { Kept F };
+    ghost Value = { Kept S.Folder };
 
     ghost use Rattle.folder_disk.specs.View.{kept_of};
 
     ghost view = { λ d. kept_of d };
 
-    ghost invariant = { λ d. IsTrue F.tells → IsKnown N.name (state_in F.past (kept_of d)) };
+    ghost invariant = { λ d. IsTrue S.Folder.tells → IsKnown N.name (state_at S.Folder.past d.standing)
+        × AreOpenAt N.name S.Folder.name_of S.Folder.past d.standing };
 }
 
-impl<F: Folder + Drop, N: FileNames> FolderDisk<F, N> {
-    /// The disk in a folder, whose files are counted. A number that is missing is a failure, and never a smaller count. The folder and the one
-    /// around it are synced.
-    pub fn open(folder: F, alloc: Global) -> io::Result<FolderDisk<F, N>>
-        requires { IsTrue F.tells → IsUnfailed (F.past folder) }
-        ensures { IfOk result (λ disk. disk.faults ≡ 0) }
+impl<S: Folders + Causes, N: FileNames> FolderDisk<S, N> {
+    /// The disk in that folder of the folder where the program runs, which this process alone has then. Where it isn't there
+    /// the disk has no files, and makes it with its first file. Where it couldn't be held or counted, of which the cause
+    /// is told, each call of the disk fails.
+    pub fn open(system: S, alloc: Global) -> FolderDisk<S, N>
+    where
+        S::Folder: Drop,
+        ensures { result.faults ≡ 0 }
     {
-        let mut folder = folder;
-        let counts = count::<F, N>(&mut folder, alloc)?;
-        let held = Held::open(folder, alloc, counts.warc, counts.cdxj)?;
-        Ok(FolderDisk { held, faults: 0 })
-    }
-}
-
-/// Passes an answer of the folder on, and counts a failure.
-fn counted<T>(faults: &mut u64, answer: io::Result<T>) -> Result<T, Failed>
-    ensures passed_on { MatchResult answer (λ value. result ≡ Ok value) (λ _. IsErr result) }
-    ensures counts { CountsFaults faults.old faults.new result }
-{
-    match answer {
-        Ok(value) => Ok(value),
-        Err(_) => {
-            *faults = faults.saturating_add(1);
-            Err(Failed)
+        let mut system = system;
+        let standing = found(&mut system, alloc);
+        FolderDisk {
+            system,
+            alloc,
+            standing,
+            faults: 0,
         }
     }
 }
 
-impl<F: Folder, N: FileNames> Disk for FolderDisk<F, N> {
-    ghost tells = { F.tells };
+impl<S: Folders, N: FileNames> FolderDisk<S, N> {
+    /// Where folders are found, and the folder, where it is held.
+    pub fn into_parts(self) -> (S, Option<S::Folder>)
+    where
+        S: Drop,
+        S::Folder: Drop,
+    {
+        let FolderDisk {
+            system,
+            alloc: _,
+            standing,
+            faults: _,
+        } = self;
+        (system, standing.into_folder())
+    }
+}
 
-    ghost reading = { λ d. reading N.name (state_in F.past d) };
+impl<S: Folders + Causes, N: FileNames> Disk for FolderDisk<S, N>
+where
+    S::Folder: Drop,
+{
+    ghost tells = { S.Folder.tells };
 
-    ghost images = { λ d. images F.tells N.name (state_in F.past d) };
+    ghost reading = { λ d. reading N.name (state_in S.Folder.past d.held) };
 
-    ghost moment = { λ d. moment_of d.times };
+    ghost images = { λ d. images S.Folder.tells N.name (state_in S.Folder.past d.held) };
 
-    ghost images_since = { λ d. images_since F.tells N.name (state_in F.past d) };
+    ghost moment = { λ d. moment_of (state_in S.Folder.past d.held).times };
+
+    ghost images_since = { λ d. images_since S.Folder.tells N.name (state_in S.Folder.past d.held) };
 
     ghost faults = { λ d. d.faults };
 
     fn files(&mut self, kind: Kind) -> Result<u32, Failed> {
-        let answer = self.held.files(kind);
-        counted(&mut self.faults, answer)
+        let answer = self.standing.files(kind);
+        told(
+            &mut self.faults,
+            &mut self.system,
+            FOLDER,
+            "count files",
+            answer,
+        )
     }
 
     fn create(&mut self, kind: Kind) -> Result<u32, Failed> {
-        let answer = self.held.create(kind);
-        counted(&mut self.faults, answer)
+        let answer = self.standing.create(&mut self.system, self.alloc, kind);
+        told(
+            &mut self.faults,
+            &mut self.system,
+            FOLDER,
+            "make a file",
+            answer,
+        )
     }
 
     fn len(&mut self, kind: Kind, file: u32) -> Result<u64, Failed> {
-        let answer = self.held.len(kind, file);
-        counted(&mut self.faults, answer)
+        let answer = self.standing.len(kind, file);
+        told(
+            &mut self.faults,
+            &mut self.system,
+            N::path_of(kind, file),
+            "ask for its length",
+            answer,
+        )
     }
 
     fn read(&mut self, kind: Kind, file: u32, at: u64, into: &mut [u8]) -> Result<(), Failed> {
-        let answer = self.held.read(kind, file, at, into);
-        counted(&mut self.faults, answer)
+        let answer = self.standing.read(kind, file, at, into);
+        told(
+            &mut self.faults,
+            &mut self.system,
+            N::path_of(kind, file),
+            "read",
+            answer,
+        )
     }
 
     fn write_at(&mut self, kind: Kind, file: u32, at: u64, bytes: &[u8]) -> Result<(), Failed> {
-        let answer = self.held.write_at(kind, file, at, bytes);
-        counted(&mut self.faults, answer)
+        let answer = self.standing.write_at(kind, file, at, bytes);
+        told(
+            &mut self.faults,
+            &mut self.system,
+            N::path_of(kind, file),
+            "write",
+            answer,
+        )
     }
 
     fn cut(&mut self, kind: Kind, file: u32, len: u64) -> Result<(), Failed> {
-        let answer = self.held.cut(kind, file, len);
-        counted(&mut self.faults, answer)
+        let answer = self.standing.cut(kind, file, len);
+        told(
+            &mut self.faults,
+            &mut self.system,
+            N::path_of(kind, file),
+            "cut",
+            answer,
+        )
     }
 
     fn sync(&mut self, kind: Kind, file: u32) -> Result<(), Failed> {
-        let answer = self.held.sync(kind, file);
-        counted(&mut self.faults, answer)
+        let answer = self.standing.sync(kind, file);
+        told(
+            &mut self.faults,
+            &mut self.system,
+            N::path_of(kind, file),
+            "sync",
+            answer,
+        )
     }
 
     fn faults(&self) -> u64 {
         self.faults
     }
 
-    ghost reading_is_image = { λ d told. reading_counts F.tells N.name (state_in F.past d) told };
+    ghost reading_is_image = { λ d is_told. reading_counts S.Folder.tells N.name (state_in S.Folder.past d.held) is_told };
 
-    ghost no_more_files = { λ d image kind left. no_more F.tells N.name (state_in F.past d) image kind left };
+    ghost no_more_files = { λ d image kind left. no_more S.Folder.tells N.name (state_in S.Folder.past d.held) image kind left };
 
-    ghost now_counts = { λ d t image le left. now_counts F.tells N.name (state_in F.past d) t image left };
+    ghost now_counts = { λ d t image le left. now_counts S.Folder.tells N.name (state_in S.Folder.past d.held) t image left };
 
-    ghost now_only = { λ d image left. now_only F.tells N.name (state_in F.past d) image left };
+    ghost now_only = { λ d image left. now_only S.Folder.tells N.name (state_in S.Folder.past d.held) image left };
 
-    ghost earlier = { λ d t s image le left. earlier F.tells N.name (state_in F.past d) t s image le left };
+    ghost earlier = { λ d t s image le left. earlier S.Folder.tells N.name (state_in S.Folder.past d.held) t s image le left };
 }

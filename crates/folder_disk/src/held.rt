@@ -1,13 +1,17 @@
 //! A folder that is held, as a disk.
-ghost use Rattle.std.specs.Prelude.{◌≡◌, ◌<◌, ◌≤◌, ◌+◌, IsTrue, IfOk, OnOk, length, take, drop};
+ghost use Rattle.std.specs.Prelude.{◌≡◌, ◌<◌, ◌≤◌, ◌+◌, true, IsTrue, IfOk, OnOk, length, take, drop};
 ghost use Rattle.disk_model.specs.Image.{file_count, file_of};
+ghost use Rattle.folder_model.specs.Folder.{SyncedFolder, SyncedAround, did};
 ghost use Rattle.folder_disk.specs.Calls.{Creates, WritesAt, Cuts, Syncs, Looks};
-ghost use Rattle.folder_disk.specs.Held.{state_of};
-ghost use Rattle.folder_disk.specs.State.{IsCounted, IsKnown, reading, known_of, grown};
+ghost use Rattle.folder_disk.specs.Held.{state_of, AreHeld};
+ghost use Rattle.folder_disk.specs.State.{IsCounted, IsKnown, IsNew, reading, known_of, grown};
 
+use crate::counting::Counts;
 use crate::names::FileNames;
+use crate::open_files::{OpenFiles, OpenOne};
+use crate::reasons::{check_in_place, end_of, inside, is_there_already, stopped};
 use disk_model::Kind;
-use folder_model::{Access, Folder, Timed, make_durably, read_whole, write_whole};
+use folder_model::{Folder, Timed, make_durably, read_whole, write_whole};
 use std::alloc::Global;
 use std::io;
 use std::io::ErrorKind;
@@ -17,59 +21,83 @@ use std::marker::PhantomData;
 /// a sync failed, it has given up, and makes and syncs nothing more.
 #[derive(Drop)]
 pub(crate) struct Held<F: Folder, N: FileNames> {
-    timed: Timed<F>,
-    alloc: Global,
-    warc: u32,
-    cdxj: u32,
-    gave_up: bool,
-    names: PhantomData<N>,
+    pub(crate) timed: Timed<F>,
+    pub(crate) alloc: Global,
+    pub(crate) warc: u32,
+    pub(crate) cdxj: u32,
+    pub(crate) gave_up: bool,
+    pub(crate) files: OpenFiles<F::File>,
+    pub(crate) names: PhantomData<N>,
 }
 
 impl<F: Folder + Drop, N: FileNames> Held<F, N> {
     /// A folder of which the files of each kind were counted. It and the folder around it are synced, so that all that is
     /// there outlasts a crash but for bytes that others wrote and didn't sync.
-    pub(crate) fn open(folder: F, alloc: Global, warc: u32, cdxj: u32) -> io::Result<Held<F, N>>
-        requires { IsTrue F.tells → IsCounted N.name (F.past folder) warc cdxj }
-        ensures { IsTrue F.tells → IfOk result (λ held. IsKnown N.name (state_of F.past held)) }
+    pub(crate) fn open(folder: F, alloc: Global, counts: Counts) -> io::Result<Held<F, N>>
+        requires { IsTrue F.tells → IsCounted N.name (F.past folder) counts.warc counts.cdxj }
+        ensures known { IsTrue F.tells → IfOk result (λ held. IsKnown N.name (state_of F.past held)) }
+        ensures open { IfOk result (λ held. AreHeld N.name F.name_of F.past held) }
+        ensures new { IfOk result (λ held. IsNew counts.warc counts.cdxj (state_of F.past held)) }
     {
         let mut folder = folder;
-        folder.sync_folder()?;
-        folder.sync_around()?;
+        sync_names(&mut folder)?;
         Ok(Held {
             timed: Timed::new(folder),
             alloc,
-            warc,
-            cdxj,
+            warc: counts.warc,
+            cdxj: counts.cdxj,
             gave_up: false,
+            files: OpenFiles::new(),
             names: PhantomData,
         })
+    }
+
+    /// The folder, whose files are closed.
+    pub(crate) fn into_folder(self) -> F {
+        let Held { timed, .. } = self;
+        let Timed { folder, .. } = timed;
+        folder
     }
 }
 
 impl<F: Folder, N: FileNames> Held<F, N> {
-    /// Makes the next file of a kind so that it outlasts a crash.
+    /// Makes the next file of a kind so that it outlasts a crash. Where nothing was made it may be tried again.
     pub(crate) fn create(&mut self, kind: Kind) -> io::Result<u32>
-        requires { IsTrue F.tells → IsKnown N.name (state_of F.past self.old) }
-        ensures { Creates F.tells N.name kind (state_of F.past self.old) (state_of F.past self.new) result }
+        requires known { IsTrue F.tells → IsKnown N.name (state_of F.past self.old) }
+        requires open { IsTrue F.tells → AreHeld N.name F.name_of F.past self.old }
+        ensures creates { Creates F.tells N.name kind (state_of F.past self.old) (state_of F.past self.new) result }
+        ensures open { IsTrue F.tells → AreHeld N.name F.name_of F.past self.new }
     {
         if self.gave_up {
-            return Err(io::Error::from(ErrorKind::Other));
+            return Err(stopped());
         }
         let number = self.known(kind);
         let Some(count) = number.checked_add(1) else {
             return Err(io::Error::from(ErrorKind::StorageFull));
         };
+        check_in_place(&mut self.timed.folder)?;
         let name = N::name_of(self.alloc, kind, number)?;
+        self.files.close();
         match make_durably(&mut self.timed.folder, name.as_str()) {
-            Ok(_file) => {
+            Ok(file) => {
                 self.timed.go_on();
                 self.set_known(kind, count);
+                self.keep_at_name(OpenOne {
+                    kind,
+                    number,
+                    file,
+                    len: 0,
+                    for_writing: true,
+                })?;
                 Ok(number)
             }
             Err(error) => {
+                if self.lacks(kind, number) {
+                    return Err(error);
+                }
                 self.timed.go_on();
                 self.gave_up = true;
-                Err(error)
+                Err(is_there_already(error))
             }
         }
     }
@@ -83,31 +111,50 @@ impl<F: Folder, N: FileNames> Held<F, N> {
         bytes: &[u8],
     ) -> io::Result<()>
         requires known { IsTrue F.tells → IsKnown N.name (state_of F.past self.old) }
+        requires open { IsTrue F.tells → AreHeld N.name F.name_of F.past self.old }
         requires there { IsTrue F.tells → file < file_count (reading N.name (state_of F.past self.old)) kind }
         requires in_range { IsTrue F.tells → at ≤ length (file_of (reading N.name (state_of F.past self.old)) kind file) }
-        ensures { WritesAt F.tells N.name kind file at bytes.now (state_of F.past self.old) (state_of F.past self.new) result }
+        ensures writes { WritesAt F.tells N.name kind file at bytes.now (state_of F.past self.old) (state_of F.past self.new) result }
+        ensures open { IsTrue F.tells → AreHeld N.name F.name_of F.past self.new }
     {
-        let open = self.opened(kind, file, Access::Update)?;
-        let result = write_whole(&mut self.timed.folder, &open, at, bytes);
-        self.timed.go_on();
-        result
+        let mut one = self.to_write(kind, file)?;
+        let end = end_of(at, bytes.len(), one.len)?;
+        match write_whole(&mut self.timed.folder, &one.file, at, bytes) {
+            Ok(()) => {
+                self.timed.go_on();
+                one.len = end;
+                self.files.keep(one);
+                Ok(())
+            }
+            Err(error) => {
+                self.timed.go_on();
+                self.files.close();
+                Err(error)
+            }
+        }
     }
 
     /// Cuts a file to a length.
     pub(crate) fn cut(&mut self, kind: Kind, file: u32, len: u64) -> io::Result<()>
         requires known { IsTrue F.tells → IsKnown N.name (state_of F.past self.old) }
+        requires open { IsTrue F.tells → AreHeld N.name F.name_of F.past self.old }
         requires there { IsTrue F.tells → file < file_count (reading N.name (state_of F.past self.old)) kind }
         requires in_range { IsTrue F.tells → len ≤ length (file_of (reading N.name (state_of F.past self.old)) kind file) }
-        ensures { Cuts F.tells N.name kind file len (state_of F.past self.old) (state_of F.past self.new) result }
+        ensures cuts { Cuts F.tells N.name kind file len (state_of F.past self.old) (state_of F.past self.new) result }
+        ensures open { IsTrue F.tells → AreHeld N.name F.name_of F.past self.new }
     {
-        let open = self.opened(kind, file, Access::Update)?;
-        match self.timed.folder.set_len(&open, len) {
+        let mut one = self.to_write(kind, file)?;
+        inside(len, 0, one.len)?;
+        match self.timed.folder.set_len(&one.file, len) {
             Ok(()) => {
                 self.timed.go_on();
+                one.len = len;
+                self.files.keep(one);
                 Ok(())
             }
             Err(error) => {
                 self.timed.go_on();
+                self.files.close();
                 Err(error)
             }
         }
@@ -115,70 +162,75 @@ impl<F: Folder, N: FileNames> Held<F, N> {
 
     /// How many files of a kind there are.
     pub(crate) fn files(&mut self, kind: Kind) -> io::Result<u32>
-        requires { IsTrue F.tells → IsKnown N.name (state_of F.past self.old) }
+        requires known { IsTrue F.tells → IsKnown N.name (state_of F.past self.old) }
+        requires open { IsTrue F.tells → AreHeld N.name F.name_of F.past self.old }
         ensures count { IsTrue F.tells → IfOk result (λ count. count ≡ file_count (reading N.name (state_of F.past self.old)) kind) }
-        ensures same { self.new ≡ self.old }
+        ensures looks { Looks F.tells N.name (state_of F.past self.old) (state_of F.past self.new) }
+        ensures open { IsTrue F.tells → AreHeld N.name F.name_of F.past self.new }
     {
         if self.gave_up {
-            return Err(io::Error::from(ErrorKind::Other));
+            return Err(stopped());
         }
+        check_in_place(&mut self.timed.folder)?;
         Ok(self.known(kind))
     }
 
     /// The length of a file in bytes.
     pub(crate) fn len(&mut self, kind: Kind, file: u32) -> io::Result<u64>
         requires known { IsTrue F.tells → IsKnown N.name (state_of F.past self.old) }
+        requires open { IsTrue F.tells → AreHeld N.name F.name_of F.past self.old }
         requires there { IsTrue F.tells → file < file_count (reading N.name (state_of F.past self.old)) kind }
         ensures length { IsTrue F.tells → IfOk result (λ len. len ≡ length (file_of (reading N.name (state_of F.past self.old)) kind file)) }
         ensures looks { Looks F.tells N.name (state_of F.past self.old) (state_of F.past self.new) }
+        ensures open { IsTrue F.tells → AreHeld N.name F.name_of F.past self.new }
     {
-        let open = self.opened(kind, file, Access::Read)?;
-        self.timed.folder.len(&open)
+        let one = self.to_read(kind, file)?;
+        let len = one.len;
+        self.files.keep(one);
+        Ok(len)
     }
 
     /// Fills `into` with the bytes of a file from a place on.
     pub(crate) fn read(&mut self, kind: Kind, file: u32, at: u64, into: &mut [u8]) -> io::Result<()>
         requires known { IsTrue F.tells → IsKnown N.name (state_of F.past self.old) }
+        requires open { IsTrue F.tells → AreHeld N.name F.name_of F.past self.old }
         requires there { IsTrue F.tells → file < file_count (reading N.name (state_of F.past self.old)) kind }
         ensures bytes { IsTrue F.tells → OnOk result
             (into.new ≡ take (length into.old) (drop at (file_of (reading N.name (state_of F.past self.old)) kind file))) }
         ensures looks { Looks F.tells N.name (state_of F.past self.old) (state_of F.past self.new) }
+        ensures open { IsTrue F.tells → AreHeld N.name F.name_of F.past self.new }
     {
-        let open = self.opened(kind, file, Access::Read)?;
-        read_whole(&mut self.timed.folder, &open, at, into)
+        let one = self.to_read(kind, file)?;
+        inside(at, into.len(), one.len)?;
+        read_whole(&mut self.timed.folder, &one.file, at, into)?;
+        self.files.keep(one);
+        Ok(())
     }
 
-    /// Waits until a file's bytes are on the disk.
+    /// Waits until a file's bytes are on the disk. A file that isn't at its name any more isn't acknowledged.
     pub(crate) fn sync(&mut self, kind: Kind, file: u32) -> io::Result<()>
         requires known { IsTrue F.tells → IsKnown N.name (state_of F.past self.old) }
+        requires open { IsTrue F.tells → AreHeld N.name F.name_of F.past self.old }
         requires there { IsTrue F.tells → file < file_count (reading N.name (state_of F.past self.old)) kind }
-        ensures { Syncs F.tells N.name kind file (state_of F.past self.old) (state_of F.past self.new) result }
+        ensures syncs { Syncs F.tells N.name kind file (state_of F.past self.old) (state_of F.past self.new) result }
+        ensures open { IsTrue F.tells → AreHeld N.name F.name_of F.past self.new }
     {
         if self.gave_up {
-            return Err(io::Error::from(ErrorKind::Other));
+            return Err(stopped());
         }
-        let open = self.opened(kind, file, Access::Update)?;
-        match self.timed.folder.sync_file(&open) {
+        let one = self.to_read(kind, file)?;
+        match self.timed.folder.sync_file(&one.file) {
             Ok(()) => {
                 self.timed.go_on();
-                Ok(())
+                self.keep_at_name(one)
             }
             Err(error) => {
                 self.timed.go_on();
+                self.files.close();
                 self.gave_up = true;
                 Err(error)
             }
         }
-    }
-
-    /// Opens a file.
-    fn opened(&mut self, kind: Kind, file: u32, access: Access) -> io::Result<F::File>
-        ensures named { IsTrue F.tells → IfOk result (λ it. F.name_of it ≡ N.name kind file) }
-        ensures same { IsTrue F.tells → F.past self.new.timed.folder ≡ F.past self.old.timed.folder }
-        ensures rest { self.new ≡ record self.old { timed = record self.old.timed { folder = self.new.timed.folder } } }
-    {
-        let name = N::name_of(self.alloc, kind, file)?;
-        self.timed.folder.open(name.as_str(), access)
     }
 
     /// How many files of a kind are known.
@@ -194,11 +246,21 @@ impl<F: Folder, N: FileNames> Held<F, N> {
     /// Notes how many files of a kind there are.
     fn set_known(&mut self, kind: Kind, count: u32)
         requires { count ≡ known_of self.old.warc self.old.cdxj kind + 1 }
-        ensures { state_of F.past self.new ≡ grown kind (state_of F.past self.old) }
+        ensures state { state_of F.past self.new ≡ grown kind (state_of F.past self.old) }
+        ensures same { self.new.timed ≡ self.old.timed }
+        ensures files { self.new.files ≡ self.old.files }
     {
         match kind {
             Kind::Warc => self.warc = count,
             Kind::Cdxj => self.cdxj = count,
         }
     }
+}
+
+/// Waits until the names in a folder, and the folder's own, are on the disk.
+fn sync_names<F: Folder>(folder: &mut F) -> io::Result<()>
+    ensures { IsTrue F.tells → OnOk result (F.past folder.new ≡ did (did (F.past folder.old) (SyncedFolder true)) (SyncedAround true)) }
+{
+    folder.sync_folder()?;
+    folder.sync_around()
 }

@@ -2,11 +2,18 @@
 #![tactic(auto)]
 
 mod archive_names;
+mod beginning;
+mod causes;
 mod counting;
 mod folder_disk;
+mod handles;
 mod held;
 mod names;
+mod open_files;
+mod reasons;
+mod standing;
 
-pub use archive_names::ArchiveNames;
+pub use archive_names::{ArchiveFile, ArchiveNames, FOLDER};
+pub use causes::{Causes, counted, told};
 pub use folder_disk::FolderDisk;
 pub use names::FileNames;

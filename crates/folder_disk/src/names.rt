@@ -5,10 +5,14 @@ ghost use Rattle.folder_model.specs.Seen.{NamesApart};
 
 use disk_model::Kind;
 use std::alloc::{AllocError, Global};
+use std::fmt::Display;
 
 /// How files are named by their kinds and numbers.
 pub trait FileNames {
     ghost use Rattle.disk_model.specs.declared.kind.Kind.{Kind};
+
+    /// A file as it is printed.
+    type Path: Display + Drop;
 
     /// The name of a file.
     ghost name: { Kind → ℕ → List ℕ };
@@ -21,6 +25,9 @@ pub trait FileNames {
     fn number_of(alloc: Global, kind: Kind, text: &str) -> Result<Option<u32>, AllocError>
         ensures its { IfOk result (λ found. IfSome found (λ file. text.now ≡ name kind file)) }
         ensures exact { IfOk result (λ found. (file : ℕ) → file < 2 ^ 32 → text.now ≡ name kind file → found ≡ Some file) };
+
+    /// A file, to be printed.
+    fn path_of(kind: Kind, file: u32) -> Self::Path;
 
     /// Each file has a name of its own.
     ghost apart: { NamesApart name };

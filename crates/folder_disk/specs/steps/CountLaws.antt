@@ -1,10 +1,10 @@
 -- Laws of counting.
-use Rattle.std.proofs.Common.{◌≡◌, ◌≢◌, ◌<◌, ◌≤◌, ◌^◌, ◌⊎◌, ℕ, zero, suc, List, [], ◌∷◌, ◌++◌, refl, sym, ap, ◌∙◌, subst, inl, inr, ⊎_elim, arith}
+use Rattle.std.proofs.Common.{◌≡◌, ◌≢◌, ◌<◌, ◌^◌, ℕ, zero, suc, List, [], ◌∷◌, ◌++◌, refl, sym, ap, ◌∙◌, subst, ⊎_elim, arith}
 use Rattle.std.specs.Prelude.{Option, Some, None, max}
 use Rattle.std.specs.List.{Contains}
 use Rattle.std.specs.Str.{IsUtf8}
 use Rattle.std.proofs.lemmas.List.Elements.{Contains-append_cases}
-use Rattle.disk_model.specs.Image.{Image, file_count, file_of}
+use Rattle.disk_model.specs.Image.{file_count}
 use Rattle.disk_model.specs.declared.kind.Kind.{Kind}
 use Rattle.disk_model.specs.declared.kind.Kind.TheVariants.{Warc, Cdxj}
 use Rattle.folder_model.specs.Calls.{Lists}
@@ -13,10 +13,6 @@ use Rattle.folder_model.specs.Known.{image_of, bytes_or_none}
 use Rattle.folder_model.specs.steps.ReadingLaws.{image_of-count, image_of-file}
 use Rattle.folder_disk.specs.Counting.{AreBelow, HasNoMore}
 use Rattle.folder_disk.specs.State.{known_of, IsCounted}
-
--- no name is below nothing
-pub none_below : (name : Kind → ℕ → List ℕ) → AreBelow name 0 0 []
-none_below name kind file small has = absurd (omega (arith, has.1))
 
 -- the only name of a list of one
 only_name : (one two : List ℕ) → Contains (one ∷ []) two → one ≡ two
@@ -74,6 +70,7 @@ is_counted name past warc cdxj few fewer unfailed no_more there = record {
     no_more = λ kind file outside in_range. no_more kind file (omega (arith, outside, counted kind)) in_range;
   };
   counts = counted;
+  numbers = small few fewer;
 }
   where
     counted : (kind : Kind) → file_count (image_of (λ k f. contents_of past (name k f)) (known_of warc cdxj)) kind ≡ known_of warc cdxj kind

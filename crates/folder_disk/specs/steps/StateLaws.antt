@@ -1,19 +1,24 @@
 -- Laws of a disk over a folder.
 use Rattle.std.proofs.Common.{◌≡◌, ◌≢◌, ◌<◌, ◌≤◌, ◌^◌, ◌+◌, ℕ, Bool, true, false, IsTrue, List, [], length, take, refl, sym, ap, ◌∙◌, subst, inl, inr, ⊎_elim, true≢false, arith}
+use Rattle.std.proofs.lemmas.Option.{none-some}
 use Rattle.std.specs.Prelude.{Result, Ok, Err, OnOk, OnErr, IsErr, ⊤}
 use Rattle.disk_model.specs.Crash.{Torn, Cut, OnFile, MayCreate, HasFile, Within, Follows, Stepped, Leaves, Elapses}
 use Rattle.disk_model.specs.Image.{Image, file_count, file_of, with_file, with_new}
 use Rattle.disk_model.specs.steps.CrashLaws.{torn_none, cut_none, on_file_none}
 use Rattle.disk_model.specs.declared.kind.Kind.{Kind}
 use Rattle.disk_model.specs.declared.kind.Kind.TheVariants.{Warc, Cdxj}
-use Rattle.folder_model.specs.File.{Synced, Shortened}
+use Rattle.std.proofs.Common.{◌∷◌, ◌++◌}
+use Rattle.std.specs.Prelude.{None, IfOk}
+use Rattle.folder_model.specs.File.{Made, Wrote, Synced, Shortened, Listed}
 use Rattle.std.specs.Prelude.{Option}
 use Rattle.std.specs.Option.{unwrap_or}
-use Rattle.folder_model.specs.Folder.{FolderPast, SyncedFolder, SyncedAround, did, did_to, bytes_of}
+use Rattle.folder_model.specs.Folder.{Deed, Did, FolderPast, SyncedFolder, SyncedAround, did, did_to, contents_of, bytes_of}
 use Rattle.folder_model.specs.Seen.{NamesApart, images_of}
 use Rattle.folder_model.specs.Times.{Times, moment_of, goes_on, images_since_of}
 use Rattle.folder_model.specs.Known.{Knows}
-use Rattle.folder_model.specs.Whole.{WritesWithin, IsWriting, MakesInPart, made_durably}
+use Rattle.folder_model.specs.Whole.{AreSyncs, WritesWithin, IsWriting, MakesInPart, made_durably}
+use Rattle.folder_model.specs.steps.ReadingLaws.{contents_of-same}
+use Rattle.folder_disk.specs.steps.OpenLaws.{sync_all_same}
 use Rattle.folder_model.specs.DiskCalls.{WriteLeaves, CutLeaves, SyncDone, SyncFailed, CreateDone, CreateFailed}
 use Rattle.folder_model.specs.steps.KnownLaws.{reading_is, write_leaves, cut_leaves, sync_done, sync_failed, create_done, create_failed, written_is_read, opened_knows}
 use Rattle.folder_model.specs.steps.SeenLaws.{reading_is_left, no_more_left}
@@ -53,9 +58,6 @@ to_folder_since name s tells t image known (told, inl same) =
     image_now name s.past s.times t image known.timed (subst (images_of name s.past) (sym same) (reading_is_left name s.past (reading name s) known.is.seen))
 to_folder_since name s tells t image known (told, inr left) = left.1
 
-told_of : (tells : Bool) (name : Kind → ℕ → List ℕ) (s : State) (image : Image) → images tells name s image → IsTrue tells
-told_of tells name s image left = left.0
-
 -- steps and time, from the folder's images to the disk's
 module _ (tells : Bool) (name : Kind → ℕ → List ℕ) (old new : State) where
   as_follows : (Step : Image → Image → Type 0)
@@ -93,19 +95,6 @@ module _ (tells : Bool) (name : Kind → ℕ → List ℕ) (old new : State) whe
         let l = law left.0 in
         (left.0, inr (l.1, l.2.keeps t image le (to_folder_since name old tells t image l.0 left)));
   }
-
--- nothing was done
-pub within_same : (tells : Bool) (name : Kind → ℕ → List ℕ) (s : State) → Within (images tells name s) (images tells name s)
-within_same tells name s image left = left
-
-pub elapses_same : (tells : Bool) (name : Kind → ℕ → List ℕ) (s : State) (target : Image → Type 0)
-    → Elapses (moment_of s.times) (moment_of s.times) (images_since tells name s) (images_since tells name s) target
-elapses_same tells name s target = record {
-  later = omega arith;
-  by_one = omega arith;
-  nothing_else = λ t image le left. inl left;
-  keeps = λ t image le left. left;
-}
 
 -- the same disk as far as its folder tells
 module _ (tells : Bool) (name : Kind → ℕ → List ℕ) (s : State) (past : FolderPast) (same : IsTrue tells → past ≡ s.past) where
@@ -468,17 +457,134 @@ bytes_read name s kind file known there = ap (λ (o : Option (List ℕ)). unwrap
 -- ---- opening
 
 -- a folder that was counted and then synced is known
-pub opened : (name : Kind → ℕ → List ℕ) (warc cdxj : ℕ) (old new : FolderPast) (times : Times) → warc < 2 ^ 32 → cdxj < 2 ^ 32
+pub opened : (name : Kind → ℕ → List ℕ) (warc cdxj : ℕ) (old new : FolderPast) (times : Times)
     → IsCounted name old warc cdxj
     → new ≡ did (did old (SyncedFolder true)) (SyncedAround true)
     → times ≡ record { made = length new.deeds; begun = [] }
     → IsKnown name (record { past = new; warc = warc; cdxj = cdxj; gave_up = false; times = times })
-opened name warc cdxj old new times few fewer counted whole began =
-    let known = opened_knows name old (known_of warc cdxj) counted.image counted.unfailed counted.seen (numbers few fewer) counted.counts in
+opened name warc cdxj old new times counted whole began =
+    let known = opened_knows name old (known_of warc cdxj) counted.image counted.unfailed counted.seen counted.numbers counted.counts in
     is_known name (record { past = new; warc = warc; cdxj = cdxj; gave_up = false; times = times }) counted.image
     (subst (λ (t : Times). Knows name new (known_of warc cdxj) false t counted.image) (sym began)
     (subst (λ (p : FolderPast). Knows name p (known_of warc cdxj) false (record { made = length p.deeds; begun = [] }) counted.image) (sym whole) known))
+
+-- ---- a call behind whose deeds the folder was only looked at
+
+-- a file was made, and that isn't acknowledged
+pub create_unacknowledged : {E : Type 0} (tells : Bool) (name : Kind → ℕ → List ℕ) (kind : Kind) (old new : State) (n : ℕ) (e : E)
+    → Creates {E = E} tells name kind old new (Ok n) → Creates {E = E} tells name kind old new (Err e)
+create_unacknowledged tells name kind old new n e made = record {
+  known = made.known;
+  number = λ told. tt;
+  created = λ told. tt;
+  partial = λ told. inr (refl, made.created told);
+  crash = made.crash;
+  durable = tt;
+  time = made.time;
+}
+
+-- a file was synced, and that isn't acknowledged
+pub sync_unacknowledged : {E : Type 0} (tells : Bool) (name : Kind → ℕ → List ℕ) (kind : Kind) (file : ℕ) (old new : State) (e : E)
+    → Syncs {E = E} tells name kind file old new (Ok tt) → Syncs {E = E} tells name kind file old new (Err e)
+sync_unacknowledged tells name kind file old new e was_synced = record {
+  known = was_synced.known;
+  durable = tt;
+  same = was_synced.same;
+  crash = was_synced.crash;
+  time = was_synced.time;
+}
+
+-- time as it is seen in a folder that has the same past
+time_behind : (tells : Bool) (name : Kind → ℕ → List ℕ) (old new : State) (past : FolderPast) (target : Image → Type 0) → (IsTrue tells → past ≡ new.past)
+    → Elapses (moment_of old.times) (moment_of new.times) (images_since tells name old) (images_since tells name new) target
+    → Elapses (moment_of old.times) (moment_of new.times) (images_since tells name old) (images_since tells name (record new { past = past })) target
+time_behind tells name old new past target same time = record {
+  later = time.later;
+  by_one = time.by_one;
+  nothing_else = λ t image le left.
+      time.nothing_else t image le (subst (λ (p : FolderPast). images_since tells name (record new { past = p }) t image) (same left.0) left);
+  keeps = λ t image le left.
+      subst (λ (p : FolderPast). images_since tells name (record new { past = p }) t image) (sym (same left.0)) (time.keeps t image le left);
+}
+
+pub create_behind : {E : Type 0} (tells : Bool) (name : Kind → ℕ → List ℕ) (kind : Kind) (old new : State) (past : FolderPast) (result : Result ℕ E)
+    → (IsTrue tells → past ≡ new.past) → Creates tells name kind old new result → Creates tells name kind old (record new { past = past }) result
+create_behind {E} tells name kind old new past result same made = record {
+  known = λ told. subst (λ (p : FolderPast). IsKnown name (record new { past = p })) (sym (same told)) (made.known told);
+  number = made.number;
+  created = λ told. subst (λ (p : FolderPast). OnOk result (reading name (record new { past = p }) ≡ with_new (reading name old) kind)) (sym (same told)) (made.created told);
+  partial = λ told. subst (λ (p : FolderPast). OnErr result (MayCreate kind (file_count (reading name old) kind) (reading name old) (reading name (record new { past = p })))) (sym (same told)) (made.partial told);
+  crash = λ image left. made.crash image (images_same tells name new past same image left);
+  durable = leaves result made.durable;
+  time = time_behind tells name old new past (Stepped (MayCreate kind (file_count (reading name old) kind)) (images tells name old)) same made.time;
+}
   where
-    numbers : warc < 2 ^ 32 → cdxj < 2 ^ 32 → (kind : Kind) → known_of warc cdxj kind < 2 ^ 32
-    numbers few fewer Warc = few
-    numbers few fewer Cdxj = fewer
+    leaves : (r : Result ℕ E) → IfOk r (λ file. Leaves (images tells name new) (HasFile kind file []))
+        → IfOk r (λ file. Leaves (images tells name (record new { past = past })) (HasFile kind file []))
+    leaves (Ok file) holds = λ image left. holds image (images_same tells name new past same image left)
+    leaves (Err e) holds = tt
+
+pub sync_behind : {E : Type 0} (tells : Bool) (name : Kind → ℕ → List ℕ) (kind : Kind) (file : ℕ) (old new : State) (past : FolderPast) (result : Result ⊤ E)
+    → (IsTrue tells → past ≡ new.past) → Syncs tells name kind file old new result → Syncs tells name kind file old (record new { past = past }) result
+sync_behind {E} tells name kind file old new past result same was_synced = record {
+  known = λ told. subst (λ (p : FolderPast). IsKnown name (record new { past = p })) (sym (same told)) (was_synced.known told);
+  durable = leaves result was_synced.durable;
+  same = λ told. subst (λ (p : FolderPast). reading name (record new { past = p }) ≡ reading name old) (sym (same told)) (was_synced.same told);
+  crash = λ image left. was_synced.crash image (images_same tells name new past same image left);
+  time = time_behind tells name old new past (images tells name (record new { past = past })) same (target_behind was_synced.time);
+}
+  where
+    leaves : (r : Result ⊤ E) → OnOk r (Leaves (images tells name new) (HasFile kind file (file_of (reading name old) kind file)))
+        → OnOk r (Leaves (images tells name (record new { past = past })) (HasFile kind file (file_of (reading name old) kind file)))
+    leaves (Ok x) holds = λ image left. holds image (images_same tells name new past same image left)
+    leaves (Err e) holds = tt
+
+    target_behind : Elapses (moment_of old.times) (moment_of new.times) (images_since tells name old) (images_since tells name new) (images tells name new)
+        → Elapses (moment_of old.times) (moment_of new.times) (images_since tells name old) (images_since tells name new) (images tells name (record new { past = past }))
+    target_behind time = record {
+      later = time.later;
+      by_one = time.by_one;
+      nothing_else = λ t image le left.
+          ⊎_elim
+          (λ was. inl was)
+          (λ is. inr (subst (λ (p : FolderPast). images tells name (record new { past = p }) image) (sym (same is.0)) is))
+          (time.nothing_else t image le left);
+      keeps = time.keeps;
+    }
+
+-- nothing was made, by a disk of which the folder has the same past
+pub create_not_begun : {E : Type 0} (tells : Bool) (name : Kind → ℕ → List ℕ) (kind : Kind) (s : State) (past : FolderPast) (e : E)
+    → (IsTrue tells → past ≡ s.past) → (IsTrue tells → IsKnown name s) → Creates tells name kind s (record s { past = past }) (Err e)
+create_not_begun tells name kind s past e same known = record {
+  known = known_same tells name s past same known;
+  number = λ told. tt;
+  created = λ told. tt;
+  partial = λ told. inl (reading_same tells name s past same told);
+  crash = λ image left. (image, images_same tells name s past same image left, inl refl);
+  durable = tt;
+  time = same_elapses tells name s past same (Stepped (MayCreate kind (file_count (reading name s) kind)) (images tells name s));
+}
+
+-- where a file that was to be made isn't there nothing was done
+pub nothing_made : (name : List ℕ) (old new : FolderPast) → contents_of new name ≡ None → MakesInPart name old new → new ≡ old
+nothing_made name old new none (inl same) = same
+nothing_made name old new none (inr made) = absurd (is_there (made.synced.deeds) made.synced.syncs (ap (λ (p : FolderPast). contents_of p name) (sym made.synced.whole) ∙ none))
+  where
+    is_there : (deeds : List Deed) → AreSyncs deeds → contents_of (record (did_to old name Made) { deeds = deeds ++ (did_to old name Made).deeds }) name ≡ None → ⊥
+    is_there [] syncs lacks = none-some [] (sym (sym (contents_of-same old name Made) ∙ lacks))
+    is_there (Did n (Synced done) ∷ earlier) syncs lacks =
+        is_there earlier syncs
+        (sym (sync_all_same n done (record (did_to old name Made) { deeds = earlier ++ (did_to old name Made).deeds })
+        (record (did_to old name Made) { deeds = (Did n (Synced done) ∷ earlier) ++ (did_to old name Made).deeds }) refl name) ∙ lacks)
+    is_there (Did n Made ∷ earlier) syncs lacks = absurd syncs
+    is_there (Did n (Wrote at bytes rest) ∷ earlier) syncs lacks = absurd syncs
+    is_there (Did n (Shortened len rest) ∷ earlier) syncs lacks = absurd syncs
+    is_there (Did n (Listed done) ∷ earlier) syncs lacks = absurd syncs
+    is_there (SyncedFolder done ∷ earlier) syncs lacks = is_there earlier syncs lacks
+    is_there (SyncedAround done ∷ earlier) syncs lacks = is_there earlier syncs lacks
+
+-- a file was synced, whatever is answered
+pub sync_answered : {E : Type 0} (tells : Bool) (name : Kind → ℕ → List ℕ) (kind : Kind) (file : ℕ) (old new : State) (result : Result ⊤ E)
+    → Syncs {E = E} tells name kind file old new (Ok tt) → Syncs {E = E} tells name kind file old new result
+sync_answered tells name kind file old new (Ok tt) was_synced = was_synced
+sync_answered tells name kind file old new (Err e) was_synced = sync_unacknowledged tells name kind file old new e was_synced

@@ -8,5 +8,5 @@ use Rattle.folder_disk.proofs.folder_disk.FolderDiskDisk.create.Goals as goal
 
 pub returns-clause-crash : goal.returns-clause-crash
 returns-clause-crash g c = λ image left.
-    subst (λ (d : Kept g.row.F.Denot). Stepped (MayCreate c.args.kind (file_count (reading g.N.FileNames.name (state_in g.F.Folder.past d)) c.args.kind)) (images g.F.Folder.tells g.N.FileNames.name (state_in g.F.Folder.past d)) image) c.self.view_is
-    (c.create-answer.ensures.crash image left)
+    subst (λ (d : Kept g.row.S-Folder.Denot). Stepped (MayCreate c.args.kind (file_count (reading g.N.FileNames.name (state_in g.S.Folder.Folder.past d.held)) c.args.kind)) (images g.S.Folder.Folder.tells g.N.FileNames.name (state_in g.S.Folder.Folder.past d.held)) image) c.self.view_is
+    (c.create-answer.ensures.creates.crash image left)

@@ -7,5 +7,5 @@ use Rattle.folder_disk.proofs.folder_disk.FolderDiskDisk.cut.Goals as goal
 
 pub returns-clause-crash : goal.returns-clause-crash
 returns-clause-crash g c = λ image left.
-    subst (λ (d : Kept g.row.F.Denot). Stepped (OnFile c.args.kind c.args.file (Cut c.args.len)) (images g.F.Folder.tells g.N.FileNames.name (state_in g.F.Folder.past d)) image) c.self.view_is
-    (c.cut-answer.ensures.crash image left)
+    subst (λ (d : Kept g.row.S-Folder.Denot). Stepped (OnFile c.args.kind c.args.file (Cut c.args.len)) (images g.S.Folder.Folder.tells g.N.FileNames.name (state_in g.S.Folder.Folder.past d.held)) image) c.self.view_is
+    (c.cut-answer.ensures.cuts.crash image left)

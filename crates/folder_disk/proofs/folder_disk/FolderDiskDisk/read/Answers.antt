@@ -1,4 +1,4 @@
--- What a crash may leave is what it might have left.
+-- What a crash may leave follows from what it might have left.
 use Rattle.std.proofs.Common.{subst}
 use Rattle.folder_disk.specs.Kept.{Kept, state_in}
 use Rattle.folder_disk.specs.State.{images}
@@ -6,4 +6,4 @@ use Rattle.folder_disk.proofs.folder_disk.FolderDiskDisk.read.Goals as goal
 
 pub returns-clause-crash : goal.returns-clause-crash
 returns-clause-crash g c = λ image left.
-    subst (λ (d : Kept g.row.F.Denot). images g.F.Folder.tells g.N.FileNames.name (state_in g.F.Folder.past d) image) c.self.view_is (c.read-answer.ensures.looks.crash image left)
+    subst (λ (d : Kept g.row.S-Folder.Denot). images g.S.Folder.Folder.tells g.N.FileNames.name (state_in g.S.Folder.Folder.past d.held) image) c.self.view_is (c.read-answer.ensures.looks.crash image left)

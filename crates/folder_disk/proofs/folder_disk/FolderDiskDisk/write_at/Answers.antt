@@ -7,5 +7,5 @@ use Rattle.folder_disk.proofs.folder_disk.FolderDiskDisk.write_at.Goals as goal
 
 pub returns-clause-crash : goal.returns-clause-crash
 returns-clause-crash g c = λ image left.
-    subst (λ (d : Kept g.row.F.Denot). Stepped (OnFile c.args.kind c.args.file (Torn c.args.at (length c.args.bytes.now))) (images g.F.Folder.tells g.N.FileNames.name (state_in g.F.Folder.past d)) image) c.self.view_is
-    (c.write_at-answer.ensures.crash image left)
+    subst (λ (d : Kept g.row.S-Folder.Denot). Stepped (OnFile c.args.kind c.args.file (Torn c.args.at (length c.args.bytes.now))) (images g.S.Folder.Folder.tells g.N.FileNames.name (state_in g.S.Folder.Folder.past d.held)) image) c.self.view_is
+    (c.write_at-answer.ensures.writes.crash image left)

@@ -1,5 +1,5 @@
 -- The file was cut, or some of it, or nothing was done.
-use Rattle.std.proofs.Common.{◌≡◌, ◌+◌, Ok, Err, refl, sym, ◌∙◌, subst, arith}
+use Rattle.std.proofs.Common.{◌≡◌, ◌+◌, Ok, Err, IsTrue, refl, sym, ◌∙◌, subst, arith}
 use Rattle.std.specs.declared.io.Error.{Error}
 use Rattle.folder_model.specs.File.{Shortened}
 use Rattle.folder_model.specs.Folder.{FolderPast, did_to}
@@ -7,74 +7,128 @@ use Rattle.folder_model.specs.Times.{goes_on}
 use Rattle.folder_model.specs.Timed.{times_of}
 use Rattle.folder_disk.specs.Calls.{Cuts}
 use Rattle.folder_disk.specs.Held.{state_of}
+use Rattle.folder_disk.specs.OpenFiles.{AreOpen}
 use Rattle.folder_disk.specs.State.{State, next}
+use Rattle.folder_disk.specs.steps.OpenLaws.{open_named, others_same, deed_others, cut_open, kept_after, none_open}
 use Rattle.folder_disk.specs.steps.StateLaws.{cut_ended, cut_not_begun, at_error}
 use Rattle.folder_disk.proofs.held.Held.cut.Goals as goal
 
-pub returns-in_err-open : goal.returns-in_err-open
-returns-in_err-open g c =
+pub returns-in_err-one-clause-cuts : goal.returns-in_err-one-clause-cuts
+returns-in_err-one-clause-cuts g c =
     let tells = g.F.Folder.tells in
     let name = g.N.FileNames.name in
-    let old : State = state_of g.F.Folder.past c.args.self.now in
-    let past : FolderPast = g.F.Folder.past c.opened.new.self.timed.folder in
-    let rest = c.opened.ensures.rest in
-    let went : state_of g.F.Folder.past c.opened.new.self ≡ record old { past = past } =
-    λ i. record (state_of g.F.Folder.past (rest i)) { past = past } in
+    let name_of = g.F.Folder.name_of in
+    let past_of = g.F.Folder.past in
+    let old : State = state_of past_of c.args.self.now in
+    let rest = c.to_write.ensures.rest in
+    let past : FolderPast = past_of c.to_write.new.self.timed.folder in
+    let went : state_of past_of c.to_write.new.self ≡ record old { past = past } = λ i. record (state_of past_of (rest i)) { past = past } in
     subst (λ (s : State). Cuts {E = Error} tells name c.args.kind c.args.file c.args.len old s c.from_residual.result) (sym went)
     (at_error (λ r. Cuts {E = Error} tells name c.args.kind c.args.file c.args.len old (record old { past = past }) r)
     c.from_residual.result c.from_residual.ensures.0
-    (λ e. cut_not_begun {E = Error} tells name c.args.kind c.args.file c.args.len old past e c.opened.ensures.same c.requires.known))
+    (λ e. cut_not_begun {E = Error} tells name c.args.kind c.args.file c.args.len old past e c.to_write.ensures.same c.requires.known))
 
-pub returns-in-Ok : goal.returns-in-Ok
-returns-in-Ok g c =
+pub returns-in_err-inside-clause-cuts : goal.returns-in_err-inside-clause-cuts
+returns-in_err-inside-clause-cuts g c =
     let tells = g.F.Folder.tells in
     let name = g.N.FileNames.name in
-    let old : State = state_of g.F.Folder.past c.args.self.now in
-    let past : FolderPast = g.F.Folder.past c.set_len.new.self in
-    let rest = c.opened.ensures.rest in
-    let times : times_of c.go_on.new.self ≡ goes_on old.times past =
-    c.go_on.ensures.times ∙ (λ i. goes_on (times_of (rest i).timed) past) in
-    let went : record { past = g.F.Folder.past c.go_on.new.self.folder; warc = c.opened.new.self.warc; cdxj = c.opened.new.self.cdxj; gave_up = c.opened.new.self.gave_up; times = times_of c.go_on.new.self } ≡ next old past =
+    let name_of = g.F.Folder.name_of in
+    let past_of = g.F.Folder.past in
+    let old : State = state_of past_of c.args.self.now in
+    let rest = c.to_write.ensures.rest in
+    let past : FolderPast = past_of c.to_write.new.self.timed.folder in
+    let went : state_of past_of c.to_write.new.self ≡ record old { past = past } = λ i. record (state_of past_of (rest i)) { past = past } in
+    subst (λ (s : State). Cuts {E = Error} tells name c.args.kind c.args.file c.args.len old s c.from_residual-in_err-inside.result) (sym went)
+    (at_error (λ r. Cuts {E = Error} tells name c.args.kind c.args.file c.args.len old (record old { past = past }) r)
+    c.from_residual-in_err-inside.result c.from_residual-in_err-inside.ensures.0
+    (λ e. cut_not_begun {E = Error} tells name c.args.kind c.args.file c.args.len old past e c.to_write.ensures.same c.requires.known))
+
+pub returns-in-Ok-clause-cuts : goal.returns-in-Ok-clause-cuts
+returns-in-Ok-clause-cuts g c =
+    let tells = g.F.Folder.tells in
+    let name = g.N.FileNames.name in
+    let name_of = g.F.Folder.name_of in
+    let past_of = g.F.Folder.past in
+    let old : State = state_of past_of c.args.self.now in
+    let rest = c.to_write.ensures.rest in
+    let past : FolderPast = past_of c.set_len.new.self in
+    let times : times_of c.go_on.new.self ≡ goes_on old.times past = c.go_on.ensures.times ∙ (λ i. goes_on (times_of (rest i).timed) past) in
+    let went : record { past = past_of c.go_on.new.self.folder; warc = c.to_write.new.self.warc; cdxj = c.to_write.new.self.cdxj; gave_up = c.to_write.new.self.gave_up; times = times_of c.go_on.new.self } ≡ next old past =
     λ i. record {
-      past = g.F.Folder.past (c.go_on.ensures.folder i);
+      past = past_of (c.go_on.ensures.folder i);
       warc = (rest i).warc;
       cdxj = (rest i).cdxj;
       gave_up = (rest i).gave_up;
       times = times i;
     } in
+    let before : FolderPast = past_of c.to_write.new.self.timed.folder in
+    let is = c.in_ok-one.ensures.this in
+    let named : (told : IsTrue tells) → name_of c.in_ok-one.one.file ≡ name c.args.kind c.args.file =
+    λ told. open_named name name_of c.args.kind c.args.file c.in_ok-one.one is.0 is.1 before (c.in_ok-one.ensures.open told) in
     let whole : c.args.len ≡ c.args.len + 0 = omega arith in
     subst (λ (s : State). Cuts {E = Error} tells name c.args.kind c.args.file c.args.len old s (Ok tt)) (sym went)
     (cut_ended {E = Error} tells name g.met.N.FileNames.apart c.args.kind c.args.file c.args.len old past (Ok tt)
     (λ told. (c.requires.known told, c.requires.there told))
     (λ told. (
       0,
-      c.in-Ok.ensures.cut told ∙ (λ i. did_to (c.opened.ensures.same told i) (c.in_ok-open.ensures.named told i) (Shortened (whole i) 0)),
+      c.in-Ok.ensures.cut told ∙ (λ i. did_to (c.to_write.ensures.same told i) (named told i) (Shortened (whole i) 0)),
       refl,
     )))
 
-pub returns : goal.returns
-returns g c =
+pub returns-in-Err-clause-cuts : goal.returns-in-Err-clause-cuts
+returns-in-Err-clause-cuts g c =
     let tells = g.F.Folder.tells in
     let name = g.N.FileNames.name in
-    let old : State = state_of g.F.Folder.past c.args.self.now in
-    let past : FolderPast = g.F.Folder.past c.set_len.new.self in
-    let rest = c.opened.ensures.rest in
-    let times : times_of c.go_on-in-Err.new.self ≡ goes_on old.times past =
-    c.go_on-in-Err.ensures.times ∙ (λ i. goes_on (times_of (rest i).timed) past) in
-    let went : record { past = g.F.Folder.past c.go_on-in-Err.new.self.folder; warc = c.opened.new.self.warc; cdxj = c.opened.new.self.cdxj; gave_up = c.opened.new.self.gave_up; times = times_of c.go_on-in-Err.new.self } ≡ next old past =
+    let name_of = g.F.Folder.name_of in
+    let past_of = g.F.Folder.past in
+    let old : State = state_of past_of c.args.self.now in
+    let rest = c.to_write.ensures.rest in
+    let past : FolderPast = past_of c.set_len.new.self in
+    let times : times_of c.go_on-in-Err.new.self ≡ goes_on old.times past = c.go_on-in-Err.ensures.times ∙ (λ i. goes_on (times_of (rest i).timed) past) in
+    let went : record { past = past_of c.go_on-in-Err.new.self.folder; warc = c.to_write.new.self.warc; cdxj = c.to_write.new.self.cdxj; gave_up = c.to_write.new.self.gave_up; times = times_of c.go_on-in-Err.new.self } ≡ next old past =
     λ i. record {
-      past = g.F.Folder.past (c.go_on-in-Err.ensures.folder i);
+      past = past_of (c.go_on-in-Err.ensures.folder i);
       warc = (rest i).warc;
       cdxj = (rest i).cdxj;
       gave_up = (rest i).gave_up;
       times = times i;
     } in
+    let before : FolderPast = past_of c.to_write.new.self.timed.folder in
+    let is = c.in_ok-one.ensures.this in
+    let named : (told : IsTrue tells) → name_of c.in_ok-one.one.file ≡ name c.args.kind c.args.file =
+    λ told. open_named name name_of c.args.kind c.args.file c.in_ok-one.one is.0 is.1 before (c.in_ok-one.ensures.open told) in
     subst (λ (s : State). Cuts {E = Error} tells name c.args.kind c.args.file c.args.len old s (Err c.in-Err.error)) (sym went)
     (cut_ended {E = Error} tells name g.met.N.FileNames.apart c.args.kind c.args.file c.args.len old past (Err c.in-Err.error)
     (λ told. (c.requires.known told, c.requires.there told))
     (λ told.
     let part = c.in-Err.ensures.partial told in (
       part.rest,
-      part.whole ∙ (λ i. did_to (c.opened.ensures.same told i) (c.in_ok-open.ensures.named told i) (Shortened (c.args.len + part.rest) part.rest)),
+      part.whole ∙ (λ i. did_to (c.to_write.ensures.same told i) (named told i) (Shortened (c.args.len + part.rest) part.rest)),
       tt,
     )))
+
+pub returns-in-Ok-clause-open : goal.returns-in-Ok-clause-open
+returns-in-Ok-clause-open g c = λ told.
+    let tells = g.F.Folder.tells in
+    let name = g.N.FileNames.name in
+    let name_of = g.F.Folder.name_of in
+    let past_of = g.F.Folder.past in
+    let old : State = state_of past_of c.args.self.now in
+    let rest = c.to_write.ensures.rest in
+    let past : FolderPast = past_of c.set_len.new.self in
+    let before : FolderPast = past_of c.to_write.new.self.timed.folder in
+    let is = c.in_ok-one.ensures.this in
+    let named : (told : IsTrue tells) → name_of c.in_ok-one.one.file ≡ name c.args.kind c.args.file =
+    λ told. open_named name name_of c.args.kind c.args.file c.in_ok-one.one is.0 is.1 before (c.in_ok-one.ensures.open told) in
+    let cut : past ≡ did_to before (name c.args.kind c.args.file) (Shortened c.args.len 0) =
+    c.in-Ok.ensures.cut told ∙ (λ i. did_to before (named told i) (Shortened c.args.len 0)) in
+    let others = others_same name name_of g.met.N.FileNames.apart c.args.kind c.args.file c.ranges.file.fits before past c.to_write.new.self.files
+    (deed_others (name c.args.kind c.args.file) (Shortened c.args.len 0) before past cut) c.to_write.ensures.apart (c.to_write.ensures.others told) in
+    let one = cut_open name name_of c.args.kind c.args.file c.in_ok-one.one is.0 is.1 c.args.len before past c.ranges.file.fits
+    (c.in_ok-one.ensures.open told) cut (omega (arith, c.in_ok-inside.ensures)) in
+    subst (λ (p : FolderPast). AreOpen name name_of p c.keep.new.self) (λ i. past_of (sym c.go_on.ensures.folder i))
+    (kept_after name name_of past c.to_write.new.self.files c.keep.new.self _ c.keep.ensures others one)
+
+pub returns-in-Err-clause-open : goal.returns-in-Err-clause-open
+returns-in-Err-clause-open g c = λ told.
+    none_open g.N.FileNames.name g.F.Folder.name_of (g.F.Folder.past c.go_on-in-Err.new.self.folder) c.close.new.self c.close.ensures.written c.close.ensures.read

@@ -1,28 +1,58 @@
 -- Nothing is changed.
-use Rattle.std.proofs.Common.{◌≡◌, sym, ◌∙◌, subst}
+use Rattle.std.proofs.Common.{◌≡◌, sym, subst}
 use Rattle.folder_model.specs.Folder.{FolderPast}
 use Rattle.folder_disk.specs.Calls.{Looks}
 use Rattle.folder_disk.specs.Held.{state_of}
 use Rattle.folder_disk.specs.State.{State}
-use Rattle.folder_disk.specs.steps.StateLaws.{looked}
+use Rattle.folder_disk.specs.steps.OpenLaws.{remembered, kept_after}
+use Rattle.folder_disk.specs.steps.StateLaws.{looked, bytes_read}
 use Rattle.folder_disk.proofs.held.Held.len.Goals as goal
 
-pub returns-in_err-open-clause-looks : goal.returns-in_err-open-clause-looks
-returns-in_err-open-clause-looks g c =
-    let old : State = state_of g.F.Folder.past c.args.self.now in
-    let past : FolderPast = g.F.Folder.past c.opened.new.self.timed.folder in
-    let rest = c.opened.ensures.rest in
-    let went : state_of g.F.Folder.past c.opened.new.self ≡ record old { past = past } =
-    λ i. record (state_of g.F.Folder.past (rest i)) { past = past } in
-    subst (λ (s : State). Looks g.F.Folder.tells g.N.FileNames.name old s) (sym went)
-    (looked g.F.Folder.tells g.N.FileNames.name old past c.opened.ensures.same c.requires.known)
+pub returns-in_err-one-clause-looks : goal.returns-in_err-one-clause-looks
+returns-in_err-one-clause-looks g c =
+    let tells = g.F.Folder.tells in
+    let name = g.N.FileNames.name in
+    let name_of = g.F.Folder.name_of in
+    let past_of = g.F.Folder.past in
+    let old : State = state_of past_of c.args.self.now in
+    let rest = c.to_read.ensures.rest in
+    let past : FolderPast = past_of c.to_read.new.self.timed.folder in
+    let went : state_of past_of c.to_read.new.self ≡ record old { past = past } = λ i. record (state_of past_of (rest i)) { past = past } in
+    subst (λ (s : State). Looks tells name old s) (sym went) (looked tells name old past c.to_read.ensures.same c.requires.known)
+
+pub returns-clause-length : goal.returns-clause-length
+returns-clause-length g c = λ told.
+    let tells = g.F.Folder.tells in
+    let name = g.N.FileNames.name in
+    let name_of = g.F.Folder.name_of in
+    let past_of = g.F.Folder.past in
+    let old : State = state_of past_of c.args.self.now in
+    let rest = c.to_read.ensures.rest in
+    let past : FolderPast = past_of c.to_read.new.self.timed.folder in
+    let went : state_of past_of c.to_read.new.self ≡ record old { past = past } = λ i. record (state_of past_of (rest i)) { past = past } in
+    remembered name name_of past old.past _ c.args.kind c.args.file c.in_ok-one.one c.in_ok-one.ensures.this.0 c.in_ok-one.ensures.this.1 (c.to_read.ensures.same told)
+    (bytes_read name old c.args.kind c.args.file (c.requires.known told) (c.requires.there told)) (c.in_ok-one.ensures.open told)
 
 pub returns-clause-looks : goal.returns-clause-looks
 returns-clause-looks g c =
-    let old : State = state_of g.F.Folder.past c.args.self.now in
-    let past : FolderPast = g.F.Folder.past c.len.new.self in
-    let rest = c.opened.ensures.rest in
-    let went : record (state_of g.F.Folder.past c.opened.new.self) { past = past } ≡ record old { past = past } =
-    λ i. record (state_of g.F.Folder.past (rest i)) { past = past } in
-    subst (λ (s : State). Looks g.F.Folder.tells g.N.FileNames.name old s) (sym went)
-    (looked g.F.Folder.tells g.N.FileNames.name old past (λ told. c.len.ensures.past told ∙ c.opened.ensures.same told) c.requires.known)
+    let tells = g.F.Folder.tells in
+    let name = g.N.FileNames.name in
+    let name_of = g.F.Folder.name_of in
+    let past_of = g.F.Folder.past in
+    let old : State = state_of past_of c.args.self.now in
+    let rest = c.to_read.ensures.rest in
+    let past : FolderPast = past_of c.to_read.new.self.timed.folder in
+    let went : state_of past_of c.to_read.new.self ≡ record old { past = past } = λ i. record (state_of past_of (rest i)) { past = past } in
+    subst (λ (s : State). Looks tells name old s) (sym went) (looked tells name old past c.to_read.ensures.same c.requires.known)
+
+pub returns-clause-open : goal.returns-clause-open
+returns-clause-open g c = λ told.
+    let tells = g.F.Folder.tells in
+    let name = g.N.FileNames.name in
+    let name_of = g.F.Folder.name_of in
+    let past_of = g.F.Folder.past in
+    let old : State = state_of past_of c.args.self.now in
+    let rest = c.to_read.ensures.rest in
+    let past : FolderPast = past_of c.to_read.new.self.timed.folder in
+    let went : state_of past_of c.to_read.new.self ≡ record old { past = past } = λ i. record (state_of past_of (rest i)) { past = past } in
+    kept_after name name_of past c.to_read.new.self.files c.keep.new.self c.in_ok-one.one c.keep.ensures (c.to_read.ensures.others told) (c.in_ok-one.ensures.open told)

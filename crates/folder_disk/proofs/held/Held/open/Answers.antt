@@ -1,16 +1,23 @@
 -- The folder was counted, and then synced.
-use Rattle.std.proofs.Common.{true, [], length, sym, ap, ◌∙◌}
-use Rattle.folder_model.specs.Folder.{FolderPast, SyncedAround, did}
+use Rattle.std.proofs.Common.{refl, [], length, sym, ap, ◌∙◌}
 use Rattle.folder_model.specs.Timed.{times_of}
+use Rattle.folder_model.specs.Times.{Times, moment_of}
 use Rattle.folder_disk.specs.steps.StateLaws.{opened}
 use Rattle.folder_disk.proofs.held.Held.open.Goals as goal
 
-pub returns : goal.returns
-returns g c = λ told.
+pub returns-clause-known : goal.returns-clause-known
+returns-clause-known g c = λ told.
     let past = g.F.Folder.past in
-    opened g.N.FileNames.name c.args.warc c.args.cdxj (past c.args.folder) (past c.new.result.folder) (times_of c.new.result)
-    c.ranges.warc.fits c.ranges.cdxj.fits (c.requires told)
+    opened g.N.FileNames.name c.args.counts.warc c.args.counts.cdxj (past c.args.folder) (past c.new.result.folder) (times_of c.new.result)
+    (c.requires told)
     (ap past c.new.ensures.folder
-    ∙ c.in_ok-sync_around.ensures told
-    ∙ ap (λ (p : FolderPast). did p (SyncedAround true)) (c.in_ok-sync_folder.ensures told))
+    ∙ c.in_ok-sync_names.ensures told)
     (c.new.ensures.times ∙ (λ i. record { made = length (past (sym c.new.ensures.folder i)).deeds; begun = [] }))
+
+pub returns-clause-new : goal.returns-clause-new
+returns-clause-new g c = record {
+  warc_is = refl;
+  cdxj_is = refl;
+  going = refl;
+  first = ap (λ (t : Times). moment_of t) c.new.ensures.times;
+}

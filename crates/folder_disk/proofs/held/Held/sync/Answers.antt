@@ -1,5 +1,5 @@
 -- The file was synced, or that failed, or nothing was done.
-use Rattle.std.proofs.Common.{◌≡◌, true, false, Ok, Err, sym, ◌∙◌, subst}
+use Rattle.std.proofs.Common.{◌≡◌, Err, IsTrue, true, false, sym, ap, ◌∙◌, subst}
 use Rattle.std.specs.declared.io.Error.{Error}
 use Rattle.folder_model.specs.File.{Synced}
 use Rattle.folder_model.specs.Folder.{FolderPast, did_to}
@@ -7,56 +7,127 @@ use Rattle.folder_model.specs.Times.{goes_on}
 use Rattle.folder_model.specs.Timed.{times_of}
 use Rattle.folder_disk.specs.Calls.{Syncs}
 use Rattle.folder_disk.specs.Held.{state_of}
+use Rattle.folder_disk.specs.OpenFiles.{AreOpen, IsOpen}
 use Rattle.folder_disk.specs.State.{State, next, given_up}
-use Rattle.folder_disk.specs.steps.StateLaws.{synced, sync_missed}
+use Rattle.folder_disk.specs.steps.OpenLaws.{open_named, all_same, one_same, sync_all_same, none_open}
+use Rattle.folder_disk.specs.steps.StateLaws.{synced, sync_missed, sync_not_begun, sync_answered, sync_behind, at_error}
 use Rattle.folder_disk.proofs.held.Held.sync.Goals as goal
 
-pub returns-in-Ok : goal.returns-in-Ok
-returns-in-Ok g c =
+pub returns-in_err-one-clause-syncs : goal.returns-in_err-one-clause-syncs
+returns-in_err-one-clause-syncs g c =
     let tells = g.F.Folder.tells in
     let name = g.N.FileNames.name in
-    let old : State = state_of g.F.Folder.past c.args.self.now in
-    let past : FolderPast = g.F.Folder.past c.sync_file.new.self in
-    let rest = c.opened.ensures.rest in
-    let times : times_of c.go_on.new.self ≡ goes_on old.times past =
-    c.go_on.ensures.times ∙ (λ i. goes_on (times_of (rest i).timed) past) in
-    let went : record { past = g.F.Folder.past c.go_on.new.self.folder; warc = c.opened.new.self.warc; cdxj = c.opened.new.self.cdxj; gave_up = c.opened.new.self.gave_up; times = times_of c.go_on.new.self } ≡ next old past =
+    let name_of = g.F.Folder.name_of in
+    let past_of = g.F.Folder.past in
+    let old : State = state_of past_of c.args.self.now in
+    let rest = c.to_read.ensures.rest in
+    let past : FolderPast = past_of c.to_read.new.self.timed.folder in
+    let went : state_of past_of c.to_read.new.self ≡ record old { past = past } = λ i. record (state_of past_of (rest i)) { past = past } in
+    subst (λ (s : State). Syncs {E = Error} tells name c.args.kind c.args.file old s c.from_residual.result) (sym went)
+    (at_error (λ r. Syncs {E = Error} tells name c.args.kind c.args.file old (record old { past = past }) r)
+    c.from_residual.result c.from_residual.ensures.0
+    (λ e. sync_not_begun {E = Error} tells name c.args.kind c.args.file old past e c.to_read.ensures.same c.requires.known))
+
+pub keep_at_name-requires-clause-others : goal.keep_at_name-requires-clause-others
+keep_at_name-requires-clause-others g c = λ told.
+    let tells = g.F.Folder.tells in
+    let name = g.N.FileNames.name in
+    let name_of = g.F.Folder.name_of in
+    let past_of = g.F.Folder.past in
+    let old : State = state_of past_of c.args.self.now in
+    let rest = c.to_read.ensures.rest in
+    let past : FolderPast = past_of c.sync_file.new.self in
+    let before : FolderPast = past_of c.to_read.new.self.timed.folder in
+    let is = c.in_ok-one.ensures.this in
+    let named : (told : IsTrue tells) → name_of c.in_ok-one.one.file ≡ name c.args.kind c.args.file =
+    λ told. open_named name name_of c.args.kind c.args.file c.in_ok-one.one is.0 is.1 before (c.in_ok-one.ensures.open told) in
+    subst (λ (p : FolderPast). AreOpen name name_of p c.to_read.new.self.files) (λ i. past_of (sym c.go_on.ensures.folder i))
+    (all_same name name_of before past c.to_read.new.self.files
+    (sync_all_same (name_of c.in_ok-one.one.file) true before past (c.in-Ok.ensures told)) (c.to_read.ensures.others told))
+
+pub keep_at_name-requires-clause-open : goal.keep_at_name-requires-clause-open
+keep_at_name-requires-clause-open g c = λ told.
+    let tells = g.F.Folder.tells in
+    let name = g.N.FileNames.name in
+    let name_of = g.F.Folder.name_of in
+    let past_of = g.F.Folder.past in
+    let old : State = state_of past_of c.args.self.now in
+    let rest = c.to_read.ensures.rest in
+    let past : FolderPast = past_of c.sync_file.new.self in
+    let before : FolderPast = past_of c.to_read.new.self.timed.folder in
+    let is = c.in_ok-one.ensures.this in
+    let named : (told : IsTrue tells) → name_of c.in_ok-one.one.file ≡ name c.args.kind c.args.file =
+    λ told. open_named name name_of c.args.kind c.args.file c.in_ok-one.one is.0 is.1 before (c.in_ok-one.ensures.open told) in
+    subst (λ (p : FolderPast). IsOpen name name_of p c.in_ok-one.one) (λ i. past_of (sym c.go_on.ensures.folder i))
+    (one_same name name_of before past c.in_ok-one.one
+    (sync_all_same (name_of c.in_ok-one.one.file) true before past (c.in-Ok.ensures told)) (c.in_ok-one.ensures.open told))
+
+pub returns-in-Ok-clause-syncs : goal.returns-in-Ok-clause-syncs
+returns-in-Ok-clause-syncs g c =
+    let tells = g.F.Folder.tells in
+    let name = g.N.FileNames.name in
+    let name_of = g.F.Folder.name_of in
+    let past_of = g.F.Folder.past in
+    let old : State = state_of past_of c.args.self.now in
+    let rest = c.to_read.ensures.rest in
+    let past : FolderPast = past_of c.sync_file.new.self in
+    let times : times_of c.go_on.new.self ≡ goes_on old.times past = c.go_on.ensures.times ∙ (λ i. goes_on (times_of (rest i).timed) past) in
+    let went : record { past = past_of c.go_on.new.self.folder; warc = c.to_read.new.self.warc; cdxj = c.to_read.new.self.cdxj; gave_up = c.to_read.new.self.gave_up; times = times_of c.go_on.new.self } ≡ next old past =
     λ i. record {
-      past = g.F.Folder.past (c.go_on.ensures.folder i);
+      past = past_of (c.go_on.ensures.folder i);
       warc = (rest i).warc;
       cdxj = (rest i).cdxj;
       gave_up = (rest i).gave_up;
       times = times i;
     } in
-    subst (λ (s : State). Syncs {E = Error} tells name c.args.kind c.args.file old s (Ok tt)) (sym went)
+    let before : FolderPast = past_of c.to_read.new.self.timed.folder in
+    let is = c.in_ok-one.ensures.this in
+    let named : (told : IsTrue tells) → name_of c.in_ok-one.one.file ≡ name c.args.kind c.args.file =
+    λ told. open_named name name_of c.args.kind c.args.file c.in_ok-one.one is.0 is.1 before (c.in_ok-one.ensures.open told) in
+    let last : FolderPast = past_of c.keep_at_name.new.self.timed.folder in
+    let behind : state_of past_of c.keep_at_name.new.self ≡ record (next old past) { past = last } =
+    (λ i. record (state_of past_of (c.keep_at_name.ensures.rest i)) { past = last }) ∙ ap (λ (s : State). record s { past = last }) went in
+    subst (λ (s : State). Syncs {E = Error} tells name c.args.kind c.args.file old s c.keep_at_name.result) (sym behind)
+    (sync_behind {E = Error} tells name c.args.kind c.args.file old (next old past) last c.keep_at_name.result
+    (λ told. c.keep_at_name.ensures.same told ∙ (λ i. past_of (c.go_on.ensures.folder i)))
+    (sync_answered {E = Error} tells name c.args.kind c.args.file old (next old past) c.keep_at_name.result
     (synced {E = Error} tells name c.args.kind c.args.file old past
     (λ told. (
       c.requires.known told,
       c.requires.there told,
-      c.in-Ok.ensures told ∙ (λ i. did_to (c.opened.ensures.same told i) (c.in_ok-open.ensures.named told i) (Synced true)),
+      c.in-Ok.ensures told ∙ (λ i. did_to (c.to_read.ensures.same told i) (named told i) (Synced true)),
     ))
-    c.if-self.false)
+    c.if-self.false)))
 
-pub returns : goal.returns
-returns g c =
+pub returns-in-Err-clause-syncs : goal.returns-in-Err-clause-syncs
+returns-in-Err-clause-syncs g c =
     let tells = g.F.Folder.tells in
     let name = g.N.FileNames.name in
-    let old : State = state_of g.F.Folder.past c.args.self.now in
-    let past : FolderPast = g.F.Folder.past c.sync_file.new.self in
-    let rest = c.opened.ensures.rest in
-    let times : times_of c.go_on-in-Err.new.self ≡ goes_on old.times past =
-    c.go_on-in-Err.ensures.times ∙ (λ i. goes_on (times_of (rest i).timed) past) in
-    let went : record { past = g.F.Folder.past c.go_on-in-Err.new.self.folder; warc = c.opened.new.self.warc; cdxj = c.opened.new.self.cdxj; gave_up = true; times = times_of c.go_on-in-Err.new.self } ≡ given_up (next old past) =
+    let name_of = g.F.Folder.name_of in
+    let past_of = g.F.Folder.past in
+    let old : State = state_of past_of c.args.self.now in
+    let rest = c.to_read.ensures.rest in
+    let past : FolderPast = past_of c.sync_file.new.self in
+    let times : times_of c.go_on-in-Err.new.self ≡ goes_on old.times past = c.go_on-in-Err.ensures.times ∙ (λ i. goes_on (times_of (rest i).timed) past) in
+    let went : record { past = past_of c.go_on-in-Err.new.self.folder; warc = c.to_read.new.self.warc; cdxj = c.to_read.new.self.cdxj; gave_up = true; times = times_of c.go_on-in-Err.new.self } ≡ given_up (next old past) =
     λ i. record {
-      past = g.F.Folder.past (c.go_on-in-Err.ensures.folder i);
+      past = past_of (c.go_on-in-Err.ensures.folder i);
       warc = (rest i).warc;
       cdxj = (rest i).cdxj;
       gave_up = true;
       times = times i;
     } in
+    let before : FolderPast = past_of c.to_read.new.self.timed.folder in
+    let is = c.in_ok-one.ensures.this in
+    let named : (told : IsTrue tells) → name_of c.in_ok-one.one.file ≡ name c.args.kind c.args.file =
+    λ told. open_named name name_of c.args.kind c.args.file c.in_ok-one.one is.0 is.1 before (c.in_ok-one.ensures.open told) in
     subst (λ (s : State). Syncs {E = Error} tells name c.args.kind c.args.file old s (Err c.in-Err.error)) (sym went)
     (sync_missed {E = Error} tells name c.args.kind c.args.file (name c.args.kind c.args.file) old past c.in-Err.error
     (λ told. (
       c.requires.known told,
-      c.in-Err.ensures told ∙ (λ i. did_to (c.opened.ensures.same told i) (c.in_ok-open.ensures.named told i) (Synced false)),
+      c.in-Err.ensures told ∙ (λ i. did_to (c.to_read.ensures.same told i) (named told i) (Synced false)),
     )))
+
+pub returns-in-Err-clause-open : goal.returns-in-Err-clause-open
+returns-in-Err-clause-open g c = λ told.
+    none_open g.N.FileNames.name g.F.Folder.name_of (g.F.Folder.past c.go_on-in-Err.new.self.folder) c.close.new.self c.close.ensures.written c.close.ensures.read

@@ -1,6 +1,5 @@
 -- The file was written to, or nothing was done.
-use Rattle.std.proofs.Common.{◌≡◌, ℕ, List, length, sym, ◌∙◌, subst}
-use Rattle.std.proofs.lemmas.Result.{on_ok_weaker}
+use Rattle.std.proofs.Common.{◌≡◌, ℕ, Ok, Err, IsTrue, List, length, sym, ◌∙◌, subst}
 use Rattle.std.specs.declared.io.Error.{Error}
 use Rattle.folder_model.specs.Folder.{FolderPast}
 use Rattle.folder_model.specs.Times.{goes_on}
@@ -8,52 +7,126 @@ use Rattle.folder_model.specs.Timed.{times_of}
 use Rattle.folder_model.specs.Whole.{WritesWithin, IsWriting}
 use Rattle.folder_disk.specs.Calls.{WritesAt}
 use Rattle.folder_disk.specs.Held.{state_of}
+use Rattle.folder_disk.specs.OpenFiles.{AreOpen}
 use Rattle.folder_disk.specs.State.{State, next}
+use Rattle.folder_disk.specs.steps.OpenLaws.{open_named, others_same, writes_others, wrote_open, kept_after, none_open}
 use Rattle.folder_disk.specs.steps.StateLaws.{wrote, write_not_begun, at_error}
 use Rattle.folder_disk.proofs.held.Held.write_at.Goals as goal
 
-pub returns-in_err-open : goal.returns-in_err-open
-returns-in_err-open g c =
+pub returns-in_err-one-clause-writes : goal.returns-in_err-one-clause-writes
+returns-in_err-one-clause-writes g c =
     let tells = g.F.Folder.tells in
     let name = g.N.FileNames.name in
-    let old : State = state_of g.F.Folder.past c.args.self.now in
-    let past : FolderPast = g.F.Folder.past c.opened.new.self.timed.folder in
-    let rest = c.opened.ensures.rest in
-    let went : state_of g.F.Folder.past c.opened.new.self ≡ record old { past = past } =
-    λ i. record (state_of g.F.Folder.past (rest i)) { past = past } in
+    let name_of = g.F.Folder.name_of in
+    let past_of = g.F.Folder.past in
+    let old : State = state_of past_of c.args.self.now in
+    let rest = c.to_write.ensures.rest in
+    let past : FolderPast = past_of c.to_write.new.self.timed.folder in
+    let went : state_of past_of c.to_write.new.self ≡ record old { past = past } = λ i. record (state_of past_of (rest i)) { past = past } in
     subst (λ (s : State). WritesAt {E = Error} tells name c.args.kind c.args.file c.args.at c.args.bytes.now old s c.from_residual.result) (sym went)
     (at_error (λ r. WritesAt {E = Error} tells name c.args.kind c.args.file c.args.at c.args.bytes.now old (record old { past = past }) r)
     c.from_residual.result c.from_residual.ensures.0
-    (λ e. write_not_begun {E = Error} tells name c.args.kind c.args.file c.args.at c.args.bytes.now old past e c.opened.ensures.same c.requires.known))
+    (λ e. write_not_begun {E = Error} tells name c.args.kind c.args.file c.args.at c.args.bytes.now old past e c.to_write.ensures.same c.requires.known))
 
-pub returns : goal.returns
-returns g c =
+pub returns-in_err-end-clause-writes : goal.returns-in_err-end-clause-writes
+returns-in_err-end-clause-writes g c =
     let tells = g.F.Folder.tells in
     let name = g.N.FileNames.name in
-    let old : State = state_of g.F.Folder.past c.args.self.now in
-    let before : FolderPast = g.F.Folder.past c.opened.new.self.timed.folder in
-    let past : FolderPast = g.F.Folder.past c.write_whole-result.new.folder in
-    let rest = c.opened.ensures.rest in
-    let times : times_of c.go_on.new.self ≡ goes_on old.times past =
-    c.go_on.ensures.times ∙ (λ i. goes_on (times_of (rest i).timed) past) in
-    let went : record { past = g.F.Folder.past c.go_on.new.self.folder; warc = c.opened.new.self.warc; cdxj = c.opened.new.self.cdxj; gave_up = c.opened.new.self.gave_up; times = times_of c.go_on.new.self } ≡ next old past =
+    let name_of = g.F.Folder.name_of in
+    let past_of = g.F.Folder.past in
+    let old : State = state_of past_of c.args.self.now in
+    let rest = c.to_write.ensures.rest in
+    let past : FolderPast = past_of c.to_write.new.self.timed.folder in
+    let went : state_of past_of c.to_write.new.self ≡ record old { past = past } = λ i. record (state_of past_of (rest i)) { past = past } in
+    subst (λ (s : State). WritesAt {E = Error} tells name c.args.kind c.args.file c.args.at c.args.bytes.now old s c.from_residual-in_err-end.result) (sym went)
+    (at_error (λ r. WritesAt {E = Error} tells name c.args.kind c.args.file c.args.at c.args.bytes.now old (record old { past = past }) r)
+    c.from_residual-in_err-end.result c.from_residual-in_err-end.ensures.0
+    (λ e. write_not_begun {E = Error} tells name c.args.kind c.args.file c.args.at c.args.bytes.now old past e c.to_write.ensures.same c.requires.known))
+
+pub returns-in-Ok-clause-writes : goal.returns-in-Ok-clause-writes
+returns-in-Ok-clause-writes g c =
+    let tells = g.F.Folder.tells in
+    let name = g.N.FileNames.name in
+    let name_of = g.F.Folder.name_of in
+    let past_of = g.F.Folder.past in
+    let old : State = state_of past_of c.args.self.now in
+    let rest = c.to_write.ensures.rest in
+    let past : FolderPast = past_of c.write_whole.new.folder in
+    let times : times_of c.go_on.new.self ≡ goes_on old.times past = c.go_on.ensures.times ∙ (λ i. goes_on (times_of (rest i).timed) past) in
+    let went : record { past = past_of c.go_on.new.self.folder; warc = c.to_write.new.self.warc; cdxj = c.to_write.new.self.cdxj; gave_up = c.to_write.new.self.gave_up; times = times_of c.go_on.new.self } ≡ next old past =
     λ i. record {
-      past = g.F.Folder.past (c.go_on.ensures.folder i);
+      past = past_of (c.go_on.ensures.folder i);
       warc = (rest i).warc;
       cdxj = (rest i).cdxj;
       gave_up = (rest i).gave_up;
       times = times i;
     } in
-    subst (λ (s : State). WritesAt {E = Error} tells name c.args.kind c.args.file c.args.at c.args.bytes.now old s c.write_whole-result.result) (sym went)
+    let before : FolderPast = past_of c.to_write.new.self.timed.folder in
+    let is = c.in_ok-one.ensures.this in
+    let named : (told : IsTrue tells) → name_of c.in_ok-one.one.file ≡ name c.args.kind c.args.file =
+    λ told. open_named name name_of c.args.kind c.args.file c.in_ok-one.one is.0 is.1 before (c.in_ok-one.ensures.open told) in
+    let within : IsTrue tells → WritesWithin (name c.args.kind c.args.file) c.args.at (length c.args.bytes.now) old.past past =
+    λ told. subst (λ (p : FolderPast). WritesWithin (name c.args.kind c.args.file) c.args.at (length c.args.bytes.now) p past) (c.to_write.ensures.same told)
+    (subst (λ (n : List ℕ). WritesWithin n c.args.at (length c.args.bytes.now) before past) (named told) (c.write_whole.ensures.partial told)) in
+    subst (λ (s : State). WritesAt {E = Error} tells name c.args.kind c.args.file c.args.at c.args.bytes.now old s (Ok tt)) (sym went)
     (wrote tells name g.met.N.FileNames.apart c.args.kind c.args.file c.args.at c.args.bytes.now old past
-    (λ told. (
-      c.requires.known told,
-      c.requires.there told,
-      subst (λ (p : FolderPast). WritesWithin (name c.args.kind c.args.file) c.args.at (length c.args.bytes.now) p past) (c.opened.ensures.same told)
-          (subst (λ (n : List ℕ). WritesWithin n c.args.at (length c.args.bytes.now) before past) (c.in_ok-open.ensures.named told) (c.write_whole-result.ensures.partial told)),
-    ))
-    c.write_whole-result.result
-    (λ told. on_ok_weaker c.write_whole-result.result (λ writing.
-    subst (λ (p : FolderPast). IsWriting (name c.args.kind c.args.file) c.args.at c.args.bytes.now (length c.args.bytes.now) p past) (c.opened.ensures.same told)
-    (subst (λ (n : List ℕ). IsWriting n c.args.at c.args.bytes.now (length c.args.bytes.now) before past) (c.in_ok-open.ensures.named told) writing))
-    (c.write_whole-result.ensures.written told)))
+    (λ told. (c.requires.known told, c.requires.there told, within told))
+    (Ok tt)
+    (λ told. subst (λ (p : FolderPast). IsWriting (name c.args.kind c.args.file) c.args.at c.args.bytes.now (length c.args.bytes.now) p past) (c.to_write.ensures.same told)
+    (subst (λ (n : List ℕ). IsWriting n c.args.at c.args.bytes.now (length c.args.bytes.now) before past) (named told) (c.in-Ok.ensures.written told))))
+
+pub returns-in-Err-clause-writes : goal.returns-in-Err-clause-writes
+returns-in-Err-clause-writes g c =
+    let tells = g.F.Folder.tells in
+    let name = g.N.FileNames.name in
+    let name_of = g.F.Folder.name_of in
+    let past_of = g.F.Folder.past in
+    let old : State = state_of past_of c.args.self.now in
+    let rest = c.to_write.ensures.rest in
+    let past : FolderPast = past_of c.write_whole.new.folder in
+    let times : times_of c.go_on-in-Err.new.self ≡ goes_on old.times past = c.go_on-in-Err.ensures.times ∙ (λ i. goes_on (times_of (rest i).timed) past) in
+    let went : record { past = past_of c.go_on-in-Err.new.self.folder; warc = c.to_write.new.self.warc; cdxj = c.to_write.new.self.cdxj; gave_up = c.to_write.new.self.gave_up; times = times_of c.go_on-in-Err.new.self } ≡ next old past =
+    λ i. record {
+      past = past_of (c.go_on-in-Err.ensures.folder i);
+      warc = (rest i).warc;
+      cdxj = (rest i).cdxj;
+      gave_up = (rest i).gave_up;
+      times = times i;
+    } in
+    let before : FolderPast = past_of c.to_write.new.self.timed.folder in
+    let is = c.in_ok-one.ensures.this in
+    let named : (told : IsTrue tells) → name_of c.in_ok-one.one.file ≡ name c.args.kind c.args.file =
+    λ told. open_named name name_of c.args.kind c.args.file c.in_ok-one.one is.0 is.1 before (c.in_ok-one.ensures.open told) in
+    let within : IsTrue tells → WritesWithin (name c.args.kind c.args.file) c.args.at (length c.args.bytes.now) old.past past =
+    λ told. subst (λ (p : FolderPast). WritesWithin (name c.args.kind c.args.file) c.args.at (length c.args.bytes.now) p past) (c.to_write.ensures.same told)
+    (subst (λ (n : List ℕ). WritesWithin n c.args.at (length c.args.bytes.now) before past) (named told) (c.write_whole.ensures.partial told)) in
+    subst (λ (s : State). WritesAt {E = Error} tells name c.args.kind c.args.file c.args.at c.args.bytes.now old s (Err c.in-Err.error)) (sym went)
+    (wrote tells name g.met.N.FileNames.apart c.args.kind c.args.file c.args.at c.args.bytes.now old past
+    (λ told. (c.requires.known told, c.requires.there told, within told))
+    (Err c.in-Err.error) (λ told. tt))
+
+pub returns-in-Ok-clause-open : goal.returns-in-Ok-clause-open
+returns-in-Ok-clause-open g c = λ told.
+    let tells = g.F.Folder.tells in
+    let name = g.N.FileNames.name in
+    let name_of = g.F.Folder.name_of in
+    let past_of = g.F.Folder.past in
+    let old : State = state_of past_of c.args.self.now in
+    let rest = c.to_write.ensures.rest in
+    let past : FolderPast = past_of c.write_whole.new.folder in
+    let before : FolderPast = past_of c.to_write.new.self.timed.folder in
+    let is = c.in_ok-one.ensures.this in
+    let named : (told : IsTrue tells) → name_of c.in_ok-one.one.file ≡ name c.args.kind c.args.file =
+    λ told. open_named name name_of c.args.kind c.args.file c.in_ok-one.one is.0 is.1 before (c.in_ok-one.ensures.open told) in
+    let writing : IsWriting (name c.args.kind c.args.file) c.args.at c.args.bytes.now (length c.args.bytes.now) before past =
+    subst (λ (n : List ℕ). IsWriting n c.args.at c.args.bytes.now (length c.args.bytes.now) before past) (named told) (c.in-Ok.ensures.written told) in
+    let others = others_same name name_of g.met.N.FileNames.apart c.args.kind c.args.file c.ranges.file.fits before past c.to_write.new.self.files
+    (writes_others (name c.args.kind c.args.file) c.args.at (length c.args.bytes.now) before past writing.within) c.to_write.ensures.apart (c.to_write.ensures.others told) in
+    let one = wrote_open name name_of c.args.kind c.args.file c.in_ok-one.one is.0 is.1 c.args.at c.in_ok-end.end c.args.bytes.now before past c.ranges.file.fits
+    (c.in_ok-one.ensures.open told) writing c.in_ok-end.ensures.inside c.in_ok-end.ensures.end in
+    subst (λ (p : FolderPast). AreOpen name name_of p c.keep.new.self) (λ i. past_of (sym c.go_on.ensures.folder i))
+    (kept_after name name_of past c.to_write.new.self.files c.keep.new.self _ c.keep.ensures others one)
+
+pub returns-in-Err-clause-open : goal.returns-in-Err-clause-open
+returns-in-Err-clause-open g c = λ told.
+    none_open g.N.FileNames.name g.F.Folder.name_of (g.F.Folder.past c.go_on-in-Err.new.self.folder) c.close.new.self c.close.ensures.written c.close.ensures.read

@@ -1,0 +1,26 @@
+-- A disk's folder, or what stands for it where there is none.
+use Rattle.std.specs.Prelude.{ℕ, Option, Some, None, List, ⊤}
+use Rattle.disk_model.specs.declared.kind.Kind.{Kind}
+use Rattle.folder_model.specs.Folder.{FolderPast}
+use Rattle.folder_model.specs.Timed.{times_of}
+use Rattle.folder_disk.specs.Held.{AreHeld}
+use Rattle.folder_disk.specs.Kept.{InFolder, state_in}
+use Rattle.folder_disk.specs.State.{State}
+use Rattle.folder_disk.specs.declared.standing.Standing.{Standing}
+use Rattle.folder_disk.specs.declared.standing.Standing.TheVariants.{Held, Absent, Refused}
+
+-- the folder, where there is one
+abbrev pub held_at : {S N F T P : Type 0} → Standing S N F T P → Option (InFolder F)
+held_at (Held held) = Some (record { folder = held.timed.folder; warc = held.warc; cdxj = held.cdxj; gave_up = held.gave_up; times = times_of held.timed })
+held_at Absent = None
+held_at Refused = None
+
+-- the state, by what its folder tells
+abbrev pub state_at : {S N F T P : Type 0} → (F → FolderPast) → Standing S N F T P → State
+state_at past standing = state_in past (held_at standing)
+
+-- the files that it keeps open are what it takes them for
+abbrev pub AreOpenAt : {S N F T P : Type 0} → (Kind → ℕ → List ℕ) → (T → List ℕ) → (F → FolderPast) → Standing S N F T P → Type 0
+AreOpenAt name name_of past (Held held) = AreHeld name name_of past held
+AreOpenAt name name_of past Absent = ⊤
+AreOpenAt name name_of past Refused = ⊤

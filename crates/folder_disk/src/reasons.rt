@@ -1,0 +1,99 @@
+//! Why a call of a disk in a folder is refused.
+ghost use Rattle.std.specs.Prelude.{◌≡◌, ◌≤◌, ◌+◌, IsTrue, IfOk, OnOk, max};
+
+use crate::counting::greater;
+use folder_model::Folder;
+use std::io;
+use std::io::ErrorKind;
+
+/// After a file that was to be made may be there or not, or a sync failed.
+pub(crate) fn stopped() -> io::Error {
+    io::Error::other("an earlier call failed, and what it left on the disk isn't known")
+}
+
+/// Where files are in a folder of which this process doesn't know.
+pub(crate) fn files_of_others() -> io::Error {
+    io::Error::other("files of another process are in it, of which this one doesn't know")
+}
+
+/// Where a path leads to another file or folder than the one that is open.
+pub(crate) fn moved() -> io::Error {
+    io::Error::other("it was moved or replaced while it was in use")
+}
+
+/// Where a place lies past a file's length.
+fn past_the_end() -> io::Error {
+    io::Error::new(ErrorKind::InvalidInput, "a place past the end of the file")
+}
+
+/// Why a file that is there wasn't made: one that was there before isn't this process's.
+pub(crate) fn is_there_already(error: io::Error) -> io::Error {
+    if error.kind() == ErrorKind::AlreadyExists {
+        files_of_others()
+    } else {
+        error
+    }
+}
+
+/// Fails where the folder isn't at its path any more.
+pub(crate) fn check_in_place<F: Folder>(folder: &mut F) -> io::Result<()>
+    ensures { IsTrue F.tells → F.past folder.new ≡ F.past folder.old }
+{
+    if folder.is_in_place()? {
+        Ok(())
+    } else {
+        Err(moved())
+    }
+}
+
+/// Fails where so many bytes from a place on aren't within a length.
+pub(crate) fn inside(at: u64, many: usize, len: u64) -> io::Result<()>
+    ensures { OnOk result (at + many ≤ len) }
+{
+    match at.checked_add(many as u64) {
+        Some(end) => {
+            if end <= len {
+                Ok(())
+            } else {
+                Err(past_the_end())
+            }
+        }
+        None => Err(past_the_end()),
+    }
+}
+
+/// How long a file is once so many bytes were written at a place of it that isn't past its end.
+pub(crate) fn end_of(at: u64, many: usize, len: u64) -> io::Result<u64>
+    ensures inside { OnOk result (at ≤ len) }
+    ensures end { IfOk result (λ end. end ≡ max len (at + many)) }
+{
+    inside(at, 0, len)?;
+    match at.checked_add(many as u64) {
+        Some(end) => Ok(greater(len, end)),
+        None => Err(past_the_end()),
+    }
+}
+
+/// Where the folder's path is a link that leads to none, as one does whose disk isn't mounted.
+pub(crate) fn leads_nowhere() -> io::Error {
+    io::Error::new(ErrorKind::NotFound, "the link leads nowhere")
+}
+
+/// Why a folder couldn't be held.
+pub(crate) fn of_lock(error: io::Error) -> io::Error {
+    if error.kind() == ErrorKind::WouldBlock {
+        io::Error::new(ErrorKind::WouldBlock, "another process has the archive")
+    } else {
+        error
+    }
+}
+
+/// Of a disk whose folder couldn't be held or counted.
+pub(crate) fn refused() -> io::Error {
+    io::Error::other("it wasn't opened")
+}
+
+/// Of a file that isn't there.
+pub(crate) fn unknown() -> io::Error {
+    io::Error::from(ErrorKind::NotFound)
+}
