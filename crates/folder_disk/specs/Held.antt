@@ -17,6 +17,6 @@ state_of past held = record {
   past = past held.timed.folder;
   warc = held.warc;
   cdxj = held.cdxj;
-  gave_up = held.gave_up;
+  trust = held.trust;
   times = times_of held.timed;
 }

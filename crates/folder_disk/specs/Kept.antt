@@ -1,15 +1,16 @@
 -- A disk over a folder with its count of faults, as contracts see it.
-use Rattle.std.specs.Prelude.{ℕ, Bool, Option, Some, None}
+use Rattle.std.specs.Prelude.{ℕ, Option, Some, None}
 use Rattle.folder_model.specs.Folder.{FolderPast}
 use Rattle.folder_model.specs.Times.{Times}
 use Rattle.folder_disk.specs.State.{State, no_folder}
+use Rattle.folder_disk.specs.declared.trust.Trust.{Trust}
 
 -- the folder that a disk has, and what it knows of it
 pub record InFolder (F : Type 0) : Type 0 where
   pub folder : F
   pub warc : ℕ
   pub cdxj : ℕ
-  pub gave_up : Bool
+  pub trust : Trust
   pub times : Times
 
 pub record Kept (F : Type 0) : Type 0 where
@@ -20,4 +21,4 @@ pub record Kept (F : Type 0) : Type 0 where
 -- the state, by what the folder tells
 abbrev pub state_in : {F : Type 0} → (F → FolderPast) → Option (InFolder F) → State
 state_in past None = no_folder
-state_in past (Some held) = record { past = past held.folder; warc = held.warc; cdxj = held.cdxj; gave_up = held.gave_up; times = held.times }
+state_in past (Some held) = record { past = past held.folder; warc = held.warc; cdxj = held.cdxj; trust = held.trust; times = held.times }

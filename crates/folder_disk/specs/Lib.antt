@@ -1,8 +1,10 @@
 pub mod Begun
 pub mod Calls
 pub mod Counting
+pub mod Doubts
 pub mod Held
 pub mod Kept
+pub mod Mending
 pub mod NameTexts
 pub mod OpenFiles
 pub mod Standing

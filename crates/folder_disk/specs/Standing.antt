@@ -11,7 +11,7 @@ use Rattle.folder_disk.specs.declared.standing.Standing.TheVariants.{Held, Absen
 
 -- the folder, where there is one
 abbrev pub held_at : {S N F T P : Type 0} → Standing S N F T P → Option (InFolder F)
-held_at (Held held) = Some (record { folder = held.timed.folder; warc = held.warc; cdxj = held.cdxj; gave_up = held.gave_up; times = times_of held.timed })
+held_at (Held held) = Some (record { folder = held.timed.folder; warc = held.warc; cdxj = held.cdxj; trust = held.trust; times = times_of held.timed })
 held_at Absent = None
 held_at Refused = None
 

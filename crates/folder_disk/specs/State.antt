@@ -7,13 +7,15 @@ use Rattle.folder_model.specs.Folder.{FolderPast, contents_of, IsUnfailed}
 use Rattle.folder_model.specs.Seen.{IsSeen, images_of}
 use Rattle.folder_model.specs.Times.{Times, moment_of, goes_on, images_since_of}
 use Rattle.folder_model.specs.Known.{Knows, reading_of}
+use Rattle.folder_disk.specs.Doubts.{doubts_of, AreTorn}
+use Rattle.folder_disk.specs.declared.trust.Trust.{Trust}
 
--- what was done in the folder, how many files of each kind the disk knows of, whether it has given up, and its clock
+-- what was done in the folder, how many files of each kind the disk knows of, how far it is trusted, and its clock
 pub record State : Type 0 where
   pub past : FolderPast
   pub warc : ℕ
   pub cdxj : ℕ
-  pub gave_up : Bool
+  pub trust : Trust
   pub times : Times
 
 -- The state of a disk that has no folder: that of one without files, in which nothing was done.
@@ -22,7 +24,7 @@ no_folder = record {
   past = record { first = λ name. None; there = true; deeds = [] };
   warc = 0;
   cdxj = 0;
-  gave_up = false;
+  trust = record { gave_up = false; warc = None; cdxj = None };
   times = record { made = 0; begun = [] };
 }
 
@@ -36,8 +38,9 @@ unfoldable pub reading : (Kind → ℕ → List ℕ) → State → Image
 reading name s = reading_of name s.past (known_of s.warc s.cdxj)
 
 -- what the disk knows is so
-abbrev pub IsKnown : (Kind → ℕ → List ℕ) → State → Type 0
-IsKnown name s = Knows name s.past (known_of s.warc s.cdxj) s.gave_up s.times (reading name s)
+pub record IsKnown (name : Kind → ℕ → List ℕ) (s : State) : Type 0 where
+  pub knows : Knows name s.past (known_of s.warc s.cdxj) s.trust.gave_up (doubts_of s.trust) s.times (reading name s)
+  pub torn : s.trust.gave_up ≡ false → AreTorn name s.past s.trust
 
 -- the images that a crash now may leave, where the folder tells: what a read gives, and those of the folder
 abbrev pub images : Bool → (Kind → ℕ → List ℕ) → State → Image → Type 0
@@ -56,9 +59,9 @@ abbrev pub grown : Kind → State → State
 grown Warc s = record s { warc = s.warc + 1 }
 grown Cdxj s = record s { cdxj = s.cdxj + 1 }
 
--- where the disk gives up
-abbrev pub given_up : State → State
-given_up s = record s { gave_up = true }
+-- with other trust
+abbrev pub trusted : Trust → State → State
+trusted trust s = record s { trust = trust }
 
 -- The folder has so many files of each kind, fewer than 2 ^ 32 and without a gap, and no sync in it has failed since the machine was started.
 pub record IsCounted (name : Kind → ℕ → List ℕ) (past : FolderPast) (warc cdxj : ℕ) : Type 0 where
@@ -72,5 +75,5 @@ pub record IsCounted (name : Kind → ℕ → List ℕ) (past : FolderPast) (war
 pub record IsNew (warc cdxj : ℕ) (s : State) : Type 0 where
   pub warc_is : s.warc ≡ warc
   pub cdxj_is : s.cdxj ≡ cdxj
-  pub going : s.gave_up ≡ false
+  pub fresh : s.trust ≡ record { gave_up = false; warc = None; cdxj = None }
   pub first : moment_of s.times ≡ 0

@@ -4,3 +4,5 @@ pub mod CountLaws
 pub mod NameLaws
 pub mod OpenLaws
 pub mod StateLaws
+pub mod SureLaws
+pub mod TrustLaws

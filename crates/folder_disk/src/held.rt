@@ -1,15 +1,18 @@
 //! A folder that is held, as a disk.
-ghost use Rattle.std.specs.Prelude.{◌≡◌, ◌<◌, ◌≤◌, ◌+◌, true, IsTrue, IfOk, OnOk, length, take, drop};
+ghost use Rattle.std.specs.Prelude.{◌≡◌, ◌≢◌, ◌<◌, ◌≤◌, ◌+◌, Bool, true, false, Some, IsTrue, IfOk, OnOk, length, take, drop};
 ghost use Rattle.disk_model.specs.Image.{file_count, file_of};
 ghost use Rattle.folder_model.specs.Folder.{SyncedFolder, SyncedAround, did};
 ghost use Rattle.folder_disk.specs.Calls.{Creates, WritesAt, Cuts, Syncs, Looks};
+ghost use Rattle.folder_disk.specs.Doubts.{range_of, doubt_in, AfterWhole, AfterPart, GoesOn};
 ghost use Rattle.folder_disk.specs.Held.{state_of, AreHeld};
 ghost use Rattle.folder_disk.specs.State.{IsCounted, IsKnown, IsNew, reading, known_of, grown};
 
 use crate::counting::Counts;
+use crate::mending::sync_anew;
 use crate::names::FileNames;
 use crate::open_files::{OpenFiles, OpenOne};
 use crate::reasons::{check_in_place, end_of, inside, is_there_already, stopped};
+use crate::trust::Trust;
 use disk_model::Kind;
 use folder_model::{Folder, Timed, make_durably, read_whole, write_whole};
 use std::alloc::Global;
@@ -25,7 +28,7 @@ pub(crate) struct Held<F: Folder, N: FileNames> {
     pub(crate) alloc: Global,
     pub(crate) warc: u32,
     pub(crate) cdxj: u32,
-    pub(crate) gave_up: bool,
+    pub(crate) trust: Trust,
     pub(crate) files: OpenFiles<F::File>,
     pub(crate) names: PhantomData<N>,
 }
@@ -46,7 +49,7 @@ impl<F: Folder + Drop, N: FileNames> Held<F, N> {
             alloc,
             warc: counts.warc,
             cdxj: counts.cdxj,
-            gave_up: false,
+            trust: Trust::new(),
             files: OpenFiles::new(),
             names: PhantomData,
         })
@@ -68,7 +71,7 @@ impl<F: Folder, N: FileNames> Held<F, N> {
         ensures creates { Creates F.tells N.name kind (state_of F.past self.old) (state_of F.past self.new) result }
         ensures open { IsTrue F.tells → AreHeld N.name F.name_of F.past self.new }
     {
-        if self.gave_up {
+        if self.trust.gave_up {
             return Err(stopped());
         }
         let number = self.known(kind);
@@ -81,6 +84,7 @@ impl<F: Folder, N: FileNames> Held<F, N> {
         match make_durably(&mut self.timed.folder, name.as_str()) {
             Ok(file) => {
                 self.timed.go_on();
+                self.trust.synced(kind, number);
                 self.set_known(kind, count);
                 self.keep_at_name(OpenOne {
                     kind,
@@ -96,7 +100,7 @@ impl<F: Folder, N: FileNames> Held<F, N> {
                     return Err(error);
                 }
                 self.timed.go_on();
-                self.gave_up = true;
+                self.trust.gave_up = true;
                 Err(is_there_already(error))
             }
         }
@@ -120,14 +124,16 @@ impl<F: Folder, N: FileNames> Held<F, N> {
         let mut one = self.to_write(kind, file)?;
         let end = end_of(at, bytes.len(), one.len)?;
         match write_whole(&mut self.timed.folder, &one.file, at, bytes) {
-            Ok(()) => {
+            Ok(once) => {
                 self.timed.go_on();
+                self.wrote(kind, file, at, bytes.len() as u64, once);
                 one.len = end;
                 self.files.keep(one);
                 Ok(())
             }
             Err(error) => {
                 self.timed.go_on();
+                self.trust.wrote_part(kind, file, at, bytes.len() as u64);
                 self.files.close();
                 Err(error)
             }
@@ -148,12 +154,14 @@ impl<F: Folder, N: FileNames> Held<F, N> {
         match self.timed.folder.set_len(&one.file, len) {
             Ok(()) => {
                 self.timed.go_on();
+                self.trust.cut(kind, file);
                 one.len = len;
                 self.files.keep(one);
                 Ok(())
             }
             Err(error) => {
                 self.timed.go_on();
+                self.trust.cut(kind, file);
                 self.files.close();
                 Err(error)
             }
@@ -168,7 +176,7 @@ impl<F: Folder, N: FileNames> Held<F, N> {
         ensures looks { Looks F.tells N.name (state_of F.past self.old) (state_of F.past self.new) }
         ensures open { IsTrue F.tells → AreHeld N.name F.name_of F.past self.new }
     {
-        if self.gave_up {
+        if self.trust.gave_up {
             return Err(stopped());
         }
         check_in_place(&mut self.timed.folder)?;
@@ -215,21 +223,76 @@ impl<F: Folder, N: FileNames> Held<F, N> {
         ensures syncs { Syncs F.tells N.name kind file (state_of F.past self.old) (state_of F.past self.new) result }
         ensures open { IsTrue F.tells → AreHeld N.name F.name_of F.past self.new }
     {
-        if self.gave_up {
+        if self.trust.gave_up {
             return Err(stopped());
         }
+        match self.trust.doubt(kind, file) {
+            Some(range) => self.sync_again(kind, file, range.at, range.len),
+            None => self.sync_once(kind, file),
+        }
+    }
+
+    /// Syncs a file that isn't in doubt.
+    fn sync_once(&mut self, kind: Kind, file: u32) -> io::Result<()>
+        requires known { IsTrue F.tells → IsKnown N.name (state_of F.past self.old) }
+        requires open { IsTrue F.tells → AreHeld N.name F.name_of F.past self.old }
+        requires there { IsTrue F.tells → file < file_count (reading N.name (state_of F.past self.old)) kind }
+        requires going { self.old.trust.gave_up ≡ false }
+        requires sure { doubt_in (range_of self.old.trust kind) ≢ Some file }
+        ensures syncs { Syncs F.tells N.name kind file (state_of F.past self.old) (state_of F.past self.new) result }
+        ensures open { IsTrue F.tells → AreHeld N.name F.name_of F.past self.new }
+    {
         let one = self.to_read(kind, file)?;
         match self.timed.folder.sync_file(&one.file) {
             Ok(()) => {
                 self.timed.go_on();
+                self.trust.synced(kind, file);
+                self.keep_at_name(one)
+            }
+            Err(error) => {
+                self.timed.go_on();
+                self.trust.failed(kind, file);
+                self.files.close();
+                Err(error)
+            }
+        }
+    }
+
+    /// Writes the range of a file that is in doubt anew, and syncs the file.
+    fn sync_again(&mut self, kind: Kind, file: u32, at: u64, len: u64) -> io::Result<()>
+        requires known { IsTrue F.tells → IsKnown N.name (state_of F.past self.old) }
+        requires open { IsTrue F.tells → AreHeld N.name F.name_of F.past self.old }
+        requires there { IsTrue F.tells → file < file_count (reading N.name (state_of F.past self.old)) kind }
+        requires going { self.old.trust.gave_up ≡ false }
+        requires doubt { range_of self.old.trust kind ≡ Some (record { number = file; at = at; len = len; in_doubt = true }) }
+        ensures syncs { Syncs F.tells N.name kind file (state_of F.past self.old) (state_of F.past self.new) result }
+        ensures open { IsTrue F.tells → AreHeld N.name F.name_of F.past self.new }
+    {
+        let one = self.to_write(kind, file)?;
+        match sync_anew(&mut self.timed.folder, self.alloc, &one.file, at, len) {
+            Ok(()) => {
+                self.timed.go_on();
+                self.trust.synced(kind, file);
                 self.keep_at_name(one)
             }
             Err(error) => {
                 self.timed.go_on();
                 self.files.close();
-                self.gave_up = true;
                 Err(error)
             }
+        }
+    }
+
+    /// Notes that a file was written to.
+    fn wrote(&mut self, kind: Kind, file: u32, at: u64, len: u64, once: bool)
+        ensures whole { IsTrue once → GoesOn kind (AfterWhole file at len) self.old.trust self.new.trust }
+        ensures part { once ≡ false → GoesOn kind (AfterPart file at len) self.old.trust self.new.trust }
+        ensures rest { self.new ≡ record self.old { trust = self.new.trust } }
+    {
+        if once {
+            self.trust.wrote(kind, file, at, len);
+        } else {
+            self.trust.wrote_part(kind, file, at, len);
         }
     }
 

@@ -8,10 +8,12 @@ mod counting;
 mod folder_disk;
 mod handles;
 mod held;
+mod mending;
 mod names;
 mod open_files;
 mod reasons;
 mod standing;
+mod trust;
 
 pub use archive_names::{ArchiveFile, ArchiveNames, FOLDER};
 pub use causes::{Causes, counted, told};

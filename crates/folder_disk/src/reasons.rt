@@ -21,6 +21,11 @@ pub(crate) fn moved() -> io::Error {
     io::Error::other("it was moved or replaced while it was in use")
 }
 
+/// Where a call took some of the bytes that it was to take whole.
+pub(crate) fn short() -> io::Error {
+    io::Error::from(ErrorKind::WriteZero)
+}
+
 /// Where a place lies past a file's length.
 fn past_the_end() -> io::Error {
     io::Error::new(ErrorKind::InvalidInput, "a place past the end of the file")

@@ -17,12 +17,12 @@ pub record Lists (contents : Contents) (old new : List (List ℕ)) : Type 0 wher
 abbrev pub MayMake : List ℕ → FolderPast → FolderPast → Type 0
 MayMake name old new = (new ≡ old) ⊎ ((contents_of old name ≡ None) × (new ≡ did_to old name Made))
 
--- Of so many bytes that were to be written some were.
-pub record WritesInPart (name : List ℕ) (at many : ℕ) (old new : FolderPast) : Type 0 where
+-- Of the bytes that were to be written the first ones were, and a crash may leave the others torn too.
+pub record WritesInPart (name : List ℕ) (at : ℕ) (piece : List ℕ) (old new : FolderPast) : Type 0 where
   pub bytes : List ℕ
-  pub rest : ℕ
-  pub sum : length bytes + rest ≡ many
-  pub whole : new ≡ did_to old name (Wrote at bytes rest)
+  pub rest : List ℕ
+  pub all : bytes ++ rest ≡ piece
+  pub whole : new ≡ did_to old name (Wrote at bytes (length rest))
 
 -- Of a cut to a length some was done.
 pub record CutsInPart (name : List ℕ) (len : ℕ) (old new : FolderPast) : Type 0 where

@@ -1,5 +1,5 @@
 -- What a disk over a folder knows of it.
-use Rattle.std.specs.Prelude.{◌^◌, ◌≡◌, ◌<◌, ◌≤◌, ℕ, zero, suc, ◌+◌, Bool, false, if◌then◌else◌, Option, Some, None, is_some, List, [], ◌∷◌, ◌++◌}
+use Rattle.std.specs.Prelude.{◌^◌, ◌≡◌, ◌⊎◌, ◌<◌, ◌≤◌, ℕ, zero, suc, ◌+◌, Bool, false, if◌then◌else◌, Option, Some, None, is_some, List, [], ◌∷◌, ◌++◌}
 use Rattle.disk_model.specs.Image.{Image, file_count}
 use Rattle.disk_model.specs.declared.kind.Kind.{Kind}
 use Rattle.disk_model.specs.declared.kind.Kind.TheVariants.{Warc, Cdxj}
@@ -31,9 +31,14 @@ reading_of name past known =
     image_of (λ kind file. contents_of past (name kind file))
     (λ kind. if is_some (contents_of past (name kind (known kind))) then known kind + 1 else known kind)
 
+-- a file in doubt, where there is one at most of each kind
+abbrev pub IsInDoubt : (Kind → ℕ → List ℕ) → (Kind → Option ℕ) → List ℕ → Type 0
+IsInDoubt name doubts n = (kind : Kind) × (file : ℕ) × (doubts kind ≡ Some file) × (n ≡ name kind file)
+
 -- A disk that knows of so many files of each kind, fewer than 2 ^ 32, and what it reads. It has given up where a file that it was to make may be there or
--- not, or a sync failed: from then on it makes and syncs nothing. Before that all names are on the disk and syncs answer for all bytes.
-pub record Knows (name : Kind → ℕ → List ℕ) (past : FolderPast) (known : Kind → ℕ) (gave_up : Bool) (times : Times) (reading : Image) : Type 0 where
+-- not, or where a sync failed and can't be mended: from then on it makes and syncs nothing. Before that all names are on the disk, and syncs answer for all
+-- bytes but for those of files in doubt, of which a sync failed.
+pub record Knows (name : Kind → ℕ → List ℕ) (past : FolderPast) (known : Kind → ℕ) (gave_up : Bool) (doubts : Kind → Option ℕ) (times : Times) (reading : Image) : Type 0 where
   pub is : FolderIs name past reading
   pub timed : IsTimed times past
   pub numbers : (kind : Kind) → known kind < 2 ^ 32
@@ -41,4 +46,4 @@ pub record Knows (name : Kind → ℕ → List ℕ) (past : FolderPast) (known :
   pub one_more : (kind : Kind) → file_count reading kind ≤ known kind + 1
   pub all : gave_up ≡ false → (kind : Kind) → file_count reading kind ≡ known kind
   pub named : gave_up ≡ false → (kind : Kind) (file : ℕ) → file < file_count reading kind → IsNamed past (name kind file)
-  pub sure : gave_up ≡ false → (n : List ℕ) → AreBytesSure (past.first n) (deeds_of n past.deeds)
+  pub sure : gave_up ≡ false → (n : List ℕ) → IsInDoubt name doubts n ⊎ AreBytesSure (past.first n) (deeds_of n past.deeds)

@@ -1,5 +1,5 @@
 -- What the model promises to those who reason about a disk in a folder.
-use Rattle.std.specs.Prelude.{◌^◌, ◌≡◌, ◌≢◌, ◌<◌, ◌≤◌, ◌+◌, ◌-◌, ℕ, Bool, true, false, List, [], length, Option, Some, ◌∷◌, take, drop}
+use Rattle.std.specs.Prelude.{◌^◌, ◌≡◌, ◌≢◌, ◌⊎◌, ◌<◌, ◌≤◌, ◌+◌, ◌-◌, ℕ, Bool, true, false, List, [], length, Option, Some, ◌∷◌, take, drop}
 use Rattle.disk_model.specs.Crash.{Torn, Cut, OnFile, MayCreate, HasFile, Within, Follows, Leaves}
 use Rattle.disk_model.specs.Image.{Image, file_count, file_of}
 use Rattle.disk_model.specs.declared.kind.Kind.{Kind}
@@ -7,7 +7,8 @@ use Rattle.folder_model.specs.File.{Made, Wrote, Shortened, Synced, AreBytesSure
 use Rattle.folder_model.specs.Folder.{Contents, FolderPast, SyncedFolder, SyncedAround, did, did_to, deeds_of, contents_of, MayLeave, IsUnfailed}
 use Rattle.folder_model.specs.Seen.{NamesApart, IsSeen, images_of, IsNamed, IsPlaced, FolderIs}
 use Rattle.folder_model.specs.Times.{Times, IsTimed, moment_of, images_since_of}
-use Rattle.folder_model.specs.Known.{Knows}
+use Rattle.folder_model.specs.Known.{IsInDoubt, Knows}
+use Rattle.folder_model.specs.Ranges.{IsTornIn, IsTornAt}
 use Rattle.folder_model.specs.Whole.{WritesWithin, MakesInPart, made_durably}
 use Rattle.folder_model.specs.DiskCalls.{WriteLeaves, CutLeaves, SyncDone, SyncFailed, CreateDone, CreateFailed}
 
@@ -58,6 +59,18 @@ WrittenAnewIsSure =
     → ((old : List ℕ) → MayHold first deeds Sync old → take p old ≡ take p reading)
     → AreBytesSure first (Wrote p (drop p reading) 0 ∷ Shortened (length reading) 0 ∷ deeds)
 
+-- Where a file was written in one range alone since a sync of it was done, a sync answers for it again once that range is written anew as it is read, whatever
+-- syncs failed between; and writing it anew adds nothing to what a crash may leave.
+abbrev pub RangeAnewIsSure : Type 0
+RangeAnewIsSure =
+    (first : Option (List ℕ)) (deeds : List FileDeed) (at many : ℕ) (reading : List ℕ) → IsTornIn first deeds at many → read_of first deeds ≡ Some reading
+    → AreBytesSure first (Wrote at (take many (drop at reading)) 0 ∷ deeds)
+
+abbrev pub RangeAnewAddsNothing : Type 0
+RangeAnewAddsNothing =
+    (name : Kind → ℕ → List ℕ) (past : FolderPast) (n : List ℕ) (at many : ℕ) (some : List ℕ) (rest : ℕ) → IsTornAt past n at many → length some + rest ≤ many
+    → Within (images_of name past) (images_of name (did_to past n (Wrote at some rest)))
+
 -- once the folder is synced behind a file that was made a crash leaves the file there, where the folder is on the disk
 abbrev pub NewFileIsDurable : Type 0
 NewFileIsDurable =
@@ -98,49 +111,89 @@ LaterIsSinceEarlier =
 abbrev pub WritesAreTheDisks : Type 0
 WritesAreTheDisks =
     (name : Kind → ℕ → List ℕ) → NamesApart name
-    → (kind : Kind) (file at many : ℕ) (old new : FolderPast) (known : Kind → ℕ) (gave_up : Bool) (times : Times) (reading : Image)
-    → Knows name old known gave_up times reading → file < file_count reading kind → WritesWithin (name kind file) at many old new
-    → WriteLeaves name kind file at many old new known gave_up times reading
+    → (kind : Kind) (file at many : ℕ) (old new : FolderPast) (known : Kind → ℕ) (gave_up : Bool) (doubts : Kind → Option ℕ) (times : Times) (reading : Image)
+    → Knows name old known gave_up doubts times reading → file < file_count reading kind → WritesWithin (name kind file) at many old new
+    → WriteLeaves name kind file at many old new known gave_up doubts times reading
 
 abbrev pub CutsAreTheDisks : Type 0
 CutsAreTheDisks =
     (name : Kind → ℕ → List ℕ) → NamesApart name
-    → (kind : Kind) (file len rest : ℕ) (old new : FolderPast) (known : Kind → ℕ) (gave_up : Bool) (times : Times) (reading : Image)
-    → Knows name old known gave_up times reading → file < file_count reading kind → new ≡ did_to old (name kind file) (Shortened (len + rest) rest)
-    → CutLeaves name kind file len rest old new known gave_up times reading
+    → (kind : Kind) (file len rest : ℕ) (old new : FolderPast) (known : Kind → ℕ) (gave_up : Bool) (doubts : Kind → Option ℕ) (times : Times) (reading : Image)
+    → Knows name old known gave_up doubts times reading → file < file_count reading kind → new ≡ did_to old (name kind file) (Shortened (len + rest) rest)
+    → CutLeaves name kind file len rest old new known gave_up doubts times reading
 
--- a sync that is done, by a disk that hasn't given up, is a sync of the disk; one that fails changes nothing, and the disk gives up
+-- a sync that is done, by a disk that hasn't given up, of a file that syncs answer for, is a sync of the disk; that file isn't in doubt from then on
 abbrev pub SyncsAreTheDisks : Type 0
 SyncsAreTheDisks =
-    (name : Kind → ℕ → List ℕ) (kind : Kind) (file : ℕ) (old new : FolderPast) (known : Kind → ℕ) (times : Times) (reading : Image)
-    → Knows name old known false times reading → file < file_count reading kind → new ≡ did_to old (name kind file) (Synced true)
-    → SyncDone name kind file old new known times reading
+    (name : Kind → ℕ → List ℕ) (kind : Kind) (file : ℕ) (old new : FolderPast) (known : Kind → ℕ) (doubts left : Kind → Option ℕ) (times : Times) (reading : Image)
+    → Knows name old known false doubts times reading → file < file_count reading kind
+    → AreBytesSure (old.first (name kind file)) (deeds_of (name kind file) old.deeds)
+    → ((m : List ℕ) → IsInDoubt name doubts m → (m ≡ name kind file) ⊎ IsInDoubt name left m)
+    → new ≡ did_to old (name kind file) (Synced true)
+    → SyncDone name kind file old new known left times reading
 
+-- one that fails changes nothing, and the disk gives up, or it goes on and has one file more in doubt
 abbrev pub FailedSyncsAreTheDisks : Type 0
 FailedSyncsAreTheDisks =
-    (name : Kind → ℕ → List ℕ) (n : List ℕ) (old new : FolderPast) (known : Kind → ℕ) (gave_up : Bool) (times : Times) (reading : Image)
-    → Knows name old known gave_up times reading → new ≡ did_to old n (Synced false) → SyncFailed name old new known times reading
+    (name : Kind → ℕ → List ℕ) (n : List ℕ) (old new : FolderPast) (known : Kind → ℕ) (gave_up : Bool) (doubts left : Kind → Option ℕ) (times : Times) (reading : Image)
+    → Knows name old known gave_up doubts times reading → new ≡ did_to old n (Synced false) → SyncFailed name old new known true left times reading
+
+abbrev pub DoubtsAreTheDisks : Type 0
+DoubtsAreTheDisks =
+    (name : Kind → ℕ → List ℕ) (n : List ℕ) (old new : FolderPast) (known : Kind → ℕ) (gave_up : Bool) (doubts left : Kind → Option ℕ) (times : Times) (reading : Image)
+    → Knows name old known gave_up doubts times reading → ((m : List ℕ) → IsInDoubt name doubts m → IsInDoubt name left m) → IsInDoubt name left n → new ≡ did_to old n (Synced false)
+    → SyncFailed name old new known gave_up left times reading
+
+-- writing a file's torn range anew, done or not, changes nothing either; where the sync behind it is done, it is a sync of the disk
+abbrev pub MendingsAreTheDisks : Type 0
+MendingsAreTheDisks =
+    (name : Kind → ℕ → List ℕ) → NamesApart name
+    → (kind : Kind) (file at many : ℕ) (some : List ℕ) (rest : ℕ) (old new : FolderPast) (known : Kind → ℕ) (gave_up : Bool) (doubts : Kind → Option ℕ) (times : Times) (reading : Image)
+    → Knows name old known gave_up doubts times reading → file < file_count reading kind → IsTornAt old (name kind file) at many
+    → length some + rest ≤ many → some ≡ take (length some) (drop at (file_of reading kind file))
+    → new ≡ did_to old (name kind file) (Wrote at some rest)
+    → SyncFailed name old new known gave_up doubts times reading
+
+abbrev pub MendedSyncsAreTheDisks : Type 0
+MendedSyncsAreTheDisks =
+    (name : Kind → ℕ → List ℕ) → NamesApart name
+    → (kind : Kind) (file at many : ℕ) (old mid new : FolderPast) (known : Kind → ℕ) (doubts left : Kind → Option ℕ) (times : Times) (reading : Image)
+    → Knows name old known false doubts times reading → file < file_count reading kind → IsTornAt old (name kind file) at many
+    → ((m : List ℕ) → IsInDoubt name doubts m → (m ≡ name kind file) ⊎ IsInDoubt name left m)
+    → mid ≡ did_to old (name kind file) (Wrote at (take many (drop at (file_of reading kind file))) 0)
+    → new ≡ did_to mid (name kind file) (Synced true)
+    → SyncDone name kind file old new known left times reading
+
+abbrev pub UnmendedSyncsAreTheDisks : Type 0
+UnmendedSyncsAreTheDisks =
+    (name : Kind → ℕ → List ℕ) → NamesApart name
+    → (kind : Kind) (file at many : ℕ) (old mid new : FolderPast) (known : Kind → ℕ) (gave_up : Bool) (doubts : Kind → Option ℕ) (times : Times) (reading : Image)
+    → Knows name old known gave_up doubts times reading → file < file_count reading kind → IsTornAt old (name kind file) at many
+    → IsInDoubt name doubts (name kind file)
+    → mid ≡ did_to old (name kind file) (Wrote at (take many (drop at (file_of reading kind file))) 0)
+    → new ≡ did_to mid (name kind file) (Synced false)
+    → SyncFailed name old new known gave_up doubts times reading
 
 -- a file that is made so that it outlasts a crash, by a disk that hasn't given up, is made by the disk; where that fails, the disk gives up
 abbrev pub CreatesAreTheDisks : Type 0
 CreatesAreTheDisks =
     (name : Kind → ℕ → List ℕ) → NamesApart name
-    → (kind : Kind) (old : FolderPast) (known : Kind → ℕ) (times : Times) (reading : Image) → Knows name old known false times reading
+    → (kind : Kind) (old : FolderPast) (known : Kind → ℕ) (doubts : Kind → Option ℕ) (times : Times) (reading : Image) → Knows name old known false doubts times reading
     → (new : FolderPast) (more : Kind → ℕ) → new ≡ made_durably (name kind (file_count reading kind)) old
     → ((k : Kind) → more k < 2 ^ 32) → more kind ≡ known kind + 1 → ((k : Kind) → k ≢ kind → more k ≡ known k)
-    → CreateDone name kind old new more times reading
+    → CreateDone name kind old new more doubts times reading
 
 abbrev pub FailedCreatesAreTheDisks : Type 0
 FailedCreatesAreTheDisks =
     (name : Kind → ℕ → List ℕ) → NamesApart name
-    → (kind : Kind) (old : FolderPast) (known : Kind → ℕ) (times : Times) (reading : Image) → Knows name old known false times reading
-    → (new : FolderPast) → MakesInPart (name kind (file_count reading kind)) old new → CreateFailed name kind old new known times reading
+    → (kind : Kind) (old : FolderPast) (known : Kind → ℕ) (doubts : Kind → Option ℕ) (times : Times) (reading : Image) → Knows name old known false doubts times reading
+    → (new : FolderPast) → MakesInPart (name kind (file_count reading kind)) old new → CreateFailed name kind old new known doubts times reading
 
 -- a disk that counted the files of a folder, and then synced it and the one around it, knows of them
 abbrev pub OpenedDiskKnows : Type 0
 OpenedDiskKnows =
-    (name : Kind → ℕ → List ℕ) (past : FolderPast) (known : Kind → ℕ) (image : Image)
+    (name : Kind → ℕ → List ℕ) (past : FolderPast) (known : Kind → ℕ) (doubts : Kind → Option ℕ) (image : Image)
     → IsUnfailed past → IsSeen name (contents_of past) image → ((kind : Kind) → known kind < 2 ^ 32)
     → ((kind : Kind) → file_count image kind ≡ known kind)
-    → Knows name (did (did past (SyncedFolder true)) (SyncedAround true)) known false
+    → Knows name (did (did past (SyncedFolder true)) (SyncedAround true)) known false doubts
     (record { made = length (did (did past (SyncedFolder true)) (SyncedAround true)).deeds; begun = [] }) image

@@ -4,6 +4,7 @@ pub mod File
 pub mod Folder
 pub mod Known
 pub mod Laws
+pub mod Ranges
 pub mod Seen
 pub mod Timed
 pub mod Times

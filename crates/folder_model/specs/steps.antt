@@ -3,6 +3,7 @@ pub mod FileLaws
 pub mod FolderLaws
 pub mod KnownLaws
 pub mod MadeLaws
+pub mod MendLaws
 pub mod RangeLaws
 pub mod ReadingLaws
 pub mod SeenLaws

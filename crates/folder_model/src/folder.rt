@@ -62,14 +62,14 @@ pub trait Folder {
 
     /// Writes at a place that isn't past the end, and answers how many bytes of the front of `piece` were taken. Until a
     /// sync a crash may leave any bytes in their place, and any length between the old and the new. A call that fails may
-    /// have written some of the bytes.
+    /// have written the first ones of the bytes.
     fn write_at(&mut self, file: &Self::File, piece: &[u8], at: u64) -> io::Result<usize>
         requires { IsTrue tells → at ≤ length (bytes_of (past self.old) (name_of file.now)) }
         ensures bound { WritesAtMost result piece.now }
         ensures takes { IsTrue tells → IfOk result
             (λ n. past self.new ≡ did_to (past self.old) (name_of file.now) (Wrote at (take n piece.now) 0)) }
         ensures partial { IsTrue tells → OnErr result
-            (WritesInPart (name_of file.now) at (length piece.now) (past self.old) (past self.new)) };
+            (WritesInPart (name_of file.now) at piece.now (past self.old) (past self.new)) };
 
     /// Cuts a file to a length that isn't more than its own. Until a sync a crash may leave any length between, and a call
     /// that fails may have cut some of it.

@@ -1,5 +1,5 @@
 //! What the model promises to those who reason about a disk in a folder.
-ghost use Rattle.folder_model.specs.Laws.{ReadingIsLeft, NoMoreFilesAreLeft, WriteIsTorn, CutIsCut, MakingMayCreate, SyncAddsNothing, SyncedFileIsDurable, NewFileIsDurable, WrittenAnewIsSure, OpenedFolderIsDisk, EachLeftIsDisk, ImagesNowCount, SinceNowIsNow, LaterIsSinceEarlier, WritesAreTheDisks, CutsAreTheDisks, SyncsAreTheDisks, FailedSyncsAreTheDisks, CreatesAreTheDisks, FailedCreatesAreTheDisks, OpenedDiskKnows};
+ghost use Rattle.folder_model.specs.Laws.{ReadingIsLeft, NoMoreFilesAreLeft, WriteIsTorn, CutIsCut, MakingMayCreate, SyncAddsNothing, SyncedFileIsDurable, NewFileIsDurable, WrittenAnewIsSure, RangeAnewIsSure, RangeAnewAddsNothing, OpenedFolderIsDisk, EachLeftIsDisk, ImagesNowCount, SinceNowIsNow, LaterIsSinceEarlier, WritesAreTheDisks, CutsAreTheDisks, SyncsAreTheDisks, FailedSyncsAreTheDisks, DoubtsAreTheDisks, MendingsAreTheDisks, MendedSyncsAreTheDisks, UnmendedSyncsAreTheDisks, CreatesAreTheDisks, FailedCreatesAreTheDisks, OpenedDiskKnows};
 
 /// Each deed in a folder is a step of the disk that is seen in it, however files are named.
 pub fn each_deed_is_a_step_of_the_disk()
@@ -14,6 +14,12 @@ pub fn what_was_synced_is_durable()
     ensures file { SyncedFileIsDurable }
     ensures name { NewFileIsDurable }
     ensures anew { WrittenAnewIsSure }
+{}
+
+/// What a sync that failed leaves in doubt of a file that was written in one range is mended by writing the range anew.
+pub fn what_a_failed_sync_leaves_is_mended()
+    ensures sure { RangeAnewIsSure }
+    ensures adds_none { RangeAnewAddsNothing }
 {}
 
 /// What a crash leaves of a folder is a disk, with no file more than reads find and without a gap.
@@ -38,6 +44,10 @@ pub fn each_call_is_the_disks()
     ensures cut { CutsAreTheDisks }
     ensures sync { SyncsAreTheDisks }
     ensures sync_failed { FailedSyncsAreTheDisks }
+    ensures doubt { DoubtsAreTheDisks }
+    ensures mending { MendingsAreTheDisks }
+    ensures mended { MendedSyncsAreTheDisks }
+    ensures unmended { UnmendedSyncsAreTheDisks }
     ensures create { CreatesAreTheDisks }
     ensures create_failed { FailedCreatesAreTheDisks }
 {}

@@ -31,20 +31,55 @@ pub fn read_whole<F: Folder>(
     Ok(())
 }
 
-/// Writes all bytes at a place of a file that isn't past its end, over what is there and behind it. A call that fails may
-/// have written some of them.
+/// Writes all bytes at a place of a file that isn't past its end, over what is there and behind it, and answers whether one
+/// call took them all. A call that fails may have written some of them.
 pub fn write_whole<F: Folder>(
     folder: &mut F,
     file: &F::File,
     at: u64,
     bytes: &[u8],
-) -> io::Result<()>
+) -> io::Result<bool>
     requires { IsTrue F.tells → IsInFile (F.past folder.old) (F.name_of file.now) at }
     ensures written { IsTrue F.tells → OnOk result
         (IsWriting (F.name_of file.now) at bytes.now (length bytes.now) (F.past folder.old) (F.past folder.new)) }
+    ensures once { IsTrue F.tells → IfOk result (λ once. IsTrue once →
+        F.past folder.new ≡ did_to (F.past folder.old) (F.name_of file.now) (Wrote at bytes.now 0)) }
     ensures partial { IsTrue F.tells → WritesWithin (F.name_of file.now) at (length bytes.now) (F.past folder.old) (F.past folder.new) }
 {
-    let mut done = 0;
+    match folder.write_at(file, bytes, at) {
+        Ok(n) => {
+            if n == bytes.len() {
+                return Ok(true);
+            }
+            write_rest(folder, file, at, bytes, n)?;
+            Ok(false)
+        }
+        Err(error) => {
+            if error.kind() != ErrorKind::Interrupted {
+                return Err(error);
+            }
+            write_rest(folder, file, at, bytes, 0)?;
+            Ok(false)
+        }
+    }
+}
+
+/// Writes the bytes behind the first `done` ones.
+fn write_rest<F: Folder>(
+    folder: &mut F,
+    file: &F::File,
+    at: u64,
+    bytes: &[u8],
+    done: usize,
+) -> io::Result<()>
+    requires inside { done ≤ length bytes.now }
+    requires so_far { IsTrue F.tells → (old : FolderPast) × IsWriting (F.name_of file.now) at bytes.now done old (F.past folder.old) }
+    ensures written { IsTrue F.tells → (old : FolderPast) → IsWriting (F.name_of file.now) at bytes.now done old (F.past folder.old)
+        → OnOk result (IsWriting (F.name_of file.now) at bytes.now (length bytes.now) old (F.past folder.new)) }
+    ensures partial { IsTrue F.tells → (old : FolderPast) → IsWriting (F.name_of file.now) at bytes.now done old (F.past folder.old)
+        → WritesWithin (F.name_of file.now) at (length bytes.now) old (F.past folder.new) }
+{
+    let mut done = done;
     while done < bytes.len() {
         let place = place_behind(at, done)?;
         done += write_some(folder, file, place, bytes, done)?;

@@ -95,7 +95,7 @@ impl MemoryFolder {
 
     /// Fails to write, where the first half may be written.
     fn fail_write(&mut self, name: &str, at: u64, piece: &[u8])
-        ensures { WritesInPart name.now at (length piece.now) (past_of self.old.store) (past_of self.new.store) }
+        ensures { WritesInPart name.now at piece.now (past_of self.old.store) (past_of self.new.store) }
     {
         let half = if self.plan.in_part {
             piece.len() / 2

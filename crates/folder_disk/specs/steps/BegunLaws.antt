@@ -8,6 +8,8 @@ use Rattle.disk_model.specs.declared.kind.Kind.TheVariants.{Warc, Cdxj}
 use Rattle.folder_model.specs.Times.{moment_of}
 use Rattle.folder_model.specs.Known.{image_of}
 use Rattle.folder_disk.specs.Calls.{Creates}
+use Rattle.folder_disk.specs.Doubts.{AreTorn}
+use Rattle.folder_disk.specs.declared.trust.Trust.{Trust}
 use Rattle.folder_disk.specs.State.{State, no_folder, known_of, reading, IsKnown, images, images_since, IsNew}
 use Rattle.folder_disk.specs.steps.StateLaws.{no_more, now_counts, now_only}
 
@@ -21,22 +23,25 @@ nothing_read name = refl
 pub no_folder_known : (name : Kind → ℕ → List ℕ) → IsKnown name no_folder
 unfolding reading no_folder image_of files_of
 no_folder_known name = record {
-  is = record {
-    seen = record {
-      few = λ kind. counts_small kind;
-      there = λ kind file inside. absurd (omega (arith, inside, counts kind));
-      no_more = λ kind file outside small. refl;
+  knows = record {
+    is = record {
+      seen = record {
+        few = λ kind. counts_small kind;
+        there = λ kind file inside. absurd (omega (arith, inside, counts kind));
+        no_more = λ kind file outside small. refl;
+      };
+      placed = refl;
+      named = λ kind file inside. absurd (omega (arith, inside, counts kind));
     };
-    placed = refl;
-    named = λ kind file inside. absurd (omega (arith, inside, counts kind));
+    timed = record { rises = tt; now = refl };
+    numbers = numbers;
+    no_fewer = λ kind. omega (arith, known_none kind);
+    one_more = λ kind. omega (arith, counts kind);
+    all = λ goes kind. counts kind ∙ sym (known_none kind);
+    named = λ goes kind file inside. absurd (omega (arith, inside, counts kind));
+    sure = λ goes n. inr (λ bytes holds. holds);
   };
-  timed = record { rises = tt; now = refl };
-  numbers = numbers;
-  no_fewer = λ kind. omega (arith, known_none kind);
-  one_more = λ kind. omega (arith, counts kind);
-  all = λ goes kind. counts kind ∙ sym (known_none kind);
-  named = λ goes kind file inside. absurd (omega (arith, inside, counts kind));
-  sure = λ goes n bytes holds. holds;
+  torn = λ goes kind. none_torn kind;
 }
   where
     counts : (kind : Kind) → file_count (reading name no_folder) kind ≡ 0
@@ -52,6 +57,10 @@ no_folder_known name = record {
 
     numbers : (kind : Kind) → known_of 0 0 kind < 2 ^ 32
     numbers kind = omega (arith, known_none kind)
+
+    none_torn : AreTorn name no_folder.past no_folder.trust
+    none_torn Warc = tt
+    none_torn Cdxj = tt
 
 none_moment : moment_of no_folder.times ≡ 0
 unfolding no_folder
@@ -79,7 +88,7 @@ none_counted name kind = omega (arith, ap (λ (i : Image). file_count i kind) (n
 -- a disk that was just begun without files
 module _ (tells : Bool) (name : Kind → ℕ → List ℕ) (held : State) (is_new : IsNew 0 0 held) (known : IsTrue tells → IsKnown name held) where
   counts_none : IsTrue tells → (kind : Kind) → file_count (reading name held) kind ≡ 0
-  counts_none told kind = (known told).all is_new.going kind ∙ none kind
+  counts_none told kind = (known told).knows.all (ap (λ (t : Trust). t.gave_up) is_new.fresh) kind ∙ none kind
     where
       none : (kind : Kind) → known_of held.warc held.cdxj kind ≡ 0
       none Warc = is_new.warc_is

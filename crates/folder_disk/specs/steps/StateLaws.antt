@@ -15,15 +15,17 @@ use Rattle.std.specs.Option.{unwrap_or}
 use Rattle.folder_model.specs.Folder.{Deed, Did, FolderPast, SyncedFolder, SyncedAround, did, did_to, contents_of, bytes_of}
 use Rattle.folder_model.specs.Seen.{NamesApart, images_of}
 use Rattle.folder_model.specs.Times.{Times, moment_of, goes_on, images_since_of}
-use Rattle.folder_model.specs.Known.{Knows}
+use Rattle.folder_model.specs.Known.{IsInDoubt, Knows}
 use Rattle.folder_model.specs.Whole.{AreSyncs, WritesWithin, IsWriting, MakesInPart, made_durably}
 use Rattle.folder_model.specs.steps.ReadingLaws.{contents_of-same}
 use Rattle.folder_disk.specs.steps.OpenLaws.{sync_all_same}
 use Rattle.folder_model.specs.DiskCalls.{WriteLeaves, CutLeaves, SyncDone, SyncFailed, CreateDone, CreateFailed}
-use Rattle.folder_model.specs.steps.KnownLaws.{reading_is, write_leaves, cut_leaves, sync_done, sync_failed, create_done, create_failed, written_is_read, opened_knows}
+use Rattle.folder_model.specs.steps.KnownLaws.{reading_is, write_leaves, cut_leaves, create_done, create_failed, written_is_read, opened_knows}
 use Rattle.folder_model.specs.steps.SeenLaws.{reading_is_left, no_more_left}
 use Rattle.folder_model.specs.steps.TimeLaws.{image_now, image_only_now, image_earlier}
-use Rattle.folder_disk.specs.State.{State, known_of, reading, IsKnown, images, images_since, IsCounted, next, grown, given_up}
+use Rattle.folder_disk.specs.State.{State, known_of, reading, IsKnown, images, images_since, IsCounted, next, grown, trusted}
+use Rattle.folder_disk.specs.Doubts.{doubts_of, AreTorn}
+use Rattle.folder_disk.specs.declared.trust.Trust.{Trust}
 use Rattle.folder_disk.specs.Calls.{Creates, WritesAt, Cuts, Syncs, Looks}
 
 -- ---- the laws of `Disk`
@@ -33,29 +35,29 @@ reading_counts tells name s told = (told, inl refl)
 
 pub no_more : (tells : Bool) (name : Kind → ℕ → List ℕ) (s : State) (image : Image) (kind : Kind) → images tells name s image → file_count image kind ≤ file_count (reading name s) kind
 no_more tells name s image kind (told, inl same) = omega (arith, ap (λ (i : Image). file_count i kind) same)
-no_more tells name s image kind (told, inr left) = no_more_left name s.past (reading name s) image kind left.0.is.seen left.1
+no_more tells name s image kind (told, inr left) = no_more_left name s.past (reading name s) image kind left.0.knows.is.seen left.1
 
 pub now_counts : (tells : Bool) (name : Kind → ℕ → List ℕ) (s : State) (t : ℕ) (image : Image) → images tells name s image → images_since tells name s t image
 now_counts tells name s t image (told, inl same) = (told, inl same)
-now_counts tells name s t image (told, inr left) = (told, inr (left.0, image_now name s.past s.times t image left.0.timed left.1))
+now_counts tells name s t image (told, inr left) = (told, inr (left.0, image_now name s.past s.times t image left.0.knows.timed left.1))
 
 pub now_only : (tells : Bool) (name : Kind → ℕ → List ℕ) (s : State) (image : Image) → images_since tells name s (moment_of s.times) image → images tells name s image
 now_only tells name s image (told, inl same) = (told, inl same)
-now_only tells name s image (told, inr left) = (told, inr (left.0, image_only_now name s.past s.times image left.0.timed left.1))
+now_only tells name s image (told, inr left) = (told, inr (left.0, image_only_now name s.past s.times image left.0.knows.timed left.1))
 
 pub earlier : (tells : Bool) (name : Kind → ℕ → List ℕ) (s : State) (t later : ℕ) (image : Image) → t ≤ later → images_since tells name s later image → images_since tells name s t image
 earlier tells name s t later image le (told, inl same) = (told, inl same)
-earlier tells name s t later image le (told, inr left) = (told, inr (left.0, image_earlier name s.past s.times t later image left.0.timed le left.1))
+earlier tells name s t later image le (told, inr left) = (told, inr (left.0, image_earlier name s.past s.times t later image left.0.knows.timed le left.1))
 
 -- ---- where what the disk knows is so, its images are the folder's
 
 to_folder : (name : Kind → ℕ → List ℕ) (s : State) (tells : Bool) (image : Image) → IsKnown name s → images tells name s image → images_of name s.past image
-to_folder name s tells image known (told, inl same) = subst (images_of name s.past) (sym same) (reading_is_left name s.past (reading name s) known.is.seen)
+to_folder name s tells image known (told, inl same) = subst (images_of name s.past) (sym same) (reading_is_left name s.past (reading name s) known.knows.is.seen)
 to_folder name s tells image known (told, inr left) = left.1
 
 to_folder_since : (name : Kind → ℕ → List ℕ) (s : State) (tells : Bool) (t : ℕ) (image : Image) → IsKnown name s → images_since tells name s t image → images_since_of name s.past s.times t image
 to_folder_since name s tells t image known (told, inl same) =
-    image_now name s.past s.times t image known.timed (subst (images_of name s.past) (sym same) (reading_is_left name s.past (reading name s) known.is.seen))
+    image_now name s.past s.times t image known.knows.timed (subst (images_of name s.past) (sym same) (reading_is_left name s.past (reading name s) known.knows.is.seen))
 to_folder_since name s tells t image known (told, inr left) = left.1
 
 -- steps and time, from the folder's images to the disk's
@@ -119,37 +121,70 @@ module _ (tells : Bool) (name : Kind → ℕ → List ℕ) (s : State) (past : F
 -- ---- calls
 
 -- what is known of an image is known of the reading
-known_reading : (name : Kind → ℕ → List ℕ) (s : State) (image : Image) → Knows name s.past (known_of s.warc s.cdxj) s.gave_up s.times image → reading name s ≡ image
+known_reading : (name : Kind → ℕ → List ℕ) (s : State) (image : Image) (gave_up : Bool) (doubts : Kind → Option ℕ)
+    → Knows name s.past (known_of s.warc s.cdxj) gave_up doubts s.times image → reading name s ≡ image
 unfolding reading
-known_reading name s image knows = reading_is name s.past (known_of s.warc s.cdxj) image knows.is.seen knows.numbers knows.no_fewer knows.one_more
+known_reading name s image gave_up doubts knows = reading_is name s.past (known_of s.warc s.cdxj) image knows.is.seen knows.numbers knows.no_fewer knows.one_more
 
-is_known : (name : Kind → ℕ → List ℕ) (s : State) (image : Image) → Knows name s.past (known_of s.warc s.cdxj) s.gave_up s.times image → IsKnown name s
-is_known name s image knows =
-    subst (λ (i : Image). Knows name s.past (known_of s.warc s.cdxj) s.gave_up s.times i) (sym (known_reading name s image knows)) knows
+is_known : (name : Kind → ℕ → List ℕ) (s : State) (image : Image) → Knows name s.past (known_of s.warc s.cdxj) s.trust.gave_up (doubts_of s.trust) s.times image
+    → (s.trust.gave_up ≡ false → AreTorn name s.past s.trust) → IsKnown name s
+is_known name s image knows torn = record {
+  knows = subst (λ (i : Image). Knows name s.past (known_of s.warc s.cdxj) s.trust.gave_up (doubts_of s.trust) s.times i)
+      (sym (known_reading name s image s.trust.gave_up (doubts_of s.trust) knows)) knows;
+  torn = torn;
+}
+
+-- the trust that is left: it wasn't given up before, nothing that was in doubt was forgotten, and what is known of files is so
+abbrev pub TrustStays : (Kind → ℕ → List ℕ) → Trust → FolderPast → Trust → Type 0
+TrustStays name old past new =
+    new.gave_up ≡ false → (old.gave_up ≡ false) × ((m : List ℕ) → IsInDoubt name (doubts_of old) m → IsInDoubt name (doubts_of new) m) × AreTorn name past new
+
+-- what is known with less trust
+knows_still : (name : Kind → ℕ → List ℕ) (past : FolderPast) (known : Kind → ℕ) (old new : Trust) (times : Times) (image : Image)
+    → Knows name past known old.gave_up (doubts_of old) times image → TrustStays name old past new → Knows name past known new.gave_up (doubts_of new) times image
+knows_still name past known old new times image knows stays = record {
+  is = knows.is;
+  timed = knows.timed;
+  numbers = knows.numbers;
+  no_fewer = knows.no_fewer;
+  one_more = knows.one_more;
+  all = λ goes. knows.all (stays goes).0;
+  named = λ goes. knows.named (stays goes).0;
+  sure = λ goes n. ⊎_elim (λ doubt. inl ((stays goes).1 n doubt)) (λ sure. inr sure) (knows.sure (stays goes).0 n);
+}
 
 -- a write, however it ended
-module _ (tells : Bool) (name : Kind → ℕ → List ℕ) (apart : NamesApart name) (kind : Kind) (file at : ℕ) (bytes : List ℕ) (old : State) (past : FolderPast)
-    (law : IsTrue tells → IsKnown name old × (file < file_count (reading name old) kind) × WritesWithin (name kind file) at (length bytes) old.past past) where
-  left : IsTrue tells → WriteLeaves name kind file at (length bytes) old.past past (known_of old.warc old.cdxj) old.gave_up old.times (reading name old)
+module _ (tells : Bool) (name : Kind → ℕ → List ℕ) (apart : NamesApart name) (kind : Kind) (file at : ℕ) (bytes : List ℕ) (old : State) (past : FolderPast) (trust : Trust)
+    (law : IsTrue tells → IsKnown name old × (file < file_count (reading name old) kind) × WritesWithin (name kind file) at (length bytes) old.past past)
+    (stays : IsTrue tells → TrustStays name old.trust past trust) where
+  left : IsTrue tells → WriteLeaves name kind file at (length bytes) old.past past (known_of old.warc old.cdxj) old.trust.gave_up (doubts_of old.trust) old.times (reading name old)
   left told =
-      write_leaves name apart kind file at (length bytes) old.past past (known_of old.warc old.cdxj) old.gave_up old.times (reading name old) (law told).0 (law told).1 (law told).2
+      write_leaves name apart kind file at (length bytes) old.past past (known_of old.warc old.cdxj) old.trust.gave_up (doubts_of old.trust) old.times (reading name old)
+      (law told).0.knows (law told).1 (law told).2
 
-  read_now : (told : IsTrue tells) → reading name (next old past) ≡ with_file (reading name old) kind file (left told).bytes
-  read_now told = known_reading name (next old past) (with_file (reading name old) kind file (left told).bytes) (left told).knows
+  read_now : (told : IsTrue tells) → reading name (trusted trust (next old past)) ≡ with_file (reading name old) kind file (left told).bytes
+  read_now told =
+      known_reading name (trusted trust (next old past)) (with_file (reading name old) kind file (left told).bytes) old.trust.gave_up (doubts_of old.trust) (left told).knows
+
+  known_now : IsTrue tells → IsKnown name (trusted trust (next old past))
+  known_now told =
+      is_known name (trusted trust (next old past)) (with_file (reading name old) kind file (left told).bytes)
+      (knows_still name past (known_of old.warc old.cdxj) old.trust trust (goes_on old.times past) (with_file (reading name old) kind file (left told).bytes) (left told).knows (stays told))
+      (λ goes. (stays told goes).2)
 
   pub wrote : {E : Type 0} (result : Result ⊤ E)
       → (IsTrue tells → OnOk result (IsWriting (name kind file) at bytes (length bytes) old.past past))
-      → WritesAt tells name kind file at bytes old (next old past) result
+      → WritesAt tells name kind file at bytes old (trusted trust (next old past)) result
   wrote {E} result done = record {
-    known = λ told. is_known name (next old past) (with_file (reading name old) kind file (left told).bytes) (left told).knows;
+    known = λ told. known_now told;
     written = λ told. on_ok result (done told) (λ writing.
         read_now told ∙ ap (λ (b : List ℕ). with_file (reading name old) kind file b)
-        (written_is_read name kind file at bytes (left told).bytes old.past past (reading name old) (law told).0.is (law told).1 (left told).knows.is writing));
+        (written_is_read name kind file at bytes (left told).bytes old.past past (reading name old) (law told).0.knows.is (law told).1 (left told).knows.is writing));
     partial = λ told. on_err result (record { bytes = (left told).bytes; step = (left told).torn; whole = read_now told });
-    crash = as_follows tells name old (next old past) (OnFile kind file (Torn at (length bytes))) (λ told. ((law told).0, is_known name (next old past) (with_file (reading name old) kind file (left told).bytes) (left told).knows, (left told).follows));
-    time = as_elapses tells name old (next old past) (images_of name past) (images tells name (next old past)) (omega arith) (omega arith)
-        (λ image told is. (told, inr (is_known name (next old past) (with_file (reading name old) kind file (left told).bytes) (left told).knows, is)))
-        (λ told. ((law told).0, is_known name (next old past) (with_file (reading name old) kind file (left told).bytes) (left told).knows, (left told).time));
+    crash = as_follows tells name old (trusted trust (next old past)) (OnFile kind file (Torn at (length bytes))) (λ told. ((law told).0, known_now told, (left told).follows));
+    time = as_elapses tells name old (trusted trust (next old past)) (images_of name past) (images tells name (trusted trust (next old past))) (omega arith) (omega arith)
+        (λ image told is. (told, inr (known_now told, is)))
+        (λ told. ((law told).0, known_now told, (left told).time));
   }
     where
       on_ok : {P Q : Type 0} (r : Result ⊤ E) → OnOk r P → (P → Q) → OnOk r Q
@@ -160,98 +195,83 @@ module _ (tells : Bool) (name : Kind → ℕ → List ℕ) (apart : NamesApart n
       on_err (Ok x) holds = tt
       on_err (Err e) holds = holds
 
--- a sync that was done, by a disk that hasn't given up
-pub synced : {E : Type 0} (tells : Bool) (name : Kind → ℕ → List ℕ) (kind : Kind) (file : ℕ) (old : State) (past : FolderPast)
-    → (IsTrue tells → IsKnown name old × (file < file_count (reading name old) kind) × (past ≡ did_to old.past (name kind file) (Synced true)))
-    → old.gave_up ≡ false → Syncs {E = E} tells name kind file old (next old past) (Ok tt)
-synced {E} tells name kind file old past law goes = record {
-  known = λ told. known_now told;
-  durable = as_leaves tells name old (next old past) (HasFile kind file (file_of (reading name old) kind file)) (λ told. (known_now told, (done told).durable));
-  same = λ told. same_now told;
-  crash = as_within tells name old (next old past) (λ told. ((law told).0, known_now told, (done told).within));
-  time = as_elapses tells name old (next old past) (images_of name past) (images tells name (next old past)) (omega arith) (omega arith)
-      (λ image told is. (told, inr (known_now told, is)))
-      (λ told. ((law told).0, known_now told, (done told).time));
-}
-  where
-    going : IsTrue tells → Knows name old.past (known_of old.warc old.cdxj) false old.times (reading name old)
-    going told = subst (λ (b : Bool). Knows name old.past (known_of old.warc old.cdxj) b old.times (reading name old)) goes (law told).0
+-- a sync that was done
+module _ (tells : Bool) (name : Kind → ℕ → List ℕ) (kind : Kind) (file : ℕ) (old : State) (past : FolderPast) (trust : Trust)
+    (known : IsTrue tells → IsKnown name old)
+    (done : IsTrue tells → SyncDone name kind file old.past past (known_of old.warc old.cdxj) (doubts_of trust) old.times (reading name old))
+    (goes : trust.gave_up ≡ false) (torn : IsTrue tells → AreTorn name past trust) where
+  synced_known : IsTrue tells → IsKnown name (trusted trust (next old past))
+  synced_known told =
+      is_known name (trusted trust (next old past)) (reading name old)
+      (subst (λ (b : Bool). Knows name past (known_of old.warc old.cdxj) b (doubts_of trust) (goes_on old.times past) (reading name old)) (sym goes) (done told).knows)
+      (λ g. torn told)
 
-    done : IsTrue tells → SyncDone name kind file old.past past (known_of old.warc old.cdxj) old.times (reading name old)
-    done told = sync_done name kind file old.past past (known_of old.warc old.cdxj) old.times (reading name old)
-        (subst (λ (b : Bool). Knows name old.past (known_of old.warc old.cdxj) b old.times (reading name old)) goes (law told).0) (law told).1 (law told).2
-
-    knows_now : IsTrue tells → Knows name past (known_of old.warc old.cdxj) old.gave_up (goes_on old.times past) (reading name old)
-    knows_now told = subst (λ (b : Bool). Knows name past (known_of old.warc old.cdxj) b (goes_on old.times past) (reading name old)) (sym goes)
-        (sync_done name kind file old.past past (known_of old.warc old.cdxj) old.times (reading name old)
-        (subst (λ (b : Bool). Knows name old.past (known_of old.warc old.cdxj) b old.times (reading name old)) goes (law told).0) (law told).1 (law told).2).knows
-
-    same_now : IsTrue tells → reading name (next old past) ≡ reading name old
-    same_now told = known_reading name (next old past) (reading name old)
-        (subst (λ (b : Bool). Knows name past (known_of old.warc old.cdxj) b (goes_on old.times past) (reading name old)) (sym goes)
-        (sync_done name kind file old.past past (known_of old.warc old.cdxj) old.times (reading name old)
-        (subst (λ (b : Bool). Knows name old.past (known_of old.warc old.cdxj) b old.times (reading name old)) goes (law told).0) (law told).1 (law told).2).knows)
-
-    known_now : IsTrue tells → IsKnown name (next old past)
-    known_now told = is_known name (next old past) (reading name old)
-        (subst (λ (b : Bool). Knows name past (known_of old.warc old.cdxj) b (goes_on old.times past) (reading name old)) (sym goes)
-        (sync_done name kind file old.past past (known_of old.warc old.cdxj) old.times (reading name old)
-        (subst (λ (b : Bool). Knows name old.past (known_of old.warc old.cdxj) b old.times (reading name old)) goes (law told).0) (law told).1 (law told).2).knows)
+  pub synced : {E : Type 0} → Syncs {E = E} tells name kind file old (trusted trust (next old past)) (Ok tt)
+  synced {E} = record {
+    known = λ told. synced_known told;
+    durable = as_leaves tells name old (trusted trust (next old past)) (HasFile kind file (file_of (reading name old) kind file)) (λ told. (synced_known told, (done told).durable));
+    same = λ told. known_reading name (trusted trust (next old past)) (reading name old) false (doubts_of trust) (done told).knows;
+    crash = as_within tells name old (trusted trust (next old past)) (λ told. (known told, synced_known told, (done told).within));
+    time = as_elapses tells name old (trusted trust (next old past)) (images_of name past) (images tells name (trusted trust (next old past))) (omega arith) (omega arith)
+        (λ image told is. (told, inr (synced_known told, is)))
+        (λ told. (known told, synced_known told, (done told).time));
+  }
 
 -- a sync that failed
-pub sync_missed : {E : Type 0} (tells : Bool) (name : Kind → ℕ → List ℕ) (kind : Kind) (file : ℕ) (n : List ℕ) (old : State) (past : FolderPast) (e : E)
-    → (IsTrue tells → IsKnown name old × (past ≡ did_to old.past n (Synced false)))
-    → Syncs tells name kind file old (given_up (next old past)) (Err e)
-sync_missed tells name kind file n old past e law = record {
-  known = λ told. known_now told;
-  durable = tt;
-  same = λ told. known_reading name (given_up (next old past)) (reading name old) (missed told).knows;
-  crash = as_within tells name old (given_up (next old past)) (λ told. ((law told).0, known_now told, (missed told).within));
-  time = as_elapses tells name old (given_up (next old past)) (images_of name past) (images tells name (given_up (next old past))) (omega arith) (omega arith)
-      (λ image told is. (told, inr (known_now told, is)))
-      (λ told. ((law told).0, known_now told, (missed told).time));
-}
-  where
-    missed : IsTrue tells → SyncFailed name old.past past (known_of old.warc old.cdxj) old.times (reading name old)
-    missed told = sync_failed name n old.past past (known_of old.warc old.cdxj) old.gave_up old.times (reading name old) (law told).0 (law told).1
+module _ (tells : Bool) (name : Kind → ℕ → List ℕ) (kind : Kind) (file : ℕ) (old : State) (past : FolderPast) (trust : Trust)
+    (known : IsTrue tells → IsKnown name old)
+    (missed : IsTrue tells → SyncFailed name old.past past (known_of old.warc old.cdxj) trust.gave_up (doubts_of trust) old.times (reading name old))
+    (torn : IsTrue tells → trust.gave_up ≡ false → AreTorn name past trust) where
+  missed_known : IsTrue tells → IsKnown name (trusted trust (next old past))
+  missed_known told = is_known name (trusted trust (next old past)) (reading name old) (missed told).knows (torn told)
 
-    known_now : IsTrue tells → IsKnown name (given_up (next old past))
-    known_now told = is_known name (given_up (next old past)) (reading name old)
-        (sync_failed name n old.past past (known_of old.warc old.cdxj) old.gave_up old.times (reading name old) (law told).0 (law told).1).knows
+  pub sync_missed : {E : Type 0} (e : E) → Syncs tells name kind file old (trusted trust (next old past)) (Err e)
+  sync_missed e = record {
+    known = λ told. missed_known told;
+    durable = tt;
+    same = λ told. known_reading name (trusted trust (next old past)) (reading name old) trust.gave_up (doubts_of trust) (missed told).knows;
+    crash = as_within tells name old (trusted trust (next old past)) (λ told. (known told, missed_known told, (missed told).within));
+    time = as_elapses tells name old (trusted trust (next old past)) (images_of name past) (images tells name (trusted trust (next old past))) (omega arith) (omega arith)
+        (λ image told is. (told, inr (missed_known told, is)))
+        (λ told. (known told, missed_known told, (missed told).time));
+  }
 
 -- ---- a file that is made
 
--- a call that failed
+-- a call that failed, and the disk gives up
 pub create_missed : {E : Type 0} (tells : Bool) (name : Kind → ℕ → List ℕ) (apart : NamesApart name) (kind : Kind) (old : State) (past : FolderPast) (e : E)
     → (IsTrue tells → IsKnown name old × MakesInPart (name kind (known_of old.warc old.cdxj kind)) old.past past)
-    → old.gave_up ≡ false
-    → Creates tells name kind old (given_up (next old past)) (Err e)
+    → old.trust.gave_up ≡ false
+    → Creates tells name kind old (trusted (record old.trust { gave_up = true }) (next old past)) (Err e)
 create_missed tells name apart kind old past e law goes = record {
   known = λ told. known_now told;
   number = λ told. tt;
   created = λ told. tt;
   partial = λ told.
-      subst (MayCreate kind (file_count (reading name old) kind) (reading name old)) (sym (known_reading name (given_up (next old past)) (missed told).image (missed told).knows)) (missed told).partial;
-  crash = as_follows tells name old (given_up (next old past)) (MayCreate kind (file_count (reading name old) kind)) (λ told. ((law told).0, known_now told, (missed told).follows));
+      subst (MayCreate kind (file_count (reading name old) kind) (reading name old)) (sym (known_reading name new (missed told).image true (doubts_of old.trust) (missed told).knows)) (missed told).partial;
+  crash = as_follows tells name old new (MayCreate kind (file_count (reading name old) kind)) (λ told. ((law told).0, known_now told, (missed told).follows));
   durable = tt;
-  time = as_elapses tells name old (given_up (next old past)) (Stepped (MayCreate kind (file_count (reading name old) kind)) (images_of name old.past))
+  time = as_elapses tells name old new (Stepped (MayCreate kind (file_count (reading name old) kind)) (images_of name old.past))
       (Stepped (MayCreate kind (file_count (reading name old) kind)) (images tells name old)) (omega arith) (omega arith)
       (λ image told is. (is.0, (told, inr ((law told).0, is.1)), is.2))
       (λ told. ((law told).0, known_now told, (missed told).time));
 }
   where
-    missed : IsTrue tells → CreateFailed name kind old.past past (known_of old.warc old.cdxj) old.times (reading name old)
+    new : State
+    new = trusted (record old.trust { gave_up = true }) (next old past)
+
+    missed : IsTrue tells → CreateFailed name kind old.past past (known_of old.warc old.cdxj) (doubts_of old.trust) old.times (reading name old)
     missed told =
-        let known = subst (λ (b : Bool). Knows name old.past (known_of old.warc old.cdxj) b old.times (reading name old)) goes (law told).0 in
-        create_failed name apart kind old.past (known_of old.warc old.cdxj) old.times (reading name old) known past
+        let known = subst (λ (b : Bool). Knows name old.past (known_of old.warc old.cdxj) b (doubts_of old.trust) old.times (reading name old)) goes (law told).0.knows in
+        create_failed name apart kind old.past (known_of old.warc old.cdxj) (doubts_of old.trust) old.times (reading name old) known past
         (subst (λ (n : ℕ). MakesInPart (name kind n) old.past past) (sym (known.all refl kind)) (law told).1)
 
-    known_now : IsTrue tells → IsKnown name (given_up (next old past))
+    known_now : IsTrue tells → IsKnown name (trusted (record old.trust { gave_up = true }) (next old past))
     known_now told =
-        let known = subst (λ (b : Bool). Knows name old.past (known_of old.warc old.cdxj) b old.times (reading name old)) goes (law told).0 in
-        let left = create_failed name apart kind old.past (known_of old.warc old.cdxj) old.times (reading name old) known past
+        let known = subst (λ (b : Bool). Knows name old.past (known_of old.warc old.cdxj) b (doubts_of old.trust) old.times (reading name old)) goes (law told).0.knows in
+        let left = create_failed name apart kind old.past (known_of old.warc old.cdxj) (doubts_of old.trust) old.times (reading name old) known past
         (subst (λ (n : ℕ). MakesInPart (name kind n) old.past past) (sym (known.all refl kind)) (law told).1) in
-        is_known name (given_up (next old past)) left.image left.knows
+        is_known name (trusted (record old.trust { gave_up = true }) (next old past)) left.image left.knows (λ gone. absurd (true≢false gone))
 
 -- counts with one file more
 grown_kind : (kind : Kind) (s : State) → known_of (grown kind s).warc (grown kind s).cdxj kind ≡ known_of s.warc s.cdxj kind + 1
@@ -271,124 +291,116 @@ grown_numbers Warc s room numbers Cdxj = numbers Cdxj
 grown_numbers Cdxj s room numbers Warc = numbers Warc
 grown_numbers Cdxj s room numbers Cdxj = room
 
--- a file more, and the deeds by which it was made
-pub next_grown : (kind : Kind) (s : State) (past : FolderPast) → grown kind (next s past) ≡ next (grown kind s) past
-next_grown Warc s past = refl
-next_grown Cdxj s past = refl
-
-grown_gave_up : (kind : Kind) (s : State) → (grown kind s).gave_up ≡ s.gave_up
-grown_gave_up Warc s = refl
-grown_gave_up Cdxj s = refl
+-- a file more, the deeds by which it was made, and the trust that is left
+pub grown_trusted : (kind : Kind) (s : State) (past : FolderPast) (trust : Trust) → grown kind (trusted trust (next s past)) ≡ trusted trust (next (grown kind s) past)
+grown_trusted Warc s past trust = refl
+grown_trusted Cdxj s past trust = refl
 
 grown_times : (kind : Kind) (s : State) → (grown kind s).times ≡ s.times
 grown_times Warc s = refl
 grown_times Cdxj s = refl
 
 -- a call that was done
-pub create_made : {E : Type 0} (tells : Bool) (name : Kind → ℕ → List ℕ) (apart : NamesApart name) (kind : Kind) (old : State) (past : FolderPast)
-    → (IsTrue tells → IsKnown name old × (past ≡ made_durably (name kind (known_of old.warc old.cdxj kind)) old.past))
-    → old.gave_up ≡ false → known_of old.warc old.cdxj kind + 1 < 2 ^ 32
-    → Creates {E = E} tells name kind old (next (grown kind old) past) (Ok (known_of old.warc old.cdxj kind))
-create_made {E} tells name apart kind old past law goes room = record {
-  known = λ told. known_now told;
-  number = λ told. sym ((known_then told).all refl kind);
-  created = λ told. known_reading name (next (grown kind old) past) (with_new (reading name old) kind) (knows_now told);
-  partial = λ told. tt;
-  crash = as_follows tells name old (next (grown kind old) past) (MayCreate kind (file_count (reading name old) kind)) (λ told. ((law told).0, known_now told, (done told).follows));
-  durable = as_leaves tells name old (next (grown kind old) past) (HasFile kind (known_of old.warc old.cdxj kind) []) (λ told. (
-    known_now told,
-    subst (λ (n : ℕ). Leaves (images_of name past) (HasFile kind n [])) ((known_then told).all refl kind) (done told).durable,
-  ));
-  time = as_elapses tells name old (next (grown kind old) past) (Stepped (MayCreate kind (file_count (reading name old) kind)) (images_of name old.past))
-      (Stepped (MayCreate kind (file_count (reading name old) kind)) (images tells name old)) (omega (arith, moments)) (omega (arith, moments))
-      (λ image told is. (is.0, (told, inr ((law told).0, is.1)), is.2))
-      (λ told. ((law told).0, known_now told, time_now told));
-}
-  where
-    moments : moment_of (next (grown kind old) past).times ≡ moment_of old.times + 1
-    moments = omega (arith, ap (λ (t : Times). moment_of t) (grown_times kind old))
+module _ (tells : Bool) (name : Kind → ℕ → List ℕ) (apart : NamesApart name) (kind : Kind) (old : State) (past : FolderPast) (trust : Trust)
+    (law : IsTrue tells → IsKnown name old × (past ≡ made_durably (name kind (known_of old.warc old.cdxj kind)) old.past))
+    (goes : old.trust.gave_up ≡ false) (room : known_of old.warc old.cdxj kind + 1 < 2 ^ 32)
+    (stays : IsTrue tells → ((m : List ℕ) → IsInDoubt name (doubts_of old.trust) m → IsInDoubt name (doubts_of trust) m) × AreTorn name past trust) where
+  made_then : IsTrue tells → Knows name old.past (known_of old.warc old.cdxj) false (doubts_of old.trust) old.times (reading name old)
+  made_then told = subst (λ (b : Bool). Knows name old.past (known_of old.warc old.cdxj) b (doubts_of old.trust) old.times (reading name old)) goes (law told).0.knows
 
-    known_then : IsTrue tells → Knows name old.past (known_of old.warc old.cdxj) false old.times (reading name old)
-    known_then told = subst (λ (b : Bool). Knows name old.past (known_of old.warc old.cdxj) b old.times (reading name old)) goes (law told).0
+  made_done : IsTrue tells → CreateDone name kind old.past past (known_of (grown kind old).warc (grown kind old).cdxj) (doubts_of old.trust) old.times (reading name old)
+  made_done told =
+      create_done name apart kind old.past (known_of old.warc old.cdxj) (doubts_of old.trust) old.times (reading name old) (made_then told) past (known_of (grown kind old).warc (grown kind old).cdxj)
+      (subst (λ (n : ℕ). past ≡ made_durably (name kind n) old.past) (sym ((made_then told).all refl kind)) (law told).1)
+      (grown_numbers kind old room (made_then told).numbers) (grown_kind kind old) (grown_other kind old)
 
-    done : IsTrue tells → CreateDone name kind old.past past (known_of (grown kind old).warc (grown kind old).cdxj) old.times (reading name old)
-    done told =
-        let known = subst (λ (b : Bool). Knows name old.past (known_of old.warc old.cdxj) b old.times (reading name old)) goes (law told).0 in
-        create_done name apart kind old.past (known_of old.warc old.cdxj) old.times (reading name old) known past (known_of (grown kind old).warc (grown kind old).cdxj)
-        (subst (λ (n : ℕ). past ≡ made_durably (name kind n) old.past) (sym (known.all refl kind)) (law told).1)
-        (grown_numbers kind old room known.numbers) (grown_kind kind old) (grown_other kind old)
+  made_knows : IsTrue tells
+      → Knows name past (known_of (grown kind old).warc (grown kind old).cdxj) trust.gave_up (doubts_of trust) (goes_on (grown kind old).times past) (with_new (reading name old) kind)
+  made_knows told =
+      knows_still name past (known_of (grown kind old).warc (grown kind old).cdxj) old.trust trust (goes_on (grown kind old).times past) (with_new (reading name old) kind)
+      (subst (λ (b : Bool). Knows name past (known_of (grown kind old).warc (grown kind old).cdxj) b (doubts_of old.trust) (goes_on (grown kind old).times past) (with_new (reading name old) kind)) (sym goes)
+      (subst (λ (t : Times). Knows name past (known_of (grown kind old).warc (grown kind old).cdxj) false (doubts_of old.trust) (goes_on t past) (with_new (reading name old) kind))
+      (sym (grown_times kind old)) (made_done told).knows))
+      (λ g. (goes, (stays told).0, (stays told).1))
 
-    knows_now : IsTrue tells → Knows name past (known_of (grown kind old).warc (grown kind old).cdxj) (grown kind old).gave_up (goes_on (grown kind old).times past) (with_new (reading name old) kind)
-    knows_now told =
-        let known = subst (λ (b : Bool). Knows name old.past (known_of old.warc old.cdxj) b old.times (reading name old)) goes (law told).0 in
-        let made = create_done name apart kind old.past (known_of old.warc old.cdxj) old.times (reading name old) known past (known_of (grown kind old).warc (grown kind old).cdxj)
-        (subst (λ (n : ℕ). past ≡ made_durably (name kind n) old.past) (sym (known.all refl kind)) (law told).1)
-        (grown_numbers kind old room known.numbers) (grown_kind kind old) (grown_other kind old) in
-        subst (λ (b : Bool). Knows name past (known_of (grown kind old).warc (grown kind old).cdxj) b (goes_on (grown kind old).times past) (with_new (reading name old) kind))
-        (sym (grown_gave_up kind old ∙ goes))
-        (subst (λ (t : Times). Knows name past (known_of (grown kind old).warc (grown kind old).cdxj) false (goes_on t past) (with_new (reading name old) kind))
-        (sym (grown_times kind old)) made.knows)
+  made_known : IsTrue tells → IsKnown name (trusted trust (next (grown kind old) past))
+  made_known told = is_known name (trusted trust (next (grown kind old) past)) (with_new (reading name old) kind) (made_knows told) (λ g. (stays told).1)
 
-    known_now : IsTrue tells → IsKnown name (next (grown kind old) past)
-    known_now told =
-        let known = subst (λ (b : Bool). Knows name old.past (known_of old.warc old.cdxj) b old.times (reading name old)) goes (law told).0 in
-        let made = create_done name apart kind old.past (known_of old.warc old.cdxj) old.times (reading name old) known past (known_of (grown kind old).warc (grown kind old).cdxj)
-        (subst (λ (n : ℕ). past ≡ made_durably (name kind n) old.past) (sym (known.all refl kind)) (law told).1)
-        (grown_numbers kind old room known.numbers) (grown_kind kind old) (grown_other kind old) in
-        is_known name (next (grown kind old) past) (with_new (reading name old) kind)
-        (subst (λ (b : Bool). Knows name past (known_of (grown kind old).warc (grown kind old).cdxj) b (goes_on (grown kind old).times past) (with_new (reading name old) kind))
-        (sym (grown_gave_up kind old ∙ goes))
-        (subst (λ (t : Times). Knows name past (known_of (grown kind old).warc (grown kind old).cdxj) false (goes_on t past) (with_new (reading name old) kind))
-        (sym (grown_times kind old)) made.knows))
+  made_moments : moment_of (goes_on (grown kind old).times past) ≡ moment_of old.times + 1
+  made_moments = omega (arith, ap (λ (t : Times). moment_of t) (grown_times kind old))
 
-    time_now : IsTrue tells → Elapses (moment_of old.times) (moment_of (next (grown kind old) past).times) (images_since_of name old.past old.times)
-        (images_since_of name past (next (grown kind old) past).times) (Stepped (MayCreate kind (file_count (reading name old) kind)) (images_of name old.past))
-    time_now told =
-        let known = subst (λ (b : Bool). Knows name old.past (known_of old.warc old.cdxj) b old.times (reading name old)) goes (law told).0 in
-        let made = create_done name apart kind old.past (known_of old.warc old.cdxj) old.times (reading name old) known past (known_of (grown kind old).warc (grown kind old).cdxj)
-        (subst (λ (n : ℕ). past ≡ made_durably (name kind n) old.past) (sym (known.all refl kind)) (law told).1)
-        (grown_numbers kind old room known.numbers) (grown_kind kind old) (grown_other kind old) in
-        subst (λ (t : Times). Elapses (moment_of old.times) (moment_of (goes_on t past)) (images_since_of name old.past old.times)
-        (images_since_of name past (goes_on t past)) (Stepped (MayCreate kind (file_count (reading name old) kind)) (images_of name old.past))) (sym (grown_times kind old)) made.time
+  made_time : IsTrue tells → Elapses (moment_of old.times) (moment_of (goes_on (grown kind old).times past)) (images_since_of name old.past old.times)
+      (images_since_of name past (goes_on (grown kind old).times past)) (Stepped (MayCreate kind (file_count (reading name old) kind)) (images_of name old.past))
+  made_time told =
+      subst (λ (t : Times). Elapses (moment_of old.times) (moment_of (goes_on t past)) (images_since_of name old.past old.times)
+      (images_since_of name past (goes_on t past)) (Stepped (MayCreate kind (file_count (reading name old) kind)) (images_of name old.past))) (sym (grown_times kind old)) (made_done told).time
+
+  pub create_made : {E : Type 0} → Creates {E = E} tells name kind old (trusted trust (next (grown kind old) past)) (Ok (known_of old.warc old.cdxj kind))
+  create_made {E} = record {
+    known = λ told. made_known told;
+    number = λ told. sym ((made_then told).all refl kind);
+    created = λ told. known_reading name (trusted trust (next (grown kind old) past)) (with_new (reading name old) kind) trust.gave_up (doubts_of trust) (made_knows told);
+    partial = λ told. tt;
+    crash = as_follows tells name old (trusted trust (next (grown kind old) past)) (MayCreate kind (file_count (reading name old) kind)) (λ told. ((law told).0, made_known told, (made_done told).follows));
+    durable = as_leaves tells name old (trusted trust (next (grown kind old) past)) (HasFile kind (known_of old.warc old.cdxj kind) []) (λ told. (
+      made_known told,
+      subst (λ (n : ℕ). Leaves (images_of name past) (HasFile kind n [])) ((made_then told).all refl kind) (made_done told).durable,
+    ));
+    time = as_elapses tells name old (trusted trust (next (grown kind old) past)) (Stepped (MayCreate kind (file_count (reading name old) kind)) (images_of name old.past))
+        (Stepped (MayCreate kind (file_count (reading name old) kind)) (images tells name old)) (omega (arith, made_moments)) (omega (arith, made_moments))
+        (λ image told is. (is.0, (told, inr ((law told).0, is.1)), is.2))
+        (λ told. ((law told).0, made_known told, made_time told));
+  }
 
 -- ---- a cut
 
 -- a cut that was done or failed, of which some bytes weren't taken
-pub cut_ended : {E : Type 0} (tells : Bool) (name : Kind → ℕ → List ℕ) (apart : NamesApart name) (kind : Kind) (file len : ℕ) (old : State) (past : FolderPast) (result : Result ⊤ E)
-    → (IsTrue tells → IsKnown name old × (file < file_count (reading name old) kind))
-    → (IsTrue tells → (rest : ℕ) × (past ≡ did_to old.past (name kind file) (Shortened (len + rest) rest)) × OnOk result (rest ≡ 0))
-    → Cuts tells name kind file len old (next old past) result
-cut_ended {E} tells name apart kind file len old past result law part = record {
-  known = λ told. known_now told;
-  cut = λ told. on_ok result (part told).2 (λ none.
-      let all : len + (part told).0 ≡ len = omega (arith, none) in
-      known_reading name (next old past) (with_file (reading name old) kind file (take (len + (part told).0) (file_of (reading name old) kind file))) (left told).knows
-      ∙ ap (λ (n : ℕ). with_file (reading name old) kind file (take n (file_of (reading name old) kind file))) all);
-  partial = λ told. on_err result (record {
-    bytes = take (len + (part told).0) (file_of (reading name old) kind file);
-    step = (left told).cut;
-    whole = known_reading name (next old past) (with_file (reading name old) kind file (take (len + (part told).0) (file_of (reading name old) kind file))) (left told).knows;
-  });
-  crash = as_follows tells name old (next old past) (OnFile kind file (Cut len)) (λ told. ((law told).0, known_now told, (left told).follows));
-  time = as_elapses tells name old (next old past) (images_of name past) (images tells name (next old past)) (omega arith) (omega arith)
-      (λ image told is. (told, inr (known_now told, is)))
-      (λ told. ((law told).0, known_now told, (left told).time));
-}
-  where
-    left : (told : IsTrue tells) → CutLeaves name kind file len (part told).0 old.past past (known_of old.warc old.cdxj) old.gave_up old.times (reading name old)
-    left told = cut_leaves name apart kind file len (part told).0 old.past past (known_of old.warc old.cdxj) old.gave_up old.times (reading name old) (law told).0 (law told).1 (part told).1
+module _ (tells : Bool) (name : Kind → ℕ → List ℕ) (apart : NamesApart name) (kind : Kind) (file len : ℕ) (old : State) (past : FolderPast) (trust : Trust)
+    (law : IsTrue tells → IsKnown name old × (file < file_count (reading name old) kind))
+    (stays : IsTrue tells → TrustStays name old.trust past trust) where
+  pub cut_ended : {E : Type 0} (result : Result ⊤ E)
+      → (IsTrue tells → (rest : ℕ) × (past ≡ did_to old.past (name kind file) (Shortened (len + rest) rest)) × OnOk result (rest ≡ 0))
+      → Cuts tells name kind file len old (trusted trust (next old past)) result
+  cut_ended {E} result part = record {
+    known = λ told. known_now told;
+    cut = λ told. on_ok result (part told).2 (λ none.
+        let all : len + (part told).0 ≡ len = omega (arith, none) in
+        read_now told ∙ ap (λ (n : ℕ). with_file (reading name old) kind file (take n (file_of (reading name old) kind file))) all);
+    partial = λ told. on_err result (record {
+      bytes = take (len + (part told).0) (file_of (reading name old) kind file);
+      step = (left told).cut;
+      whole = read_now told;
+    });
+    crash = as_follows tells name old (trusted trust (next old past)) (OnFile kind file (Cut len)) (λ told. ((law told).0, known_now told, (left told).follows));
+    time = as_elapses tells name old (trusted trust (next old past)) (images_of name past) (images tells name (trusted trust (next old past))) (omega arith) (omega arith)
+        (λ image told is. (told, inr (known_now told, is)))
+        (λ told. ((law told).0, known_now told, (left told).time));
+  }
+    where
+      left : (told : IsTrue tells) → CutLeaves name kind file len (part told).0 old.past past (known_of old.warc old.cdxj) old.trust.gave_up (doubts_of old.trust) old.times (reading name old)
+      left told = cut_leaves name apart kind file len (part told).0 old.past past (known_of old.warc old.cdxj) old.trust.gave_up (doubts_of old.trust) old.times (reading name old)
+          (law told).0.knows (law told).1 (part told).1
 
-    known_now : IsTrue tells → IsKnown name (next old past)
-    known_now told = is_known name (next old past) (with_file (reading name old) kind file (take (len + (part told).0) (file_of (reading name old) kind file)))
-        (cut_leaves name apart kind file len (part told).0 old.past past (known_of old.warc old.cdxj) old.gave_up old.times (reading name old) (law told).0 (law told).1 (part told).1).knows
+      read_now : (told : IsTrue tells) → reading name (trusted trust (next old past)) ≡ with_file (reading name old) kind file (take (len + (part told).0) (file_of (reading name old) kind file))
+      read_now told = known_reading name (trusted trust (next old past)) (with_file (reading name old) kind file (take (len + (part told).0) (file_of (reading name old) kind file)))
+          old.trust.gave_up (doubts_of old.trust)
+          (cut_leaves name apart kind file len (part told).0 old.past past (known_of old.warc old.cdxj) old.trust.gave_up (doubts_of old.trust) old.times (reading name old)
+          (law told).0.knows (law told).1 (part told).1).knows
 
-    on_ok : {P Q : Type 0} (r : Result ⊤ E) → OnOk r P → (P → Q) → OnOk r Q
-    on_ok (Ok x) holds gives = gives holds
-    on_ok (Err e) holds gives = tt
+      known_now : IsTrue tells → IsKnown name (trusted trust (next old past))
+      known_now told = is_known name (trusted trust (next old past)) (with_file (reading name old) kind file (take (len + (part told).0) (file_of (reading name old) kind file)))
+          (knows_still name past (known_of old.warc old.cdxj) old.trust trust (goes_on old.times past) (with_file (reading name old) kind file (take (len + (part told).0) (file_of (reading name old) kind file)))
+          (cut_leaves name apart kind file len (part told).0 old.past past (known_of old.warc old.cdxj) old.trust.gave_up (doubts_of old.trust) old.times (reading name old)
+          (law told).0.knows (law told).1 (part told).1).knows (stays told))
+          (λ goes. (stays told goes).2)
 
-    on_err : {P : Type 0} (r : Result ⊤ E) → P → OnErr r P
-    on_err (Ok x) holds = tt
-    on_err (Err e) holds = holds
+      on_ok : {P Q : Type 0} (r : Result ⊤ E) → OnOk r P → (P → Q) → OnOk r Q
+      on_ok (Ok x) holds gives = gives holds
+      on_ok (Err e) holds gives = tt
+
+      on_err : {P : Type 0} (r : Result ⊤ E) → P → OnErr r P
+      on_err (Ok x) holds = tt
+      on_err (Err e) holds = holds
 
 -- ---- calls that weren't begun
 
@@ -452,21 +464,28 @@ looked tells name s past same known = record {
 -- the bytes of a file in the folder are those of the reading
 pub bytes_read : (name : Kind → ℕ → List ℕ) (s : State) (kind : Kind) (file : ℕ) → IsKnown name s → file < file_count (reading name s) kind
     → bytes_of s.past (name kind file) ≡ file_of (reading name s) kind file
-bytes_read name s kind file known there = ap (λ (o : Option (List ℕ)). unwrap_or o []) (known.is.seen.there kind file there)
+bytes_read name s kind file known there = ap (λ (o : Option (List ℕ)). unwrap_or o []) (known.knows.is.seen.there kind file there)
 
 -- ---- opening
 
 -- a folder that was counted and then synced is known
-pub opened : (name : Kind → ℕ → List ℕ) (warc cdxj : ℕ) (old new : FolderPast) (times : Times)
+pub opened : (name : Kind → ℕ → List ℕ) (warc cdxj : ℕ) (old new : FolderPast) (trust : Trust) (times : Times)
     → IsCounted name old warc cdxj
     → new ≡ did (did old (SyncedFolder true)) (SyncedAround true)
+    → trust ≡ record { gave_up = false; warc = None; cdxj = None }
     → times ≡ record { made = length new.deeds; begun = [] }
-    → IsKnown name (record { past = new; warc = warc; cdxj = cdxj; gave_up = false; times = times })
-opened name warc cdxj old new times counted whole began =
-    let known = opened_knows name old (known_of warc cdxj) counted.image counted.unfailed counted.seen counted.numbers counted.counts in
-    is_known name (record { past = new; warc = warc; cdxj = cdxj; gave_up = false; times = times }) counted.image
-    (subst (λ (t : Times). Knows name new (known_of warc cdxj) false t counted.image) (sym began)
-    (subst (λ (p : FolderPast). Knows name p (known_of warc cdxj) false (record { made = length p.deeds; begun = [] }) counted.image) (sym whole) known))
+    → IsKnown name (record { past = new; warc = warc; cdxj = cdxj; trust = trust; times = times })
+opened name warc cdxj old new trust times counted whole fresh began =
+    let known = opened_knows name old (known_of warc cdxj) (doubts_of trust) counted.image counted.unfailed counted.seen counted.numbers counted.counts in
+    is_known name (record { past = new; warc = warc; cdxj = cdxj; trust = trust; times = times }) counted.image
+    (subst (λ (b : Bool). Knows name new (known_of warc cdxj) b (doubts_of trust) times counted.image) (ap (λ (t : Trust). t.gave_up) (sym fresh))
+    (subst (λ (t : Times). Knows name new (known_of warc cdxj) false (doubts_of trust) t counted.image) (sym began)
+    (subst (λ (p : FolderPast). Knows name p (known_of warc cdxj) false (doubts_of trust) (record { made = length p.deeds; begun = [] }) counted.image) (sym whole) known)))
+    (λ goes. subst (AreTorn name new) (sym fresh) none_torn)
+  where
+    none_torn : AreTorn name new (record { gave_up = false; warc = None; cdxj = None })
+    none_torn Warc = tt
+    none_torn Cdxj = tt
 
 -- ---- a call behind whose deeds the folder was only looked at
 

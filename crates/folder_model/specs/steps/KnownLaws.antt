@@ -14,11 +14,11 @@ use Rattle.folder_model.specs.File.{FileDeed, Made, Wrote, Shortened, Synced, Li
 use Rattle.folder_model.specs.Folder.{Contents, Deed, Did, SyncedFolder, SyncedAround, FolderPast, did, did_to, deeds_of, contents_of, MayLeave, IsUnfailed}
 use Rattle.folder_model.specs.Seen.{NamesApart, IsSeen, images_of, IsNamed, IsPlaced, FolderIs}
 use Rattle.folder_model.specs.Times.{Times, moment_of, IsTimed, goes_on, images_since_of}
-use Rattle.folder_model.specs.Known.{bytes_or_none, reading_of, Knows}
+use Rattle.folder_model.specs.Known.{bytes_or_none, reading_of, IsInDoubt, Knows}
 use Rattle.folder_model.specs.DiskCalls.{WriteLeaves, CutLeaves, SyncDone, SyncFailed, CreateDone, CreateFailed}
 use Rattle.folder_model.specs.Whole.{done_to, AreWrites, WritesWithin, IsWriting, AreSyncs, MakesInPart, made_durably}
 use Rattle.folder_model.specs.steps.FileLaws.{cut_begun, bytes_sure-wrote, bytes_sure-made, bytes_sure-synced, bytes_sure-shortened, bytes_sure-listed}
-use Rattle.folder_model.specs.steps.FolderLaws.{deeds_of-same}
+use Rattle.folder_model.specs.steps.FolderLaws.{deeds_of-same, deeds_of-other, names_cases}
 use Rattle.folder_model.specs.steps.ReadingLaws.{image_of-count, image_of-file, folder_is-changed, folder_is-synced, folder_is-listed, folder_is-around, folder_is-made, is_named-did, is_named-other, is_named-listed}
 use Rattle.folder_model.specs.steps.SeenLaws.{file_is_durable, synced_within, cut_follows}
 use Rattle.folder_model.specs.steps.SureLaws.{on_deed, file_sync_is_durable, opened_is_disk, opened_is_named, unfailed_bytes}
@@ -68,6 +68,11 @@ reading_is name past known image seen numbers no_fewer one_more = same_image (re
         image_of-file (λ k f. contents_of past (name k f)) (λ k. if is_some (contents_of past (name k (known k))) then known k + 1 else known k) kind file
         (omega (arith, inside, found kind))
         ∙ ap bytes_or_none (seen.there kind file inside))
+
+-- one of two that still holds, or what follows of the other
+pub or_still : {D A B : Type 0} → (A → B) → D ⊎ A → D ⊎ B
+or_still gives (inl doubt) = inl doubt
+or_still gives (inr is) = inr (gives is)
 
 -- ---- a change of one file's bytes
 
@@ -154,10 +159,10 @@ rest_of_writes past n at many (suc k) (Shortened len rest ∷ earlier) contents 
 rest_of_writes past n at many (suc k) (Synced done ∷ earlier) contents writes left = absurd writes
 rest_of_writes past n at many (suc k) (Listed done ∷ earlier) contents writes left = absurd writes
 
-pub write_leaves : (name : Kind → ℕ → List ℕ) → NamesApart name → (kind : Kind) (file at many : ℕ) (old new : FolderPast) (known : Kind → ℕ) (gave_up : Bool) (times : Times) (reading : Image)
-    → Knows name old known gave_up times reading → file < file_count reading kind → WritesWithin (name kind file) at many old new
-    → WriteLeaves name kind file at many old new known gave_up times reading
-write_leaves name apart kind file at many old new known gave_up times reading knows there within =
+pub write_leaves : (name : Kind → ℕ → List ℕ) → NamesApart name → (kind : Kind) (file at many : ℕ) (old new : FolderPast) (known : Kind → ℕ) (gave_up : Bool) (doubts : Kind → Option ℕ) (times : Times) (reading : Image)
+    → Knows name old known gave_up doubts times reading → file < file_count reading kind → WritesWithin (name kind file) at many old new
+    → WriteLeaves name kind file at many old new known gave_up doubts times reading
+write_leaves name apart kind file at many old new known gave_up doubts times reading knows there within =
     let n : List ℕ = name kind file in
     let left = writes_folder_is name apart kind file old reading at many within.deeds knows.is there within.writes in
     let whole : done_to old n within.deeds ≡ new = sym within.whole in
@@ -177,8 +182,7 @@ write_leaves name apart kind file at many old new known gave_up times reading kn
         named = λ goes k f inside.
             subst (λ (p : FolderPast). IsNamed p (name k f)) whole
             (writes_named old n (name k f) at many within.deeds within.writes (knows.named goes k f (omega (arith, inside, counts k))));
-        sure = λ goes m.
-            subst (λ (p : FolderPast). AreBytesSure (p.first m) (deeds_of m p.deeds)) whole (writes_sure old n m at many within.deeds within.writes (knows.sure goes m));
+        sure = λ goes m. or_still (λ sure. subst (λ (p : FolderPast). AreBytesSure (p.first m) (deeds_of m p.deeds)) whole (writes_sure old n m at many within.deeds within.writes sure)) (knows.sure goes m);
       };
       follows = subst (λ (p : FolderPast). Follows (OnFile kind file (Torn at many)) (images_of name old) (images_of name p)) whole
           (writes_follow name apart kind file (omega (arith, there, knows.is.seen.few kind)) old at many within.deeds within.writes);
@@ -213,11 +217,28 @@ one_deed_elapses name past times deed timed = deeds_elapse name past times (deed
     each (suc zero) image left = inl left
     each (suc (suc k)) image left = inl left
 
-sync_done_now : (name : Kind → ℕ → List ℕ) (kind : Kind) (file : ℕ) (old : FolderPast) (known : Kind → ℕ) (times : Times) (reading : Image)
-    → Knows name old known false times reading → file < file_count reading kind
-    → SyncDone name kind file old (did_to old (name kind file) (Synced true)) known times reading
-sync_done_now name kind file old known times reading knows there =
+-- what a sync of a file that was done leaves of the doubts
+pub settled_sure : (old : FolderPast) (n : List ℕ) (doubts left : List ℕ → Type 0) (m : List ℕ)
+    → doubts m ⊎ AreBytesSure (old.first m) (deeds_of m old.deeds) → (doubts m → (m ≡ n) ⊎ left m) → AreBytesSure (old.first n) (deeds_of n old.deeds)
+    → left m ⊎ AreBytesSure (old.first m) (deeds_of m (did_to old n (Synced true)).deeds)
+settled_sure old n doubts left m (inl doubt) settles sure =
+    ⊎_elim
+    (λ same. inr (subst (λ (k : List ℕ). AreBytesSure (old.first k) (deeds_of k (did_to old n (Synced true)).deeds)) (sym same)
+    (on_deed (AreBytesSure (old.first n)) n n (Synced true) old.deeds (bytes_sure-synced (old.first n) (deeds_of n old.deeds) sure) sure)))
+    (λ still. inl still)
+    (settles doubt)
+settled_sure old n doubts left m (inr is) settles sure =
+    inr (on_deed (AreBytesSure (old.first m)) m n (Synced true) old.deeds (bytes_sure-synced (old.first m) (deeds_of m old.deeds) is) is)
+
+-- a sync that was done, of a file that syncs answer for; from then on it isn't in doubt
+sync_done_now : (name : Kind → ℕ → List ℕ) (kind : Kind) (file : ℕ) (old : FolderPast) (known : Kind → ℕ) (doubts left : Kind → Option ℕ) (times : Times) (reading : Image)
+    → Knows name old known false doubts times reading → file < file_count reading kind
+    → AreBytesSure (old.first (name kind file)) (deeds_of (name kind file) old.deeds)
+    → ((m : List ℕ) → IsInDoubt name doubts m → (m ≡ name kind file) ⊎ IsInDoubt name left m)
+    → SyncDone name kind file old (did_to old (name kind file) (Synced true)) known left times reading
+sync_done_now name kind file old known doubts left times reading knows there sure settles =
     let n : List ℕ = name kind file in
+    let new : FolderPast = did_to old n (Synced true) in
     record {
       knows = record {
         is = folder_is-synced name old reading n true knows.is;
@@ -227,23 +248,27 @@ sync_done_now name kind file old known times reading knows there =
         one_more = knows.one_more;
         all = knows.all;
         named = λ goes k f inside. is_named-did old n (name k f) (Synced true) (λ e. cc) (knows.named goes k f inside);
-        sure = λ goes m.
-            on_deed (AreBytesSure (old.first m)) m n (Synced true) old.deeds (bytes_sure-synced (old.first m) (deeds_of m old.deeds) (knows.sure goes m)) (knows.sure goes m);
+        sure = λ goes m. settled_sure old n (IsInDoubt name doubts) (IsInDoubt name left) m (knows.sure goes m) (settles m) sure;
       };
-      durable = file_sync_is_durable name old reading kind file knows.is there (knows.named refl kind file there) (knows.sure refl n);
+      durable = file_sync_is_durable name old reading kind file knows.is there (knows.named refl kind file there) sure;
       within = synced_within name old n true;
       time = one_deed_elapses name old times (Did n (Synced true)) knows.timed;
     }
 
-pub sync_done : (name : Kind → ℕ → List ℕ) (kind : Kind) (file : ℕ) (old new : FolderPast) (known : Kind → ℕ) (times : Times) (reading : Image)
-    → Knows name old known false times reading → file < file_count reading kind → new ≡ did_to old (name kind file) (Synced true)
-    → SyncDone name kind file old new known times reading
-sync_done name kind file old new known times reading knows there whole =
-    subst (λ (p : FolderPast). SyncDone name kind file old p known times reading) (sym whole) (sync_done_now name kind file old known times reading knows there)
+pub sync_done : (name : Kind → ℕ → List ℕ) (kind : Kind) (file : ℕ) (old new : FolderPast) (known : Kind → ℕ) (doubts left : Kind → Option ℕ) (times : Times) (reading : Image)
+    → Knows name old known false doubts times reading → file < file_count reading kind
+    → AreBytesSure (old.first (name kind file)) (deeds_of (name kind file) old.deeds)
+    → ((m : List ℕ) → IsInDoubt name doubts m → (m ≡ name kind file) ⊎ IsInDoubt name left m)
+    → new ≡ did_to old (name kind file) (Synced true)
+    → SyncDone name kind file old new known left times reading
+sync_done name kind file old new known doubts left times reading knows there sure settles whole =
+    subst (λ (p : FolderPast). SyncDone name kind file old p known left times reading) (sym whole)
+    (sync_done_now name kind file old known doubts left times reading knows there sure settles)
 
-sync_failed_now : (name : Kind → ℕ → List ℕ) (n : List ℕ) (old : FolderPast) (known : Kind → ℕ) (gave_up : Bool) (times : Times) (reading : Image)
-    → Knows name old known gave_up times reading → SyncFailed name old (did_to old n (Synced false)) known times reading
-sync_failed_now name n old known gave_up times reading knows = record {
+-- a sync that failed, so that the disk gives up
+sync_failed_now : (name : Kind → ℕ → List ℕ) (n : List ℕ) (old : FolderPast) (known : Kind → ℕ) (gave_up : Bool) (doubts left : Kind → Option ℕ) (times : Times) (reading : Image)
+    → Knows name old known gave_up doubts times reading → SyncFailed name old (did_to old n (Synced false)) known true left times reading
+sync_failed_now name n old known gave_up doubts left times reading knows = record {
   knows = record {
     is = folder_is-synced name old reading n false knows.is;
     timed = goes_on_timed times old (Did n (Synced false) ∷ []) knows.timed;
@@ -258,10 +283,44 @@ sync_failed_now name n old known gave_up times reading knows = record {
   time = one_deed_elapses name old times (Did n (Synced false)) knows.timed;
 }
 
-pub sync_failed : (name : Kind → ℕ → List ℕ) (n : List ℕ) (old new : FolderPast) (known : Kind → ℕ) (gave_up : Bool) (times : Times) (reading : Image)
-    → Knows name old known gave_up times reading → new ≡ did_to old n (Synced false) → SyncFailed name old new known times reading
-sync_failed name n old new known gave_up times reading knows whole =
-    subst (λ (p : FolderPast). SyncFailed name old p known times reading) (sym whole) (sync_failed_now name n old known gave_up times reading knows)
+pub sync_failed : (name : Kind → ℕ → List ℕ) (n : List ℕ) (old new : FolderPast) (known : Kind → ℕ) (gave_up : Bool) (doubts left : Kind → Option ℕ) (times : Times) (reading : Image)
+    → Knows name old known gave_up doubts times reading → new ≡ did_to old n (Synced false) → SyncFailed name old new known true left times reading
+sync_failed name n old new known gave_up doubts left times reading knows whole =
+    subst (λ (p : FolderPast). SyncFailed name old p known true left times reading) (sym whole) (sync_failed_now name n old known gave_up doubts left times reading knows)
+
+-- a sync that failed, so that its file is in doubt
+sync_doubted_now : (name : Kind → ℕ → List ℕ) (n : List ℕ) (old : FolderPast) (known : Kind → ℕ) (gave_up : Bool) (doubts left : Kind → Option ℕ) (times : Times) (reading : Image)
+    → Knows name old known gave_up doubts times reading → ((m : List ℕ) → IsInDoubt name doubts m → IsInDoubt name left m) → IsInDoubt name left n
+    → SyncFailed name old (did_to old n (Synced false)) known gave_up left times reading
+sync_doubted_now name n old known gave_up doubts left times reading knows more this = record {
+  knows = record {
+    is = folder_is-synced name old reading n false knows.is;
+    timed = goes_on_timed times old (Did n (Synced false) ∷ []) knows.timed;
+    numbers = knows.numbers;
+    no_fewer = knows.no_fewer;
+    one_more = knows.one_more;
+    all = knows.all;
+    named = λ goes k f inside. is_named-did old n (name k f) (Synced false) (λ e. cc) (knows.named goes k f inside);
+    sure = λ goes m.
+        ⊎_elim
+        (λ same. inl (subst (IsInDoubt name left) (sym same.0) this))
+        (λ apart.
+        ⊎_elim
+        (λ doubt. inl (more m doubt))
+        (λ sure. inr (subst (AreBytesSure (old.first m)) (sym (deeds_of-other m n (Synced false) old.deeds apart.0)) sure))
+        (knows.sure goes m))
+        (names_cases m n);
+  };
+  within = synced_within name old n false;
+  time = one_deed_elapses name old times (Did n (Synced false)) knows.timed;
+}
+
+pub sync_doubted : (name : Kind → ℕ → List ℕ) (n : List ℕ) (old new : FolderPast) (known : Kind → ℕ) (gave_up : Bool) (doubts left : Kind → Option ℕ) (times : Times) (reading : Image)
+    → Knows name old known gave_up doubts times reading → ((m : List ℕ) → IsInDoubt name doubts m → IsInDoubt name left m) → IsInDoubt name left n → new ≡ did_to old n (Synced false)
+    → SyncFailed name old new known gave_up left times reading
+sync_doubted name n old new known gave_up doubts left times reading knows more this whole =
+    subst (λ (p : FolderPast). SyncFailed name old p known gave_up left times reading) (sym whole)
+    (sync_doubted_now name n old known gave_up doubts left times reading knows more this)
 
 -- ---- a file that is made
 
@@ -281,8 +340,8 @@ syncs_folder_is name past image (SyncedAround done ∷ earlier) syncs is =
     folder_is-around name (record past { deeds = earlier ++ past.deeds }) image done (syncs_folder_is name past image earlier syncs is)
 
 -- The disk's next file was made, with nothing but syncs behind it.
-module _ (name : Kind → ℕ → List ℕ) (apart : NamesApart name) (kind : Kind) (old : FolderPast) (known : Kind → ℕ) (times : Times) (reading : Image)
-    (knows : Knows name old known false times reading) where
+module _ (name : Kind → ℕ → List ℕ) (apart : NamesApart name) (kind : Kind) (old : FolderPast) (known : Kind → ℕ) (doubts : Kind → Option ℕ) (times : Times) (reading : Image)
+    (knows : Knows name old known false doubts times reading) where
   room : file_count reading kind < 2 ^ 32
   room = omega (arith, knows.all refl kind, knows.numbers kind)
 
@@ -331,7 +390,7 @@ module _ (name : Kind → ℕ → List ℕ) (apart : NamesApart name) (kind : Ki
       (folder_is-made name apart old reading kind room knows.is (knows.named refl))
 
   create_failed_now : (deeds : List Deed) → AreSyncs deeds
-      → CreateFailed name kind old (record old { deeds = deeds ++ Did (name kind (file_count reading kind)) Made ∷ old.deeds }) known times reading
+      → CreateFailed name kind old (record old { deeds = deeds ++ Did (name kind (file_count reading kind)) Made ∷ old.deeds }) known doubts times reading
   create_failed_now deeds syncs = record {
     image = with_new reading kind;
     knows = record {
@@ -357,7 +416,7 @@ module _ (name : Kind → ℕ → List ℕ) (apart : NamesApart name) (kind : Ki
   }
 
   -- a call that failed and did nothing
-  create_nothing : CreateFailed name kind old old known times reading
+  create_nothing : CreateFailed name kind old old known doubts times reading
   create_nothing = record {
     image = reading;
     knows = record {
@@ -380,10 +439,10 @@ module _ (name : Kind → ℕ → List ℕ) (apart : NamesApart name) (kind : Ki
       nothing zero image left = inl left
       nothing (suc k) image left = inl left
 
-  pub create_failed : (new : FolderPast) → MakesInPart (name kind (file_count reading kind)) old new → CreateFailed name kind old new known times reading
-  create_failed new (inl same) = subst (λ (p : FolderPast). CreateFailed name kind old p known times reading) (sym same) create_nothing
+  pub create_failed : (new : FolderPast) → MakesInPart (name kind (file_count reading kind)) old new → CreateFailed name kind old new known doubts times reading
+  create_failed new (inl same) = subst (λ (p : FolderPast). CreateFailed name kind old p known doubts times reading) (sym same) create_nothing
   create_failed new (inr is_made) =
-      subst (λ (p : FolderPast). CreateFailed name kind old p known times reading) (sym is_made.synced.whole) (create_failed_now is_made.synced.deeds is_made.synced.syncs)
+      subst (λ (p : FolderPast). CreateFailed name kind old p known doubts times reading) (sym is_made.synced.whole) (create_failed_now is_made.synced.deeds is_made.synced.syncs)
 
   -- the name of the new file is on the disk, and it is empty there
   new_is_named : IsNamed (made_durably (name kind (file_count reading kind)) old) (name kind (file_count reading kind))
@@ -406,7 +465,7 @@ module _ (name : Kind → ℕ → List ℕ) (apart : NamesApart name) (kind : Ki
   syncs_of_all = tt
 
   create_done_now : (more : Kind → ℕ) → ((k : Kind) → more k < 2 ^ 32) → more kind ≡ known kind + 1 → ((k : Kind) → k ≢ kind → more k ≡ known k)
-      → CreateDone name kind old (made_durably (name kind (file_count reading kind)) old) more times reading
+      → CreateDone name kind old (made_durably (name kind (file_count reading kind)) old) more doubts times reading
   create_done_now more numbers one others = record {
     knows = record {
       is = made_folder_is (SyncedAround true ∷ SyncedFolder true ∷ Did (name kind (file_count reading kind)) (Synced true) ∷ []) syncs_of_all;
@@ -416,12 +475,11 @@ module _ (name : Kind → ℕ → List ℕ) (apart : NamesApart name) (kind : Ki
       one_more = λ k. omega (arith, counts k);
       all = λ goes k. counts k;
       named = λ goes k f inside. names k f inside;
-      sure = λ goes m.
+      sure = λ goes m. or_still (λ before.
           let n : List ℕ = name kind (file_count reading kind) in
-          let before = knows.sure refl m in
           let made = on_deed (AreBytesSure (old.first m)) m n Made old.deeds (bytes_sure-made (old.first m) (deeds_of m old.deeds)) before in
           let synced = on_deed (AreBytesSure (old.first m)) m n (Synced true) (Did n Made ∷ old.deeds) (bytes_sure-synced (old.first m) (deeds_of m (Did n Made ∷ old.deeds)) made) made in
-          bytes_sure-listed (old.first m) (deeds_of m (Did n (Synced true) ∷ Did n Made ∷ old.deeds)) true synced;
+          bytes_sure-listed (old.first m) (deeds_of m (Did n (Synced true) ∷ Did n Made ∷ old.deeds)) true synced) (knows.sure refl m);
     };
     durable =
         file_is_durable name (made_durably (name kind (file_count reading kind)) old) kind (file_count reading kind) [] room placed new_is_named new_is_empty;
@@ -466,16 +524,16 @@ module _ (name : Kind → ℕ → List ℕ) (apart : NamesApart name) (kind : Ki
 
   pub create_done : (new : FolderPast) (more : Kind → ℕ) → new ≡ made_durably (name kind (file_count reading kind)) old
       → ((k : Kind) → more k < 2 ^ 32) → more kind ≡ known kind + 1 → ((k : Kind) → k ≢ kind → more k ≡ known k)
-      → CreateDone name kind old new more times reading
+      → CreateDone name kind old new more doubts times reading
   create_done new more whole numbers one others =
-      subst (λ (p : FolderPast). CreateDone name kind old p more times reading) (sym whole) (create_done_now more numbers one others)
+      subst (λ (p : FolderPast). CreateDone name kind old p more doubts times reading) (sym whole) (create_done_now more numbers one others)
 
 -- ---- a cut
 
-cut_leaves_now : (name : Kind → ℕ → List ℕ) → NamesApart name → (kind : Kind) (file len rest : ℕ) (old : FolderPast) (known : Kind → ℕ) (gave_up : Bool) (times : Times) (reading : Image)
-    → Knows name old known gave_up times reading → file < file_count reading kind
-    → CutLeaves name kind file len rest old (did_to old (name kind file) (Shortened (len + rest) rest)) known gave_up times reading
-cut_leaves_now name apart kind file len rest old known gave_up times reading knows there =
+cut_leaves_now : (name : Kind → ℕ → List ℕ) → NamesApart name → (kind : Kind) (file len rest : ℕ) (old : FolderPast) (known : Kind → ℕ) (gave_up : Bool) (doubts : Kind → Option ℕ) (times : Times) (reading : Image)
+    → Knows name old known gave_up doubts times reading → file < file_count reading kind
+    → CutLeaves name kind file len rest old (did_to old (name kind file) (Shortened (len + rest) rest)) known gave_up doubts times reading
+cut_leaves_now name apart kind file len rest old known gave_up doubts times reading knows there =
     let n : List ℕ = name kind file in
     let deed : FileDeed = Shortened (len + rest) rest in
     let bytes : List ℕ = take (len + rest) (file_of reading kind file) in
@@ -493,28 +551,28 @@ cut_leaves_now name apart kind file len rest old known gave_up times reading kno
         all = λ goes k. counts k ∙ knows.all goes k;
         named = λ goes k f inside. is_named-did old n (name k f) deed (λ e. cc) (knows.named goes k f (omega (arith, inside, counts k)));
         sure = λ goes m.
-            on_deed (AreBytesSure (old.first m)) m n deed old.deeds (bytes_sure-shortened (old.first m) (deeds_of m old.deeds) (len + rest) rest (knows.sure goes m)) (knows.sure goes m);
+            or_still (λ sure. on_deed (AreBytesSure (old.first m)) m n deed old.deeds (bytes_sure-shortened (old.first m) (deeds_of m old.deeds) (len + rest) rest sure) sure) (knows.sure goes m);
       };
       follows = subst (λ (to : ℕ). Follows (OnFile kind file (Cut to)) (images_of name old) (images_of name (did_to old n deed))) asked
           (cut_follows name apart kind file (omega (arith, there, knows.is.seen.few kind)) old (len + rest) rest);
       time = one_deed_elapses name old times (Did n deed) knows.timed;
     }
 
-pub cut_leaves : (name : Kind → ℕ → List ℕ) → NamesApart name → (kind : Kind) (file len rest : ℕ) (old new : FolderPast) (known : Kind → ℕ) (gave_up : Bool) (times : Times) (reading : Image)
-    → Knows name old known gave_up times reading → file < file_count reading kind → new ≡ did_to old (name kind file) (Shortened (len + rest) rest)
-    → CutLeaves name kind file len rest old new known gave_up times reading
-cut_leaves name apart kind file len rest old new known gave_up times reading knows there whole =
-    subst (λ (p : FolderPast). CutLeaves name kind file len rest old p known gave_up times reading) (sym whole)
-    (cut_leaves_now name apart kind file len rest old known gave_up times reading knows there)
+pub cut_leaves : (name : Kind → ℕ → List ℕ) → NamesApart name → (kind : Kind) (file len rest : ℕ) (old new : FolderPast) (known : Kind → ℕ) (gave_up : Bool) (doubts : Kind → Option ℕ) (times : Times) (reading : Image)
+    → Knows name old known gave_up doubts times reading → file < file_count reading kind → new ≡ did_to old (name kind file) (Shortened (len + rest) rest)
+    → CutLeaves name kind file len rest old new known gave_up doubts times reading
+cut_leaves name apart kind file len rest old new known gave_up doubts times reading knows there whole =
+    subst (λ (p : FolderPast). CutLeaves name kind file len rest old p known gave_up doubts times reading) (sym whole)
+    (cut_leaves_now name apart kind file len rest old known gave_up doubts times reading knows there)
 
 -- ---- a folder that is opened
 
 -- a disk that counted the files of a folder, and then synced it and the one around it, knows of them
-pub opened_knows : (name : Kind → ℕ → List ℕ) (past : FolderPast) (known : Kind → ℕ) (image : Image)
+pub opened_knows : (name : Kind → ℕ → List ℕ) (past : FolderPast) (known : Kind → ℕ) (doubts : Kind → Option ℕ) (image : Image)
     → IsUnfailed past → IsSeen name (contents_of past) image → ((kind : Kind) → known kind < 2 ^ 32) → ((kind : Kind) → file_count image kind ≡ known kind)
-    → Knows name (did (did past (SyncedFolder true)) (SyncedAround true)) known false
+    → Knows name (did (did past (SyncedFolder true)) (SyncedAround true)) known false doubts
     (record { made = length (did (did past (SyncedFolder true)) (SyncedAround true)).deeds; begun = [] }) image
-opened_knows name past known image unfailed seen numbers counted = record {
+opened_knows name past known doubts image unfailed seen numbers counted = record {
   is = opened_is_disk name past image unfailed seen;
   timed = record { rises = tt; now = refl };
   numbers = numbers;
@@ -522,7 +580,7 @@ opened_knows name past known image unfailed seen numbers counted = record {
   one_more = λ kind. omega (arith, counted kind);
   all = λ goes kind. counted kind;
   named = λ goes kind file inside. opened_is_named name past image kind file unfailed seen inside;
-  sure = λ goes n. bytes_sure-listed (past.first n) (deeds_of n past.deeds) true (unfailed_bytes past.first past.deeds n unfailed);
+  sure = λ goes n. inr (bytes_sure-listed (past.first n) (deeds_of n past.deeds) true (unfailed_bytes past.first past.deeds n unfailed));
 }
 
 -- ---- a write that succeeded

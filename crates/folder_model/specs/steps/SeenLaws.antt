@@ -8,10 +8,10 @@ use Rattle.disk_model.specs.Crash.{Torn, Cut, OnFile, HasFile, Within, Follows, 
 use Rattle.disk_model.specs.steps.CrashLaws.{torn_none, cut_none, on_file_none}
 use Rattle.disk_model.specs.steps.ImageLaws.{same_or_apart, others_stay, file_of-with_file, file_count-with_file, with_file-with_file, with_file-file_of}
 use Rattle.folder_model.specs.File.{FileDeed, Wrote, Shortened, Synced, Crash, MayHold, IsLeft, OnEntry}
-use Rattle.folder_model.specs.Folder.{Contents, SyncedFolder, SyncedAround, FolderPast, did, did_to, deeds_of, contents_of, MayLeave}
+use Rattle.folder_model.specs.Folder.{Contents, FolderPast, did_to, deeds_of, contents_of, MayLeave}
 use Rattle.folder_model.specs.Seen.{NamesApart, IsSeen, images_of, IsNamed, IsPlaced}
 use Rattle.folder_model.specs.steps.FileLaws.{read_is_left, none_is_left, named_is_left}
-use Rattle.folder_model.specs.steps.FolderLaws.{Before, before_deed, wrote_back, shortened_back, synced_file, synced_folder, synced_around}
+use Rattle.folder_model.specs.steps.FolderLaws.{Before, before_deed, wrote_back, shortened_back, synced_file}
 
 -- a file is there in an image, where the folder has something under its name
 pub there_is : (name : Kind → ℕ → List ℕ) (contents : Contents) (image : Image) (kind : Kind) (file : ℕ) (bytes : List ℕ)
@@ -157,12 +157,6 @@ cut_follows name apart kind file number past len rest =
 -- syncs, done or failed, add no image
 pub synced_within : (name : Kind → ℕ → List ℕ) (past : FolderPast) (n : List ℕ) (done : Bool) → Within (images_of name past) (images_of name (did_to past n (Synced done)))
 synced_within name past n done image left = (left.0, synced_file past n done left.0 left.1, left.2)
-
-pub folder_within : (name : Kind → ℕ → List ℕ) (past : FolderPast) (done : Bool) → Within (images_of name past) (images_of name (did past (SyncedFolder done)))
-folder_within name past done image left = (left.0, synced_folder past done left.0 left.1, left.2)
-
-pub around_within : (name : Kind → ℕ → List ℕ) (past : FolderPast) (done : Bool) → Within (images_of name past) (images_of name (did past (SyncedAround done)))
-around_within name past done image left = (left.0, synced_around past done left.0 left.1, left.2)
 
 -- Where folder and name are on the disk, and each of what the disk may hold of the file are these bytes, a crash leaves the file with them.
 pub file_is_durable : (name : Kind → ℕ → List ℕ) (past : FolderPast) (kind : Kind) (file : ℕ) (bytes : List ℕ)

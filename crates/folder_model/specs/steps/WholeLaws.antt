@@ -9,6 +9,7 @@ use Rattle.disk_model.specs.Image.{Image, file_count, file_of, with_file, writte
 use Rattle.disk_model.specs.Crash.{Torn, OnFile, Follows}
 use Rattle.disk_model.specs.steps.CrashLaws.{torn_none, torn_written, length-written, on_file_none}
 use Rattle.disk_model.specs.steps.ImageLaws.{file_of-with_file, with_file-with_file, with_file_past}
+use Rattle.folder_model.specs.Calls.{WritesInPart}
 use Rattle.folder_model.specs.File.{FileDeed, Made, Wrote, Shortened, Synced, Listed}
 use Rattle.folder_model.specs.Folder.{Contents, FolderPast, did_to, deeds_of, contents_of, bytes_of, MayLeave}
 use Rattle.folder_model.specs.Seen.{NamesApart, images_of}
@@ -157,6 +158,19 @@ part_failed name at bytes done place some rest old mid new inside is_place sum s
     subst (λ (k : ℕ). IsWriting name at bytes k old new) same
     (one_written name at bytes done 0 place some rest old mid new (omega (arith, inside)) (omega arith) is_place (omega (arith, sum, length-drop done bytes, inside))
     refl so_far whole)
+
+-- the first call took some bytes, or it failed
+pub first_written : (name : List ℕ) (at : ℕ) (bytes : List ℕ) (n : ℕ) (old new : FolderPast) → n ≤ length bytes → IsInFile old name at
+    → new ≡ did_to old name (Wrote at (take n bytes) 0) → IsWriting name at bytes n old new
+first_written name at bytes n old new fits in_file whole =
+    let sum : 0 + n ≡ n = omega arith in
+    subst (λ (k : ℕ). IsWriting name at bytes k old new) sum
+    (part_written name at bytes 0 n at old old new (omega (arith, fits)) (omega arith) (none_written name at bytes old in_file) whole)
+
+pub first_failed : (name : List ℕ) (at : ℕ) (bytes : List ℕ) (old new : FolderPast) → IsInFile old name at → WritesInPart name at bytes old new → IsWriting name at bytes 0 old new
+first_failed name at bytes old new in_file part =
+    part_failed name at bytes 0 at part.bytes (length part.rest) old old new (omega arith) (omega arith)
+    (sym (length-append part.bytes part.rest) ∙ ap length part.all) (none_written name at bytes old in_file) part.whole
 
 -- once all is written reads find the bytes in their place
 pub all_written : (name : List ℕ) (at : ℕ) (bytes : List ℕ) (old new : FolderPast) → (writing : IsWriting name at bytes (length bytes) old new)

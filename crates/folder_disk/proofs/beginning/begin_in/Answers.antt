@@ -9,7 +9,7 @@ returns-in-Ok-open g c =
       record {
         warc_is = omega (arith, new.warc_is, c.if-counts-ne0.false);
         cdxj_is = omega (arith, new.cdxj_is, c.if-counts-ne0-2.false);
-        going = new.going;
+        fresh = new.fresh;
         first = new.first;
       },
     )

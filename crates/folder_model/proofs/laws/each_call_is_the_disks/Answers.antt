@@ -1,5 +1,6 @@
 -- The laws of specs/steps.
-use Rattle.folder_model.specs.steps.KnownLaws.{write_leaves, cut_leaves, sync_done, sync_failed, create_done, create_failed, opened_knows}
+use Rattle.folder_model.specs.steps.KnownLaws.{write_leaves, cut_leaves, sync_done, sync_failed, sync_doubted, create_done, create_failed, opened_knows}
+use Rattle.folder_model.specs.steps.MendLaws.{mending, mended_sync, unmended_sync}
 use Rattle.folder_model.proofs.laws.each_call_is_the_disks.Goals as goal
 
 pub returns-clause-opened : goal.returns-clause-opened
@@ -22,3 +23,15 @@ returns-clause-create c = create_done
 
 pub returns-clause-create_failed : goal.returns-clause-create_failed
 returns-clause-create_failed c = create_failed
+
+pub returns-clause-doubt : goal.returns-clause-doubt
+returns-clause-doubt c = sync_doubted
+
+pub returns-clause-mending : goal.returns-clause-mending
+returns-clause-mending c = mending
+
+pub returns-clause-mended : goal.returns-clause-mended
+returns-clause-mended c = mended_sync
+
+pub returns-clause-unmended : goal.returns-clause-unmended
+returns-clause-unmended c = unmended_sync

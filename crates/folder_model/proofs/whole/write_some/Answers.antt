@@ -1,5 +1,5 @@
 -- A write that was done adds its bytes to the part so far, and one that failed leaves the part.
-use Rattle.std.proofs.Common.{◌≡◌, ◌+◌, ℕ, List, length, take, ◌∙◌, ap, subst, arith}
+use Rattle.std.proofs.Common.{◌≡◌, ◌+◌, ℕ, List, length, take, ◌∙◌, ap, sym, subst, arith, length-append}
 use Rattle.folder_model.specs.File.{Wrote}
 use Rattle.folder_model.specs.Folder.{did_to}
 use Rattle.folder_model.specs.Whole.{IsWriting}
@@ -37,14 +37,14 @@ pub returns-then-ne-clause-fails : goal.returns-then-ne-clause-fails
 returns-then-ne-clause-fails g c = λ tells old at is_place writing.
     let n = g.F.Folder.name_of c.args.file.now in
     let part = c.in-Err.ensures.partial tells in
-    part_failed n at c.args.bytes.now c.args.done c.args.place part.bytes part.rest old (g.F.Folder.past c.loop.folder) (g.F.Folder.past c.write_at.new.self)
-    (omega (arith, c.requires.inside)) is_place (part.sum ∙ ap length c.split_at.ensures.back)
+    part_failed n at c.args.bytes.now c.args.done c.args.place part.bytes (length part.rest) old (g.F.Folder.past c.loop.folder) (g.F.Folder.past c.write_at.new.self)
+    (omega (arith, c.requires.inside)) is_place (sym (length-append part.bytes part.rest) ∙ ap length part.all ∙ ap length c.split_at.ensures.back)
     (c.loop.invariant tells old at is_place writing) part.whole
 
 pub loop-preserved : goal.loop-preserved
 loop-preserved g c = λ tells old at is_place writing.
     let n = g.F.Folder.name_of c.args.file.now in
     let part = c.in-Err.ensures.partial tells in
-    part_failed n at c.args.bytes.now c.args.done c.args.place part.bytes part.rest old (g.F.Folder.past c.loop.folder) (g.F.Folder.past c.write_at.new.self)
-    (omega (arith, c.requires.inside)) is_place (part.sum ∙ ap length c.split_at.ensures.back)
+    part_failed n at c.args.bytes.now c.args.done c.args.place part.bytes (length part.rest) old (g.F.Folder.past c.loop.folder) (g.F.Folder.past c.write_at.new.self)
+    (omega (arith, c.requires.inside)) is_place (sym (length-append part.bytes part.rest) ∙ ap length part.all ∙ ap length c.split_at.ensures.back)
     (c.loop.invariant tells old at is_place writing) part.whole

@@ -8,9 +8,12 @@ use Rattle.folder_model.specs.Timed.{times_of}
 use Rattle.folder_model.specs.Whole.{made_durably, MakesInPart}
 use Rattle.folder_disk.specs.Calls.{Creates}
 use Rattle.folder_disk.specs.Held.{state_of}
-use Rattle.folder_disk.specs.State.{State, known_of, next, grown, given_up}
+use Rattle.folder_disk.specs.State.{State, known_of, next, grown, trusted}
+use Rattle.folder_disk.specs.Doubts.{SyncedTo}
+use Rattle.folder_disk.specs.declared.trust.Trust.{Trust}
+use Rattle.folder_disk.specs.steps.SureLaws.{made_goes}
 use Rattle.folder_disk.specs.steps.OpenLaws.{all_same, same_contents, none_open, made_open}
-use Rattle.folder_disk.specs.steps.StateLaws.{create_made, create_missed, create_not_begun, create_behind, create_unacknowledged, nothing_made, next_grown, at_error}
+use Rattle.folder_disk.specs.steps.StateLaws.{create_made, create_missed, create_not_begun, create_behind, create_unacknowledged, nothing_made, grown_trusted, at_error}
 use Rattle.folder_disk.proofs.held.Held.create.Goals as goal
 
 pub returns-in_err-check_in_place-clause-creates : goal.returns-in_err-check_in_place-clause-creates
@@ -82,26 +85,33 @@ returns-in_err-keep_at_name-in-Ok-clause-creates g c =
     let number : c.known-number.result ≡ known_of old.warc old.cdxj c.args.kind = c.known-number.ensures in
     let named : c.as_str.result.now ≡ name c.args.kind (known_of old.warc old.cdxj c.args.kind) =
     c.as_str.ensures.value ∙ c.in_ok-name.ensures ∙ ap (name c.args.kind) number in
-    let went : state_of past_of c.set_known.new.self ≡ next (grown c.args.kind old) past =
+    let trust : Trust = c.synced.new.self in
+    let on : SyncedTo c.args.kind (known_of old.warc old.cdxj c.args.kind) old.trust trust = subst (λ (k : ℕ). SyncedTo c.args.kind k old.trust trust) number c.synced.ensures in
+    let whole : IsTrue tells → past ≡ made_durably (name c.args.kind (known_of old.warc old.cdxj c.args.kind)) old.past =
+    λ told. c.in-Ok.ensures.made told ∙ (λ i. made_durably (named i) (c.check_in_place.ensures told i)) in
+    let went : state_of past_of c.set_known.new.self ≡ trusted trust (next (grown c.args.kind old) past) =
     c.set_known.ensures.state
-    ∙ (λ i. grown c.args.kind (record old { past = past_of (c.go_on.ensures.folder i); times = c.go_on.ensures.times i }))
-    ∙ next_grown c.args.kind old past in
-    let made = create_made tells name g.met.N.FileNames.apart c.args.kind old past
-    (λ told. (
-      c.requires.known told,
-      c.in-Ok.ensures.made told ∙ (λ i. made_durably (named i) (c.check_in_place.ensures told i)),
-    ))
-    c.if-self.false (omega (arith, c.in-Some.ensures.0, number)) in
+    ∙ (λ i. grown c.args.kind (record old { past = past_of (c.go_on.ensures.folder i); trust = trust; times = c.go_on.ensures.times i }))
+    ∙ grown_trusted c.args.kind old past trust in
+    let made = create_made tells name g.met.N.FileNames.apart c.args.kind old past trust
+    (λ told. (c.requires.known told, whole told))
+    c.if-self.false (omega (arith, c.in-Some.ensures.0, number))
+    (λ told.
+    let knows = (c.requires.known told).knows in
+    made_goes name g.met.N.FileNames.apart c.args.kind (known_of old.warc old.cdxj c.args.kind) (knows.numbers c.args.kind) old past trust (c.requires.known told) c.if-self.false
+    (knows.is.seen.no_more c.args.kind (known_of old.warc old.cdxj c.args.kind) (omega (arith, knows.all c.if-self.false c.args.kind)) (knows.numbers c.args.kind))
+    (whole told) on)
+    {E = Error} in
     let last : FolderPast = past_of c.keep_at_name.new.self.timed.folder in
-    let behind : state_of past_of c.keep_at_name.new.self ≡ record (next (grown c.args.kind old) past) { past = last } =
+    let behind : state_of past_of c.keep_at_name.new.self ≡ record (trusted trust (next (grown c.args.kind old) past)) { past = last } =
     (λ i. record (state_of past_of (c.keep_at_name.ensures.rest i)) { past = last }) ∙ ap (λ (s : State). record s { past = last }) went in
     let same : IsTrue tells → last ≡ past =
     λ told. c.keep_at_name.ensures.same told ∙ (λ i. past_of (c.set_known.ensures.same i).folder) ∙ (λ i. past_of (c.go_on.ensures.folder i)) in
     subst (λ (s : State). Creates {E = Error} tells name c.args.kind old s c.from_residual-in_err-keep_at_name-in-Ok.result) (sym behind)
-    (at_error (λ r. Creates {E = Error} tells name c.args.kind old (record (next (grown c.args.kind old) past) { past = last }) r)
+    (at_error (λ r. Creates {E = Error} tells name c.args.kind old (record (trusted trust (next (grown c.args.kind old) past)) { past = last }) r)
     c.from_residual-in_err-keep_at_name-in-Ok.result c.from_residual-in_err-keep_at_name-in-Ok.ensures.0
-    (λ e. create_behind {E = Error} tells name c.args.kind old (next (grown c.args.kind old) past) last (Err e) same
-    (create_unacknowledged {E = Error} tells name c.args.kind old (next (grown c.args.kind old) past) (known_of old.warc old.cdxj c.args.kind) e made)))
+    (λ e. create_behind {E = Error} tells name c.args.kind old (trusted trust (next (grown c.args.kind old) past)) last (Err e) same
+    (create_unacknowledged {E = Error} tells name c.args.kind old (trusted trust (next (grown c.args.kind old) past)) (known_of old.warc old.cdxj c.args.kind) e made)))
 
 pub returns-in-Ok-clause-creates : goal.returns-in-Ok-clause-creates
 returns-in-Ok-clause-creates g c =
@@ -115,24 +125,31 @@ returns-in-Ok-clause-creates g c =
     let number : c.known-number.result ≡ known_of old.warc old.cdxj c.args.kind = c.known-number.ensures in
     let named : c.as_str.result.now ≡ name c.args.kind (known_of old.warc old.cdxj c.args.kind) =
     c.as_str.ensures.value ∙ c.in_ok-name.ensures ∙ ap (name c.args.kind) number in
-    let went : state_of past_of c.set_known.new.self ≡ next (grown c.args.kind old) past =
+    let trust : Trust = c.synced.new.self in
+    let on : SyncedTo c.args.kind (known_of old.warc old.cdxj c.args.kind) old.trust trust = subst (λ (k : ℕ). SyncedTo c.args.kind k old.trust trust) number c.synced.ensures in
+    let whole : IsTrue tells → past ≡ made_durably (name c.args.kind (known_of old.warc old.cdxj c.args.kind)) old.past =
+    λ told. c.in-Ok.ensures.made told ∙ (λ i. made_durably (named i) (c.check_in_place.ensures told i)) in
+    let went : state_of past_of c.set_known.new.self ≡ trusted trust (next (grown c.args.kind old) past) =
     c.set_known.ensures.state
-    ∙ (λ i. grown c.args.kind (record old { past = past_of (c.go_on.ensures.folder i); times = c.go_on.ensures.times i }))
-    ∙ next_grown c.args.kind old past in
-    let made = create_made tells name g.met.N.FileNames.apart c.args.kind old past
-    (λ told. (
-      c.requires.known told,
-      c.in-Ok.ensures.made told ∙ (λ i. made_durably (named i) (c.check_in_place.ensures told i)),
-    ))
-    c.if-self.false (omega (arith, c.in-Some.ensures.0, number)) in
+    ∙ (λ i. grown c.args.kind (record old { past = past_of (c.go_on.ensures.folder i); trust = trust; times = c.go_on.ensures.times i }))
+    ∙ grown_trusted c.args.kind old past trust in
+    let made = create_made tells name g.met.N.FileNames.apart c.args.kind old past trust
+    (λ told. (c.requires.known told, whole told))
+    c.if-self.false (omega (arith, c.in-Some.ensures.0, number))
+    (λ told.
+    let knows = (c.requires.known told).knows in
+    made_goes name g.met.N.FileNames.apart c.args.kind (known_of old.warc old.cdxj c.args.kind) (knows.numbers c.args.kind) old past trust (c.requires.known told) c.if-self.false
+    (knows.is.seen.no_more c.args.kind (known_of old.warc old.cdxj c.args.kind) (omega (arith, knows.all c.if-self.false c.args.kind)) (knows.numbers c.args.kind))
+    (whole told) on)
+    {E = Error} in
     let last : FolderPast = past_of c.keep_at_name.new.self.timed.folder in
-    let behind : state_of past_of c.keep_at_name.new.self ≡ record (next (grown c.args.kind old) past) { past = last } =
+    let behind : state_of past_of c.keep_at_name.new.self ≡ record (trusted trust (next (grown c.args.kind old) past)) { past = last } =
     (λ i. record (state_of past_of (c.keep_at_name.ensures.rest i)) { past = last }) ∙ ap (λ (s : State). record s { past = last }) went in
     let same : IsTrue tells → last ≡ past =
     λ told. c.keep_at_name.ensures.same told ∙ (λ i. past_of (c.set_known.ensures.same i).folder) ∙ (λ i. past_of (c.go_on.ensures.folder i)) in
     subst (λ (s : State). Creates {E = Error} tells name c.args.kind old s (Ok c.known-number.result)) (sym behind)
-    (subst (λ (n : ℕ). Creates {E = Error} tells name c.args.kind old (record (next (grown c.args.kind old) past) { past = last }) (Ok n)) (sym number)
-    (create_behind {E = Error} tells name c.args.kind old (next (grown c.args.kind old) past) last (Ok (known_of old.warc old.cdxj c.args.kind)) same made))
+    (subst (λ (n : ℕ). Creates {E = Error} tells name c.args.kind old (record (trusted trust (next (grown c.args.kind old) past)) { past = last }) (Ok n)) (sym number)
+    (create_behind {E = Error} tells name c.args.kind old (trusted trust (next (grown c.args.kind old) past)) last (Ok (known_of old.warc old.cdxj c.args.kind)) same made))
 
 pub returns-then-self-clause-creates : goal.returns-then-self-clause-creates
 returns-then-self-clause-creates g c =
@@ -179,12 +196,12 @@ returns-clause-creates g c =
     let named : c.as_str.result.now ≡ name c.args.kind (known_of old.warc old.cdxj c.args.kind) =
     c.as_str.ensures.value ∙ c.in_ok-name.ensures ∙ ap (name c.args.kind) number in
     let times : times_of c.go_on-in-Err.new.self ≡ goes_on old.times last = c.go_on-in-Err.ensures.times ∙ (λ i. goes_on (times_of (rest i).timed) last) in
-    let went : record { past = past_of c.go_on-in-Err.new.self.folder; warc = c.lacks.new.self.warc; cdxj = c.lacks.new.self.cdxj; gave_up = true; times = times_of c.go_on-in-Err.new.self } ≡ given_up (next old last) =
+    let went : record { past = past_of c.go_on-in-Err.new.self.folder; warc = c.lacks.new.self.warc; cdxj = c.lacks.new.self.cdxj; trust = record c.lacks.new.self.trust { gave_up = true }; times = times_of c.go_on-in-Err.new.self } ≡ trusted (record old.trust { gave_up = true }) (next old last) =
     λ i. record {
       past = past_of (c.go_on-in-Err.ensures.folder i);
       warc = (rest i).warc;
       cdxj = (rest i).cdxj;
-      gave_up = true;
+      trust = record (rest i).trust { gave_up = true };
       times = times i;
     } in
     let partial : IsTrue tells → MakesInPart (name c.args.kind (known_of old.warc old.cdxj c.args.kind)) old.past last =

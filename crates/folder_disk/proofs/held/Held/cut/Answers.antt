@@ -8,9 +8,12 @@ use Rattle.folder_model.specs.Timed.{times_of}
 use Rattle.folder_disk.specs.Calls.{Cuts}
 use Rattle.folder_disk.specs.Held.{state_of}
 use Rattle.folder_disk.specs.OpenFiles.{AreOpen}
-use Rattle.folder_disk.specs.State.{State, next}
+use Rattle.folder_disk.specs.State.{State, next, trusted}
 use Rattle.folder_disk.specs.steps.OpenLaws.{open_named, others_same, deed_others, cut_open, kept_after, none_open}
 use Rattle.folder_disk.specs.steps.StateLaws.{cut_ended, cut_not_begun, at_error}
+use Rattle.folder_disk.specs.steps.SureLaws.{cut_goes}
+use Rattle.folder_disk.specs.Doubts.{AfterCut, GoesOn}
+use Rattle.folder_disk.specs.declared.trust.Trust.{Trust}
 use Rattle.folder_disk.proofs.held.Held.cut.Goals as goal
 
 pub returns-in_err-one-clause-cuts : goal.returns-in_err-one-clause-cuts
@@ -53,12 +56,15 @@ returns-in-Ok-clause-cuts g c =
     let rest = c.to_write.ensures.rest in
     let past : FolderPast = past_of c.set_len.new.self in
     let times : times_of c.go_on.new.self ≡ goes_on old.times past = c.go_on.ensures.times ∙ (λ i. goes_on (times_of (rest i).timed) past) in
-    let went : record { past = past_of c.go_on.new.self.folder; warc = c.to_write.new.self.warc; cdxj = c.to_write.new.self.cdxj; gave_up = c.to_write.new.self.gave_up; times = times_of c.go_on.new.self } ≡ next old past =
+    let trust : Trust = c.cut.new.self in
+    let on : GoesOn c.args.kind (AfterCut c.args.file) old.trust trust =
+    subst (λ (t : Trust). GoesOn c.args.kind (AfterCut c.args.file) t trust) (λ i. (rest i).trust) c.cut.ensures in
+    let went : record { past = past_of c.go_on.new.self.folder; warc = c.to_write.new.self.warc; cdxj = c.to_write.new.self.cdxj; trust = trust; times = times_of c.go_on.new.self } ≡ trusted trust (next old past) =
     λ i. record {
       past = past_of (c.go_on.ensures.folder i);
       warc = (rest i).warc;
       cdxj = (rest i).cdxj;
-      gave_up = (rest i).gave_up;
+      trust = trust;
       times = times i;
     } in
     let before : FolderPast = past_of c.to_write.new.self.timed.folder in
@@ -67,8 +73,11 @@ returns-in-Ok-clause-cuts g c =
     λ told. open_named name name_of c.args.kind c.args.file c.in_ok-one.one is.0 is.1 before (c.in_ok-one.ensures.open told) in
     let whole : c.args.len ≡ c.args.len + 0 = omega arith in
     subst (λ (s : State). Cuts {E = Error} tells name c.args.kind c.args.file c.args.len old s (Ok tt)) (sym went)
-    (cut_ended {E = Error} tells name g.met.N.FileNames.apart c.args.kind c.args.file c.args.len old past (Ok tt)
+    (cut_ended tells name g.met.N.FileNames.apart c.args.kind c.args.file c.args.len old past trust
     (λ told. (c.requires.known told, c.requires.there told))
+    (λ told. cut_goes name g.met.N.FileNames.apart c.args.kind c.args.file c.ranges.file.fits old past trust (c.requires.known told) (Shortened c.args.len 0)
+    (c.in-Ok.ensures.cut told ∙ (λ i. did_to (c.to_write.ensures.same told i) (named told i) (Shortened c.args.len 0))) on)
+    {E = Error} (Ok tt)
     (λ told. (
       0,
       c.in-Ok.ensures.cut told ∙ (λ i. did_to (c.to_write.ensures.same told i) (named told i) (Shortened (whole i) 0)),
@@ -85,12 +94,15 @@ returns-in-Err-clause-cuts g c =
     let rest = c.to_write.ensures.rest in
     let past : FolderPast = past_of c.set_len.new.self in
     let times : times_of c.go_on-in-Err.new.self ≡ goes_on old.times past = c.go_on-in-Err.ensures.times ∙ (λ i. goes_on (times_of (rest i).timed) past) in
-    let went : record { past = past_of c.go_on-in-Err.new.self.folder; warc = c.to_write.new.self.warc; cdxj = c.to_write.new.self.cdxj; gave_up = c.to_write.new.self.gave_up; times = times_of c.go_on-in-Err.new.self } ≡ next old past =
+    let trust : Trust = c.cut-in-Err.new.self in
+    let on : GoesOn c.args.kind (AfterCut c.args.file) old.trust trust =
+    subst (λ (t : Trust). GoesOn c.args.kind (AfterCut c.args.file) t trust) (λ i. (rest i).trust) c.cut-in-Err.ensures in
+    let went : record { past = past_of c.go_on-in-Err.new.self.folder; warc = c.to_write.new.self.warc; cdxj = c.to_write.new.self.cdxj; trust = trust; times = times_of c.go_on-in-Err.new.self } ≡ trusted trust (next old past) =
     λ i. record {
       past = past_of (c.go_on-in-Err.ensures.folder i);
       warc = (rest i).warc;
       cdxj = (rest i).cdxj;
-      gave_up = (rest i).gave_up;
+      trust = trust;
       times = times i;
     } in
     let before : FolderPast = past_of c.to_write.new.self.timed.folder in
@@ -98,8 +110,13 @@ returns-in-Err-clause-cuts g c =
     let named : (told : IsTrue tells) → name_of c.in_ok-one.one.file ≡ name c.args.kind c.args.file =
     λ told. open_named name name_of c.args.kind c.args.file c.in_ok-one.one is.0 is.1 before (c.in_ok-one.ensures.open told) in
     subst (λ (s : State). Cuts {E = Error} tells name c.args.kind c.args.file c.args.len old s (Err c.in-Err.error)) (sym went)
-    (cut_ended {E = Error} tells name g.met.N.FileNames.apart c.args.kind c.args.file c.args.len old past (Err c.in-Err.error)
+    (cut_ended tells name g.met.N.FileNames.apart c.args.kind c.args.file c.args.len old past trust
     (λ told. (c.requires.known told, c.requires.there told))
+    (λ told.
+    let part = c.in-Err.ensures.partial told in
+    cut_goes name g.met.N.FileNames.apart c.args.kind c.args.file c.ranges.file.fits old past trust (c.requires.known told) (Shortened (c.args.len + part.rest) part.rest)
+    (part.whole ∙ (λ i. did_to (c.to_write.ensures.same told i) (named told i) (Shortened (c.args.len + part.rest) part.rest))) on)
+    {E = Error} (Err c.in-Err.error)
     (λ told.
     let part = c.in-Err.ensures.partial told in (
       part.rest,

@@ -8,16 +8,17 @@ use Rattle.folder_disk.proofs.held.Held.open.Goals as goal
 pub returns-clause-known : goal.returns-clause-known
 returns-clause-known g c = λ told.
     let past = g.F.Folder.past in
-    opened g.N.FileNames.name c.args.counts.warc c.args.counts.cdxj (past c.args.folder) (past c.new.result.folder) (times_of c.new.result)
+    opened g.N.FileNames.name c.args.counts.warc c.args.counts.cdxj (past c.args.folder) (past c.new.result.folder) c.new-2.result (times_of c.new.result)
     (c.requires told)
     (ap past c.new.ensures.folder
     ∙ c.in_ok-sync_names.ensures told)
+    c.new-2.ensures
     (c.new.ensures.times ∙ (λ i. record { made = length (past (sym c.new.ensures.folder i)).deeds; begun = [] }))
 
 pub returns-clause-new : goal.returns-clause-new
 returns-clause-new g c = record {
   warc_is = refl;
   cdxj_is = refl;
-  going = refl;
+  fresh = c.new-2.ensures;
   first = ap (λ (t : Times). moment_of t) c.new.ensures.times;
 }

@@ -1,0 +1,247 @@
+//! How far a disk's syncs answer for its files.
+ghost use Rattle.std.specs.Prelude.{◌≡◌, ◌≢◌, ◌≤◌, ◌+◌, true, false, None, Some, IsTrue, IfSome};
+ghost use Rattle.folder_disk.specs.declared.trust.Written.{Written};
+ghost use Rattle.folder_disk.specs.Doubts.{range_of, doubt_in, with_range, AfterWhole, AfterPart, AfterCut, AfterSync, AfterFailure, KeepsDoubt, GoesOn, SyncedTo};
+
+use disk_model::Kind;
+
+/// The range of a file that was written since a sync of it was done, and nothing else was. An empty one at the start is a
+/// file that is as it was synced.
+#[derive(Clone, Copy, Debug, PartialEq, Eq)]
+pub(crate) struct Written {
+    pub(crate) number: u32,
+    pub(crate) at: u64,
+    pub(crate) len: u64,
+    /// Whether a sync of the file failed since, so that the range has to be written anew before the next one.
+    pub(crate) in_doubt: bool,
+}
+
+/// Whether syncs are still trusted, and what is known of the file of each kind that was synced or written last.
+#[derive(Clone, Copy, Debug, PartialEq, Eq)]
+pub(crate) struct Trust {
+    /// A file that was to be made may be there or not, or a sync failed and can't be mended.
+    pub(crate) gave_up: bool,
+    pub(crate) warc: Option<Written>,
+    pub(crate) cdxj: Option<Written>,
+}
+
+impl Trust {
+    /// Nothing is in doubt, and of no file it is known what was written.
+    pub(crate) fn new() -> Trust
+        ensures { result ≡ record { gave_up = false; warc = None; cdxj = None } }
+    {
+        Trust {
+            gave_up: false,
+            warc: None,
+            cdxj: None,
+        }
+    }
+
+    /// What is known of a file of a kind.
+    pub(crate) fn of(&self, kind: Kind) -> Option<Written>
+        ensures { result ≡ range_of self.now kind }
+    {
+        match kind {
+            Kind::Warc => self.warc,
+            Kind::Cdxj => self.cdxj,
+        }
+    }
+
+    /// Notes what is known of a file of a kind.
+    fn set(&mut self, kind: Kind, range: Option<Written>)
+        ensures { self.new ≡ with_range kind range self.old }
+    {
+        match kind {
+            Kind::Warc => self.warc = range,
+            Kind::Cdxj => self.cdxj = range,
+        }
+    }
+
+    /// Notes what is known of a file of a kind. Where one that is in doubt would be forgotten the disk gives up.
+    fn go_on(&mut self, kind: Kind, range: Option<Written>)
+        ensures only { self.new ≡ with_range kind range (record self.old { gave_up = self.new.gave_up }) }
+        ensures going { self.new.gave_up ≡ false → self.old.gave_up ≡ false }
+        ensures doubt { self.new.gave_up ≡ false → KeepsDoubt (range_of self.old kind) range }
+    {
+        if forgets(self.of(kind), range) {
+            self.gave_up = true;
+        }
+        self.set(kind, range);
+    }
+
+    /// After a write that one call did whole.
+    pub(crate) fn wrote(&mut self, kind: Kind, number: u32, at: u64, len: u64)
+        ensures { GoesOn kind (AfterWhole number at len) self.old self.new }
+    {
+        let range = after_whole(self.of(kind), number, at, len);
+        self.go_on(kind, range);
+    }
+
+    /// After a write that several calls did, or that failed.
+    pub(crate) fn wrote_part(&mut self, kind: Kind, number: u32, at: u64, len: u64)
+        ensures { GoesOn kind (AfterPart number at len) self.old self.new }
+    {
+        let range = after_part(self.of(kind), number, at, len);
+        self.go_on(kind, range);
+    }
+
+    /// After a cut.
+    pub(crate) fn cut(&mut self, kind: Kind, number: u32)
+        ensures { GoesOn kind (AfterCut number) self.old self.new }
+    {
+        let range = after_cut(self.of(kind), number);
+        self.go_on(kind, range);
+    }
+
+    /// After a sync that was done.
+    pub(crate) fn synced(&mut self, kind: Kind, number: u32)
+        ensures { SyncedTo kind number self.old self.new }
+    {
+        let range = after_sync(self.of(kind), number);
+        self.set(kind, range);
+    }
+
+    /// After a sync that failed. Where it isn't known what was written of the file the disk gives up.
+    pub(crate) fn failed(&mut self, kind: Kind, number: u32)
+        ensures { AfterFailure kind number self.old self.new }
+    {
+        match doubted(self.of(kind), number) {
+            Some(range) => self.set(kind, Some(range)),
+            None => self.gave_up = true,
+        }
+    }
+
+    /// The range of a file that is in doubt.
+    pub(crate) fn doubt(&self, kind: Kind, number: u32) -> Option<Written>
+        ensures some { IfSome result (λ range. range_of self.now kind
+            ≡ Some (record { number = number; at = range.at; len = range.len; in_doubt = true })) }
+        ensures none { result ≡ None → doubt_in (range_of self.now kind) ≢ Some number }
+    {
+        let range = self.of(kind)?;
+        if range.number != number {
+            return None;
+        }
+        if range.in_doubt {
+            return Some(range);
+        }
+        None
+    }
+}
+
+/// Whether a file that is in doubt would be forgotten.
+fn forgets(before: Option<Written>, after: Option<Written>) -> bool
+    ensures { result ≡ false → KeepsDoubt before after }
+{
+    match after {
+        Some(_) => false,
+        None => is_in_doubt(before),
+    }
+}
+
+/// Whether there is a file that is in doubt.
+fn is_in_doubt(range: Option<Written>) -> bool
+    ensures { result ≡ false → doubt_in range ≡ None }
+{
+    match range {
+        Some(range) => range.in_doubt,
+        None => false,
+    }
+}
+
+/// Whether a write lies within a range.
+fn is_within(range: &Written, at: u64, len: u64) -> bool
+    ensures { IsTrue result → (range.now.at ≤ at) × (at + len ≤ range.now.at + range.now.len) }
+{
+    if at < range.at {
+        return false;
+    }
+    match (at.checked_add(len), range.at.checked_add(range.len)) {
+        (Some(end), Some(last)) => end <= last,
+        _ => false,
+    }
+}
+
+/// After a write that one call did whole: the same range, or the write's, where the file was as it was synced.
+fn after_whole(before: Option<Written>, number: u32, at: u64, len: u64) -> Option<Written>
+    ensures { AfterWhole number at len before result }
+{
+    let range = before?;
+    if range.number != number {
+        return Some(range);
+    }
+    if is_within(&range, at, len) {
+        return Some(range);
+    }
+    if range.len != 0 {
+        return None;
+    }
+    Some(Written {
+        number: range.number,
+        at,
+        len,
+        in_doubt: range.in_doubt,
+    })
+}
+
+/// After writes within these bytes.
+fn after_part(before: Option<Written>, number: u32, at: u64, len: u64) -> Option<Written>
+    ensures { AfterPart number at len before result }
+{
+    let range = before?;
+    if range.number != number {
+        return Some(range);
+    }
+    if is_within(&range, at, len) {
+        return Some(range);
+    }
+    None
+}
+
+/// After a cut.
+fn after_cut(before: Option<Written>, number: u32) -> Option<Written>
+    ensures { AfterCut number before result }
+{
+    let range = before?;
+    if range.number != number {
+        return Some(range);
+    }
+    None
+}
+
+/// After a sync of a file that was done.
+fn after_sync(before: Option<Written>, number: u32) -> Option<Written>
+    ensures { AfterSync number before result }
+{
+    let clean = Written {
+        number,
+        at: 0,
+        len: 0,
+        in_doubt: false,
+    };
+    let Some(range) = before else {
+        return Some(clean);
+    };
+    if range.number == number {
+        return Some(clean);
+    }
+    if range.in_doubt {
+        return Some(range);
+    }
+    Some(clean)
+}
+
+/// The range of this file, in doubt.
+fn doubted(before: Option<Written>, number: u32) -> Option<Written>
+    ensures { IfSome result (λ new. (range : Written) × (before ≡ Some range) × (range.number ≡ number) × (new ≡ record range { in_doubt = true })) }
+{
+    let range = before?;
+    if range.number != number {
+        return None;
+    }
+    Some(Written {
+        number: range.number,
+        at: range.at,
+        len: range.len,
+        in_doubt: true,
+    })
+}
