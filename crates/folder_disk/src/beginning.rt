@@ -135,7 +135,7 @@ where
     }
 }
 
-/// Counts the files of a folder and holds it. The last of each kind may be written.
+/// Counts the files of a folder and holds it. The last of each kind may be written, and is synced.
 fn held_by_counts<F, N>(folder: F, alloc: Global) -> io::Result<Held<F, N>>
 where
     F: Folder + Drop,
@@ -147,7 +147,10 @@ where
     let counts = count::<F, N>(&mut folder, alloc)?;
     check_last::<F, N>(&mut folder, alloc, Kind::Warc, counts.warc)?;
     check_last::<F, N>(&mut folder, alloc, Kind::Cdxj, counts.cdxj)?;
-    Held::open(folder, alloc, counts)
+    let mut held = Held::open(folder, alloc, counts)?;
+    held.sync_last(Kind::Warc)?;
+    held.sync_last(Kind::Cdxj)?;
+    Ok(held)
 }
 
 /// Fails where this process may not write the last of so many files of a kind.

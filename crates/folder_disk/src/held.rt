@@ -126,7 +126,7 @@ impl<F: Folder, N: FileNames> Held<F, N> {
         match write_whole(&mut self.timed.folder, &one.file, at, bytes) {
             Ok(once) => {
                 self.timed.go_on();
-                self.wrote(kind, file, at, bytes.len() as u64, once);
+                self.wrote(&one, at, bytes.len() as u64, once);
                 one.len = end;
                 self.files.keep(one);
                 Ok(())
@@ -232,6 +232,19 @@ impl<F: Folder, N: FileNames> Held<F, N> {
         }
     }
 
+    /// Syncs the last file of a kind, so that it is known what is written to it from then on.
+    pub(crate) fn sync_last(&mut self, kind: Kind) -> io::Result<()>
+        requires known { IsTrue F.tells → IsKnown N.name (state_of F.past self.old) }
+        requires open { IsTrue F.tells → AreHeld N.name F.name_of F.past self.old }
+        ensures known { IsTrue F.tells → IsKnown N.name (state_of F.past self.new) }
+        ensures open { IsTrue F.tells → AreHeld N.name F.name_of F.past self.new }
+    {
+        match self.known(kind).checked_sub(1) {
+            None => Ok(()),
+            Some(last) => self.sync(kind, last),
+        }
+    }
+
     /// Syncs a file that isn't in doubt.
     fn sync_once(&mut self, kind: Kind, file: u32) -> io::Result<()>
         requires known { IsTrue F.tells → IsKnown N.name (state_of F.past self.old) }
@@ -284,15 +297,15 @@ impl<F: Folder, N: FileNames> Held<F, N> {
     }
 
     /// Notes that a file was written to.
-    fn wrote(&mut self, kind: Kind, file: u32, at: u64, len: u64, once: bool)
-        ensures whole { IsTrue once → GoesOn kind (AfterWhole file at len) self.old.trust self.new.trust }
-        ensures part { once ≡ false → GoesOn kind (AfterPart file at len) self.old.trust self.new.trust }
+    fn wrote(&mut self, one: &OpenOne<F::File>, at: u64, len: u64, once: bool)
+        ensures whole { IsTrue once → GoesOn one.now.kind (AfterWhole one.now.number at len) self.old.trust self.new.trust }
+        ensures part { once ≡ false → GoesOn one.now.kind (AfterPart one.now.number at len) self.old.trust self.new.trust }
         ensures rest { self.new ≡ record self.old { trust = self.new.trust } }
     {
         if once {
-            self.trust.wrote(kind, file, at, len);
+            self.trust.wrote(one.kind, one.number, at, len);
         } else {
-            self.trust.wrote_part(kind, file, at, len);
+            self.trust.wrote_part(one.kind, one.number, at, len);
         }
     }
 

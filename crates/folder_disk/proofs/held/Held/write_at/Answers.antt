@@ -1,6 +1,7 @@
 -- The file was written to, or nothing was done.
 use Rattle.std.proofs.Common.{◌≡◌, ℕ, Ok, Err, IsTrue, false, List, length, sym, ◌∙◌, subst}
 use Rattle.std.specs.declared.io.Error.{Error}
+use Rattle.disk_model.specs.declared.kind.Kind.{Kind}
 use Rattle.folder_model.specs.Folder.{FolderPast, did_to}
 use Rattle.folder_model.specs.Times.{goes_on}
 use Rattle.folder_model.specs.Timed.{times_of}
@@ -78,9 +79,13 @@ returns-in-Ok-clause-writes g c =
     let whole : IsTrue tells → IsTrue c.in-Ok.once → past ≡ did_to old.past (name c.args.kind c.args.file) (Wrote c.args.at c.args.bytes.now 0) =
     λ told is_once. c.in-Ok.ensures.once told is_once ∙ (λ i. did_to (c.to_write.ensures.same told i) (named told i) (Wrote c.args.at c.args.bytes.now 0)) in
     let on_whole : IsTrue c.in-Ok.once → GoesOn c.args.kind (AfterWhole c.args.file c.args.at (length c.args.bytes.now)) old.trust trust =
-    λ is_once. subst (λ (t : Trust). GoesOn c.args.kind (AfterWhole c.args.file c.args.at (length c.args.bytes.now)) t trust) (λ i. (rest i).trust) (c.wrote.ensures.whole is_once) in
+    λ is_once. subst (λ (f : ℕ). GoesOn c.args.kind (AfterWhole f c.args.at (length c.args.bytes.now)) old.trust trust) is.1
+    (subst (λ (k : Kind). GoesOn k (AfterWhole c.in_ok-one.one.number c.args.at (length c.args.bytes.now)) old.trust trust) is.0
+    (subst (λ (t : Trust). GoesOn c.in_ok-one.one.kind (AfterWhole c.in_ok-one.one.number c.args.at (length c.args.bytes.now)) t trust) (λ i. (rest i).trust) (c.wrote.ensures.whole is_once))) in
     let on_part : c.in-Ok.once ≡ false → GoesOn c.args.kind (AfterPart c.args.file c.args.at (length c.args.bytes.now)) old.trust trust =
-    λ not_once. subst (λ (t : Trust). GoesOn c.args.kind (AfterPart c.args.file c.args.at (length c.args.bytes.now)) t trust) (λ i. (rest i).trust) (c.wrote.ensures.part not_once) in
+    λ not_once. subst (λ (f : ℕ). GoesOn c.args.kind (AfterPart f c.args.at (length c.args.bytes.now)) old.trust trust) is.1
+    (subst (λ (k : Kind). GoesOn k (AfterPart c.in_ok-one.one.number c.args.at (length c.args.bytes.now)) old.trust trust) is.0
+    (subst (λ (t : Trust). GoesOn c.in_ok-one.one.kind (AfterPart c.in_ok-one.one.number c.args.at (length c.args.bytes.now)) t trust) (λ i. (rest i).trust) (c.wrote.ensures.part not_once))) in
     subst (λ (s : State). WritesAt {E = Error} tells name c.args.kind c.args.file c.args.at c.args.bytes.now old s (Ok tt)) (sym went)
     (wrote tells name g.met.N.FileNames.apart c.args.kind c.args.file c.args.at c.args.bytes.now old past trust
     (λ told. (c.requires.known told, c.requires.there told, within told))
