@@ -37,7 +37,7 @@ AreTorn name past trust = (kind : Kind) → IfSome (range_of trust kind) (IsTorn
 abbrev pub IsUnharmed : ℕ → ℕ → ℕ → Written → Type 0
 IsUnharmed number at len range = (range.number ≢ number) ⊎ ((range.at ≤ at) × (at + len ≤ range.at + range.len))
 
--- after a write that one call did whole
+-- after a write of which all bytes may be torn
 abbrev pub AfterWhole : ℕ → ℕ → ℕ → Option Written → Option Written → Type 0
 AfterWhole number at len old None = ⊤
 AfterWhole number at len None (Some new) = ⊥

@@ -3,7 +3,7 @@ ghost use Rattle.std.specs.Prelude.{◌≡◌, ◌≢◌, ◌<◌, ◌≤◌, �
 ghost use Rattle.disk_model.specs.Image.{file_count, file_of};
 ghost use Rattle.folder_model.specs.Folder.{SyncedFolder, SyncedAround, did};
 ghost use Rattle.folder_disk.specs.Calls.{Creates, WritesAt, Cuts, Syncs, Looks};
-ghost use Rattle.folder_disk.specs.Doubts.{range_of, doubt_in, AfterWhole, AfterPart, GoesOn};
+ghost use Rattle.folder_disk.specs.Doubts.{range_of, doubt_in};
 ghost use Rattle.folder_disk.specs.Held.{state_of, AreHeld};
 ghost use Rattle.folder_disk.specs.State.{IsCounted, IsKnown, IsNew, reading, known_of, grown};
 
@@ -14,7 +14,7 @@ use crate::open_files::{OpenFiles, OpenOne};
 use crate::reasons::{check_in_place, end_of, inside, is_there_already, stopped};
 use crate::trust::Trust;
 use disk_model::Kind;
-use folder_model::{Folder, Timed, make_durably, read_whole, write_whole};
+use folder_model::{Folder, Timed, WriteFault, make_durably, read_whole, write_whole};
 use std::alloc::Global;
 use std::io;
 use std::io::ErrorKind;
@@ -124,14 +124,20 @@ impl<F: Folder, N: FileNames> Held<F, N> {
         let mut one = self.to_write(kind, file)?;
         let end = end_of(at, bytes.len(), one.len)?;
         match write_whole(&mut self.timed.folder, &one.file, at, bytes) {
-            Ok(once) => {
+            Ok(()) => {
                 self.timed.go_on();
-                self.wrote(&one, at, bytes.len() as u64, once);
+                self.trust.wrote(kind, file, at, bytes.len() as u64);
                 one.len = end;
                 self.files.keep(one);
                 Ok(())
             }
-            Err(error) => {
+            Err(WriteFault::Torn(error)) => {
+                self.timed.go_on();
+                self.trust.wrote(kind, file, at, bytes.len() as u64);
+                self.files.close();
+                Err(error)
+            }
+            Err(WriteFault::Stuck(error)) => {
                 self.timed.go_on();
                 self.trust.wrote_part(kind, file, at, bytes.len() as u64);
                 self.files.close();
@@ -282,7 +288,7 @@ impl<F: Folder, N: FileNames> Held<F, N> {
         ensures open { IsTrue F.tells → AreHeld N.name F.name_of F.past self.new }
     {
         let one = self.to_write(kind, file)?;
-        match sync_anew(&mut self.timed.folder, self.alloc, &one.file, at, len) {
+        match sync_anew(&mut self.timed.folder, self.alloc, &one, at, len) {
             Ok(()) => {
                 self.timed.go_on();
                 self.trust.synced(kind, file);
@@ -293,19 +299,6 @@ impl<F: Folder, N: FileNames> Held<F, N> {
                 self.files.close();
                 Err(error)
             }
-        }
-    }
-
-    /// Notes that a file was written to.
-    fn wrote(&mut self, one: &OpenOne<F::File>, at: u64, len: u64, once: bool)
-        ensures whole { IsTrue once → GoesOn one.now.kind (AfterWhole one.now.number at len) self.old.trust self.new.trust }
-        ensures part { once ≡ false → GoesOn one.now.kind (AfterPart one.now.number at len) self.old.trust self.new.trust }
-        ensures rest { self.new ≡ record self.old { trust = self.new.trust } }
-    {
-        if once {
-            self.trust.wrote(one.kind, one.number, at, len);
-        } else {
-            self.trust.wrote_part(one.kind, one.number, at, len);
         }
     }
 

@@ -69,7 +69,7 @@ impl Trust {
         self.set(kind, range);
     }
 
-    /// After a write that one call did whole.
+    /// After a write that was done, or failed so that all of its bytes may be torn.
     pub(crate) fn wrote(&mut self, kind: Kind, number: u32, at: u64, len: u64)
         ensures { GoesOn kind (AfterWhole number at len) self.old self.new }
     {
@@ -77,7 +77,7 @@ impl Trust {
         self.go_on(kind, range);
     }
 
-    /// After a write that several calls did, or that failed.
+    /// After a write that failed otherwise.
     pub(crate) fn wrote_part(&mut self, kind: Kind, number: u32, at: u64, len: u64)
         ensures { GoesOn kind (AfterPart number at len) self.old self.new }
     {
@@ -161,7 +161,7 @@ fn is_within(range: &Written, at: u64, len: u64) -> bool
     }
 }
 
-/// After a write that one call did whole: the same range, or the write's, where the file was as it was synced.
+/// After a write of which all bytes may be torn: the same range, or the write's, where the file was as it was synced.
 fn after_whole(before: Option<Written>, number: u32, at: u64, len: u64) -> Option<Written>
     ensures { AfterWhole number at len before result }
 {

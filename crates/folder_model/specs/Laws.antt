@@ -8,7 +8,7 @@ use Rattle.folder_model.specs.Folder.{Contents, FolderPast, SyncedFolder, Synced
 use Rattle.folder_model.specs.Seen.{NamesApart, IsSeen, images_of, IsNamed, IsPlaced, FolderIs}
 use Rattle.folder_model.specs.Times.{Times, IsTimed, moment_of, images_since_of}
 use Rattle.folder_model.specs.Known.{IsInDoubt, Knows}
-use Rattle.folder_model.specs.Ranges.{IsTornIn, IsTornAt}
+use Rattle.folder_model.specs.Ranges.{IsTornIn, IsTornAt, MendsIn}
 use Rattle.folder_model.specs.Whole.{WritesWithin, MakesInPart, made_durably}
 use Rattle.folder_model.specs.DiskCalls.{WriteLeaves, CutLeaves, SyncDone, SyncFailed, CreateDone, CreateFailed}
 
@@ -59,17 +59,18 @@ WrittenAnewIsSure =
     → ((old : List ℕ) → MayHold first deeds Sync old → take p old ≡ take p reading)
     → AreBytesSure first (Wrote p (drop p reading) 0 ∷ Shortened (length reading) 0 ∷ deeds)
 
--- Where a file was written in one range alone since a sync of it was done, a sync answers for it again once that range is written anew as it is read, whatever
--- syncs failed between; and writing it anew adds nothing to what a crash may leave.
+-- Where a file was written in one range alone since a sync of it was done, a sync answers for it again once that range is written anew as it is read, and the
+-- file cut where that ends, whatever syncs failed between; and that adds nothing to what a crash may leave, however much of it was done.
 abbrev pub RangeAnewIsSure : Type 0
 RangeAnewIsSure =
     (first : Option (List ℕ)) (deeds : List FileDeed) (at many : ℕ) (reading : List ℕ) → IsTornIn first deeds at many → read_of first deeds ≡ Some reading
-    → AreBytesSure first (Wrote at (take many (drop at reading)) 0 ∷ deeds)
+    → AreBytesSure first (Shortened (length reading) 0 ∷ Wrote at (take many (drop at reading)) 0 ∷ deeds)
 
 abbrev pub RangeAnewAddsNothing : Type 0
 RangeAnewAddsNothing =
-    (name : Kind → ℕ → List ℕ) (past : FolderPast) (n : List ℕ) (at many : ℕ) (some : List ℕ) (rest : ℕ) → IsTornAt past n at many → length some + rest ≤ many
-    → Within (images_of name past) (images_of name (did_to past n (Wrote at some rest)))
+    (name : Kind → ℕ → List ℕ) → NamesApart name → (kind : Kind) (file at many : ℕ) (old new : FolderPast) (reading : Image)
+    → FolderIs name old reading → file < file_count reading kind → IsTornAt old (name kind file) at many → MendsIn (name kind file) at many (file_of reading kind file) old new
+    → Within (images_of name old) (images_of name new)
 
 -- once the folder is synced behind a file that was made a crash leaves the file there, where the folder is on the disk
 abbrev pub NewFileIsDurable : Type 0
@@ -144,14 +145,13 @@ DoubtsAreTheDisks =
     → Knows name old known gave_up doubts times reading → ((m : List ℕ) → IsInDoubt name doubts m → IsInDoubt name left m) → IsInDoubt name left n → new ≡ did_to old n (Synced false)
     → SyncFailed name old new known gave_up left times reading
 
--- writing a file's torn range anew, done or not, changes nothing either; where the sync behind it is done, it is a sync of the disk
+-- writing anew the range of a file that is in doubt, done or not, changes nothing either; where all of it and the sync behind it is done, it is a sync of the disk
 abbrev pub MendingsAreTheDisks : Type 0
 MendingsAreTheDisks =
     (name : Kind → ℕ → List ℕ) → NamesApart name
-    → (kind : Kind) (file at many : ℕ) (some : List ℕ) (rest : ℕ) (old new : FolderPast) (known : Kind → ℕ) (gave_up : Bool) (doubts : Kind → Option ℕ) (times : Times) (reading : Image)
-    → Knows name old known gave_up doubts times reading → file < file_count reading kind → IsTornAt old (name kind file) at many
-    → length some + rest ≤ many → some ≡ take (length some) (drop at (file_of reading kind file))
-    → new ≡ did_to old (name kind file) (Wrote at some rest)
+    → (kind : Kind) (file at many : ℕ) (old new : FolderPast) (known : Kind → ℕ) (gave_up : Bool) (doubts : Kind → Option ℕ) (times : Times) (reading : Image)
+    → Knows name old known gave_up doubts times reading → file < file_count reading kind → IsTornAt old (name kind file) at many → IsInDoubt name doubts (name kind file)
+    → MendsIn (name kind file) at many (file_of reading kind file) old new
     → SyncFailed name old new known gave_up doubts times reading
 
 abbrev pub MendedSyncsAreTheDisks : Type 0
@@ -160,19 +160,9 @@ MendedSyncsAreTheDisks =
     → (kind : Kind) (file at many : ℕ) (old mid new : FolderPast) (known : Kind → ℕ) (doubts left : Kind → Option ℕ) (times : Times) (reading : Image)
     → Knows name old known false doubts times reading → file < file_count reading kind → IsTornAt old (name kind file) at many
     → ((m : List ℕ) → IsInDoubt name doubts m → (m ≡ name kind file) ⊎ IsInDoubt name left m)
-    → mid ≡ did_to old (name kind file) (Wrote at (take many (drop at (file_of reading kind file))) 0)
+    → mid ≡ did_to (did_to old (name kind file) (Wrote at (take many (drop at (file_of reading kind file))) 0)) (name kind file) (Shortened (length (file_of reading kind file)) 0)
     → new ≡ did_to mid (name kind file) (Synced true)
     → SyncDone name kind file old new known left times reading
-
-abbrev pub UnmendedSyncsAreTheDisks : Type 0
-UnmendedSyncsAreTheDisks =
-    (name : Kind → ℕ → List ℕ) → NamesApart name
-    → (kind : Kind) (file at many : ℕ) (old mid new : FolderPast) (known : Kind → ℕ) (gave_up : Bool) (doubts : Kind → Option ℕ) (times : Times) (reading : Image)
-    → Knows name old known gave_up doubts times reading → file < file_count reading kind → IsTornAt old (name kind file) at many
-    → IsInDoubt name doubts (name kind file)
-    → mid ≡ did_to old (name kind file) (Wrote at (take many (drop at (file_of reading kind file))) 0)
-    → new ≡ did_to mid (name kind file) (Synced false)
-    → SyncFailed name old new known gave_up doubts times reading
 
 -- a file that is made so that it outlasts a crash, by a disk that hasn't given up, is made by the disk; where that fails, the disk gives up
 abbrev pub CreatesAreTheDisks : Type 0

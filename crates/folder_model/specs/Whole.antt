@@ -1,8 +1,10 @@
 -- What is done to a file by several calls.
-use Rattle.std.specs.Prelude.{◌≡◌, ◌≤◌, ◌⊎◌, ℕ, ◌+◌, true, Some, None, List, [], ◌∷◌, ◌++◌, length, take, ⊤}
+use Rattle.std.specs.Prelude.{◌≡◌, ◌≤◌, ◌⊎◌, ℕ, ◌+◌, true, Some, None, Result, Ok, Err, List, [], ◌∷◌, ◌++◌, length, take, ⊤}
 use Rattle.disk_model.specs.Crash.{Torn}
-use Rattle.folder_model.specs.File.{FileDeed, Made, Wrote, Shortened, Synced, Listed}
-use Rattle.folder_model.specs.Folder.{Deed, Did, SyncedFolder, SyncedAround, FolderPast, did, did_to, contents_of}
+use Rattle.folder_model.specs.File.{FileDeed, Made, Wrote, Shortened, Synced, Listed, Crash, MayHold}
+use Rattle.folder_model.specs.Folder.{Deed, Did, SyncedFolder, SyncedAround, FolderPast, did, did_to, deeds_of, contents_of}
+use Rattle.folder_model.specs.declared.whole.WriteFault.{WriteFault}
+use Rattle.folder_model.specs.declared.whole.WriteFault.TheVariants.{Torn as TornFault, Stuck}
 
 -- the past with these deeds more on a file, the newest first
 abbrev pub done_to : FolderPast → List ℕ → List FileDeed → FolderPast
@@ -30,6 +32,18 @@ pub record IsInFile (past : FolderPast) (name : List ℕ) (at : ℕ) : Type 0 wh
   pub there : contents_of past name ≡ Some bytes
   pub inside : at ≤ length bytes
 
+-- Of what a crash might have left of the file before it may leave now each that a write of so many bytes at a place might tear so.
+abbrev pub Covers : List ℕ → ℕ → ℕ → FolderPast → FolderPast → Type 0
+Covers name at many old new =
+    (was bytes : List ℕ) → at ≤ length was → MayHold (old.first name) (deeds_of name old.deeds) Crash was → Torn at many was bytes
+    → MayHold (new.first name) (deeds_of name new.deeds) Crash bytes
+
+-- where a write failed in a way that leaves all of its bytes torn
+abbrev pub OnTorn : {T : Type 0} → Result T WriteFault → Type 0 → Type 0
+OnTorn (Ok done) P = ⊤
+OnTorn (Err (TornFault error)) P = P
+OnTorn (Err (Stuck error)) P = ⊤
+
 -- Of a write of these bytes at a place the first `done` ones stand there.
 pub record IsWriting (name : List ℕ) (at : ℕ) (bytes : List ℕ) (done : ℕ) (old new : FolderPast) : Type 0 where
   pub within : WritesWithin name at (length bytes) old new
@@ -40,6 +54,7 @@ pub record IsWriting (name : List ℕ) (at : ℕ) (bytes : List ℕ) (done : ℕ
   pub torn : Torn at (length bytes) before now
   pub front : take (at + done) now ≡ take at before ++ take done bytes
   pub reach : at + done ≤ length now
+  pub covers : Covers name at done old new
 
 -- each is a sync, done or failed
 abbrev pub AreSyncs : List Deed → Type 0

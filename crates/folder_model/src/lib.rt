@@ -20,4 +20,4 @@ pub use laws::{
 };
 pub use names::{NameList, Names};
 pub use timed::Timed;
-pub use whole::{read_whole, write_whole};
+pub use whole::{WriteFault, read_whole, write_whole};

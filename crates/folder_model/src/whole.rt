@@ -3,7 +3,7 @@ ghost use Rattle.std.specs.Prelude.{◌≡◌, ◌+◌, ◌<◌, ◌≤◌, IsTr
 ghost use Rattle.disk_model.specs.Image.{written};
 ghost use Rattle.folder_model.specs.File.{Wrote};
 ghost use Rattle.folder_model.specs.Folder.{FolderPast, did_to, contents_of, bytes_of};
-ghost use Rattle.folder_model.specs.Whole.{IsInFile, IsWriting, WritesWithin};
+ghost use Rattle.folder_model.specs.Whole.{Covers, IsInFile, IsWriting, OnTorn, WritesWithin};
 
 use crate::folder::Folder;
 use std::io;
@@ -11,6 +11,15 @@ use std::io::ErrorKind;
 
 /// How often one call may be interrupted by signals before it gives up.
 const MOST_TRIES: u32 = 1_000;
+
+/// Why a write failed.
+#[derive(Drop)]
+pub enum WriteFault {
+    /// The system failed. All of the bytes that were to be written may be torn.
+    Torn(io::Error),
+    /// The system took no byte, or was interrupted too often. The bytes behind those that were written may stand as they were.
+    Stuck(io::Error),
+}
 
 /// Fills `into` with the bytes of a file from a place on. Where the file ends before, that is a failure.
 pub fn read_whole<F: Folder>(
@@ -31,58 +40,30 @@ pub fn read_whole<F: Folder>(
     Ok(())
 }
 
-/// Writes all bytes at a place of a file that isn't past its end, over what is there and behind it, and answers whether one
-/// call took them all. A call that fails may have written some of them.
+/// Writes all bytes at a place of a file that isn't past its end, over what is there and behind it. A call that fails may
+/// have written some of them.
 pub fn write_whole<F: Folder>(
     folder: &mut F,
     file: &F::File,
     at: u64,
     bytes: &[u8],
-) -> io::Result<bool>
+) -> Result<(), WriteFault>
     requires { IsTrue F.tells → IsInFile (F.past folder.old) (F.name_of file.now) at }
     ensures written { IsTrue F.tells → OnOk result
         (IsWriting (F.name_of file.now) at bytes.now (length bytes.now) (F.past folder.old) (F.past folder.new)) }
-    ensures once { IsTrue F.tells → IfOk result (λ once. IsTrue once →
-        F.past folder.new ≡ did_to (F.past folder.old) (F.name_of file.now) (Wrote at bytes.now 0)) }
     ensures partial { IsTrue F.tells → WritesWithin (F.name_of file.now) at (length bytes.now) (F.past folder.old) (F.past folder.new) }
+    ensures torn { IsTrue F.tells → OnTorn result (Covers (F.name_of file.now) at (length bytes.now) (F.past folder.old) (F.past folder.new)) }
 {
-    match folder.write_at(file, bytes, at) {
-        Ok(n) => {
-            if n == bytes.len() {
-                return Ok(true);
-            }
-            write_rest(folder, file, at, bytes, n)?;
-            Ok(false)
-        }
-        Err(error) => {
-            if error.kind() != ErrorKind::Interrupted {
-                return Err(error);
-            }
-            write_rest(folder, file, at, bytes, 0)?;
-            Ok(false)
-        }
-    }
-}
-
-/// Writes the bytes behind the first `done` ones.
-fn write_rest<F: Folder>(
-    folder: &mut F,
-    file: &F::File,
-    at: u64,
-    bytes: &[u8],
-    done: usize,
-) -> io::Result<()>
-    requires inside { done ≤ length bytes.now }
-    requires so_far { IsTrue F.tells → (old : FolderPast) × IsWriting (F.name_of file.now) at bytes.now done old (F.past folder.old) }
-    ensures written { IsTrue F.tells → (old : FolderPast) → IsWriting (F.name_of file.now) at bytes.now done old (F.past folder.old)
-        → OnOk result (IsWriting (F.name_of file.now) at bytes.now (length bytes.now) old (F.past folder.new)) }
-    ensures partial { IsTrue F.tells → (old : FolderPast) → IsWriting (F.name_of file.now) at bytes.now done old (F.past folder.old)
-        → WritesWithin (F.name_of file.now) at (length bytes.now) old (F.past folder.new) }
-{
-    let mut done = done;
+    let mut done = 0;
     while done < bytes.len() {
-        let place = place_behind(at, done)?;
-        done += write_some(folder, file, place, bytes, done)?;
+        let place = match place_behind(at, done) {
+            Ok(place) => place,
+            Err(error) => return Err(WriteFault::Stuck(error)),
+        };
+        match write_some(folder, file, place, bytes, done) {
+            Ok(n) => done += n,
+            Err(fault) => return Err(fault),
+        }
     }
     Ok(())
 }
@@ -131,7 +112,7 @@ fn write_some<F: Folder>(
     place: u64,
     bytes: &[u8],
     done: usize,
-) -> io::Result<usize>
+) -> Result<usize, WriteFault>
     requires inside { done < length bytes.now }
     requires so_far { IsTrue F.tells → (old : FolderPast) × (at : ℕ) × (place ≡ at + done)
         × IsWriting (F.name_of file.now) at bytes.now done old (F.past folder.old) }
@@ -143,18 +124,21 @@ fn write_some<F: Folder>(
     ensures fails { IsTrue F.tells → (old : FolderPast) (at : ℕ) → place ≡ at + done
         → IsWriting (F.name_of file.now) at bytes.now done old (F.past folder.old)
         → OnErr result (IsWriting (F.name_of file.now) at bytes.now done old (F.past folder.new)) }
+    ensures torn { IsTrue F.tells → (old : FolderPast) (at : ℕ) → place ≡ at + done
+        → IsWriting (F.name_of file.now) at bytes.now done old (F.past folder.old)
+        → OnTorn result (Covers (F.name_of file.now) at (length bytes.now) old (F.past folder.new)) }
 {
     let (_, rest) = bytes.split_at(done);
     for _ in 0..MOST_TRIES {
         match folder.write_at(file, rest, place) {
-            Ok(0) => return Err(io::Error::from(ErrorKind::WriteZero)),
+            Ok(0) => return Err(WriteFault::Stuck(io::Error::from(ErrorKind::WriteZero))),
             Ok(n) => return Ok(n),
             Err(error) => {
                 if error.kind() != ErrorKind::Interrupted {
-                    return Err(error);
+                    return Err(WriteFault::Torn(error));
                 }
             }
         }
     }
-    Err(io::Error::from(ErrorKind::Interrupted))
+    Err(WriteFault::Stuck(io::Error::from(ErrorKind::Interrupted)))
 }

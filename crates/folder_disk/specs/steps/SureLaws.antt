@@ -1,8 +1,12 @@
 -- Laws of syncs: of a file that isn't in doubt, and of one whose range is written anew.
-use Rattle.std.proofs.Common.{◌^◌, ◌≡◌, ◌≢◌, ◌<◌, ◌≤◌, ◌+◌, ℕ, Bool, true, false, IsTrue, List, [], ◌∷◌, length, take, drop, refl, sym, ap, ◌∙◌, subst, inl, inr, ⊎_elim, true≢false, arith, length-take, if◌then◌else◌}
+use Rattle.std.proofs.Common.{◌^◌, ◌≡◌, ◌≢◌, ◌<◌, ◌≤◌, ◌+◌, ℕ, Bool, true, false, IsTrue, List, [], ◌∷◌, length, take, drop, refl, sym, ap, ◌∙◌, subst, inl, inr, ⊎_elim, true≢false, arith, length-take, if◌then◌else◌, ◌-◌, ◌++◌, min, length-append, length-drop}
+use Rattle.std.proofs.lemmas.Bool.{cases_lt}
+use Rattle.disk_model.specs.Crash.{Torn}
+use Rattle.folder_model.specs.Calls.{CutsInPart}
+use Rattle.folder_model.specs.steps.FileLaws.{sync_then_crash, read_is_held}
 use Rattle.std.specs.Prelude.{Ok, Err, Option, Some, None, IfSome}
 use Rattle.std.specs.Option.{option_map, unwrap_or}
-use Rattle.std.proofs.lemmas.List.{take_min}
+use Rattle.std.proofs.lemmas.List.{take_min, take_all}
 use Rattle.folder_model.specs.steps.ReadingLaws.{contents_of-same, contents_of-other}
 use Rattle.folder_disk.specs.steps.OpenLaws.{sync_all_same}
 use Rattle.std.proofs.lemmas.Option.{none-some, same_Some}
@@ -10,18 +14,18 @@ use Rattle.disk_model.specs.Image.{file_count, file_of, written}
 use Rattle.disk_model.specs.declared.kind.Kind.{Kind}
 use Rattle.disk_model.specs.declared.kind.Kind.TheVariants.{Warc, Cdxj}
 use Rattle.folder_model.specs.DiskCalls.{SyncFailed}
-use Rattle.folder_model.specs.File.{FileDeed, Made, Wrote, Synced, Listed, AreBytesSure}
+use Rattle.folder_model.specs.File.{FileDeed, Made, Wrote, Synced, Listed, AreBytesSure, Shortened}
 use Rattle.folder_model.specs.Folder.{FolderPast, did_to, deeds_of, contents_of, bytes_of}
 use Rattle.folder_model.specs.Known.{IsInDoubt, Knows}
-use Rattle.folder_model.specs.Ranges.{IsTornIn, IsTornAt}
+use Rattle.folder_model.specs.Ranges.{IsTornIn, IsTornAt, MendsIn}
 use Rattle.folder_model.specs.Seen.{NamesApart}
-use Rattle.folder_model.specs.Whole.{WritesWithin, made_durably}
+use Rattle.folder_model.specs.Whole.{WritesWithin, made_durably, Covers}
 use Rattle.folder_model.specs.steps.FolderLaws.{deeds_of-same, names_cases}
 use Rattle.folder_model.specs.steps.KnownLaws.{sync_done, sync_failed, sync_doubted}
-use Rattle.folder_model.specs.steps.MendLaws.{written_again, torn_clean, torn_failed, torn_listed, torn_made, torn_within, torn_did, torn_other, mending, mended_sync, unmended_sync, nothing_mended, range_anew_is_sure}
+use Rattle.folder_model.specs.steps.MendLaws.{written_again, torn_clean, torn_failed, torn_listed, torn_made, torn_did, torn_other, mending, mended_sync, range_anew_is_sure, front_of_range, torn_written, mended}
 use Rattle.folder_disk.specs.Calls.{Syncs}
 use Rattle.folder_disk.specs.Doubts.{range_of, with_range, doubt_in, doubts_of, IsTornTo, AreTorn, AfterWhole, AfterPart, AfterCut, AfterFailure, GoesOn, SyncedTo}
-use Rattle.folder_disk.specs.Mending.{range_in, IsMendedInPart}
+use Rattle.folder_disk.specs.Mending.{range_in, written_anew}
 use Rattle.folder_disk.specs.State.{State, known_of, reading, IsKnown, next, trusted}
 use Rattle.folder_disk.specs.steps.StateLaws.{TrustStays, synced, sync_missed, bytes_read}
 use Rattle.folder_disk.specs.steps.TrustLaws.{torn_done, torn_goes_on, torn_kept, after_part, after_whole, after_cut, after_sync, whole_stays, part_stays, cut_stays, doubts_go_on, doubts_after_sync, doubts_after_failure, not_in_doubt}
@@ -41,36 +45,115 @@ pub deed_elsewhere : (old new : FolderPast) (n : List ℕ) (deed : FileDeed) →
 deed_elsewhere old new n deed whole other at many apart torn =
     subst (λ (p : FolderPast). IsTornAt p other at many) (sym whole) (torn_other old n other deed at many apart torn)
 
--- so do two
-deeds_elsewhere : (old new : FolderPast) (n : List ℕ) (first second : FileDeed) → new ≡ did_to (did_to old n first) n second
-    → (other : List ℕ) (at many : ℕ) → (other ≡ n → ⊥) → IsTornAt old other at many → IsTornAt new other at many
-deeds_elsewhere old new n first second whole other at many apart torn =
-    subst (λ (p : FolderPast). IsTornAt p other at many) (sym whole)
-    (torn_other (did_to old n first) n other second at many apart (torn_other old n other first at many apart torn))
+-- a torn range begins in its file
+pub torn_inside : (past : FolderPast) (n : List ℕ) (at many : ℕ) → IsTornAt past n at many → at ≤ length (bytes_of past n)
+torn_inside past n at many torn =
+    let read : Torn at many torn.base torn.reading =
+    torn.only torn.reading (sync_then_crash (past.first n) (deeds_of n past.deeds) torn.reading (read_is_held (past.first n) (deeds_of n past.deeds) torn.reading torn.is)) in
+    omega (arith, torn.inside, read.no_shorter, ap (λ (o : Option (List ℕ)). length (unwrap_or o [])) torn.is)
 
--- a torn range is in its file
-pub torn_inside : (past : FolderPast) (n : List ℕ) (at many : ℕ) → IsTornAt past n at many → at + many ≤ length (bytes_of past n)
-torn_inside past n at many torn = omega (arith, torn.reach, ap (λ (o : Option (List ℕ)). length (unwrap_or o [])) torn.is)
-
--- a range that is written anew and synced leaves what is read of each file
-pub anew_same : (old new : FolderPast) (n : List ℕ) (at len : ℕ)
-    → new ≡ did_to (did_to old n (Wrote at (range_in old n at len) 0)) n (Synced true)
-    → (m : List ℕ) → contents_of new m ≡ contents_of old m
-anew_same old new n at len whole m =
-    sync_all_same n true (did_to old n (Wrote at (range_in old n at len) 0)) new whole m
-    ∙ ⊎_elim
-    (λ same. ap (contents_of (did_to old n (Wrote at (range_in old n at len) 0))) same.0 ∙ contents_of-same old n (Wrote at (range_in old n at len) 0)
-    ∙ read_same (contents_of old n) refl ∙ sym (ap (contents_of old) same.0))
-    (λ other. contents_of-other old n m (Wrote at (range_in old n at len) 0) other.0)
-    (names_cases m n)
+-- a range that is written anew leaves what is read of the file
+range_same : (past : FolderPast) (n : List ℕ) (at len : ℕ) → contents_of (did_to past n (Wrote at (range_in past n at len) 0)) n ≡ contents_of past n
+range_same past n at len = contents_of-same past n (Wrote at (range_in past n at len) 0) ∙ read_same (contents_of past n)
   where
-    read_same : (found : Option (List ℕ)) → contents_of old n ≡ found
-        → option_map (λ was. written was at (take len (drop at (unwrap_or found [])))) found ≡ found
-    read_same None is = refl
-    read_same (Some bytes) is = ap (λ (b : List ℕ). Some b) (written_again at (take len (drop at bytes)) bytes (front bytes))
+    read_same : (found : Option (List ℕ)) → option_map (λ was. written was at (take len (drop at (unwrap_or found [])))) found ≡ found
+    read_same None = refl
+    read_same (Some bytes) = ap (λ (b : List ℕ). Some b) (written_again at (take len (drop at bytes)) bytes (front bytes))
       where
         front : (bytes : List ℕ) → take len (drop at bytes) ≡ take (length (take len (drop at bytes))) (drop at bytes)
         front bytes = sym (ap (λ (k : ℕ). take k (drop at bytes)) (length-take len (drop at bytes)) ∙ take_min len (drop at bytes))
+
+pub range_inside : (past mid : FolderPast) (n : List ℕ) (at len end : ℕ) → mid ≡ did_to past n (Wrote at (range_in past n at len) 0) → end ≡ length (bytes_of past n)
+    → end ≤ length (bytes_of mid n)
+range_inside past mid n at len end whole is =
+    omega (arith, is, ap (λ (o : Option (List ℕ)). length (unwrap_or o [])) (ap (λ (p : FolderPast). contents_of p n) whole ∙ range_same past n at len))
+
+-- so does the cut behind it
+cut_same : (past : FolderPast) (n : List ℕ) (at len : ℕ) → contents_of (written_anew past n at len) n ≡ contents_of past n
+cut_same past n at len =
+    contents_of-same (did_to past n (Wrote at (range_in past n at len) 0)) n (Shortened (length (bytes_of past n)) 0)
+    ∙ ap (λ (o : Option (List ℕ)). option_map (take (length (bytes_of past n))) o) (range_same past n at len)
+    ∙ whole (contents_of past n)
+  where
+    whole : (found : Option (List ℕ)) → option_map (take (length (unwrap_or found []))) found ≡ found
+    whole None = refl
+    whole (Some bytes) = ap (λ (b : List ℕ). Some b) (take_all (length bytes) bytes (omega arith))
+
+pub anew_same : (old new : FolderPast) (n : List ℕ) (at len : ℕ) → new ≡ did_to (written_anew old n at len) n (Synced true)
+    → (m : List ℕ) → contents_of new m ≡ contents_of old m
+anew_same old new n at len whole m =
+    sync_all_same n true (written_anew old n at len) new whole m
+    ∙ ⊎_elim
+    (λ same. ap (contents_of (written_anew old n at len)) same.0 ∙ cut_same old n at len ∙ sym (ap (contents_of old) same.0))
+    (λ other.
+    contents_of-other (did_to old n (Wrote at (range_in old n at len) 0)) n m (Shortened (length (bytes_of old n)) 0) other.0
+    ∙ contents_of-other old n m (Wrote at (range_in old n at len) 0) other.0)
+    (names_cases m n)
+
+-- ---- a mending that isn't done
+
+-- a front of the range was written
+pub mends_front : (old new : FolderPast) (n : List ℕ) (at len : ℕ) (some rest : List ℕ) → some ++ rest ≡ range_in old n at len → (torn : ℕ) → torn ≤ length rest
+    → new ≡ did_to old n (Wrote at some torn) → MendsIn n at len (bytes_of old n) old new
+mends_front old new n at len some rest all torn few whole =
+    let fits : length some + length rest ≤ len =
+    omega (arith, length-append some rest, ap length all, length-take len (drop at (bytes_of old n))) in
+    record {
+      deeds = Wrote at some torn ∷ [];
+      mending = (refl, omega (arith, fits, few), front_of_range at len some rest (bytes_of old n) all (omega (arith, fits)), tt);
+      whole = whole;
+    }
+
+pub mends_nothing : (old new : FolderPast) (n : List ℕ) (at len : ℕ) → new ≡ old → MendsIn n at len (bytes_of old n) old new
+mends_nothing old new n at len same = record { deeds = []; mending = tt; whole = same }
+
+-- all of it was, and the cut wasn't done
+pub mends_uncut : (old mid new : FolderPast) (n : List ℕ) (at len end : ℕ) → mid ≡ did_to old n (Wrote at (range_in old n at len) 0) → end ≡ length (bytes_of old n)
+    → CutsInPart n end mid new → MendsIn n at len (bytes_of old n) old new
+mends_uncut old mid new n at len end wrote is part = record {
+  deeds = Shortened (end + part.rest) part.rest ∷ Wrote at (range_in old n at len) 0 ∷ [];
+  mending = (
+    omega (arith, is),
+    (refl, omega (arith, length-take len (drop at (bytes_of old n))), whole_front (bytes_of old n), tt),
+  );
+  whole = part.whole ∙ ap (λ (p : FolderPast). did_to p n (Shortened (end + part.rest) part.rest)) wrote;
+}
+  where
+    whole_front : (bytes : List ℕ) → take len (drop at bytes) ≡ take (length (take len (drop at bytes))) (drop at bytes)
+    whole_front bytes = sym (ap (λ (k : ℕ). take k (drop at bytes)) (length-take len (drop at bytes)) ∙ take_min len (drop at bytes))
+
+-- all was done but the sync
+pub mends_unsynced : (old mid cut new : FolderPast) (n : List ℕ) (at len end : ℕ) → mid ≡ did_to old n (Wrote at (range_in old n at len) 0) → end ≡ length (bytes_of old n)
+    → cut ≡ did_to mid n (Shortened end 0) → new ≡ did_to cut n (Synced false) → MendsIn n at len (bytes_of old n) old new
+mends_unsynced old mid cut new n at len end wrote is shortened failed = record {
+  deeds = Synced false ∷ Shortened end 0 ∷ Wrote at (range_in old n at len) 0 ∷ [];
+  mending = (
+    refl,
+    (
+      omega (arith, is),
+      (refl, omega (arith, length-take len (drop at (bytes_of old n))), whole_front (bytes_of old n), tt),
+    ),
+  );
+  whole = failed ∙ ap (λ (p : FolderPast). did_to p n (Synced false)) (shortened ∙ ap (λ (p : FolderPast). did_to p n (Shortened end 0)) wrote);
+}
+  where
+    whole_front : (bytes : List ℕ) → take len (drop at bytes) ≡ take (length (take len (drop at bytes))) (drop at bytes)
+    whole_front bytes = sym (ap (λ (k : ℕ). take k (drop at bytes)) (length-take len (drop at bytes)) ∙ take_min len (drop at bytes))
+
+-- all was done
+pub all_anew : (old mid cut new : FolderPast) (n : List ℕ) (at len end : ℕ) → mid ≡ did_to old n (Wrote at (range_in old n at len) 0) → end ≡ length (bytes_of old n)
+    → cut ≡ did_to mid n (Shortened end 0) → new ≡ did_to cut n (Synced true) → new ≡ did_to (written_anew old n at len) n (Synced true)
+all_anew old mid cut new n at len end wrote is shortened done =
+    done ∙ (λ i. did_to ((shortened ∙ (λ j. did_to (wrote j) n (Shortened (is j) 0))) i) n (Synced true))
+
+-- a range that ends with the file
+pub range_short : (bytes : List ℕ) (at len many : ℕ) → many ≡ min len (length bytes - at) → take many (drop at bytes) ≡ take len (drop at bytes)
+range_short bytes at len many is =
+    ⊎_elim
+    (λ short. let e : many ≡ len = omega (arith, is, short) in ap (λ (k : ℕ). take k (drop at bytes)) e)
+    (λ long.
+    take_all many (drop at bytes) (omega (arith, is, long, length-drop at bytes)) ∙ sym (take_all len (drop at bytes) (omega (arith, long, length-drop at bytes))))
+    (cases_lt len (length bytes - at))
 
 -- a file that was just made, and the others
 pub made_torn : (old : FolderPast) (n : List ℕ) → IsTornAt (made_durably n old) n 0 0
@@ -170,100 +253,77 @@ module _ (tells : Bool) (name : Kind → ℕ → List ℕ) (apart : NamesApart n
     pub is_torn : (told : IsTrue tells) → IsTornAt old.past (name kind file) at len
     is_torn told = (subst (λ (r : Option Written). IfSome r (IsTornTo name old.past kind)) doubt ((known told).torn goes kind)).1
 
+    mends_read : (told : IsTrue tells) → bytes_of old.past (name kind file) ≡ file_of (reading name old) kind file
+    mends_read told = bytes_read name old kind file (known told) (there told)
+
     -- its range was written anew, and it was synced
     pub anew_done : {E : Type 0} (trust : Trust) → SyncedTo kind file old.trust trust
-        → (IsTrue tells → past ≡ did_to (did_to old.past (name kind file) (Wrote at (range_in old.past (name kind file) at len) 0)) (name kind file) (Synced true))
+        → (IsTrue tells → past ≡ did_to (written_anew old.past (name kind file) at len) (name kind file) (Synced true))
         → Syncs {E = E} tells name kind file old (trusted trust (next old past)) (Ok tt)
     anew_done {E} trust on whole =
         synced tells name kind file old past trust known
-        (λ told. mended_sync name apart kind file at len old.past
-        (did_to old.past (name kind file) (Wrote at (range_in old.past (name kind file) at len) 0)) past
+        (λ told. mended_sync name apart kind file at len old.past (written_anew old.past (name kind file) at len) past
         (known_of old.warc old.cdxj) (doubts_of old.trust) (doubts_of trust) old.times (reading name old)
         (subst (λ (b : Bool). Knows name old.past (known_of old.warc old.cdxj) b (doubts_of old.trust) old.times (reading name old)) goes (known told).knows) (there told)
-        (subst (λ (r : Option Written). IfSome r (IsTornTo name old.past kind)) doubt ((known told).torn goes kind)).1
-        (doubts_after_sync name kind old.trust trust file on)
-        (λ i. did_to old.past (name kind file) (Wrote at (take len (drop at (bytes_read name old kind file (known told) (there told) i))) 0)) (whole told))
+        (is_torn told) (doubts_after_sync name kind old.trust trust file on)
+        (λ i. did_to (did_to old.past (name kind file) (Wrote at (take len (drop at (mends_read told i))) 0)) (name kind file) (Shortened (length (mends_read told i)) 0)) (whole told))
         (synced_gave kind file old.trust trust on goes)
-        (λ told. torn_goes_on name apart kind file small old.past past
-        (deeds_elsewhere old.past past (name kind file) (Wrote at (range_in old.past (name kind file) at len) 0) (Synced true) (whole told))
+        (λ told. torn_goes_on name apart kind file small old.past past (elsewhere told)
         old.trust trust on.range old.trust.gave_up on.only
-        (after_sync name apart kind file small old.past past
-        (deeds_elsewhere old.past past (name kind file) (Wrote at (range_in old.past (name kind file) at len) 0) (Synced true) (whole told))
+        (after_sync name apart kind file small old.past past (elsewhere told)
         (subst (λ (p : FolderPast). IsTornAt p (name kind file) 0 0) (sym (whole told)) (is_clean told))
         (range_of old.trust kind) on.range on.after)
         ((known told).torn goes))
       where
-        is_clean : (told : IsTrue tells)
-            → IsTornAt (did_to (did_to old.past (name kind file) (Wrote at (range_in old.past (name kind file) at len) 0)) (name kind file) (Synced true)) (name kind file) 0 0
+        elsewhere : (told : IsTrue tells) (n : List ℕ) (a many : ℕ) → (n ≡ name kind file → ⊥) → IsTornAt old.past n a many → IsTornAt past n a many
+        elsewhere told n a many differs torn =
+            subst (λ (p : FolderPast). IsTornAt p n a many) (sym (whole told))
+            (torn_done old.past (name kind file) n
+            (Synced true ∷ Shortened (length (bytes_of old.past (name kind file))) 0 ∷ Wrote at (range_in old.past (name kind file) at len) 0 ∷ []) a many differs torn)
+
+        is_clean : (told : IsTrue tells) → IsTornAt (did_to (written_anew old.past (name kind file) at len) (name kind file) (Synced true)) (name kind file) 0 0
         is_clean told =
             let n : List ℕ = name kind file in
             let bytes : List ℕ = file_of (reading name old) kind file in
-            let deed : FileDeed = Wrote at (range_in old.past n at len) 0 in
             let is : contents_of old.past n ≡ Some bytes = (known told).knows.is.seen.there kind file (there told) in
-            let torn : IsTornAt old.past n at len = (subst (λ (r : Option Written). IfSome r (IsTornTo name old.past kind)) doubt ((known told).torn goes kind)).1 in
-            let sure : AreBytesSure (old.past.first n) (deed ∷ deeds_of n old.past.deeds) =
-            subst (λ (b : List ℕ). AreBytesSure (old.past.first n) (Wrote at (take len (drop at b)) 0 ∷ deeds_of n old.past.deeds)) (sym (bytes_read name old kind file (known told) (there told)))
-            (range_anew_is_sure (old.past.first n) (deeds_of n old.past.deeds) at len bytes torn is) in
-            let both : deeds_of n (did_to old.past n deed).deeds ≡ deed ∷ deeds_of n old.past.deeds = deeds_of-same n deed old.past.deeds in
-            torn_did (did_to old.past n deed) n (Synced true) 0 0
+            let first : FileDeed = Wrote at (range_in old.past n at len) 0 in
+            let second : FileDeed = Shortened (length (bytes_of old.past n)) 0 in
+            let sure : AreBytesSure (old.past.first n) (second ∷ first ∷ deeds_of n old.past.deeds) =
+            subst (λ (b : List ℕ). AreBytesSure (old.past.first n) (Shortened (length b) 0 ∷ Wrote at (take len (drop at b)) 0 ∷ deeds_of n old.past.deeds)) (sym (mends_read told))
+            (range_anew_is_sure (old.past.first n) (deeds_of n old.past.deeds) at len bytes (is_torn told) is) in
+            let both : deeds_of n (written_anew old.past n at len).deeds ≡ second ∷ first ∷ deeds_of n old.past.deeds =
+            deeds_of-same n second (did_to old.past n first).deeds ∙ ap (λ (ds : List FileDeed). second ∷ ds) (deeds_of-same n first old.past.deeds) in
+            torn_did (written_anew old.past n at len) n (Synced true) 0 0
             (subst (λ (ds : List FileDeed). IsTornIn (old.past.first n) (Synced true ∷ ds) 0 0) (sym both)
-            (torn_clean (old.past.first n) (deed ∷ deeds_of n old.past.deeds) (written bytes at (range_in old.past n at len)) sure
-            (ap (λ (o : Option (List ℕ)). option_map (λ was. written was at (range_in old.past n at len)) o) is)))
+            (torn_clean (old.past.first n) (second ∷ first ∷ deeds_of n old.past.deeds) (take (length (bytes_of old.past n)) (written bytes at (range_in old.past n at len))) sure
+            (ap (λ (o : Option (List ℕ)). option_map (take (length (bytes_of old.past n))) (option_map (λ was. written was at (range_in old.past n at len)) o)) is)))
 
-    -- some of it was, or the sync failed
-    pub anew_missed : {E : Type 0} (e : E) → (IsTrue tells → IsMendedInPart (name kind file) at len old.past past)
+    -- some of that was done
+    pub anew_missed : {E : Type 0} (e : E) → (IsTrue tells → MendsIn (name kind file) at len (bytes_of old.past (name kind file)) old.past past)
         → Syncs {E = E} tells name kind file old (trusted old.trust (next old past)) (Err e)
     anew_missed {E} e part =
         sync_missed tells name kind file old past old.trust known
-        (λ told. failed told (part told))
-        (λ told still. torn told (part told))
+        (λ told. mending name apart kind file at len old.past past (known_of old.warc old.cdxj) old.trust.gave_up (doubts_of old.trust) old.times (reading name old)
+        (known told).knows (there told) (is_torn told) (kind, file, ap doubt_in doubt, refl) (mends told))
+        (λ told still. torn_kept name apart kind file small old.past past (elsewhere told) old.trust (still_torn told) ((known told).torn goes))
         e
       where
-        failed : (told : IsTrue tells) → IsMendedInPart (name kind file) at len old.past past
-            → SyncFailed name old.past past (known_of old.warc old.cdxj) old.trust.gave_up (doubts_of old.trust) old.times (reading name old)
-        failed told (inl (inl same)) =
-            nothing_mended name old.past past (known_of old.warc old.cdxj) old.trust.gave_up (doubts_of old.trust) old.times (reading name old) (known told).knows same
-        failed told (inl (inr anew)) =
-            mending name apart kind file at len anew.some anew.rest old.past past (known_of old.warc old.cdxj) old.trust.gave_up (doubts_of old.trust) old.times (reading name old)
-            (known told).knows (there told) (subst (λ (r : Option Written). IfSome r (IsTornTo name old.past kind)) doubt ((known told).torn goes kind)).1
-            anew.fits (anew.front ∙ ap (λ (b : List ℕ). take (length anew.some) (drop at b)) (bytes_read name old kind file (known told) (there told))) anew.whole
-        failed told (inr whole) =
-            unmended_sync name apart kind file at len old.past
-            (did_to old.past (name kind file) (Wrote at (range_in old.past (name kind file) at len) 0)) past
-            (known_of old.warc old.cdxj) old.trust.gave_up (doubts_of old.trust) old.times (reading name old)
-            (known told).knows (there told) (subst (λ (r : Option Written). IfSome r (IsTornTo name old.past kind)) doubt ((known told).torn goes kind)).1
-            (kind, file, ap doubt_in doubt, refl)
-            (λ i. did_to old.past (name kind file) (Wrote at (take len (drop at (bytes_read name old kind file (known told) (there told) i))) 0)) whole
+        mends : (told : IsTrue tells) → MendsIn (name kind file) at len (file_of (reading name old) kind file) old.past past
+        mends told = subst (λ (b : List ℕ). MendsIn (name kind file) at len b old.past past) (mends_read told) (part told)
+
+        elsewhere : (told : IsTrue tells) (n : List ℕ) (a many : ℕ) → (n ≡ name kind file → ⊥) → IsTornAt old.past n a many → IsTornAt past n a many
+        elsewhere told n a many differs torn =
+            subst (λ (p : FolderPast). IsTornAt p n a many) (sym (part told).whole) (torn_done old.past (name kind file) n (part told).deeds a many differs torn)
 
         -- the range that is in doubt is still torn so
-        still_torn : (told : IsTrue tells) → IsTornAt past (name kind file) at len → (w : Written) → range_of old.trust kind ≡ Some w → w.number ≡ file
+        still_torn : (told : IsTrue tells) (w : Written) → range_of old.trust kind ≡ Some w → w.number ≡ file
             → IsTornAt old.past (name kind file) w.at w.len → IsTornAt past (name kind file) w.at w.len
-        still_torn told now w is its was =
+        still_torn told w is its was =
+            let mends_now = subst (λ (b : List ℕ). MendsIn (name kind file) at len b old.past past) (mends_read told) (part told) in
             subst (λ (r : Written). IsTornAt past (name kind file) r.at r.len)
-            (same_Some (record { number = file; at = at; len = len; in_doubt = true }) w (sym doubt ∙ is)) now
-
-        torn : (told : IsTrue tells) → IsMendedInPart (name kind file) at len old.past past → AreTorn name past old.trust
-        torn told (inl (inl same)) = subst (λ (p : FolderPast). AreTorn name p old.trust) (sym same) ((known told).torn goes)
-        torn told (inl (inr anew)) =
-            let n : List ℕ = name kind file in
-            let deed : FileDeed = Wrote at anew.some anew.rest in
-            let was : IsTornAt old.past n at len = (subst (λ (r : Option Written). IfSome r (IsTornTo name old.past kind)) doubt ((known told).torn goes kind)).1 in
-            let now : IsTornAt past n at len =
-            subst (λ (p : FolderPast). IsTornAt p n at len) (sym anew.whole)
-            (torn_did old.past n deed at len (torn_within (old.past.first n) (deeds_of n old.past.deeds) at len at anew.some anew.rest was (omega arith) (omega (arith, anew.fits)))) in
-            torn_kept name apart kind file small old.past past (deed_elsewhere old.past past n deed anew.whole) old.trust (still_torn told now) ((known told).torn goes)
-        torn told (inr whole) =
-            let n : List ℕ = name kind file in
-            let some : List ℕ = range_in old.past n at len in
-            let deed : FileDeed = Wrote at some 0 in
-            let was : IsTornAt old.past n at len = (subst (λ (r : Option Written). IfSome r (IsTornTo name old.past kind)) doubt ((known told).torn goes kind)).1 in
-            let mid : IsTornAt (did_to old.past n deed) n at len =
-            torn_did old.past n deed at len (torn_within (old.past.first n) (deeds_of n old.past.deeds) at len at some 0 was (omega arith) (omega (arith, length-take len (drop at (bytes_of old.past n))))) in
-            let now : IsTornAt past n at len =
-            subst (λ (p : FolderPast). IsTornAt p n at len) (sym whole)
-            (torn_did (did_to old.past n deed) n (Synced false) at len
-            (torn_failed (old.past.first n) (deeds_of n (did_to old.past n deed).deeds) at len mid)) in
-            torn_kept name apart kind file small old.past past (deeds_elsewhere old.past past n deed (Synced false) whole) old.trust (still_torn told now) ((known told).torn goes)
+            (same_Some (record { number = file; at = at; len = len; in_doubt = true }) w (sym doubt ∙ is))
+            (subst (λ (p : FolderPast). IsTornAt p (name kind file) at len) (sym mends_now.whole)
+            (mended name apart kind file at len old.past (reading name old) (known told).knows.is (there told) (is_torn told) mends_now.deeds mends_now.mending).torn)
 
 -- ---- what writes, cuts and a file that is made leave of the trust
 
@@ -280,30 +340,23 @@ module _ (name : Kind → ℕ → List ℕ) (apart : NamesApart name) (kind : Ki
             (known.torn (on.going goes)),
       )
 
-  -- a write that one call did whole
-  pub whole_goes : (at : ℕ) (bytes : List ℕ) → file < file_count (reading name old) kind → at ≤ length (file_of (reading name old) kind file)
-      → past ≡ did_to old.past (name kind file) (Wrote at bytes 0) → GoesOn kind (AfterWhole file at (length bytes)) old.trust now → TrustStays name old.trust past now
-  whole_goes at bytes there inside whole on goes =
-      let elsewhere : (n : List ℕ) (a many : ℕ) → (n ≡ name kind file → ⊥) → IsTornAt old.past n a many → IsTornAt past n a many =
-      deed_elsewhere old.past past (name kind file) (Wrote at bytes 0) whole in (
+  -- a write of which all bytes may be torn
+  pub whole_goes : (at len : ℕ) → file < file_count (reading name old) kind → at ≤ length (file_of (reading name old) kind file)
+      → WritesWithin (name kind file) at len old.past past → Covers (name kind file) at len old.past past
+      → GoesOn kind (AfterWhole file at len) old.trust now → TrustStays name old.trust past now
+  whole_goes at len there inside within covers on goes =
+      let n : List ℕ = name kind file in
+      let elsewhere : (m : List ℕ) (a many : ℕ) → (m ≡ n → ⊥) → IsTornAt old.past m a many → IsTornAt past m a many =
+      λ m a many differs torn. subst (λ (p : FolderPast). IsTornAt p m a many) (sym within.whole) (torn_done old.past n m within.deeds a many differs torn) in (
         on.going goes,
-        doubts_go_on name kind old.trust now (AfterWhole file at (length bytes)) (whole_stays file at (length bytes)) on goes,
+        doubts_go_on name kind old.trust now (AfterWhole file at len) (whole_stays file at len) on goes,
         torn_goes_on name apart kind file small old.past past elsewhere old.trust now on.range now.gave_up on.only
-            (after_whole name apart kind file small old.past past elsewhere at bytes whole
-            (λ w torn. omega (arith, inside, ap length (same_Some torn.reading (file_of (reading name old) kind file) (sym torn.is ∙ known.knows.is.seen.there kind file there))))
+            (after_whole name apart kind file small old.past past elsewhere at len within.deeds within.writes within.whole
+            (λ start torn. torn_written old.past past n start at len torn
+            (omega (arith, inside, ap length (same_Some torn.reading (file_of (reading name old) kind file) (sym torn.is ∙ known.knows.is.seen.there kind file there)))) within covers)
             (range_of old.trust kind) on.range on.after)
             (known.torn (on.going goes)),
       )
-
-  -- a write by one call or by several
-  pub wrote_goes : (at : ℕ) (bytes : List ℕ) (once : Bool) → file < file_count (reading name old) kind → at ≤ length (file_of (reading name old) kind file)
-      → WritesWithin (name kind file) at (length bytes) old.past past
-      → (IsTrue once → past ≡ did_to old.past (name kind file) (Wrote at bytes 0))
-      → (IsTrue once → GoesOn kind (AfterWhole file at (length bytes)) old.trust now)
-      → (once ≡ false → GoesOn kind (AfterPart file at (length bytes)) old.trust now)
-      → TrustStays name old.trust past now
-  wrote_goes at bytes true there inside within whole on_whole on_part = whole_goes at bytes there inside (whole refl) (on_whole refl)
-  wrote_goes at bytes false there inside within whole on_whole on_part = part_goes at (length bytes) within (on_part refl)
 
   -- a cut
   pub cut_goes : (deed : FileDeed) → past ≡ did_to old.past (name kind file) deed → GoesOn kind (AfterCut file) old.trust now → TrustStays name old.trust past now

@@ -1,17 +1,17 @@
 -- Laws of what is in doubt of a disk's files.
-use Rattle.std.proofs.Common.{◌^◌, ◌≡◌, ◌≢◌, ◌⊎◌, ◌<◌, ◌≤◌, ◌+◌, ℕ, Bool, true, false, IsTrue, if◌then◌else◌, List, [], ◌∷◌, length, refl, sym, ap, ◌∙◌, subst, inl, inr, ⊎_elim, true≢false, arith}
+use Rattle.std.proofs.Common.{◌^◌, ◌≡◌, ◌≢◌, ◌⊎◌, ◌<◌, ◌≤◌, ◌+◌, ℕ, Bool, true, false, IsTrue, if◌then◌else◌, List, [], ◌∷◌, refl, sym, ap, ◌∙◌, subst, inl, inr, ⊎_elim, true≢false, arith}
 use Rattle.std.proofs.lemmas.Option.{none-some, same_Some}
 use Rattle.std.specs.Prelude.{Option, Some, None, is_some, IfSome}
 use Rattle.disk_model.specs.declared.kind.Kind.{Kind}
 use Rattle.disk_model.specs.declared.kind.Kind.TheVariants.{Warc, Cdxj}
 use Rattle.disk_model.specs.steps.ImageLaws.{same_or_apart, same_kind_or_other}
 use Rattle.folder_model.specs.File.{FileDeed, Made, Wrote, Shortened, Synced, Listed}
-use Rattle.folder_model.specs.Folder.{FolderPast, did_to, deeds_of}
+use Rattle.folder_model.specs.Folder.{FolderPast, deeds_of}
 use Rattle.folder_model.specs.Known.{IsInDoubt}
 use Rattle.folder_model.specs.Ranges.{IsTornAt}
 use Rattle.folder_model.specs.Seen.{NamesApart}
 use Rattle.folder_model.specs.Whole.{done_to, AreWrites}
-use Rattle.folder_model.specs.steps.MendLaws.{torn_fresh, torn_within, torn_did, torn_other}
+use Rattle.folder_model.specs.steps.MendLaws.{torn_within, torn_did, torn_other}
 use Rattle.folder_disk.specs.Doubts.{range_of, with_range, doubt_in, doubts_of, IsTornTo, AreTorn, AfterWhole, AfterPart, AfterCut, AfterSync, GoesOn, SyncedTo}
 use Rattle.folder_disk.specs.declared.trust.Trust.{Trust}
 use Rattle.folder_disk.specs.declared.trust.Written.{Written}
@@ -137,27 +137,19 @@ module _ (name : Kind → ℕ → List ℕ) (apart : NamesApart name) (kind : Ki
       (torn_writes old (name kind file) w.at w.len at len deeds writes within.0 within.1 this)) torn)
       after.1)
 
-  -- after a write that one call did
-  pub after_whole : (at : ℕ) (bytes : List ℕ) → new ≡ did_to old (name kind file) (Wrote at bytes 0) → ((w : ℕ) (torn : IsTornAt old (name kind file) w 0) → at ≤ length torn.reading)
-      → (was now : Option Written) → AfterWhole file at (length bytes) was now → IfSome was (IsTornTo name old kind) → IfSome now (IsTornTo name new kind)
-  after_whole at bytes whole inside was None after torn = tt
-  after_whole at bytes whole inside None (Some x) after torn = absurd after
-  after_whole at bytes whole inside (Some w) (Some x) (inl after) torn =
-      subst (IsTornTo name new kind) (sym after.0)
-      (⊎_elim
-      (λ differs. torn_apart kind w (inr differs) torn)
-      (λ within. torn_stays w (λ this. subst (λ (p : FolderPast). IsTornAt p (name kind file) w.at w.len) (sym whole)
-      (torn_writes old (name kind file) w.at w.len at (length bytes) (Wrote at bytes 0 ∷ []) (omega arith, omega arith, tt) within.0 within.1 this)) torn)
-      after.1)
-  after_whole at bytes whole inside (Some w) (Some x) (inr after) torn =
+  -- after a write of which all bytes may be torn
+  pub after_whole : (at len : ℕ) (deeds : List FileDeed) → AreWrites at len deeds → new ≡ done_to old (name kind file) deeds
+      → ((start : ℕ) → IsTornAt old (name kind file) start 0 → IsTornAt new (name kind file) at len)
+      → (was now : Option Written) → AfterWhole file at len was now → IfSome was (IsTornTo name old kind) → IfSome now (IsTornTo name new kind)
+  after_whole at len deeds writes whole fresh was None after torn = tt
+  after_whole at len deeds writes whole fresh None (Some x) after torn = absurd after
+  after_whole at len deeds writes whole fresh (Some w) (Some x) (inl after) torn = after_part at len deeds writes whole (Some w) (Some x) after torn
+  after_whole at len deeds writes whole fresh (Some w) (Some x) (inr after) torn =
       let n : List ℕ = name kind file in
       let was : IsTornAt old n w.at 0 =
       subst (λ (l : ℕ). IsTornAt old n w.at l) after.1 (subst (λ (f : ℕ). IsTornAt old (name kind f) w.at w.len) after.0 torn.1) in
-      let now : IsTornAt new n at (length bytes) =
-      subst (λ (p : FolderPast). IsTornAt p n at (length bytes)) (sym whole)
-      (torn_did old n (Wrote at bytes 0) at (length bytes) (torn_fresh (old.first n) (deeds_of n old.deeds) w.at at bytes was (inside w.at was))) in
       subst (IsTornTo name new kind) (sym after.2)
-      (torn.0, subst (λ (f : ℕ). IsTornAt new (name kind f) at (length bytes)) (sym after.0) now)
+      (torn.0, subst (λ (f : ℕ). IsTornAt new (name kind f) at len) (sym after.0) (fresh w.at was))
 
   -- after a cut
   pub after_cut : (was now : Option Written) → AfterCut file was now → IfSome was (IsTornTo name old kind) → IfSome now (IsTornTo name new kind)

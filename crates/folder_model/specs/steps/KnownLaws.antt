@@ -127,7 +127,7 @@ writes_sure past n m at many (Synced done ∷ earlier) writes sure = absurd writ
 writes_sure past n m at many (Listed done ∷ earlier) writes sure = absurd writes
 
 -- the past with deeds on a file, as the past with more deeds
-done_deeds : (past : FolderPast) (n : List ℕ) (deeds : List FileDeed) → done_to past n deeds ≡ record past { deeds = map (λ d. Did n d) deeds ++ past.deeds }
+pub done_deeds : (past : FolderPast) (n : List ℕ) (deeds : List FileDeed) → done_to past n deeds ≡ record past { deeds = map (λ d. Did n d) deeds ++ past.deeds }
 done_deeds past n [] = refl
 done_deeds past n (deed ∷ earlier) = ap (λ (p : FolderPast). did_to p n deed) (done_deeds past n earlier)
 
@@ -141,7 +141,7 @@ fewer_writes at many (suc k) (Shortened len rest ∷ earlier) writes = absurd wr
 fewer_writes at many (suc k) (Synced done ∷ earlier) writes = absurd writes
 fewer_writes at many (suc k) (Listed done ∷ earlier) writes = absurd writes
 
-drop_map : (n : List ℕ) (k : ℕ) (deeds : List FileDeed) → drop k (map (λ d. Did n d) deeds) ≡ map (λ d. Did n d) (drop k deeds)
+pub drop_map : (n : List ℕ) (k : ℕ) (deeds : List FileDeed) → drop k (map (λ d. Did n d) deeds) ≡ map (λ d. Did n d) (drop k deeds)
 drop_map n zero deeds = refl
 drop_map n (suc k) [] = refl
 drop_map n (suc k) (d ∷ deeds) = drop_map n k deeds

@@ -1,8 +1,10 @@
 -- Writes that were done in two parts.
-use Rattle.std.proofs.Common.{◌≡◌, ◌≤◌, ◌+◌, ◌-◌, ℕ, min, List, length, take, drop, sym, ap, ◌∙◌, arith, ⊎_elim, length-take}
+use Rattle.std.proofs.Common.{◌≡◌, ◌≤◌, ◌+◌, ◌-◌, ℕ, min, List, ◌++◌, length, take, drop, sym, ap, ◌∙◌, arith, ⊎_elim, length-take, length-drop, length-append, take-append-drop}
+use Rattle.std.specs.Prelude.{max}
 use Rattle.std.proofs.lemmas.Bool.{cases_lt}
-use Rattle.std.proofs.lemmas.List.{take-take, take_all, drop-drop}
-use Rattle.disk_model.specs.Crash.{Torn}
+use Rattle.std.proofs.lemmas.List.{take-take, take_all, take_at, take-append-le, drop_at, drop_all, drop-drop}
+use Rattle.disk_model.specs.Crash.{Torn, Cut}
+use Rattle.disk_model.specs.steps.CrashLaws.{torn_none}
 
 -- a front of a front, whichever is longer
 front_of_front : (m n : ℕ) (xs : List ℕ) → take m (take n xs) ≡ take (min m n) xs
@@ -40,3 +42,87 @@ torn_again at many old mid new first second = record {
       front_of_front at (length old) new ∙ front ∙ sym (front_of_front at (length old) mid) ∙ first.before;
   after = second.after ∙ first.after;
 }
+
+-- a write of nothing tears nothing
+pub torn_nothing : (at : ℕ) (old new : List ℕ) → at ≤ length old → Torn at 0 old new → new ≡ old
+torn_nothing at old new inside torn =
+    let len : length new ≤ length old = omega (arith, torn.no_longer, inside) in
+    let none : at + 0 ≡ at = omega arith in
+    let front : take at new ≡ take at old = ap (take at) (sym (take_all (length old) new len)) ∙ torn.before in
+    let back : drop at new ≡ drop at old = ap (λ (k : ℕ). drop k new) (sym none) ∙ torn.after ∙ ap (λ (k : ℕ). drop k old) none in
+    sym (take-append-drop at new) ∙ (λ i. front i ++ back i) ∙ take-append-drop at old
+
+-- what stands before a torn write
+pub front_of_torn : (at many : ℕ) (old new : List ℕ) → at ≤ length old → Torn at many old new → take at new ≡ take at old
+front_of_torn at many old new inside torn = sym (take-take at (length old) new inside) ∙ torn.before
+
+-- a torn write is one of its first bytes, and then one of the others
+pub torn_split : (at n m : ℕ) (old new : List ℕ) → at ≤ length old → Torn at (n + m) old new → (mid : List ℕ) × Torn at n old mid × Torn (at + n) m mid new
+torn_split at n m old new inside torn =
+    ⊎_elim
+    (λ short. (
+      new,
+      record {
+        no_shorter = torn.no_shorter;
+        no_longer = omega (arith, short);
+        before = torn.before;
+        after = drop_all (at + n) new (omega (arith, short)) ∙ sym (drop_all (at + n) old (omega (arith, short, torn.no_shorter)));
+      },
+      torn_none (at + n) m new,
+    ))
+    (λ long.
+    let front : List ℕ = take (at + n) new in
+    let mid : List ℕ = front ++ drop (at + n) old in
+    let len : length front ≡ at + n = omega (arith, length-take (at + n) new, long) in
+    let all : length mid ≡ length front + length (drop (at + n) old) = length-append front (drop (at + n) old) in
+    let rest : length (drop (at + n) old) ≡ length old - (at + n) = length-drop (at + n) old in
+    let sum : at + n + m ≡ at + (n + m) = omega arith in (
+      mid,
+      record {
+        no_shorter = omega (arith, all, len, rest);
+        no_longer = omega (arith, all, len, rest);
+        before =
+            take-take at (length old) mid inside
+            ∙ take-append-le at front (drop (at + n) old) (omega (arith, len))
+            ∙ take-take at (at + n) new (omega arith)
+            ∙ front_of_torn at (n + m) old new inside torn;
+        after = drop_at front (drop (at + n) old) (at + n) len;
+      },
+      record {
+        no_shorter = omega (arith, all, len, rest, long, torn.no_shorter);
+        no_longer = omega (arith, all, len, rest, torn.no_longer);
+        before =
+            take-take (at + n) (length mid) new (omega (arith, all, len))
+            ∙ sym (take_at front (drop (at + n) old) (at + n) len);
+        after =
+            ap (λ (k : ℕ). drop k new) sum ∙ torn.after ∙ ap (λ (k : ℕ). drop k old) (sym sum)
+            ∙ sym (sym (drop-drop m (at + n) mid) ∙ ap (drop m) (drop_at front (drop (at + n) old) (at + n) len) ∙ drop-drop m (at + n) old);
+      },
+    ))
+    (cases_lt (length new) (at + n))
+
+-- a cut, not below what is read, of torn bytes
+pub torn_cut : (at many : ℕ) (base reading old new : List ℕ) → at ≤ length base → Torn at many base reading → Torn at many base old → Cut (length reading) old new → Torn at many base new
+torn_cut at many base reading old new inside read torn cut =
+    let least : length base ≤ length new = omega (arith, cut.no_shorter, torn.no_shorter, read.no_shorter) in
+    let most : length new ≤ max (length base) (at + many) = omega (arith, cut.no_longer, torn.no_longer, read.no_longer) in
+    record {
+      no_shorter = least;
+      no_longer = most;
+      before =
+          take-take at (length base) new inside
+          ∙ sym (take-take at (length old) new (omega (arith, inside, torn.no_shorter)))
+          ∙ ap (take at) cut.same
+          ∙ take-take at (length new) old (omega (arith, inside, least))
+          ∙ front_of_torn at many base old inside torn;
+      after =
+          ⊎_elim
+          (λ short.
+          drop_all (at + many) new (omega (arith, short)) ∙ sym (drop_all (at + many) base (omega (arith, short, least))))
+          (λ long.
+          let same : length new ≡ length old = omega (arith, long, least, most, torn.no_shorter, torn.no_longer) in
+          let whole : new ≡ old =
+          sym (take_all (length old) new (omega (arith, same))) ∙ cut.same ∙ take_all (length new) old (omega (arith, same)) in
+          ap (drop (at + many)) whole ∙ torn.after)
+          (cases_lt (length new) (at + many + 1));
+    }

@@ -1,5 +1,5 @@
 -- Laws of what several calls do to a file.
-use Rattle.std.proofs.Common.{◌<◌, ◌^◌, ◌≡◌, ◌≤◌, ◌+◌, ℕ, Option, Some, List, [], ◌∷◌, ◌++◌, length, take, drop, refl, sym, ap, ◌∙◌, subst, ⊎_elim, arith, append_assoc, length-append, length-take, length-drop, take-append-drop}
+use Rattle.std.proofs.Common.{◌<◌, ◌^◌, ◌≡◌, ◌≤◌, ◌+◌, ◌-◌, ℕ, Option, Some, List, [], ◌∷◌, ◌++◌, length, take, drop, refl, sym, ap, ◌∙◌, subst, ⊎_elim, arith, append_assoc, length-append, length-take, length-drop, take-append-drop}
 use Rattle.std.proofs.lemmas.Bool.{cases_lt}
 use Rattle.std.proofs.lemmas.List.{append-nil, take_all, take_at, drop_at, take-append-le}
 use Rattle.std.specs.Option.{option_map, unwrap_or}
@@ -10,14 +10,14 @@ use Rattle.disk_model.specs.Crash.{Torn, OnFile, Follows}
 use Rattle.disk_model.specs.steps.CrashLaws.{torn_none, torn_written, length-written, on_file_none}
 use Rattle.disk_model.specs.steps.ImageLaws.{file_of-with_file, with_file-with_file, with_file_past}
 use Rattle.folder_model.specs.Calls.{WritesInPart}
-use Rattle.folder_model.specs.File.{FileDeed, Made, Wrote, Shortened, Synced, Listed}
+use Rattle.folder_model.specs.File.{FileDeed, Made, Wrote, Shortened, Synced, Listed, Crash, MayHold}
 use Rattle.folder_model.specs.Folder.{Contents, FolderPast, did_to, deeds_of, contents_of, bytes_of, MayLeave}
 use Rattle.folder_model.specs.Seen.{NamesApart, images_of}
-use Rattle.folder_model.specs.Whole.{done_to, AreWrites, IsInFile, IsWriting}
-use Rattle.folder_model.specs.steps.FolderLaws.{takes_none, wrote_keeps}
+use Rattle.folder_model.specs.Whole.{done_to, AreWrites, Covers, IsInFile, IsWriting}
+use Rattle.folder_model.specs.steps.FolderLaws.{takes_none, wrote_keeps, deeds_of-same}
 use Rattle.folder_model.specs.steps.ReadingLaws.{contents_of-same}
 use Rattle.folder_model.specs.steps.SeenLaws.{write_follows}
-use Rattle.folder_model.specs.steps.TornLaws.{torn_wider, torn_again}
+use Rattle.folder_model.specs.steps.TornLaws.{torn_wider, torn_again, torn_nothing, torn_split}
 
 -- a step that may be taken twice, on one file
 on_file_again : (kind : Kind) (file : ℕ) (Step : List ℕ → List ℕ → Type 0) → ((a b c : List ℕ) → Step a b → Step b c → Step a c)
@@ -84,6 +84,7 @@ none_written name at bytes past in_file =
       torn = torn_none at (length bytes) in_file.bytes;
       front = ap (λ (n : ℕ). take n in_file.bytes) start ∙ nothing;
       reach = omega (arith, in_file.inside);
+      covers = λ was bytes inside holds torn. subst (MayHold (past.first name) (deeds_of name past.deeds) Crash) (sym (torn_nothing at was bytes inside torn)) holds;
     }
 
 -- what a write at the end of the part so far leaves of it: the part, and the new bytes behind it
@@ -97,6 +98,20 @@ front_written now some place n inside fits =
     take_behind front some place n len =
         take-add place n (front ++ some)
         ∙ (λ i. take_at front some place len i ++ take n (drop_at front some place len i))
+
+-- one write more covers what it writes, and what it was to write
+pub one_covers : (name : List ℕ) (at done n place : ℕ) (some : List ℕ) (rest : ℕ) (old mid new : FolderPast) → place ≡ at + done → n ≤ length some + rest
+    → Covers name at done old mid → new ≡ did_to mid name (Wrote place some rest) → Covers name at (done + n) old new
+one_covers name at done n place some rest old mid new is_place few so_far whole was bytes inside holds torn =
+    let parts = torn_split at done n was bytes inside torn in
+    let deed : FileDeed = Wrote place some rest in
+    let held : MayHold (mid.first name) (deed ∷ deeds_of name mid.deeds) Crash bytes = (
+      parts.0,
+      so_far was parts.0 inside holds parts.1,
+      torn_wider place (length some + rest) (at + done) n parts.0 bytes (omega (arith, is_place)) (omega (arith, is_place, few)) parts.2,
+    ) in
+    subst (λ (p : FolderPast). MayHold (p.first name) (deeds_of name p.deeds) Crash bytes) (sym whole)
+    (subst (λ (ds : List FileDeed). MayHold (mid.first name) ds Crash bytes) (sym (deeds_of-same name deed mid.deeds)) held)
 
 -- one write more, at the end of the part so far, of which `some` bytes stand there and the first n of them are the next ones
 one_written : (name : List ℕ) (at : ℕ) (bytes : List ℕ) (done n place : ℕ) (some : List ℕ) (rest : ℕ) (old mid new : FolderPast)
@@ -134,6 +149,7 @@ one_written name at bytes done n place some rest old mid new fits few is_place i
           ∙ append_assoc (take at so_far.before) (take done bytes) (take n (drop done bytes))
           ∙ ap (λ (xs : List ℕ). take at so_far.before ++ xs) (sym (take-add done n bytes));
       reach = omega (arith, ends, longer, few);
+      covers = one_covers name at done n place some rest old mid new is_place (omega (arith, few)) so_far.covers whole;
     }
 
 -- a part that was written
@@ -159,18 +175,14 @@ part_failed name at bytes done place some rest old mid new inside is_place sum s
     (one_written name at bytes done 0 place some rest old mid new (omega (arith, inside)) (omega arith) is_place (omega (arith, sum, length-drop done bytes, inside))
     refl so_far whole)
 
--- the first call took some bytes, or it failed
-pub first_written : (name : List ℕ) (at : ℕ) (bytes : List ℕ) (n : ℕ) (old new : FolderPast) → n ≤ length bytes → IsInFile old name at
-    → new ≡ did_to old name (Wrote at (take n bytes) 0) → IsWriting name at bytes n old new
-first_written name at bytes n old new fits in_file whole =
-    let sum : 0 + n ≡ n = omega arith in
-    subst (λ (k : ℕ). IsWriting name at bytes k old new) sum
-    (part_written name at bytes 0 n at old old new (omega (arith, fits)) (omega arith) (none_written name at bytes old in_file) whole)
-
-pub first_failed : (name : List ℕ) (at : ℕ) (bytes : List ℕ) (old new : FolderPast) → IsInFile old name at → WritesInPart name at bytes old new → IsWriting name at bytes 0 old new
-first_failed name at bytes old new in_file part =
-    part_failed name at bytes 0 at part.bytes (length part.rest) old old new (omega arith) (omega arith)
-    (sym (length-append part.bytes part.rest) ∙ ap length part.all) (none_written name at bytes old in_file) part.whole
+-- a call that failed covers all that it was to write
+pub failed_covers : (name : List ℕ) (at : ℕ) (bytes : List ℕ) (done place : ℕ) (piece : List ℕ) (old mid new : FolderPast) → done ≤ length bytes → place ≡ at + done
+    → piece ≡ drop done bytes → Covers name at done old mid → WritesInPart name place piece mid new → Covers name at (length bytes) old new
+failed_covers name at bytes done place piece old mid new inside is_place is so_far part =
+    let all : length part.bytes + length part.rest ≡ length bytes - done = sym (length-append part.bytes part.rest) ∙ ap length (part.all ∙ is) ∙ length-drop done bytes in
+    let sum : done + (length bytes - done) ≡ length bytes = omega (arith, inside) in
+    subst (λ (k : ℕ). Covers name at k old new) sum
+    (one_covers name at done (length bytes - done) place part.bytes (length part.rest) old mid new is_place (omega (arith, all)) so_far part.whole)
 
 -- once all is written reads find the bytes in their place
 pub all_written : (name : List ℕ) (at : ℕ) (bytes : List ℕ) (old new : FolderPast) → (writing : IsWriting name at bytes (length bytes) old new)

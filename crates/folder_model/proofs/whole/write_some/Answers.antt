@@ -3,7 +3,7 @@ use Rattle.std.proofs.Common.{◌≡◌, ◌+◌, ℕ, List, length, take, ◌�
 use Rattle.folder_model.specs.File.{Wrote}
 use Rattle.folder_model.specs.Folder.{did_to}
 use Rattle.folder_model.specs.Whole.{IsWriting}
-use Rattle.folder_model.specs.steps.WholeLaws.{part_written, part_failed, writing_inside}
+use Rattle.folder_model.specs.steps.WholeLaws.{part_written, part_failed, failed_covers, writing_inside}
 use Rattle.folder_model.proofs.whole.write_some.Goals as goal
 
 pub write_at-requires : goal.write_at-requires
@@ -40,6 +40,11 @@ returns-then-ne-clause-fails g c = λ tells old at is_place writing.
     part_failed n at c.args.bytes.now c.args.done c.args.place part.bytes (length part.rest) old (g.F.Folder.past c.loop.folder) (g.F.Folder.past c.write_at.new.self)
     (omega (arith, c.requires.inside)) is_place (sym (length-append part.bytes part.rest) ∙ ap length part.all ∙ ap length c.split_at.ensures.back)
     (c.loop.invariant tells old at is_place writing) part.whole
+
+pub returns-then-ne-clause-torn : goal.returns-then-ne-clause-torn
+returns-then-ne-clause-torn g c = λ tells old at is_place writing.
+    failed_covers (g.F.Folder.name_of c.args.file.now) at c.args.bytes.now c.args.done c.args.place _ old (g.F.Folder.past c.loop.folder) (g.F.Folder.past c.write_at.new.self)
+    (omega (arith, c.requires.inside)) is_place c.split_at.ensures.back (c.loop.invariant tells old at is_place writing).covers (c.in-Err.ensures.partial tells)
 
 pub loop-preserved : goal.loop-preserved
 loop-preserved g c = λ tells old at is_place writing.

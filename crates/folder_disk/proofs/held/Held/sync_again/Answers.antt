@@ -1,18 +1,19 @@
 -- The range was written anew and the file synced, or some of that, or nothing was done.
-use Rattle.std.proofs.Common.{◌≡◌, ◌≤◌, ◌+◌, ℕ, length, Err, IsTrue, true, List, sym, ap, ◌∙◌, subst}
+use Rattle.std.proofs.Common.{◌≡◌, ◌≤◌, ℕ, length, Err, IsTrue, true, List, sym, ap, ◌∙◌, subst}
 use Rattle.std.specs.declared.io.Error.{Error}
-use Rattle.folder_model.specs.File.{Wrote, Synced}
+use Rattle.folder_model.specs.File.{Synced}
 use Rattle.folder_model.specs.Folder.{FolderPast, did_to, bytes_of}
 use Rattle.folder_model.specs.Times.{goes_on}
 use Rattle.folder_model.specs.Timed.{times_of}
 use Rattle.folder_disk.specs.Calls.{Syncs}
 use Rattle.folder_disk.specs.Doubts.{SyncedTo}
 use Rattle.folder_disk.specs.Held.{state_of}
-use Rattle.folder_disk.specs.Mending.{range_in, IsMendedInPart}
+use Rattle.folder_disk.specs.Mending.{written_anew}
+use Rattle.folder_model.specs.Ranges.{MendsIn}
 use Rattle.folder_disk.specs.OpenFiles.{AreOpen, IsOpen}
 use Rattle.folder_disk.specs.State.{State, next, trusted}
 use Rattle.folder_disk.specs.declared.trust.Trust.{Trust}
-use Rattle.folder_disk.specs.steps.OpenLaws.{open_named, all_same, one_same, none_open}
+use Rattle.folder_disk.specs.steps.OpenLaws.{open_named, all_same, one_same, none_open, open_len}
 use Rattle.folder_disk.specs.steps.StateLaws.{sync_not_begun, sync_answered, sync_behind, at_error}
 use Rattle.folder_disk.specs.steps.SureLaws.{is_torn, torn_inside, anew_done, anew_missed, anew_same}
 use Rattle.folder_disk.proofs.held.Held.sync_again.Goals as goal
@@ -32,8 +33,8 @@ returns-in_err-one-clause-syncs g c =
     c.from_residual.result c.from_residual.ensures.0
     (λ e. sync_not_begun {E = Error} tells name c.args.kind c.args.file old past e c.to_write.ensures.same c.requires.known))
 
-pub sync_anew-requires : goal.sync_anew-requires
-sync_anew-requires g c = λ told.
+pub sync_anew-requires-clause-inside : goal.sync_anew-requires-clause-inside
+sync_anew-requires-clause-inside g c = λ told.
     let tells = g.F.Folder.tells in
     let name = g.N.FileNames.name in
     let name_of = g.F.Folder.name_of in
@@ -44,10 +45,25 @@ sync_anew-requires g c = λ told.
     let is = c.in_ok-one.ensures.this in
     let named : (told : IsTrue tells) → name_of c.in_ok-one.one.file ≡ name c.args.kind c.args.file =
     λ told. open_named name name_of c.args.kind c.args.file c.in_ok-one.one is.0 is.1 before (c.in_ok-one.ensures.open told) in
-    subst (λ (n : List ℕ). c.args.at + c.args.len ≤ length (bytes_of before n)) (sym (named told))
-    (subst (λ (p : FolderPast). c.args.at + c.args.len ≤ length (bytes_of p (name c.args.kind c.args.file))) (sym (c.to_write.ensures.same told))
+    subst (λ (n : List ℕ). c.args.at ≤ length (bytes_of before n)) (sym (named told))
+    (subst (λ (p : FolderPast). c.args.at ≤ length (bytes_of p (name c.args.kind c.args.file))) (sym (c.to_write.ensures.same told))
     (torn_inside old.past (name c.args.kind c.args.file) c.args.at c.args.len
     (is_torn tells name g.met.N.FileNames.apart c.args.kind c.args.file c.ranges.file.fits old old.past c.requires.known c.requires.there c.requires.going c.args.at c.args.len c.requires.doubt told)))
+
+pub sync_anew-requires-clause-end : goal.sync_anew-requires-clause-end
+sync_anew-requires-clause-end g c = λ told.
+    let tells = g.F.Folder.tells in
+    let name = g.N.FileNames.name in
+    let name_of = g.F.Folder.name_of in
+    let past_of = g.F.Folder.past in
+    let old : State = state_of past_of c.args.self.now in
+    let rest = c.to_write.ensures.rest in
+    let before : FolderPast = past_of c.to_write.new.self.timed.folder in
+    let is = c.in_ok-one.ensures.this in
+    let named : (told : IsTrue tells) → name_of c.in_ok-one.one.file ≡ name c.args.kind c.args.file =
+    λ told. open_named name name_of c.args.kind c.args.file c.in_ok-one.one is.0 is.1 before (c.in_ok-one.ensures.open told) in
+    open_len name name_of c.args.kind c.args.file c.in_ok-one.one is.0 is.1 before (c.in_ok-one.ensures.open told)
+    ∙ ap (λ (n : List ℕ). length (bytes_of before n)) (sym (named told))
 
 pub keep_at_name-requires-clause-others : goal.keep_at_name-requires-clause-others
 keep_at_name-requires-clause-others g c = λ told.
@@ -117,7 +133,7 @@ returns-in-Ok-clause-syncs g c =
     (sync_answered {E = Error} tells name c.args.kind c.args.file old (trusted trust (next old past)) c.keep_at_name.result
     (anew_done tells name g.met.N.FileNames.apart c.args.kind c.args.file c.ranges.file.fits old past c.requires.known c.requires.there c.requires.going c.args.at c.args.len c.requires.doubt {E = Error} trust on
     (λ told. c.in-Ok.ensures.done told
-    ∙ (λ i. did_to (did_to (c.to_write.ensures.same told i) (named told i) (Wrote c.args.at (range_in (c.to_write.ensures.same told i) (named told i) c.args.at c.args.len) 0)) (named told i) (Synced true))))))
+    ∙ (λ i. did_to (written_anew (c.to_write.ensures.same told i) (named told i) c.args.at c.args.len) (named told i) (Synced true))))))
 
 pub returns-in-Err-clause-syncs : goal.returns-in-Err-clause-syncs
 returns-in-Err-clause-syncs g c =
@@ -144,8 +160,8 @@ returns-in-Err-clause-syncs g c =
     } in
     subst (λ (s : State). Syncs {E = Error} tells name c.args.kind c.args.file old s (Err c.in-Err.error)) (sym went)
     (anew_missed tells name g.met.N.FileNames.apart c.args.kind c.args.file c.ranges.file.fits old past c.requires.known c.requires.there c.requires.going c.args.at c.args.len c.requires.doubt {E = Error} c.in-Err.error
-    (λ told. subst (λ (p : FolderPast). IsMendedInPart (name c.args.kind c.args.file) c.args.at c.args.len p past) (c.to_write.ensures.same told)
-    (subst (λ (n : List ℕ). IsMendedInPart n c.args.at c.args.len before past) (named told) (c.in-Err.ensures.partial told))))
+    (λ told. subst (λ (p : FolderPast). MendsIn (name c.args.kind c.args.file) c.args.at c.args.len (bytes_of p (name c.args.kind c.args.file)) p past) (c.to_write.ensures.same told)
+    (subst (λ (n : List ℕ). MendsIn n c.args.at c.args.len (bytes_of before n) before past) (named told) (c.in-Err.ensures.partial told))))
 
 pub returns-in-Err-clause-open : goal.returns-in-Err-clause-open
 returns-in-Err-clause-open g c = λ told.

@@ -1,21 +1,20 @@
 -- The file was written to, or nothing was done.
-use Rattle.std.proofs.Common.{◌≡◌, ℕ, Ok, Err, IsTrue, false, List, length, sym, ◌∙◌, subst}
+use Rattle.std.proofs.Common.{◌≡◌, ℕ, Ok, Err, IsTrue, List, length, sym, ◌∙◌, subst}
+use Rattle.std.specs.Prelude.{⊤}
 use Rattle.std.specs.declared.io.Error.{Error}
-use Rattle.disk_model.specs.declared.kind.Kind.{Kind}
-use Rattle.folder_model.specs.Folder.{FolderPast, did_to}
+use Rattle.folder_model.specs.Folder.{FolderPast}
 use Rattle.folder_model.specs.Times.{goes_on}
 use Rattle.folder_model.specs.Timed.{times_of}
-use Rattle.folder_model.specs.Whole.{WritesWithin, IsWriting}
+use Rattle.folder_model.specs.Whole.{WritesWithin, IsWriting, Covers, OnTorn}
 use Rattle.folder_disk.specs.Calls.{WritesAt}
 use Rattle.folder_disk.specs.Held.{state_of}
 use Rattle.folder_disk.specs.OpenFiles.{AreOpen}
 use Rattle.folder_disk.specs.State.{State, next, trusted}
 use Rattle.folder_disk.specs.steps.OpenLaws.{open_named, others_same, writes_others, wrote_open, kept_after, none_open}
 use Rattle.folder_disk.specs.steps.StateLaws.{wrote, write_not_begun, at_error}
-use Rattle.folder_disk.specs.steps.SureLaws.{wrote_goes, part_goes}
+use Rattle.folder_disk.specs.steps.SureLaws.{whole_goes, part_goes}
 use Rattle.folder_disk.specs.Doubts.{AfterWhole, AfterPart, GoesOn}
 use Rattle.folder_disk.specs.declared.trust.Trust.{Trust}
-use Rattle.folder_model.specs.File.{Wrote}
 use Rattle.folder_disk.proofs.held.Held.write_at.Goals as goal
 
 pub returns-in_err-one-clause-writes : goal.returns-in_err-one-clause-writes
@@ -59,44 +58,39 @@ returns-in-Ok-clause-writes g c =
     let before : FolderPast = past_of c.to_write.new.self.timed.folder in
     let past : FolderPast = past_of c.write_whole.new.folder in
     let is = c.in_ok-one.ensures.this in
+    let len : ℕ = length c.args.bytes.now in
     let named : (told : IsTrue tells) → name_of c.in_ok-one.one.file ≡ name c.args.kind c.args.file =
     λ told. open_named name name_of c.args.kind c.args.file c.in_ok-one.one is.0 is.1 before (c.in_ok-one.ensures.open told) in
-    let within : IsTrue tells → WritesWithin (name c.args.kind c.args.file) c.args.at (length c.args.bytes.now) old.past past =
-    λ told. subst (λ (p : FolderPast). WritesWithin (name c.args.kind c.args.file) c.args.at (length c.args.bytes.now) p past) (c.to_write.ensures.same told)
-    (subst (λ (n : List ℕ). WritesWithin n c.args.at (length c.args.bytes.now) before past) (named told) (c.write_whole.ensures.partial told)) in
-    let trust : Trust = c.wrote.new.self.trust in
-    let w = c.wrote.ensures.rest in
+    let within : IsTrue tells → WritesWithin (name c.args.kind c.args.file) c.args.at len old.past past =
+    λ told. subst (λ (p : FolderPast). WritesWithin (name c.args.kind c.args.file) c.args.at len p past) (c.to_write.ensures.same told)
+    (subst (λ (n : List ℕ). WritesWithin n c.args.at len before past) (named told) (c.write_whole.ensures.partial told)) in
+    let trust : Trust = c.wrote.new.self in
     let times : times_of c.go_on.new.self ≡ goes_on old.times past = c.go_on.ensures.times ∙ (λ i. goes_on (times_of (rest i).timed) past) in
-    let went : state_of past_of c.wrote.new.self ≡ trusted trust (next old past) =
-    (λ i. record (state_of past_of (w i)) { trust = trust })
-    ∙ (λ i. record {
+    let went : record { past = past_of c.go_on.new.self.folder; warc = c.to_write.new.self.warc; cdxj = c.to_write.new.self.cdxj; trust = trust; times = times_of c.go_on.new.self }
+    ≡ trusted trust (next old past) =
+    λ i. record {
       past = past_of (c.go_on.ensures.folder i);
       warc = (rest i).warc;
       cdxj = (rest i).cdxj;
       trust = trust;
       times = times i;
-    }) in
-    let whole : IsTrue tells → IsTrue c.in-Ok.once → past ≡ did_to old.past (name c.args.kind c.args.file) (Wrote c.args.at c.args.bytes.now 0) =
-    λ told is_once. c.in-Ok.ensures.once told is_once ∙ (λ i. did_to (c.to_write.ensures.same told i) (named told i) (Wrote c.args.at c.args.bytes.now 0)) in
-    let on_whole : IsTrue c.in-Ok.once → GoesOn c.args.kind (AfterWhole c.args.file c.args.at (length c.args.bytes.now)) old.trust trust =
-    λ is_once. subst (λ (f : ℕ). GoesOn c.args.kind (AfterWhole f c.args.at (length c.args.bytes.now)) old.trust trust) is.1
-    (subst (λ (k : Kind). GoesOn k (AfterWhole c.in_ok-one.one.number c.args.at (length c.args.bytes.now)) old.trust trust) is.0
-    (subst (λ (t : Trust). GoesOn c.in_ok-one.one.kind (AfterWhole c.in_ok-one.one.number c.args.at (length c.args.bytes.now)) t trust) (λ i. (rest i).trust) (c.wrote.ensures.whole is_once))) in
-    let on_part : c.in-Ok.once ≡ false → GoesOn c.args.kind (AfterPart c.args.file c.args.at (length c.args.bytes.now)) old.trust trust =
-    λ not_once. subst (λ (f : ℕ). GoesOn c.args.kind (AfterPart f c.args.at (length c.args.bytes.now)) old.trust trust) is.1
-    (subst (λ (k : Kind). GoesOn k (AfterPart c.in_ok-one.one.number c.args.at (length c.args.bytes.now)) old.trust trust) is.0
-    (subst (λ (t : Trust). GoesOn c.in_ok-one.one.kind (AfterPart c.in_ok-one.one.number c.args.at (length c.args.bytes.now)) t trust) (λ i. (rest i).trust) (c.wrote.ensures.part not_once))) in
+    } in
+    let covers : IsTrue tells → Covers (name c.args.kind c.args.file) c.args.at len old.past past =
+    λ told. subst (λ (p : FolderPast). Covers (name c.args.kind c.args.file) c.args.at len p past) (c.to_write.ensures.same told)
+    (subst (λ (n : List ℕ). Covers n c.args.at len before past) (named told) ((c.in-Ok.ensures.written told).covers)) in
+    let on : GoesOn c.args.kind (AfterWhole c.args.file c.args.at len) old.trust trust =
+    subst (λ (t : Trust). GoesOn c.args.kind (AfterWhole c.args.file c.args.at len) t trust) (λ i. (rest i).trust) c.wrote.ensures in
     subst (λ (s : State). WritesAt {E = Error} tells name c.args.kind c.args.file c.args.at c.args.bytes.now old s (Ok tt)) (sym went)
     (wrote tells name g.met.N.FileNames.apart c.args.kind c.args.file c.args.at c.args.bytes.now old past trust
     (λ told. (c.requires.known told, c.requires.there told, within told))
-    (λ told. wrote_goes name g.met.N.FileNames.apart c.args.kind c.args.file c.ranges.file.fits old past trust (c.requires.known told) c.args.at c.args.bytes.now c.in-Ok.once
-    (c.requires.there told) (c.requires.in_range told) (within told) (whole told) on_whole on_part)
+    (λ told. whole_goes name g.met.N.FileNames.apart c.args.kind c.args.file c.ranges.file.fits old past trust (c.requires.known told) c.args.at len
+    (c.requires.there told) (c.requires.in_range told) (within told) (covers told) on)
     (Ok tt)
-    (λ told. subst (λ (p : FolderPast). IsWriting (name c.args.kind c.args.file) c.args.at c.args.bytes.now (length c.args.bytes.now) p past) (c.to_write.ensures.same told)
-    (subst (λ (n : List ℕ). IsWriting n c.args.at c.args.bytes.now (length c.args.bytes.now) before past) (named told) (c.in-Ok.ensures.written told))))
+    (λ told. subst (λ (p : FolderPast). IsWriting (name c.args.kind c.args.file) c.args.at c.args.bytes.now len p past) (c.to_write.ensures.same told)
+    (subst (λ (n : List ℕ). IsWriting n c.args.at c.args.bytes.now len before past) (named told) (c.in-Ok.ensures.written told))))
 
-pub returns-in-Err-clause-writes : goal.returns-in-Err-clause-writes
-returns-in-Err-clause-writes g c =
+pub returns-in-Err-Torn-clause-writes : goal.returns-in-Err-Torn-clause-writes
+returns-in-Err-Torn-clause-writes g c =
     let tells = g.F.Folder.tells in
     let name = g.N.FileNames.name in
     let name_of = g.F.Folder.name_of in
@@ -106,29 +100,73 @@ returns-in-Err-clause-writes g c =
     let before : FolderPast = past_of c.to_write.new.self.timed.folder in
     let past : FolderPast = past_of c.write_whole.new.folder in
     let is = c.in_ok-one.ensures.this in
+    let len : ℕ = length c.args.bytes.now in
     let named : (told : IsTrue tells) → name_of c.in_ok-one.one.file ≡ name c.args.kind c.args.file =
     λ told. open_named name name_of c.args.kind c.args.file c.in_ok-one.one is.0 is.1 before (c.in_ok-one.ensures.open told) in
-    let within : IsTrue tells → WritesWithin (name c.args.kind c.args.file) c.args.at (length c.args.bytes.now) old.past past =
-    λ told. subst (λ (p : FolderPast). WritesWithin (name c.args.kind c.args.file) c.args.at (length c.args.bytes.now) p past) (c.to_write.ensures.same told)
-    (subst (λ (n : List ℕ). WritesWithin n c.args.at (length c.args.bytes.now) before past) (named told) (c.write_whole.ensures.partial told)) in
-    let trust : Trust = c.wrote_part.new.self in
-    let times : times_of c.go_on-in-Err.new.self ≡ goes_on old.times past = c.go_on-in-Err.ensures.times ∙ (λ i. goes_on (times_of (rest i).timed) past) in
-    let went : record { past = past_of c.go_on-in-Err.new.self.folder; warc = c.to_write.new.self.warc; cdxj = c.to_write.new.self.cdxj; trust = trust; times = times_of c.go_on-in-Err.new.self }
+    let within : IsTrue tells → WritesWithin (name c.args.kind c.args.file) c.args.at len old.past past =
+    λ told. subst (λ (p : FolderPast). WritesWithin (name c.args.kind c.args.file) c.args.at len p past) (c.to_write.ensures.same told)
+    (subst (λ (n : List ℕ). WritesWithin n c.args.at len before past) (named told) (c.write_whole.ensures.partial told)) in
+    let trust : Trust = c.wrote-in-Err-Torn.new.self in
+    let times : times_of c.go_on-in-Err-Torn.new.self ≡ goes_on old.times past = c.go_on-in-Err-Torn.ensures.times ∙ (λ i. goes_on (times_of (rest i).timed) past) in
+    let went : record { past = past_of c.go_on-in-Err-Torn.new.self.folder; warc = c.to_write.new.self.warc; cdxj = c.to_write.new.self.cdxj; trust = trust; times = times_of c.go_on-in-Err-Torn.new.self }
     ≡ trusted trust (next old past) =
     λ i. record {
-      past = past_of (c.go_on-in-Err.ensures.folder i);
+      past = past_of (c.go_on-in-Err-Torn.ensures.folder i);
       warc = (rest i).warc;
       cdxj = (rest i).cdxj;
       trust = trust;
       times = times i;
     } in
-    let on : GoesOn c.args.kind (AfterPart c.args.file c.args.at (length c.args.bytes.now)) old.trust trust =
-    subst (λ (t : Trust). GoesOn c.args.kind (AfterPart c.args.file c.args.at (length c.args.bytes.now)) t trust) (λ i. (rest i).trust) c.wrote_part.ensures in
-    subst (λ (s : State). WritesAt {E = Error} tells name c.args.kind c.args.file c.args.at c.args.bytes.now old s (Err c.in-Err.error)) (sym went)
+    let covers : IsTrue tells → Covers (name c.args.kind c.args.file) c.args.at len old.past past =
+    λ told. subst (λ (p : FolderPast). Covers (name c.args.kind c.args.file) c.args.at len p past) (c.to_write.ensures.same told)
+    (subst (λ (n : List ℕ). Covers n c.args.at len before past) (named told)
+    (subst (λ fault. OnTorn {T = ⊤} (Err fault) (Covers (name_of c.in_ok-one.one.file) c.args.at len before past)) c.in-Err-Torn.field-0-is (c.in-Err-Torn.ensures.torn told))) in
+    let on : GoesOn c.args.kind (AfterWhole c.args.file c.args.at len) old.trust trust =
+    subst (λ (t : Trust). GoesOn c.args.kind (AfterWhole c.args.file c.args.at len) t trust) (λ i. (rest i).trust) c.wrote-in-Err-Torn.ensures in
+    subst (λ (s : State). WritesAt {E = Error} tells name c.args.kind c.args.file c.args.at c.args.bytes.now old s (Err c.in-Err-Torn.error)) (sym went)
     (wrote tells name g.met.N.FileNames.apart c.args.kind c.args.file c.args.at c.args.bytes.now old past trust
     (λ told. (c.requires.known told, c.requires.there told, within told))
-    (λ told. part_goes name g.met.N.FileNames.apart c.args.kind c.args.file c.ranges.file.fits old past trust (c.requires.known told) c.args.at (length c.args.bytes.now) (within told) on)
-    (Err c.in-Err.error) (λ told. tt))
+    (λ told. whole_goes name g.met.N.FileNames.apart c.args.kind c.args.file c.ranges.file.fits old past trust (c.requires.known told) c.args.at len
+    (c.requires.there told) (c.requires.in_range told) (within told) (covers told) on)
+    (Err c.in-Err-Torn.error)
+    (λ told. tt))
+
+pub returns-clause-writes : goal.returns-clause-writes
+returns-clause-writes g c =
+    let tells = g.F.Folder.tells in
+    let name = g.N.FileNames.name in
+    let name_of = g.F.Folder.name_of in
+    let past_of = g.F.Folder.past in
+    let old : State = state_of past_of c.args.self.now in
+    let rest = c.to_write.ensures.rest in
+    let before : FolderPast = past_of c.to_write.new.self.timed.folder in
+    let past : FolderPast = past_of c.write_whole.new.folder in
+    let is = c.in_ok-one.ensures.this in
+    let len : ℕ = length c.args.bytes.now in
+    let named : (told : IsTrue tells) → name_of c.in_ok-one.one.file ≡ name c.args.kind c.args.file =
+    λ told. open_named name name_of c.args.kind c.args.file c.in_ok-one.one is.0 is.1 before (c.in_ok-one.ensures.open told) in
+    let within : IsTrue tells → WritesWithin (name c.args.kind c.args.file) c.args.at len old.past past =
+    λ told. subst (λ (p : FolderPast). WritesWithin (name c.args.kind c.args.file) c.args.at len p past) (c.to_write.ensures.same told)
+    (subst (λ (n : List ℕ). WritesWithin n c.args.at len before past) (named told) (c.write_whole.ensures.partial told)) in
+    let trust : Trust = c.wrote_part.new.self in
+    let times : times_of c.go_on-in-Err-Stuck.new.self ≡ goes_on old.times past = c.go_on-in-Err-Stuck.ensures.times ∙ (λ i. goes_on (times_of (rest i).timed) past) in
+    let went : record { past = past_of c.go_on-in-Err-Stuck.new.self.folder; warc = c.to_write.new.self.warc; cdxj = c.to_write.new.self.cdxj; trust = trust; times = times_of c.go_on-in-Err-Stuck.new.self }
+    ≡ trusted trust (next old past) =
+    λ i. record {
+      past = past_of (c.go_on-in-Err-Stuck.ensures.folder i);
+      warc = (rest i).warc;
+      cdxj = (rest i).cdxj;
+      trust = trust;
+      times = times i;
+    } in
+    let on : GoesOn c.args.kind (AfterPart c.args.file c.args.at len) old.trust trust =
+    subst (λ (t : Trust). GoesOn c.args.kind (AfterPart c.args.file c.args.at len) t trust) (λ i. (rest i).trust) c.wrote_part.ensures in
+    subst (λ (s : State). WritesAt {E = Error} tells name c.args.kind c.args.file c.args.at c.args.bytes.now old s (Err c.in-Err-Stuck.error)) (sym went)
+    (wrote tells name g.met.N.FileNames.apart c.args.kind c.args.file c.args.at c.args.bytes.now old past trust
+    (λ told. (c.requires.known told, c.requires.there told, within told))
+    (λ told. part_goes name g.met.N.FileNames.apart c.args.kind c.args.file c.ranges.file.fits old past trust (c.requires.known told) c.args.at len (within told) on)
+    (Err c.in-Err-Stuck.error)
+    (λ told. tt))
 
 pub returns-in-Ok-clause-open : goal.returns-in-Ok-clause-open
 returns-in-Ok-clause-open g c = λ told.
@@ -137,7 +175,6 @@ returns-in-Ok-clause-open g c = λ told.
     let past_of = g.F.Folder.past in
     let before : FolderPast = past_of c.to_write.new.self.timed.folder in
     let past : FolderPast = past_of c.write_whole.new.folder in
-    let w = c.wrote.ensures.rest in
     let is = c.in_ok-one.ensures.this in
     let named : name_of c.in_ok-one.one.file ≡ name c.args.kind c.args.file =
     open_named name name_of c.args.kind c.args.file c.in_ok-one.one is.0 is.1 before (c.in_ok-one.ensures.open told) in
@@ -147,10 +184,13 @@ returns-in-Ok-clause-open g c = λ told.
     (writes_others (name c.args.kind c.args.file) c.args.at (length c.args.bytes.now) before past writing.within) c.to_write.ensures.apart (c.to_write.ensures.others told) in
     let one = wrote_open name name_of c.args.kind c.args.file c.in_ok-one.one is.0 is.1 c.args.at c.in_ok-end.end c.args.bytes.now before past c.ranges.file.fits
     (c.in_ok-one.ensures.open told) writing c.in_ok-end.ensures.inside c.in_ok-end.ensures.end in
-    subst (λ (p : FolderPast). AreOpen name name_of p c.keep.new.self) ((λ i. past_of (sym c.go_on.ensures.folder i)) ∙ (λ i. past_of (sym w i).timed.folder))
-    (kept_after name name_of past c.wrote.new.self.files c.keep.new.self _ c.keep.ensures
-    (subst (λ fs. AreOpen name name_of past fs) (λ i. (sym w i).files) others) one)
+    subst (λ (p : FolderPast). AreOpen name name_of p c.keep.new.self) (λ i. past_of (sym c.go_on.ensures.folder i))
+    (kept_after name name_of past c.to_write.new.self.files c.keep.new.self _ c.keep.ensures others one)
 
-pub returns-in-Err-clause-open : goal.returns-in-Err-clause-open
-returns-in-Err-clause-open g c = λ told.
-    none_open g.N.FileNames.name g.F.Folder.name_of (g.F.Folder.past c.go_on-in-Err.new.self.folder) c.close.new.self c.close.ensures.written c.close.ensures.read
+pub returns-in-Err-Torn-clause-open : goal.returns-in-Err-Torn-clause-open
+returns-in-Err-Torn-clause-open g c = λ told.
+    none_open g.N.FileNames.name g.F.Folder.name_of (g.F.Folder.past c.go_on-in-Err-Torn.new.self.folder) c.close.new.self c.close.ensures.written c.close.ensures.read
+
+pub returns-clause-open : goal.returns-clause-open
+returns-clause-open g c = λ told.
+    none_open g.N.FileNames.name g.F.Folder.name_of (g.F.Folder.past c.go_on-in-Err-Stuck.new.self.folder) c.close-in-Err-Stuck.new.self c.close-in-Err-Stuck.ensures.written c.close-in-Err-Stuck.ensures.read
