@@ -1,5 +1,5 @@
 -- A vault is closed with all its passes.
-use Rattle.std.proofs.Common.{◌≡◌, ℕ, zero, suc, ◌+◌, ◌<◌, Bool, List, [], ◌∷◌, ◌++◌, length, map, slice_get, Option, None, Some, IfSome, refl, sym, ap, subst, ◌∙◌, arith}
+use Rattle.std.proofs.Common.{◌≡◌, ℕ, zero, suc, ◌+◌, ◌<◌, Bool, List, [], ◌∷◌, ◌++◌, length, map, slice_get, IsTrue, Option, None, Some, IfSome, refl, sym, ap, subst, ◌∙◌, arith}
 use Rattle.std.specs.List as list
 use Rattle.capture.specs.Faults.{RoseBy}
 use Rattle.capture.specs.declared.book.Book.{Book}
@@ -7,13 +7,13 @@ use Rattle.capture.specs.declared.limits.Limits.{Limits}
 use Rattle.history_lock.specs.Known.{Known}
 use Rattle.history_lock.specs.Seen.{Shows}
 use Rattle.vault.specs.Company.{Passing}
-use Rattle.vault.specs.History.{by_of, given_faults, is_told, told_limits}
+use Rattle.vault.specs.History.{by_of, given_faults, is_calm, is_told, told_limits}
 use Rattle.vault.specs.Members.{AreMembers, IsMember, IsMemberAt, VaultName}
 use Rattle.vault.specs.Own.{faults_since}
 use Rattle.vault.specs.Passes.{IsLeft}
 use Rattle.vault.specs.Sharing.{HasPart, IsLeftByAll, IsSharedOut, IsShownIn}
 use Rattle.vault.specs.declared.noted.Noted.{Noted}
-use Rattle.vault.proofs.HistoryLaws.{given_stays, limits_append, told_stays}
+use Rattle.vault.proofs.HistoryLaws.{calm_stays, given_stays, limits_append, told_stays}
 use Rattle.vault.proofs.MemberLaws.{member_begun}
 use Rattle.vault.proofs.PassLaws.{all_of}
 use Rattle.vault.proofs.SeatLaws.{all_at, first_of}
@@ -98,19 +98,23 @@ module _ (vault : VaultName) (history : List Noted) (p : Passing) (member : IsMe
   faults_given : given_faults history ≡ vault.faults
   faults_given = ap given_faults shows.is_seen_and_more ∙ (given_stays p.known.seen shows.more (member_begun vault p.known member) ∙ member.given)
 
+  calm_given : is_calm history ≡ vault.calm
+  calm_given = ap is_calm shows.is_seen_and_more ∙ (calm_stays p.known.seen shows.more (member_begun vault p.known member) ∙ member.calm)
+
 first_if : (vault : VaultName) (passes : List Passing) → 0 < length passes → list.All (λ (p : Passing). IsMember vault p.known) passes → (history : List Noted)
     → list.All (IsShownIn history) passes → (told_limits history ≡ vault.limits) × (is_told history ≡ vault.tells) × (given_faults history ≡ vault.faults)
+    × (is_calm history ≡ vault.calm)
 first_if vault [] some members history shown = absurd (omega (arith, some))
 first_if vault (p ∷ passes) some members history shown =
     let member : IsMember vault p.known = first_of (λ (q : Passing). IsMember vault q.known) p passes (p ∷ passes) refl members in
     let shows : IsShownIn history p = first_of (IsShownIn history) p passes (p ∷ passes) refl shown in
-    (limits_given vault history p member shows, told_given vault history p member shows, faults_given vault history p member shows)
+    (limits_given vault history p member shows, told_given vault history p member shows, faults_given vault history p member shows, calm_given vault history p member shows)
 
 pub closed_by_all : (vault : VaultName) (passes : List Passing) → AreMembers vault passes → 0 < vault.passes → (all : Passing)
     → ((history : List Noted) → IsShownIn history all → list.All (IsShownIn history) passes)
-    → (book : Book) (limits : Limits) (told : Bool) (faults : ℕ) → IsLeft all.known book limits told faults
-    → IsLeftByAll vault (map (λ (p : Passing). p.known) passes) book limits told faults
-closed_by_all vault passes are some all shown book limits told faults left =
+    → (book : Book) (limits : Limits) (told : Bool) (faults : ℕ) (Calm : Type 0) → IsLeft all.known book limits told faults Calm
+    → IsLeftByAll vault (map (λ (p : Passing). p.known) passes) book limits told faults Calm
+closed_by_all vault passes are some all shown book limits told faults Calm left =
     let shows = shown left.history left.shows in
     let count = are.count in
     let given = first_if vault passes (omega (arith, some, count)) (all_members vault passes are) left.history shows in
@@ -123,4 +127,5 @@ closed_by_all vault passes are some all shown book limits told faults left =
       told_is = left.told_is ∙ given.1;
       counted = subst (λ (n : ℕ). RoseBy n vault.faults faults) share.faults
           (subst (λ (n : ℕ). RoseBy (faults_since left.history) n faults) given.2 left.counted);
+      calm = λ t none. left.calm (subst (λ (b : Bool). IsTrue b) (sym given.3) t) (share.faults ∙ none);
     }

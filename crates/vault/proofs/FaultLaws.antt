@@ -24,7 +24,7 @@ pub count_append : (xs ys : List Noted) → count_faults (xs ++ ys) ≡ count_fa
 count_append [] ys = omega arith
 count_append (x ∷ xs) ys = let later = count_append xs ys in omega (arith, later)
 
-since_append : (xs ys : List Noted) → IsBegun xs → faults_since (xs ++ ys) ≡ faults_since xs + count_faults ys
+pub since_append : (xs ys : List Noted) → IsBegun xs → faults_since (xs ++ ys) ≡ faults_since xs + count_faults ys
 since_append [] ys begun = absurd begun
 since_append (x ∷ xs) ys begun = count_append xs ys
 
@@ -64,11 +64,11 @@ none_begun by at false more = refl
 
 pub none_stored : (taken : Taken) (same : Option ℕ) (kind : Kind) → IsStoring taken same kind → fault_by kind ≡ 0
 none_stored taken same (Stored kept as_same) storing = refl
-none_stored taken same (Opened held limits told list faults) storing = absurd storing
+none_stored taken same (Opened held limits told list faults calm) storing = absurd storing
 none_stored taken same (Began at) storing = absurd storing
 none_stored taken same Failed storing = absurd storing
 
-count_noted : (by : ℕ) (taken : Taken) (began : Bool) (result : Result Receipt StoreFault) (added : List Noted) → Notes by taken began result added
+pub count_noted : (by : ℕ) (taken : Taken) (began : Bool) (result : Result Receipt StoreFault) (added : List Noted) → Notes by taken began result added
     → count_faults added ≡ one_if (is_store_fault result)
 count_noted by taken began (Ok receipt) added notes =
     let none = none_stored taken receipt.same_as notes.0.kind notes.2.1 in

@@ -2,6 +2,7 @@ pub mod AnswerLaws
 pub mod HistoryLaws
 pub mod FaultLaws
 pub mod NotingLaws
+pub mod CalmLaws
 pub mod CommitLaws
 pub mod ReadLaws
 pub mod StoreLaws

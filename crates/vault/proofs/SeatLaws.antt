@@ -11,7 +11,7 @@ use Rattle.history_lock.specs.Known.{Known, LockId, newcomer}
 use Rattle.index_snapshot.specs.Edges.{Edge}
 use Rattle.index_snapshot.specs.Publishing.{Print, full_of}
 use Rattle.vault.specs.Company.{Passing}
-use Rattle.vault.specs.History.{IsOpening, given_faults, is_told}
+use Rattle.vault.specs.History.{IsOpening, given_faults, is_calm, is_told}
 use Rattle.vault.specs.Items.{AreItems, last_book, shown_in, tells_in}
 use Rattle.vault.specs.Listing.{IsListed}
 use Rattle.vault.specs.Passes.{IsNew}
@@ -50,11 +50,11 @@ listed_of lock passes number history note whole None listed is = tt
 listed_of lock passes number history note whole (Some p) listed is =
     subst (λ (l : List Noted). IsListed l note whole) (sym (ap (λ (k : Known Noted). k.seen) is)) listed
 
-module _ (keeps : GrowthKeepsCaptures) (tells : Bool) (faults : ℕ) (lock : LockId) (passes number : ℕ) (book : Book) (limits : Limits) (history : List Noted)
+module _ (keeps : GrowthKeepsCaptures) (tells calm : Bool) (faults : ℕ) (lock : LockId) (passes number : ℕ) (book : Book) (limits : Limits) (history : List Noted)
     (print : Print Item) (note : Edge Item) (note_is : note ≡ full_of print) (opens : IsOpening book limits history) (told : is_told history ≡ tells)
-    (given : given_faults history ≡ faults)
+    (given : given_faults history ≡ faults) (calm_is : is_calm history ≡ calm)
     (fits : AreItems print.full) (list_told : tells_in print.full ≡ tells) (last : last_book print.full ≡ book) where
-  new_pass : (p : Passing) → p.known ≡ newcomer lock passes number history → p.shown ≡ note → IsNew tells faults lock passes number book limits p
+  new_pass : (p : Passing) → p.known ≡ newcomer lock passes number history → p.shown ≡ note → IsNew tells calm faults lock passes number book limits p
   new_pass p is shown =
       let seen : p.known.seen ≡ history = ap (λ (k : Known Noted). k.seen) is in
       record {
@@ -64,6 +64,7 @@ module _ (keeps : GrowthKeepsCaptures) (tells : Bool) (faults : ℕ) (lock : Loc
         };
         told = ap is_told seen ∙ told;
         given = ap given_faults seen ∙ given;
+        calm_is = ap is_calm seen ∙ calm_is;
         shows = λ t.
             let items : p.shown.items ≡ print.full = ap (λ (e : Edge Item). e.items) (shown ∙ note_is) in
             subst (λ (l : List Item). AreEntries book (shown_in l)) (sym items)
@@ -72,9 +73,9 @@ module _ (keeps : GrowthKeepsCaptures) (tells : Bool) (faults : ℕ) (lock : Loc
       }
 
   pub new_passes : (room : List Passing) (made : List (Known Noted)) (k : ℕ) → map (λ (p : Passing). p.known) room ≡ made → All (λ (p : Passing). p.shown ≡ note) room
-      → IfSome (slice_get made k) (λ p. p ≡ newcomer lock passes number history) → IfSome (slice_get room k) (λ p. IsNew tells faults lock passes number book limits p)
+      → IfSome (slice_get made k) (λ p. p ≡ newcomer lock passes number history) → IfSome (slice_get room k) (λ p. IsNew tells calm faults lock passes number book limits p)
   new_passes room made k known shown is =
-      both_some (λ (p : Passing). p.known ≡ newcomer lock passes number history) (λ (p : Passing). p.shown ≡ note) (λ (p : Passing). IsNew tells faults lock passes number book limits p)
+      both_some (λ (p : Passing). p.known ≡ newcomer lock passes number history) (λ (p : Passing). p.shown ≡ note) (λ (p : Passing). IsNew tells calm faults lock passes number book limits p)
       new_pass (slice_get room k)
       (at_map (λ (p : Passing). p.known) (λ (q : Known Noted). q ≡ newcomer lock passes number history) room k
       (subst (λ (l : List (Known Noted)). IfSome (slice_get l k) (λ p. p ≡ newcomer lock passes number history)) (sym known) is))

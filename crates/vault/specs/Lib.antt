@@ -4,6 +4,7 @@ pub mod History
 pub mod Turns
 pub mod FirstTurns
 pub mod Noting
+pub mod Calm
 pub mod Guarded
 pub mod Passes
 pub mod Own

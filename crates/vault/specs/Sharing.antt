@@ -1,5 +1,5 @@
 -- How the passes of a vault share out what its last history tells.
-use Rattle.std.specs.Prelude.{◌≡◌, ℕ, ◌+◌, ◌≤◌, Bool, List, [], ◌∷◌, ◌++◌, length, slice_get, IfSome, sum_by, flat_map, IsPermutation}
+use Rattle.std.specs.Prelude.{◌≡◌, ℕ, ◌+◌, ◌≤◌, Bool, IsTrue, List, [], ◌∷◌, ◌++◌, length, slice_get, IfSome, sum_by, flat_map, IsPermutation}
 use Rattle.std.specs.List.{range_with_len}
 use Rattle.std.specs.List.Sorted.{IsStrictlyIncreasing}
 use Rattle.capture.specs.Captures.{captures}
@@ -59,14 +59,16 @@ abbrev pub IsShownIn : List Noted → Passing → Type 0
 IsShownIn history pass = Shows by_of pass.known.passes pass.known.numbers pass.known.seen history
 
 -- What is left when a vault is closed with all its passes: the book of a history that is shared out among them; the limits, and whether
--- the book is told, as of the archive that was given; and a disk whose count of faults has risen by those that the passes met.
-pub record IsLeftByAll (vault : VaultName) (passes : List (Known Noted)) (book : Book) (limits : Limits) (told : Bool) (faults : ℕ) : Type 0 where
+-- the book is told, as of the archive that was given; a disk whose count of faults has risen by those that the passes met; and,
+-- where they met none, an archive that is calm if it was so when it was given.
+pub record IsLeftByAll (vault : VaultName) (passes : List (Known Noted)) (book : Book) (limits : Limits) (told : Bool) (faults : ℕ) (Calm : Type 0) : Type 0 where
   pub history : List Noted
   pub shared : IsSharedOut vault.book passes history
   pub book_is : book ≡ told_book history
   pub limits_are : limits ≡ vault.limits
   pub told_is : told ≡ vault.tells
   pub counted : RoseBy (sum_by (λ pass. own_faults pass.numbers pass.seen) passes) vault.faults faults
+  pub calm : IsTrue vault.calm → sum_by (λ pass. own_faults pass.numbers pass.seen) passes ≡ 0 → Calm
 
 -- ---- histories that were shown one after the other
 

@@ -1,12 +1,14 @@
 //! Vaults by their names.
-ghost use Rattle.std.specs.Prelude.{◌≡◌, ◌<◌, ◌≤◌, IfErr, IfOk};
+ghost use Rattle.std.specs.Prelude.{◌≡◌, ◌<◌, ◌≤◌, IfErr, IfOk, IsTrue};
 ghost use Rattle.warc_journal.specs.Journals.{disk_of};
+ghost use Rattle.vault.specs.Calm.{IsCalm};
 ghost use Rattle.vault.specs.Members.{AreNewMembers};
 
 use crate::pass::VaultPass;
 use crate::vault::Vault;
 use archive_core::Archive;
 use disk_model::Disk;
+use shown::Shown;
 use std::alloc::Global;
 use std::marker::{Brand, Model};
 use std::sync::Wait;
@@ -41,20 +43,23 @@ impl<D: Disk> Model for Unnamed<D> {
 }
 
 impl<D: Disk> Unnamed<D> {
-    /// A vault round an archive, and so many passes. At `Err` there was no memory, and the archive comes back as it was. May wait.
+    /// A vault round an archive, and so many passes; `calm` is as `Vault::new` takes it. At `Err` there was no memory, and the archive comes back as it was. May wait.
     pub fn new<R: Wait>(
         alloc: Global,
         rt: &R,
         archive: Archive<D>,
         passes: u32,
+        calm: Shown<bool>,
     ) -> Result<Unnamed<D>, Archive<D>>
-        requires { (0 < passes) × (passes ≤ 17) }
+        requires passes { (0 < passes) × (passes ≤ 17) }
+        requires calm { IsTrue calm.value → IsCalm D.Disk archive }
         ensures passes { IfOk result (λ u. u.passes ≡ passes) }
         ensures archive { IfOk result (λ u. (u.book ≡ archive.book) × (u.limits ≡ archive.limits) × (u.tells ≡ archive.told) × (u.faults ≡ D.faults (disk_of archive.journal))) }
+        ensures calm { IfOk result (λ u. u.calm ≡ calm.value) }
         ensures err { IfErr result (λ back. back ≡ archive) }
     {
         archive.shows_its_book();
-        match Vault::new(alloc, rt, archive, passes) {
+        match Vault::new(alloc, rt, archive, passes, calm) {
             Ok((vault, passes)) => Ok(Unnamed { vault, passes }),
             Err(archive) => Err(archive),
         }

@@ -10,8 +10,8 @@ use std::snapshot::Snapshot;
 #[derive(Drop)]
 pub enum Kind {
     /// The archive was given to the vault, with this book and these limits; whether its disk tells what it holds; the list that is
-    /// published; and how many faults the disk had counted. It is the first entry.
-    Opened(Snapshot<Held>, Limits, Shown<bool>, Snapshot<Note<Item>>, u64),
+    /// published; how many faults the disk had counted; and whether a crash might have left that book alone. It is the first entry.
+    Opened(Snapshot<Held>, Limits, Shown<bool>, Snapshot<Note<Item>>, u64, Shown<bool>),
     /// A volume was begun, at this time in milliseconds since 1970.
     Began(u64),
     /// A capture was stored, which refers to the one with this number, if to any.

@@ -1,5 +1,5 @@
 //! What lies behind a vault's lock.
-ghost use Rattle.std.specs.Prelude.{◌≡◌, ◌<◌, ◌≤◌, true, false, length, IfErr, IfOk, OnOk};
+ghost use Rattle.std.specs.Prelude.{◌≡◌, ◌<◌, ◌≤◌, true, false, length, IfErr, IfOk, IsTrue, OnOk};
 ghost use Rattle.std.specs.List.{All};
 ghost use Rattle.sha1.specs.Sha1.{sha1};
 ghost use Rattle.warc_journal.specs.Journals.{disk_of};
@@ -8,8 +8,9 @@ ghost use Rattle.archive_core.specs.Looking.{IsDigestOf, IsRightOf};
 ghost use Rattle.history_lock.specs.Seen.{Adds};
 ghost use Rattle.index_snapshot.specs.Entries.{entries_in};
 ghost use Rattle.index_snapshot.specs.Publishing.{edge_of, full_of};
+ghost use Rattle.vault.specs.Calm.{IsCalm, StaysCalm};
 ghost use Rattle.vault.specs.Guarded.{AreShown, Stands};
-ghost use Rattle.vault.specs.History.{IsOpening, by_of, given_faults, is_told, told_in};
+ghost use Rattle.vault.specs.History.{IsOpening, by_of, given_faults, is_calm, is_told, told_in};
 ghost use Rattle.vault.specs.Items.{AreItems, brings_of, last_book, tells_in};
 ghost use Rattle.vault.specs.Listing.{IsListed};
 ghost use Rattle.vault.specs.Own.{AreCounted};
@@ -26,6 +27,7 @@ use capture::{Brought, Bytes, Digest, Memory, Taken, growth_keeps_captures};
 use disk_model::Disk;
 use history_lock::Told;
 use index_snapshot::{Publisher, Viewer, published};
+use shown::Shown;
 use std::alloc::Global;
 use std::marker::Model;
 use std::sync::Wait;
@@ -91,11 +93,14 @@ impl<D: Disk> Published<D> {
         rt: &R,
         archive: Archive<D>,
         readers: u32,
+        calm: Shown<bool>,
     ) -> Result<(Published<D>, Vec<Viewer<Item, Books>>), Archive<D>>
         requires readers { (0 < readers) × (readers ≤ 17) }
+        requires calm { IsTrue calm.value → IsCalm D.Disk archive }
         ensures opens { IfOk result (λ r. IsOpening archive.book archive.limits r.0.kept.history) }
         ensures told { IfOk result (λ r. is_told r.0.kept.history ≡ archive.told) }
         ensures given { IfOk result (λ r. given_faults r.0.kept.history ≡ D.faults (disk_of archive.journal)) }
+        ensures calm { IfOk result (λ r. is_calm r.0.kept.history ≡ calm.value) }
         ensures book { IfOk result (λ r. (r.0.whole ≡ true) × (last_book r.0.print.full ≡ archive.book)) }
         ensures fits { IfOk result (λ r. AreItems r.0.print.full × (r.0.print.published ≡ r.0.print.full) × (tells_in r.0.print.full ≡ archive.told)) }
         ensures viewers { IfOk result (λ r. (length r.1.items ≡ readers) × All (λ v. v ≡ edge_of r.0.print) r.1.items) }
@@ -109,7 +114,7 @@ impl<D: Disk> Published<D> {
         growth_keeps_captures();
         let appended = archive.counts().captures;
         let list = publisher.note();
-        match Keeping::begin(alloc, archive, &list) {
+        match Keeping::begin(alloc, archive, &list, calm) {
             Ok(keeping) => Ok((
                 Published {
                     keeping,
@@ -263,6 +268,7 @@ impl<D: Disk> Published<D> {
         ensures archive { result ≡ self.kept.holdings }
         ensures stands { Stands self.kept.history result }
         ensures counted { AreCounted self.kept.history (D.faults (disk_of result.journal)) }
+        ensures calm { StaysCalm D.Disk self.kept.history result }
     {
         let Published {
             keeping,

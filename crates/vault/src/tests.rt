@@ -1,7 +1,7 @@
 //! Passes beside each other, in two threads and as shelves. No case can say it: a case has one thread.
 mod fitting;
 
-ghost use Rattle.std.specs.Prelude.{◌≡◌};
+ghost use Rattle.std.specs.Prelude.{◌≡◌, false};
 ghost use Rattle.std.specs.List.{All};
 ghost use Rattle.warc_text.specs.Fits.{Fits};
 ghost use Rattle.vault.specs.Members.{IsMember};
@@ -15,6 +15,7 @@ use archive_shelf::{Depth, Finder, Receipt, Shelf, StoreFault};
 use capture::{Limits, Taken};
 use disk_model::{Disk, MemoryDisk};
 use fitting::fitting;
+use shown::Shown;
 use std::alloc::Global;
 use std::marker::Brand;
 use std::process::Abort;
@@ -28,6 +29,13 @@ const FIRST: &[u8] = b"http://a.test/1";
 const SECOND: &[u8] = b"http://a.test/2";
 
 const HEAD: &[u8] = b"HTTP/1.1 204 No Content\r\n\r\n";
+
+// It isn't said what a crash may leave of the archive.
+fn not_said<R>(rt: &R) -> Shown<bool>
+    ensures { result.value ≡ false }
+{
+    Shown::told_by(rt)
+}
 
 // The vault and its passes.
 fn begun<J: Naming, D: Disk>(unnamed: Unnamed<D>) -> (Vault<D>, Vec<VaultPass>)
@@ -124,7 +132,7 @@ fn two_passes_store_in_two_threads(rt: HostRuntime) -> Result<(), Fail> {
 
 fn both_stored<R: Threads + Wait + Abort + Sync>(rt: &R, alloc: Global) {
     let (one, other) = both_captures(rt, alloc);
-    let Ok(unnamed) = Unnamed::new(alloc, rt, opened(rt, alloc), 3) else {
+    let Ok(unnamed) = Unnamed::new(alloc, rt, opened(rt, alloc), 3, not_said(rt)) else {
         panic!(rt; "no memory")
     };
     stored_in_threads::<Brand, R, MemoryDisk>(rt, alloc, unnamed, &one, &other);
@@ -161,7 +169,7 @@ fn shelves_find_and_bring_what_others_stored(rt: HostRuntime) -> Result<(), Fail
 
 fn both_shelved<R: Wait + Abort>(rt: &R, alloc: Global) {
     let (one, other) = both_captures(rt, alloc);
-    let Ok(unnamed) = Unnamed::new(alloc, rt, opened(rt, alloc), 2) else {
+    let Ok(unnamed) = Unnamed::new(alloc, rt, opened(rt, alloc), 2, not_said(rt)) else {
         panic!(rt; "no memory")
     };
     stored_by_shelves::<Brand, R, MemoryDisk>(rt, alloc, unnamed, &one, &other);

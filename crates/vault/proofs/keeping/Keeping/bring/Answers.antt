@@ -2,25 +2,43 @@
 use Rattle.std.proofs.Common.{List, ap, subst, sym}
 use Rattle.std.specs.Prelude.{Contains}
 use Rattle.cdxj_index.specs.Facts.{Facts}
+use Rattle.archive_shelf.specs.Answers.{is_bring_fault}
 use Rattle.archive_shelf.specs.Contents.{Contents}
 use Rattle.archive_core.specs.Shown.{numbered}
+use Rattle.archive_volumes.proofs.ChangeLaws.{DiskLaws}
 use Rattle.history_lock.specs.Seen.{Adds}
 use Rattle.vault.specs.Guarded.{Guarded, KeepsShown}
 use Rattle.vault.specs.History.{by_of, is_told}
+use Rattle.vault.specs.Noting.{failing}
 use Rattle.vault.specs.Turns.{BringsIt}
+use Rattle.vault.proofs.CalmLaws.{read_calm, roomy}
 use Rattle.vault.proofs.NotingLaws.{joined_by, values}
 use Rattle.vault.proofs.ReadLaws.{all_brought}
+use Rattle.vault.proofs.keeping.Keeping.bring.Given.{Over}
 use Rattle.vault.proofs.keeping.Keeping.bring.Goals as goal
+
+disk_laws : (g : Over) → DiskLaws g.D.Disk
+disk_laws g = record { earlier = g.met.D.Disk.earlier; now_counts = g.met.D.Disk.now_counts; now_only = g.met.D.Disk.now_only }
+
+pub invariant_of-self : goal.invariant_of-self
+invariant_of-self g c = roomy g.D.Disk c.self.inside.archive c.self.inside.history.items c.reserve.new.self.items c.reserve.ensures.items c.self.invariant
 
 pub invariant_of-self-2 : goal.invariant_of-self-2
 invariant_of-self-2 g c =
-    (all_brought g.D.Disk c.args.by (values c.self.inside.history.items) c.self.inside.archive c.bring-answer.new.self c.self.invariant.0 c.self.invariant.1
+    let joined = joined_by c.self.inside.history.items c.reserve.new.self.items c.note_fault.new.history.items c.args.by c.is_disk_fault.result (is_bring_fault c.bring-answer.result)
+    c.reserve.ensures.items c.is_disk_fault.ensures c.note_fault.ensures in
+    let both = (all_brought g.D.Disk c.args.by (values c.self.inside.history.items) c.self.inside.archive c.bring-answer.new.self c.self.invariant.0 c.self.invariant.1
     c.bring-answer.ensures.reads.stays.seen (ap (λ (now : Contents). now.limits) c.bring-answer.ensures.reads.stays.others)
     (ap (λ (now : Contents). now.tells) c.bring-answer.ensures.reads.stays.others) c.args.number (values c.note_fault.new.history.items) c.bring-answer.result
-    (joined_by c.self.inside.history.items c.reserve.new.self.items c.note_fault.new.history.items c.args.by c.is_disk_fault.result _
-    c.reserve.ensures.items c.is_disk_fault.ensures c.note_fault.ensures)
+    joined
     c.bring-answer.ensures.reads.faults c.bring-answer.ensures.brings c.bring-answer.ensures.names
-    c.bring-answer.ensures.digests c.bring-answer.ensures.shows.consistent.sound).0
+    c.bring-answer.ensures.digests c.bring-answer.ensures.shows.consistent.sound).0 in (
+      both.0,
+      both.1,
+      read_calm g.D.Disk (disk_laws g) (values c.self.inside.history.items) (failing c.args.by (is_bring_fault c.bring-answer.result)) (values c.note_fault.new.history.items)
+          c.self.inside.archive c.bring-answer.new.self c.self.invariant.0.begun joined c.self.invariant.2
+          c.bring-answer.ensures.reads.stays.seen c.bring-answer.ensures.reads.unwritten.crash,
+    )
 
 pub returns-clause-adds : goal.returns-clause-adds
 returns-clause-adds g c =

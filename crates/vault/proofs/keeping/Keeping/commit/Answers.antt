@@ -4,6 +4,7 @@ use Rattle.std.specs.Prelude.{Contains}
 use Rattle.std.proofs.lemmas.List.Elements.{Contains-append_left}
 use Rattle.capture.specs.declared.book.Book.{Book}
 use Rattle.archive_shelf.specs.Comparing.{IsRight}
+use Rattle.archive_volumes.proofs.ChangeLaws.{DiskLaws}
 use Rattle.history_lock.specs.Seen.{Adds}
 use Rattle.archive_core.specs.Shown.{numbered}
 use Rattle.archive_core.specs.Told.{told_of}
@@ -14,9 +15,14 @@ use Rattle.vault.specs.History.{by_of, is_told, told_book}
 use Rattle.vault.specs.Noting.{Notes}
 use Rattle.vault.specs.Turns.{Commits}
 use Rattle.vault.specs.declared.noted.Noted.{Noted}
+use Rattle.vault.proofs.CalmLaws.{roomy, store_calm}
 use Rattle.vault.proofs.CommitLaws.{all_committed}
 use Rattle.vault.proofs.NotingLaws.{noting_from, values}
+use Rattle.vault.proofs.keeping.Keeping.commit.Given.{Over}
 use Rattle.vault.proofs.keeping.Keeping.commit.Goals as goal
+
+disk_laws : (g : Over) → DiskLaws g.D.Disk
+disk_laws g = record { earlier = g.met.D.Disk.earlier; now_counts = g.met.D.Disk.now_counts; now_only = g.met.D.Disk.now_only }
 
 pub stored-answer-requires-clause-right : goal.stored-answer-requires-clause-right
 stored-answer-requires-clause-right g c = λ payload has.
@@ -25,14 +31,26 @@ stored-answer-requires-clause-right g c = λ payload has.
     (subst (λ (kept : Guarded _). IsRight (is_told kept.history) (told_book kept.history) payload c.args.looked) (sym c.self.view_is)
     (c.requires.right payload has)))
 
+pub invariant_of-self : goal.invariant_of-self
+invariant_of-self g c = roomy g.D.Disk c.self.inside.archive c.self.inside.history.items c.reserve.new.self.items c.reserve.ensures.items c.self.invariant
+
 pub invariant_of-self-2 : goal.invariant_of-self-2
 invariant_of-self-2 g c =
-    (all_committed g.D.Disk c.args.by c.args.taken.now (values c.self.inside.history.items) (values c.note_store.new.history.items)
-    c.self.inside.archive c.stored-answer.new.archive c.stored-answer.result.0 c.stored-answer.result.1 c.self.invariant.0 c.self.invariant.1
-    c.stored-answer.ensures.stores c.stored-answer.ensures.began c.stored-answer.ensures.shows.consistent.sound
-    (noting_from c.self.inside.history.items c.reserve.new.self.items (values c.note_store.new.history.items)
+    let store = c.stored-answer.ensures.stores in
+    let noting = noting_from c.self.inside.history.items c.reserve.new.self.items (values c.note_store.new.history.items)
     (λ (added : List Noted). Notes c.args.by c.args.taken.now c.stored-answer.result.1 c.stored-answer.result.0 added)
-    c.reserve.ensures.items c.note_store.ensures)).0
+    c.reserve.ensures.items c.note_store.ensures in
+    let grows = (stored_goes_on true c.args.taken.now (told_of g.D.Disk c.self.inside.archive) (told_of g.D.Disk c.stored-answer.new.archive) c.stored-answer.result.0
+    c.stored-answer.ensures.shows.consistent store.told).grows in
+    let both = (all_committed g.D.Disk c.args.by c.args.taken.now (values c.self.inside.history.items) (values c.note_store.new.history.items)
+    c.self.inside.archive c.stored-answer.new.archive c.stored-answer.result.0 c.stored-answer.result.1 c.self.invariant.0 c.self.invariant.1
+    store c.stored-answer.ensures.began c.stored-answer.ensures.shows.consistent.sound noting).0 in (
+      both.0,
+      both.1,
+      store_calm g.D.Disk (disk_laws g) (values c.self.inside.history.items) noting.added (values c.note_store.new.history.items) c.self.inside.archive
+          c.stored-answer.new.archive c.self.invariant.0.begun noting.joined c.self.invariant.2 c.args.by c.args.taken.now c.stored-answer.result.1 grows
+          c.stored-answer.result.0 noting.done store,
+    )
 
 pub returns-clause-adds : goal.returns-clause-adds
 returns-clause-adds g c =
