@@ -1,0 +1,126 @@
+//! A vault compares before its committing turn. No clause says so: one that compares within it would hold up all other passes meanwhile.
+ghost use Rattle.std.specs.Prelude.{◌≡◌};
+ghost use Rattle.warc_text.specs.Fits.{Fits};
+
+use super::waiting_disk::{Meeting, WaitingDisk};
+use super::{StoreAnswer, begun, both_captures, capture_of, limits, not_said, stored, take_pass};
+use crate::at::At;
+use crate::naming::{Naming, Unnamed};
+use archive_core::Archive;
+use archive_shelf::{Depth, Shelf};
+use capture::Taken;
+use disk_model::Disk;
+use std::alloc::Global;
+use std::marker::Brand;
+use std::process::Abort;
+use std::rt::Clock;
+use std::sync::{Arc, Wait};
+use std::test::*;
+use std::thread::{Threads, join};
+
+#[test]
+fn another_pass_reads_between_a_comparison_and_its_commit(rt: HostRuntime) -> Result<(), Fail> {
+    let mut often = 0u32;
+    for _ in 0..10 {
+        if is_asked_between(&rt, rt) {
+            often = often.saturating_add(1);
+        }
+    }
+    assert!(&rt; often > 0);
+    Ok(())
+}
+
+// One round. Whether the other pass read its capture between the comparison and the first write of a store.
+fn is_asked_between<R: Threads + Wait + Clock + Abort + Sync>(rt: &R, host: HostRuntime) -> bool {
+    let alloc = host.alloc();
+    let Ok(meeting) = Arc::new(alloc, Meeting::new()) else {
+        panic!(rt; "no memory")
+    };
+    let Ok(other) = Arc::try_clone(&meeting) else {
+        panic!(rt; "no memory")
+    };
+    let disk = WaitingDisk::new(host, alloc, other);
+    let Ok(archive) = Archive::reopen(alloc, disk, None, limits(), Depth::Whole) else {
+        panic!(rt; "no archive")
+    };
+    let Ok(unnamed) = Unnamed::new(alloc, rt, archive, 2, not_said(rt)) else {
+        panic!(rt; "no memory")
+    };
+    let archive = met::<Brand, R, WaitingDisk>(rt, alloc, unnamed, &meeting);
+    archive.close().was_asked_between()
+}
+
+// Stores two captures, and then a third one with the payload of the first, while another pass brings the second one.
+fn met<J: Naming + Send + Sync, R: Threads + Wait + Clock + Abort + Sync, D: Disk + Send + Drop>(
+    rt: &R,
+    alloc: Global,
+    unnamed: Unnamed<D>,
+    meeting: &Meeting,
+) -> Archive<D>
+    requires name { unnamed ≡ J.vault }
+{
+    let (one, other) = both_captures(rt, alloc);
+    let different = different_capture(rt, alloc);
+    let (vault, mut passes) = begun::<J, D>(unnamed);
+    let first = take_pass::<J, R>(rt, &mut passes);
+    let second = take_pass::<J, R>(rt, &mut passes);
+    let first: At<R, D, J> = At::new(rt, &vault, first);
+    let second: At<R, D, J> = At::new(rt, &vault, second);
+    let (first, _) = stored(alloc, first, &one);
+    let (first, _) = stored(alloc, first, &different);
+    let ((first, answer), second) = stored_while_asked(rt, alloc, first, &other, second, meeting);
+    assert!(rt; answer.number == 2 && answer.same == Some(0));
+    let all = vault.join(first.into_pass(), second.into_pass());
+    vault.close(rt, all)
+}
+
+// A capture with another payload.
+fn different_capture<R: Abort>(rt: &R, alloc: Global) -> Taken
+    ensures { Fits result }
+{
+    capture_of(
+        rt,
+        alloc,
+        b"http://c.test/z",
+        b"GET /z HTTP/1.1\r\nHost: c.test\r\nVia: 1.1 memproxy\r\nConnection: close\r\n\r\n",
+        b"HTTP/1.1 200 OK\r\nContent-Length: 5\r\n\r\n",
+        b"world",
+    )
+}
+
+// One pass stores, and another one asks meanwhile, each in a thread of its own.
+fn stored_while_asked<
+    'a,
+    J: Naming + Send + Sync,
+    R: Threads + Wait + Clock + Sync,
+    D: Disk + Send,
+>(
+    rt: &'a R,
+    alloc: Global,
+    first: At<'a, R, D, J>,
+    taken: &Taken,
+    second: At<'a, R, D, J>,
+    meeting: &Meeting,
+) -> ((At<'a, R, D, J>, StoreAnswer), At<'a, R, D, J>)
+    requires { Fits taken.now }
+{
+    join(
+        rt,
+        move || -> (At<R, D, J>, StoreAnswer)
+            requires { Fits taken.now }
+        { stored(alloc, first, taken) },
+        move || -> At<R, D, J> { asked(rt, alloc, second, meeting) },
+    )
+}
+
+// Brings the second capture once the disk is being read.
+fn asked<'a, J: Naming, R: Wait + Clock, D: Disk>(
+    rt: &R,
+    alloc: Global,
+    mut at: At<'a, R, D, J>,
+    meeting: &Meeting,
+) -> At<'a, R, D, J> {
+    meeting.ask(rt);
+    let _brought = at.bring(alloc, 1).is_ok();
+    at
+}
