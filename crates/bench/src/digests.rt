@@ -1,8 +1,6 @@
 //! Digests: what SHA-1 costs.
-use crate::measured::{Measured, print_beside};
-use crate::plain;
-use crate::stopped::Stopped;
 use digest32::payload_digest;
+use measuring::{Measured, Stopped, print_beside, time_of};
 use std::alloc::Global;
 use std::io::Print;
 use std::rt::Clock;
@@ -23,7 +21,7 @@ pub fn measure<R: Clock + Print>(rt: &R, alloc: Global) -> Result<(), Stopped> {
     }
     let nanos = start.nanos(rt)?;
     println!(rt; "the first bytes of the digests, added up: {firsts}")?;
-    let plain = plain::time_of(rt, payload.as_slice(), TIMES)?;
+    let plain = time_of(rt, payload.as_slice(), TIMES)?;
     print_beside(
         rt,
         "the digest of a payload of 1,000,000 bytes",

@@ -1,12 +1,9 @@
 //! Groups: what it costs to compose the records of a capture.
 ghost use Rattle.time_text.specs.Texts.{InRange};
 
-use crate::captures::taken_of;
-use crate::measured::{Measured, print_beside};
-use crate::plain;
-use crate::stopped::Stopped;
 use capture::{Memory, Taken};
 use digest32::payload_digest;
+use measuring::{Measured, Stopped, print_beside, taken_of, time_of};
 use std::alloc::Global;
 use std::io::Print;
 use std::rt::Clock;
@@ -24,7 +21,7 @@ pub fn measure<R: Clock + Print>(rt: &R, alloc: Global) -> Result<(), Stopped> {
     let start = Measured::start(rt)?;
     let group = composed(alloc, &taken)?;
     let nanos = start.nanos(rt)?;
-    let plain = plain::time_of(rt, group.as_slice(), TIMES)?;
+    let plain = time_of(rt, group.as_slice(), TIMES)?;
     print_beside(
         rt,
         "a group with a body of 20,000 bytes composed",

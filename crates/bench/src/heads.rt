@@ -1,9 +1,8 @@
 //! Heads: what it costs to find the end of one, beside what its grammar costs.
-use crate::measured::Measured;
-use crate::stopped::Stopped;
 use capture::Memory;
 use http_head::find_head_end;
 use httparse::spans::{EMPTY_HEADER_SPAN, parse_request};
+use measuring::{Measured, Stopped};
 use std::alloc::Global;
 use std::io::Print;
 use std::rt::Clock;

@@ -2,12 +2,9 @@
 ghost use Rattle.std.specs.Prelude.{◌≡◌, ◌<◌, IfOk};
 ghost use Rattle.cdxj_index.specs.Queries.{IsIndex, starting_with};
 
-use crate::entries::{NOON, entry_of, shuffled, url_of};
-use crate::measured::Measured;
-use crate::memory::resident;
-use crate::stopped::Stopped;
 use capture::Memory;
 use cdxj_index::{Entry, Index, Steps};
+use measuring::{Measured, NOON, Stopped, entry_of, resident, shuffled, url_of};
 use std::alloc::Global;
 use std::io::Print;
 use std::marker::Brand;

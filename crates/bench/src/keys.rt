@@ -1,9 +1,6 @@
 //! Keys: what it costs to make the one of a url.
-use crate::entries::{shuffled, url_of};
-use crate::measured::{Measured, print_beside};
-use crate::plain;
-use crate::stopped::Stopped;
 use capture::Memory;
+use measuring::{Measured, Stopped, print_beside, shuffled, time_of, url_of};
 use std::alloc::Global;
 use std::io::Print;
 use std::rt::Clock;
@@ -22,7 +19,7 @@ pub fn measure<R: Clock + Print>(rt: &R, alloc: Global) -> Result<(), Stopped> {
         }
     }
     let nanos = start.nanos(rt)?;
-    let plain = plain::time_of(rt, joined(alloc, urls.as_slice())?.as_slice(), 1)?;
+    let plain = time_of(rt, joined(alloc, urls.as_slice())?.as_slice(), 1)?;
     print_beside(rt, "the key of a url of 40 bytes", keys, nanos, plain)
 }
 

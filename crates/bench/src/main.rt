@@ -4,33 +4,23 @@
 //! stands its ratio to a plain loop over the same bytes in the same run.
 #![tactic(auto)]
 
-mod archive;
-mod captures;
 mod digests;
-mod entries;
 mod groups;
 mod heads;
 mod index;
 mod keys;
-mod load;
-mod measured;
-mod memory;
 mod pages;
-mod plain;
 mod queries;
 mod responses;
-mod stopped;
 mod tables;
-mod volumes;
 
+use measuring::Stopped;
 use std::env;
-use stopped::Stopped;
 
 fn main(rt: HostRuntime) -> Result<(), Stopped> {
     let mut words = env::args(&rt)?.skip(1);
     let word = words.next();
     match word.as_ref().map(String::as_str) {
-        Some("archive") => archive::measure(&rt, rt.alloc()),
         Some("digests") => digests::measure(&rt, rt.alloc()),
         Some("groups") => groups::measure(&rt, rt.alloc()),
         Some("heads") => heads::measure(&rt, rt.alloc()),
@@ -40,10 +30,9 @@ fn main(rt: HostRuntime) -> Result<(), Stopped> {
         Some("queries") => queries::measure(&rt, rt.alloc()),
         Some("responses") => responses::measure(&rt, rt.alloc()),
         Some("tables") => tables::measure(&rt, rt.alloc()),
-        Some("volumes") => volumes::measure(&rt, rt.alloc()),
         _ => {
             println!(rt;
-                "usage: bench TOPIC, which is archive, digests, groups, heads, index, keys, pages, queries, responses, tables or volumes"
+                "usage: bench TOPIC, which is digests, groups, heads, index, keys, pages, queries, responses or tables"
             )?;
             Ok(())
         }

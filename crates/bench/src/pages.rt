@@ -1,9 +1,7 @@
 //! Pages: what it costs to lead the links of one to the archive.
-use crate::entries::NOON;
-use crate::measured::Measured;
-use crate::stopped::Stopped;
 use capture::{Memory, Site, Text};
 use html_rewrite::rewrite;
+use measuring::{Measured, NOON, Stopped};
 use std::alloc::Global;
 use std::io::Print;
 use std::rt::Clock;

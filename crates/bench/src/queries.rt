@@ -1,10 +1,8 @@
 //! Queries: what it costs to answer one.
-use crate::entries::entry_of;
-use crate::measured::Measured;
-use crate::stopped::Stopped;
 use capture::Memory;
 use cdx_query::{Query, QueryFault, answer, read_query};
 use cdxj_index::Entry;
+use measuring::{Measured, Stopped, entry_of};
 use std::alloc::Global;
 use std::io::Print;
 use std::rt::Clock;

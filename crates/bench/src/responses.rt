@@ -1,10 +1,7 @@
 //! Responses: what it costs to read one whose body is as long as it gets, and what memory is held meanwhile.
-use crate::measured::{Measured, print_beside};
-use crate::memory::resident;
-use crate::plain;
-use crate::stopped::Stopped;
 use capture::{BODY_LIMIT, Memory};
 use http_wire::{Received, ResponseReader};
+use measuring::{Measured, Stopped, print_beside, resident, time_of};
 use std::alloc::Global;
 use std::io::Print;
 use std::rt::{Clock, Files};
@@ -56,7 +53,7 @@ fn measure_one<R: Clock + Files + Print>(
     let held = resident(rt, alloc).saturating_sub(before);
     let response = taken(reader)?;
     let len = response.wire.as_slice().len() as u64;
-    let plain = plain::time_of(rt, response.wire.as_slice(), 1)?;
+    let plain = time_of(rt, response.wire.as_slice(), 1)?;
     print_beside(rt, what, 1, nanos, plain)?;
     let percent = held.saturating_mul(100).checked_div(len).unwrap_or(0);
     println!(rt; "    {len} bytes read, memory held: {percent}% of them")?;

@@ -1,11 +1,9 @@
 //! Tables: what a look-up costs in the table of digests, and in one of names.
 ghost use Rattle.std.specs.Prelude.{◌<◌, ◌+◌, All, OnOk};
 
-use crate::measured::{Measured, print_beside};
-use crate::plain;
-use crate::stopped::Stopped;
 use capture::{Digest, Memory};
 use digest32::payload_digest;
+use measuring::{Measured, Stopped, print_beside, time_of};
 use name_table::hop_by_hop_fields;
 use revisit_table::Digests;
 use std::alloc::Global;
@@ -48,7 +46,7 @@ fn measure_digests<R: Clock + Print>(rt: &R, alloc: Global) -> Result<(), Stoppe
         found = found.saturating_add(table.candidates(digest).len() as u64);
     }
     let nanos = start.nanos(rt)?;
-    let plain = plain::time_of(rt, joined(alloc, digests.as_slice())?.as_slice(), 1)?;
+    let plain = time_of(rt, joined(alloc, digests.as_slice())?.as_slice(), 1)?;
     print_beside(
         rt,
         "a digest looked up among 1,000,000",
@@ -115,7 +113,7 @@ fn measure_names<R: Clock + Print>(rt: &R, alloc: Global) -> Result<(), Stopped>
     }
     let nanos = start.nanos(rt)?;
     println!(rt; "names that no proxy passes on: {found}")?;
-    let plain = plain::time_of(rt, text.as_slice(), TIMES)?;
+    let plain = time_of(rt, text.as_slice(), TIMES)?;
     let items = u64::from(TIMES).saturating_mul(NAMES.len() as u64);
     print_beside(rt, "a name looked up among 10", items, nanos, plain)
 }

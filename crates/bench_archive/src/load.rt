@@ -1,5 +1,5 @@
 //! The exchanges of a load, as objects in memory take them.
-ghost use Rattle.std.specs.Prelude.{◌≤◌, All, IfOk};
+ghost use Rattle.std.specs.Prelude.{All, IfOk};
 ghost use Rattle.outside.specs.MemoryLink.{IsNew};
 ghost use Rattle.time_text.specs.Texts.{InRange};
 

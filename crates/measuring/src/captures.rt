@@ -2,7 +2,7 @@
 ghost use Rattle.std.specs.Prelude.{IfOk};
 ghost use Rattle.time_text.specs.Texts.{InRange};
 
-use crate::entries::NOON;
+use crate::entries::{NOON, text_of};
 use capture::{Bytes, Memory, Taken, Text};
 use std::alloc::Global;
 
@@ -14,16 +14,24 @@ const REQUEST: &[u8] =
 pub fn taken_of(alloc: Global, len: usize) -> Result<Taken, Memory>
     ensures { IfOk result (λ taken. InRange taken.date) }
 {
+    page_of(alloc, "http://a.test/p", vec![in alloc; b'x'; len]?)
+}
+
+/// The page at a url, with this body.
+pub fn page_of(alloc: Global, uri: &str, body: Vec<u8>) -> Result<Taken, Memory>
+    ensures { IfOk result (λ taken. InRange taken.date) }
+{
+    let len = body.len();
     let head = format!(in alloc;
         "HTTP/1.1 200 OK\r\nContent-Type: text/html\r\nContent-Length: {len}\r\nServer: s\r\n\r\n"
     )?;
     Ok(Taken {
         method: Text::from_str(alloc, "GET")?,
-        uri: Text::from_str(alloc, "http://a.test/p")?,
+        uri: text_of(alloc, uri)?,
         date: NOON,
         request: Bytes::of(Vec::from_slice(alloc, REQUEST)?),
         head: Bytes::of(Vec::from_slice(alloc, head.as_bytes())?),
-        wire: Bytes::of(vec![in alloc; b'x'; len]?),
+        wire: Bytes::of(body),
         cut: false,
     })
 }

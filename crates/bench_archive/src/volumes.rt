@@ -1,16 +1,12 @@
 //! Volumes: what it costs to add a group to one and to scan it, beside composing and digesting the same bytes.
-ghost use Rattle.std.specs.Prelude.{◌≡◌, ◌<◌, IfOk, IsTrue, OnOk};
+ghost use Rattle.std.specs.Prelude.{◌<◌, IsTrue, OnOk};
 ghost use Rattle.time_text.specs.Texts.{InRange};
 ghost use Rattle.warc_journal.specs.Journals.{IsInStep, volumes};
 
-use crate::captures::taken_of;
-use crate::entries::NOON;
-use crate::measured::{Measured, print_beside, print_share};
-use crate::plain;
-use crate::stopped::Stopped;
 use capture::{Memory, Taken};
 use digest32::payload_digest;
 use disk_model::{Disk, MemoryDisk};
+use measuring::{Measured, NOON, Stopped, print_beside, print_share, taken_of, time_of};
 use std::alloc::Global;
 use std::io::Print;
 use std::rt::Clock;
@@ -51,7 +47,7 @@ fn measure_appends<R: Clock + Print>(
     let start = Measured::start(rt)?;
     add_all(alloc, &mut journal, namespace, taken)?;
     let added = start.nanos(rt)?;
-    let plain = plain::time_of(rt, volume.as_slice(), 1)?;
+    let plain = time_of(rt, volume.as_slice(), 1)?;
     print_beside(rt, "a group digested and composed", items, composed, plain)?;
     print_beside(rt, "the same, and added to a volume", items, added, plain)?;
     print_share(
@@ -81,7 +77,7 @@ fn measure_scan<R: Clock + Print>(
         volume.len(),
         digest[0]
     )?;
-    let plain = plain::time_of(rt, volume, 1)?;
+    let plain = time_of(rt, volume, 1)?;
     print_beside(rt, "a group scanned", found, scanned, plain)?;
     print_share(rt, "scanning a volume, of digesting it", scanned, digested)
 }
@@ -101,8 +97,7 @@ fn texts_of(alloc: Global, namespace: &Uuid, taken: &Taken) -> Result<Vec<u8>, M
 /// A journal over an empty disk.
 #[tactic(auto, unfolding(disk_model::specs::Image::files_of))]
 pub fn journal_of_nothing(alloc: Global) -> Journal<MemoryDisk>
-    ensures volumes { volumes result ≡ 0 }
-    ensures in_step { IsInStep ⟦<MemoryDisk as Disk>⟧ result }
+    ensures { IsInStep ⟦<MemoryDisk as Disk>⟧ result }
 {
     let nothing = Extent {
         volumes: 0,
@@ -120,7 +115,6 @@ fn add_all<D: Disk>(
     namespace: &Uuid,
     taken: &Taken,
 ) -> Result<(), Stopped>
-    requires volumes { volumes journal.old ≡ 0 }
     requires in_step { IsTrue D.tells → IsInStep D.Disk journal.old }
     requires date { InRange taken.now.date }
 {
@@ -131,19 +125,22 @@ fn add_all<D: Disk>(
     Ok(())
 }
 
-/// Begins a volume.
+/// Begins the next volume.
 pub fn begin<D: Disk>(
     alloc: Global,
     journal: &mut Journal<D>,
     namespace: &Uuid,
 ) -> Result<(), Stopped>
-    requires volumes { volumes journal.old ≡ 0 }
     requires in_step { IsTrue D.tells → IsInStep D.Disk journal.old }
     ensures volumes { OnOk result (0 < volumes journal.new) }
     ensures in_step { OnOk result (IsTrue D.tells → IsInStep D.Disk journal.new) }
 {
     texts_are_committed();
-    let info = info_text(alloc, namespace, 0, NOON)?;
+    let number = journal.volumes();
+    if number == u32::MAX {
+        return Err(Stopped::Memory);
+    }
+    let info = info_text(alloc, namespace, number, NOON)?;
     if info.as_slice().len() as u64 > LONGEST {
         return Err(Stopped::Memory);
     }

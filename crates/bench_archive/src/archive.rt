@@ -1,30 +1,24 @@
 //! The archive over a disk in memory: captures stored through the session's call, one connection after another, and opened
 //! again.
-ghost use Rattle.std.specs.Prelude.{◌≡◌, ◌<◌, ◌≤◌, ◌^◌, All, IsTrue};
-ghost use Rattle.outside.specs.MemoryLink.{IsNew};
-ghost use Rattle.warc_journal.specs.Journals.{IsInStep, volumes};
+ghost use Rattle.std.specs.Prelude.{◌<◌, ◌≤◌, ◌^◌, IsTrue};
+ghost use Rattle.warc_journal.specs.Journals.{IsInStep};
 
+use crate::connections::{CONNECTION, Connection, site};
 use crate::load;
-use crate::measured::Measured;
-use crate::memory::resident;
-use crate::stopped::Stopped;
+use crate::opening::opened;
 use crate::volumes::{add, begin, journal_of_nothing};
 use archive_core::Archive;
 use archive_shelf::{Counts, Depth};
-use capture::{Limits, Memory, Site, Text};
 use disk_model::{Disk, MemoryDisk};
-use outside::{MemoryClock, MemoryDialer, MemoryLink};
-use session::{Served, serve};
+use measuring::{Measured, Stopped, resident};
 use std::alloc::Global;
 use std::io::Print;
 use std::rt::{Clock, Files};
 use uuid::Uuid;
 use warc_journal::Journal;
 
-/// How many captures there are, and how many a connection stores.
+/// How many captures there are.
 const CAPTURES: u32 = 20_000;
-
-const CONNECTION: u32 = 1_000;
 
 /// The length past which a volume takes no further capture, in bytes, and the same for short volumes.
 const VOLUME: u64 = 1_000_000;
@@ -64,7 +58,7 @@ fn stored<R: Clock + Print>(
     requires volume { volume_bytes < 2 ^ 62 }
 {
     let disk = MemoryDisk::new(alloc, Vec::new(alloc));
-    let mut archive = opened(alloc, disk, volume_bytes)?;
+    let mut archive = opened(alloc, disk, volume_bytes, Depth::Whole)?;
     let nanos = fill(rt, alloc, &mut archive, captures);
     let counts = archive.counts();
     let disk = archive.close();
@@ -76,7 +70,7 @@ fn stored<R: Clock + Print>(
 fn measure_memory<R: Files + Print>(rt: &R, alloc: Global) -> Result<(), Stopped> {
     let disk = with_captures(alloc, CAPTURES)?;
     let before = resident(rt, alloc);
-    let archive = opened(alloc, disk, VOLUME)?;
+    let archive = opened(alloc, disk, VOLUME, Depth::Whole)?;
     let bytes = resident(rt, alloc).saturating_sub(before);
     let counts = archive.counts();
     let _disk = archive.close();
@@ -101,8 +95,7 @@ fn add_captures<D: Disk>(
     journal: &mut Journal<D>,
     captures: u32,
 ) -> Result<(), Stopped>
-    requires volumes { volumes journal.old ≡ 0 }
-    requires in_step { IsTrue D.tells → IsInStep D.Disk journal.old }
+    requires { IsTrue D.tells → IsInStep D.Disk journal.old }
 {
     let namespace = Uuid::from_bytes([7; 16]);
     begin(alloc, journal, &namespace)?;
@@ -123,7 +116,7 @@ fn open_again<R: Clock + Print>(
     requires volume { volume_bytes < 2 ^ 62 }
 {
     let start = Measured::start(rt);
-    let archive = opened(alloc, disk, volume_bytes)?;
+    let archive = opened(alloc, disk, volume_bytes, Depth::Whole)?;
     let nanos = nanos_of(rt, start);
     let counts = archive.counts();
     let _disk = archive.close();
@@ -142,59 +135,10 @@ fn fill<R: Clock>(
     let site = site(alloc)?;
     let mut nanos = 0u64;
     for connection in 0..captures / CONNECTION {
-        let taken = serve_one(rt, alloc, archive, &site, connection * CONNECTION)?;
-        nanos = nanos.saturating_add(taken);
+        let connection = Connection::new(alloc, connection * CONNECTION)?;
+        nanos = nanos.saturating_add(connection.serve_timed(rt, alloc, archive, &site)?);
     }
     Ok(nanos)
-}
-
-/// Stores the captures of one connection, from this number on, and gives the nanoseconds that this took.
-fn serve_one<R: Clock>(
-    rt: &R,
-    alloc: Global,
-    archive: &mut Archive<MemoryDisk>,
-    site: &Site,
-    from: u32,
-) -> Result<u64, Stopped>
-    requires from { from ≤ 20000 }
-{
-    let to = from + CONNECTION;
-    let client = load::client(alloc, from, to)?;
-    let origins = load::origins(alloc, from, to)?;
-    let times = load::times(alloc, from, to)?;
-    serve_timed(rt, alloc, archive, site, client, origins, times)
-}
-
-/// Serves one connection, and gives the nanoseconds that this took.
-fn serve_timed<R: Clock>(
-    rt: &R,
-    alloc: Global,
-    archive: &mut Archive<MemoryDisk>,
-    site: &Site,
-    client: Vec<u8>,
-    origins: Vec<MemoryLink>,
-    times: Vec<u64>,
-) -> Result<u64, Stopped>
-    requires origins { All IsNew origins.items }
-{
-    let mut client = MemoryLink::new(alloc, client, Vec::new(alloc));
-    let mut dialer = MemoryDialer::new(alloc, origins, Vec::new(alloc));
-    let mut clock = MemoryClock::new(times);
-    let start = Measured::start(rt);
-    let served = serve(alloc, archive, &mut client, &mut dialer, &mut clock, site);
-    nanos_if_done(rt, start, &served)
-}
-
-/// The nanoseconds that went by, where the connection was served to its end.
-fn nanos_if_done<R: Clock>(
-    rt: &R,
-    start: Result<Measured, Stopped>,
-    served: &Served,
-) -> Result<u64, Stopped> {
-    match served {
-        Served::Done => nanos_of(rt, start),
-        _ => Err(Stopped::Archive),
-    }
 }
 
 fn nanos_of<R: Clock>(rt: &R, start: Result<Measured, Stopped>) -> Result<u64, Stopped> {
@@ -215,32 +159,4 @@ fn print_counts<R: Print>(
         nanos? / 1_000_000
     )?;
     Ok(())
-}
-
-/// The archive on a disk.
-fn opened(
-    alloc: Global,
-    disk: MemoryDisk,
-    volume_bytes: u64,
-) -> Result<Archive<MemoryDisk>, Stopped>
-    requires volume { volume_bytes < 2 ^ 62 }
-{
-    let limits = Limits {
-        volume_bytes,
-        captures: 1_000_000,
-    };
-    let namespace = Uuid::from_bytes([7; 16]);
-    match Archive::reopen(alloc, disk, Some(namespace), limits, Depth::Whole) {
-        Ok(archive) => Ok(archive),
-        Err(_) => Err(Stopped::Archive),
-    }
-}
-
-/// The archive's own site.
-fn site(alloc: Global) -> Result<Site, Memory> {
-    Ok(Site {
-        base: Text::from_str(alloc, "http://localhost:8080")?,
-        host: Text::from_str(alloc, "localhost")?,
-        port: 8080,
-    })
 }
