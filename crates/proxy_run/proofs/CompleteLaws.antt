@@ -33,7 +33,8 @@ use Rattle.disk_model.specs.Image.{Image}
 use Rattle.outside.specs.declared.sink.Sink.{Ghosts as Sinks}
 use Rattle.command.proofs.OpeningLaws.{ids_differ}
 use Rattle.command.proofs.SettlingLaws.{settled_all, settled_from, settled_opens, settled_right, settled_rose, told_tells}
-use Rattle.proxy_run.proofs.ConnectionLaws.{course_one, ids_earlier}
+use Rattle.proxy_run.proofs.ConnectionLaws.{course_one}
+use Rattle.vault.proofs.CalmLaws.{ids_earlier}
 use Rattle.proxy_run.proofs.PipeLaws.{ready_faults, served_faults}
 use Rattle.proxy_run.proofs.StatusLaws.{settled_answered}
 use Rattle.proxy_run.proofs.NextLaws.{all_next, settled_next, sound_still, stands_same}

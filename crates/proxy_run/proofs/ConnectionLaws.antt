@@ -1,16 +1,12 @@
 -- What a connection over an archive leaves of its images.
-use Rattle.std.proofs.Common.{◌≡◌, ℕ, ◌+◌, ◌≤◌, IsTrue, List, [], ◌∷◌, length, refl, sym, ap, subst, ◌∙◌, inl, inr, arith, length-append}
+use Rattle.std.proofs.Common.{◌≡◌, ℕ, ◌+◌, IsTrue, List, [], ◌∷◌, refl, sym, subst, ◌∙◌, inl, inr, arith}
 use Rattle.archive_core.specs.Holdings.{Holdings, contents_of}
 use Rattle.archive_core.specs.Told.{told_of}
 use Rattle.archive_shelf.proofs.CallLaws.{leads_same}
 use Rattle.archive_volumes.proofs.ChangeLaws.{DiskLaws, laws_muted, now_image, one_of, opens_now}
 use Rattle.archive_volumes.specs.Volumes.{muted}
-use Rattle.archive_shelf.specs.Openings.{HasIds, ImageStandsFor, SameBook}
-use Rattle.capture.proofs.GrowthLaws.{growth_keeps_captures}
-use Rattle.capture.specs.Captures.{captures}
-use Rattle.capture.specs.Growth.{Grows}
+use Rattle.archive_shelf.specs.Openings.{ImageStandsFor, SameBook}
 use Rattle.capture.specs.declared.book.Book.{Book}
-use Rattle.capture.specs.declared.captured.Stored.{Stored}
 use Rattle.capture.specs.declared.refusal.Refusal.{Refusal}
 use Rattle.capture.specs.declared.refusal.Refusal.TheVariants.{Malformed, TargetRefused, BadTime, BadAcceptDatetime, BadQuery, NotAForm, NoCapture, NoSuch, MethodRefused, BodyTooLong, HeadTooLong, ClockRange, ConnectRefused, SecureRefused, CodingRefused, DialFault, OriginFault, OriginEnded, OriginMalformed, OriginTooLong, TooManyInterim, Full, DiskFault, Damaged}
 use Rattle.disk_model.specs.Crash.{Leaves}
@@ -93,11 +89,3 @@ course_one terms served was (r ∷ rounds) is Before x alone (lawful, leads, kno
     λ b h. subst (λ (y : Book). SameBook b y) (sym (leads_same terms.alone was.book r.traces.before.book alone leads.book)) (one b h) in
     course_one terms (served + 1) r.traces.after rounds is (OpensBehind terms r.traces (deed_of r.outcome) Before) x alone others (omega (arith, none))
     (λ b behind. behind_one terms r r.outcome Before b lawful.decided (omega (arith, none)) (before b) behind) o
-
--- the ids of a book that grew differ where those of the later one do
-pub ids_earlier : (was now : Book) → Grows was now → HasIds now → HasIds was
-ids_earlier was now grows ids =
-    let kept = growth_keeps_captures was now grows in
-    let few : length (captures was) ≤ length (captures now) =
-    omega (arith, ap (λ (l : List Stored). length l) kept.1, length-append (captures was) kept.0) in
-    λ m n less less₂ e. ids m n (omega (arith, few, less)) (omega (arith, few, less₂)) (rw grows.namespace e)

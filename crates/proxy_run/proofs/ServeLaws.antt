@@ -6,12 +6,16 @@ use Rattle.std.proofs.lemmas.List.Sums.{sum_by-cons}
 use Rattle.std.proofs.lemmas.List.{append-nil, length-append}
 use Rattle.archive_core.specs.Finished.{IsSettled}
 use Rattle.archive_shelf.specs.Contents.{Contents}
+use Rattle.archive_shelf.specs.Openings.{ImageStandsFor, SameBook}
 use Rattle.archive_core.specs.Known.{told_at}
 use Rattle.archive_shelf.specs.Told.{Told}
 use Rattle.archive_shelf.specs.declared.depth.Depth.TheVariants.{Checkpoints}
+use Rattle.archive_volumes.proofs.ChangeLaws.{DiskLaws, laws_muted, opens_now}
+use Rattle.archive_volumes.specs.Volumes.{muted}
 use Rattle.checkpoint.specs.declared.fault.CheckpointFault.{CheckpointFault}
 use Rattle.checkpoint.specs.declared.fault.CheckpointFault.TheVariants as checkpoints
 use Rattle.disk_model.specs.Crash.{Leaves}
+use Rattle.disk_model.specs.Image.{Image}
 use Rattle.disk_model.specs.declared.disk.Disk.{Ghosts as Disks}
 use Rattle.capture.specs.Captures.{captures}
 use Rattle.capture.proofs.GrowthLaws.{growth_goes_on}
@@ -26,14 +30,16 @@ use Rattle.outside.specs.declared.gate.Heard.{Heard}
 use Rattle.outside.specs.declared.sink.Sink.{Ghosts as Sinks}
 use Rattle.crew.specs.Crews.{IsEnd, all_hung_up}
 use Rattle.command.specs.Objects.{Kinds, Objects}
-use Rattle.command.proofs.SettlingLaws.{settled_all, settled_faults, settled_rose}
+use Rattle.command.proofs.OpeningLaws.{only_one}
+use Rattle.command.proofs.SettlingLaws.{settled_all, settled_faults, settled_from, settled_rose, told_tells}
 use Rattle.command.specs.Printing.{LacksMemory, Prints}
 use Rattle.command.specs.Settling.{HasSettled, settled_status}
 use Rattle.proxy_run.proofs.CompleteLaws.{not_risen, printed_or_lacked, refused_known}
+use Rattle.proxy_run.proofs.NextLaws.{sound_still, stands_same}
 use Rattle.proxy_run.specs.Complete.{IsSteady, NoFaults}
 use Rattle.proxy_run.specs.Pipes.{Refuses}
 use Rattle.proxy_run.proofs.StatusLaws.{memory_told, said_by, settled_well}
-use Rattle.proxy_run.specs.Promises.{AllAreHungUp, AllAreReadOut, AreReadOut, BooksLeadOn, BooksOnlyGrow, CapturesAreStoredOnce, FaultsAreCounted, GatesAreEmptied, IsHeardOut, IsReadOut, LeadTo, LeadsTo, LogsAreInOrder, ServersAreAnswered, ServersLeaveSettled, numbers_of, rounds_in, rounds_of}
+use Rattle.proxy_run.specs.Promises.{AllAreHungUp, AllAreReadOut, AreReadOut, BooksLeadOn, BooksOnlyGrow, CapturesAreStoredOnce, FaultsAreCounted, GatesAreEmptied, IsHeardOut, IsReadOut, LeadTo, LeadsTo, LogsAreInOrder, ServersAreAnswered, ServersLeaveSettled, ServersLeaveTheLast, numbers_of, rounds_in, rounds_of}
 use Rattle.proxy_run.specs.Runs.{LacksWords}
 use Rattle.proxy_run.specs.Serves.{AreNewcomers, HasShare, LacksShelves, Seat, Serves, all_faults, all_mine, told_by, worst}
 use Rattle.command.specs.Gates.{unheard}
@@ -48,6 +54,15 @@ use Rattle.session.specs.Rounds.{Round, disk_faults, is_closed, lacks, numbers_b
 use Rattle.session.specs.Stopping.{Course, Ends, IsClosed, IsLeftOver}
 use Rattle.session.specs.declared.served.Served.{Served}
 use Rattle.session.specs.declared.served.Served.TheVariants as end
+use Rattle.warc_text.specs.Sound.{IsSound}
+use Rattle.warc_text.specs.StandsFor.{StandsFor}
+
+-- ---- the last book
+
+stands_last : (image : Image) (x was now : Book) → SameBook x now → Grows was now → IsSound was → ImageStandsFor image x → ImageStandsFor image now
+stands_last image x was now (inl is) grows sound stands = subst (λ (b : Book). ImageStandsFor image b) is stands
+stands_last image x was now (inr (none, none₂)) grows sound stands =
+    stands_same image x now (inr (none, none₂)) (sound_still was now grows sound none₂) stands
 
 -- ---- the status
 
@@ -387,6 +402,19 @@ module _ {D G L P N M C O : Type 0} (kinds : Kinds D G L P N M C O) where
         checkpoints = finished kinds.disks s.after s.left is.disk s.closed.answer s.counted status s.closed.settles (s.same_tells ∙ so) s.closed.status_is
             spared (λ rose. grind (arith, rose, steady.same, steady.below, s.disk_faults, s.opened.same_faults, first, last)) image left;
       }
+
+  pub servers_leave_the_last : DiskLaws kinds.disks → ServersLeaveTheLast kinds
+  servers_leave_the_last laws known asked site workers was is status s told steady ids image left =
+      let first = settled_faults kinds.disks s.before s.opened.begun s.ready s.opened.answer s.opened.settles in
+      let last = settled_faults kinds.disks s.after s.left is.disk s.closed.answer s.closed.settles in
+      let so : IsTrue s.before.tells = s.opened.opened.same_tells ∙ told in
+      let at = s.near so image left in
+      let from = settled_from kinds.disks s.after s.left is.disk s.closed.answer s.closed.settles (told_tells Checkpoints kinds.disks.tells known told) image left in
+      let stood : ImageStandsFor from.0 at.0 =
+      record { for = subst (λ (files : List (List ℕ)). StandsFor files at.0) from.2 at.1.for; sound = at.1.sound } in
+      let none : all_faults s.seats ≡ 0 = omega (arith, s.disk_faults, steady.same, steady.below, s.opened.same_faults, first, last) in
+      let opened = opens_now (muted s.after.tells kinds.disks) (laws_muted kinds.disks s.after.tells laws) s.left at.0 from.0 (s.same_tells ∙ so) from.1 stood in
+      stands_last image at.0 s.before.seen s.after.seen (only_one (s.only none ids at.0 opened)) s.shared.grows (s.opened.opened.consistent.sound so) at.1
 
   server_answered : (known : Option Book) (namespace : List ℕ) (site : Site) (workers : ℕ) (was is : Objects D G (List (N × C)) O) (status : Status)
       → IsTrue (told_at Checkpoints kinds.disks.tells known) → NoFaults kinds was is

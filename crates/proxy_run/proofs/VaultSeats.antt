@@ -1,18 +1,24 @@
 -- The passes of a vault, told as the seats of a crew.
-use Rattle.std.proofs.Common.{◌≡◌, ℕ, zero, suc, ◌+◌, false, IsTrue, List, [], ◌∷◌, ◌++◌, drop, length, get_or, map, Option, None, Some, refl, sym, ap, subst, ◌∙◌, arith}
+use Rattle.std.proofs.Common.{◌≡◌, ℕ, zero, suc, ◌+◌, false, IsTrue, List, [], ◌∷◌, ◌++◌, drop, length, get_or, map, Option, None, Some, inl, refl, sym, ap, subst, ◌∙◌, arith}
 use Rattle.std.specs.Prelude.{IfSome, IsPermutation, slice_get}
 use Rattle.std.specs.List.{All, AllByRecursion, flat_map, range_with_len, sum_by}
 use Rattle.std.proofs.lemmas.List.{length-map}
 use Rattle.std.proofs.lemmas.List.Concat.{length-flat_map}
 use Rattle.std.proofs.lemmas.List.Elements.{All-from_recursion, recursion_from_All}
 use Rattle.std.proofs.lemmas.List.Sums.{sum_by-cons}
+use Rattle.archive_core.specs.Holdings.{Holdings}
 use Rattle.archive_shelf.specs.Contents.{Contents}
-use Rattle.archive_volumes.specs.Volumes.{OpensNear}
+use Rattle.archive_shelf.specs.Openings.{HasIds, IsState}
+use Rattle.archive_volumes.proofs.ChangeLaws.{DiskLaws, laws_muted, now_image, one_of}
+use Rattle.archive_volumes.specs.Volumes.{OpensNear, crash_of, muted}
 use Rattle.capture.specs.Captures.{captures}
 use Rattle.capture.specs.declared.book.Book.{Book}
 use Rattle.capture.specs.declared.site.Site.{Site}
 use Rattle.cdxj_index.specs.OfBook.{AreEntries}
+use Rattle.disk_model.specs.Crash.{Leaves}
+use Rattle.disk_model.specs.declared.disk.Disk.{Ghosts as Disks}
 use Rattle.history_lock.specs.Known.{Known}
+use Rattle.vault.specs.Calm.{IsCalm}
 use Rattle.vault.specs.Company.{Passing, contents_at, told_at}
 use Rattle.vault.specs.History.{told_book}
 use Rattle.vault.specs.Items.{shown_in}
@@ -23,12 +29,14 @@ use Rattle.vault.specs.declared.noted.Noted.{Noted}
 use Rattle.vault.proofs.MemberLaws.{new_captures, new_faults}
 use Rattle.crew.specs.Crews.{IsEnd, ServesAll}
 use Rattle.command.specs.Objects.{Kinds, Objects}
-use Rattle.command.specs.Settling.{ClosesSettled, OpensSettled}
+use Rattle.command.proofs.OpeningLaws.{ids_differ}
+use Rattle.command.specs.Settling.{ClosesSettled, IsOf, OpensSettled}
 use Rattle.proxy_run.specs.Serves.{AreNewcomers, HasShare, IsNewcomer, IsSharedOut, Seat, Serves, TellsCount, all_faults, all_mine, told_by}
 use Rattle.crew.specs.Shifts.{hands_of}
 use Rattle.command.specs.declared.status.Status.{Status}
 use Rattle.proxy_run.specs.steps.Seating.{IsNameOf}
 use Rattle.proxy_run.proofs.SeatLaws.{serves_as}
+use Rattle.warc_journal.specs.Journals.{disk_of}
 
 -- what is told of a pass
 abbrev pub seat_of : Passing → Seat
@@ -45,6 +53,14 @@ abbrev pub number_of : Passing → ℕ
 number_of pass = pass.known.number
 
 -- ---- beginnings
+
+-- where each image stands for the archive's book, a crash leaves that alone
+pub settled_calm : {D : Type 0} (disks : Disks D) → DiskLaws disks → (held : Holdings D)
+    → (IsTrue held.told → Leaves (disks.images (disk_of held.journal)) (IsOf held.book)) → IsCalm disks held
+settled_calm disks laws held left ids x o =
+    inl (one_of o.image x held.book o.stands
+    (left o.told o.image (now_image (muted held.told disks) (laws_muted disks held.told laws) (disk_of held.journal) x o)).stands
+    (ids_differ held.book ids))
 
 module _ (vault : VaultName) (now : Contents) (faults : ℕ) (name : IsNameOf vault now faults) (none : now.mine ≡ []) where
   newcomer : (number : ℕ) (pass : Passing) → IsNewMember vault number pass → IsNewcomer now (seat_of pass)
@@ -147,6 +163,7 @@ module _ {D G L P N M C O : Type 0} (kinds : Kinds D G L P N M C O) (known : Opt
       (hands_of kinds.dialers kinds.clocks starts was.crew) (hands_of kinds.dialers kinds.clocks seats is.crew))
       → IsEnd (kinds.gates.closed is.gate) (kinds.gates.faults was.gate) (kinds.gates.faults is.gate) said
       → IsLeftByAll vault (map known_of seats) after.seen after.limits after.tells (kinds.disks.faults left)
+      (HasIds after.seen → IsState (crash_of (muted after.tells kinds.disks) left) after.seen None)
       → (counted : Status) → TellsCount kinds.sinks (length (captures after.seen)) said was.out is.out counted
       → (status : Status) → ClosesSettled kinds.disks after left counted is.disk status → (IsTrue after.tells → OpensNear kinds.disks is.disk after.seen)
       → drop vault.passes is.crew ≡ drop vault.passes was.crew → Serves kinds known asked site vault.passes was is status
@@ -179,6 +196,7 @@ module _ {D G L P N M C O : Type 0} (kinds : Kinds D G L P N M C O) (known : Opt
             omega (arith, met, risen, name.met);
         told = tells;
         closed = closed;
+        only = λ none. of_all.calm name.calm (sym (faults_as seats) ∙ none);
         near = λ t. near (same ∙ t);
         others = others;
       }

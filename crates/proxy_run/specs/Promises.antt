@@ -2,6 +2,7 @@
 use Rattle.std.specs.Prelude.{◌≡◌, ◌≢◌, ◌⊎◌, ℕ, ◌+◌, ◌≤◌, Bool, true, false, IsTrue, IsPermutation, List, [], ◌∷◌, ◌++◌, drop, length, Option, Some}
 use Rattle.std.specs.List.{flat_map, range_with_len, sum_by}
 use Rattle.archive_core.specs.Known.{told_at}
+use Rattle.archive_shelf.specs.Openings.{HasIds, ImageStandsFor}
 use Rattle.archive_shelf.specs.Told.{Told}
 use Rattle.archive_shelf.specs.declared.depth.Depth.TheVariants.{Checkpoints}
 use Rattle.capture.specs.Captures.{captures}
@@ -162,6 +163,14 @@ module _ {D G L P N M C O : Type 0} (kinds : Kinds D G L P N M C O) where
       (known : Option Book) (asked : Option (List ℕ)) (site : Site) (workers : ℕ) (was is : Objects D G (List (N × C)) O) (status : Status)
       (s : Serves kinds known asked site workers was is status) → IsTrue (told_at Checkpoints kinds.disks.tells known)
       → IsSteady (kinds.disks.faults was.disk) (kinds.disks.faults is.disk) → status ≢ Memory → Leaves (kinds.disks.images is.disk) (IsLeftSettled s.after.seen)
+
+  -- Where the disk didn't fail and the ids differ, each image that a crash may leave stands for the last book.
+  abbrev pub ServersLeaveTheLast : Type 0
+  ServersLeaveTheLast =
+      (known : Option Book) (asked : Option (List ℕ)) (site : Site) (workers : ℕ) (was is : Objects D G (List (N × C)) O) (status : Status)
+      (s : Serves kinds known asked site workers was is status) → IsTrue (told_at Checkpoints kinds.disks.tells known)
+      → IsSteady (kinds.disks.faults was.disk) (kinds.disks.faults is.disk) → HasIds s.after.seen
+      → Leaves (kinds.disks.images is.disk) (λ image. ImageStandsFor image s.after.seen)
 
   -- Where nothing failed and the book is known, it goes well, or memory ran out.
   abbrev pub ServersAreAnswered : Type 0

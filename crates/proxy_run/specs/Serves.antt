@@ -1,10 +1,11 @@
 -- What the command `serve` leaves.
-use Rattle.std.specs.Prelude.{◌≡◌, ◌⊎◌, ℕ, ◌+◌, List, [], ◌∷◌, false, drop, length, slice_get, IfSome, IsTrue, IsPermutation, Option}
+use Rattle.std.specs.Prelude.{◌≡◌, ◌⊎◌, ℕ, ◌+◌, List, [], ◌∷◌, false, drop, length, slice_get, IfSome, IsTrue, IsPermutation, Option, None}
 use Rattle.std.specs.List.{flat_map, range_with_len, sum_by}
 use Rattle.std.specs.List.Sorted.{IsStrictlyIncreasing}
 use Rattle.archive_shelf.specs.Contents.{Contents}
+use Rattle.archive_shelf.specs.Openings.{HasIds, IsState}
 use Rattle.archive_shelf.specs.Told.{Told}
-use Rattle.archive_volumes.specs.Volumes.{OpensNear}
+use Rattle.archive_volumes.specs.Volumes.{OpensNear, crash_of, muted}
 use Rattle.capture.specs.Captures.{captures}
 use Rattle.capture.specs.Faults.{RoseBy}
 use Rattle.capture.specs.Growth.{Grows}
@@ -111,6 +112,8 @@ module _ {D G L P N M C O : Type 0} (kinds : Kinds D G L P N M C O) (known : Opt
     pub disk_faults : RoseBy (all_faults seats) (kinds.disks.faults ready) (kinds.disks.faults left)
     pub told : TellsCount kinds.sinks (length (captures after.seen)) said was.out is.out counted
     pub closed : ClosesSettled kinds.disks after left counted is.disk status
+    -- where the members met no fault of the disk and ids differ, only the last book may be opened of what they leave
+    pub only : all_faults seats ≡ 0 → HasIds after.seen → IsState (crash_of (muted after.tells kinds.disks) left) after.seen None
     pub near : IsTrue before.tells → OpensNear kinds.disks is.disk after.seen
     pub others : drop workers is.crew ≡ drop workers was.crew
 

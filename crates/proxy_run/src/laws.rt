@@ -2,7 +2,7 @@
 ghost use Rattle.proxy_run.specs.Complete.{CapturesComeBack, ChecksAreAnswered, FollowsAreAnswered, FollowsLeaveReady, ImportsAreAnswered, ImportsLeaveReady, PipesAreAnswered, PipesLeaveReady, PipesLeaveSettled, PipesLeaveTheLast, PipesPassOn};
 ghost use Rattle.command.specs.Objects.{kinds_of};
 ghost use Rattle.proxy_run.specs.OnePipe.{PipesLeaveNoChoice};
-ghost use Rattle.proxy_run.specs.Promises.{AllAreHungUp, AllAreReadOut, BooksLeadOn, BooksOnlyGrow, CapturesAreStoredOnce, FaultsAreCounted, GatesAreEmptied, LogsAreInOrder, ServersAreAnswered, ServersLeaveSettled};
+ghost use Rattle.proxy_run.specs.Promises.{AllAreHungUp, AllAreReadOut, BooksLeadOn, BooksOnlyGrow, CapturesAreStoredOnce, FaultsAreCounted, GatesAreEmptied, LogsAreInOrder, ServersAreAnswered, ServersLeaveSettled, ServersLeaveTheLast};
 ghost use Rattle.proxy_run.specs.Verified.{SoundVolumesVerify, VerifiesAreAnswered, VolumesVerifyOneWay};
 
 use archive_core::settling_keeps_checkpoints_right;
@@ -59,8 +59,8 @@ pub fn pipes_leave_no_choice<D: Disk, G: Gate, N: Dialer, C: Clock, O: Sink>()
 /// was asked until it was closed; what the log gains stands in the members' order; each connection was read to its end or to the answer that
 /// closes, unless its link failed or memory ran out; each capture that a round stored stands in the book once, which has no other behind
 /// those that were there; what each connection begins with has grown into that book; rounds met no more faults of the disk than it
-/// counted; where it ended otherwise than for want of memory and the disk counted none, each image that a crash may leave has the
-/// finished checkpoint of each volume but the last; and where no count of faults rose, over a disk that is settled for a book that is known,
+/// counted; where the disk counted none, each image that a crash may leave stands for the last book, if its ids differ; where it ended
+/// otherwise than for want of memory besides, each has the finished checkpoint of each volume but the last; and where no count of faults rose, over a disk that is settled for a book that is known,
 /// it went well or memory ran out.
 pub fn servers_keep_their_promise<D: Disk, G: Gate, N: Dialer, C: Clock, O: Sink>()
     ensures grow { BooksOnlyGrow (kinds_of D.Disk G.Gate N.Dialer C.Clock O.Sink G.Link.tells N.Link.tells) }
@@ -71,6 +71,7 @@ pub fn servers_keep_their_promise<D: Disk, G: Gate, N: Dialer, C: Clock, O: Sink
     ensures once { CapturesAreStoredOnce (kinds_of D.Disk G.Gate N.Dialer C.Clock O.Sink G.Link.tells N.Link.tells) }
     ensures lead { BooksLeadOn (kinds_of D.Disk G.Gate N.Dialer C.Clock O.Sink G.Link.tells N.Link.tells) }
     ensures faults { FaultsAreCounted (kinds_of D.Disk G.Gate N.Dialer C.Clock O.Sink G.Link.tells N.Link.tells) }
+    ensures last { ServersLeaveTheLast (kinds_of D.Disk G.Gate N.Dialer C.Clock O.Sink G.Link.tells N.Link.tells) }
     ensures settled { ServersLeaveSettled (kinds_of D.Disk G.Gate N.Dialer C.Clock O.Sink G.Link.tells N.Link.tells) }
     ensures answered { ServersAreAnswered (kinds_of D.Disk G.Gate N.Dialer C.Clock O.Sink G.Link.tells N.Link.tells) }
 {

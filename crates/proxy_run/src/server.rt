@@ -1,23 +1,28 @@
 //! The command `serve`: the connections of many clients over one archive.
-ghost use Rattle.std.specs.Prelude.{◌⊎◌, ◌≡◌, ◌<◌, ◌≤◌, ℕ, IfSome, List, Option, length};
+ghost use Rattle.std.specs.Prelude.{◌⊎◌, ◌≡◌, ◌<◌, ◌≤◌, ℕ, true, IfSome, IsTrue, List, Option, length};
 ghost use Rattle.archive_opening.specs.Telling.{MayBeSettled};
 ghost use Rattle.archive_shelf.specs.Contents.{Contents};
 ghost use Rattle.archive_shelf.specs.declared.depth.Depth.TheVariants.{Checkpoints};
 ghost use Rattle.capture.specs.declared.book.Book.{Book};
 ghost use Rattle.command.specs.Objects.{kinds_of, objects_of};
-ghost use Rattle.command.specs.Settling.{OpensSettled};
+ghost use Rattle.command.specs.Settling.{IsOf, OpensSettled};
+ghost use Rattle.disk_model.specs.Crash.{Leaves};
 ghost use Rattle.proxy_run.specs.Pipes.{Refuses};
 ghost use Rattle.proxy_run.specs.Serves.{LacksShelves, Serves};
 ghost use Rattle.command.specs.Words as spec;
 ghost use Rattle.proxy_run.specs.steps.Seating.{IsNameOf};
+ghost use Rattle.vault.specs.Calm.{IsCalm};
+ghost use Rattle.warc_journal.specs.Journals.{disk_of};
 ghost use Rattle.warc_text.specs.Ids.{IsUuid};
 
 use crate::counting::tell_count;
 use crate::seating::serve_by;
+use archive_core::Archive;
 use capture::Site;
 use command::{Command, Known, Ran, Status, asked_of, open_and_settle, settle_and_close};
 use disk_model::Disk;
 use outside::{Clock, Dialer, Gate, Sink};
+use shown::Shown;
 use std::alloc::Global;
 use std::marker::Brand;
 use std::sync::Wait;
@@ -78,12 +83,22 @@ where
         Ok(archive) => archive,
         Err(ran) => return ran,
     };
-    match Unnamed::new(alloc, rt, archive, workers) {
+    let calm = left_calm(&archive);
+    match Unnamed::new(alloc, rt, archive, workers, calm) {
         Ok(unnamed) => {
             serve_named::<R, D, G, N, C, O, Brand>(rt, alloc, unnamed, site, gate, crew, out)
         }
         Err(archive) => settle_and_close(alloc, archive, Status::Memory),
     }
+}
+
+/// That a crash leaves the archive's book alone, where each image that is left stands for it.
+fn left_calm<D: Disk>(archive: &Archive<D>) -> Shown<bool>
+    requires { IsTrue archive.now.told → Leaves (D.images (disk_of archive.now.journal)) (IsOf archive.now.book) }
+    ensures value { result.value ≡ true }
+    ensures calm { IsCalm D.Disk archive.now }
+{
+    Shown::told_by(archive)
 }
 
 /// Serves over a vault under a name, ends it, prints how many captures there are, writes the checkpoints that are missing, and closes the

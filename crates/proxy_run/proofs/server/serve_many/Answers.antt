@@ -1,5 +1,5 @@
 -- The archive was refused, or there was no memory for its shelves, or it was served over.
-use Rattle.std.proofs.Common.{refl, ap, subst, inl, inr, arith}
+use Rattle.std.proofs.Common.{refl, ap, subst, ◌∙◌, inl, inr, arith}
 use Rattle.archive_core.specs.Holdings.{Holdings, contents_of}
 use Rattle.warc_journal.specs.Journals.{disk_of}
 use Rattle.command.specs.Objects.{kinds_of, objects_of}
@@ -16,6 +16,12 @@ open_and_settle-requires-clause-uuid g c = rw c.asked_of.ensures c.requires.uuid
 pub open_and_settle-requires-clause-known : goal.open_and_settle-requires-clause-known
 open_and_settle-requires-clause-known g c = rw c.asked_of.ensures c.requires.known
 
+pub left_calm-calm-requires : goal.left_calm-calm-requires
+left_calm-calm-requires g c = c.in-Ok.ensures.opened.left
+
+pub new-requires-clause-calm : goal.new-requires-clause-calm
+new-requires-clause-calm g c = λ told. c.left_calm-calm.ensures.calm
+
 pub returns-in-Err : goal.returns-in-Err
 returns-in-Err g c = inr (inr (record { refused = rw c.asked_of.ensures at c.in-Err.ensures.refused; untouched = refl }))
 
@@ -31,6 +37,7 @@ returns-in-Ok-new g c =
       limits = given.1;
       tells = given.2;
       met = omega (arith, given.3);
+      calm = c.in-Ok-new.ensures.calm ∙ c.left_calm-calm.ensures.value;
     } in
     let served = c.serve_named.ensures known asked c.args.disk (contents_of c.in-Ok.archive) (disk_of c.in-Ok.archive.journal)
     (rw c.asked_of.ensures at c.in-Ok.ensures.opened) name in
