@@ -1,4 +1,6 @@
 //! The call that serves, over real objects, which no case has.
+mod side_by_side;
+
 use command::Status;
 use disk_model::{Disk, Kind};
 use outside::MemorySink;
