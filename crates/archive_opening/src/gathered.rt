@@ -428,9 +428,7 @@ fn add_digest(
     if !whole {
         return Ok(());
     }
-    table.reserve(alloc, digest)?;
-    table.add(digest, number);
-    Ok(())
+    table.put(alloc, digest, number)
 }
 
 /// Adds an entry, if there is one.

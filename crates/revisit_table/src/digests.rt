@@ -3,7 +3,7 @@ ghost use Rattle.std.specs.Prelude.{◌≡◌, ℕ, ◌<◌, ◌≤◌, not, ◌
 ghost use Rattle.std.specs.List.Sorted.{IsStrictlyIncreasing};
 ghost use Rattle.revisit_table.specs.Table.{empty_table, numbers_of, with_room, with_added, with_taken_back, without};
 
-use crate::lists::{add_at, drop_unused, reserve_at, take_at};
+use crate::lists::{add_at, drop_unused, put_at, reserve_at, take_at};
 use crate::numbers::Numbers;
 use capture::{Digest, Memory};
 use std::alloc::Global;
@@ -13,7 +13,7 @@ use std::marker::Model;
 /// Which captures have which digest. A clause sees the list of what was added and not taken back,
 /// each digest with a capture's number, and the digest for which room is reserved.
 ///
-/// The numbers of that list rise strictly. Only `reserve` takes memory.
+/// The numbers of that list rise strictly. Only `reserve` and `put` take memory.
 #[derive(Debug, Drop)]
 pub struct Digests {
     kept: Vec<(Digest, u32)>,
@@ -71,7 +71,7 @@ impl Digests {
     /// Makes room for one more capture of this digest, in the place of room that was reserved before.
     /// Of a digest for which room was reserved and no capture added, nothing is kept then.
     ///
-    /// The only call that takes memory. After `Memory` the table is as it was.
+    /// After `Memory` the table is as it was.
     pub fn reserve(&mut self, alloc: Global, digest: &Digest) -> Result<(), Memory>
         ensures ok { OnOk result (self.new ≡ with_room self.old digest.now) }
         ensures err { OnErr result (self.new ≡ self.old) }
@@ -93,6 +93,21 @@ impl Digests {
         self.kept.push_reserved((*digest, number));
         add_at(&mut self.lists, digest, number);
         self.reserved = None;
+    }
+
+    /// Adds a capture of this digest as `reserve` and `add` do, by one look-up. After `Memory` the table is as it was.
+    pub fn put(&mut self, alloc: Global, digest: &Digest, number: u32) -> Result<(), Memory>
+        requires above { All (λ entry. entry.1 < number) self.old.kept }
+        ensures ok { OnOk result (self.new ≡ with_added self.old digest.now number) }
+        ensures err { OnErr result (self.new ≡ self.old) }
+    {
+        self.kept.reserve(1)?;
+        put_at(&mut self.lists, alloc, digest, number)?;
+        self.kept.push_reserved((*digest, number));
+        if let Some(before) = self.reserved.take() {
+            drop_unused(&mut self.lists, &before, None);
+        }
+        Ok(())
     }
 
     /// Takes the capture of this number back. One that isn't there changes nothing.

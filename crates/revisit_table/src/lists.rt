@@ -42,6 +42,24 @@ pub(crate) fn add_at(lists: &mut BTreeMap<Digest, Numbers>, digest: &Digest, num
     }
 }
 
+/// Adds a number at the digest, by one look-up. After `Memory` no digest has other numbers, less room, or a list that it hadn't.
+pub(crate) fn put_at(
+    lists: &mut BTreeMap<Digest, Numbers>,
+    alloc: Global,
+    digest: &Digest,
+    number: u32,
+) -> Result<(), Memory>
+    ensures ok { OnOk result ((other : List ℕ) → numbers_at lists.new other
+        ≡ numbers_at lists.old other ++ (if bytes_eq digest.now other then number ∷ [] else [])) }
+    ensures others { (other : List ℕ) → bytes_eq digest.now other ≡ false → has_list lists.new other ≡ has_list lists.old other }
+    ensures same { OnErr result ((other : List ℕ) → numbers_at lists.new other ≡ numbers_at lists.old other) }
+    ensures spare { OnErr result ((other : List ℕ) → spare_at lists.old other ≤ spare_at lists.new other) }
+    ensures err { OnErr result ((other : List ℕ) → has_list lists.new other ≡ has_list lists.old other) }
+{
+    let numbers = lists.entry(*digest)?.or_insert(Numbers::Empty);
+    numbers.put(alloc, number)
+}
+
 /// Takes a number out at the digest, if it's there.
 pub(crate) fn take_at(lists: &mut BTreeMap<Digest, Numbers>, digest: &Digest, number: u32)
     requires { IsStrictlyIncreasing (numbers_at lists.old digest.now) }

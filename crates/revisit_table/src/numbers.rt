@@ -1,5 +1,5 @@
 //! The numbers of one digest.
-ghost use Rattle.std.specs.Prelude.{◌≡◌, ◌≢◌, ◌<◌, ◌≤◌, not, ◌==◌, [], ◌∷◌, ◌++◌, filter, vec_len, IsFalse, IsTrue, IfOk, OnOk};
+ghost use Rattle.std.specs.Prelude.{◌≡◌, ◌≢◌, ◌<◌, ◌≤◌, not, ◌==◌, [], ◌∷◌, ◌++◌, filter, vec_len, IsFalse, IsTrue, IfOk, OnErr, OnOk};
 ghost use Rattle.std.specs.List.Sorted.{IsStrictlyIncreasing};
 ghost use Rattle.std.specs.Vec.{vec_capacity};
 ghost use Rattle.revisit_table.specs.Lists.{items_of, spare_of};
@@ -34,6 +34,7 @@ impl Numbers {
         ensures items { items_of self.new ≡ items_of self.old }
         ensures spare { spare_of self.old ≤ spare_of self.new }
         ensures ok { OnOk result (0 < spare_of self.new) }
+        ensures err { OnErr result (self.old ≢ Numbers.Empty) }
     {
         match self {
             Numbers::Empty => Ok(()),
@@ -59,6 +60,18 @@ impl Numbers {
             Numbers::One(_) => {}
             Numbers::Many(numbers) => numbers.push_reserved(number),
         }
+    }
+
+    /// Adds a number. After `Memory` the numbers and the room are as they were.
+    pub fn put(&mut self, alloc: Global, number: u32) -> Result<(), Memory>
+        ensures ok { OnOk result (items_of self.new ≡ items_of self.old ++ number ∷ []) }
+        ensures same { OnErr result (items_of self.new ≡ items_of self.old) }
+        ensures spare { OnErr result (spare_of self.old ≤ spare_of self.new) }
+        ensures err { OnErr result (self.old ≢ Numbers.Empty) }
+    {
+        self.reserve(alloc)?;
+        self.push_reserved(number);
+        Ok(())
     }
 
     /// Takes a number out, if it's there. The room that is there stays.
