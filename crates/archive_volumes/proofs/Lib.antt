@@ -27,3 +27,4 @@ pub mod StoreLaws
 pub mod TakenGroup
 pub mod VolumeLaws
 pub mod WayLaws
+pub mod WrittenLaws

@@ -13,3 +13,4 @@ pub mod Rereading
 pub mod Spots
 pub mod Volumes
 pub mod Writing
+pub mod Written

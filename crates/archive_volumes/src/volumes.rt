@@ -6,7 +6,7 @@ ghost use Rattle.capture.specs.Tails.{IsCommitted};
 ghost use Rattle.disk_model.specs.Crash.{Leaves};
 ghost use Rattle.time_text.specs.Texts.{InRange};
 ghost use Rattle.warc_journal.specs.Extents.{cdxj_files, warc_files};
-ghost use Rattle.warc_journal.specs.Journals.{IsInStep, Rests, disk_of, extent_of, last_len, texts, volumes};
+ghost use Rattle.warc_journal.specs.Journals.{Changes, IsInStep, Rests, disk_of, extent_of, last_len, texts, volumes};
 ghost use Rattle.warc_journal.specs.Texts.{Hold, with_more};
 ghost use Rattle.warc_text.specs.Books.{AreVolumeTexts, IsGroupText};
 ghost use Rattle.warc_text.specs.Sound.{IsSound};
@@ -100,6 +100,8 @@ impl<D: Disk> Volumes<D> {
             ≡ (if is_ok result then length prepared.info else last_len self.old.journal) }
         ensures texts { IsTrue D.tells → texts D.Disk self.new.journal
             ≡ (if is_ok result then texts D.Disk self.old.journal ++ prepared.info ∷ [] else texts D.Disk self.old.journal) }
+        ensures change { IsTrue D.tells → Changes D.Disk self.old.journal self.new.journal
+            (texts D.Disk self.old.journal ++ prepared.info ∷ []) result }
         ensures others { IsTrue D.tells
             → cdxj_files (D.reading (disk_of self.new.journal)) ≡ cdxj_files (D.reading (disk_of self.old.journal)) }
         ensures makes { Makes (muted told.now.value D.Disk) (disk_of self.old.journal) (disk_of self.new.journal)
@@ -139,6 +141,8 @@ impl<D: Disk> Volumes<D> {
             ≡ (if is_ok result then last_len self.old.journal + length group.now else last_len self.old.journal) }
         ensures texts { IsTrue D.tells → texts D.Disk self.new.journal
             ≡ (if is_ok result then with_more (texts D.Disk self.old.journal) group.now else texts D.Disk self.old.journal) }
+        ensures change { IsTrue D.tells → Changes D.Disk self.old.journal self.new.journal
+            (with_more (texts D.Disk self.old.journal) group.now) result }
         ensures place { IfOk result (λ place. place
             ≡ record { volume = volumes self.old.journal - 1; at = last_len self.old.journal; len = length group.now }) }
         ensures others { IsTrue D.tells

@@ -12,6 +12,7 @@ ghost use Rattle.warc_text.specs.StandsFor.{commit_byte};
 ghost use Rattle.archive_shelf.specs.Storing.{with_capture};
 ghost use Rattle.archive_volumes.specs.Held.{book_of, stored_in};
 ghost use Rattle.archive_volumes.specs.Writing.{HasRoomFor, Writes, end_with, texts_with, with_prepared};
+ghost use Rattle.archive_volumes.specs.Written.{WritesTexts};
 ghost use Rattle.archive_volumes.specs.Volumes.{HoldsBook, IsMeasured, muted};
 ghost use Rattle.std.specs.Vec.{vec_capacity};
 ghost use Rattle.archive_volumes.specs.Ready.{CanCommit, spot_in};
@@ -66,6 +67,9 @@ impl<D: Disk> Volumes<D> {
         ensures writes { Writes (muted told.now.value D.Disk) (disk_of self.old.journal) (disk_of self.new.journal) (book_of self.old.held)
             (with_prepared (book_of self.old.held) prepared)
             (with_capture (with_prepared (book_of self.old.held) prepared) (stored_in stored)) (book_of self.new.held) result }
+        ensures bytes { IsTrue D.tells → WritesTexts D.Disk self.old.journal self.new.journal
+            (texts_with (texts D.Disk self.old.journal) prepared)
+            (with_more (texts_with (texts D.Disk self.old.journal) prepared) group.now) result }
         ensures faults { CountsFaults (D.faults (disk_of self.old.journal)) (D.faults (disk_of self.new.journal)) result }
     {
         match prepared {
@@ -117,6 +121,9 @@ impl<D: Disk> Volumes<D> {
         ensures writes { Writes (muted told.now.value D.Disk) (disk_of self.old.journal) (disk_of self.new.journal) (book_of self.old.held)
             (with_prepared (book_of self.old.held) ready.prepared)
             (with_capture (with_prepared (book_of self.old.held) ready.prepared) (stored_in ready.stored)) (book_of self.new.held) result }
+        ensures bytes { IsTrue D.tells → WritesTexts D.Disk self.old.journal self.new.journal
+            (texts_with (texts D.Disk self.old.journal) ready.prepared)
+            (with_more (texts_with (texts D.Disk self.old.journal) ready.prepared) ready.group) result }
         ensures faults { CountsFaults (D.faults (disk_of self.old.journal)) (D.faults (disk_of self.new.journal)) result }
     {
         let Ready {

@@ -7,6 +7,7 @@ use Rattle.archive_volumes.specs.Held.{book_of, stored_in}
 use Rattle.archive_volumes.specs.Volumes.{HoldsBook, IsMeasured}
 use Rattle.archive_volumes.proofs.ChangeLaws.{DiskLaws}
 use Rattle.archive_volumes.proofs.VolumeLaws.{IsChange, capture_change, held_some, holds_made, holds_refused, makes_by, makes_refused, measured_capture}
+use Rattle.archive_volumes.proofs.WrittenLaws.{change_refused}
 use Rattle.archive_volumes.proofs.volumes.Volumes.add.Given.{Over}
 use Rattle.archive_volumes.proofs.volumes.Volumes.add.Goals as goal
 
@@ -61,3 +62,11 @@ returns-clause-makes g c =
     let before : Book = book_of c.args.self.now.held in
     makes_by g.D.Disk (disk_laws g) c.args.told.now.value c.args.self.now.journal c.append.new.self before (with_capture before (stored_in c.args.stored))
     (with_more (texts g.D.Disk c.args.self.now.journal) c.args.group.now) (made g c) (Ok c.in_ok-place.place) c.in_ok-place.ensures.change
+
+pub returns-in_err-place-clause-change : goal.returns-in_err-place-clause-change
+returns-in_err-place-clause-change g c tells =
+    change_refused g.D.Disk c.args.self.now.journal c.append.new.self (with_more (texts g.D.Disk c.args.self.now.journal) c.args.group.now)
+    c.in_err-place.field-0.0 c.from_residual.result c.from_residual.ensures.0 (c.in_err-place.ensures.change tells)
+
+pub returns-clause-change : goal.returns-clause-change
+returns-clause-change g c tells = c.in_ok-place.ensures.change tells

@@ -1,11 +1,12 @@
-use Rattle.std.proofs.Common.{rules, ◌≡◌, [], ◌∷◌, ◌++◌, length, Ok, sym, ap, subst, ◌∙◌, arith}
+use Rattle.std.proofs.Common.{rules, ◌≡◌, ℕ, List, [], ◌∷◌, ◌++◌, length, Ok, sym, ap, subst, ◌∙◌, arith}
 use Rattle.capture.specs.declared.book.Book.{Book}
-use Rattle.warc_journal.specs.Journals.{texts}
+use Rattle.warc_journal.specs.Journals.{Changes, texts}
 use Rattle.archive_shelf.specs.Storing.{with_volume}
 use Rattle.archive_volumes.specs.Held.{book_of}
 use Rattle.archive_volumes.specs.Volumes.{HoldsBook, IsMeasured}
 use Rattle.archive_volumes.proofs.ChangeLaws.{DiskLaws}
 use Rattle.archive_volumes.proofs.VolumeLaws.{IsChange, holds_made, holds_refused, makes_by, makes_refused, measured_volume, volume_change}
+use Rattle.archive_volumes.proofs.WrittenLaws.{change_refused}
 use Rattle.archive_volumes.proofs.volumes.Volumes.begin.Given.{Over}
 use Rattle.archive_volumes.proofs.volumes.Volumes.begin.Goals as goal
 
@@ -66,3 +67,16 @@ returns-clause-makes g c =
     let before : Book = book_of c.args.self.now.held in
     makes_by g.D.Disk (disk_laws g) c.args.told.now.value c.args.self.now.journal c.roll.new.self before (with_volume before c.args.prepared.shadow.born)
     (texts g.D.Disk c.args.self.now.journal ++ c.as_slice.result.now ∷ []) (made g c) (Ok tt) c.in_ok-roll.ensures.change
+
+pub returns-in_err-roll-clause-change : goal.returns-in_err-roll-clause-change
+returns-in_err-roll-clause-change g c tells =
+    let given : c.as_slice.result.now ≡ c.args.prepared.info = search rules in
+    subst (λ (info : List ℕ). Changes g.D.Disk c.args.self.now.journal c.roll.new.self (texts g.D.Disk c.args.self.now.journal ++ info ∷ []) c.from_residual.result) given
+    (change_refused g.D.Disk c.args.self.now.journal c.roll.new.self (texts g.D.Disk c.args.self.now.journal ++ c.as_slice.result.now ∷ [])
+    c.in_err-roll.field-0.0 c.from_residual.result c.from_residual.ensures.0 (c.in_err-roll.ensures.change tells))
+
+pub returns-clause-change : goal.returns-clause-change
+returns-clause-change g c tells =
+    let given : c.as_slice.result.now ≡ c.args.prepared.info = search rules in
+    subst (λ (info : List ℕ). Changes g.D.Disk c.args.self.now.journal c.roll.new.self (texts g.D.Disk c.args.self.now.journal ++ info ∷ []) (Ok tt)) given
+    (c.in_ok-roll.ensures.change tells)

@@ -1,4 +1,4 @@
-use Rattle.std.proofs.Common.{rules, ◌≡◌, ◌+◌, List, [], ◌∷◌, ◌++◌, ℕ, ap, ◌∙◌}
+use Rattle.std.proofs.Common.{rules, ◌≡◌, ◌+◌, List, [], ◌∷◌, ◌++◌, ℕ, Ok, ap, subst, ◌∙◌}
 use Rattle.warc_journal.specs.Journals.{disk_of, texts}
 use Rattle.warc_journal.specs.Texts.{with_more}
 use Rattle.warc_journal.specs.declared.place.Place.{Place}
@@ -7,10 +7,12 @@ use Rattle.archive_volumes.specs.Ready.{book_with, room_of, spot_in}
 use Rattle.archive_volumes.specs.Spots.{spot_of}
 use Rattle.archive_volumes.specs.Volumes.{muted}
 use Rattle.archive_volumes.specs.Writing.{texts_with}
+use Rattle.archive_volumes.specs.Written.{WritesTexts}
 use Rattle.archive_volumes.specs.declared.spot.Spot.{Spot}
 use Rattle.archive_volumes.proofs.ChangeLaws.{DiskLaws, laws_muted}
 use Rattle.archive_volumes.proofs.KeepLaws.{kept_made, kept_placed, kept_spots, kept_within, made_left, placed_left, spots_left, within_left}
 use Rattle.archive_volumes.proofs.StoreLaws.{writes_refused}
+use Rattle.archive_volumes.proofs.WrittenLaws.{texts_done, texts_refused}
 use Rattle.archive_volumes.proofs.volumes.Volumes.commit.Given.{Over}
 use Rattle.archive_volumes.proofs.volumes.Volumes.commit.Goals as goal
 
@@ -95,3 +97,22 @@ returns-clause-kept g c =
     ∙ ap (λ (s : Spot). record s { volume = c.in_ok-place.place.volume; at = c.in_ok-place.place.at; head_at = c.in_ok-place.place.at + c.args.ready.layout.head_at }) c.requires.ready.kept
     ∙ ap (λ (p : Place). spot_of (stored_in c.args.ready.stored) c.args.ready.digest p.volume p.at (p.at + c.args.ready.layout.head_at)) c.in_ok-place.ensures.place in
     c.keep.ensures.spots ∙ ap (λ (s : Spot). c.args.spots.now.items ++ s ∷ []) is_spot
+
+pub returns-in_err-place-clause-bytes : goal.returns-in_err-place-clause-bytes
+returns-in_err-place-clause-bytes g c tells =
+    let given : c.as_slice.result.now ≡ c.args.ready.group = search rules in
+    let old = c.args.self.now.journal in
+    let new = c.write.new.self.journal in
+    let room : List (List ℕ) = texts_with (texts g.D.Disk old) c.args.ready.prepared in
+    subst (λ (group : List ℕ). WritesTexts g.D.Disk old new room (with_more room group) c.from_residual.result) given
+    (texts_refused g.D.Disk old new room (with_more room c.as_slice.result.now) c.in_err-place.field-0.0 c.from_residual.result c.from_residual.ensures.0
+    (c.in_err-place.ensures.bytes tells))
+
+pub returns-clause-bytes : goal.returns-clause-bytes
+returns-clause-bytes g c tells =
+    let given : c.as_slice.result.now ≡ c.args.ready.group = search rules in
+    let old = c.args.self.now.journal in
+    let new = c.write.new.self.journal in
+    let room : List (List ℕ) = texts_with (texts g.D.Disk old) c.args.ready.prepared in
+    subst (λ (group : List ℕ). WritesTexts g.D.Disk old new room (with_more room group) (Ok tt)) given
+    (texts_done g.D.Disk old new room (with_more room c.as_slice.result.now) c.in_ok-place.place tt (c.in_ok-place.ensures.bytes tells))

@@ -1,13 +1,16 @@
-use Rattle.std.proofs.Common.{◌≡◌, Option, OnErr, sym, subst}
+use Rattle.std.proofs.Common.{◌≡◌, ℕ, List, [], ◌∷◌, ◌++◌, Option, OnErr, sym, subst}
 use Rattle.capture.specs.declared.book.Book.{Book}
-use Rattle.warc_journal.specs.Journals.{disk_of}
+use Rattle.warc_journal.specs.Journals.{disk_of, texts}
+use Rattle.warc_journal.specs.Texts.{with_more}
 use Rattle.archive_shelf.specs.Storing.{with_capture, with_volume}
 use Rattle.archive_volumes.specs.Held.{book_of, stored_in}
-use Rattle.archive_volumes.specs.Writing.{Writes, with_prepared}
+use Rattle.archive_volumes.specs.Writing.{Writes, texts_with, with_prepared}
+use Rattle.archive_volumes.specs.Written.{WritesTexts}
 use Rattle.archive_volumes.specs.Volumes.{Makes, muted}
 use Rattle.archive_volumes.specs.declared.room.Prepared.{Prepared}
 use Rattle.archive_volumes.proofs.ChangeLaws.{DiskLaws, laws_muted}
 use Rattle.archive_volumes.proofs.StoreLaws.{stays_refused, writes_at, writes_behind, writes_none}
+use Rattle.archive_volumes.proofs.WrittenLaws.{texts_at, texts_behind, texts_none}
 use Rattle.archive_volumes.proofs.volumes.Volumes.write.Given.{Over}
 use Rattle.archive_volumes.proofs.volumes.Volumes.write.Goals as goal
 
@@ -55,3 +58,31 @@ returns-in-None-clause-writes g c =
     now c.add-in-None.result) (sym c.in-None.is)
     (writes_at (muted c.args.told.now.value g.D.Disk) (laws_muted g.D.Disk c.args.told.now.value (disk_laws g)) old new book (with_capture book (stored_in c.args.stored)) now c.add-in-None.result c.add-in-None.ensures.makes
     (stays_refused c.add-in-None.result now book (with_capture book (stored_in c.args.stored)) c.add-in-None.ensures.book))
+
+pub returns-in_err-begin-in-Some-clause-bytes : goal.returns-in_err-begin-in-Some-clause-bytes
+returns-in_err-begin-in-Some-clause-bytes g c tells =
+    let old = c.args.self.now.journal in
+    let new = c.begin.new.self.journal in
+    let room : List (List ℕ) = texts g.D.Disk old ++ c.in-Some.prepared.info ∷ [] in
+    subst (λ (o : Option Prepared). WritesTexts g.D.Disk old new (texts_with (texts g.D.Disk old) o) (with_more (texts_with (texts g.D.Disk old) o) c.args.group.now)
+    c.from_residual.result) (sym c.in-Some.is)
+    (texts_none g.D.Disk old new room (with_more room c.args.group.now) c.in_err-begin-in-Some.field-0.0 c.from_residual.result c.from_residual.ensures.0
+    (c.in_err-begin-in-Some.ensures.change tells))
+
+pub returns-in_ok-begin-in-Some-clause-bytes : goal.returns-in_ok-begin-in-Some-clause-bytes
+returns-in_ok-begin-in-Some-clause-bytes g c tells =
+    let old = c.args.self.now.journal in
+    let new = c.add.new.self.journal in
+    let room : List (List ℕ) = texts g.D.Disk old ++ c.in-Some.prepared.info ∷ [] in
+    subst (λ (o : Option Prepared). WritesTexts g.D.Disk old new (texts_with (texts g.D.Disk old) o) (with_more (texts_with (texts g.D.Disk old) o) c.args.group.now)
+    c.add.result) (sym c.in-Some.is)
+    (texts_behind g.D.Disk old c.begin.new.self.journal new room c.args.group.now c.in_ok-begin-in-Some.field-0 c.add.result
+    (c.in_ok-begin-in-Some.ensures.change tells) (c.add.ensures.change tells))
+
+pub returns-in-None-clause-bytes : goal.returns-in-None-clause-bytes
+returns-in-None-clause-bytes g c tells =
+    let old = c.args.self.now.journal in
+    let new = c.add-in-None.new.self.journal in
+    subst (λ (o : Option Prepared). WritesTexts g.D.Disk old new (texts_with (texts g.D.Disk old) o) (with_more (texts_with (texts g.D.Disk old) o) c.args.group.now)
+    c.add-in-None.result) (sym c.in-None.is)
+    (texts_at g.D.Disk old new (with_more (texts g.D.Disk old) c.args.group.now) c.add-in-None.result (c.add-in-None.ensures.change tells))
