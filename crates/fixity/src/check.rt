@@ -16,8 +16,9 @@ use std::thread::Threads;
 use uuid::Uuid;
 
 /// Whether a volume holds what is due in it: the warcinfo of its number in this namespace, and the groups of `count` captures
-/// from the number `first` on. What a revisit refers to isn't looked up. This thread cuts the groups off a batch, and at most so
-/// many workers, 1 to 16, read them. Of the volume no more than 128 MiB are in memory at once, or one group and an eighth more.
+/// from the number `first` on. What a revisit refers to isn't looked up. At most so many workers, 1 to 16, read the groups of a batch,
+/// of whom this thread is one, which reads the next batch ahead before. Of the volume no more than 128 MiB are in memory at once, or
+/// one group and an eighth more.
 pub fn check_volume<R: Threads + Sync, D: Disk>(
     rt: &R,
     alloc: Global,

@@ -1,18 +1,22 @@
 //! Fixity: whether the bytes of a volume are still what an archive wrote.
 #![tactic(auto)]
 
+mod batch;
 mod check;
+mod crew;
 mod due;
 mod fault;
 mod groups;
 mod info;
 mod laws;
 mod next;
+mod plan;
 mod reading;
 mod remainder;
 mod run;
 mod shares;
 mod verdict;
+mod workers;
 
 pub use check::check_volume;
 pub use fault::FixityFault;

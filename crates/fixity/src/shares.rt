@@ -1,14 +1,10 @@
-//! The groups of a batch, read by many workers.
-ghost use Rattle.std.specs.Prelude.{◌≡◌, ◌+◌, ◌<◌, ◌≤◌, ◌^◌, ℕ, All, List, IfOk, IfSome, IsTrue, drop, length, take};
+//! The shares of a batch, which many workers read.
+ghost use Rattle.std.specs.Prelude.{◌≡◌, ◌+◌, ◌≤◌, ℕ, All, List, IfSome, drop, length, take};
 ghost use Rattle.fixity.specs.declared.shares.Share.{Share as ShareForm};
 ghost use Rattle.fixity.specs.steps.Runs.{RunsTo};
-ghost use Rattle.fixity.specs.steps.Shares.{AreJudged, IsFront, ShareStands};
+ghost use Rattle.fixity.specs.steps.Shares.{ShareStands};
 
-use crate::run::{RunEnd, run_behind};
-use capture::Memory;
-use std::alloc::{AllocError, Global};
-use std::thread::{Threads, for_each_mut};
-use uuid::Uuid;
+use std::alloc::AllocError;
 use warc_scan::told_len;
 
 /// A part of a batch that is whole groups, by the lengths which their records tell, and that one worker reads. Places and lengths
@@ -23,8 +19,6 @@ pub struct Share {
     pub before: u32,
     /// How many groups it has.
     pub groups: u32,
-    /// Whether it was read as so many groups, and as those that are due.
-    pub is_read: bool,
 }
 
 /// Groups at the front of bytes.
@@ -36,68 +30,37 @@ pub struct Front {
     pub len: usize,
 }
 
-/// The groups at the front of a batch, from that with this number on and at most so many, read by at most so many workers: with one
-/// worker none.
-pub fn front_by<R: Threads + Sync>(
-    rt: &R,
-    alloc: Global,
+/// Cuts whole groups off the front of a batch, at most so many, into no more shares than `parts`, which are about equally long, and
+/// tells what all of these have. Into 0 parts nothing is cut.
+pub fn cut(
     bytes: &[u8],
-    namespace: &Uuid,
-    number: u32,
     most: u32,
-    workers: u32,
-) -> Result<Front, Memory>
-    requires numbers { number + most < 2 ^ 32 }
-    requires workers { 0 < workers }
-    ensures front { IfOk result (IsFront namespace.now number bytes.now) }
-    ensures few { IfOk result (λ front. front.groups ≤ most) }
-{
-    let none = Front { groups: 0, len: 0 };
-    if workers == 1 {
-        return Ok(none);
+    parts: usize,
+    shares: &mut Vec<Share>,
+) -> Result<Front, AllocError> {
+    shares.clear();
+    let mut groups = 0;
+    let mut len = 0;
+    if parts == 0 {
+        return Ok(Front { groups, len });
     }
-    let even = bytes.len().div_ceil(workers as usize);
-    let mut shares = cut(alloc, bytes, most, even)?;
-    let front = front_in(
-        rt,
-        alloc,
-        bytes,
-        namespace,
-        number,
-        workers,
-        shares.as_mut_slice(),
-    );
-    // No more groups than that were cut off.
-    if front.groups > most {
-        return Ok(none);
-    }
-    Ok(front)
-}
-
-/// Cuts whole groups off the front of a batch, at most so many. Each share but the last has `least` bytes or more.
-fn cut(alloc: Global, bytes: &[u8], most: u32, least: usize) -> Result<Vec<Share>, AllocError>
-    ensures { IfOk result (λ shares. All (λ (share : ShareForm). share.before + share.groups ≤ most) shares.items) }
-{
-    let mut shares = Vec::new(alloc);
-    let mut at = 0;
-    let mut before = 0;
-    'shares: while before < most {
-        let (_, rest) = bytes.split_at(at);
-        let told = told_front(rest, most - before, least);
+    let least = bytes.len().div_ceil(parts);
+    'shares: while groups < most {
+        let (_, rest) = bytes.split_at(len);
+        let told = told_front(rest, most - groups, least);
         if told.groups == 0 {
-            return Ok(shares);
+            return Ok(Front { groups, len });
         }
         shares.push(Share {
-            at,
+            at: len,
             len: told.len,
-            before,
+            before: groups,
             groups: told.groups,
-            is_read: false,
         })?;
-        at += told.len;
-        before += told.groups;
+        groups += told.groups;
+        len += told.len;
     }
-    Ok(shares)
+    Ok(Front { groups, len })
 }
 
 /// The groups at the front of bytes, by the lengths that their records tell: at most so many, and no more than `least` bytes need.
@@ -121,91 +84,8 @@ fn told_front(bytes: &[u8], most: u32, least: usize) -> Front
     Front { groups, len }
 }
 
-/// The groups of the shares at the front that are as due, where the batch's first group has this number, read by at most so many
-/// workers.
-fn front_in<R: Threads + Sync>(
-    rt: &R,
-    alloc: Global,
-    bytes: &[u8],
-    namespace: &Uuid,
-    number: u32,
-    workers: u32,
-    shares: &mut [Share],
-) -> Front
-    requires workers { 0 < workers }
-    requires numbers { All (λ (share : ShareForm). number + share.before + share.groups < 2 ^ 32) shares.old }
-    ensures { IsFront namespace.now number bytes.now result }
-{
-    judge_all(rt, alloc, bytes, namespace, number, workers, shares);
-    front_of(shares)
-}
-
-/// Reads each share as the groups that are due in it, where the batch's first has this number, by at most so many workers.
-fn judge_all<R: Threads + Sync>(
-    rt: &R,
-    alloc: Global,
-    bytes: &[u8],
-    namespace: &Uuid,
-    number: u32,
-    workers: u32,
-    shares: &mut [Share],
-)
-    requires workers { 0 < workers }
-    requires numbers { All (λ (share : ShareForm). number + share.before + share.groups < 2 ^ 32) shares.old }
-    ensures { AreJudged namespace.now number bytes.now shares.new }
-{
-    let judge = |_: usize, share: &mut Share|
-        requires { number + share.old.before + share.old.groups < 2 ^ 32 }
-        ensures { IsTrue share.new.is_read → ShareStands namespace.entry.now number bytes.entry.now share.new }
-    { judge_share(alloc, bytes, namespace, number, share) };
-    for_each_mut(rt, shares, workers as usize, &judge);
-}
-
-/// Reads a share as the groups that are due in it, where the batch's first has this number.
-fn judge_share(alloc: Global, bytes: &[u8], namespace: &Uuid, number: u32, share: &mut Share)
-    requires { number + share.old.before + share.old.groups < 2 ^ 32 }
-    ensures { IsTrue share.new.is_read → ShareStands namespace.now number bytes.now share.new }
-{
-    share.is_read = stands(alloc, bytes, namespace, number, *share);
-}
-
-/// Whether a share is the groups that are due in it, where the batch's first has this number.
-fn stands(alloc: Global, bytes: &[u8], namespace: &Uuid, number: u32, share: Share) -> bool
-    requires { number + share.before + share.groups < 2 ^ 32 }
-    ensures { IsTrue result → ShareStands namespace.now number bytes.now share }
-{
-    let Some(text) = part_of(bytes, share.at, share.len) else {
-        return false;
-    };
-    is_run(alloc, text, namespace, number + share.before, share.groups)
-}
-
-/// Whether the bytes are so many groups from that with this number on, and nothing else.
-fn is_run(alloc: Global, bytes: &[u8], namespace: &Uuid, number: u32, groups: u32) -> bool
-    requires { number + groups < 2 ^ 32 }
-    ensures { IsTrue result → RunsTo namespace.now number bytes.now groups (length bytes.now) }
-{
-    let none = Front { groups: 0, len: 0 };
-    match run_behind(
-        alloc,
-        bytes,
-        bytes.len() as u64,
-        namespace,
-        number,
-        groups,
-        none,
-    ) {
-        Ok(run) => match run.end {
-            RunEnd::Whole => run.len == bytes.len() as u64,
-            RunEnd::Missing => false,
-            RunEnd::Need(_) => false,
-        },
-        Err(Memory) => false,
-    }
-}
-
 /// So many bytes from a place on, if they are there.
-fn part_of(bytes: &[u8], at: usize, len: usize) -> Option<&[u8]>
+pub fn part_of(bytes: &[u8], at: usize, len: usize) -> Option<&[u8]>
     ensures text { IfSome result (λ text. text.now ≡ take len (drop at bytes.now)) }
     ensures len { IfSome result (λ text. length text.now ≡ len) }
 {
@@ -220,35 +100,34 @@ fn part_of(bytes: &[u8], at: usize, len: usize) -> Option<&[u8]>
     Some(text)
 }
 
-/// The groups of the shares at the front that were read as theirs, one behind the other.
-fn front_of(shares: &[Share]) -> Front
-    ensures { (namespace : List ℕ) (number : ℕ) (bytes : List ℕ) → AreJudged namespace number bytes shares.now → IsFront namespace number bytes result }
+/// The groups at the front and those of such shares as go on from there, in their order.
+pub fn with_each(front: Front, shares: &[Share]) -> Front
+    ensures { (namespace : List ℕ) (number : ℕ) (bytes : List ℕ) → All (λ (share : ShareForm). ShareStands namespace number bytes share) shares.now
+        → RunsTo namespace number bytes front.groups front.len → RunsTo namespace number bytes result.groups result.len }
 {
-    let mut front = Front { groups: 0, len: 0 };
+    let mut longer = front;
     'shares: for i in 0..shares.len() {
-        match with_share(front, shares[i]) {
-            Some(longer) => front = longer,
-            None => return front,
-        }
+        longer = with_share(longer, shares[i]);
     }
-    front
+    longer
 }
 
-/// The groups at the front and those of the next share, if it was read as its groups and begins where they end.
-fn with_share(front: Front, share: Share) -> Option<Front>
-    ensures { IfSome result (λ longer. IsTrue share.is_read × (share.before ≡ front.groups) × (share.at ≡ front.len)
-        × (longer.groups ≡ front.groups + share.groups) × (longer.len ≡ front.len + share.len)) }
+/// The groups at the front, and those of the share if it begins where these end.
+fn with_share(front: Front, share: Share) -> Front
+    ensures { (namespace : List ℕ) (number : ℕ) (bytes : List ℕ) → ShareStands namespace number bytes share
+        → RunsTo namespace number bytes front.groups front.len → RunsTo namespace number bytes result.groups result.len }
 {
-    if !share.is_read {
-        return None;
-    }
     if share.before != front.groups {
-        return None;
+        return front;
     }
     if share.at != front.len {
-        return None;
+        return front;
     }
-    let groups = front.groups.checked_add(share.groups)?;
-    let len = front.len.checked_add(share.len)?;
-    Some(Front { groups, len })
+    let Some(groups) = front.groups.checked_add(share.groups) else {
+        return front;
+    };
+    let Some(len) = front.len.checked_add(share.len) else {
+        return front;
+    };
+    Front { groups, len }
 }
