@@ -6,7 +6,7 @@ use Rattle.capture.specs.declared.captured.Taken.{Taken}
 use Rattle.disk_model.specs.Image.{Image}
 use Rattle.disk_model.specs.declared.disk.Disk.{Ghosts}
 use Rattle.warc_journal.specs.Extents.{cdxj_files}
-use Rattle.warc_journal.specs.Journals.{disk_of, last_len}
+use Rattle.warc_journal.specs.Journals.{Rests, disk_of, extent_of}
 use Rattle.warc_journal.specs.declared.journal.Journal.{Journal}
 use Rattle.archive_shelf.proofs.CallLaws.{leaves_no_more_itself, stores_behind, unwritten_store}
 use Rattle.archive_shelf.specs.Answers.{CountsIf, StoreLeaves, is_store_fault}
@@ -20,9 +20,10 @@ use Rattle.archive_core.specs.Looking.{LooksFor, OnlyLooks}
 use Rattle.archive_core.specs.Stores.{Admits, Stores}
 use Rattle.archive_core.specs.Told.{told_of}
 use Rattle.archive_volumes.specs.Volumes.{crash_of, muted}
-use Rattle.archive_core.proofs.FillLaws.{fills_after}
+use Rattle.archive_core.proofs.FillLaws.{fills_after, fills_none}
 use Rattle.archive_volumes.proofs.ChangeLaws.{DiskLaws, laws_muted}
 use Rattle.archive_volumes.proofs.StoreLaws.{opens_earlier}
+use Rattle.archive_volumes.proofs.WrittenLaws.{rests_itself}
 
 -- ---- nothing was written
 
@@ -39,7 +40,7 @@ full_stores d laws was taken (stores.Full count limit) full = record {
         (leaves_no_more_itself (crash_of (muted was.told d) (disk_of was.journal)));
   };
   just = tt;
-  fills = tt;
+  fills = λ tells. rests_itself d (disk_of was.journal);
   bytes = λ tells. ((λ none. refl), refl);
 }
 full_stores d laws was taken stores.DiskFault full = absurd full
@@ -56,7 +57,7 @@ full_exit d laws was taken fault (Err other) is full =
 
 module _ {D : Type 0} (d : Ghosts D) (laws : DiskLaws d) (was : Holdings D) (journal : Journal D) (taken : Taken)
     (unwritten : WritesNothing true (told_of d was) (told_of d (record was { journal = journal })))
-    (read : IsTrue d.tells → d.reading (disk_of journal) ≡ d.reading (disk_of was.journal)) where
+    (rests : IsTrue d.tells → Rests d (disk_of was.journal) (disk_of journal)) where
   abbrev looked : Holdings D
   looked = record was { journal = journal }
 
@@ -73,8 +74,8 @@ module _ {D : Type 0} (d : Ghosts D) (laws : DiskLaws d) (was : Holdings D) (jou
           (opens_earlier (muted was.told d) (laws_muted d was.told laws) (disk_of journal)) unwritten.crash;
     };
     just = tt;
-    fills = tt;
-    bytes = λ tells. ((λ none. read tells), ap (λ (image : Image). cdxj_files image) (read tells));
+    fills = fills_none d was looked taken fault rests;
+    bytes = λ tells. ((λ none. (rests tells).read), ap (λ (image : Image). cdxj_files image) (rests tells).read);
   }
 
   fault_by : length (captures was.book) < was.limits.captures → (fault : StoreFault)
@@ -90,18 +91,18 @@ module _ {D : Type 0} (d : Ghosts D) (laws : DiskLaws d) (was : Holdings D) (jou
 
   -- ---- and then a store
 
-  pub then_by : d.faults (disk_of journal) ≡ d.faults (disk_of was.journal) → last_len journal ≡ last_len was.journal
+  pub then_by : d.faults (disk_of journal) ≡ d.faults (disk_of was.journal) → extent_of journal ≡ extent_of was.journal
       → (is : Holdings D) (result : Result Receipt StoreFault)
       → Stores d (record was { journal = journal }) is taken result → Stores d was is taken result
-  then_by steady ends is result stored = record {
+  then_by steady extent is result stored = record {
     told = stores_behind true taken (told_of d was) (told_of d looked) (told_of d is) result refl steady
         (opens_earlier (muted was.told d) (laws_muted d was.told laws) (disk_of journal)) unwritten
         stored.told;
     just = stored.just;
-    fills = fills_after was is journal taken ends result stored.fills;
+    fills = fills_after d was is journal taken extent rests result stored.fills;
     bytes = λ tells. (
-      λ none. (stored.bytes tells).0 none ∙ read tells,
-      (stored.bytes tells).1 ∙ ap (λ (image : Image). cdxj_files image) (read tells),
+      λ none. (stored.bytes tells).0 none ∙ (rests tells).read,
+      (stored.bytes tells).1 ∙ ap (λ (image : Image). cdxj_files image) (rests tells).read,
     );
   }
 
@@ -114,7 +115,7 @@ known_by {D} d was mid looks =
 pub stores_after : {D : Type 0} (d : Ghosts D) (laws : DiskLaws d) (was mid is : Holdings D) (taken : Taken) (result : Result Receipt StoreFault)
     → OnlyLooks d was mid → d.faults (disk_of mid.journal) ≡ d.faults (disk_of was.journal) → Stores d mid is taken result → Stores d was is taken result
 stores_after {D} d laws was mid is taken result looks steady stored =
-    then_by d laws was mid.journal taken (known_by d was mid looks) looks.reading steady looks.ends is result
+    then_by d laws was mid.journal taken (known_by d was mid looks) looks.bytes steady looks.extent is result
     (subst (λ (held : Holdings D). Stores d held is taken result) looks.others stored)
 
 pub fault_after : {D : Type 0} (d : Ghosts D) (laws : DiskLaws d) (was mid : Holdings D) (taken : Taken) (fault : StoreFault)
@@ -123,7 +124,7 @@ pub fault_after : {D : Type 0} (d : Ghosts D) (laws : DiskLaws d) (was mid : Hol
     → Stores d was mid taken (Err fault)
 fault_after {D} d laws was mid taken fault looks not_full answer counts =
     subst (λ (held : Holdings D). Stores d was held taken (Err fault)) (sym looks.others)
-    (fault_by d laws was mid.journal taken (known_by d was mid looks) looks.reading not_full fault
+    (fault_by d laws was mid.journal taken (known_by d was mid looks) looks.bytes not_full fault
     (subst (λ (held : Holdings D). LooksFor (contents_of held) taken (Err fault)) looks.others answer) counts)
 
 -- and the same where a `?` hands the fault out

@@ -22,7 +22,8 @@ use Rattle.disk_model.specs.declared.disk.Disk.{Ghosts}
 use Rattle.httparse.specs.Grammar as grammar
 use Rattle.revisit_table.specs.Table.{Table}
 use Rattle.warc_journal.specs.Extents.{cdxj_files}
-use Rattle.warc_journal.specs.Journals.{disk_of, last_len, texts}
+use Rattle.warc_journal.specs.Journals.{Rests, disk_of, last_len, texts}
+use Rattle.warc_journal.specs.Texts.{with_more}
 use Rattle.warc_journal.specs.declared.journal.Journal.{Journal}
 use Rattle.warc_text.proofs.BookLaws.{get_behind}
 use Rattle.warc_text.specs.Books.{AreVolumeTexts, IsVolumeText}
@@ -53,6 +54,7 @@ use Rattle.archive_volumes.specs.Spots.{AreHeldWhole, ArePlaced, AreSpotsOf, Are
 use Rattle.archive_core.specs.Stores.{FillsVolumes, Stores}
 use Rattle.archive_core.specs.Told.{told_of}
 use Rattle.archive_volumes.specs.Writing.{HasRoomFor, IsWay, TakesSo, Writes, end_with, texts_with, with_prepared}
+use Rattle.archive_volumes.specs.Written.{WritesTexts}
 use Rattle.archive_volumes.specs.Volumes.{HoldsBook, IsMeasured, crash_of, muted}
 use Rattle.archive_volumes.specs.declared.entry.RecordAt.{RecordAt}
 use Rattle.archive_volumes.specs.declared.room.Prepared.{Prepared}
@@ -68,6 +70,7 @@ use Rattle.archive_core.proofs.ShownLaws.{numbered_with, taken_out}
 use Rattle.archive_volumes.proofs.StoreLaws.{quiet_itself, store_covered, store_kept, store_later, store_moves, store_refused}
 use Rattle.archive_core.proofs.StoredLaws.{archive_left, archive_stored}
 use Rattle.archive_volumes.proofs.TakenGroup.{IsGroupWith}
+use Rattle.archive_volumes.proofs.WrittenLaws.{rests_itself, texts_done, texts_refused}
 use Rattle.archive_volumes.proofs.WayLaws.{by_rule, group_with, needed_by, room_captures, room_gains, room_namespace, room_some, way}
 use Rattle.archive_core.proofs.NamedLaws.{behind_new, named_after, named_same, numbered_new}
 
@@ -147,7 +150,7 @@ module _ {D : Type 0} (d : Ghosts D) (was is : Holdings D) (journal_is : is.jour
       };
     };
     just = tt;
-    fills = tt;
+    fills = λ tells. subst (λ (j : Journal D). Rests d (disk_of was.journal) (disk_of j)) (sym journal_is) (rests_itself d (disk_of was.journal));
     bytes = λ tells.
         ((λ none. ap (λ (j : Journal D). d.reading (disk_of j)) journal_is), ap (λ (j : Journal D). cdxj_files (d.reading (disk_of j))) journal_is);
   }
@@ -432,9 +435,11 @@ module _ {D : Type 0} (d : Ghosts D) (basis : StoringBasis) (was : Holdings D) (
             → Writes {T = T} {E = E} (muted was.told d) (disk_of now.journal) (disk_of journal) (book_of now.held) (with_prepared (book_of now.held) ready.prepared)
             (with_capture (with_prepared (book_of now.held) ready.prepared) (stored_in ready.stored)) after (Err fault)
             → CountsFaults {T = T} {E = E} (d.faults (disk_of now.journal)) (d.faults (disk_of journal)) (Err fault)
+            → (IsTrue d.tells → WritesTexts {T = T} {E = E} d now.journal journal (texts_with (texts d now.journal) ready.prepared)
+            (with_more (texts_with (texts d now.journal) ready.prepared) ready.group) (Err fault))
             → Stores d (in_volumes was now) (record was { journal = journal; book = after; table = table; index = index; spots = spots })
             incoming.taken (Err stores.DiskFault)
-        refused_stores {T} {E} fault writes counts =
+        refused_stores {T} {E} fault writes counts wrote =
             let is : Holdings D = record was { journal = journal; book = after; table = table; index = index; spots = spots } in
             let answer : Result T E = Err fault in
             let old : D = disk_of now.journal in
@@ -472,7 +477,13 @@ module _ {D : Type 0} (d : Ghosts D) (basis : StoringBasis) (was : Holdings D) (
                 };
               };
               just = tt;
-              fills = tt;
+              fills = inr (
+                incoming.same,
+                fills_by d (in_volumes was now) is now incoming.taken incoming.same u.payload ready.group refl refl u.has u.ready_is.group ready.prepared
+                    u.ready_is.room u.ready_is.born u.ready_is.decided (Err stores.DiskFault) tt tt
+                    (λ tells. texts_refused d now.journal journal (texts_with (texts d now.journal) ready.prepared)
+                    (with_more (texts_with (texts d now.journal) ready.prepared) ready.group) fault (Err stores.DiskFault) refl (wrote tells)),
+              );
               bytes = λ tells. ((λ none. absurd none), others tells);
             }
 
@@ -542,10 +553,12 @@ module _ {D : Type 0} (d : Ghosts D) (basis : StoringBasis) (was : Holdings D) (
             (with_capture (with_prepared (book_of now.held) ready.prepared) (stored_in ready.stored)) after (Ok value)
             → CountsFaults {T = T} {E = E} (d.faults (disk_of now.journal)) (d.faults (disk_of journal)) (Ok value)
             → last_len journal ≡ end_with now ready.prepared + length ready.group
+            → (IsTrue d.tells → WritesTexts {T = T} {E = E} d now.journal journal (texts_with (texts d now.journal) ready.prepared)
+            (with_more (texts_with (texts d now.journal) ready.prepared) ready.group) (Ok value))
             → (receipt : Receipt) → receipt.number ≡ length (captures (book_of now.held)) → receipt.same_as ≡ incoming.same
             → Stores d (in_volumes was now) (record was { journal = journal; book = after; table = table; index = index; spots = spots; revisits = revisits })
             incoming.taken (Ok receipt)
-        stored_stores {T} {E} value writes counts ends receipt number_is same_is =
+        stored_stores {T} {E} value writes counts ends wrote receipt number_is same_is =
             let is : Holdings D = record was { journal = journal; book = after; table = table; index = index; spots = spots; revisits = revisits } in
             let answer : Result T E = Ok value in
             let old : D = disk_of now.journal in
@@ -567,7 +580,9 @@ module _ {D : Type 0} (d : Ghosts D) (basis : StoringBasis) (was : Holdings D) (
               };
               just = λ told image now. subst (HasJust image) (sym with_it) (writes.just told image now);
               bytes = λ tells. ((λ none. absurd none), others tells);
-              fills = subst (λ (same : Option ℕ). FillsVolumes (in_volumes was now) is incoming.taken same) (sym same_is)
-                  (fills_by (in_volumes was now) is now incoming.taken incoming.same u.payload ready.group refl refl u.has u.ready_is.group ready.prepared
-                  u.ready_is.room u.ready_is.born u.ready_is.decided stored_is ends);
+              fills = subst (λ (same : Option ℕ). FillsVolumes d (in_volumes was now) is incoming.taken same (Ok receipt)) (sym same_is)
+                  (fills_by d (in_volumes was now) is now incoming.taken incoming.same u.payload ready.group refl refl u.has u.ready_is.group ready.prepared
+                  u.ready_is.room u.ready_is.born u.ready_is.decided (Ok receipt) stored_is ends
+                  (λ tells. texts_done d now.journal journal (texts_with (texts d now.journal) ready.prepared)
+                  (with_more (texts_with (texts d now.journal) ready.prepared) ready.group) value receipt (wrote tells)));
             }

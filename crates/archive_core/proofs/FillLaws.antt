@@ -1,32 +1,48 @@
--- A volume is begun exactly where a capture needs one.
-use Rattle.std.proofs.Common.{◌≡◌, ℕ, ◌+◌, true, false, List, length, Option, Some, None, Result, Ok, Err, if◌then◌else◌, sym, ap, subst, ◌∙◌}
-use Rattle.std.specs.Prelude.{IfOk, IfSome}
+-- What a store leaves of the volumes.
+use Rattle.std.proofs.Common.{◌≡◌, ◌⊎◌, ℕ, ◌+◌, Bool, true, false, IsTrue, List, [], ◌∷◌, ◌++◌, length, Option, Some, None, Result, Ok, Err, OnOk, if◌then◌else◌, sym, ap, subst, ◌∙◌, inl, inr, ⊎_elim}
+use Rattle.std.specs.Prelude.{IfSome}
 use Rattle.capture.specs.Captures.{HasPayload}
 use Rattle.capture.specs.declared.book.Book.{Book}
 use Rattle.capture.specs.declared.captured.Taken.{Taken}
-use Rattle.warc_journal.specs.Journals.{last_len}
+use Rattle.disk_model.specs.declared.disk.Disk.{Ghosts}
+use Rattle.warc_journal.specs.Journals.{Rests, disk_of, extent_of, last_len, texts}
+use Rattle.warc_journal.specs.Texts.{with_more}
+use Rattle.warc_journal.specs.declared.extent.Extent.{Extent}
 use Rattle.warc_journal.specs.declared.journal.Journal.{Journal}
 use Rattle.warc_text.specs.Records.{info_text}
 use Rattle.archive_shelf.specs.Storing.{as_stored, with_capture, with_volume}
 use Rattle.archive_shelf.specs.declared.fault.StoreFault.{StoreFault}
+use Rattle.archive_shelf.specs.declared.fault.StoreFault.TheVariants as stores
 use Rattle.archive_shelf.specs.declared.receipt.Receipt.{Receipt}
 use Rattle.archive_core.specs.Holdings.{Holdings}
-use Rattle.archive_core.specs.Stores.{FillsVolumes}
+use Rattle.archive_core.specs.Looking.{KeepsBytes}
+use Rattle.archive_core.specs.Stores.{Fills, FillsVolumes, texts_where}
+use Rattle.archive_volumes.proofs.VolumeLaws.{texts_rest}
+use Rattle.archive_volumes.proofs.WrittenLaws.{rests_on, texts_since}
 use Rattle.archive_volumes.specs.Grouping.{IsGroupFor}
 use Rattle.archive_volumes.specs.Held.{book_of}
-use Rattle.archive_volumes.specs.Writing.{HasRoomFor, IsDecided, IsNeeded, end_with, with_prepared}
+use Rattle.archive_volumes.specs.Writing.{HasRoomFor, IsDecided, IsNeeded, end_with, texts_with, with_prepared}
+use Rattle.archive_volumes.specs.Written.{WritesTexts}
 use Rattle.archive_volumes.specs.declared.room.Prepared.{Prepared}
 use Rattle.archive_volumes.specs.declared.volumes.Volumes.{Volumes}
 
--- by what was made ready for the capture, and by what is held once it is written
-pub fills_by : {D : Type 0} (was is : Holdings D) (now : Volumes D) (taken : Taken) (same : Option ℕ) (payload group : List ℕ)
+on_ok : {T E A B : Type 0} (result : Result T E) → (A → B) → OnOk result A → OnOk result B
+on_ok (Ok v) go on = go on
+on_ok (Err e) go on = tt
+
+-- by what was made ready for the capture, and by what is held once it is written, or refused
+pub fills_by : {D : Type 0} (d : Ghosts D) (was is : Holdings D) (now : Volumes D) (taken : Taken) (same : Option ℕ) (payload group : List ℕ)
     → was.journal ≡ now.journal → was.book ≡ book_of now.held → HasPayload taken.cut taken.method taken.head taken.wire payload
     → IsGroupFor was.book taken payload same group → (prepared : Option Prepared) → HasRoomFor now prepared
     → IfSome prepared (λ (p : Prepared). p.shadow.born ≡ taken.date)
     → IsDecided was.limits.volume_bytes was.book (last_len was.journal) (length group) prepared
-    → is.book ≡ with_capture (with_prepared was.book prepared) (as_stored taken same)
-    → last_len is.journal ≡ end_with now prepared + length group → FillsVolumes was is taken same
-fills_by {D} was is now taken same payload group journal_is book_is has of None room born decided book ends = record {
+    → (result : Result Receipt StoreFault)
+    → OnOk result (is.book ≡ with_capture (with_prepared was.book prepared) (as_stored taken same))
+    → OnOk result (last_len is.journal ≡ end_with now prepared + length group)
+    → (IsTrue d.tells → WritesTexts d now.journal is.journal (texts_with (texts d now.journal) prepared)
+    (with_more (texts_with (texts d now.journal) prepared) group) result)
+    → FillsVolumes d was is taken same result
+fills_by {D} d was is now taken same payload group journal_is book_is has of None room born decided result book ends wrote = record {
   payload = payload;
   has = has;
   group = group;
@@ -34,35 +50,91 @@ fills_by {D} was is now taken same payload group journal_is book_is has of None 
   begun = false;
   needed = decided;
   book = book;
-  ends = ends ∙ sym (ap (λ (j : Journal D). last_len j + length group) journal_is);
+  ends = on_ok result
+      (λ (end : last_len is.journal ≡ last_len now.journal + length group).
+      end ∙ sym (ap (λ (j : Journal D). last_len j + length group) journal_is))
+      ends;
+  bytes = λ tells.
+      subst (λ (j : Journal D). WritesTexts d j is.journal (texts d j) (with_more (texts d j) group) result) (sym journal_is) (wrote tells);
 }
-fills_by {D} was is now taken same payload group journal_is book_is has of (Some p) room born decided book ends = record {
-  payload = payload;
-  has = has;
-  group = group;
-  of = of;
-  begun = true;
-  needed = decided;
-  book = book ∙ ap (λ (n : ℕ). with_capture (with_volume was.book n) (as_stored taken same)) born;
-  ends = ends
-      ∙ ap (λ (text : List ℕ). length text + length group) (room.prepared_is.info
-      ∙ ap (λ (n : ℕ). info_text (book_of now.held).namespace (length (book_of now.held).volumes) n) born)
-      ∙ sym (ap (λ (b : Book). length (info_text b.namespace (length b.volumes) taken.date) + length group) book_is);
-}
+fills_by {D} d was is now taken same payload group journal_is book_is has of (Some p) room born decided result book ends wrote =
+    let info : List ℕ = info_text was.book.namespace (length was.book.volumes) taken.date in
+    let info_is : p.info ≡ info =
+    room.prepared_is.info
+    ∙ ap (λ (n : ℕ). info_text (book_of now.held).namespace (length (book_of now.held).volumes) n) born
+    ∙ sym (ap (λ (b : Book). info_text b.namespace (length b.volumes) taken.date) book_is) in
+    record {
+      payload = payload;
+      has = has;
+      group = group;
+      of = of;
+      begun = true;
+      needed = decided;
+      book = on_ok result
+          (λ (stored : is.book ≡ with_capture (with_volume was.book p.shadow.born) (as_stored taken same)).
+          stored ∙ ap (λ (n : ℕ). with_capture (with_volume was.book n) (as_stored taken same)) born)
+          book;
+      ends = on_ok result
+          (λ (end : last_len is.journal ≡ length p.info + length group). end ∙ ap (λ (text : List ℕ). length text + length group) info_is)
+          ends;
+      bytes = λ tells.
+          subst (λ (j : Journal D). WritesTexts d j is.journal (texts d j ++ info ∷ []) (with_more (texts d j ++ info ∷ []) group) result) (sym journal_is)
+          (subst (λ (text : List ℕ). WritesTexts d now.journal is.journal (texts d now.journal ++ text ∷ [])
+          (with_more (texts d now.journal ++ text ∷ []) group) result) info_is (wrote tells));
+    }
 
--- and the same where the disk was read before
-pub fills_after : {D : Type 0} (was is : Holdings D) (journal : Journal D) (taken : Taken) → last_len journal ≡ last_len was.journal
-    → (result : Result Receipt StoreFault) → IfOk result (λ receipt. FillsVolumes (record was { journal = journal }) is taken receipt.same_as)
-    → IfOk result (λ receipt. FillsVolumes was is taken receipt.same_as)
-fills_after was is journal taken ends (Ok receipt) f = record {
-  payload = f.payload;
-  has = f.has;
-  group = f.group;
-  of = f.of;
-  begun = f.begun;
-  needed = subst (λ (n : ℕ). IsNeeded was.limits.volume_bytes was.book n (length f.group) f.begun) ends f.needed;
-  book = f.book;
-  ends = subst (λ (n : ℕ). last_len is.journal
-      ≡ (if f.begun then length (info_text was.book.namespace (length was.book.volumes) taken.date) else n) + length f.group) ends f.ends;
-}
-fills_after was is journal taken ends (Err fault) f = tt
+-- nothing was written
+pub fills_none : {D : Type 0} (d : Ghosts D) (was is : Holdings D) (taken : Taken) (fault : StoreFault) → KeepsBytes d was is → Fills d was is taken (Err fault)
+fills_none d was is taken (stores.Full count limit) kept = kept
+fills_none d was is taken stores.DiskFault kept = inl kept
+fills_none d was is taken (stores.Damaged number kept found) bytes = bytes
+fills_none d was is taken stores.Memory kept = kept
+
+-- ---- and the same where the disk was read before
+
+module _ {D : Type 0} (d : Ghosts D) (was is : Holdings D) (journal : Journal D) (taken : Taken) (extent : extent_of journal ≡ extent_of was.journal)
+    (rests : IsTrue d.tells → Rests d (disk_of was.journal) (disk_of journal)) where
+  abbrev looked : Holdings D
+  looked = record was { journal = journal }
+
+  kept_after : KeepsBytes d looked is → KeepsBytes d was is
+  kept_after kept tells = rests_on d (disk_of was.journal) (disk_of journal) (disk_of is.journal) (rests tells) (kept tells)
+
+  read_same : IsTrue d.tells → texts d journal ≡ texts d was.journal
+  read_same tells = texts_rest d was.journal journal (rests tells) extent
+
+  where_same : (begun : Bool) → IsTrue d.tells → texts_where d looked begun taken.date ≡ texts_where d was begun taken.date
+  where_same true tells =
+      ap (λ (all : List (List ℕ)). all ++ info_text was.book.namespace (length was.book.volumes) taken.date ∷ []) (read_same tells)
+  where_same false tells = read_same tells
+
+  volumes_after : (same : Option ℕ) (result : Result Receipt StoreFault) → FillsVolumes d looked is taken same result
+      → FillsVolumes d was is taken same result
+  volumes_after same result f =
+      let end_is : last_len journal ≡ last_len was.journal = ap (λ (e : Extent). e.end) extent in
+      record {
+        payload = f.payload;
+        has = f.has;
+        group = f.group;
+        of = f.of;
+        begun = f.begun;
+        needed = subst (λ (n : ℕ). IsNeeded was.limits.volume_bytes was.book n (length f.group) f.begun) end_is f.needed;
+        book = f.book;
+        ends = subst (λ (n : ℕ). OnOk result (last_len is.journal
+            ≡ (if f.begun then length (info_text was.book.namespace (length was.book.volumes) taken.date) else n) + length f.group)) end_is f.ends;
+        bytes = λ tells.
+            texts_since d was.journal journal is.journal (texts_where d was f.begun taken.date) (with_more (texts_where d was f.begun taken.date) f.group)
+            result (rests tells) (read_same tells)
+            (subst (λ (room : List (List ℕ)). WritesTexts d journal is.journal room (with_more room f.group) result) (where_same f.begun tells) (f.bytes tells));
+      }
+
+  pub fills_after : (result : Result Receipt StoreFault) → Fills d (record was { journal = journal }) is taken result → Fills d was is taken result
+  fills_after (Ok receipt) f = volumes_after receipt.same_as (Ok receipt) f
+  fills_after (Err (stores.Full count limit)) kept = kept_after kept
+  fills_after (Err stores.DiskFault) f = ⊎_elim
+      (λ (kept : KeepsBytes d looked is). inl (kept_after kept))
+      (λ (put : (same : Option ℕ) × FillsVolumes d looked is taken same (Err stores.DiskFault)).
+      inr (put.0, volumes_after put.0 (Err stores.DiskFault) put.1))
+      f
+  fills_after (Err (stores.Damaged number digest found)) kept = kept_after kept
+  fills_after (Err stores.Memory) kept = kept_after kept

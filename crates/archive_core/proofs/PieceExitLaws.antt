@@ -7,6 +7,7 @@ use Rattle.capture.specs.Captures.{IsPayloadOf, captures, taken_back}
 use Rattle.capture.specs.Growth.{Grows}
 use Rattle.capture.specs.Message.{IsResponseHeadText}
 use Rattle.capture.specs.declared.book.Book.{Book}
+use Rattle.capture.specs.declared.book.Volume.{Volume}
 use Rattle.capture.specs.declared.captured.Kept.{Kept}
 use Rattle.capture.specs.declared.captured.Kept.TheVariants.{Wire, Same, Cut}
 use Rattle.capture.specs.declared.captured.Stored.{Stored}
@@ -25,6 +26,7 @@ use Rattle.warc_journal.specs.Texts.{with_more}
 use Rattle.warc_text.proofs.BookLaws.{get_behind}
 use Rattle.warc_text.specs.Books.{IsGroupText, IsVolumeText}
 use Rattle.warc_text.specs.Lengths.{request_length}
+use Rattle.warc_text.specs.Records.{info_text}
 use Rattle.warc_text.specs.References.{Reference}
 use Rattle.warc_text.specs.Sound.{IsSound}
 use Rattle.warc_scan.specs.Groups.{IsAnswer, IsGroup, reference_in}
@@ -39,14 +41,17 @@ use Rattle.archive_opening.proofs.PlaceLaws.{answer_and_request}
 use Rattle.archive_opening.specs.Noting.{referring}
 use Rattle.archive_opening.specs.Reading.{Laws}
 use Rattle.archive_volumes.proofs.WayLaws.{room_captures, room_gains}
+use Rattle.archive_volumes.proofs.WrittenLaws.{texts_done, texts_refused}
 use Rattle.archive_volumes.specs.Entries.{EntersAs, IsEntryAt, entered}
 use Rattle.archive_volumes.specs.Held.{book_of, stored_in}
 use Rattle.archive_volumes.specs.Ready.{CanCommit, record_in, spot_in}
 use Rattle.archive_volumes.specs.Spots.{AreHeldWhole, ArePlaced, AreSpotsOf, AreWithin, IsPlaced, spot_of, text_at, whole_from}
 use Rattle.archive_volumes.specs.Volumes.{HoldsBook, IsMeasured, muted}
-use Rattle.archive_volumes.specs.Writing.{Writes, end_with, texts_with, with_prepared}
+use Rattle.archive_volumes.specs.Writing.{HasRoomFor, Writes, end_with, texts_with, with_prepared}
+use Rattle.archive_volumes.specs.Written.{WritesTexts}
 use Rattle.archive_volumes.specs.declared.entry.RecordAt.{RecordAt}
 use Rattle.archive_volumes.specs.declared.ready.Ready.{Ready}
+use Rattle.archive_volumes.specs.declared.room.Prepared.{Prepared}
 use Rattle.archive_volumes.specs.declared.spot.Spot.{Spot}
 use Rattle.archive_volumes.specs.declared.volumes.Volumes.{Volumes}
 use Rattle.archive_core.specs.Basis.{StoringBasis}
@@ -55,7 +60,8 @@ use Rattle.archive_pieces.specs.PieceFaults.{is_take_fault}
 use Rattle.archive_pieces.specs.PieceParts.{book_by, room_by}
 use Rattle.archive_pieces.specs.PieceReady.{IsReadyGroup, IsWithinBounds, MakesRoom, MayHold, RefersSo, end_in}
 use Rattle.archive_core.specs.Shown.{numbered, numbers_from}
-use Rattle.archive_core.specs.TakingPieces.{IsUntouched, Puts}
+use Rattle.archive_core.specs.TakingPieces.{IsUntouched, Puts, disk_failed}
+use Rattle.archive_core.specs.Texts.{texts_room}
 use Rattle.archive_pieces.specs.declared.fault.PieceFault.{PieceFault}
 use Rattle.archive_pieces.specs.declared.fault.PieceFault.TheVariants as pieces
 use Rattle.archive_core.proofs.EnterLaws.{TellsOfCapture, known_left, known_room, known_with, known_without, tells_of_new}
@@ -97,6 +103,36 @@ memory_faults {D} d was is same (Err other) fault =
   where
     err : PieceFault → Result ℕ PieceFault
     err f = Err f
+
+-- ---- room
+
+abbrev first_born : List Volume → ℕ
+first_born [] = 0
+first_born (volume ∷ volumes) = volume.born
+
+abbrev behind_first : List Volume → List Volume
+behind_first [] = []
+behind_first (volume ∷ volumes) = volumes
+
+same_born : (volumes : List Volume) (a b : ℕ) → volumes ++ new_volume a ∷ [] ≡ volumes ++ new_volume b ∷ [] → a ≡ b
+same_born [] a b same = ap first_born same
+same_born (volume ∷ volumes) a b same = same_born volumes a b (ap behind_first same)
+
+-- the texts with room, by whether a volume is begun and when it is born
+texts_with_room : {D : Type 0} (d : Ghosts D) (was : Holdings D) (now : Volumes D) (begins : Option ℕ) (prepared : Option Prepared) → HasRoomFor now prepared
+    → with_prepared (book_of now.held) prepared ≡ room_by (book_of now.held) begins
+    → texts_with (texts d now.journal) prepared ≡ texts_room d (in_volumes was now) begins
+texts_with_room d was now None None room same = refl
+texts_with_room d was now None (Some p) room same =
+    let more = length-append (book_of now.held).volumes (new_volume p.shadow.born ∷ []) in
+    absurd (omega (arith, more, ap (λ (b : Book). length b.volumes) same))
+texts_with_room d was now (Some born) None room same =
+    let more = length-append (book_of now.held).volumes (new_volume born ∷ []) in
+    absurd (omega (arith, more, ap (λ (b : Book). length b.volumes) same))
+texts_with_room d was now (Some born) (Some p) room same =
+    let born_is : p.shadow.born ≡ born = same_born (book_of now.held).volumes p.shadow.born born (ap (λ (b : Book). b.volumes) same) in
+    ap (λ (info : List ℕ). texts d now.journal ++ info ∷ []) (room.prepared_is.info
+    ∙ ap (λ (n : ℕ). info_text (book_of now.held).namespace (length (book_of now.held).volumes) n) born_is)
 
 -- ---- on the way
 
@@ -321,6 +357,18 @@ module _ {D : Type 0} (d : Ghosts D) (basis : StoringBasis) (reading : Laws) (wa
       room_same : room ≡ room_by book begins
       room_same = t.room_is.room_is
 
+      room_texts : texts_with (texts d now.journal) ready.prepared ≡ texts_room d (in_volumes was now) begins
+      room_texts = texts_with_room d was now begins ready.prepared t.room_is.room room_same
+
+      abbrev WritesSo : {T E : Type 0} → List (List ℕ) → List ℕ → Result T E → Type 0
+      WritesSo all group result = WritesTexts d now.journal journal all (with_more all group) result
+
+      wrote_so : {T E : Type 0} (result : Result T E) → WritesSo (texts_with (texts d now.journal) ready.prepared) ready.group result
+          → WritesSo (texts_room d (in_volumes was now) begins) text result
+      wrote_so result wrote =
+          subst (λ (all : List (List ℕ)). WritesSo all text result) room_texts
+          (subst (λ (l : List ℕ). WritesSo (texts_with (texts d now.journal) ready.prepared) l result) t.ready_is.text_is wrote)
+
       after_same : with_capture room (stored_in ready.stored) ≡ book_by book begins group first
       after_same = ap (λ (s : Stored). with_capture room s) t.ready_is.stored ∙ ap (λ (b : Book). with_capture b stored) room_same
 
@@ -360,9 +408,11 @@ module _ {D : Type 0} (d : Ghosts D) (basis : StoringBasis) (reading : Laws) (wa
         pub refused_puts : {T E : Type 0} (fault : E)
             → Writes {T = T} {E = E} (muted was.told d) (disk_of now.journal) (disk_of journal) (book_of now.held) (with_prepared (book_of now.held) ready.prepared)
             (with_capture (with_prepared (book_of now.held) ready.prepared) (stored_in ready.stored)) after (Err fault)
+            → (IsTrue d.tells → WritesTexts {T = T} {E = E} d now.journal journal (texts_with (texts d now.journal) ready.prepared)
+            (with_more (texts_with (texts d now.journal) ready.prepared) ready.group) (Err fault))
             → Puts d (in_volumes was now) (record was { journal = journal; book = after; table = table; index = index; spots = spots })
             text group first begins (Err pieces.DiskFault)
-        refused_puts {T} {E} fault writes =
+        refused_puts {T} {E} fault writes wrote =
             let told_writes : Writes {T = T} {E = E} (muted was.told d) (disk_of now.journal) (disk_of journal) book (room_by book begins)
             (book_by book begins group first) after (Err fault)
             = subst (λ (b : Book). Writes {T = T} {E = E} (muted was.told d) (disk_of now.journal) (disk_of journal) book b (book_by book begins group first) after (Err fault)) room_same
@@ -390,6 +440,8 @@ module _ {D : Type 0} (d : Ghosts D) (basis : StoringBasis) (reading : Laws) (wa
                 kept = told_writes.kept;
                 just = tt;
               };
+              bytes = λ tells. texts_refused d now.journal journal (texts_room d (in_volumes was now) begins)
+                  (with_more (texts_room d (in_volumes was now) begins) text) fault disk_failed refl (wrote_so {T = T} {E = E} (Err fault) (wrote tells));
               checkpoints = others;
             }
 
@@ -425,10 +477,12 @@ module _ {D : Type 0} (d : Ghosts D) (basis : StoringBasis) (reading : Laws) (wa
             → Writes {T = T} {E = E} (muted was.told d) (disk_of now.journal) (disk_of journal) (book_of now.held) (with_prepared (book_of now.held) ready.prepared)
             (with_capture (with_prepared (book_of now.held) ready.prepared) (stored_in ready.stored)) after (Ok value)
             → last_len journal ≡ end_with now ready.prepared + length ready.group
+            → (IsTrue d.tells → WritesTexts {T = T} {E = E} d now.journal journal (texts_with (texts d now.journal) ready.prepared)
+            (with_more (texts_with (texts d now.journal) ready.prepared) ready.group) (Ok value))
             → (answer : ℕ) → answer ≡ length (captures (book_of now.held))
             → Puts d (in_volumes was now) (record was { journal = journal; book = after; table = table; index = index; spots = spots; revisits = revisits })
             text group first begins (Ok answer)
-        stored_puts {T} {E} value writes ends answer number_is =
+        stored_puts {T} {E} value writes ends wrote answer number_is =
             let whole : after ≡ book_by book begins group first = with_it ∙ after_same in
             let told_writes : Writes {T = T} {E = E} (muted was.told d) (disk_of now.journal) (disk_of journal) book (room_by book begins) after after (Ok value)
             = subst (λ (b : Book). Writes {T = T} {E = E} (muted was.told d) (disk_of now.journal) (disk_of journal) book b after after (Ok value)) room_same
@@ -461,5 +515,7 @@ module _ {D : Type 0} (d : Ghosts D) (basis : StoringBasis) (reading : Laws) (wa
                 kept = told_writes.kept;
                 just = told_writes.just;
               };
+              bytes = λ tells. texts_done d now.journal journal (texts_room d (in_volumes was now) begins)
+                  (with_more (texts_room d (in_volumes was now) begins) text) value answer (wrote_so {T = T} {E = E} (Ok value) (wrote tells));
               checkpoints = others;
             }

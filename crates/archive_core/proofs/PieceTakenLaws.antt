@@ -1,14 +1,17 @@
 -- How the taking of a piece ends: it is full, it is no piece, a fault was met, or it was taken.
-use Rattle.std.proofs.Common.{◌≡◌, ℕ, ◌+◌, ◌-◌, ◌<◌, Bool, true, IsTrue, List, [], ◌∷◌, ◌++◌, length, get_or, Option, Result, Ok, Err, refl, sym, ap, subst, ◌∙◌, inl, inr, ⊎_elim, arith}
+use Rattle.std.proofs.Common.{◌≡◌, ℕ, ◌+◌, ◌-◌, ◌<◌, Bool, true, IsTrue, List, [], ◌∷◌, ◌++◌, length, get_or, Option, Some, None, Result, Ok, Err, refl, sym, ap, subst, ◌∙◌, inl, inr, ⊎_elim, arith}
 use Rattle.std.specs.Prelude.{IsErrAnd, OnErr, drop, ⊤}
 use Rattle.capture.specs.Captures.{captures}
 use Rattle.capture.specs.declared.book.Book.{Book}
 use Rattle.disk_model.specs.Image.{Image}
 use Rattle.disk_model.specs.declared.disk.Disk.{Ghosts}
 use Rattle.warc_journal.specs.Extents.{cdxj_files}
-use Rattle.warc_journal.specs.Journals.{IsInStep, disk_of, last_len, texts}
+use Rattle.warc_journal.specs.Journals.{IsInStep, Rests, disk_of, last_len, texts}
+use Rattle.warc_journal.specs.Texts.{with_more}
+use Rattle.warc_journal.specs.declared.extent.Extent.{Extent}
 use Rattle.warc_journal.specs.declared.journal.Journal.{Journal}
 use Rattle.warc_text.specs.Books.{IsGroupText}
+use Rattle.warc_text.specs.Records.{info_text}
 use Rattle.warc_text.specs.Sound.{IsSound}
 use Rattle.warc_scan.specs.Groups.{IsGroup}
 use Rattle.warc_scan.specs.declared.group.Group.{Group}
@@ -23,8 +26,11 @@ use Rattle.archive_shelf.specs.declared.fault.StoreFault.TheVariants as stores
 use Rattle.archive_volumes.proofs.ChangeLaws.{DiskLaws, laws_muted}
 use Rattle.archive_volumes.proofs.RoomLaws.{last_long, texts_count}
 use Rattle.archive_volumes.proofs.StoreLaws.{opens_earlier, quiet_itself}
+use Rattle.archive_volumes.proofs.VolumeLaws.{texts_rest}
+use Rattle.archive_volumes.proofs.WrittenLaws.{rests_itself, texts_since}
 use Rattle.archive_volumes.specs.Volumes.{crash_of, muted}
 use Rattle.archive_volumes.specs.Writing.{Writes}
+use Rattle.archive_volumes.specs.Written.{WritesTexts}
 use Rattle.archive_core.specs.Basis.{StoringBasis}
 use Rattle.archive_core.specs.Holdings.{Holdings, IsArchive, contents_of}
 use Rattle.archive_core.specs.Looking.{OnlyLooks}
@@ -35,6 +41,7 @@ use Rattle.archive_pieces.specs.PieceParts.{HasNoParts, IsNoPiece, IsReadAs, boo
 use Rattle.archive_pieces.specs.PieceReady.{IsPastBounds, IsWithinBounds, MayHold, RefersSo, end_by, end_in}
 use Rattle.archive_core.specs.Stores.{Admits}
 use Rattle.archive_core.specs.TakingPieces.{HasPut, IsUnput, IsUntouched, PieceLeaves, Puts, Remains, TakesPiece, disk_failed, took}
+use Rattle.archive_core.specs.Texts.{texts_room}
 use Rattle.archive_core.specs.Told.{told_of, told_on}
 use Rattle.archive_pieces.specs.declared.fault.PieceFault.{PieceFault}
 use Rattle.archive_pieces.specs.declared.fault.PieceFault.TheVariants as pieces
@@ -49,19 +56,23 @@ failed fault = Err fault
 pub looks_itself : {D : Type 0} (d : Ghosts D) → DiskLaws d → (was : Holdings D) → OnlyLooks d was was
 looks_itself d laws was = record {
   others = refl;
-  ends = refl;
-  reading = λ tells. refl;
+  extent = refl;
+  bytes = λ tells. rests_itself d (disk_of was.journal);
   unwritten = record {
     reading = λ alone told. refl;
     crash = quiet_itself (muted was.told d) (laws_muted d was.told laws) (disk_of was.journal);
   };
 }
 
+-- the last volume ends where it ended
+ends_by : {D : Type 0} (d : Ghosts D) (was mid : Holdings D) → OnlyLooks d was mid → last_len mid.journal ≡ last_len was.journal
+ends_by d was mid looks = ap (λ (e : Extent). e.end) looks.extent
+
 pub remains_by : {D : Type 0} (d : Ghosts D) (was mid : Holdings D) → OnlyLooks d was mid → Remains d was mid
 remains_by {D} d was mid looks = record {
   contents = ap (λ (h : Holdings D). contents_of h) looks.others;
-  ends = looks.ends;
-  reading = looks.reading;
+  ends = ends_by d was mid looks;
+  bytes = looks.bytes;
   unwritten = looks.unwritten;
 }
 
@@ -140,6 +151,24 @@ module _ {D : Type 0} (d : Ghosts D) (laws : DiskLaws d) (was mid is : Holdings 
     just = w.just;
   }
 
+  abbrev looked : Holdings D
+  looked = record was { journal = mid.journal }
+
+  -- the texts with room, by those that were read before
+  room_same : (begins : Option ℕ) → IsTrue d.tells → texts_room d looked begins ≡ texts_room d was begins
+  room_same None tells = texts_rest d was.journal mid.journal (looks.bytes tells) looks.extent
+  room_same (Some born) tells =
+      ap (λ (all : List (List ℕ)). all ++ info_text was.book.namespace (length was.book.volumes) born ∷ [])
+      (texts_rest d was.journal mid.journal (looks.bytes tells) looks.extent)
+
+  texts_on : (begins : Option ℕ) (text : List ℕ) (result : Result ℕ PieceFault) → IsTrue d.tells
+      → WritesTexts d mid.journal is.journal (texts_room d looked begins) (with_more (texts_room d looked begins) text) result
+      → WritesTexts d was.journal is.journal (texts_room d was begins) (with_more (texts_room d was begins) text) result
+  texts_on begins text result tells wrote =
+      texts_since d was.journal mid.journal is.journal (texts_room d was begins) (with_more (texts_room d was begins) text) result (looks.bytes tells)
+      (texts_rest d was.journal mid.journal (looks.bytes tells) looks.extent)
+      (subst (λ (room : List (List ℕ)). WritesTexts d mid.journal is.journal room (with_more room text) result) (room_same begins tells) wrote)
+
   module _ (text : List ℕ) (group : Group) (first begins : Option ℕ) where
     pub put_on : (number : ℕ) → HasPut d mid is text group first begins number → HasPut d was is text group first begins number
     put_on number given =
@@ -152,9 +181,10 @@ module _ {D : Type 0} (d : Ghosts D) (laws : DiskLaws d) (was mid is : Holdings 
           sound = put.sound;
           shown = put.shown;
           others = put.others;
-          ends = subst (λ (n : ℕ). last_len is.journal ≡ end_in was.book n begins + length text) looks.ends put.ends;
+          ends = subst (λ (n : ℕ). last_len is.journal ≡ end_in was.book n begins + length text) (ends_by d was mid looks) put.ends;
           writes = writes_on (room_by was.book begins) is.book is.book (took number) put.writes;
-          checkpoints = λ tells. put.checkpoints tells ∙ ap (λ (image : Image). cdxj_files image) (looks.reading tells);
+          bytes = λ tells. texts_on begins text (took number) tells (put.bytes tells);
+          checkpoints = λ tells. put.checkpoints tells ∙ ap (λ (image : Image). cdxj_files image) (looks.bytes tells).read;
         }
 
     pub unput_on : IsUnput d mid is text group first begins → IsUnput d was is text group first begins
@@ -167,7 +197,8 @@ module _ {D : Type 0} (d : Ghosts D) (laws : DiskLaws d) (was mid is : Holdings 
           sound = put.sound;
           others = put.others;
           writes = writes_on (room_by was.book begins) (book_by was.book begins group first) is.book disk_failed put.writes;
-          checkpoints = λ tells. put.checkpoints tells ∙ ap (λ (image : Image). cdxj_files image) (looks.reading tells);
+          bytes = λ tells. texts_on begins text disk_failed tells (put.bytes tells);
+          checkpoints = λ tells. put.checkpoints tells ∙ ap (λ (image : Image). cdxj_files image) (looks.bytes tells).read;
         }
 
 -- ---- once the disk was read
@@ -248,7 +279,7 @@ module _ {D : Type 0} (d : Ghosts D) (was mid : Holdings D) (looks : OnlyLooks d
     pub bounds_on : IsWithinBounds group (end_by begins at (last_len was.journal)) → IsWithinBounds group (end_in mid.book (last_len mid.journal) begins)
     bounds_on within =
         subst (λ (b : Book). IsWithinBounds group (end_in b (last_len mid.journal) begins)) (sym same_book)
-        (subst (λ (n : ℕ). IsWithinBounds group (end_in was.book n begins)) (sym looks.ends)
+        (subst (λ (n : ℕ). IsWithinBounds group (end_in was.book n begins)) (sym (ends_by d was mid looks))
         (subst (λ (n : ℕ). IsWithinBounds group n) (same_end was.book read.front begins at (last_len was.journal) read.is_front read.at_is) within))
 
     module _ (laws : DiskLaws d) (is : Holdings D) (first : Option ℕ) (finds : RefersSo mid.told mid.book group first) (text : List ℕ) (text_is : text ≡ read.text) where
@@ -271,8 +302,8 @@ module _ {D : Type 0} (d : Ghosts D) (was mid : Holdings D) (looks : OnlyLooks d
           let told_same : told_of d mid ≡ told_of d is = λ i. told_on d (disk_of (sym same.journal i)) (sym same.contents i) in
           record {
             contents = same.contents ∙ ap (λ (h : Holdings D). contents_of h) looks.others;
-            ends = ap (λ (j : Journal D). last_len j) same.journal ∙ looks.ends;
-            reading = λ tells. ap (λ (j : Journal D). d.reading (disk_of j)) same.journal ∙ looks.reading tells;
+            ends = ap (λ (j : Journal D). last_len j) same.journal ∙ ends_by d was mid looks;
+            bytes = λ tells. subst (λ (j : Journal D). Rests d (disk_of was.journal) (disk_of j)) (sym same.journal) (looks.bytes tells);
             unwritten = subst (λ t. WritesNothing true (told_of d was) t) told_same looks.unwritten;
           }
 

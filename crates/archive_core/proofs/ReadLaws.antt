@@ -10,7 +10,7 @@ use Rattle.disk_model.specs.Crash.{Leaves}
 use Rattle.disk_model.specs.Image.{Image}
 use Rattle.disk_model.specs.declared.disk.Disk.{Ghosts}
 use Rattle.warc_journal.specs.Extents.{texts_in, warc_files}
-use Rattle.warc_journal.specs.Journals.{disk_of, extent_of, last_len, texts}
+use Rattle.warc_journal.specs.Journals.{Rests, disk_of, extent_of, texts}
 use Rattle.warc_journal.specs.declared.extent.Extent.{Extent}
 use Rattle.warc_journal.specs.declared.journal.Journal.{Journal}
 use Rattle.capture.specs.declared.captured.Stored.{Stored}
@@ -78,8 +78,8 @@ module _ {D : Type 0} (d : Ghosts D) (held : Holdings D) (old new : Volumes D)
   pub looks : (IsTrue held.told → IsTrue d.tells) → OnlyLooks d held (record held { journal = new.journal; book = book_of new.held })
   looks only = record {
     others = ap (λ (b : Book). record held { journal = new.journal; book = b }) same_book;
-    ends = ap (λ (extent : Extent). extent.end) reads.extent ∙ sym (ap (λ (j : Journal D). last_len j) journal_is);
-    reading = same_reading;
+    extent = reads.extent ∙ sym (ap (λ (j : Journal D). extent_of j) journal_is);
+    bytes = λ tells. subst (λ (j : Journal D). Rests d (disk_of j) (disk_of new.journal)) (sym journal_is) (reads.rests tells);
     unwritten = record {
       reading = λ alone told. same_reading (only told);
       crash = quiet_muted d held.told only (disk_of held.journal) (disk_of new.journal)

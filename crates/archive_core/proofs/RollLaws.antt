@@ -10,7 +10,7 @@ use Rattle.capture.specs.declared.book.Volume.{Volume}
 use Rattle.capture.specs.declared.captured.Stored.{Stored}
 use Rattle.disk_model.specs.declared.disk.Disk.{Ghosts}
 use Rattle.warc_journal.specs.Extents.{cdxj_files}
-use Rattle.warc_journal.specs.Journals.{disk_of, last_len, texts}
+use Rattle.warc_journal.specs.Journals.{Changes, disk_of, last_len, texts}
 use Rattle.warc_journal.specs.declared.journal.Journal.{Journal}
 use Rattle.warc_text.specs.Records.{info_text}
 use Rattle.archive_shelf.specs.Openings.{KeepsCheckpoints}
@@ -23,8 +23,10 @@ use Rattle.archive_volumes.specs.Held.{is_filled}
 use Rattle.archive_core.proofs.FinishedLaws.{first_stay, sealed_later}
 use Rattle.archive_core.specs.Holdings.{Holdings, IsArchive}
 use Rattle.archive_core.specs.Rolling.{MayBeRefused, Rolls, WritesNoVolume}
+use Rattle.archive_core.specs.Texts.{texts_begun}
 use Rattle.archive_volumes.specs.Volumes.{HoldsBook, IsMeasured, Makes, crash_of, muted}
 use Rattle.archive_volumes.proofs.SpotLaws.{GoOn, made_stay, placed_stay, spots_stay, within_stay}
+use Rattle.archive_volumes.proofs.WrittenLaws.{change_done, change_refused}
 
 -- ---- the volumes
 
@@ -118,6 +120,7 @@ module _ {D : Type 0} (d : Ghosts D) (was : Holdings D) (now : ℕ) where
     ends = sym (ap (λ (b : Bool). if b then length (info_text was.book.namespace (length was.book.volumes) now) else last_len was.journal) empty);
     faults = refl;
     makes = λ filled. not_filled (is_filled was.book.volumes) empty filled;
+    bytes = λ tells filled. not_filled (is_filled was.book.volumes) empty filled;
     checkpoints = λ told. refl;
     unwritten = λ none. refl;
     refused = not_refused (is_filled was.book.volumes);
@@ -130,14 +133,16 @@ module _ {D : Type 0} (d : Ghosts D) (was : Holdings D) (now : ℕ) where
         → Makes {T = T} {E = E} (muted was.told d) (disk_of was.journal) (disk_of journal) was.book (with_volume was.book now) (Ok value)
         → CountsFaults {T = T} {E = E} (d.faults (disk_of was.journal)) (d.faults (disk_of journal)) (Ok value)
         → last_len journal ≡ length (info_text was.book.namespace (length was.book.volumes) now)
+        → (IsTrue d.tells → Changes {T = T} {E = E} d was.journal journal (texts_begun d was now) (Ok value))
         → Rolls {T = ⊤} d was (record was { journal = journal; book = book }) now (Ok tt)
-    rolls_ok value with_it made counts ends = record {
+    rolls_ok value with_it made counts ends changed = record {
       book = with_it ∙ sym (ap (λ (volumes : List Volume). record was.book { volumes = volumes }) (rolled_one was.book.volumes now filled));
       others = refl;
       ends = ends
           ∙ sym (ap (λ (b : Bool). if b then length (info_text was.book.namespace (length was.book.volumes) now) else last_len was.journal) filled);
       faults = counts.steady;
       makes = λ full. record { later = made.later; moves = made.moves; only = made.only; refused = made.refused; covered = made.covered; kept = made.kept; just = made.just };
+      bytes = λ tells full. change_done d was.journal journal (texts_begun d was now) value tt (changed tells);
       checkpoints = others;
       unwritten = unwritten_full (is_filled was.book.volumes) filled;
       refused = not_refused (is_filled was.book.volumes);
@@ -148,13 +153,15 @@ module _ {D : Type 0} (d : Ghosts D) (was : Holdings D) (now : ℕ) where
         → Makes {T = T} {E = E} (muted was.told d) (disk_of was.journal) (disk_of journal) was.book (with_volume was.book now) (Err fault)
         → CountsFaults {T = T} {E = E} (d.faults (disk_of was.journal)) (d.faults (disk_of journal)) (Err fault)
         → last_len journal ≡ last_len was.journal
+        → (IsTrue d.tells → Changes {T = T} {E = E} d was.journal journal (texts_begun d was now) (Err fault))
         → Rolls {T = ⊤} d was (record was { journal = journal; book = book }) now (Err rolls.DiskFault)
-    rolls_err fault same made counts ends = record {
+    rolls_err fault same made counts ends changed = record {
       book = same;
       others = refl;
       ends = ends;
       faults = (counts.later, counts.rose);
       makes = λ full. record { later = made.later; moves = made.moves; only = made.only; refused = made.refused; covered = made.covered; kept = made.kept; just = tt };
+      bytes = λ tells full. change_refused d was.journal journal (texts_begun d was now) fault (Err rolls.DiskFault) refl (changed tells);
       checkpoints = others;
       unwritten = unwritten_fault (is_filled was.book.volumes) filled;
       refused = may_be_refused (Err rolls.DiskFault) (is_filled was.book.volumes) filled;

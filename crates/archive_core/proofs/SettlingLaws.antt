@@ -4,7 +4,6 @@ use Rattle.std.specs.Prelude.{IfOk, OnOk}
 use Rattle.disk_model.specs.Crash.{Leaves}
 use Rattle.disk_model.specs.declared.disk.Disk.{Ghosts}
 use Rattle.warc_journal.specs.Journals.{Rests, disk_of}
-use Rattle.warc_journal.specs.declared.extent.Extent.{Extent}
 use Rattle.checkpoint.specs.Faults.{CountsDisk}
 use Rattle.checkpoint.specs.declared.fault.CheckpointFault.{CheckpointFault}
 use Rattle.checkpoint.specs.declared.fault.CheckpointFault.TheVariants as checkpoints
@@ -97,8 +96,8 @@ module _ {D : Type 0} (d : Ghosts D) (laws : DiskLaws d) (base : Holdings D) (ol
     looks : (IsTrue d.tells → Rests d (disk_of old.journal) (disk_of new.journal)) → OnlyLooks d (over base old known) (over base new known)
     looks still = record {
       others = ap (λ (h : Held). record base { journal = new.journal; book = book_of h; settled = known }) keeps.held;
-      ends = ap (λ (e : Extent). e.end) keeps.extent;
-      reading = λ tells. (still tells).read;
+      extent = keeps.extent;
+      bytes = still;
       unwritten = record {
         reading = λ alone told. (still (is.holds.tells told)).read;
         crash = quiet_told d base.told is.holds.tells (disk_of old.journal) (disk_of new.journal)

@@ -11,6 +11,7 @@ pub mod Settling
 pub mod Shown
 pub mod Stores
 pub mod TakingPieces
+pub mod Texts
 pub mod Told
 pub mod View
 pub mod steps

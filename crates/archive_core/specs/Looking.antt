@@ -6,7 +6,7 @@ use Rattle.capture.specs.Growth.{Grows}
 use Rattle.capture.specs.Soundness.{HasSoundCaptures}
 use Rattle.capture.specs.declared.captured.Taken.{Taken}
 use Rattle.disk_model.specs.declared.disk.Disk.{Ghosts}
-use Rattle.warc_journal.specs.Journals.{disk_of, last_len}
+use Rattle.warc_journal.specs.Journals.{Rests, disk_of, extent_of}
 use Rattle.archive_shelf.specs.Answers.{IsDamaged, IsFull, IsNotFull}
 use Rattle.archive_shelf.specs.Comparing.{CanRefer, IsRight, IsSameAs}
 use Rattle.archive_shelf.specs.Contents.{Contents}
@@ -17,12 +17,15 @@ use Rattle.archive_shelf.specs.declared.looked.Looked.{Looked}
 use Rattle.archive_core.specs.Holdings.{Holdings}
 use Rattle.archive_core.specs.Told.{told_of}
 
--- All stays but the disk: that gives what it gave, also where the book isn't told, and nothing more may be opened. The last volume
--- ends where it ended.
+-- where the disk tells, whatever is told of the book: a read gives what it gave, and at each moment a crash leaves what it might have left before
+abbrev pub KeepsBytes : {D : Type 0} → Ghosts D → Holdings D → Holdings D → Type 0
+KeepsBytes d was is = IsTrue d.tells → Rests d (disk_of was.journal) (disk_of is.journal)
+
+-- All stays but the disk: that keeps its bytes, also where the book isn't told, and nothing more may be opened. The volumes reach as far as they did.
 pub record OnlyLooks {D : Type 0} (d : Ghosts D) (was is : Holdings D) : Type 0 where
   pub others : is ≡ record was { journal = is.journal }
-  pub ends : last_len is.journal ≡ last_len was.journal
-  pub reading : IsTrue d.tells → d.reading (disk_of is.journal) ≡ d.reading (disk_of was.journal)
+  pub extent : extent_of is.journal ≡ extent_of was.journal
+  pub bytes : KeepsBytes d was is
   pub unwritten : WritesNothing true (told_of d was) (told_of d is)
 
 -- what looking for a payload answers: it is full exactly where the book is, and want of memory may be answered anywhere

@@ -1,9 +1,10 @@
 -- What storing a capture leaves of an archive in which nobody else stores.
-use Rattle.std.specs.Prelude.{◌≡◌, ℕ, ◌+◌, Bool, true, if◌then◌else◌, IsTrue, List, length, IfOk, OnOk, Option, Result, Ok, Err}
+use Rattle.std.specs.Prelude.{◌≡◌, ◌⊎◌, ℕ, ◌+◌, Bool, true, if◌then◌else◌, IsTrue, List, length, OnOk, Option, Result, Ok, Err}
 use Rattle.capture.specs.Captures.{captures, HasPayload}
 use Rattle.capture.specs.declared.captured.Taken.{Taken}
 use Rattle.disk_model.specs.declared.disk.Disk.{Ghosts}
-use Rattle.warc_journal.specs.Journals.{disk_of, last_len}
+use Rattle.warc_journal.specs.Journals.{disk_of, last_len, texts}
+use Rattle.warc_journal.specs.Texts.{with_more}
 use Rattle.warc_text.specs.Records.{info_text}
 use Rattle.archive_shelf.specs.Answers.{IsFull, IsNotFull, LeavesReading}
 use Rattle.archive_shelf.specs.Contents.{Contents}
@@ -13,10 +14,13 @@ use Rattle.archive_shelf.specs.declared.fault.StoreFault.{StoreFault}
 use Rattle.archive_shelf.specs.declared.fault.StoreFault.TheVariants as stores
 use Rattle.archive_shelf.specs.declared.receipt.Receipt.{Receipt}
 use Rattle.archive_core.specs.Holdings.{Holdings}
+use Rattle.archive_core.specs.Looking.{KeepsBytes}
+use Rattle.archive_core.specs.Texts.{texts_begun}
 use Rattle.archive_core.specs.Told.{told_of}
 use Rattle.archive_volumes.specs.Grouping.{IsGroupFor}
 use Rattle.archive_volumes.specs.Volumes.{LeavesJust, muted}
 use Rattle.archive_volumes.specs.Writing.{IsNeeded}
+use Rattle.archive_volumes.specs.Written.{WritesTexts}
 
 -- Whether a capture more may be stored: it is full exactly where there are as many as there may be.
 abbrev pub Admits : {T : Type 0} → Contents → Result T StoreFault → Type 0
@@ -27,24 +31,39 @@ Admits now (Err stores.DiskFault) = ⊥
 Admits now (Err (stores.Damaged at kept found)) = ⊥
 Admits now (Err stores.Memory) = ⊥
 
--- Whatever the disk tells: a volume was begun exactly where the capture needed one, by where the last volume's text ended and by how
--- long the capture's group is; and the group stands behind that text, or behind the new volume's warcinfo.
-pub record FillsVolumes {D : Type 0} (was is : Holdings D) (taken : Taken) (same : Option ℕ) : Type 0 where
+-- the texts of the volumes that a read gives, or those with one that is begun
+abbrev pub texts_where : {D : Type 0} → Ghosts D → Holdings D → Bool → ℕ → List (List ℕ)
+texts_where d held begun born = if begun then texts_begun d held born else texts d held.journal
+
+-- The capture's group was put behind the volumes' texts, or the disk refused it. Whatever the disk tells: a volume was to be begun exactly where
+-- the capture needs one, by where the last volume's text ended and by how long the group is; once it is stored, the group stands behind that text,
+-- or behind the new volume's warcinfo. Where the disk tells, whatever is told of the book: no text loses a byte, at whatever moment a crash stops it.
+pub record FillsVolumes {D : Type 0} (d : Ghosts D) (was is : Holdings D) (taken : Taken) (same : Option ℕ) (result : Result Receipt StoreFault) : Type 0 where
   pub payload : List ℕ
   pub has : HasPayload taken.cut taken.method taken.head taken.wire payload
   pub group : List ℕ
   pub of : IsGroupFor was.book taken payload same group
   pub begun : Bool
   pub needed : IsNeeded was.limits.volume_bytes was.book (last_len was.journal) (length group) begun
-  pub book : is.book ≡ with_capture (if begun then with_volume was.book taken.date else was.book) (as_stored taken same)
-  pub ends : last_len is.journal
-      ≡ (if begun then length (info_text was.book.namespace (length was.book.volumes) taken.date) else last_len was.journal) + length group
+  pub book : OnOk result (is.book ≡ with_capture (if begun then with_volume was.book taken.date else was.book) (as_stored taken same))
+  pub ends : OnOk result (last_len is.journal
+      ≡ (if begun then length (info_text was.book.namespace (length was.book.volumes) taken.date) else last_len was.journal) + length group)
+  pub bytes : IsTrue d.tells
+      → WritesTexts d was.journal is.journal (texts_where d was begun taken.date) (with_more (texts_where d was begun taken.date) group) result
+
+-- what a store leaves of the volumes, by what it answers: those that write nothing leave all bytes as they were
+abbrev pub Fills : {D : Type 0} → Ghosts D → Holdings D → Holdings D → Taken → Result Receipt StoreFault → Type 0
+Fills d was is taken (Ok receipt) = FillsVolumes d was is taken receipt.same_as (Ok receipt)
+Fills d was is taken (Err (stores.Full count limit)) = KeepsBytes d was is
+Fills d was is taken (Err stores.DiskFault) = KeepsBytes d was is ⊎ ((same : Option ℕ) × FillsVolumes d was is taken same (Err stores.DiskFault))
+Fills d was is taken (Err (stores.Damaged number kept found)) = KeepsBytes d was is
+Fills d was is taken (Err stores.Memory) = KeepsBytes d was is
 
 -- a capture was stored, or refused
 pub record Stores {D : Type 0} (d : Ghosts D) (was is : Holdings D) (taken : Taken) (result : Result Receipt StoreFault) : Type 0 where
   pub told : StoresOn true taken (told_of d was) (told_of d is) result
   -- once it is stored, the files of the volumes are just the texts of the book, in each image, where that is told
   pub just : OnOk result (LeavesJust (muted is.told d) (disk_of is.journal) is.book)
-  pub fills : IfOk result (λ receipt. FillsVolumes was is taken receipt.same_as)
+  pub fills : Fills d was is taken result
   -- where the disk tells, whatever is told of the book: nothing written, a read gives what it gave, and it gives the same checkpoints in any case
   pub bytes : IsTrue d.tells → LeavesReading (d.reading (disk_of was.journal)) (d.reading (disk_of is.journal)) result

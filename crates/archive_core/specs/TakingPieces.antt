@@ -7,6 +7,7 @@ use Rattle.cdxj_index.specs.Facts.{Facts}
 use Rattle.disk_model.specs.declared.disk.Disk.{Ghosts}
 use Rattle.warc_journal.specs.Extents.{cdxj_files}
 use Rattle.warc_journal.specs.Journals.{disk_of, last_len}
+use Rattle.warc_journal.specs.Texts.{with_more}
 use Rattle.warc_text.specs.Books.{IsGroupText}
 use Rattle.warc_text.specs.Sound.{IsSound}
 use Rattle.warc_text.specs.StandsFor.{IdsDifferIn}
@@ -17,13 +18,15 @@ use Rattle.archive_shelf.specs.Pieces.{IsPiece, IsSomePiece}
 use Rattle.archive_shelf.specs.Told.{WritesNothing}
 use Rattle.archive_volumes.specs.Volumes.{muted}
 use Rattle.archive_volumes.specs.Writing.{Writes}
+use Rattle.archive_volumes.specs.Written.{WritesTexts}
 use Rattle.archive_core.specs.Holdings.{Holdings, contents_of}
-use Rattle.archive_core.specs.Looking.{OnlyLooks}
+use Rattle.archive_core.specs.Looking.{KeepsBytes, OnlyLooks}
 use Rattle.archive_pieces.specs.NextPieces.{Takes}
 use Rattle.archive_pieces.specs.PieceFaults.{is_take_fault}
 use Rattle.archive_pieces.specs.PieceParts.{IsNoPiece, IsReadAs, book_by, room_by}
 use Rattle.archive_pieces.specs.PieceReady.{RefersSo, end_in}
 use Rattle.archive_core.specs.Shown.{numbered}
+use Rattle.archive_core.specs.Texts.{texts_room}
 use Rattle.archive_core.specs.Told.{told_of}
 use Rattle.archive_pieces.specs.declared.fault.PieceFault.{PieceFault}
 use Rattle.archive_pieces.specs.declared.fault.PieceFault.TheVariants as pieces
@@ -41,7 +44,8 @@ disk_failed = Err pieces.DiskFault
 abbrev pub ShowsOneMore : ℕ → List Facts → List Facts → Type 0
 ShowsOneMore number was is = (is ≡ was) ⊎ ((entry : Facts) × (entry.number ≡ number) × (is ≡ was ++ entry ∷ []))
 
--- it stands behind all others of the book
+-- It stands behind all others of the book. Where the disk tells, whatever is told of the book: its text stands behind the volumes' texts, none of
+-- which loses a byte, at whatever moment a crash stops it.
 pub record HasPut {D : Type 0} (d : Ghosts D) (was is : Holdings D) (text : List ℕ) (group : Group) (first begins : Option ℕ) (number : ℕ) : Type 0 where
   pub number_is : number ≡ length (captures was.book)
   pub book : is.book ≡ book_by was.book begins group first
@@ -52,6 +56,7 @@ pub record HasPut {D : Type 0} (d : Ghosts D) (was is : Holdings D) (text : List
       ≡ record (contents_of was) { seen = is.book; shown = numbered is.index; mine = (contents_of was).mine ++ number ∷ [] }
   pub ends : last_len is.journal ≡ end_in was.book (last_len was.journal) begins + length text
   pub writes : Writes (muted was.told d) (disk_of was.journal) (disk_of is.journal) was.book (room_by was.book begins) is.book is.book (took number)
+  pub bytes : IsTrue d.tells → WritesTexts d was.journal is.journal (texts_room d was begins) (with_more (texts_room d was begins) text) (took number)
   pub checkpoints : IsTrue d.tells → cdxj_files (d.reading (disk_of is.journal)) ≡ cdxj_files (d.reading (disk_of was.journal))
 
 -- The disk refused it. The book is left, or it with the volume that was to be begun.
@@ -62,6 +67,7 @@ pub record IsUnput {D : Type 0} (d : Ghosts D) (was is : Holdings D) (text : Lis
   pub others : contents_of is ≡ record (contents_of was) { seen = is.book }
   pub writes : Writes (muted was.told d) (disk_of was.journal) (disk_of is.journal) was.book (room_by was.book begins)
       (book_by was.book begins group first) is.book disk_failed
+  pub bytes : IsTrue d.tells → WritesTexts d was.journal is.journal (texts_room d was begins) (with_more (texts_room d was begins) text) disk_failed
   pub checkpoints : IsTrue d.tells → cdxj_files (d.reading (disk_of is.journal)) ≡ cdxj_files (d.reading (disk_of was.journal))
 
 -- all is as it was, but for what is reserved
@@ -106,7 +112,7 @@ pub record IsUntaken {D : Type 0} (d : Ghosts D) (was is : Holdings D) (bytes : 
 pub record Remains {D : Type 0} (d : Ghosts D) (was is : Holdings D) : Type 0 where
   pub contents : contents_of is ≡ contents_of was
   pub ends : last_len is.journal ≡ last_len was.journal
-  pub reading : IsTrue d.tells → d.reading (disk_of is.journal) ≡ d.reading (disk_of was.journal)
+  pub bytes : KeepsBytes d was is
   pub unwritten : WritesNothing true (told_of d was) (told_of d is)
 
 -- What taking a piece leaves. It is full before the piece is looked at; want of memory may be answered anywhere.

@@ -1,10 +1,10 @@
 use Rattle.std.specs.Prelude.{Result, ⊤}
-use Rattle.std.proofs.Common.{Bool, ◌≡◌, ◌++◌, ◌∷◌, [], ℕ, length, true, refl, Ok, Err, subst, sym, ap, ◌∙◌, arith}
+use Rattle.std.proofs.Common.{Bool, ◌≡◌, ◌++◌, ◌∷◌, [], ℕ, List, length, true, refl, Ok, Err, subst, sym, ap, ◌∙◌, arith}
 use Rattle.capture.specs.Faults.{CountsFaults}
 use Rattle.capture.specs.declared.book.Book.{Book}
 use Rattle.disk_model.specs.declared.disk.Disk.{Ghosts}
 use Rattle.warc_journal.specs.Extents.{cdxj_files}
-use Rattle.warc_journal.specs.Journals.{disk_of, last_len, texts, volumes}
+use Rattle.warc_journal.specs.Journals.{Changes, disk_of, last_len, texts, volumes}
 use Rattle.warc_journal.specs.declared.fault.DiskFault.{DiskFault}
 use Rattle.warc_journal.specs.declared.journal.Journal.{Journal}
 use Rattle.warc_text.specs.Records.{info_text}
@@ -15,6 +15,7 @@ use Rattle.archive_shelf.specs.declared.fault.RollFault.TheVariants as rolls
 use Rattle.archive_volumes.specs.Held.{book_of}
 use Rattle.archive_core.specs.Holdings.{Holdings}
 use Rattle.archive_core.specs.Rolling.{Rolls}
+use Rattle.archive_core.specs.Texts.{texts_begun}
 use Rattle.archive_core.specs.View.{holdings_of}
 use Rattle.archive_volumes.specs.Volumes.{HoldsBook, Makes, crash_of, muted}
 use Rattle.archive_shelf.proofs.GainingSoundness.{filled_count}
@@ -28,6 +29,15 @@ kept_from : {D : Type 0} (d : Ghosts D) (told : Bool) (j k new : Journal D) → 
     → KeepsCheckpoints (crash_of (muted told d) (disk_of k)) (crash_of (muted told d) (disk_of new))
 kept_from d told j k new same kept =
     subst (λ (x : Journal _). KeepsCheckpoints (crash_of (muted told d) (disk_of x)) (crash_of (muted told d) (disk_of new))) same kept
+
+-- the texts go on from where the volume was prepared
+changed_from : {D T E : Type 0} (d : Ghosts D) (was : Holdings D) (mid new : Journal D) (info : List ℕ) (born now : ℕ) (result : Result T E)
+    → mid ≡ was.journal → info ≡ info_text was.book.namespace (length was.book.volumes) born → born ≡ now
+    → Changes d mid new (texts d mid ++ info ∷ []) result → Changes d was.journal new (texts_begun d was now) result
+changed_from d was mid new info born now result journal_is info_is born_is change =
+    subst (λ (j : Journal _). Changes d j new (texts d j ++ info_text was.book.namespace (length was.book.volumes) now ∷ []) result) journal_is
+    (subst (λ (text : List ℕ). Changes d mid new (texts d mid ++ text ∷ []) result)
+    (info_is ∙ ap (λ (n : ℕ). info_text was.book.namespace (length was.book.volumes) n) born_is) change)
 
 pub returns-then-not-is_filled : goal.returns-then-not-is_filled
 returns-then-not-is_filled g c =
@@ -83,7 +93,11 @@ returns-in_err-begin g c =
     c.in_err-begin.ensures.makes)
     (subst (λ (j : Journal _). CountsFaults {T = ⊤} {E = DiskFault} (g.D.Disk.faults (disk_of j)) (g.D.Disk.faults (disk_of c.begin.new.self.journal)) (Err c.in_err-begin.field-0.0))
     same.journal c.in_err-begin.ensures.faults)
-    (c.in_err-begin.ensures.last_len ∙ ap (λ (j : Journal _). last_len j) same.journal)))
+    (c.in_err-begin.ensures.last_len ∙ ap (λ (j : Journal _). last_len j) same.journal)
+    (λ tells.
+    changed_from {T = ⊤} g.D.Disk (holdings_of c.self.inside) c.prepare.new.self.journal c.begin.new.self.journal
+    c.in_ok-prepared.prepared.info c.in_ok-prepared.prepared.shadow.born c.args.now (Err c.in_err-begin.field-0.0) same.journal same.prepared.info same.born
+    (c.in_err-begin.ensures.change tells))))
 
 pub invariant_of-self-2 : goal.invariant_of-self-2
 invariant_of-self-2 g c =
@@ -116,4 +130,8 @@ returns g c =
     same.journal c.in_ok-begin.ensures.faults)
     (c.in_ok-begin.ensures.last_len
     ∙ ap length same.prepared.info
-    ∙ ap (λ (n : ℕ). length (info_text (book_of c.self.inside.volumes.held).namespace (length (book_of c.self.inside.volumes.held).volumes) n)) same.born))
+    ∙ ap (λ (n : ℕ). length (info_text (book_of c.self.inside.volumes.held).namespace (length (book_of c.self.inside.volumes.held).volumes) n)) same.born)
+    (λ tells.
+    changed_from {E = DiskFault} g.D.Disk (holdings_of c.self.inside) c.prepare.new.self.journal c.begin.new.self.journal
+    c.in_ok-prepared.prepared.info c.in_ok-prepared.prepared.shadow.born c.args.now (Ok c.in_ok-begin.field-0) same.journal same.prepared.info same.born
+    (c.in_ok-begin.ensures.change tells)))

@@ -347,7 +347,7 @@ returns-in-Err-clause-stores g c =
     c.commit.ensures.others
     c.in-Err.ensures.left back c.in-Err.field-0
     c.in-Err.ensures.writes
-    c.in-Err.ensures.faults)
+    c.in-Err.ensures.faults c.in-Err.ensures.bytes)
 
 pub overflow_add-self : goal.overflow_add-self
 overflow_add-self g c =
@@ -421,7 +421,7 @@ returns-in-Ok-clause-stores g c =
     (c.self.inside.revisits + c.revisits_in.result) c.in-Ok.ensures.stored c.in_ok-enter.ensures.entered
     c.in-Ok.field-0
     c.in-Ok.ensures.writes
-    c.in-Ok.ensures.faults c.in-Ok.ensures.last_len receipt number refl)
+    c.in-Ok.ensures.faults c.in-Ok.ensures.last_len c.in-Ok.ensures.bytes receipt number refl)
 
 pub returns-in_err-reserve_kept-clause-unread : goal.returns-in_err-reserve_kept-clause-unread
 returns-in_err-reserve_kept-clause-unread g c number = memory_since _ number c.from_residual.result c.from_residual.ensures.1
