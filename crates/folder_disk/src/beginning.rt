@@ -6,7 +6,6 @@ ghost use Rattle.folder_disk.specs.Standing.{state_at, AreOpenAt};
 ghost use Rattle.folder_disk.specs.State.{IsKnown};
 
 use crate::archive_names::{AROUND, FOLDER};
-use crate::causes::Causes;
 use crate::counting::count;
 use crate::held::Held;
 use crate::names::FileNames;
@@ -29,26 +28,8 @@ pub(crate) enum Begun<F: Folder, N: FileNames> {
     Never(io::Error),
 }
 
-/// Finds the folder and holds it. Where that fails, the cause is told.
-pub(crate) fn found<S, N>(system: &mut S, alloc: Global) -> Standing<S, N>
-where
-    S: Folders + Causes,
-    S::Folder: Drop,
-    N: FileNames,
-    ensures known { IsTrue S.Folder.tells → IsKnown N.name (state_at S.Folder.past result) }
-    ensures open { IsTrue S.Folder.tells → AreOpenAt N.name S.Folder.name_of S.Folder.past result }
-{
-    match find(system, alloc) {
-        Ok(standing) => standing,
-        Err(error) => {
-            system.tell(FOLDER, "count files", &error);
-            Standing::Refused
-        }
-    }
-}
-
-/// Finds the folder and holds it, or finds none, which may be made.
-fn find<S, N>(system: &mut S, alloc: Global) -> io::Result<Standing<S, N>>
+/// Finds the folder and holds it to write in it, or finds none, which may be made.
+pub(crate) fn find<S, N>(system: &mut S, alloc: Global) -> io::Result<Standing<S, N>>
 where
     S: Folders,
     S::Folder: Drop,
@@ -171,14 +152,19 @@ fn check_last<F: Folder, N: FileNames>(
     }
 }
 
-/// Fails unless the folder wasn't held since it isn't there, and this process may make it. A link that leads to none isn't
-/// one that isn't there.
+/// Fails unless the folder wasn't held since it isn't there, and this process may make it.
 fn check_absent<S: Folders>(system: &mut S, error: io::Error) -> io::Result<()> {
+    check_missing(system, error)?;
+    system.check_writable(AROUND)
+}
+
+/// Fails unless the folder wasn't held since it isn't there. A link that leads to none isn't one that isn't there.
+pub(crate) fn check_missing<S: Folders>(system: &mut S, error: io::Error) -> io::Result<()> {
     if error.kind() != ErrorKind::NotFound {
         return Err(error);
     }
     if system.is_link(FOLDER)? {
         return Err(leads_nowhere());
     }
-    system.check_writable(AROUND)
+    Ok(())
 }

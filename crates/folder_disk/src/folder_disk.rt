@@ -1,15 +1,16 @@
 //! A disk of numbered files in the folder `archive`.
-ghost use Rattle.std.specs.Prelude.{◌≡◌};
+ghost use Rattle.std.specs.Prelude.{◌≡◌, IfOk};
 ghost use Rattle.folder_model.specs.Times.{moment_of};
 ghost use Rattle.folder_disk.specs.Kept.{state_in};
 ghost use Rattle.folder_disk.specs.State.{reading, images, images_since};
 ghost use Rattle.folder_disk.specs.steps.StateLaws.{reading_counts, no_more, now_counts, now_only, earlier};
 
 use crate::archive_names::FOLDER;
-use crate::beginning::found;
+use crate::beginning::find;
 use crate::causes::{Causes, told};
 use crate::names::FileNames;
 use crate::standing::Standing;
+use crate::unopened::Unopened;
 use capture::Failed;
 use disk_model::{Disk, Kind};
 use folder_model::Folders;
@@ -42,27 +43,26 @@ impl<S: Folders, N: FileNames> Model for FolderDisk<S, N> {
         × AreOpenAt N.name S.Folder.name_of S.Folder.past d.standing };
 }
 
-impl<S: Folders + Causes, N: FileNames> FolderDisk<S, N> {
+impl<S: Folders, N: FileNames> FolderDisk<S, N> {
     /// The disk in that folder of the folder where the program runs, which this process alone has then. Where it isn't there
-    /// the disk has no files, and makes it with its first file. Where it couldn't be held or counted, of which the cause
-    /// is told, each call of the disk fails.
-    pub fn open(system: S, alloc: Global) -> FolderDisk<S, N>
+    /// the disk has no files, and makes it with its first file.
+    pub fn open(system: S, alloc: Global) -> Result<FolderDisk<S, N>, Unopened<S>>
     where
         S::Folder: Drop,
-        ensures { result.faults ≡ 0 }
+        ensures { IfOk result (λ disk. disk.faults ≡ 0) }
     {
         let mut system = system;
-        let standing = found(&mut system, alloc);
-        FolderDisk {
-            system,
-            alloc,
-            standing,
-            faults: 0,
+        match find(&mut system, alloc) {
+            Ok(standing) => Ok(FolderDisk {
+                system,
+                alloc,
+                standing,
+                faults: 0,
+            }),
+            Err(error) => Err(Unopened { system, error }),
         }
     }
-}
 
-impl<S: Folders, N: FileNames> FolderDisk<S, N> {
     /// Where folders are found, and the folder, where it is held.
     pub fn into_parts(self) -> (S, Option<S::Folder>)
     where

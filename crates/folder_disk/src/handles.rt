@@ -8,7 +8,7 @@ use crate::counting::listed;
 use crate::held::Held;
 use crate::names::FileNames;
 use crate::open_files::OpenOne;
-use crate::reasons::{check_in_place, moved};
+use crate::reasons::{check_in_place, moved, unknown};
 use disk_model::Kind;
 use folder_model::{Access, Folder};
 use std::io;
@@ -45,13 +45,16 @@ impl<F: Folder, N: FileNames> Held<F, N> {
         }
     }
 
-    /// Opens a file, and asks for its length.
+    /// Opens a file, and asks for its length. One that isn't known is another process's, or none.
     fn opened(&mut self, kind: Kind, number: u32, access: Access) -> io::Result<OpenOne<F::File>>
         ensures this { IfOk result (λ one. (one.kind ≡ kind) × (one.number ≡ number)) }
         ensures open { IsTrue F.tells → IfOk result (IsOpen N.name F.name_of (F.past self.new.timed.folder)) }
         ensures same { IsTrue F.tells → F.past self.new.timed.folder ≡ F.past self.old.timed.folder }
         ensures rest { self.new ≡ record self.old { timed = record self.old.timed { folder = self.new.timed.folder } } }
     {
+        if self.known(kind) <= number {
+            return Err(unknown());
+        }
         check_in_place(&mut self.timed.folder)?;
         let name = N::name_of(self.alloc, kind, number)?;
         let file = self.timed.folder.open(name.as_str(), access)?;

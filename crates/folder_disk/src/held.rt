@@ -303,7 +303,7 @@ impl<F: Folder, N: FileNames> Held<F, N> {
     }
 
     /// How many files of a kind are known.
-    fn known(&self, kind: Kind) -> u32
+    pub(crate) fn known(&self, kind: Kind) -> u32
         ensures { result ≡ known_of self.now.warc self.now.cdxj kind }
     {
         match kind {

@@ -11,11 +11,16 @@ mod held;
 mod mending;
 mod names;
 mod open_files;
+mod reader;
+mod reading;
 mod reasons;
 mod standing;
 mod trust;
+mod unopened;
 
 pub use archive_names::{ArchiveFile, ArchiveNames, FOLDER};
 pub use causes::{Causes, counted, told};
 pub use folder_disk::FolderDisk;
 pub use names::FileNames;
+pub use reader::FolderReader;
+pub use unopened::Unopened;

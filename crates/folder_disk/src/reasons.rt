@@ -6,7 +6,7 @@ use folder_model::Folder;
 use std::io;
 use std::io::ErrorKind;
 
-/// After a file that was to be made may be there or not, or a sync failed.
+/// After files of others were found, a file that was to be made may be there or not, or a sync failed.
 pub(crate) fn stopped() -> io::Error {
     io::Error::other("an earlier call failed, and what it left on the disk isn't known")
 }
@@ -93,9 +93,9 @@ pub(crate) fn of_lock(error: io::Error) -> io::Error {
     }
 }
 
-/// Of a disk whose folder couldn't be held or counted.
-pub(crate) fn refused() -> io::Error {
-    io::Error::other("it wasn't opened")
+/// Of what a disk was asked that is only read.
+pub(crate) fn only_read() -> io::Error {
+    io::Error::new(ErrorKind::PermissionDenied, "it was opened to be read")
 }
 
 /// Of a file that isn't there.

@@ -8,7 +8,7 @@ ghost use Rattle.folder_disk.specs.State.{IsKnown, no_folder, reading};
 use crate::beginning::{Begun, begin};
 use crate::held::Held;
 use crate::names::FileNames;
-use crate::reasons::{refused, unknown};
+use crate::reasons::{stopped, unknown};
 use disk_model::Kind;
 use folder_model::Folders;
 use std::alloc::Global;
@@ -21,7 +21,7 @@ pub(crate) enum Standing<S: Folders, N: FileNames> {
     Held(Held<S::Folder, N>),
     /// Nothing, since it wasn't there. So it has no files.
     Absent,
-    /// Nothing, for good: it couldn't be held or counted.
+    /// Nothing, for good: when it was made it had files of others, or a sync in it failed.
     Refused,
 }
 
@@ -37,7 +37,7 @@ impl<S: Folders, N: FileNames> Standing<S, N> {
         match self {
             Standing::Held(held) => held.files(kind),
             Standing::Absent => Ok(0),
-            Standing::Refused => Err(refused()),
+            Standing::Refused => Err(stopped()),
         }
     }
 
@@ -53,7 +53,7 @@ impl<S: Folders, N: FileNames> Standing<S, N> {
         match self {
             Standing::Held(held) => held.len(kind, file),
             Standing::Absent => Err(unknown()),
-            Standing::Refused => Err(refused()),
+            Standing::Refused => Err(stopped()),
         }
     }
 
@@ -70,7 +70,7 @@ impl<S: Folders, N: FileNames> Standing<S, N> {
         match self {
             Standing::Held(held) => held.read(kind, file, at, into),
             Standing::Absent => Err(unknown()),
-            Standing::Refused => Err(refused()),
+            Standing::Refused => Err(stopped()),
         }
     }
 
@@ -92,7 +92,7 @@ impl<S: Folders, N: FileNames> Standing<S, N> {
         match self {
             Standing::Held(held) => held.write_at(kind, file, at, bytes),
             Standing::Absent => Err(unknown()),
-            Standing::Refused => Err(refused()),
+            Standing::Refused => Err(stopped()),
         }
     }
 
@@ -108,7 +108,7 @@ impl<S: Folders, N: FileNames> Standing<S, N> {
         match self {
             Standing::Held(held) => held.cut(kind, file, len),
             Standing::Absent => Err(unknown()),
-            Standing::Refused => Err(refused()),
+            Standing::Refused => Err(stopped()),
         }
     }
 
@@ -123,7 +123,7 @@ impl<S: Folders, N: FileNames> Standing<S, N> {
         match self {
             Standing::Held(held) => held.sync(kind, file),
             Standing::Absent => Err(unknown()),
-            Standing::Refused => Err(refused()),
+            Standing::Refused => Err(stopped()),
         }
     }
 
@@ -139,7 +139,7 @@ impl<S: Folders, N: FileNames> Standing<S, N> {
         match self {
             Standing::Held(held) => held.create(kind),
             Standing::Absent => self.begin(system, alloc, kind),
-            Standing::Refused => Err(refused()),
+            Standing::Refused => Err(stopped()),
         }
     }
 
