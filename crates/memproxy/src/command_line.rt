@@ -7,7 +7,8 @@ ghost use Rattle.real_outside.specs.Sinks.{is_error};
 
 use capture::Memory;
 use command::{is_import, is_pipe, site_of};
-use real_outside::{Ends, Lock, RealSink, StandardStreams};
+use folder_model::Lock;
+use real_outside::{Ends, RealSink, StandardStreams};
 use std::alloc::Global;
 use std::env;
 use std::io::ErrorKind;

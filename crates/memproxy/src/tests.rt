@@ -3,9 +3,10 @@ mod side_by_side;
 
 use command::Status;
 use disk_model::{Disk, Kind};
+use folder_model::Lock;
 use outside::MemorySink;
 use proxy_run::{CREW, Crew, run};
-use real_outside::{Ends, Lock, Made, make};
+use real_outside::{Ends, Made, make};
 use std::fs;
 use std::test::Fail;
 

@@ -3,23 +3,10 @@ ghost use Rattle.std.specs.Prelude.{◌≡◌, MatchResult, IsErr};
 ghost use Rattle.capture.specs.Faults.{CountsFaults};
 
 use crate::causes::Causes;
+use folder_disk::counted;
 use outside::Failed;
 use std::fmt::Display;
 use std::io;
-
-/// Passes an answer of the system on. A failure is counted; the count stands still at its greatest value.
-pub(crate) fn counted<T, E: Drop>(faults: &mut u64, answer: Result<T, E>) -> Result<T, Failed>
-    ensures passed_on { MatchResult answer (λ value. result ≡ Ok value) (λ _. IsErr result) }
-    ensures counts { CountsFaults faults.old faults.new result }
-{
-    match answer {
-        Ok(value) => Ok(value),
-        Err(_) => {
-            *faults = faults.saturating_add(1);
-            Err(Failed)
-        }
-    }
-}
 
 /// Passes an answer of the system on. The cause of a failure is told, and the failure is counted.
 pub(crate) fn told<T, C: Causes, D: Display + Drop>(

@@ -3,11 +3,12 @@ ghost use Rattle.std.specs.Prelude.{◌↔◌, ◌<◌, false, [], IsTrue};
 ghost use Rattle.real_outside.specs.Links.{link_faults};
 ghost use Rattle.outside.specs.Link.{no_traffic};
 
-use crate::faults::{counted, told};
+use crate::faults::told;
 use crate::network::Network;
 use crate::standard_streams::StandardStreams;
 use crate::streams::{EndingInput, print_when_taken};
 use crate::tcp::link::TcpLink;
+use folder_disk::counted;
 use outside::{EchoLink, Failed, Link};
 use std::io::Print;
 

@@ -9,18 +9,19 @@ ghost use Rattle.real_outside.specs.Sinks.{sink_faults, is_error};
 use crate::clock::RealClock;
 use crate::dialer::RealDialer;
 use crate::ends::Ends;
-use crate::file_system::{FileSystem, Lock};
-use crate::folder_disk::FolderDisk;
+use crate::file_system::FileSystem;
 use crate::gate::RealGate;
 use crate::limits::LIMITS;
 use crate::listening::where_to_listen;
 use crate::network::Network;
 use crate::places::Places;
+use crate::real_disk::RealDisk;
 use crate::sink::RealSink;
 use crate::standard_streams::StandardStreams;
 use crate::tcp::dial::TcpDialer;
 use crate::tcp::gate::TcpGate;
 use capture::{Memory, Site};
+use folder_model::Lock;
 use std::io::Print;
 use std::net::SocketAddr;
 use std::rt::{Clock, Env};
@@ -29,7 +30,7 @@ use std::rt::{Clock, Env};
 #[derive(Drop)]
 pub struct Made<R: FileSystem + Network + StandardStreams> {
     /// The archive's disk.
-    pub disk: FolderDisk<R>,
+    pub disk: RealDisk<R::Folders>,
     /// Where clients come in.
     pub gate: RealGate<R>,
     /// For each member of the crew, a way to origins and a clock.
@@ -60,7 +61,7 @@ where
     let members = make_members(rt, streams, &around, members)?;
     let out = make_sink(rt, streams)?;
     Ok(Made {
-        disk: FolderDisk::new(rt.clone()?, rt.alloc(), lock),
+        disk: RealDisk::new(rt.folders(), rt.alloc(), lock),
         gate,
         members,
         out,

@@ -3,9 +3,10 @@ ghost use Rattle.std.specs.Prelude.{false, []};
 ghost use Rattle.real_outside.specs.Sinks.{sink_faults};
 
 use crate::causes::Causes;
-use crate::faults::{counted, told};
+use crate::faults::told;
 use crate::standard_streams::StandardStreams;
 use crate::streams::write_some;
+use folder_disk::counted;
 use outside::{Failed, Sink};
 use std::io;
 use std::io::Print;

@@ -5,7 +5,7 @@ mod disk_steps;
 mod durability;
 pub(crate) mod loopback;
 mod real_folder;
-mod recorded_files;
+mod recorded_folders;
 mod recorded_network;
 pub(crate) mod site;
 mod streaming;

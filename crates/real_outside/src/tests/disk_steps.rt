@@ -1,6 +1,6 @@
 //! Calls of a disk, as rows list them.
-use crate::file_system::FileSystem;
-use crate::folder_disk::FolderDisk;
+use crate::file_system::SilentFolders;
+use crate::real_disk::RealDisk;
 use disk_model::{Disk, Kind};
 use outside::Failed;
 
@@ -26,7 +26,13 @@ pub(crate) enum Step {
 }
 
 /// Takes one step, and answers its number, or 0 where it has none.
-pub(crate) fn taken<F: FileSystem>(disk: &mut FolderDisk<F>, step: Step) -> Result<usize, Failed> {
+pub(crate) fn taken<R: SilentFolders + Drop>(
+    disk: &mut RealDisk<R>,
+    step: Step,
+) -> Result<usize, Failed>
+where
+    R::Folder: Drop,
+{
     match step {
         Step::Files(kind) => number(disk.files(kind)),
         Step::Create(kind) => number(disk.create(kind)),
@@ -59,13 +65,16 @@ fn done(answer: Result<(), Failed>) -> Result<usize, Failed> {
 }
 
 /// What a read from a place on answers: 0 where the bytes are these, and 1 where they are others.
-fn read<F: FileSystem>(
-    disk: &mut FolderDisk<F>,
+fn read<R: SilentFolders + Drop>(
+    disk: &mut RealDisk<R>,
     kind: Kind,
     file: u32,
     at: u64,
     want: &[u8],
-) -> Result<usize, Failed> {
+) -> Result<usize, Failed>
+where
+    R::Folder: Drop,
+{
     let mut into = [0u8; 5];
     let Some(into) = into.get_mut(..want.len()) else {
         return Err(Failed);

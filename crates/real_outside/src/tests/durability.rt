@@ -1,13 +1,13 @@
 //! What the folder asks of the file system, in which order, and what a call that fails leaves.
 //! No case can say it: a case plays over a disk in memory, which asks no file system.
 use super::disk_steps::{Step, taken};
-use super::recorded_files::{NEVER, NO_VOLUME, Plan, RecordedFiles, TWO_VOLUMES};
+use super::recorded_folders::{NEVER, NO_VOLUME, Plan, RecordedFolders, Recorder, TWO_VOLUMES};
 use super::written::{Written, check, joined, written};
-use crate::file_system::Lock;
-use crate::folder_disk::FolderDisk;
+use crate::real_disk::RealDisk;
 use disk_model::Disk;
 use disk_model::Kind::Warc;
-use std::alloc::Global;
+use folder_model::Lock;
+use std::alloc::{AllocError, Global};
 use std::io::ErrorKind;
 use std::process::Abort;
 
@@ -17,8 +17,6 @@ const CREATE: Step = Step::Create(Warc);
 
 /// The length of the file of this number.
 const LEN_0: Step = Step::Len(Warc, 0);
-
-const LEN_1: Step = Step::Len(Warc, 1);
 
 /// Two bytes from the second on.
 const READ_0: Step = Step::Read(Warc, 0, 1, b"\0\0");
@@ -43,18 +41,36 @@ const SYNC_1: Step = Step::Sync(Warc, 1);
 
 const SYNC_2: Step = Step::Sync(Warc, 2);
 
-/// What the file system holds, which of its calls fail and how and which are written down; how the folder is held; what is
+/// What the folder holds, which of its calls fail and how and which are written down; how the folder is held; what is
 /// done; and in parts the calls that are made then, and behind them how many steps failed.
 type Row = (Plan, Lock, &'static [Step], &'static [&'static str]);
 
 /// What is called where the folder is held so, and how many steps failed.
 fn played(alloc: Global, plan: Plan, lock: Lock, steps: &[Step]) -> Written {
-    let mut disk = FolderDisk::new(RecordedFiles::new(plan), alloc, lock);
+    match recorders(alloc, plan) {
+        Ok((recorder, log)) => {
+            let disk = RealDisk::new(RecordedFolders::new(recorder), alloc, lock);
+            let faults = written(faults_behind(disk, steps));
+            joined(log.calls(), faults.as_str())
+        }
+        Err(_) => Written::new(),
+    }
+}
+
+/// Two recorders with one log.
+fn recorders(alloc: Global, plan: Plan) -> Result<(Recorder, Recorder), AllocError> {
+    let recorder = Recorder::new(alloc, plan)?;
+    let log = recorder.share()?;
+    Ok((recorder, log))
+}
+
+/// How many steps failed.
+fn faults_behind(disk: RealDisk<RecordedFolders>, steps: &[Step]) -> u64 {
+    let mut disk = disk;
     for step in steps {
         let _told = taken(&mut disk, *step);
     }
-    let faults = written(disk.faults());
-    joined(disk.system().calls, faults.as_str())
+    disk.faults()
 }
 
 /// Asserts that rows are called so.
@@ -73,42 +89,41 @@ fn whole(parts: &[&str]) -> Written {
     whole
 }
 
-/// What opens a folder of two volumes: calls 0 to 6.
+/// What opens a folder of two volumes and counts them: calls 0 to 13.
 const OPENED: &str =
-    "open to read archive;lock archive;may write archive;look at archive;look for archive;list archive;may write archive/vol-000001.warc;";
+    "lock archive;may write archive;list names;open to read vol-000000.warc;open to read vol-000001.warc;may write vol-000001.warc;sync folder;sync around;look for folder;open to read vol-000001.warc;length of vol-000001.warc;sync vol-000001.warc;look for vol-000001.warc;look for folder;";
 
-/// What finds no folder and makes it: calls 0 to 8.
+/// What finds no folder: calls 0 to 2.
+const NOT_FOUND: &str = "lock archive;is a link archive;may write .;";
+
+/// What makes and opens a folder: calls 3 to 8.
 const FOLDER_MADE: &str =
-    "open to read archive;is a link archive;may write .;make archive;open to read archive;lock archive;may write archive;look at archive;look for archive;";
+    "make archive;lock archive;may write archive;list names;sync folder;sync around;";
 
-/// What opens a folder without files: calls 0 to 5.
-const EMPTY: &str =
-    "open to read archive;lock archive;may write archive;look at archive;look for archive;list archive;";
-
-/// What makes a file there: calls 6 to 12.
+/// What makes a file in a folder that has none: calls 6 to 11 where the folder was there.
 const MADE: &str =
-    "look for archive;create vol-000000.warc;look at vol-000000.warc;sync all vol-000000.warc;sync folder archive;sync folder .;look for archive/vol-000000.warc;";
+    "look for folder;create vol-000000.warc;sync vol-000000.warc;sync folder;sync around;look for vol-000000.warc;";
 
-/// What writes it: calls 13 to 15, and no fault but the one.
+/// What writes it: calls 12 to 14, and no fault but the one.
 const STORED: &str =
-    "write 3 at 0 of vol-000000.warc;sync data vol-000000.warc;look for archive/vol-000000.warc;1";
+    "write 3 at 0 of vol-000000.warc;sync vol-000000.warc;look for vol-000000.warc;1";
 
 /// What opens a file again that a call that failed closed.
-const REOPENED: &str = "look for archive;open to write vol-000000.warc;look at vol-000000.warc;";
+const REOPENED: &str = "look for folder;open to write vol-000000.warc;length of vol-000000.warc;";
 
 const ONE_WRITE: &str = "write 3 at 0 of vol-000000.warc;";
 
-/// What syncs a file whose folder wasn't synced since it was made.
-const SYNCED: &str =
-    "sync data vol-000000.warc;sync folder archive;sync folder .;look for archive/vol-000000.warc;1";
+/// What makes a third volume.
+const THIRD_MADE: &str =
+    "look for folder;create vol-000002.warc;sync vol-000002.warc;sync folder;sync around;look for vol-000002.warc;";
 
 /// What reads the first of two volumes.
 const READ: &str =
-    "look for archive;open to read vol-000000.warc;look at vol-000000.warc;read 2 at 1 of vol-000000.warc;";
+    "look for folder;open to read vol-000000.warc;length of vol-000000.warc;read 2 at 1 of vol-000000.warc;";
 
-/// What opens two volumes for who reads.
+/// What opens two volumes for who reads, and counts them.
 const SHARED: &str =
-    "open to read archive;share archive;look at archive;look for archive;list archive;";
+    "share archive;list names;open to read vol-000000.warc;open to read vol-000001.warc;look for folder;";
 
 /// What has no folder at first.
 const NO_FOLDER: (usize, ErrorKind) = (0, ErrorKind::NotFound);
@@ -129,11 +144,11 @@ static DURABLE: [Row; 1] = [(
     Lock::Alone,
     &[FILES, CREATE, WRITE_0, SYNC_0, CREATE],
     &[
+        NOT_FOUND,
         FOLDER_MADE,
-        "list archive;list archive;",
         MADE,
-        "write 3 at 0 of vol-000000.warc;sync data vol-000000.warc;look for archive/vol-000000.warc;",
-        "look for archive;create vol-000001.warc;look at vol-000001.warc;sync all vol-000001.warc;sync folder archive;look for archive/vol-000001.warc;",
+        "write 3 at 0 of vol-000000.warc;sync vol-000000.warc;look for vol-000000.warc;",
+        "look for folder;create vol-000001.warc;sync vol-000001.warc;sync folder;sync around;look for vol-000001.warc;",
         "0",
     ],
 )];
@@ -141,62 +156,31 @@ static DURABLE: [Row; 1] = [(
 /// A call that fails once while a file is made, and in parts all that is done behind it.
 type Failing = (usize, &'static [&'static str]);
 
-/// Each such call.
-static FAILING: [Failing; 16] = [
-    (0, &["open to read archive;", EMPTY, MADE, STORED]),
-    (1, &["lock archive;", EMPTY, MADE, STORED]),
-    (2, &["may write archive;", EMPTY, MADE, STORED]),
-    (3, &["look at archive;", EMPTY, MADE, STORED]),
-    (4, &["look for archive;", EMPTY, MADE, STORED]),
-    (
-        5,
-        &[
-            "list archive;",
-            "look for archive;list archive;",
-            MADE,
-            STORED,
-        ],
-    ),
-    (6, &["look for archive;", REOPENED, ONE_WRITE, SYNCED]),
-    (7, &["create vol-000000.warc;", REOPENED, ONE_WRITE, SYNCED]),
-    (
-        8,
-        &["look at vol-000000.warc;", REOPENED, ONE_WRITE, SYNCED],
-    ),
-    (
-        9,
-        &["sync all vol-000000.warc;", REOPENED, ONE_WRITE, SYNCED],
-    ),
-    (10, &["sync folder archive;", REOPENED, ONE_WRITE, SYNCED]),
-    (
-        11,
-        &[
-            "sync folder .;",
-            REOPENED,
-            ONE_WRITE,
-            "sync data vol-000000.warc;sync folder .;look for archive/vol-000000.warc;1",
-        ],
-    ),
+/// Each such call. Where the folder couldn't be opened nothing more is asked of it, and where the file that was made may not be on the
+/// disk no other is made and none is synced.
+static FAILING: [Failing; 15] = [
+    (0, &["lock archive;4"]),
+    (1, &["may write archive;4"]),
+    (2, &["list names;4"]),
+    (3, &["sync folder;4"]),
+    (4, &["sync around;4"]),
+    (5, &["look for folder;", MADE, STORED]),
+    (6, &["look for folder;3"]),
+    (7, &["create vol-000000.warc;list names;3"]),
+    (8, &["sync vol-000000.warc;list names;3"]),
+    (9, &["sync folder;list names;3"]),
+    (10, &["sync around;list names;3"]),
+    (11, &["look for vol-000000.warc;", REOPENED, STORED]),
     (
         12,
         &[
-            "look for archive/vol-000000.warc;",
-            REOPENED,
             ONE_WRITE,
-            "sync data vol-000000.warc;look for archive/vol-000000.warc;1",
+            "look for folder;open to read vol-000000.warc;length of vol-000000.warc;",
+            "sync vol-000000.warc;look for vol-000000.warc;1",
         ],
     ),
-    (
-        13,
-        &[
-            ONE_WRITE,
-            "look for archive;open to read vol-000000.warc;look at vol-000000.warc;",
-            "sync data vol-000000.warc;",
-            "look for archive/vol-000000.warc;1",
-        ],
-    ),
-    (14, &["sync data vol-000000.warc;", "1"]),
-    (15, &["look for archive/vol-000000.warc;", "1"]),
+    (13, &["sync vol-000000.warc;1"]),
+    (14, &["look for vol-000000.warc;1"]),
 ];
 
 /// Asserts what is done behind each call that fails.
@@ -230,20 +214,20 @@ const TWO_AT_ONCE: Plan = Plan {
     ..TWO_VOLUMES
 };
 
-/// Two volumes whose paths lead to other files from call 14 on.
-const MOVES_AT_14: Plan = Plan {
-    moved_from: 14,
+/// Two volumes whose paths lead to others from call 19 on.
+const MOVES_AT_19: Plan = Plan {
+    moved_from: 19,
     ..TWO_VOLUMES
 };
 
-/// Two volumes whose paths lead to other files from call 4 on.
+/// Two volumes whose paths lead to others from call 4 on.
 const MOVES_AT_4: Plan = Plan {
     moved_from: 4,
     ..TWO_VOLUMES
 };
 
 /// What is asked of the files of two volumes.
-static OPEN: [Row; 9] = [
+static OPEN: [Row; 11] = [
     // Two files stay open with their lengths.
     (
         TWO_VOLUMES,
@@ -253,51 +237,75 @@ static OPEN: [Row; 9] = [
         ],
         &[
             OPENED,
-            "look for archive;open to write vol-000001.warc;look at vol-000001.warc;write 3 at 0 of vol-000001.warc;sync data vol-000001.warc;sync folder archive;sync folder .;look for archive/vol-000001.warc;sync data vol-000001.warc;look for archive/vol-000001.warc;",
+            "look for folder;open to write vol-000001.warc;length of vol-000001.warc;write 3 at 0 of vol-000001.warc;sync vol-000001.warc;look for vol-000001.warc;sync vol-000001.warc;look for vol-000001.warc;",
             READ,
             "read 2 at 1 of vol-000001.warc;cut to 1 vol-000001.warc;",
             "1",
         ],
     ),
-    // A file that is there where a file is made is another's, and nothing more is asked of the folder.
+    // A file that is there where a file is made is another's, and nothing more is made or synced.
     (
         Plan {
-            from: 7,
-            fails: [(10, ErrorKind::AlreadyExists), NEVER],
+            from: 14,
+            fails: [(15, ErrorKind::AlreadyExists), NEVER],
             ..TWO_VOLUMES
         },
         Lock::Alone,
-        &[FILES, CREATE, FILES, CREATE, READ_0],
+        &[FILES, CREATE, FILES, CREATE, SYNC_0, READ_0],
         &[
-            "look for archive;sync folder archive;sync folder .;create vol-000002.warc;",
+            "look for folder;create vol-000002.warc;list names;",
+            READ,
             "4",
         ],
     ),
-    // Where the folder's sync failed behind a file that was made, it is synced before the next one is, so that a crash leaves no gap.
+    // Where the folder's sync failed behind a file that was made, no other is made, so that a crash leaves no gap.
     (
         Plan {
-            from: 13,
-            fails: [(13, ErrorKind::Other), NEVER],
+            from: 17,
+            fails: [(17, ErrorKind::Other), NEVER],
             ..TWO_VOLUMES
         },
         Lock::Alone,
         &[FILES, CREATE, CREATE],
+        &["sync folder;list names;", "2"],
+    ),
+    // Where none was made, as on a full disk, it is tried again.
+    (
+        Plan {
+            from: 15,
+            fails: [(15, ErrorKind::StorageFull), NEVER],
+            ..TWO_VOLUMES
+        },
+        Lock::Alone,
+        &[FILES, CREATE, CREATE],
+        &["create vol-000002.warc;list names;", THIRD_MADE, "1"],
+    ),
+    // What a sync that failed was to write is written anew before the next one, and what a write that failed may have left behind it
+    // is cut off.
+    (
+        Plan {
+            from: 21,
+            fails: [(21, ErrorKind::StorageFull), NEVER],
+            ..TWO_VOLUMES
+        },
+        Lock::Alone,
+        &[FILES, CREATE, WRITE_2, SYNC_2, SYNC_2],
         &[
-            "sync folder archive;look for archive;sync folder archive;create vol-000003.warc;look at vol-000003.warc;sync all vol-000003.warc;sync folder archive;look for archive/vol-000003.warc;",
-            "1",
+            "sync vol-000002.warc;look for folder;open to write vol-000002.warc;length of vol-000002.warc;read 3 at 0 of vol-000002.warc;write 3 at 0 of vol-000002.warc;",
+            "cut to 3 vol-000002.warc;sync vol-000002.warc;look for vol-000002.warc;1",
         ],
     ),
     // A folder that is gone holds no files, which isn't said of one that this process has.
     (
         Plan {
-            from: 14,
-            fails: [(14, ErrorKind::NotFound), (15, ErrorKind::NotFound)],
+            from: 19,
+            fails: [(19, ErrorKind::NotFound), (20, ErrorKind::NotFound)],
             ..TWO_VOLUMES
         },
         Lock::Alone,
         &[FILES, WRITE_0, SYNC_0, FILES, FILES],
         &[
-            "look for archive/vol-000000.warc;look for archive;look for archive;list archive;may write archive/vol-000001.warc;",
+            "look for vol-000000.warc;look for folder;look for folder;",
             "2",
         ],
     ),
@@ -305,7 +313,7 @@ static OPEN: [Row; 9] = [
     // was written is read also behind the end that the file had when it was opened to be read.
     (
         Plan {
-            from: 7,
+            from: 14,
             ..ONE_BYTE
         },
         Lock::Alone,
@@ -313,18 +321,21 @@ static OPEN: [Row; 9] = [
             FILES, LEN_0, WRITE_0, READ_0, CREATE, WRITE_2, SYNC_2, WRITE_1,
         ],
         &[
-            "look for archive;open to read vol-000000.warc;look at vol-000000.warc;",
+            "look for folder;open to read vol-000000.warc;length of vol-000000.warc;",
             REOPENED,
             ONE_WRITE,
-            "read 2 at 1 of vol-000000.warc;look for archive;sync folder archive;sync folder .;create vol-000002.warc;look at vol-000002.warc;sync all vol-000002.warc;sync folder archive;look for archive/vol-000002.warc;write 3 at 0 of vol-000002.warc;sync data vol-000002.warc;look for archive/vol-000002.warc;look for archive;open to write vol-000001.warc;look at vol-000001.warc;write 3 at 0 of vol-000001.warc;",
+            "read 2 at 1 of vol-000000.warc;",
+            THIRD_MADE,
+            "write 3 at 0 of vol-000002.warc;sync vol-000002.warc;look for vol-000002.warc;",
+            "look for folder;open to write vol-000001.warc;length of vol-000001.warc;write 3 at 0 of vol-000001.warc;",
             "0",
         ],
     ),
     // Short reads and writes go on, and so do interrupted ones.
     (
         Plan {
-            from: 10,
-            fails: [(10, ErrorKind::Interrupted), (13, ErrorKind::Interrupted)],
+            from: 17,
+            fails: [(17, ErrorKind::Interrupted), (20, ErrorKind::Interrupted)],
             ..TWO_AT_ONCE
         },
         Lock::Alone,
@@ -335,33 +346,30 @@ static OPEN: [Row; 9] = [
         ],
     ),
     // Nothing that is done in a folder that was moved or replaced is acknowledged, and nothing is done in the other. Paths lead
-    // to others from the fifteenth call on,
+    // to others from the twentieth call on,
     (
         Plan {
-            from: 7,
-            ..MOVES_AT_14
+            from: 14,
+            ..MOVES_AT_19
         },
         Lock::Alone,
         &[FILES, WRITE_0, SYNC_0, SYNC_0, FILES, CREATE, READ_0],
         &[
             REOPENED,
             ONE_WRITE,
-            "sync data vol-000000.warc;sync folder archive;sync folder .;look for archive/vol-000000.warc;look for archive;look for archive;look for archive;look for archive;",
+            "sync vol-000000.warc;look for vol-000000.warc;look for folder;look for folder;look for folder;look for folder;",
             "5",
         ],
     ),
     // also behind a file that was made,
     (
         Plan {
-            from: 7,
-            ..MOVES_AT_14
+            from: 14,
+            ..MOVES_AT_19
         },
         Lock::Alone,
         &[FILES, CREATE, FILES],
-        &[
-            "look for archive;sync folder archive;sync folder .;create vol-000002.warc;look at vol-000002.warc;sync all vol-000002.warc;sync folder archive;look for archive/vol-000002.warc;look for archive;",
-            "2",
-        ],
+        &[THIRD_MADE, "look for folder;", "2"],
     ),
     // and from the fifth call on.
     (
@@ -371,7 +379,7 @@ static OPEN: [Row; 9] = [
         },
         Lock::Alone,
         &[FILES, FILES],
-        &["may write archive;look at archive;look for archive;", "2"],
+        &["sync around;look for folder;", "2"],
     ),
 ];
 
@@ -404,58 +412,63 @@ const A_GAP: Plan = Plan {
     ..NO_VOLUME
 };
 
-/// What opens the folder, and who is refused.
+/// What opens the folder, and who is refused: who can't write is so at once.
 static OPENING: [Row; 15] = [
-    // Who can't write is refused at once.
     (
         Plan {
-            fails: [(1, ErrorKind::WouldBlock), NEVER],
+            fails: [(0, ErrorKind::WouldBlock), NEVER],
             ..TWO_VOLUMES
         },
         Lock::Alone,
         &[FILES, FILES],
-        &["open to read archive;lock archive;", OPENED, "1"],
+        &["lock archive;", "2"],
     ),
     (
         Plan {
-            fails: [(1, ErrorKind::Unsupported), (3, ErrorKind::Unsupported)],
+            fails: [(0, ErrorKind::Unsupported), NEVER],
+            ..TWO_VOLUMES
+        },
+        Lock::Alone,
+        &[FILES, FILES],
+        &["lock archive;", "2"],
+    ),
+    (
+        Plan {
+            fails: [(0, ErrorKind::PermissionDenied), NEVER],
+            ..TWO_VOLUMES
+        },
+        Lock::Alone,
+        &[FILES, FILES],
+        &["lock archive;", "2"],
+    ),
+    (
+        Plan {
+            fails: [(0, ErrorKind::NotADirectory), NEVER],
+            ..TWO_VOLUMES
+        },
+        Lock::Alone,
+        &[FILES, FILES],
+        &["lock archive;", "2"],
+    ),
+    (
+        Plan {
+            fails: [(1, ErrorKind::ReadOnlyFilesystem), NEVER],
+            ..TWO_VOLUMES
+        },
+        Lock::Alone,
+        &[FILES, FILES],
+        &["lock archive;may write archive;", "2"],
+    ),
+    (
+        Plan {
+            from: 2,
+            fails: [(5, ErrorKind::PermissionDenied), NEVER],
             ..TWO_VOLUMES
         },
         Lock::Alone,
         &[FILES, FILES],
         &[
-            "open to read archive;lock archive;open to read archive;lock archive;",
-            "2",
-        ],
-    ),
-    (
-        Plan {
-            fails: [
-                (2, ErrorKind::PermissionDenied),
-                (5, ErrorKind::ReadOnlyFilesystem),
-            ],
-            ..TWO_VOLUMES
-        },
-        Lock::Alone,
-        &[FILES, FILES],
-        &[
-            "open to read archive;lock archive;may write archive;open to read archive;lock archive;may write archive;",
-            "2",
-        ],
-    ),
-    (
-        Plan {
-            fails: [
-                (6, ErrorKind::PermissionDenied),
-                (9, ErrorKind::ReadOnlyFilesystem),
-            ],
-            ..TWO_VOLUMES
-        },
-        Lock::Alone,
-        &[FILES, FILES],
-        &[
-            OPENED,
-            "look for archive;list archive;may write archive/vol-000001.warc;",
+            "list names;open to read vol-000000.warc;open to read vol-000001.warc;may write vol-000001.warc;",
             "2",
         ],
     ),
@@ -466,124 +479,169 @@ static OPENING: [Row; 15] = [
         },
         Lock::Alone,
         &[FILES, FILES],
-        &[
-            "open to read archive;is a link archive;may write .;",
-            OPENED,
-            "1",
-        ],
+        &[NOT_FOUND, "2"],
     ),
+    // A file system that can't sync a folder loses files that were acknowledged.
     (
         Plan {
-            fails: [
-                (0, ErrorKind::PermissionDenied),
-                (1, ErrorKind::NotADirectory),
-            ],
+            from: 6,
+            fails: [(6, ErrorKind::InvalidInput), NEVER],
             ..TWO_VOLUMES
         },
         Lock::Alone,
         &[FILES, FILES],
-        &["open to read archive;open to read archive;", "2"],
+        &["sync folder;", "2"],
     ),
-    // Who reads shares the folder and writes nothing, also where the lock is refused once.
     (
         Plan {
-            fails: [(1, ErrorKind::Unsupported), NEVER],
+            from: 11,
+            fails: [(11, ErrorKind::Other), NEVER],
             ..TWO_VOLUMES
         },
+        Lock::Alone,
+        &[FILES, FILES],
+        &["sync vol-000001.warc;", "2"],
+    ),
+    // A link that leads nowhere is no archive without files.
+    (
+        Plan {
+            fails: [NO_FOLDER, NEVER],
+            ..LINK
+        },
+        Lock::Alone,
+        &[FILES],
+        &["lock archive;is a link archive;", "1"],
+    ),
+    // Files that another process made are never touched: no call comes behind the count that has one. Where the list can't be
+    // read it is read again.
+    (
+        Plan {
+            from: 3,
+            fails: [NO_FOLDER, NEVER],
+            ..ONE_VOLUME
+        },
+        Lock::Alone,
+        &[FILES, CREATE, FILES, CREATE, READ_0, WRITE_0, CUT_0, SYNC_0],
+        &[
+            "make archive;lock archive;may write archive;list names;open to read vol-000000.warc;",
+            "7",
+        ],
+    ),
+    (
+        Plan {
+            from: 6,
+            fails: [NO_FOLDER, (6, ErrorKind::Other)],
+            ..ONE_VOLUME
+        },
+        Lock::Alone,
+        &[FILES, CREATE, FILES, CREATE, READ_0, WRITE_0, CUT_0, SYNC_0],
+        &[
+            "list names;",
+            "make archive;lock archive;may write archive;list names;open to read vol-000000.warc;",
+            "6",
+        ],
+    ),
+    // The same where the files are of the other kind.
+    (
+        Plan {
+            from: 6,
+            fails: [NO_FOLDER, NEVER],
+            ..ONE_CDXJ
+        },
+        Lock::Alone,
+        &[FILES, CREATE, FILES, CREATE, READ_0, WRITE_0, CUT_0, SYNC_0],
+        &["list names;open to read vol-000000.cdxj;", "7"],
+    ),
+    // A number that is missing makes no smaller count.
+    (
+        Plan { from: 2, ..A_GAP },
+        Lock::Alone,
+        &[FILES, CREATE],
+        &[
+            "list names;open to read vol-000000.warc;open to read vol-000001.warc;",
+            "2",
+        ],
+    ),
+    // No file is touched that wasn't counted.
+    (
+        Plan {
+            from: 14,
+            ..TWO_VOLUMES
+        },
+        Lock::Alone,
+        &[FILES, WRITE_2, SYNC_2],
+        &["2"],
+    ),
+];
+
+/// Who reads shares the folder, and writes and syncs nothing.
+static SHARING: [Row; 6] = [
+    (
+        TWO_VOLUMES,
         Lock::Shared,
         &[FILES, READ_0, SYNC_0, WRITE_0, CUT_0, CREATE],
         &[SHARED, READ, "3"],
     ),
     (
         Plan {
-            fails: [(1, ErrorKind::WouldBlock), NEVER],
+            fails: [(0, ErrorKind::WouldBlock), NEVER],
             ..TWO_VOLUMES
         },
         Lock::Shared,
         &[FILES, FILES, READ_0, SYNC_0, CREATE],
-        &["open to read archive;share archive;", SHARED, READ, "2"],
+        &["share archive;", "5"],
     ),
     (
-        Plan {
-            fails: [(1, ErrorKind::Other), NEVER],
-            ..TWO_VOLUMES
-        },
+        Plan { from: 2, ..A_GAP },
         Lock::Shared,
-        &[FILES, FILES],
-        &["open to read archive;share archive;", SHARED, "1"],
-    ),
-    // A link that leads nowhere is no archive without files, for who reads neither.
-    (
-        Plan {
-            fails: [NO_FOLDER, NEVER],
-            ..LINK
-        },
-        Lock::Alone,
-        &[FILES],
-        &["open to read archive;is a link archive;", "1"],
-    ),
-    (
-        Plan {
-            fails: [NO_FOLDER, NEVER],
-            ..LINK
-        },
-        Lock::Shared,
-        &[FILES],
-        &["open to read archive;is a link archive;", "1"],
-    ),
-    // Files that another process made are never touched: no call comes behind the list that has one. Where the list can't be
-    // read it is read again.
-    (
-        Plan {
-            fails: [NO_FOLDER, NEVER],
-            ..ONE_VOLUME
-        },
-        Lock::Alone,
-        &[FILES, CREATE, FILES, CREATE, READ_0, WRITE_0, CUT_0, SYNC_0],
-        &[FOLDER_MADE, "list archive;", "7"],
-    ),
-    (
-        Plan {
-            fails: [NO_FOLDER, (9, ErrorKind::Other)],
-            ..ONE_VOLUME
-        },
-        Lock::Alone,
-        &[FILES, CREATE, FILES, CREATE, READ_0, WRITE_0, CUT_0, SYNC_0],
+        &[FILES, READ_0],
         &[
-            FOLDER_MADE,
-            "list archive;look for archive;list archive;",
-            "7",
+            "open to read vol-000000.warc;open to read vol-000001.warc;",
+            "2",
         ],
     ),
-    // The same where the files are of the other kind.
+    // No folder is no file, and a link that leads nowhere isn't no folder.
     (
         Plan {
             fails: [NO_FOLDER, NEVER],
-            ..ONE_CDXJ
+            ..NO_VOLUME
         },
-        Lock::Alone,
-        &[FILES, CREATE, FILES, CREATE, READ_0, WRITE_0, CUT_0, SYNC_0],
-        &[FOLDER_MADE, "list archive;list archive;", "7"],
+        Lock::Shared,
+        &[FILES, READ_0, SYNC_0, CREATE],
+        &["share archive;is a link archive;", "3"],
     ),
-    // A number that is missing makes no smaller count.
     (
-        Plan { from: 5, ..A_GAP },
-        Lock::Alone,
-        &[FILES, CREATE],
-        &["list archive;look for archive;list archive;", "2"],
+        Plan {
+            fails: [NO_FOLDER, NEVER],
+            ..LINK
+        },
+        Lock::Shared,
+        &[FILES],
+        &["share archive;is a link archive;", "1"],
+    ),
+    // What was moved or replaced isn't read.
+    (
+        Plan {
+            from: 5,
+            ..MOVES_AT_4
+        },
+        Lock::Shared,
+        &[FILES, READ_0, SYNC_0],
+        &["look for folder;look for folder;", "3"],
     ),
 ];
 
 #[test]
 fn opens_the_folder_in_this_order(rt: HostRuntime) {
     check_rows(&rt, rt.alloc(), &OPENING);
+    check_rows(&rt, rt.alloc(), &SHARING);
 }
 
 /// The cause of each fault is told.
-static TOLD: [Row; 9] = [
+static TOLD: [Row; 11] = [
     (
         Plan {
-            fails: [(1, ErrorKind::WouldBlock), NEVER],
+            fails: [(0, ErrorKind::WouldBlock), NEVER],
             ..TELLING
         },
         Lock::Alone,
@@ -595,16 +653,16 @@ static TOLD: [Row; 9] = [
     ),
     (
         Plan {
-            fails: [(5, ErrorKind::StorageFull), NEVER],
+            fails: [(2, ErrorKind::StorageFull), NEVER],
             ..TELLING
         },
-        Lock::Alone,
+        Lock::Shared,
         &[FILES],
         &["archive: count files: no storage space;", "1"],
     ),
     (
         Plan {
-            fails: [(8, ErrorKind::StorageFull), NEVER],
+            fails: [(15, ErrorKind::StorageFull), NEVER],
             ..TELLING
         },
         Lock::Alone,
@@ -613,28 +671,41 @@ static TOLD: [Row; 9] = [
     ),
     (
         Plan {
-            fails: [(8, ErrorKind::StorageFull), NEVER],
+            fails: [(15, ErrorKind::AlreadyExists), NEVER],
             ..TELLING
         },
         Lock::Alone,
-        &[FILES, LEN_1],
+        &[FILES, CREATE, FILES],
         &[
-            "archive/vol-000001.warc: ask for its length: no storage space;",
+            "archive: make a file: files of another process are in it, of which this one doesn't know;",
+            "archive: count files: an earlier call failed, and what it left on the disk isn't known;",
+            "2",
+        ],
+    ),
+    (
+        Plan {
+            fails: [(16, ErrorKind::StorageFull), NEVER],
+            ..TELLING
+        },
+        Lock::Alone,
+        &[FILES, LEN_0],
+        &[
+            "archive/vol-000000.warc: ask for its length: no storage space;",
             "1",
         ],
     ),
     (
         Plan {
-            fails: [(10, ErrorKind::StorageFull), NEVER],
+            fails: [(17, ErrorKind::StorageFull), NEVER],
             ..TELLING
         },
         Lock::Alone,
-        &[FILES, READ_1],
-        &["archive/vol-000001.warc: read: no storage space;", "1"],
+        &[FILES, READ_0],
+        &["archive/vol-000000.warc: read: no storage space;", "1"],
     ),
     (
         Plan {
-            fails: [(10, ErrorKind::StorageFull), NEVER],
+            fails: [(17, ErrorKind::StorageFull), NEVER],
             ..TELLING
         },
         Lock::Alone,
@@ -643,7 +714,7 @@ static TOLD: [Row; 9] = [
     ),
     (
         Plan {
-            fails: [(10, ErrorKind::StorageFull), NEVER],
+            fails: [(17, ErrorKind::StorageFull), NEVER],
             ..TELLING
         },
         Lock::Alone,
@@ -652,12 +723,22 @@ static TOLD: [Row; 9] = [
     ),
     (
         Plan {
-            fails: [(10, ErrorKind::StorageFull), NEVER],
+            fails: [(17, ErrorKind::StorageFull), NEVER],
             ..TELLING
         },
         Lock::Alone,
-        &[FILES, SYNC_0, SYNC_0],
+        &[FILES, SYNC_0],
         &["archive/vol-000000.warc: sync: no storage space;", "1"],
+    ),
+    (
+        TELLING,
+        Lock::Shared,
+        &[FILES, CREATE, WRITE_0],
+        &[
+            "archive: make a file: it was opened to be read;",
+            "archive/vol-000000.warc: write: it was opened to be read;",
+            "2",
+        ],
     ),
     (TELLING, Lock::Alone, &[FILES, WRITE_0, SYNC_0], &["0"]),
 ];

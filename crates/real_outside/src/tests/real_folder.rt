@@ -3,10 +3,11 @@
 use super::disk_steps;
 use super::disk_steps::taken;
 use super::written::{Written, check, then};
-use crate::file_system::Lock;
-use crate::folder_disk::FolderDisk;
-use crate::system_files::c_path_of;
+use crate::file_system::FileSystem;
+use crate::real_disk::RealDisk;
+use crate::system_folder::{SystemFolders, c_path_of};
 use disk_model::Kind::{Cdxj, Warc};
+use folder_model::Lock;
 use outside::Failed;
 use std::fs;
 use std::process::Abort;
@@ -36,7 +37,7 @@ fn done_if(done: bool) -> Result<usize, Failed> {
 }
 
 /// Takes one step.
-fn take(rt: HostRuntime, disk: &mut FolderDisk<HostRuntime>, step: Step) -> Result<usize, Failed> {
+fn take(rt: HostRuntime, disk: &mut RealDisk<SystemFolders>, step: Step) -> Result<usize, Failed> {
     match step {
         Calls(step) => taken(disk, step),
         MakesOddName => done_if(makes_a_name_that_is_no_text()),
@@ -67,7 +68,7 @@ fn makes_a_name_that_is_no_text() -> bool {
 type Scene = (&'static [Step], &'static str);
 
 /// Asserts that the steps of a scene answer so.
-fn plays<R: Abort>(abort: &R, rt: HostRuntime, disk: &mut FolderDisk<HostRuntime>, scene: &Scene) {
+fn plays<R: Abort>(abort: &R, rt: HostRuntime, disk: &mut RealDisk<SystemFolders>, scene: &Scene) {
     let (steps, want) = scene;
     let mut told = Written::new();
     for step in *steps {
@@ -135,8 +136,8 @@ static LATER: Scene = (
         Calls(Files(Warc)),
         Calls(Files(Cdxj)),
         Calls(Len(Warc, 1)),
-        Calls(Sync(Warc, 0)),
         Calls(Create(Warc)),
+        Calls(Sync(Warc, 0)),
         Holds(FIRST_PATH, "hello"),
         Removes(FIRST_PATH),
         Puts(FIRST_PATH, "other"),
@@ -150,7 +151,7 @@ static LATER: Scene = (
         Calls(Create(Warc)),
         Calls(Len(Warc, 1)),
     ],
-    "0;2;1;6;0;2;0;0;0;failed;0;failed;failed;0;failed;failed;failed;failed;",
+    "0;2;1;6;2;0;0;0;0;failed;0;3;failed;0;failed;failed;failed;failed;",
 );
 
 /// What who found no folder is answered.
@@ -188,8 +189,8 @@ static PUT: Scene = (
 );
 
 /// A disk in the folder, of a process that has it so.
-fn disk_as(rt: HostRuntime, lock: Lock) -> FolderDisk<HostRuntime> {
-    FolderDisk::new(rt, rt.alloc(), lock)
+fn disk_as(rt: HostRuntime, lock: Lock) -> RealDisk<SystemFolders> {
+    RealDisk::new(rt.folders(), rt.alloc(), lock)
 }
 
 /// What one process after the other finds, and what one is answered whose folder is removed.
@@ -197,16 +198,15 @@ fn keeps_numbered_files<R: Abort>(abort: &R, rt: HostRuntime) {
     let mut disk = disk_as(rt, Lock::Alone);
     plays(abort, rt, &mut disk, &FIRST);
     plays(abort, rt, &mut disk, &CUT);
-    let mut later = disk_as(rt, Lock::Alone);
-    plays(abort, rt, &mut later, &LOCKED);
-    let mut reader = disk_as(rt, Lock::Shared);
-    plays(abort, rt, &mut reader, &LOCKED);
+    plays(abort, rt, &mut disk_as(rt, Lock::Alone), &LOCKED);
+    plays(abort, rt, &mut disk_as(rt, Lock::Shared), &LOCKED);
     drop(disk);
+    let mut reader = disk_as(rt, Lock::Shared);
     plays(abort, rt, &mut reader, &READERS);
     plays(abort, rt, &mut disk_as(rt, Lock::Shared), &READERS);
-    plays(abort, rt, &mut later, &LOCKED);
+    plays(abort, rt, &mut disk_as(rt, Lock::Alone), &LOCKED);
     drop(reader);
-    plays(abort, rt, &mut later, &LATER);
+    plays(abort, rt, &mut disk_as(rt, Lock::Alone), &LATER);
 }
 
 /// What is answered to who found no folder, and to who didn't make what is in its folder.

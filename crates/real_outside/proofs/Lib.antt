@@ -1,2 +1,0 @@
-mod PlacedLaws
-pub mod FileNames
