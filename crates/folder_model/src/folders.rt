@@ -28,6 +28,14 @@ pub trait Folders {
     fn hold(&mut self, path: &str, lock: Lock) -> io::Result<Self::Folder>
         ensures { IsTrue Self.Folder.tells → IfOk result (λ folder. IsUnfailed (Self.Folder.past folder)) };
 
+    /// Lets a folder go, so that another process may hold it.
+    fn let_go(&mut self, folder: Self::Folder)
+    where
+        Self::Folder: Drop,
+    {
+        drop(folder);
+    }
+
     /// Whether a symbolic link is at a path, wherever it leads.
     fn is_link(&mut self, path: &str) -> io::Result<bool>;
 
