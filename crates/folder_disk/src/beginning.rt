@@ -1,16 +1,18 @@
 //! How a disk comes to hold its folder.
 ghost use Rattle.std.specs.Prelude.{◌≡◌, IsTrue, IfOk};
 ghost use Rattle.folder_model.specs.Folder.{IsUnfailed};
-ghost use Rattle.folder_disk.specs.Begun.{IsBegunIn, IsHeldSince};
+ghost use Rattle.folder_disk.specs.Begun.{IsBegunHeld, IsBegunIn, IsHeldSince};
+ghost use Rattle.folder_disk.specs.Held.{state_of, AreHeld};
 ghost use Rattle.folder_disk.specs.Standing.{state_at, AreOpenAt};
-ghost use Rattle.folder_disk.specs.State.{IsKnown};
+ghost use Rattle.folder_disk.specs.State.{IsCounted, IsKnown};
 
 use crate::archive_names::{AROUND, FOLDER};
-use crate::counting::count;
+use crate::counting::{Counts, count};
 use crate::held::Held;
 use crate::names::FileNames;
 use crate::reasons::{files_of_others, leads_nowhere, of_lock};
 use crate::standing::Standing;
+use crate::unopened::Unheld;
 use disk_model::Kind;
 use folder_model::{Folder, Folders, Lock};
 use std::alloc::Global;
@@ -28,6 +30,15 @@ pub(crate) enum Begun<F: Folder, N: FileNames> {
     Never(io::Error),
 }
 
+/// Why a folder wasn't begun.
+#[derive(Drop)]
+enum Unbegun<F> {
+    /// It may be tried again.
+    Later(Unheld<F>),
+    /// It has files of others, or a sync failed.
+    Never(Unheld<F>),
+}
+
 /// Finds the folder and holds it to write in it, or finds none, which may be made.
 pub(crate) fn find<S, N>(system: &mut S, alloc: Global) -> io::Result<Standing<S, N>>
 where
@@ -38,10 +49,30 @@ where
     ensures open { IsTrue S.Folder.tells → IfOk result (AreOpenAt N.name S.Folder.name_of S.Folder.past) }
 {
     match take(system) {
-        Ok(folder) => Ok(Standing::Held(held_by_counts(folder, alloc)?)),
+        Ok(folder) => found(system, folder, alloc),
         Err(error) => {
             check_absent(system, error)?;
             Ok(Standing::Absent)
+        }
+    }
+}
+
+/// Holds a folder that is there, or lets it go.
+fn found<S, N>(system: &mut S, folder: S::Folder, alloc: Global) -> io::Result<Standing<S, N>>
+where
+    S: Folders,
+    S::Folder: Drop,
+    N: FileNames,
+    requires { IsTrue S.Folder.tells → IsUnfailed (S.Folder.past folder) }
+    ensures known { IsTrue S.Folder.tells → IfOk result (λ standing. IsKnown N.name (state_at S.Folder.past standing)) }
+    ensures open { IsTrue S.Folder.tells → IfOk result (AreOpenAt N.name S.Folder.name_of S.Folder.past) }
+{
+    match held_by_counts(folder, alloc) {
+        Ok(held) => Ok(Standing::Held(held)),
+        Err(unheld) => {
+            let Unheld { folder, error } = unheld;
+            system.let_go(folder);
+            Err(error)
         }
     }
 }
@@ -55,34 +86,65 @@ where
     ensures { IsBegunIn S.Folder.tells N.name S.Folder.name_of S.Folder.past result }
 {
     match made(system) {
-        Ok(folder) => begin_in(folder, alloc),
+        Ok(folder) => match begin_in(folder, alloc) {
+            Ok(held) => Begun::Held(held),
+            Err(unbegun) => let_go(system, unbegun),
+        },
         Err(error) => Begun::Later(error),
     }
 }
 
-/// Holds a folder that may have no files.
-fn begin_in<F, N>(folder: F, alloc: Global) -> Begun<F, N>
+/// Lets a folder go that wasn't begun.
+fn let_go<S, N>(system: &mut S, unbegun: Unbegun<S::Folder>) -> Begun<S::Folder, N>
+where
+    S: Folders,
+    S::Folder: Drop,
+    N: FileNames,
+    ensures { IsBegunIn S.Folder.tells N.name S.Folder.name_of S.Folder.past result }
+{
+    match unbegun {
+        Unbegun::Later(Unheld { folder, error }) => {
+            system.let_go(folder);
+            Begun::Later(error)
+        }
+        Unbegun::Never(Unheld { folder, error }) => {
+            system.let_go(folder);
+            Begun::Never(error)
+        }
+    }
+}
+
+/// Holds a folder that may have no files, or gives it back.
+fn begin_in<F, N>(folder: F, alloc: Global) -> Result<Held<F, N>, Unbegun<F>>
 where
     F: Folder + Drop,
     N: FileNames,
     requires { IsTrue F.tells → IsUnfailed (F.past folder) }
-    ensures { IsBegunIn F.tells N.name F.name_of F.past result }
+    ensures { IfOk result (λ held. IsBegunHeld F.tells N.name F.name_of F.past held) }
 {
     let mut folder = folder;
     let counts = match count::<F, N>(&mut folder, alloc) {
         Ok(counts) => counts,
-        Err(error) => return Begun::Later(error),
+        Err(error) => return Err(Unbegun::Later(Unheld { folder, error })),
     };
     if counts.warc != 0 {
-        return Begun::Never(files_of_others());
+        return Err(of_others(folder));
     }
     if counts.cdxj != 0 {
-        return Begun::Never(files_of_others());
+        return Err(of_others(folder));
     }
     match Held::open(folder, alloc, counts) {
-        Ok(held) => Begun::Held(held),
-        Err(error) => Begun::Never(error),
+        Ok(held) => Ok(held),
+        Err(unheld) => Err(Unbegun::Never(unheld)),
     }
+}
+
+/// A folder that has files of others.
+fn of_others<F>(folder: F) -> Unbegun<F> {
+    Unbegun::Never(Unheld {
+        folder,
+        error: files_of_others(),
+    })
 }
 
 /// Makes the folder where it isn't there, and holds it to write in it.
@@ -108,16 +170,20 @@ where
     ensures { IsTrue S.Folder.tells → IfOk result (λ folder. IsUnfailed (S.Folder.past folder)) }
 {
     match system.hold(FOLDER, Lock::Alone) {
-        Ok(folder) => {
-            system.check_writable(FOLDER)?;
-            Ok(folder)
-        }
+        Ok(folder) => match system.check_writable(FOLDER) {
+            Ok(()) => Ok(folder),
+            Err(error) => {
+                system.let_go(folder);
+                Err(error)
+            }
+        },
         Err(error) => Err(of_lock(error)),
     }
 }
 
-/// Counts the files of a folder and holds it. The last of each kind may be written, and is synced.
-fn held_by_counts<F, N>(folder: F, alloc: Global) -> io::Result<Held<F, N>>
+/// Counts the files of a folder and holds it. The last of each kind may be written, and is synced. Where that fails the folder
+/// is given back.
+fn held_by_counts<F, N>(folder: F, alloc: Global) -> Result<Held<F, N>, Unheld<F>>
 where
     F: Folder + Drop,
     N: FileNames,
@@ -125,13 +191,57 @@ where
     ensures { IsTrue F.tells → IfOk result (IsHeldSince N.name F.name_of F.past) }
 {
     let mut folder = folder;
-    let counts = count::<F, N>(&mut folder, alloc)?;
-    check_last::<F, N>(&mut folder, alloc, Kind::Warc, counts.warc)?;
-    check_last::<F, N>(&mut folder, alloc, Kind::Cdxj, counts.cdxj)?;
-    let mut held = Held::open(folder, alloc, counts)?;
+    match count_to_write::<F, N>(&mut folder, alloc) {
+        Ok(counts) => match Held::open(folder, alloc, counts) {
+            Ok(held) => held_and_synced(held),
+            Err(unheld) => Err(unheld),
+        },
+        Err(error) => Err(Unheld { folder, error }),
+    }
+}
+
+/// Syncs the last file of each kind of a folder that is held. Where that fails the folder is given back.
+fn held_and_synced<F, N>(held: Held<F, N>) -> Result<Held<F, N>, Unheld<F>>
+where
+    F: Folder + Drop,
+    N: FileNames,
+    requires known { IsTrue F.tells → IsKnown N.name (state_of F.past held) }
+    requires open { IsTrue F.tells → AreHeld N.name F.name_of F.past held }
+    ensures { IsTrue F.tells → IfOk result (IsHeldSince N.name F.name_of F.past) }
+{
+    let mut held = held;
+    match sync_lasts(&mut held) {
+        Ok(()) => Ok(held),
+        Err(error) => Err(Unheld {
+            folder: held.into_folder(),
+            error,
+        }),
+    }
+}
+
+/// Syncs the last file of each kind.
+fn sync_lasts<F, N>(held: &mut Held<F, N>) -> io::Result<()>
+where
+    F: Folder + Drop,
+    N: FileNames,
+    requires known { IsTrue F.tells → IsKnown N.name (state_of F.past held.old) }
+    requires open { IsTrue F.tells → AreHeld N.name F.name_of F.past held.old }
+    ensures known { IsTrue F.tells → IsKnown N.name (state_of F.past held.new) }
+    ensures open { IsTrue F.tells → AreHeld N.name F.name_of F.past held.new }
+{
     held.sync_last(Kind::Warc)?;
-    held.sync_last(Kind::Cdxj)?;
-    Ok(held)
+    held.sync_last(Kind::Cdxj)
+}
+
+/// Counts the files of a folder, and fails where this process may not write the last of a kind.
+fn count_to_write<F: Folder, N: FileNames>(folder: &mut F, alloc: Global) -> io::Result<Counts>
+    requires { IsTrue F.tells → IsUnfailed (F.past folder.old) }
+    ensures { IsTrue F.tells → IfOk result (λ counts. IsCounted N.name (F.past folder.new) counts.warc counts.cdxj) }
+{
+    let counts = count::<F, N>(folder, alloc)?;
+    check_last::<F, N>(folder, alloc, Kind::Warc, counts.warc)?;
+    check_last::<F, N>(folder, alloc, Kind::Cdxj, counts.cdxj)?;
+    Ok(counts)
 }
 
 /// Fails where this process may not write the last of so many files of a kind.

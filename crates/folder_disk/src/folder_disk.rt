@@ -63,8 +63,8 @@ impl<S: Folders, N: FileNames> FolderDisk<S, N> {
         }
     }
 
-    /// Where folders are found, and the folder, where it is held.
-    pub fn into_parts(self) -> (S, Option<S::Folder>)
+    /// Where folders are found. The folder is let go, where it is held.
+    pub fn close(self) -> S
     where
         S: Drop,
         S::Folder: Drop,
@@ -75,7 +75,12 @@ impl<S: Folders, N: FileNames> FolderDisk<S, N> {
             standing,
             faults: _,
         } = self;
-        (system, standing.into_folder())
+        let mut system = system;
+        match standing.into_folder() {
+            Some(folder) => system.let_go(folder),
+            None => {}
+        }
+        system
     }
 }
 

@@ -13,6 +13,7 @@ use crate::names::FileNames;
 use crate::open_files::{OpenFiles, OpenOne};
 use crate::reasons::{check_in_place, end_of, inside, is_there_already, stopped};
 use crate::trust::Trust;
+use crate::unopened::Unheld;
 use disk_model::Kind;
 use folder_model::{Folder, Timed, WriteFault, make_durably, read_whole, write_whole};
 use std::alloc::Global;
@@ -35,15 +36,18 @@ pub(crate) struct Held<F: Folder, N: FileNames> {
 
 impl<F: Folder + Drop, N: FileNames> Held<F, N> {
     /// A folder of which the files of each kind were counted. It and the folder around it are synced, so that all that is
-    /// there outlasts a crash but for bytes that others wrote and didn't sync.
-    pub(crate) fn open(folder: F, alloc: Global, counts: Counts) -> io::Result<Held<F, N>>
+    /// there outlasts a crash but for bytes that others wrote and didn't sync. Where that fails the folder is given back.
+    pub(crate) fn open(folder: F, alloc: Global, counts: Counts) -> Result<Held<F, N>, Unheld<F>>
         requires { IsTrue F.tells → IsCounted N.name (F.past folder) counts.warc counts.cdxj }
         ensures known { IsTrue F.tells → IfOk result (λ held. IsKnown N.name (state_of F.past held)) }
         ensures open { IfOk result (λ held. AreHeld N.name F.name_of F.past held) }
         ensures new { IfOk result (λ held. IsNew counts.warc counts.cdxj (state_of F.past held)) }
     {
         let mut folder = folder;
-        sync_names(&mut folder)?;
+        match sync_names(&mut folder) {
+            Ok(()) => {}
+            Err(error) => return Err(Unheld { folder, error }),
+        }
         Ok(Held {
             timed: Timed::new(folder),
             alloc,

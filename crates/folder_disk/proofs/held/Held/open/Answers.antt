@@ -11,7 +11,7 @@ returns-clause-known g c = λ told.
     opened g.N.FileNames.name c.args.counts.warc c.args.counts.cdxj (past c.args.folder) (past c.new.result.folder) c.new-2.result (times_of c.new.result)
     (c.requires told)
     (ap past c.new.ensures.folder
-    ∙ c.in_ok-sync_names.ensures told)
+    ∙ c.in-Ok.ensures told)
     c.new-2.ensures
     (c.new.ensures.times ∙ (λ i. record { made = length (past (sym c.new.ensures.folder i)).deeds; begun = [] }))
 
