@@ -8,12 +8,12 @@ use std::alloc::Global;
 use std::io::ErrorKind;
 use std::{io, mem};
 
-/// Another process that comes before the folder is held. It makes the folder where there is none, makes a file that isn't there, writes
-/// to it, and syncs all that, or nothing of it.
+/// Another process that comes before a call. It makes the folder where there is none, makes a file that isn't there, writes to it, and
+/// syncs all that, or nothing of it. Where the folder is held then it can't come in, and does nothing.
 #[derive(Drop)]
 pub struct Visit {
-    /// Before which `hold` it comes, numbered from 0.
-    pub hold: u64,
+    /// Before which call it comes, numbered from 0.
+    pub call: u64,
     /// The file's name.
     pub name: String,
     /// What it writes.
@@ -29,10 +29,9 @@ pub struct MemoryFolders {
     pub folder: Option<MemoryFolder>,
     /// Which calls fail, while it isn't held.
     pub plan: Plan,
-    /// Who comes before it is held.
+    /// Who else comes.
     pub visits: Vec<Visit>,
     held: bool,
-    holds: u64,
     alloc: Global,
 }
 
@@ -46,27 +45,25 @@ impl MemoryFolders {
             plan: Plan::none(alloc),
             visits: Vec::new(alloc),
             held: false,
-            holds: 0,
             alloc,
         }
     }
 
-    /// Lets the folder go that was held, and takes back which calls fail.
-    pub fn let_go(&mut self, folder: MemoryFolder) {
-        let mut folder = folder;
-        self.plan = mem::replace(&mut folder.plan, Plan::none(self.alloc));
-        self.folder = Some(folder);
-        self.held = false;
+    /// Lets others come who come before this call, counts it, and says whether it is to fail.
+    fn begin(&mut self) -> bool {
+        if !self.held {
+            self.visit();
+        }
+        self.plan.begin()
     }
 
-    /// Lets others come who come before this `hold`.
+    /// Lets others come who come before this call.
     fn visit(&mut self) {
         for visit in self.visits.as_slice() {
-            if visit.hold == self.holds {
+            if visit.call == self.plan.calls {
                 come(self.alloc, &mut self.folder, visit);
             }
         }
-        self.holds = self.holds.saturating_add(1);
     }
 
     /// Takes the folder out, where it is there.
@@ -106,7 +103,7 @@ impl Folders for MemoryFolders {
 
     fn make_folder(&mut self, path: &str) -> io::Result<()> {
         let _ = path;
-        if self.plan.begin() {
+        if self.begin() {
             return Err(io::Error::from(ErrorKind::Other));
         }
         if self.held || self.folder.is_some() {
@@ -119,10 +116,9 @@ impl Folders for MemoryFolders {
     fn hold(&mut self, path: &str, lock: Lock) -> io::Result<MemoryFolder> {
         let _ = path;
         let _ = lock;
-        if self.plan.begin() {
+        if self.begin() {
             return Err(io::Error::from(ErrorKind::Other));
         }
-        self.visit();
         let mut folder = self.take()?;
         if !folder.store.is_unfailed() {
             self.folder = Some(folder);
@@ -133,9 +129,16 @@ impl Folders for MemoryFolders {
         Ok(folder)
     }
 
+    fn let_go(&mut self, folder: MemoryFolder) {
+        let mut folder = folder;
+        self.plan = mem::replace(&mut folder.plan, Plan::none(self.alloc));
+        self.folder = Some(folder);
+        self.held = false;
+    }
+
     fn is_link(&mut self, path: &str) -> io::Result<bool> {
         let _ = path;
-        if self.plan.begin() {
+        if self.begin() {
             return Err(io::Error::from(ErrorKind::Other));
         }
         Ok(false)
@@ -143,7 +146,7 @@ impl Folders for MemoryFolders {
 
     fn check_writable(&mut self, path: &str) -> io::Result<()> {
         let _ = path;
-        if self.plan.begin() {
+        if self.begin() {
             return Err(io::Error::from(ErrorKind::Other));
         }
         Ok(())
