@@ -22,4 +22,5 @@ mod words;
 
 pub use altered::Change;
 pub use events::events_outcome_of;
-pub use play::{altered_outcome_of, outcome_of};
+pub use held::Held;
+pub use play::{altered_outcome_of, do_step, outcome_of};

@@ -51,7 +51,7 @@ pub fn altered_outcome_of(
         if !step.is_due(&outcome) {
             continue;
         }
-        held = match done(alloc, &mut outcome, held, step)? {
+        held = match do_step(alloc, &mut outcome, held, step)? {
             Some(held) => held,
             None => return Ok(None),
         };
@@ -74,7 +74,7 @@ fn taken(
         "checkpoint" => Ok(checkpointed(held, step.text.as_slice())),
         "open-both" => opened_twice(alloc, outcome, held, step.text.as_slice()),
         "store-after" => looked_and_stored(alloc, outcome, held, step.text.as_slice()),
-        _ => done(alloc, outcome, held, step),
+        _ => do_step(alloc, outcome, held, step),
     }
 }
 
@@ -157,7 +157,7 @@ fn looked_and_stored(
 }
 
 /// Does a step over any disk. `None` where it is none.
-fn done<D: Disk + Drop>(
+pub fn do_step<D: Disk + Drop>(
     alloc: Global,
     outcome: &mut Outcome,
     held: Held<D>,

@@ -8,8 +8,10 @@ use capture::{Failed, Memory};
 use case_archive::Change;
 use case_disk::{Outcome, disk_of, outcome_of_calls};
 use case_exchanges::{fetched, received_requests};
+use case_folder::Origins;
 use case_language::{Case, CaseFile, Line, NamedText, Names, difference, plays_of};
 use case_texts::Call;
+use outside::MemoryClock;
 use std::alloc::Global;
 use std::io::Print;
 use std::sync::Wait;
@@ -165,6 +167,7 @@ fn outcome_of_one<R: Threads + Sync>(
         Played::Altered(change) => stored_altered(alloc, setting, *change),
         Played::Opening(skip) => opened(alloc, setting, stop, *skip),
         Played::Files => worked(alloc, setting, stop),
+        Played::Folder => stored_in_folder(alloc, setting, stop),
         Played::Disk => outcome_of_calls(rt, alloc, setting.disk(), setting.deeds.as_slice(), stop),
     }
 }
@@ -175,6 +178,20 @@ fn stored(alloc: Global, setting: &Setting, stop: u32) -> Result<Option<Outcome>
         Ok(disk) => case_archive::outcome_of(alloc, disk, setting.deeds.as_slice(), stop),
         Err(Failed) => Ok(None),
     }
+}
+
+/// What the steps of an archive over a disk in a folder tell.
+fn stored_in_folder(
+    alloc: Global,
+    setting: &Setting,
+    stop: u32,
+) -> Result<Option<Outcome>, Memory> {
+    let origins = Origins {
+        dialer: dialer_of(alloc, setting)?,
+        clock: MemoryClock::new(setting.clock.clone()?),
+    };
+    let (calls, steps) = (setting.folder(), setting.deeds.as_slice());
+    case_folder::outcome_of(alloc, calls, origins, steps, stop)
 }
 
 /// What the events reply over the case's disk.

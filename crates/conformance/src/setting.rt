@@ -1,6 +1,7 @@
 //! What a case gives to the program.
 use case_archive::Change;
 use case_disk::{Deed, DiskSetting, Step, Work};
+use case_folder::FolderSetting;
 use case_language::{Line, Names, decode, number_of, numbers_of};
 use case_texts::Call;
 use disk_model::MemoryDisk;
@@ -35,6 +36,8 @@ pub enum Played<'a> {
     Altered(Change),
     /// Calls of the disk.
     Disk,
+    /// The steps of an archive over a disk in a folder.
+    Folder,
 }
 
 /// The numbers of the calls that are to fail, of each object.
@@ -149,6 +152,15 @@ impl<'a> Setting<'a> {
         }
     }
 
+    /// Which calls of the file system are to fail, where the disk is in a folder.
+    pub fn folder(&self) -> FolderSetting<'_> {
+        FolderSetting {
+            fails: self.fails.disk.as_slice(),
+            fuse: self.disk_fuse,
+            in_part: self.disk_half_makes,
+        }
+    }
+
     /// Whether this is a run over a disk that is there, of which no call is to fail by its number.
     pub fn goes_on(&self) -> bool {
         match self.played {
@@ -230,6 +242,10 @@ impl<'a> Setting<'a> {
             }
             "disk" => {
                 self.played = Played::Disk;
+                Ok(true)
+            }
+            "folder" => {
+                self.played = Played::Folder;
                 Ok(true)
             }
             "altered" => self.take_change(alloc, line.rest, names.k),

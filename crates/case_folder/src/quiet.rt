@@ -1,0 +1,45 @@
+//! A folder in memory that tells no causes.
+use folder_disk::Causes;
+use folder_model::{Folders, Lock};
+use memory_folder::{MemoryFolder, MemoryFolders};
+use std::fmt::Display;
+use std::io;
+
+/// Where a folder in memory is found. Causes of faults are told to nobody.
+#[derive(Drop)]
+pub struct Quiet {
+    /// Where it is found.
+    pub folders: MemoryFolders,
+}
+
+impl Causes for Quiet {
+    fn tell<D: Display + Drop>(&mut self, what: D, call: &str, error: &io::Error) {
+        let _ = call;
+        let _ = error;
+        drop(what);
+    }
+}
+
+impl Folders for Quiet {
+    type Folder = MemoryFolder;
+
+    fn make_folder(&mut self, path: &str) -> io::Result<()> {
+        self.folders.make_folder(path)
+    }
+
+    fn hold(&mut self, path: &str, lock: Lock) -> io::Result<MemoryFolder> {
+        self.folders.hold(path, lock)
+    }
+
+    fn let_go(&mut self, folder: MemoryFolder) {
+        self.folders.let_go(folder);
+    }
+
+    fn is_link(&mut self, path: &str) -> io::Result<bool> {
+        self.folders.is_link(path)
+    }
+
+    fn check_writable(&mut self, path: &str) -> io::Result<()> {
+        self.folders.check_writable(path)
+    }
+}
