@@ -31,7 +31,7 @@ use Rattle.vault.proofs.PublishLaws.{fault_added}
 -- ---- one list
 
 names_by : (kind : Kind) (a b : LogBook) → NamesIn kind a → NamesIn kind b → b ≡ a
-names_by (Opened held limits told list faults calm) a b one other = sym other ∙ one
+names_by (Opened held limits told list faults sure) a b one other = sym other ∙ one
 names_by (Began at) a b one other = absurd one
 names_by (Stored taken same) a b one other = absurd one
 names_by Failed a b one other = absurd one

@@ -1,15 +1,16 @@
--- A crash leaves the archive's book alone as long as its disk doesn't fail.
-use Rattle.std.proofs.Common.{◌≡◌, ◌⊎◌, ℕ, ◌≤◌, Bool, List, ◌++◌, length, IsTrue, Some, None, Result, Ok, Err, sym, ap, subst, ◌∙◌, arith, length-append}
+-- A crash leaves the archive's book alone as long as its disk doesn't fail, and its checkpoints in any case.
+use Rattle.std.proofs.Common.{◌≡◌, ◌⊎◌, ℕ, ◌≤◌, Bool, List, ◌++◌, length, IsTrue, Some, None, Result, Ok, Err, refl, sym, ap, subst, ◌∙◌, arith, length-append}
 use Rattle.std.specs.declared.snapshot.Snapshot.{Snapshot}
 use Rattle.capture.specs.Captures.{captures}
 use Rattle.capture.specs.Growth.{Grows}
 use Rattle.capture.specs.declared.book.Book.{Book}
 use Rattle.capture.specs.declared.captured.Stored.{Stored}
 use Rattle.capture.specs.declared.captured.Taken.{Taken}
-use Rattle.capture.proofs.GrowthLaws.{growth_keeps_captures}
+use Rattle.capture.proofs.GrowthLaws.{grows_from_itself, growth_keeps_captures}
 use Rattle.disk_model.specs.declared.disk.Disk.{Ghosts}
+use Rattle.warc_journal.specs.Extents.{cdxj_files}
 use Rattle.warc_journal.specs.Journals.{disk_of}
-use Rattle.archive_shelf.specs.Openings.{HasIds, IsEarlier, LeavesNoMore, Moves, SameBook}
+use Rattle.archive_shelf.specs.Openings.{HasIds, IsEarlier, KeepsCheckpoints, LeavesNoMore, Moves, SameBook}
 use Rattle.archive_shelf.specs.declared.fault.StoreFault.{StoreFault}
 use Rattle.archive_shelf.specs.declared.fault.StoreFault.TheVariants as stores
 use Rattle.archive_shelf.specs.declared.receipt.Receipt.{Receipt}
@@ -17,17 +18,19 @@ use Rattle.archive_shelf.proofs.CallLaws.{no_more}
 use Rattle.archive_volumes.proofs.ChangeLaws.{DiskLaws, laws_muted}
 use Rattle.archive_volumes.proofs.StoreLaws.{opens_earlier}
 use Rattle.archive_volumes.specs.Volumes.{muted}
+use Rattle.archive_core.proofs.FinishedLaws.{checkpoints_later, same_checkpoints_of}
 use Rattle.archive_core.specs.Holdings.{Holdings}
 use Rattle.archive_core.specs.Stores.{Stores}
 use Rattle.archive_core.specs.Told.{told_of}
-use Rattle.vault.specs.Calm.{StaysCalm}
+use Rattle.vault.specs.Calm.{StaysCalm, StaysRight}
 use Rattle.vault.specs.Guarded.{Stands}
-use Rattle.vault.specs.History.{IsBegun, is_calm}
+use Rattle.vault.specs.History.{IsBegun, sure_in}
 use Rattle.vault.specs.Noting.{Notes}
 use Rattle.vault.specs.Own.{AreCounted, count_faults, faults_since}
 use Rattle.vault.specs.declared.noted.Noted.{Noted}
+use Rattle.vault.specs.declared.noted.Sure.{Sure}
 use Rattle.vault.proofs.FaultLaws.{count_noted, since_append}
-use Rattle.vault.proofs.HistoryLaws.{calm_stays}
+use Rattle.vault.proofs.HistoryLaws.{sure_stays}
 use Rattle.vault.proofs.NotingLaws.{values}
 
 -- the ids of a book that grew differ where those of the later one do
@@ -40,15 +43,21 @@ ids_earlier was now grows ids =
 
 -- what holds of a history holds where room was made for more
 pub roomy : {D : Type 0} (d : Ghosts D) (held : Holdings D) (before room : List (Snapshot Noted)) → room ≡ before
-    → Stands (values before) held × AreCounted (values before) (d.faults (disk_of held.journal)) × StaysCalm d (values before) held
-    → Stands (values room) held × AreCounted (values room) (d.faults (disk_of held.journal)) × StaysCalm d (values room) held
+    → Stands (values before) held × AreCounted (values before) (d.faults (disk_of held.journal)) × StaysCalm d (values before) held × StaysRight d (values before) held
+    → Stands (values room) held × AreCounted (values room) (d.faults (disk_of held.journal)) × StaysCalm d (values room) held × StaysRight d (values room) held
 roomy d held before room same holds =
-    subst (λ (l : List (Snapshot Noted)). Stands (values l) held × AreCounted (values l) (d.faults (disk_of held.journal)) × StaysCalm d (values l) held) (sym same) holds
+    subst
+    (λ (l : List (Snapshot Noted)). Stands (values l) held × AreCounted (values l) (d.faults (disk_of held.journal)) × StaysCalm d (values l) held × StaysRight d (values l) held)
+    (sym same) holds
+
+-- what was sure when the archive was given stays what it was
+sure_before : (history added after : List Noted) → IsBegun history → after ≡ history ++ added → sure_in after ≡ sure_in history
+sure_before history added after begun joined = ap sure_in joined ∙ sure_stays history added begun
 
 module _ {D : Type 0} (d : Ghosts D) (laws : DiskLaws d) (history added after : List Noted) (was is : Holdings D) (begun : IsBegun history)
     (joined : after ≡ history ++ added) (calm : StaysCalm d history was) where
-  calm_before : IsTrue (is_calm after) → IsTrue (is_calm history)
-  calm_before told = subst (λ (b : Bool). IsTrue b) (ap is_calm joined ∙ calm_stays history added begun) told
+  calm_before : IsTrue (sure_in after).calm → IsTrue (sure_in history).calm
+  calm_before told = subst (λ (s : Sure). IsTrue s.calm) (sure_before history added after begun joined) told
 
   none_before : faults_since after ≡ 0 → (faults_since history ≡ 0) × (count_faults added ≡ 0)
   none_before none =
@@ -80,3 +89,20 @@ module _ {D : Type 0} (d : Ghosts D) (laws : DiskLaws d) (history added after : 
     store_calm (Err (stores.Damaged number kept found)) notes store =
         quiet_calm store.told.leaves.0.seen store.told.crash.later (store.told.crash.quiet tt)
     store_calm (Err stores.Memory) notes store = quiet_calm store.told.leaves.seen store.told.crash.later (store.told.crash.quiet tt)
+
+-- ---- checkpoints
+
+-- behind a turn after which a crash leaves no files of checkpoints but those that it might have left before
+pub stays_right : {D : Type 0} (d : Ghosts D) (history added after : List Noted) (was is : Holdings D) → IsBegun history → after ≡ history ++ added
+    → Grows was.book is.book → KeepsCheckpoints (told_of d was).crash (told_of d is).crash → StaysRight d history was → StaysRight d after is
+stays_right d history added after was is begun joined grows kept right sure told image left =
+    let before = kept (cdxj_files image) (record { told = told; image = image; left = left; are = refl }) in
+    let so = subst (λ (s : Sure). IsTrue s.right) (sure_before history added after begun joined) sure in
+    checkpoints_later was.book is.book image grows
+    (same_checkpoints_of image before.image was.book (sym before.are) (right so before.told before.image before.left))
+
+-- behind one that only read
+pub read_right : {D : Type 0} (d : Ghosts D) (history added after : List Noted) (was is : Holdings D) → IsBegun history → after ≡ history ++ added
+    → is.book ≡ was.book → LeavesNoMore (told_of d was).crash (told_of d is).crash → StaysRight d history was → StaysRight d after is
+read_right d history added after was is begun joined same more right =
+    stays_right d history added after was is begun joined (subst (λ (b : Book). Grows was.book b) (sym same) (grows_from_itself was.book)) more.kept right

@@ -6,14 +6,16 @@ use Rattle.capture.specs.declared.book.Book.{Book}
 use Rattle.capture.specs.declared.limits.Limits.{Limits}
 use Rattle.history_lock.specs.Known.{Known}
 use Rattle.history_lock.specs.Seen.{Shows}
+use Rattle.vault.specs.Calm.{Crash}
 use Rattle.vault.specs.Company.{Passing}
-use Rattle.vault.specs.History.{by_of, given_faults, is_calm, is_told, told_limits}
+use Rattle.vault.specs.History.{by_of, given_faults, is_told, sure_in, told_limits}
 use Rattle.vault.specs.Members.{AreMembers, IsMember, IsMemberAt, VaultName}
 use Rattle.vault.specs.Own.{faults_since}
 use Rattle.vault.specs.Passes.{IsLeft}
 use Rattle.vault.specs.Sharing.{HasPart, IsLeftByAll, IsSharedOut, IsShownIn}
 use Rattle.vault.specs.declared.noted.Noted.{Noted}
-use Rattle.vault.proofs.HistoryLaws.{calm_stays, given_stays, limits_append, told_stays}
+use Rattle.vault.specs.declared.noted.Sure.{Sure}
+use Rattle.vault.proofs.HistoryLaws.{given_stays, limits_append, sure_stays, told_stays}
 use Rattle.vault.proofs.MemberLaws.{member_begun}
 use Rattle.vault.proofs.PassLaws.{all_of}
 use Rattle.vault.proofs.SeatLaws.{all_at, first_of}
@@ -98,23 +100,23 @@ module _ (vault : VaultName) (history : List Noted) (p : Passing) (member : IsMe
   faults_given : given_faults history ≡ vault.faults
   faults_given = ap given_faults shows.is_seen_and_more ∙ (given_stays p.known.seen shows.more (member_begun vault p.known member) ∙ member.given)
 
-  calm_given : is_calm history ≡ vault.calm
-  calm_given = ap is_calm shows.is_seen_and_more ∙ (calm_stays p.known.seen shows.more (member_begun vault p.known member) ∙ member.calm)
+  sure_given : sure_in history ≡ vault.sure
+  sure_given = ap sure_in shows.is_seen_and_more ∙ (sure_stays p.known.seen shows.more (member_begun vault p.known member) ∙ member.sure)
 
 first_if : (vault : VaultName) (passes : List Passing) → 0 < length passes → list.All (λ (p : Passing). IsMember vault p.known) passes → (history : List Noted)
     → list.All (IsShownIn history) passes → (told_limits history ≡ vault.limits) × (is_told history ≡ vault.tells) × (given_faults history ≡ vault.faults)
-    × (is_calm history ≡ vault.calm)
+    × (sure_in history ≡ vault.sure)
 first_if vault [] some members history shown = absurd (omega (arith, some))
 first_if vault (p ∷ passes) some members history shown =
     let member : IsMember vault p.known = first_of (λ (q : Passing). IsMember vault q.known) p passes (p ∷ passes) refl members in
     let shows : IsShownIn history p = first_of (IsShownIn history) p passes (p ∷ passes) refl shown in
-    (limits_given vault history p member shows, told_given vault history p member shows, faults_given vault history p member shows, calm_given vault history p member shows)
+    (limits_given vault history p member shows, told_given vault history p member shows, faults_given vault history p member shows, sure_given vault history p member shows)
 
 pub closed_by_all : (vault : VaultName) (passes : List Passing) → AreMembers vault passes → 0 < vault.passes → (all : Passing)
     → ((history : List Noted) → IsShownIn history all → list.All (IsShownIn history) passes)
-    → (book : Book) (limits : Limits) (told : Bool) (faults : ℕ) (Calm : Type 0) → IsLeft all.known book limits told faults Calm
-    → IsLeftByAll vault (map (λ (p : Passing). p.known) passes) book limits told faults Calm
-closed_by_all vault passes are some all shown book limits told faults Calm left =
+    → (book : Book) (limits : Limits) (told : Bool) (faults : ℕ) (crash : Crash) → IsLeft all.known book limits told faults crash
+    → IsLeftByAll vault (map (λ (p : Passing). p.known) passes) book limits told faults crash
+closed_by_all vault passes are some all shown book limits told faults crash left =
     let shows = shown left.history left.shows in
     let count = are.count in
     let given = first_if vault passes (omega (arith, some, count)) (all_members vault passes are) left.history shows in
@@ -127,5 +129,6 @@ closed_by_all vault passes are some all shown book limits told faults Calm left 
       told_is = left.told_is ∙ given.1;
       counted = subst (λ (n : ℕ). RoseBy n vault.faults faults) share.faults
           (subst (λ (n : ℕ). RoseBy (faults_since left.history) n faults) given.2 left.counted);
-      calm = λ t none. left.calm (subst (λ (b : Bool). IsTrue b) (sym given.3) t) (share.faults ∙ none);
+      calm = λ t none. left.calm (subst (λ (s : Sure). IsTrue s.calm) (sym given.3) t) (share.faults ∙ none);
+      right = λ t. left.right (subst (λ (s : Sure). IsTrue s.right) (sym given.3) t);
     }

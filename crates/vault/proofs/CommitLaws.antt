@@ -91,7 +91,7 @@ module _ (old new : Book) where
 
 storing_kind : (book : Book) (taken : Taken) (same : Option ℕ) (kind : Kind) → IsStoring taken same kind
     → after_kind book kind ≡ with_capture book (as_stored taken same)
-storing_kind book taken same (Opened held limits told list faults calm) is = absurd is
+storing_kind book taken same (Opened held limits told list faults sure) is = absurd is
 storing_kind book taken same (Began at) is = absurd is
 storing_kind book taken same (Stored stored as_same) is =
     ap (λ (t : Taken). with_capture book (as_stored t as_same)) is.0 ∙ ap (λ (o : Option ℕ). with_capture book (as_stored taken o)) is.1

@@ -64,7 +64,7 @@ none_begun by at false more = refl
 
 pub none_stored : (taken : Taken) (same : Option ℕ) (kind : Kind) → IsStoring taken same kind → fault_by kind ≡ 0
 none_stored taken same (Stored kept as_same) storing = refl
-none_stored taken same (Opened held limits told list faults calm) storing = absurd storing
+none_stored taken same (Opened held limits told list faults sure) storing = absurd storing
 none_stored taken same (Began at) storing = absurd storing
 none_stored taken same Failed storing = absurd storing
 

@@ -9,7 +9,7 @@ use Rattle.archive_shelf.proofs.StoringLaws.{capture_grows, volume_grows}
 use Rattle.history_lock.specs.Known.{Known}
 use Rattle.history_lock.specs.Seen.{Turn}
 use Rattle.archive_core.specs.Holdings.{Holdings, contents_of}
-use Rattle.vault.specs.History.{IsBegun, after_kind, by_of, book_after, given_faults, is_calm, is_told, opened_book, told_book, told_limits}
+use Rattle.vault.specs.History.{IsBegun, after_kind, by_of, book_after, given_faults, is_told, opened_book, sure_in, told_book, told_limits}
 use Rattle.vault.specs.declared.noted.Kind.{Kind}
 use Rattle.vault.specs.declared.noted.Kind.TheVariants.{Opened, Began, Stored, Failed}
 use Rattle.vault.specs.declared.noted.Noted.{Noted}
@@ -35,9 +35,9 @@ pub given_stays : (xs ys : List Noted) → IsBegun xs → given_faults (xs ++ ys
 given_stays [] ys begun = absurd begun
 given_stays (x ∷ xs) ys begun = refl
 
-pub calm_stays : (xs ys : List Noted) → IsBegun xs → is_calm (xs ++ ys) ≡ is_calm xs
-calm_stays [] ys begun = absurd begun
-calm_stays (x ∷ xs) ys begun = refl
+pub sure_stays : (xs ys : List Noted) → IsBegun xs → sure_in (xs ++ ys) ≡ sure_in xs
+sure_stays [] ys begun = absurd begun
+sure_stays (x ∷ xs) ys begun = refl
 
 -- what an archive is told, if it were told so
 abbrev pub as_told : {D : Type 0} → Bool → Holdings D → Contents
@@ -48,7 +48,7 @@ begun_append [] ys begun = absurd begun
 begun_append (x ∷ xs) ys begun = tt
 
 kind_grows : GrowsFromItself → (book : Book) (kind : Kind) → Grows book (after_kind book kind)
-kind_grows itself book (Opened held limits told list faults calm) = itself book
+kind_grows itself book (Opened held limits told list faults sure) = itself book
 kind_grows itself book (Began at) = volume_grows book at
 kind_grows itself book (Stored taken same) = capture_grows book (as_stored taken.value same)
 kind_grows itself book Failed = itself book

@@ -24,6 +24,7 @@ use Rattle.vault.specs.Own.{count_faults, own_captures, own_faults}
 use Rattle.vault.specs.Passes.{IsNew}
 use Rattle.vault.specs.Turns.{AddsFaultAlone, BringsIt, GivesIt, StoresBy}
 use Rattle.vault.specs.declared.noted.Noted.{Noted}
+use Rattle.vault.specs.declared.noted.Sure.{Sure}
 use Rattle.vault.proofs.FaultLaws.{one_if}
 use Rattle.vault.proofs.OrderlyLaws.{fault_at_most, named_begun, new_are_orderly, reads_keep, stores_keep}
 use Rattle.vault.proofs.PassLaws.{all_of}
@@ -51,11 +52,11 @@ within_by P Q [] k step h = tt
 within_by P Q (x ∷ xs) zero step h = step x (omega arith) h
 within_by P Q (x ∷ xs) (suc k) step h = within_by P Q xs k (λ y less. step y (omega (arith, less))) h
 
-module _ (tells calm : Bool) (faults : ℕ) (lock : LockId) (passes : ℕ) (book : Book) (limits : Limits) where
+module _ (tells : Bool) (sure : Sure) (faults : ℕ) (lock : LockId) (passes : ℕ) (book : Book) (limits : Limits) where
   abbrev pub named_so : VaultName
-  named_so = record { lock = lock; passes = passes; book = book; limits = limits; tells = tells; faults = faults; calm = calm }
+  named_so = record { lock = lock; passes = passes; book = book; limits = limits; tells = tells; faults = faults; sure = sure }
 
-  new_member : (IsTrue tells → IsSound book) → (number : ℕ) → 1 ≤ number → number ≤ passes → (p : Passing) → IsNew tells calm faults lock passes number book limits p
+  new_member : (IsTrue tells → IsSound book) → (number : ℕ) → 1 ≤ number → number ≤ passes → (p : Passing) → IsNew tells sure faults lock passes number book limits p
       → IsNewMember named_so number p
   new_member sound number low high p new =
       let book_is = opening_book book limits p.known.seen new.made.opens in
@@ -68,7 +69,7 @@ module _ (tells calm : Bool) (faults : ℕ) (lock : LockId) (passes : ℕ) (book
           limits_are = opening_limits book limits p.known.seen new.made.opens;
           told = new.told;
           given = new.given;
-          calm = new.calm_is;
+          sure = new.sure_is;
           sound = λ t. subst (λ (b : Book). IsSound b) (sym book_is) (sound t);
         };
         number_is = ap (λ (k : Known Noted). k.number) new.made.is;
@@ -77,11 +78,11 @@ module _ (tells calm : Bool) (faults : ℕ) (lock : LockId) (passes : ℕ) (book
         shows = new.shows;
       }
 
-  name_is : (made : List Passing) → 0 < length made → 0 < passes → ((k : ℕ) → IfSome (slice_get made k) (IsNew tells calm faults lock passes (k + 1) book limits))
+  name_is : (made : List Passing) → 0 < length made → 0 < passes → ((k : ℕ) → IfSome (slice_get made k) (IsNew tells sure faults lock passes (k + 1) book limits))
       → name_of lock made ≡ named_so
   name_is [] some many each = absurd (omega (arith, some))
   name_is (p ∷ others) some many each =
-      let first : IsNew tells calm faults lock passes 1 book limits p = each zero in
+      let first : IsNew tells sure faults lock passes 1 book limits p = each zero in
       λ i. record {
         lock = lock;
         passes = ap (λ (k : Known Noted). k.passes) first.made.is i;
@@ -89,18 +90,18 @@ module _ (tells calm : Bool) (faults : ℕ) (lock : LockId) (passes : ℕ) (book
         limits = opening_limits book limits p.known.seen first.made.opens i;
         tells = first.told i;
         faults = first.given i;
-        calm = first.calm_is i;
+        sure = first.sure_is i;
       }
 
   module _ (sound : IsTrue tells → IsSound book) (many : 0 < passes) (made : List Passing) (count : length made ≡ passes)
-      (each : (k : ℕ) → IfSome (slice_get made k) (IsNew tells calm faults lock passes (k + 1) book limits)) where
+      (each : (k : ℕ) → IfSome (slice_get made k) (IsNew tells sure faults lock passes (k + 1) book limits)) where
     pub new_name : name_of lock made ≡ named_so
     new_name = name_is made (omega (arith, many, count)) many each
 
     pub new_members : AreNewMembers (name_of lock made) made
     new_members = subst (λ (v : VaultName). AreNewMembers v made) (sym new_name) (record {
       count = count;
-      each = λ k. within_by (IsNew tells calm faults lock passes (k + 1) book limits) (IsNewMember named_so (k + 1)) made k
+      each = λ k. within_by (IsNew tells sure faults lock passes (k + 1) book limits) (IsNewMember named_so (k + 1)) made k
           (λ p less new. new_member sound (k + 1) (omega arith) (omega (arith, less, count)) p new) (each k);
     })
 
@@ -159,7 +160,7 @@ module _ (vault : VaultName) (was is : Known Noted) (same : IsSamePass was is) (
     limits_are = leaves.limits ∙ member.limits_are;
     told = leaves.told ∙ member.told;
     given = leaves.given ∙ member.given;
-    calm = leaves.calm ∙ member.calm;
+    sure = leaves.sure ∙ member.sure;
     sound = λ t. sound (subst (λ (b : Bool). IsTrue b) (sym member.told) t);
   }
 

@@ -159,7 +159,7 @@ kind_placed book room (Stored kept as_same) taken same x storing some gained =
     λ none. some (none_of room.volumes
     (sym (length_last room.volumes x) ∙ (ap (λ (b : Book). length b.volumes) (sym gained)
     ∙ (length_last book.volumes (as_stored kept.value as_same) ∙ ap (λ (l : List Volume). length l) none))))
-kind_placed book room (Opened held limits told list faults calm) taken same x storing some gained = absurd storing
+kind_placed book room (Opened held limits told list faults sure) taken same x storing some gained = absurd storing
 kind_placed book room (Began at) taken same x storing some gained = absurd storing
 kind_placed book room Failed taken same x storing some gained = absurd storing
 

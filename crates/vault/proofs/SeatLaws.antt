@@ -11,12 +11,13 @@ use Rattle.history_lock.specs.Known.{Known, LockId, newcomer}
 use Rattle.index_snapshot.specs.Edges.{Edge}
 use Rattle.index_snapshot.specs.Publishing.{Print, full_of}
 use Rattle.vault.specs.Company.{Passing}
-use Rattle.vault.specs.History.{IsOpening, given_faults, is_calm, is_told}
+use Rattle.vault.specs.History.{IsOpening, given_faults, is_told, sure_in}
 use Rattle.vault.specs.Items.{AreItems, last_book, shown_in, tells_in}
 use Rattle.vault.specs.Listing.{IsListed}
 use Rattle.vault.specs.Passes.{IsNew}
 use Rattle.vault.specs.declared.item.Item.{Item}
 use Rattle.vault.specs.declared.noted.Noted.{Noted}
+use Rattle.vault.specs.declared.noted.Sure.{Sure}
 use Rattle.vault.proofs.ItemLaws.{shown_entries}
 
 module _ {A : Type 0} (P : A → Type 0) where
@@ -50,11 +51,11 @@ listed_of lock passes number history note whole None listed is = tt
 listed_of lock passes number history note whole (Some p) listed is =
     subst (λ (l : List Noted). IsListed l note whole) (sym (ap (λ (k : Known Noted). k.seen) is)) listed
 
-module _ (keeps : GrowthKeepsCaptures) (tells calm : Bool) (faults : ℕ) (lock : LockId) (passes number : ℕ) (book : Book) (limits : Limits) (history : List Noted)
+module _ (keeps : GrowthKeepsCaptures) (tells : Bool) (sure : Sure) (faults : ℕ) (lock : LockId) (passes number : ℕ) (book : Book) (limits : Limits) (history : List Noted)
     (print : Print Item) (note : Edge Item) (note_is : note ≡ full_of print) (opens : IsOpening book limits history) (told : is_told history ≡ tells)
-    (given : given_faults history ≡ faults) (calm_is : is_calm history ≡ calm)
+    (given : given_faults history ≡ faults) (sure_is : sure_in history ≡ sure)
     (fits : AreItems print.full) (list_told : tells_in print.full ≡ tells) (last : last_book print.full ≡ book) where
-  new_pass : (p : Passing) → p.known ≡ newcomer lock passes number history → p.shown ≡ note → IsNew tells calm faults lock passes number book limits p
+  new_pass : (p : Passing) → p.known ≡ newcomer lock passes number history → p.shown ≡ note → IsNew tells sure faults lock passes number book limits p
   new_pass p is shown =
       let seen : p.known.seen ≡ history = ap (λ (k : Known Noted). k.seen) is in
       record {
@@ -64,7 +65,7 @@ module _ (keeps : GrowthKeepsCaptures) (tells calm : Bool) (faults : ℕ) (lock 
         };
         told = ap is_told seen ∙ told;
         given = ap given_faults seen ∙ given;
-        calm_is = ap is_calm seen ∙ calm_is;
+        sure_is = ap sure_in seen ∙ sure_is;
         shows = λ t.
             let items : p.shown.items ≡ print.full = ap (λ (e : Edge Item). e.items) (shown ∙ note_is) in
             subst (λ (l : List Item). AreEntries book (shown_in l)) (sym items)
@@ -73,9 +74,9 @@ module _ (keeps : GrowthKeepsCaptures) (tells calm : Bool) (faults : ℕ) (lock 
       }
 
   pub new_passes : (room : List Passing) (made : List (Known Noted)) (k : ℕ) → map (λ (p : Passing). p.known) room ≡ made → All (λ (p : Passing). p.shown ≡ note) room
-      → IfSome (slice_get made k) (λ p. p ≡ newcomer lock passes number history) → IfSome (slice_get room k) (λ p. IsNew tells calm faults lock passes number book limits p)
+      → IfSome (slice_get made k) (λ p. p ≡ newcomer lock passes number history) → IfSome (slice_get room k) (λ p. IsNew tells sure faults lock passes number book limits p)
   new_passes room made k known shown is =
-      both_some (λ (p : Passing). p.known ≡ newcomer lock passes number history) (λ (p : Passing). p.shown ≡ note) (λ (p : Passing). IsNew tells calm faults lock passes number book limits p)
+      both_some (λ (p : Passing). p.known ≡ newcomer lock passes number history) (λ (p : Passing). p.shown ≡ note) (λ (p : Passing). IsNew tells sure faults lock passes number book limits p)
       new_pass (slice_get room k)
       (at_map (λ (p : Passing). p.known) (λ (q : Known Noted). q ≡ newcomer lock passes number history) room k
       (subst (λ (l : List (Known Noted)). IfSome (slice_get l k) (λ p. p ≡ newcomer lock passes number history)) (sym known) is))

@@ -129,7 +129,7 @@ no_fewer (v ∷ vs) x = let more = some_more (v ∷ vs) x (λ e. cc) in omega (a
 
 -- no entry takes captures away
 count_grows : (book : Book) (kind : Kind) → length (captures book) ≤ length (captures (after_kind book kind))
-count_grows book (Opened held limits told list faults calm) = omega arith
+count_grows book (Opened held limits told list faults sure) = omega arith
 count_grows book (Began at) = let same = ap (λ (l : List stored.Stored). length l) (captures_stay book.volumes at) in omega (arith, same)
 count_grows book (Stored taken same) = no_fewer book.volumes (as_stored taken.value same)
 count_grows book Failed = omega arith
@@ -139,7 +139,7 @@ step_rises : (book : Book) (kind : Kind) (others : List ℕ) (own : Bool) (low :
     → Rises low ((if own then number_by (length (captures book)) kind else []) ++ others)
 step_rises book (Stored taken same) others true low below placed rest =
     let more = some_more book.volumes (as_stored taken.value same) (placed refl) in (below, rest (suc (length (captures book))) (omega (arith, more)))
-step_rises book (Opened held limits told list faults calm) others true low below placed rest = rest low below
+step_rises book (Opened held limits told list faults sure) others true low below placed rest = rest low below
 step_rises book (Began at) others true low below placed rest = let more = count_grows book (Began at) in rest low (omega (arith, below, more))
 step_rises book Failed others true low below placed rest = rest low below
 step_rises book kind others false low below placed rest = let more = count_grows book kind in rest low (omega (arith, below, more))
@@ -250,7 +250,7 @@ add_once j more rest a (suc len) low high = add_by j more rest a len (nat_eq j a
 
 abbrev counted : Kind → ℕ → ℕ
 counted (Stored taken same) n = suc n
-counted (Opened held limits told list faults calm) n = n
+counted (Opened held limits told list faults sure) n = n
 counted (Began at) n = n
 counted Failed n = n
 
@@ -271,7 +271,7 @@ kind_count : (book : Book) (kind : Kind) (n : ℕ) → IsPlaced book kind
     → length (captures (after_kind book kind)) + n ≡ length (captures book) + counted kind n
 kind_count book (Stored taken same) n placed =
     let more = some_more book.volumes (as_stored taken.value same) placed in omega (arith, more)
-kind_count book (Opened held limits told list faults calm) n placed = refl
+kind_count book (Opened held limits told list faults sure) n placed = refl
 kind_count book (Began at) n placed =
     let same = ap (λ (l : List stored.Stored). length l) (captures_stay book.volumes at) in omega (arith, same)
 kind_count book Failed n placed = refl
@@ -299,7 +299,7 @@ share_step total j book (Stored taken same) n rest low high placed shared =
     IsPermutation-trans _ (c ∷ behind) (c ∷ range_with_len (c + 1) n)
     (put_once j c rest 1 total low (omega (arith, high)))
     (IsPermutation-cons c behind (range_with_len (c + 1) n) (subst (λ (m : ℕ). IsPermutation behind (range_with_len m n)) next shared))
-share_step total j book (Opened held limits told list faults calm) n rest low high placed shared =
+share_step total j book (Opened held limits told list faults sure) n rest low high placed shared =
     subst (λ (l : List ℕ). IsPermutation l (range_with_len (length (captures book)) n))
     (λ i. flat_map (λ k. sym (put_nothing (is_among (k ∷ []) j) (rest k)) i) (range_with_len 1 total)) shared
 share_step total j book (Began at) n rest low high placed shared =

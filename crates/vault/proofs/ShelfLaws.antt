@@ -21,7 +21,7 @@ use Rattle.history_lock.specs.Known.{IsSamePass, Known}
 use Rattle.history_lock.specs.Seen.{All, Shows, Turn}
 use Rattle.index_snapshot.specs.Edges.{Edge}
 use Rattle.vault.specs.Company.{Passing, contents_at, told_at}
-use Rattle.vault.specs.History.{IsBegun, after_kind, book_after, by_of, given_faults, is_calm, is_told, opened_book, told_book, told_limits}
+use Rattle.vault.specs.History.{IsBegun, after_kind, book_after, by_of, given_faults, is_told, opened_book, sure_in, told_book, told_limits}
 use Rattle.vault.specs.Items.{shown_in}
 use Rattle.vault.specs.Own.{count_faults, fault_by, is_among, number_by, own_behind, own_captures, own_entries, own_faults}
 use Rattle.vault.specs.Turns.{AddsFaultAlone, BeginsAtMost, CommitAnswers, IsStoring}
@@ -30,7 +30,7 @@ use Rattle.vault.specs.declared.noted.Kind.{Kind}
 use Rattle.vault.specs.declared.noted.Kind.TheVariants.{Opened, Began, Stored, Failed}
 use Rattle.vault.specs.declared.noted.Noted.{Noted}
 use Rattle.vault.proofs.FaultLaws.{count_append, none_stored, one_if}
-use Rattle.vault.proofs.HistoryLaws.{begun_append, calm_stays, given_stays, limits_append, told_grows, told_stays}
+use Rattle.vault.proofs.HistoryLaws.{begun_append, given_stays, limits_append, sure_stays, told_grows, told_stays}
 use Rattle.vault.proofs.OwnLaws.{none_own, own_append}
 use Rattle.vault.proofs.PublishLaws.{fault_added}
 use Rattle.vault.proofs.SharingLaws.{among_one, behind_append, none_behind}
@@ -43,7 +43,7 @@ pub record Leaves (numbers : List ℕ) (was is : List Noted) (stored : List ℕ)
   pub told : is_told is ≡ is_told was
   pub limits : told_limits is ≡ told_limits was
   pub given : given_faults is ≡ given_faults was
-  pub calm : is_calm is ≡ is_calm was
+  pub sure : sure_in is ≡ sure_in was
   pub mine : own_captures numbers is ≡ own_captures numbers was ++ stored
   pub met : own_faults numbers is ≡ own_faults numbers was + faults
 
@@ -64,7 +64,7 @@ leaves_on numbers xs ys stored faults begun stored_is faults_are = record {
   told = told_stays xs ys begun;
   limits = limits_append xs ys begun;
   given = given_stays xs ys begun;
-  calm = calm_stays xs ys begun;
+  sure = sure_stays xs ys begun;
   mine = captures_joined numbers xs ys begun ∙ ap (λ (l : List ℕ). own_captures numbers xs ++ l) stored_is;
   met = ap (λ (l : List Noted). count_faults l) (own_append numbers xs ys) ∙ (count_append (own_entries numbers xs) (own_entries numbers ys)
       ∙ ap (λ (n : ℕ). own_faults numbers xs + n) faults_are);
@@ -88,7 +88,7 @@ leaves_both numbers a b c stored faults first second = record {
   told = second.told ∙ first.told;
   limits = second.limits ∙ first.limits;
   given = second.given ∙ first.given;
-  calm = second.calm ∙ first.calm;
+  sure = second.sure ∙ first.sure;
   mine = second.mine ∙ ap (λ (l : List ℕ). l ++ stored) (first.mine ∙ append-nil (own_captures numbers a));
   met = let one = first.met in let two = second.met in omega (arith, one, two);
 }
@@ -174,7 +174,7 @@ module _ (numbers : List ℕ) (number : ℕ) (among : is_among numbers number �
 
   stored_number : (taken : Taken) (same : Option ℕ) (n : ℕ) (kind : Kind) → IsStoring taken same kind → number_by n kind ≡ n ∷ []
   stored_number taken same n (Stored kept as_same) storing = refl
-  stored_number taken same n (Opened held limits told list faults calm) storing = absurd storing
+  stored_number taken same n (Opened held limits told list faults sure) storing = absurd storing
   stored_number taken same n (Began at) storing = absurd storing
   stored_number taken same n Failed storing = absurd storing
 

@@ -1,10 +1,13 @@
--- Where the disk didn't fail, a crash leaves the archive's book alone.
+-- What a crash leaves of the archive: its book alone where the disk didn't fail, and its checkpoints in any case.
 use Rattle.std.specs.Prelude.{◌≡◌, IsTrue, List, None}
+use Rattle.disk_model.specs.Crash.{Leaves}
 use Rattle.disk_model.specs.declared.disk.Disk.{Ghosts}
+use Rattle.warc_journal.specs.Journals.{disk_of}
 use Rattle.archive_shelf.specs.Openings.{HasIds, IsState}
+use Rattle.archive_opening.specs.Telling.{HasCheckpointsOf}
 use Rattle.archive_core.specs.Holdings.{Holdings}
 use Rattle.archive_core.specs.Told.{told_of}
-use Rattle.vault.specs.History.{is_calm}
+use Rattle.vault.specs.History.{sure_in}
 use Rattle.vault.specs.Own.{faults_since}
 use Rattle.vault.specs.declared.noted.Noted.{Noted}
 
@@ -12,6 +15,25 @@ use Rattle.vault.specs.declared.noted.Noted.{Noted}
 abbrev pub IsCalm : {D : Type 0} → Ghosts D → Holdings D → Type 0
 IsCalm d holdings = HasIds holdings.book → IsState (told_of d holdings).crash holdings.book None
 
--- an archive that was so when it was given is so as long as no fault was met
+-- where the book is told, the finished checkpoints of each image that a crash may leave are those of the book
+abbrev pub HasRightCheckpoints : {D : Type 0} → Ghosts D → Holdings D → Type 0
+HasRightCheckpoints d holdings =
+    IsTrue holdings.told → Leaves (d.images (disk_of holdings.journal)) (λ image. HasCheckpointsOf image holdings.book)
+
+-- ---- as it was when the archive was given
+
+-- an archive that was calm when it was given is so as long as no fault was met
 abbrev pub StaysCalm : {D : Type 0} → Ghosts D → List Noted → Holdings D → Type 0
-StaysCalm d history holdings = IsTrue (is_calm history) → faults_since history ≡ 0 → IsCalm d holdings
+StaysCalm d history holdings = IsTrue (sure_in history).calm → faults_since history ≡ 0 → IsCalm d holdings
+
+-- one whose checkpoints were right has right ones
+abbrev pub StaysRight : {D : Type 0} → Ghosts D → List Noted → Holdings D → Type 0
+StaysRight d history holdings = IsTrue (sure_in history).right → HasRightCheckpoints d holdings
+
+-- both statements, which so need no name of the disk
+pub record Crash : Type 1 where
+  pub calm : Type 0
+  pub right : Type 0
+
+abbrev pub crash_left : {D : Type 0} → Ghosts D → Holdings D → Crash
+crash_left d holdings = record { calm = IsCalm d holdings; right = HasRightCheckpoints d holdings }

@@ -10,6 +10,7 @@ use Rattle.logbook.specs.Pages.{Book as LogBook}
 use Rattle.vault.specs.declared.noted.Kind.{Kind}
 use Rattle.vault.specs.declared.noted.Kind.TheVariants.{Opened, Began, Stored, Failed}
 use Rattle.vault.specs.declared.noted.Noted.{Noted}
+use Rattle.vault.specs.declared.noted.Sure.{Sure}
 
 -- the number of the pass that added the entry
 abbrev pub by_of : Noted → ℕ
@@ -19,7 +20,7 @@ by_of noted = noted.by
 
 -- the book after an entry that isn't the first
 abbrev pub after_kind : Book → Kind → Book
-after_kind book (Opened held limits told list faults calm) = book
+after_kind book (Opened held limits told list faults sure) = book
 after_kind book (Began at) = with_volume book at
 after_kind book (Stored taken same) = with_capture book (as_stored taken.value same)
 after_kind book Failed = book
@@ -31,7 +32,7 @@ book_after book (noted ∷ others) = book_after (after_kind book noted.kind) oth
 
 -- the book that the archive had when it was given
 abbrev pub opened_book : Kind → Book
-opened_book (Opened held limits told list faults calm) = book_of held.value
+opened_book (Opened held limits told list faults sure) = book_of held.value
 opened_book (Began at) = empty_book []
 opened_book (Stored taken same) = empty_book []
 opened_book Failed = empty_book []
@@ -44,7 +45,7 @@ told_book (noted ∷ others) = book_after (opened_book noted.kind) others
 -- ---- the limits
 
 abbrev pub limits_by : Kind → Limits
-limits_by (Opened held limits told list faults calm) = limits
+limits_by (Opened held limits told list faults sure) = limits
 limits_by (Began at) = record { volume_bytes = 0; captures = 0 }
 limits_by (Stored taken same) = record { volume_bytes = 0; captures = 0 }
 limits_by Failed = record { volume_bytes = 0; captures = 0 }
@@ -57,7 +58,7 @@ told_limits (noted ∷ others) = limits_by noted.kind
 -- ---- whether the disk tells what it holds
 
 abbrev pub tells_by : Kind → Bool
-tells_by (Opened held limits told list faults calm) = told.value
+tells_by (Opened held limits told list faults sure) = told.value
 tells_by (Began at) = false
 tells_by (Stored taken same) = false
 tells_by Failed = false
@@ -70,7 +71,7 @@ is_told (noted ∷ others) = tells_by noted.kind
 -- ---- the faults of the disk
 
 abbrev pub faults_by : Kind → ℕ
-faults_by (Opened held limits told list faults calm) = faults
+faults_by (Opened held limits told list faults sure) = faults
 faults_by (Began at) = 0
 faults_by (Stored taken same) = 0
 faults_by Failed = 0
@@ -80,23 +81,27 @@ abbrev pub given_faults : List Noted → ℕ
 given_faults [] = 0
 given_faults (noted ∷ others) = faults_by noted.kind
 
--- ---- whether each image stood for the archive's book alone
+-- ---- what was sure of a crash
 
-abbrev pub calm_by : Kind → Bool
-calm_by (Opened held limits told list faults calm) = calm.value
-calm_by (Began at) = false
-calm_by (Stored taken same) = false
-calm_by Failed = false
+-- nothing is
+abbrev pub not_sure : Sure
+not_sure = record { calm = false; right = false }
 
--- whether a crash might have left the book alone when the archive was given, as the first entry says
-abbrev pub is_calm : List Noted → Bool
-is_calm [] = false
-is_calm (noted ∷ others) = calm_by noted.kind
+abbrev pub sure_by : Kind → Sure
+sure_by (Opened held limits told list faults sure) = sure.value
+sure_by (Began at) = not_sure
+sure_by (Stored taken same) = not_sure
+sure_by Failed = not_sure
+
+-- what was sure of a crash when the archive was given, as the first entry says
+abbrev pub sure_in : List Noted → Sure
+sure_in [] = not_sure
+sure_in (noted ∷ others) = sure_by noted.kind
 
 -- ---- the list that is published
 
 abbrev pub NamesIn : Kind → LogBook → Type 0
-NamesIn (Opened held limits told list faults calm) log = list.value.of ≡ log
+NamesIn (Opened held limits told list faults sure) log = list.value.of ≡ log
 NamesIn (Began at) log = ⊥
 NamesIn (Stored taken same) log = ⊥
 NamesIn Failed log = ⊥

@@ -7,13 +7,14 @@ use Rattle.warc_text.specs.Sound.{IsSound}
 use Rattle.archive_shelf.specs.Storing.{empty_book}
 use Rattle.history_lock.specs.Known.{Known, LockId}
 use Rattle.vault.specs.Company.{Passing}
-use Rattle.vault.specs.History.{IsOpening, given_faults, is_calm, is_told, told_book, told_limits}
+use Rattle.vault.specs.History.{IsOpening, given_faults, is_told, not_sure, sure_in, told_book, told_limits}
 use Rattle.vault.specs.Items.{shown_in}
 use Rattle.vault.specs.Orderly.{IsOrderly, given_book}
 use Rattle.vault.specs.declared.noted.Noted.{Noted}
+use Rattle.vault.specs.declared.noted.Sure.{Sure}
 
 -- What a vault is called: its lock, how many passes it was made with, and the archive that was given to it: its book, its limits, whether
--- its disk tells what it holds, how many faults that had counted, and whether a crash might have left that book alone.
+-- its disk tells what it holds, how many faults that had counted, and what was sure of a crash then.
 pub record VaultName : Type 0 where
   pub lock : LockId
   pub passes : ℕ
@@ -21,7 +22,7 @@ pub record VaultName : Type 0 where
   pub limits : Limits
   pub tells : Bool
   pub faults : ℕ
-  pub calm : Bool
+  pub sure : Sure
 
 -- the name that says nothing
 abbrev pub no_vault : VaultName
@@ -32,7 +33,7 @@ no_vault = record {
   limits = record { volume_bytes = 0; captures = 0 };
   tells = false;
   faults = 0;
-  calm = false;
+  sure = not_sure;
 }
 
 -- A pass of this vault, with one number. It is orderly, and where the disk tells what it holds, the book that it has seen is sound.
@@ -44,7 +45,7 @@ pub record IsMember (vault : VaultName) (pass : Known Noted) : Type 0 where
   pub limits_are : told_limits pass.seen ≡ vault.limits
   pub told : is_told pass.seen ≡ vault.tells
   pub given : given_faults pass.seen ≡ vault.faults
-  pub calm : is_calm pass.seen ≡ vault.calm
+  pub sure : sure_in pass.seen ≡ vault.sure
   pub sound : IsTrue vault.tells → IsSound (told_book pass.seen)
 
 -- The pass of this vault with this number as it is made: it has seen that the archive was given and nothing else, and where the disk tells what
@@ -81,5 +82,5 @@ name_of lock (pass ∷ others) = record {
   limits = told_limits pass.known.seen;
   tells = is_told pass.known.seen;
   faults = given_faults pass.known.seen;
-  calm = is_calm pass.known.seen;
+  sure = sure_in pass.known.seen;
 }

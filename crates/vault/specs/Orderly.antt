@@ -32,7 +32,7 @@ NamePasses passes (first ∷ others) = (first.by ≡ 0) × All (NamesPass passes
 
 -- a capture that is noted has a volume to stand in
 abbrev pub IsPlaced : Book → Kind → Type 0
-IsPlaced book (Opened held limits told list faults calm) = ⊤
+IsPlaced book (Opened held limits told list faults sure) = ⊤
 IsPlaced book (Began at) = ⊤
 IsPlaced book (Stored taken same) = book.volumes ≢ []
 IsPlaced book Failed = ⊤

@@ -31,7 +31,7 @@ OwnEntriesStay =
 
 -- the number of a capture that is noted, which is the count of the book before it
 abbrev pub number_by : ℕ → Kind → List ℕ
-number_by count (Opened held limits told list faults calm) = []
+number_by count (Opened held limits told list faults sure) = []
 number_by count (Began at) = []
 number_by count (Stored taken same) = count ∷ []
 number_by count Failed = []
@@ -51,7 +51,7 @@ own_captures numbers (first ∷ others) = own_behind numbers (opened_book first.
 -- ---- the faults that it met
 
 abbrev pub fault_by : Kind → ℕ
-fault_by (Opened held limits told list faults calm) = 0
+fault_by (Opened held limits told list faults sure) = 0
 fault_by (Began at) = 0
 fault_by (Stored taken same) = 0
 fault_by Failed = 1

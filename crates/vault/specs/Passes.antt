@@ -5,30 +5,32 @@ use Rattle.capture.specs.declared.limits.Limits.{Limits}
 use Rattle.cdxj_index.specs.OfBook.{AreEntries}
 use Rattle.history_lock.specs.Known.{Known, LockId, newcomer}
 use Rattle.history_lock.specs.Seen.{Shows}
-use Rattle.vault.specs.History.{IsBegun, IsOpening, by_of, given_faults, is_calm, is_told, told_book, told_limits}
+use Rattle.vault.specs.History.{IsBegun, IsOpening, by_of, given_faults, is_told, sure_in, told_book, told_limits}
+use Rattle.vault.specs.Calm.{Crash}
 use Rattle.vault.specs.Company.{Passing}
 use Rattle.vault.specs.Items.{shown_in}
 use Rattle.vault.specs.Own.{AreCounted, faults_since}
 use Rattle.vault.specs.declared.noted.Noted.{Noted}
+use Rattle.vault.specs.declared.noted.Sure.{Sure}
 
 -- the pass with this number as it is made: it has seen that the archive was given, with this book and these limits
 pub record IsMade (lock : LockId) (passes number : ℕ) (book : Book) (limits : Limits) (pass : Known Noted) : Type 0 where
   pub is : pass ≡ newcomer lock passes number pass.seen
   pub opens : IsOpening book limits pass.seen
 
--- with what it has seen by date: where the disk tells what it holds, these are the book's entries; the disk had counted so many faults; and a
--- crash might have left that book alone, or it isn't said
-pub record IsNew (tells calm : Bool) (faults : ℕ) (lock : LockId) (passes number : ℕ) (book : Book) (limits : Limits) (pass : Passing) : Type 0 where
+-- with what it has seen by date: where the disk tells what it holds, these are the book's entries; the disk had counted so many faults; and this
+-- was sure of a crash
+pub record IsNew (tells : Bool) (sure : Sure) (faults : ℕ) (lock : LockId) (passes number : ℕ) (book : Book) (limits : Limits) (pass : Passing) : Type 0 where
   pub made : IsMade lock passes number book limits pass.known
   pub told : is_told pass.known.seen ≡ tells
   pub given : given_faults pass.known.seen ≡ faults
-  pub calm_is : is_calm pass.known.seen ≡ calm
+  pub sure_is : sure_in pass.known.seen ≡ sure
   pub shows : IsTrue tells → AreEntries book (shown_in pass.shown.items)
 
 -- What is left when a vault is closed: the book and the limits of some history that the pass had seen the beginning of, whether the book is
--- told as that says, and a disk that has counted the faults which it tells of. Where no fault was met, the archive is as calm as it was when it
--- was given.
-pub record IsLeft (pass : Known Noted) (book : Book) (limits : Limits) (told : Bool) (faults : ℕ) (Calm : Type 0) : Type 0 where
+-- told as that says, and a disk that has counted the faults which it tells of. A crash leaves of the archive what was sure of it when it was given: its
+-- book alone where no fault was met, and its checkpoints in any case.
+pub record IsLeft (pass : Known Noted) (book : Book) (limits : Limits) (told : Bool) (faults : ℕ) (crash : Crash) : Type 0 where
   pub history : List Noted
   pub shows : Shows by_of pass.passes pass.numbers pass.seen history
   pub begun : IsBegun history
@@ -36,4 +38,5 @@ pub record IsLeft (pass : Known Noted) (book : Book) (limits : Limits) (told : B
   pub limits_are : limits ≡ told_limits history
   pub told_is : told ≡ is_told history
   pub counted : AreCounted history faults
-  pub calm : IsTrue (is_calm history) → faults_since history ≡ 0 → Calm
+  pub calm : IsTrue (sure_in history).calm → faults_since history ≡ 0 → crash.calm
+  pub right : IsTrue (sure_in history).right → crash.right

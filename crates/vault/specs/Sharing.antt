@@ -9,6 +9,7 @@ use Rattle.capture.specs.declared.book.Book.{Book}
 use Rattle.capture.specs.declared.limits.Limits.{Limits}
 use Rattle.history_lock.specs.Known.{Known}
 use Rattle.history_lock.specs.Seen.{Shows}
+use Rattle.vault.specs.Calm.{Crash}
 use Rattle.vault.specs.Company.{Passing}
 use Rattle.vault.specs.History.{by_of, told_book}
 use Rattle.vault.specs.Members.{VaultName}
@@ -59,16 +60,17 @@ abbrev pub IsShownIn : List Noted → Passing → Type 0
 IsShownIn history pass = Shows by_of pass.known.passes pass.known.numbers pass.known.seen history
 
 -- What is left when a vault is closed with all its passes: the book of a history that is shared out among them; the limits, and whether
--- the book is told, as of the archive that was given; a disk whose count of faults has risen by those that the passes met; and,
--- where they met none, an archive that is calm if it was so when it was given.
-pub record IsLeftByAll (vault : VaultName) (passes : List (Known Noted)) (book : Book) (limits : Limits) (told : Bool) (faults : ℕ) (Calm : Type 0) : Type 0 where
+-- the book is told, as of the archive that was given; a disk whose count of faults has risen by those that the passes met; and of
+-- what a crash leaves, what was sure of it when the archive was given: its book alone where they met none, and its checkpoints in any case.
+pub record IsLeftByAll (vault : VaultName) (passes : List (Known Noted)) (book : Book) (limits : Limits) (told : Bool) (faults : ℕ) (crash : Crash) : Type 0 where
   pub history : List Noted
   pub shared : IsSharedOut vault.book passes history
   pub book_is : book ≡ told_book history
   pub limits_are : limits ≡ vault.limits
   pub told_is : told ≡ vault.tells
   pub counted : RoseBy (sum_by (λ pass. own_faults pass.numbers pass.seen) passes) vault.faults faults
-  pub calm : IsTrue vault.calm → sum_by (λ pass. own_faults pass.numbers pass.seen) passes ≡ 0 → Calm
+  pub calm : IsTrue vault.sure.calm → sum_by (λ pass. own_faults pass.numbers pass.seen) passes ≡ 0 → crash.calm
+  pub right : IsTrue vault.sure.right → crash.right
 
 -- ---- histories that were shown one after the other
 

@@ -29,7 +29,7 @@ use Rattle.vault.specs.declared.noted.Noted.{Noted}
 
 -- the entry tells that this capture was stored, which refers to that one
 abbrev pub IsStoring : Taken → Option ℕ → Kind → Type 0
-IsStoring taken same (Opened held limits told list faults calm) = ⊥
+IsStoring taken same (Opened held limits told list faults sure) = ⊥
 IsStoring taken same (Began at) = ⊥
 IsStoring taken same (Stored stored as_same) = (stored.value ≡ taken) × (as_same ≡ same)
 IsStoring taken same Failed = ⊥

@@ -2,7 +2,7 @@
 ghost use Rattle.std.specs.Prelude.{◌≡◌, ◌<◌, List, map, vec_len};
 ghost use Rattle.std.specs.List.{All};
 ghost use Rattle.warc_journal.specs.Journals.{disk_of};
-ghost use Rattle.vault.specs.Calm.{IsCalm};
+ghost use Rattle.vault.specs.Calm.{crash_left};
 ghost use Rattle.vault.specs.Members.{AreMembers, IsMember};
 ghost use Rattle.vault.specs.Sharing.{IsLeftByAll, IsShownIn};
 ghost use Rattle.vault.specs.declared.noted.Noted.{Noted};
@@ -16,13 +16,14 @@ use std::sync::Wait;
 
 impl<D: Disk> Vault<D> {
     /// Ends the vault with all its passes, in the order of their numbers, and gives the archive back. What its book has behind the one that
-    /// was given is shared out among them, and so are the faults that its disk has counted since. A crash leaves that book
-    /// alone, if it did so of the archive that was given and no pass met a fault. May wait for readers.
+    /// was given is shared out among them, and so are the faults that its disk has counted since. Of what a crash leaves, what
+    /// was sure when the archive was given is so: that it is the book alone if no pass met a fault, and that the finished checkpoints are the book's
+    /// in any case. May wait for readers.
     pub fn close_all<R: Wait, J: Naming>(self, rt: &R, passes: Vec<VaultPass>) -> Archive<D>
         requires vault { self ≡ J.vault.lock }
         requires some { 0 < J.vault.passes }
         requires members { AreMembers J.vault passes.items }
-        ensures { IsLeftByAll J.vault (map (λ p. p.known) passes.items) result.book result.limits result.told (D.faults (disk_of result.journal)) (IsCalm D.Disk result) }
+        ensures { IsLeftByAll J.vault (map (λ p. p.known) passes.items) result.book result.limits result.told (D.faults (disk_of result.journal)) (crash_left D.Disk result) }
     {
         let all = self.join_all::<J>(passes);
         self.close(rt, all)

@@ -3,15 +3,15 @@ ghost use Rattle.std.specs.Prelude.{◌≡◌, IfErr, IfOk, IsTrue, length};
 ghost use Rattle.capture.specs.Captures.{captures};
 ghost use Rattle.warc_journal.specs.Journals.{disk_of};
 ghost use Rattle.warc_text.specs.Sound.{IsSound};
-ghost use Rattle.vault.specs.Calm.{IsCalm, StaysCalm};
+ghost use Rattle.vault.specs.Calm.{HasRightCheckpoints, IsCalm, StaysCalm, StaysRight};
 ghost use Rattle.vault.specs.Guarded.{Stands};
-ghost use Rattle.vault.specs.History.{IsOpening, Names, given_faults, is_calm, is_told, told_book};
+ghost use Rattle.vault.specs.History.{IsOpening, Names, given_faults, is_told, sure_in, told_book};
 ghost use Rattle.vault.specs.Own.{AreCounted};
 ghost use Rattle.vault.specs.Taking.{TakesItem};
 
 use crate::gathering::{item_of, tells};
 use crate::item::Item;
-use crate::noted::{Kind, Noted};
+use crate::noted::{Kind, Noted, Sure};
 use crate::noting::note;
 use archive_core::Archive;
 use capture::Memory;
@@ -32,7 +32,7 @@ pub(crate) struct Keeping<D: Disk> {
 impl<D: Disk> Model for Keeping<D> {
     ghost use Rattle.std.specs.Prelude.{map};
     ghost use Rattle.warc_journal.specs.Journals.{disk_of};
-    ghost use Rattle.vault.specs.Calm.{StaysCalm};
+    ghost use Rattle.vault.specs.Calm.{StaysCalm, StaysRight};
     ghost use Rattle.vault.specs.Guarded.{Guarded, Stands};
     ghost use Rattle.vault.specs.Own.{AreCounted};
 
@@ -40,7 +40,7 @@ impl<D: Disk> Model for Keeping<D> {
 
     ghost view = { λ k. record { history = map (λ s. s.value) k.history.items; holdings = k.archive } };
 
-    ghost invariant = { λ k. Stands (map (λ s. s.value) k.history.items) k.archive × AreCounted (map (λ s. s.value) k.history.items) (D.faults (disk_of k.archive.journal)) × StaysCalm D.Disk (map (λ s. s.value) k.history.items) k.archive };
+    ghost invariant = { λ k. Stands (map (λ s. s.value) k.history.items) k.archive × AreCounted (map (λ s. s.value) k.history.items) (D.faults (disk_of k.archive.journal)) × StaysCalm D.Disk (map (λ s. s.value) k.history.items) k.archive × StaysRight D.Disk (map (λ s. s.value) k.history.items) k.archive };
 }
 
 impl<D: Disk> Keeping<D> {
@@ -49,13 +49,14 @@ impl<D: Disk> Keeping<D> {
         alloc: Global,
         archive: Archive<D>,
         list: &Note<Item>,
-        calm: Shown<bool>,
+        sure: Shown<Sure>,
     ) -> Result<Keeping<D>, Archive<D>>
-        requires { IsTrue calm.value → IsCalm D.Disk archive }
+        requires calm { IsTrue sure.value.calm → IsCalm D.Disk archive }
+        requires right { IsTrue sure.value.right → HasRightCheckpoints D.Disk archive }
         ensures opens { IfOk result (λ keeping. IsOpening archive.book archive.limits keeping.history) }
         ensures told { IfOk result (λ keeping. is_told keeping.history ≡ archive.told) }
         ensures given { IfOk result (λ keeping. given_faults keeping.history ≡ D.faults (disk_of archive.journal)) }
-        ensures calm { IfOk result (λ keeping. is_calm keeping.history ≡ calm.value) }
+        ensures sure { IfOk result (λ keeping. sure_in keeping.history ≡ sure.value) }
         ensures names { IfOk result (λ keeping. Names keeping.history list.now.of) }
         ensures holds { IfOk result (λ keeping. keeping.holdings ≡ archive) }
         ensures err { IfErr result (λ back. back ≡ archive) }
@@ -73,7 +74,7 @@ impl<D: Disk> Keeping<D> {
                 told,
                 Snapshot::of(list),
                 archive.faults(),
-                calm,
+                sure,
             ),
         ));
         Ok(Keeping { archive, history })
@@ -120,6 +121,7 @@ impl<D: Disk> Keeping<D> {
         ensures stands { Stands self.history result }
         ensures counted { AreCounted self.history (D.faults (disk_of result.journal)) }
         ensures calm { StaysCalm D.Disk self.history result }
+        ensures right { StaysRight D.Disk self.history result }
     {
         self.archive
     }

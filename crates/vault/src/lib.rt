@@ -32,6 +32,6 @@ pub use laws::{
     histories_are_shared_out, own_entries_stay, passes_stay_orderly, shown_histories_go_on,
 };
 pub use naming::{Naming, Unnamed};
-pub use noted::{Kind, Noted};
+pub use noted::{Kind, Noted, Sure};
 pub use pass::VaultPass;
 pub use vault::Vault;

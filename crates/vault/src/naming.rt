@@ -1,9 +1,10 @@
 //! Vaults by their names.
 ghost use Rattle.std.specs.Prelude.{◌≡◌, ◌<◌, ◌≤◌, IfErr, IfOk, IsTrue};
 ghost use Rattle.warc_journal.specs.Journals.{disk_of};
-ghost use Rattle.vault.specs.Calm.{IsCalm};
+ghost use Rattle.vault.specs.Calm.{HasRightCheckpoints, IsCalm};
 ghost use Rattle.vault.specs.Members.{AreNewMembers};
 
+use crate::noted::Sure;
 use crate::pass::VaultPass;
 use crate::vault::Vault;
 use archive_core::Archive;
@@ -43,23 +44,24 @@ impl<D: Disk> Model for Unnamed<D> {
 }
 
 impl<D: Disk> Unnamed<D> {
-    /// A vault round an archive, and so many passes; `calm` is as `Vault::new` takes it. At `Err` there was no memory, and the archive comes back as it was. May wait.
+    /// A vault round an archive, and so many passes; `sure` is as `Vault::new` takes it. At `Err` there was no memory, and the archive comes back as it was. May wait.
     pub fn new<R: Wait>(
         alloc: Global,
         rt: &R,
         archive: Archive<D>,
         passes: u32,
-        calm: Shown<bool>,
+        sure: Shown<Sure>,
     ) -> Result<Unnamed<D>, Archive<D>>
         requires passes { (0 < passes) × (passes ≤ 17) }
-        requires calm { IsTrue calm.value → IsCalm D.Disk archive }
+        requires calm { IsTrue sure.value.calm → IsCalm D.Disk archive }
+        requires right { IsTrue sure.value.right → HasRightCheckpoints D.Disk archive }
         ensures passes { IfOk result (λ u. u.passes ≡ passes) }
         ensures archive { IfOk result (λ u. (u.book ≡ archive.book) × (u.limits ≡ archive.limits) × (u.tells ≡ archive.told) × (u.faults ≡ D.faults (disk_of archive.journal))) }
-        ensures calm { IfOk result (λ u. u.calm ≡ calm.value) }
+        ensures sure { IfOk result (λ u. u.sure ≡ sure.value) }
         ensures err { IfErr result (λ back. back ≡ archive) }
     {
         archive.shows_its_book();
-        match Vault::new(alloc, rt, archive, passes, calm) {
+        match Vault::new(alloc, rt, archive, passes, sure) {
             Ok((vault, passes)) => Ok(Unnamed { vault, passes }),
             Err(archive) => Err(archive),
         }

@@ -6,12 +6,21 @@ use index_snapshot::Note;
 use shown::Shown;
 use std::snapshot::Snapshot;
 
+/// What a proof is sure of that a crash leaves of an archive. Only clauses know of one: it is shown, and never made.
+#[derive(Drop)]
+pub struct Sure {
+    /// The archive's book alone, where its ids differ.
+    pub calm: bool,
+    /// Where the book is told, no finished checkpoints but those of its sealed volumes.
+    pub right: bool,
+}
+
 /// What an entry of the history tells.
 #[derive(Drop)]
 pub enum Kind {
     /// The archive was given to the vault, with this book and these limits; whether its disk tells what it holds; the list that is
-    /// published; how many faults the disk had counted; and whether a crash might have left that book alone. It is the first entry.
-    Opened(Snapshot<Held>, Limits, Shown<bool>, Snapshot<Note<Item>>, u64, Shown<bool>),
+    /// published; how many faults the disk had counted; and what was sure of a crash. It is the first entry.
+    Opened(Snapshot<Held>, Limits, Shown<bool>, Snapshot<Note<Item>>, u64, Shown<Sure>),
     /// A volume was begun, at this time in milliseconds since 1970.
     Began(u64),
     /// A capture was stored, which refers to the one with this number, if to any.

@@ -8,9 +8,9 @@ ghost use Rattle.archive_core.specs.Looking.{IsDigestOf, IsRightOf};
 ghost use Rattle.history_lock.specs.Seen.{Adds};
 ghost use Rattle.index_snapshot.specs.Entries.{entries_in};
 ghost use Rattle.index_snapshot.specs.Publishing.{edge_of, full_of};
-ghost use Rattle.vault.specs.Calm.{IsCalm, StaysCalm};
+ghost use Rattle.vault.specs.Calm.{HasRightCheckpoints, IsCalm, StaysCalm, StaysRight};
 ghost use Rattle.vault.specs.Guarded.{AreShown, Stands};
-ghost use Rattle.vault.specs.History.{IsOpening, by_of, given_faults, is_calm, is_told, told_in};
+ghost use Rattle.vault.specs.History.{IsOpening, by_of, given_faults, is_told, sure_in, told_in};
 ghost use Rattle.vault.specs.Items.{AreItems, brings_of, last_book, tells_in};
 ghost use Rattle.vault.specs.Listing.{IsListed};
 ghost use Rattle.vault.specs.Own.{AreCounted};
@@ -20,7 +20,7 @@ use crate::gathering::{first_item, gathered};
 use crate::item::{Books, Item};
 use crate::keeping::Keeping;
 use crate::listed::Listed;
-use crate::noted::Noted;
+use crate::noted::{Noted, Sure};
 use archive_core::Archive;
 use archive_shelf::{BringFault, Looked, Receipt, StoreFault};
 use capture::{Brought, Bytes, Digest, Memory, Taken, growth_keeps_captures};
@@ -93,14 +93,15 @@ impl<D: Disk> Published<D> {
         rt: &R,
         archive: Archive<D>,
         readers: u32,
-        calm: Shown<bool>,
+        sure: Shown<Sure>,
     ) -> Result<(Published<D>, Vec<Viewer<Item, Books>>), Archive<D>>
         requires readers { (0 < readers) × (readers ≤ 17) }
-        requires calm { IsTrue calm.value → IsCalm D.Disk archive }
+        requires calm { IsTrue sure.value.calm → IsCalm D.Disk archive }
+        requires right { IsTrue sure.value.right → HasRightCheckpoints D.Disk archive }
         ensures opens { IfOk result (λ r. IsOpening archive.book archive.limits r.0.kept.history) }
         ensures told { IfOk result (λ r. is_told r.0.kept.history ≡ archive.told) }
         ensures given { IfOk result (λ r. given_faults r.0.kept.history ≡ D.faults (disk_of archive.journal)) }
-        ensures calm { IfOk result (λ r. is_calm r.0.kept.history ≡ calm.value) }
+        ensures sure { IfOk result (λ r. sure_in r.0.kept.history ≡ sure.value) }
         ensures book { IfOk result (λ r. (r.0.whole ≡ true) × (last_book r.0.print.full ≡ archive.book)) }
         ensures fits { IfOk result (λ r. AreItems r.0.print.full × (r.0.print.published ≡ r.0.print.full) × (tells_in r.0.print.full ≡ archive.told)) }
         ensures viewers { IfOk result (λ r. (length r.1.items ≡ readers) × All (λ v. v ≡ edge_of r.0.print) r.1.items) }
@@ -114,7 +115,7 @@ impl<D: Disk> Published<D> {
         growth_keeps_captures();
         let appended = archive.counts().captures;
         let list = publisher.note();
-        match Keeping::begin(alloc, archive, &list, calm) {
+        match Keeping::begin(alloc, archive, &list, sure) {
             Ok(keeping) => Ok((
                 Published {
                     keeping,
@@ -269,6 +270,7 @@ impl<D: Disk> Published<D> {
         ensures stands { Stands self.kept.history result }
         ensures counted { AreCounted self.kept.history (D.faults (disk_of result.journal)) }
         ensures calm { StaysCalm D.Disk self.kept.history result }
+        ensures right { StaysRight D.Disk self.kept.history result }
     {
         let Published {
             keeping,

@@ -12,6 +12,7 @@ ghost use Rattle.vault.specs.Members.{IsMember};
 use crate::at::At;
 use crate::item::{Books, Item};
 use crate::naming::{Naming, Unnamed};
+use crate::noted::Sure;
 use crate::pass::VaultPass;
 use crate::published::Published;
 use crate::vault::Vault;
@@ -38,8 +39,9 @@ const SECOND: &[u8] = b"http://b.test/y";
 const PAYLOAD: &[u8] = b"hello";
 
 // It isn't said what a crash may leave of the archive.
-fn not_said<R>(rt: &R) -> Shown<bool>
-    ensures { result.value ≡ false }
+fn not_said<R>(rt: &R) -> Shown<Sure>
+    ensures calm { result.value.calm ≡ false }
+    ensures right { result.value.right ≡ false }
 {
     Shown::told_by(rt)
 }

@@ -8,7 +8,7 @@ ghost use Rattle.archive_shelf.specs.Pieces.{GivesPiece};
 ghost use Rattle.archive_core.specs.Looking.{IsDigestOf, IsRightOf};
 ghost use Rattle.history_lock.specs.Known.{IsSamePass};
 ghost use Rattle.history_lock.specs.Seen.{Shows, Turn};
-ghost use Rattle.vault.specs.Calm.{IsCalm};
+ghost use Rattle.vault.specs.Calm.{HasRightCheckpoints, IsCalm, crash_left};
 ghost use Rattle.vault.specs.History.{IsBegun, KeepsNames, Names, by_of, is_told, told_in};
 ghost use Rattle.vault.specs.Company.{contents_at};
 ghost use Rattle.vault.specs.Items.{brings_of, shown_in};
@@ -23,7 +23,7 @@ use crate::first_turn::{FirstAnswer, FirstTurn};
 use crate::flush::Flush;
 use crate::item::Item;
 use crate::listed::{Listed, longer};
-use crate::noted::Noted;
+use crate::noted::{Noted, Sure};
 use crate::pass::{VaultPass, seat_all};
 use crate::piece::Piece;
 use crate::published::Published;
@@ -55,25 +55,26 @@ impl<D: Disk> Model for Vault<D> {
 
 impl<D: Disk> Vault<D> {
     /// A vault round an archive, and so many passes, with the numbers from 1 on. Each has seen that the archive was given, and shows
-    /// its captures by date. Where `calm` is shown as true, a crash leaves the archive's book alone: then it does so at the end as well, if the disk
-    /// didn't fail. At `Err` there was no memory, and the archive comes back as it was. May wait.
+    /// its captures by date. What is sure of a crash now is so at the end: that it leaves the archive's book alone if
+    /// the disk didn't fail, and that it leaves checkpoints of that book alone in any case. At `Err` there was no memory, and the archive comes back as it was. May wait.
     pub fn new<R: Wait>(
         alloc: Global,
         rt: &R,
         archive: Archive<D>,
         passes: u32,
-        calm: Shown<bool>,
+        sure: Shown<Sure>,
     ) -> Result<(Vault<D>, Vec<VaultPass>), Archive<D>>
         requires passes { (0 < passes) × (passes ≤ 17) }
-        requires calm { IsTrue calm.value → IsCalm D.Disk archive }
+        requires calm { IsTrue sure.value.calm → IsCalm D.Disk archive }
+        requires right { IsTrue sure.value.right → HasRightCheckpoints D.Disk archive }
         ensures count { IfOk result (λ r. length r.1.items ≡ passes) }
-        ensures each { IfOk result (λ r. (k : ℕ) → IfSome (slice_get r.1.items k) (λ p. IsNew archive.told calm.value (D.faults (disk_of archive.journal)) r.0 passes (k + 1) archive.book archive.limits p)) }
+        ensures each { IfOk result (λ r. (k : ℕ) → IfSome (slice_get r.1.items k) (λ p. IsNew archive.told sure.value (D.faults (disk_of archive.journal)) r.0 passes (k + 1) archive.book archive.limits p)) }
         ensures err { IfErr result (λ back. back ≡ archive) }
     {
         let Ok(mut room) = Vec::with_capacity(alloc, passes as usize) else {
             return Err(archive);
         };
-        let (published, mut viewers) = match Published::begin(alloc, rt, archive, passes, calm) {
+        let (published, mut viewers) = match Published::begin(alloc, rt, archive, passes, sure) {
             Ok(made) => made,
             Err(archive) => return Err(archive),
         };
@@ -355,10 +356,11 @@ impl<D: Disk> Vault<D> {
 
     /// Takes a last turn, and gives the archive back. Some history begins with all that the pass had seen, and has behind that entries of
     /// other passes alone; the archive has the book and the limits that it tells, and its disk has counted the faults that it tells of; and
-    /// a crash leaves the book alone, if it did so of the archive that was given and no fault was met. May wait, also for readers. Passes that are left can't be used any more.
+    /// of what a crash leaves, what was sure when the archive was given is so: that it is the book alone if no fault was met, and that the finished
+    /// checkpoints are the book's in any case. May wait, also for readers. Passes that are left can't be used any more.
     pub fn close<R: Wait>(self, rt: &R, pass: VaultPass) -> Archive<D>
         requires { pass.known.lock ≡ self }
-        ensures { IsLeft pass.known result.book result.limits result.told (D.faults (disk_of result.journal)) (IsCalm D.Disk result) }
+        ensures { IsLeft pass.known result.book result.limits result.told (D.faults (disk_of result.journal)) (crash_left D.Disk result) }
     {
         let Vault { lock } = self;
         lock.close(rt, pass.into_known()).into_archive(rt)

@@ -15,7 +15,7 @@ use Rattle.vault.specs.History.{by_of, is_told, told_book}
 use Rattle.vault.specs.Noting.{Notes}
 use Rattle.vault.specs.Turns.{Commits}
 use Rattle.vault.specs.declared.noted.Noted.{Noted}
-use Rattle.vault.proofs.CalmLaws.{roomy, store_calm}
+use Rattle.vault.proofs.CalmLaws.{roomy, stays_right, store_calm}
 use Rattle.vault.proofs.CommitLaws.{all_committed}
 use Rattle.vault.proofs.NotingLaws.{noting_from, values}
 use Rattle.vault.proofs.keeping.Keeping.commit.Given.{Over}
@@ -50,6 +50,8 @@ invariant_of-self-2 g c =
       store_calm g.D.Disk (disk_laws g) (values c.self.inside.history.items) noting.added (values c.note_store.new.history.items) c.self.inside.archive
           c.stored-answer.new.archive c.self.invariant.0.begun noting.joined c.self.invariant.2 c.args.by c.args.taken.now c.stored-answer.result.1 grows
           c.stored-answer.result.0 noting.done store,
+      stays_right g.D.Disk (values c.self.inside.history.items) noting.added (values c.note_store.new.history.items) c.self.inside.archive
+          c.stored-answer.new.archive c.self.invariant.0.begun noting.joined grows store.told.crash.kept c.self.invariant.3,
     )
 
 pub returns-clause-adds : goal.returns-clause-adds

@@ -10,7 +10,7 @@ use Rattle.vault.specs.Guarded.{Guarded, KeepsShown}
 use Rattle.vault.specs.History.{by_of, is_told}
 use Rattle.vault.specs.Noting.{failing}
 use Rattle.vault.specs.Turns.{Compares}
-use Rattle.vault.proofs.CalmLaws.{read_calm, roomy}
+use Rattle.vault.proofs.CalmLaws.{read_calm, read_right, roomy}
 use Rattle.vault.proofs.NotingLaws.{joined_by, values}
 use Rattle.vault.proofs.ReadLaws.{all_compared}
 use Rattle.vault.proofs.keeping.Keeping.compare.Given.{Over}
@@ -38,6 +38,9 @@ invariant_of-self-2 g c =
       read_calm g.D.Disk (disk_laws g) (values c.self.inside.history.items) (failing c.args.by (is_look_fault c.compare-answer.result)) (values c.note_fault.new.history.items)
           c.self.inside.archive c.compare-answer.new.self c.self.invariant.0.begun joined c.self.invariant.2
           (ap (λ (held : Holdings _). held.book) c.compare-answer.ensures.only_looks.others) c.compare-answer.ensures.only_looks.unwritten.crash,
+      read_right g.D.Disk (values c.self.inside.history.items) (failing c.args.by (is_look_fault c.compare-answer.result)) (values c.note_fault.new.history.items)
+          c.self.inside.archive c.compare-answer.new.self c.self.invariant.0.begun joined
+          (ap (λ (held : Holdings _). held.book) c.compare-answer.ensures.only_looks.others) c.compare-answer.ensures.only_looks.unwritten.crash c.self.invariant.3,
     )
 
 pub returns-clause-adds : goal.returns-clause-adds

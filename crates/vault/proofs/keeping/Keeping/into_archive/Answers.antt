@@ -1,8 +1,11 @@
--- The archive is as calm as the history says.
+-- What a crash leaves of the archive is as sure as the history says.
 use Rattle.std.proofs.Common.{subst}
-use Rattle.vault.specs.Calm.{StaysCalm}
+use Rattle.vault.specs.Calm.{StaysCalm, StaysRight}
 use Rattle.vault.specs.Guarded.{Guarded}
 use Rattle.vault.proofs.keeping.Keeping.into_archive.Goals as goal
 
 pub returns-clause-calm : goal.returns-clause-calm
 returns-clause-calm g c = subst (λ (kept : Guarded _). StaysCalm g.D.Disk kept.history c.self.inside.archive) c.self.view_is c.self.invariant.2
+
+pub returns-clause-right : goal.returns-clause-right
+returns-clause-right g c = subst (λ (kept : Guarded _). StaysRight g.D.Disk kept.history c.self.inside.archive) c.self.view_is c.self.invariant.3

@@ -11,7 +11,7 @@ use Rattle.vault.specs.Guarded.{Guarded, KeepsShown}
 use Rattle.vault.specs.History.{by_of, is_told}
 use Rattle.vault.specs.Noting.{failing}
 use Rattle.vault.specs.Turns.{GivesIt}
-use Rattle.vault.proofs.CalmLaws.{read_calm, roomy}
+use Rattle.vault.proofs.CalmLaws.{read_calm, read_right, roomy}
 use Rattle.vault.proofs.NotingLaws.{joined_by, values}
 use Rattle.vault.proofs.ReadLaws.{all_given}
 use Rattle.vault.proofs.keeping.Keeping.piece.Given.{Over}
@@ -37,6 +37,9 @@ invariant_of-self-2 g c =
       read_calm g.D.Disk (disk_laws g) (values c.self.inside.history.items) (failing c.args.by (is_bring_fault c.piece-answer.result)) (values c.note_fault.new.history.items)
           c.self.inside.archive c.piece-answer.new.self c.self.invariant.0.begun joined c.self.invariant.2
           c.piece-answer.ensures.reads.stays.seen c.piece-answer.ensures.reads.unwritten.crash,
+      read_right g.D.Disk (values c.self.inside.history.items) (failing c.args.by (is_bring_fault c.piece-answer.result)) (values c.note_fault.new.history.items)
+          c.self.inside.archive c.piece-answer.new.self c.self.invariant.0.begun joined
+          c.piece-answer.ensures.reads.stays.seen c.piece-answer.ensures.reads.unwritten.crash c.self.invariant.3,
     )
 
 pub returns-clause-adds : goal.returns-clause-adds

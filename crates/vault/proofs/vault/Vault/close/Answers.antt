@@ -16,4 +16,5 @@ returns g c = record {
   told_is = c.into_archive.ensures.stands.told;
   counted = c.into_archive.ensures.counted;
   calm = c.into_archive.ensures.calm;
+  right = c.into_archive.ensures.right;
 }

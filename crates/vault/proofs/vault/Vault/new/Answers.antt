@@ -13,9 +13,9 @@ seat_all-requires-clause-listed g c = all_of _ c.in-Ok-new.made.items (λ k.
 
 pub returns-in-Ok-new-clause-each : goal.returns-in-Ok-new-clause-each
 returns-in-Ok-new-clause-each g c = λ k.
-    new_passes c.growth_keeps_captures.ensures.keeps c.args.archive.told c.args.calm.value (g.D.Disk.faults (disk_of c.args.archive.journal)) c.in-Ok-new.lock c.args.passes (k + 1) c.args.archive.book c.args.archive.limits
+    new_passes c.growth_keeps_captures.ensures.keeps c.args.archive.told c.args.sure.value (g.D.Disk.faults (disk_of c.args.archive.journal)) c.in-Ok-new.lock c.args.passes (k + 1) c.args.archive.book c.args.archive.limits
     c.in-Ok-begin.made.0.kept.history c.in-Ok-begin.made.0.print c.tell-listed.result.note c.tell-listed.ensures.note c.in-Ok-begin.ensures.opens
-    c.in-Ok-begin.ensures.told c.in-Ok-begin.ensures.given c.in-Ok-begin.ensures.calm c.in-Ok-begin.ensures.fits.0 c.in-Ok-begin.ensures.fits.2 c.in-Ok-begin.ensures.book.1
+    c.in-Ok-begin.ensures.told c.in-Ok-begin.ensures.given c.in-Ok-begin.ensures.sure c.in-Ok-begin.ensures.fits.0 c.in-Ok-begin.ensures.fits.2 c.in-Ok-begin.ensures.book.1
     c.seat_all.new.room.items c.in-Ok-new.made.items k c.seat_all.ensures.known c.seat_all.ensures.shown (c.in-Ok-new.ensures.each k)
 
 pub returns-in-Err-new-clause-err : goal.returns-in-Err-new-clause-err
