@@ -16,7 +16,7 @@ use std::marker::Brand;
 use std::rt::{Clock, Files};
 use std::sync::Wait;
 use surt_key::{Key, key_of};
-use vault::{At, Naming, Unnamed, Vault, VaultPass};
+use vault::{At, Naming, Sure, Unnamed, Vault, VaultPass};
 
 /// What the archive has.
 const STOCK: Stock = Stock {
@@ -61,8 +61,9 @@ pub fn measure<R: Clock + Files + Print + Wait>(rt: &R, alloc: Global) -> Result
 }
 
 /// It isn't said what a crash may leave of the archive.
-pub(crate) fn not_said<R>(rt: &R) -> Shown<bool>
-    ensures { result.value ≡ false }
+pub(crate) fn not_said<R>(rt: &R) -> Shown<Sure>
+    ensures calm { result.value.calm ≡ false }
+    ensures right { result.value.right ≡ false }
 {
     Shown::told_by(rt)
 }
