@@ -4,7 +4,9 @@ use Rattle.std.specs.Prelude.{IfSome, slice_get}
 use Rattle.std.specs.List.{flat_map, range_with_len, sum_by}
 use Rattle.std.proofs.lemmas.List.Sums.{sum_by-cons}
 use Rattle.std.proofs.lemmas.List.{append-nil, length-append}
+use Rattle.std.proofs.lemmas.Option.{same_Some}
 use Rattle.archive_core.specs.Finished.{IsSettled}
+use Rattle.archive_core.specs.Settling.{KeepsSettled}
 use Rattle.archive_shelf.specs.Contents.{Contents}
 use Rattle.archive_shelf.specs.Openings.{ImageStandsFor, SameBook}
 use Rattle.archive_core.specs.Known.{told_at}
@@ -31,15 +33,15 @@ use Rattle.outside.specs.declared.sink.Sink.{Ghosts as Sinks}
 use Rattle.crew.specs.Crews.{IsEnd, all_hung_up}
 use Rattle.command.specs.Objects.{Kinds, Objects}
 use Rattle.command.proofs.OpeningLaws.{only_one}
-use Rattle.command.proofs.SettlingLaws.{settled_all, settled_faults, settled_from, settled_rose, told_tells}
+use Rattle.command.proofs.SettlingLaws.{settled_all, settled_faults, settled_from, settled_right, settled_rose, told_tells}
 use Rattle.command.specs.Printing.{LacksMemory, Prints}
 use Rattle.command.specs.Settling.{HasSettled, settled_status}
 use Rattle.proxy_run.proofs.CompleteLaws.{not_risen, printed_or_lacked, refused_known}
-use Rattle.proxy_run.proofs.NextLaws.{sound_still, stands_same}
+use Rattle.proxy_run.proofs.NextLaws.{all_next, settled_next, sound_still, stands_same}
 use Rattle.proxy_run.specs.Complete.{IsSteady, NoFaults}
 use Rattle.proxy_run.specs.Pipes.{Refuses}
 use Rattle.proxy_run.proofs.StatusLaws.{memory_told, said_by, settled_well}
-use Rattle.proxy_run.specs.Promises.{AllAreHungUp, AllAreReadOut, AreReadOut, BooksLeadOn, BooksOnlyGrow, CapturesAreStoredOnce, FaultsAreCounted, GatesAreEmptied, IsHeardOut, IsReadOut, LeadTo, LeadsTo, LogsAreInOrder, ServersAreAnswered, ServersLeaveSettled, ServersLeaveTheLast, numbers_of, rounds_in, rounds_of}
+use Rattle.proxy_run.specs.Promises.{AllAreHungUp, AllAreReadOut, AreReadOut, BooksLeadOn, BooksOnlyGrow, CapturesAreStoredOnce, FaultsAreCounted, GatesAreEmptied, IsHeardOut, IsReadOut, LeadTo, LeadsTo, LogsAreInOrder, ServersAreAnswered, ServersCapturesComeBack, ServersLeaveReady, ServersLeaveSettled, ServersLeaveTheLast, ServersWithoutShelvesLeaveReady, numbers_of, rounds_in, rounds_of}
 use Rattle.proxy_run.specs.Runs.{LacksWords}
 use Rattle.proxy_run.specs.Serves.{AreNewcomers, HasShare, LacksShelves, Seat, Serves, all_faults, all_mine, told_by, worst}
 use Rattle.command.specs.Gates.{unheard}
@@ -55,7 +57,7 @@ use Rattle.session.specs.Stopping.{Course, Ends, IsClosed, IsLeftOver}
 use Rattle.session.specs.declared.served.Served.{Served}
 use Rattle.session.specs.declared.served.Served.TheVariants as end
 use Rattle.warc_text.specs.Sound.{IsSound}
-use Rattle.warc_text.specs.StandsFor.{StandsFor}
+use Rattle.warc_text.specs.StandsFor.{FilesStandForNoVolume, FilesStandForOneBook, StandsFor}
 
 -- ---- the last book
 
@@ -415,6 +417,38 @@ module _ {D G L P N M C O : Type 0} (kinds : Kinds D G L P N M C O) where
       let none : all_faults s.seats ≡ 0 = omega (arith, s.disk_faults, steady.same, steady.below, s.opened.same_faults, first, last) in
       let opened = opens_now (muted s.after.tells kinds.disks) (laws_muted kinds.disks s.after.tells laws) s.left at.0 from.0 (s.same_tells ∙ so) from.1 stood in
       stands_last image at.0 s.before.seen s.after.seen (only_one (s.only none ids at.0 opened)) s.shared.grows (s.opened.opened.consistent.sound so) at.1
+
+  pub servers_leave_ready : KeepsSettled → ServersLeaveReady kinds
+  servers_leave_ready stays known namespace site workers was is status s told ids image left =
+      let so : IsTrue s.before.tells = s.opened.opened.same_tells ∙ told in
+      let last : IsTrue s.after.tells = s.same_tells ∙ so in
+      let near = s.near so image left in
+      settled_next namespace image s.after.seen near.0 (s.shared.grows.namespace ∙ s.opened.opened.in_namespace)
+      (sound_still s.before.seen s.after.seen s.shared.grows (s.opened.opened.consistent.sound so)) ids near.2 near.1
+      (settled_right kinds.disks s.after s.left is.disk s.closed.answer s.closed.settles stays (told_tells Checkpoints kinds.disks.tells known told) last (s.right last)
+      image left)
+
+  pub servers_captures_come_back : FilesStandForOneBook → FilesStandForNoVolume → ServersCapturesComeBack kinds
+  servers_captures_come_back one no_volume known asked site workers was is status s told ids image x left stands =
+      let near = s.near (s.opened.opened.same_tells ∙ told) image left in
+      all_next one no_volume image s.after.seen near.0 x ids near.2 near.1 stands
+
+  pub servers_without_shelves_leave_ready : KeepsSettled → ServersWithoutShelvesLeaveReady kinds
+  servers_without_shelves_leave_ready stays known namespace was is status lacks told ids image left =
+      let so : IsTrue lacks.before.tells = lacks.opened.opened.same_tells ∙ told in
+      let tells = told_tells Checkpoints kinds.disks.tells known told in
+      let from = settled_from kinds.disks lacks.before lacks.ready is.disk lacks.closed.answer lacks.closed.settles tells image left in
+      let stood = (lacks.opened.left so from.0 from.1).stands in
+      record {
+        book = lacks.before.seen;
+        settled = record {
+          stands = record { for = subst (λ (files : List (List ℕ)). StandsFor files lacks.before.seen) (sym from.2) stood.for; sound = stood.sound };
+          ids = ids;
+          checkpoints = settled_right kinds.disks lacks.before lacks.ready is.disk lacks.closed.answer lacks.closed.settles stays tells so
+              (λ before then. (lacks.opened.left so before then).checkpoints) image left;
+        };
+        asked_for = λ ns is. lacks.opened.opened.in_namespace ∙ same_Some namespace ns is;
+      }
 
   server_answered : (known : Option Book) (namespace : List ℕ) (site : Site) (workers : ℕ) (was is : Objects D G (List (N × C)) O) (status : Status)
       → IsTrue (told_at Checkpoints kinds.disks.tells known) → NoFaults kinds was is

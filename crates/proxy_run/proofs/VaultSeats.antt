@@ -7,6 +7,7 @@ use Rattle.std.proofs.lemmas.List.Concat.{length-flat_map}
 use Rattle.std.proofs.lemmas.List.Elements.{All-from_recursion, recursion_from_All}
 use Rattle.std.proofs.lemmas.List.Sums.{sum_by-cons}
 use Rattle.archive_core.specs.Holdings.{Holdings}
+use Rattle.archive_opening.specs.Telling.{HasCheckpointsOf}
 use Rattle.archive_shelf.specs.Contents.{Contents}
 use Rattle.archive_shelf.specs.Openings.{HasIds, IsState}
 use Rattle.archive_volumes.proofs.ChangeLaws.{DiskLaws, laws_muted, now_image, one_of}
@@ -162,8 +163,10 @@ module _ {D G L P N M C O : Type 0} (kinds : Kinds D G L P N M C O) (known : Opt
       → ServesAll false told_at (record { site = site; clock_tells = kinds.clocks.tells }) (kinds.gates.connections was.gate) (kinds.gates.connections is.gate)
       (hands_of kinds.dialers kinds.clocks starts was.crew) (hands_of kinds.dialers kinds.clocks seats is.crew))
       → IsEnd (kinds.gates.closed is.gate) (kinds.gates.faults was.gate) (kinds.gates.faults is.gate) said
-      → IsLeftByAll vault (map known_of seats) after.seen after.limits after.tells (kinds.disks.faults left)
-      (HasIds after.seen → IsState (crash_of (muted after.tells kinds.disks) left) after.seen None)
+      → IsLeftByAll vault (map known_of seats) after.seen after.limits after.tells (kinds.disks.faults left) (record {
+        calm = HasIds after.seen → IsState (crash_of (muted after.tells kinds.disks) left) after.seen None;
+        right = IsTrue after.tells → Leaves (kinds.disks.images left) (λ image. HasCheckpointsOf image after.seen);
+      })
       → (counted : Status) → TellsCount kinds.sinks (length (captures after.seen)) said was.out is.out counted
       → (status : Status) → ClosesSettled kinds.disks after left counted is.disk status → (IsTrue after.tells → OpensNear kinds.disks is.disk after.seen)
       → drop vault.passes is.crew ≡ drop vault.passes was.crew → Serves kinds known asked site vault.passes was is status
@@ -197,6 +200,7 @@ module _ {D G L P N M C O : Type 0} (kinds : Kinds D G L P N M C O) (known : Opt
         told = tells;
         closed = closed;
         only = λ none. of_all.calm name.calm (sym (faults_as seats) ∙ none);
+        right = of_all.right name.right;
         near = λ t. near (same ∙ t);
         others = others;
       }

@@ -11,12 +11,13 @@ use Rattle.capture.specs.Growth.{Grows}
 use Rattle.capture.specs.declared.book.Book.{Book}
 use Rattle.capture.specs.declared.site.Site.{Site}
 use Rattle.disk_model.specs.Crash.{Leaves}
+use Rattle.disk_model.specs.Image.{Image}
 use Rattle.link_queue.specs.Serving.{all_of}
 use Rattle.outside.specs.declared.gate.Heard.{Heard}
 use Rattle.command.specs.Objects.{Kinds, Objects}
-use Rattle.proxy_run.specs.Complete.{IsLeftSettled, IsSteady, NoFaults}
+use Rattle.proxy_run.specs.Complete.{HoldsAll, IsLeftSettled, IsReadied, IsSteady, NoFaults}
 use Rattle.proxy_run.specs.Runs.{Runs}
-use Rattle.proxy_run.specs.Serves.{Serves, told_by}
+use Rattle.proxy_run.specs.Serves.{LacksShelves, Serves, told_by}
 use Rattle.crew.specs.Shifts.{AreShifts, Hand, IsShift, hands_of}
 use Rattle.command.specs.Texts.{captures_line}
 use Rattle.command.specs.declared.status.Status.{Status}
@@ -25,6 +26,7 @@ use Rattle.command.specs.declared.words.Command.TheVariants.{Serve}
 use Rattle.session.specs.Connection.{Setting}
 use Rattle.session.specs.Gains.{gains_of}
 use Rattle.session.specs.Rounds.{Round, disk_faults, is_closed, lacks}
+use Rattle.warc_text.specs.StandsFor.{IdsDifferIn}
 
 -- What the client gave was read to its end, or to the answer that closes, unless its link failed or memory ran out.
 abbrev pub IsHeardOut : Heard → List Round → Type 0
@@ -171,6 +173,28 @@ module _ {D G L P N M C O : Type 0} (kinds : Kinds D G L P N M C O) where
       (s : Serves kinds known asked site workers was is status) → IsTrue (told_at Checkpoints kinds.disks.tells known)
       → IsSteady (kinds.disks.faults was.disk) (kinds.disks.faults is.disk) → HasIds s.after.seen
       → Leaves (kinds.disks.images is.disk) (λ image. ImageStandsFor image s.after.seen)
+
+  -- Each image that a server may leave, and so what a read gives, is settled for a book that the next run may know, where the ids differ.
+  abbrev pub ServersLeaveReady : Type 0
+  ServersLeaveReady =
+      (known : Option Book) (namespace : List ℕ) (site : Site) (workers : ℕ) (was is : Objects D G (List (N × C)) O) (status : Status)
+      (s : Serves kinds known (Some namespace) site workers was is status) → IsTrue (told_at Checkpoints kinds.disks.tells known) → HasIds s.after.seen
+      → (image : Image) → kinds.disks.images is.disk image → IsReadied (Some namespace) image
+
+  -- What was stored comes back: each book for which such an image stands, as the next run may know it, holds all captures of the last book in order, and
+  -- one more at most.
+  abbrev pub ServersCapturesComeBack : Type 0
+  ServersCapturesComeBack =
+      (known : Option Book) (asked : Option (List ℕ)) (site : Site) (workers : ℕ) (was is : Objects D G (List (N × C)) O) (status : Status)
+      (s : Serves kinds known asked site workers was is status) → IsTrue (told_at Checkpoints kinds.disks.tells known) → HasIds s.after.seen
+      → (image : Image) (x : Book) → kinds.disks.images is.disk image → ImageStandsFor image x → HoldsAll s.after.seen x
+
+  -- Each image that one may leave for whose shelves there was no memory is settled so too.
+  abbrev pub ServersWithoutShelvesLeaveReady : Type 0
+  ServersWithoutShelvesLeaveReady =
+      (known : Option Book) (namespace : List ℕ) (was is : Objects D G (List (N × C)) O) (status : Status)
+      (lacks : LacksShelves kinds known (Some namespace) was is status) → IsTrue (told_at Checkpoints kinds.disks.tells known)
+      → IdsDifferIn lacks.before.seen → (image : Image) → kinds.disks.images is.disk image → IsReadied (Some namespace) image
 
   -- Where nothing failed and the book is known, it goes well, or memory ran out.
   abbrev pub ServersAreAnswered : Type 0

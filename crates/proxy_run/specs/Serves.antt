@@ -2,6 +2,7 @@
 use Rattle.std.specs.Prelude.{◌≡◌, ◌⊎◌, ℕ, ◌+◌, List, [], ◌∷◌, false, drop, length, slice_get, IfSome, IsTrue, IsPermutation, Option, None}
 use Rattle.std.specs.List.{flat_map, range_with_len, sum_by}
 use Rattle.std.specs.List.Sorted.{IsStrictlyIncreasing}
+use Rattle.archive_opening.specs.Telling.{HasCheckpointsOf}
 use Rattle.archive_shelf.specs.Contents.{Contents}
 use Rattle.archive_shelf.specs.Openings.{HasIds, IsState}
 use Rattle.archive_shelf.specs.Told.{Told}
@@ -12,6 +13,7 @@ use Rattle.capture.specs.Growth.{Grows}
 use Rattle.capture.specs.declared.book.Book.{Book}
 use Rattle.capture.specs.declared.site.Site.{Site}
 use Rattle.cdxj_index.specs.OfBook.{AreEntries}
+use Rattle.disk_model.specs.Crash.{Leaves}
 use Rattle.disk_model.specs.Image.{no_files}
 use Rattle.outside.specs.declared.sink.Sink.{Ghosts as Sinks}
 use Rattle.crew.specs.Crews.{IsEnd, ServesAll}
@@ -114,6 +116,8 @@ module _ {D G L P N M C O : Type 0} (kinds : Kinds D G L P N M C O) (known : Opt
     pub closed : ClosesSettled kinds.disks after left counted is.disk status
     -- where the members met no fault of the disk and ids differ, only the last book may be opened of what they leave
     pub only : all_faults seats ≡ 0 → HasIds after.seen → IsState (crash_of (muted after.tells kinds.disks) left) after.seen None
+    -- where the book is told, the finished checkpoints of each image that they leave are those of the last book
+    pub right : IsTrue after.tells → Leaves (kinds.disks.images left) (λ image. HasCheckpointsOf image after.seen)
     pub near : IsTrue before.tells → OpensNear kinds.disks is.disk after.seen
     pub others : drop workers is.crew ≡ drop workers was.crew
 

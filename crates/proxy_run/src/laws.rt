@@ -2,7 +2,7 @@
 ghost use Rattle.proxy_run.specs.Complete.{CapturesComeBack, ChecksAreAnswered, FollowsAreAnswered, FollowsLeaveReady, ImportsAreAnswered, ImportsLeaveReady, PipesAreAnswered, PipesLeaveReady, PipesLeaveSettled, PipesLeaveTheLast, PipesPassOn};
 ghost use Rattle.command.specs.Objects.{kinds_of};
 ghost use Rattle.proxy_run.specs.OnePipe.{PipesLeaveNoChoice};
-ghost use Rattle.proxy_run.specs.Promises.{AllAreHungUp, AllAreReadOut, BooksLeadOn, BooksOnlyGrow, CapturesAreStoredOnce, FaultsAreCounted, GatesAreEmptied, LogsAreInOrder, ServersAreAnswered, ServersLeaveSettled, ServersLeaveTheLast};
+ghost use Rattle.proxy_run.specs.Promises.{AllAreHungUp, AllAreReadOut, BooksLeadOn, BooksOnlyGrow, CapturesAreStoredOnce, FaultsAreCounted, GatesAreEmptied, LogsAreInOrder, ServersAreAnswered, ServersCapturesComeBack, ServersLeaveReady, ServersLeaveSettled, ServersLeaveTheLast, ServersWithoutShelvesLeaveReady};
 ghost use Rattle.proxy_run.specs.Verified.{SoundVolumesVerify, VerifiesAreAnswered, VolumesVerifyOneWay};
 
 use archive_core::settling_keeps_checkpoints_right;
@@ -76,4 +76,17 @@ pub fn servers_keep_their_promise<D: Disk, G: Gate, N: Dialer, C: Clock, O: Sink
     ensures answered { ServersAreAnswered (kinds_of D.Disk G.Gate N.Dialer C.Clock O.Sink G.Link.tells N.Link.tells) }
 {
     courses_only_grow();
+}
+
+/// Each image that a server of many clients may leave, and so what a read of its disk gives, is settled for a book that the next run may know, where the book is told
+/// and the ids of the last one differ, and that of one more: whether the disk failed or not, whatever the links tell, and also where there was no memory
+/// for its shelves. That book holds all captures of the last one in order, and one more at most. So of runs one after the other, of which some are servers, each is
+/// concluded from the one before.
+pub fn servers_leave_ready<D: Disk, G: Gate, N: Dialer, C: Clock, O: Sink>()
+    ensures served { ServersLeaveReady (kinds_of D.Disk G.Gate N.Dialer C.Clock O.Sink G.Link.tells N.Link.tells) }
+    ensures back { ServersCapturesComeBack (kinds_of D.Disk G.Gate N.Dialer C.Clock O.Sink G.Link.tells N.Link.tells) }
+    ensures without_shelves { ServersWithoutShelvesLeaveReady (kinds_of D.Disk G.Gate N.Dialer C.Clock O.Sink G.Link.tells N.Link.tells) }
+{
+    files_stand_for_one_book();
+    settling_keeps_checkpoints_right();
 }

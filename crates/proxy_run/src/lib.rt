@@ -18,6 +18,6 @@ mod verifying;
 pub use command::{Known, Unknown};
 pub use laws::{
     pipes_leave_no_choice, ready_archives_are_served, servers_keep_their_promise,
-    sound_archives_verify,
+    servers_leave_ready, sound_archives_verify,
 };
 pub use running::{CREW, Crew, run, run_known};

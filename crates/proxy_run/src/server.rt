@@ -11,7 +11,7 @@ ghost use Rattle.proxy_run.specs.Pipes.{Refuses};
 ghost use Rattle.proxy_run.specs.Serves.{LacksShelves, Serves};
 ghost use Rattle.command.specs.Words as spec;
 ghost use Rattle.proxy_run.specs.steps.Seating.{IsNameOf};
-ghost use Rattle.vault.specs.Calm.{IsCalm};
+ghost use Rattle.vault.specs.Calm.{HasRightCheckpoints, IsCalm};
 ghost use Rattle.warc_journal.specs.Journals.{disk_of};
 ghost use Rattle.warc_text.specs.Ids.{IsUuid};
 
@@ -27,7 +27,7 @@ use std::alloc::Global;
 use std::marker::Brand;
 use std::sync::Wait;
 use std::thread::Threads;
-use vault::{Naming, Unnamed};
+use vault::{Naming, Sure, Unnamed};
 
 /// What the words ask a server for.
 pub struct Service<'a> {
@@ -83,8 +83,8 @@ where
         Ok(archive) => archive,
         Err(ran) => return ran,
     };
-    let calm = left_calm(&archive);
-    match Unnamed::new(alloc, rt, archive, workers, calm) {
+    let sure = left_sure(&archive);
+    match Unnamed::new(alloc, rt, archive, workers, sure) {
         Ok(unnamed) => {
             serve_named::<R, D, G, N, C, O, Brand>(rt, alloc, unnamed, site, gate, crew, out)
         }
@@ -92,11 +92,12 @@ where
     }
 }
 
-/// That a crash leaves the archive's book alone, where each image that is left stands for it.
-fn left_calm<D: Disk>(archive: &Archive<D>) -> Shown<bool>
+/// That a crash leaves the archive's book alone, and its checkpoints, where each image that is left stands for it and has these.
+fn left_sure<D: Disk>(archive: &Archive<D>) -> Shown<Sure>
     requires { IsTrue archive.now.told → Leaves (D.images (disk_of archive.now.journal)) (IsOf archive.now.book) }
-    ensures value { result.value ≡ true }
+    ensures value { result.value ≡ record { calm = true; right = true } }
     ensures calm { IsCalm D.Disk archive.now }
+    ensures right { HasRightCheckpoints D.Disk archive.now }
 {
     Shown::told_by(archive)
 }

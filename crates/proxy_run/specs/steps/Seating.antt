@@ -3,10 +3,12 @@ use Rattle.std.specs.Prelude.{◌≡◌, ◌≤◌, ℕ, IsTrue}
 use Rattle.archive_shelf.specs.Contents.{Contents}
 use Rattle.vault.specs.Members.{VaultName}
 
--- The vault was given an archive of which this is told, whose disk had counted so many faults, and of which a crash left its book alone.
+-- The vault was given an archive of which this is told, whose disk had counted so many faults, and of which a crash left its book alone and
+-- no finished checkpoints but that book's.
 pub record IsNameOf (vault : VaultName) (now : Contents) (faults : ℕ) : Type 0 where
   pub book : vault.book ≡ now.seen
   pub limits : vault.limits ≡ now.limits
   pub tells : vault.tells ≡ now.tells
   pub met : faults ≤ vault.faults
-  pub calm : IsTrue vault.calm
+  pub calm : IsTrue vault.sure.calm
+  pub right : IsTrue vault.sure.right

@@ -8,6 +8,7 @@ use Rattle.proxy_run.specs.Serves.{Serves}
 use Rattle.command.specs.Words.{asked_of}
 use Rattle.command.specs.declared.status.Status.TheVariants.{Memory}
 use Rattle.proxy_run.specs.steps.Seating.{IsNameOf}
+use Rattle.vault.specs.declared.noted.Sure.{Sure}
 use Rattle.proxy_run.proofs.server.serve_many.Goals as goal
 
 pub open_and_settle-requires-clause-uuid : goal.open_and_settle-requires-clause-uuid
@@ -16,11 +17,14 @@ open_and_settle-requires-clause-uuid g c = rw c.asked_of.ensures c.requires.uuid
 pub open_and_settle-requires-clause-known : goal.open_and_settle-requires-clause-known
 open_and_settle-requires-clause-known g c = rw c.asked_of.ensures c.requires.known
 
-pub left_calm-calm-requires : goal.left_calm-calm-requires
-left_calm-calm-requires g c = c.in-Ok.ensures.opened.left
+pub left_sure-sure-requires : goal.left_sure-sure-requires
+left_sure-sure-requires g c = c.in-Ok.ensures.opened.left
 
 pub new-requires-clause-calm : goal.new-requires-clause-calm
-new-requires-clause-calm g c = λ told. c.left_calm-calm.ensures.calm
+new-requires-clause-calm g c = λ sure. c.left_sure-sure.ensures.calm
+
+pub new-requires-clause-right : goal.new-requires-clause-right
+new-requires-clause-right g c = λ sure. c.left_sure-sure.ensures.right
 
 pub returns-in-Err : goal.returns-in-Err
 returns-in-Err g c = inr (inr (record { refused = rw c.asked_of.ensures at c.in-Err.ensures.refused; untouched = refl }))
@@ -32,12 +36,14 @@ returns-in-Ok-new g c =
     let asked = asked_of c.args.service.command in
     let is = objects_of c.serve_named.result.disk c.serve_named.new.gate c.serve_named.new.crew.items c.serve_named.new.out in
     let given = c.in-Ok-new.ensures.archive in
+    let sure = c.in-Ok-new.ensures.sure ∙ c.left_sure-sure.ensures.value in
     let name : IsNameOf c.in-Ok-new.unnamed (contents_of c.in-Ok.archive) (g.D.Disk.faults (disk_of c.in-Ok.archive.journal)) = record {
       book = given.0;
       limits = given.1;
       tells = given.2;
       met = omega (arith, given.3);
-      calm = c.in-Ok-new.ensures.calm ∙ c.left_calm-calm.ensures.value;
+      calm = ap (λ (s : Sure). s.calm) sure;
+      right = ap (λ (s : Sure). s.right) sure;
     } in
     let served = c.serve_named.ensures known asked c.args.disk (contents_of c.in-Ok.archive) (disk_of c.in-Ok.archive.journal)
     (rw c.asked_of.ensures at c.in-Ok.ensures.opened) name in
