@@ -4,6 +4,7 @@ pub mod Blocks
 pub mod FirstOpenings
 pub mod Forms
 pub mod Groups
+pub mod Headed
 pub mod InfoParts
 pub mod Infos
 pub mod OpenValues

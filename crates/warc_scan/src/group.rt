@@ -1,5 +1,6 @@
 //! The group of a capture, as it stands in a volume.
 use capture::{Digest, Stored, Text};
+use http_wire::ResponseHead;
 use uuid::Uuid;
 
 /// The record that a revisit refers to, as its fields tell (ISO 28500, sections 5.11 and 6.7.2).
@@ -35,4 +36,13 @@ pub struct Group {
     pub first_len: u64,
     /// The length of the group.
     pub len: u64,
+}
+
+/// A group, with the parts of its response's head, which are read to find it.
+#[derive(Debug, PartialEq, Eq, Drop)]
+pub struct HeadedGroup {
+    /// The group.
+    pub group: Group,
+    /// The parts of the head.
+    pub head: ResponseHead,
 }

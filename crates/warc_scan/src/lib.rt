@@ -26,14 +26,14 @@ mod strip;
 mod wire_digest;
 
 pub use cut::told_len;
-pub use group::{Group, Revisited};
+pub use group::{Group, HeadedGroup, Revisited};
 pub use group_step::GroupStep;
 pub use info_step::InfoStep;
 pub use no_record::NoRecord;
 pub use opening::Opening;
 pub use opening_parts::Refers;
 pub use outline::Outline;
-pub use scan_group::next_group;
+pub use scan_group::{next_group, next_headed_group};
 pub use scan_info::next_info;
 pub use scan_opening::{FirstOpening, next_opening};
 pub use scan_outline::next_outline;

@@ -1,13 +1,14 @@
 //! Finds the group of a capture in a volume.
-ghost use Rattle.std.specs.Prelude.{◌≡◌, IfOk};
-ghost use Rattle.warc_scan.specs.Asking.{AsksForGroup};
+ghost use Rattle.std.specs.Prelude.{◌≡◌, IfErr, IfOk};
+ghost use Rattle.warc_scan.specs.Asking.{AsksForGroup, AsksForMore};
 ghost use Rattle.warc_scan.specs.steps.Founds.{HasMessages, IsFound, IsGroupIn, no_group_by};
-ghost use Rattle.warc_scan.specs.Answers.{TellsGroup};
+ghost use Rattle.warc_scan.specs.Answers.{BeginsWithGroup, TellsGroup, TellsNoGroup};
+ghost use Rattle.warc_scan.specs.Headed.{HasItsHead};
 
 use crate::answer::Answer;
 use crate::copy::{copy_bytes, copy_kept, copy_revisited, copy_target};
 use crate::find::{Found, RECORD_END, Read, read_first};
-use crate::{Group, GroupStep, NoRecord};
+use crate::{Group, GroupStep, HeadedGroup, NoRecord};
 use capture::{Memory, Stored, Text};
 use std::alloc::Global;
 use uuid::Uuid;
@@ -25,20 +26,39 @@ pub fn next_group(
     ensures tells { TellsGroup namespace.now number more bytes.now result }
     ensures asks { AsksForGroup namespace.now number bytes.now result }
 {
+    match next_headed_group(alloc, bytes, more, namespace, number) {
+        Ok(read) => {
+            let HeadedGroup { group, head: _ } = read;
+            GroupStep::Group(group)
+        }
+        Err(why) => no_group(why),
+    }
+}
+
+/// The same, with the parts of the response's head, or why there is no group.
+pub fn next_headed_group(
+    alloc: Global,
+    bytes: &[u8],
+    more: bool,
+    namespace: &Uuid,
+    number: u32,
+) -> Result<HeadedGroup, NoRecord>
+    ensures ok { IfOk result (λ read. BeginsWithGroup namespace.now number bytes.now read.group) }
+    ensures head { IfOk result HasItsHead }
+    ensures none { IfErr result (TellsNoGroup namespace.now number more bytes.now) }
+    ensures asks { IfErr result (AsksForMore namespace.now number bytes.now) }
+{
     // A `?` on a result that holds an id isn't covered.
     let read = match read_first(alloc, bytes, more, namespace, number) {
         Ok(read) => read,
-        Err(why) => return no_group(why),
+        Err(why) => return Err(why),
     };
     let Read {
         found,
         method,
         answer,
     } = read;
-    match group_of(alloc, number, &found, method, answer) {
-        Ok(group) => GroupStep::Group(group),
-        Err(Memory) => GroupStep::Memory,
-    }
+    Ok(group_of(alloc, number, &found, method, answer)?)
 }
 
 /// The step that tells no group.
@@ -61,10 +81,11 @@ fn group_of(
     found: &Found<'_>,
     method: Text,
     answer: Answer<'_>,
-) -> Result<Group, Memory>
+) -> Result<HeadedGroup, Memory>
     requires found { IsFound found.now }
     requires messages { HasMessages found.now method answer }
-    ensures { IfOk result (IsGroupIn number found.now) }
+    ensures group { IfOk result (λ read. IsGroupIn number found.now read.group) }
+    ensures head { IfOk result HasItsHead }
 {
     let head_at = found.first_len - RECORD_END - found.answer.len() as u64;
     let body_at = head_at + answer.head.len() as u64;
@@ -72,15 +93,15 @@ fn group_of(
     let uri = copy_target(alloc, found.opening.uri)?;
     let request = copy_bytes(alloc, found.request)?;
     let kept = copy_kept(alloc, &answer)?;
-    let parsed = answer.parsed;
-    Ok(Group {
+    let head = copy_bytes(alloc, answer.head)?;
+    let group = Group {
         number,
         stored: Stored {
             method,
             uri,
             date: found.opening.date,
             request,
-            head: parsed.text,
+            head,
             kept,
         },
         digest: found.opening.digest,
@@ -90,5 +111,9 @@ fn group_of(
         body_at,
         first_len: found.first_len,
         len: found.len,
+    };
+    Ok(HeadedGroup {
+        group,
+        head: answer.parsed,
     })
 }

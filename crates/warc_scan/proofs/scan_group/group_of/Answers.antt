@@ -1,4 +1,5 @@
-use Rattle.std.proofs.Common.{length, refl, sym, ap, subst, arith}
+use Rattle.std.proofs.Common.{List, ℕ, length, refl, sym, ap, subst, arith}
+use Rattle.http_head.specs.Heads.{HoldsResponse}
 use Rattle.warc_scan.specs.steps.Responses.{IsAnswerOf, kept_by}
 use Rattle.warc_scan.specs.Groups.{HasPayloadLen}
 use Rattle.warc_scan.proofs.TargetAscii.{revisited_target}
@@ -7,15 +8,15 @@ use Rattle.warc_scan.proofs.scan_group.group_of.Goals as goal
 pub copy_revisited-requires : goal.copy_revisited-requires
 copy_revisited-requires c = revisited_target c.args.found.now.opening.same c.requires.found.opening.refers
 
-pub returns : goal.returns
-returns c =
+pub returns-clause-group : goal.returns-clause-group
+returns-clause-group c =
     let found = c.args.found.now in
     let method = c.args.method in
     let answer = c.args.answer in
     let kept = kept_by answer.form answer.wire.now in
     let is = c.requires.messages.answer_is in
-    let text = answer.parsed.text in
-    let heads = is.parsed.1.text_is in
+    let text = c.in_ok-head.head in
+    let heads = c.in_ok-head.ensures in
     record {
       number_is = refl;
       date = refl;
@@ -35,3 +36,7 @@ returns c =
       head_at = omega (arith, c.requires.found.places);
       body_at = omega (arith, ap length heads);
     }
+
+pub returns-clause-head : goal.returns-clause-head
+returns-clause-head c =
+    subst (λ (h : List ℕ). HoldsResponse h c.args.answer.parsed) (sym c.in_ok-head.ensures) c.requires.messages.answer_is.parsed
