@@ -25,7 +25,8 @@ info_fits volume bytes namespace born len begins = record { text = begins.text; 
 
 -- it fits where there is more room
 pub fits_more : (namespace : List ℕ) (number room more : ℕ) (next : NextGroup) → room ≤ more → FitsGroup namespace number room next → FitsGroup namespace number more next
-fits_more namespace number room more (next_group.Group group) within has = record { text = has.text; is = has.is; fits = omega (arith, has.fits, within) }
+fits_more namespace number room more (next_group.Group read) within has =
+    (record { text = has.0.text; is = has.0.is; fits = omega (arith, has.0.fits, within) }, has.1)
 fits_more namespace number room more next_group.Nothing within has = tt
 fits_more namespace number room more next_group.Tail within has = tt
 fits_more namespace number room more next_group.Damaged within has = tt

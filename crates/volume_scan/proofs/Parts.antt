@@ -100,9 +100,9 @@ module _ {D : Type 0} (d : Ghosts D) where
       }) keeps.position;
       read = λ told. f.read told ∙ ap (λ (l : List (List ℕ)). l ++ f.text ∷ []) (texts_same told);
     }
-    finds_from (Group place group) f = record {
+    finds_from (Group place read) f = record {
       text = f.text;
-      is = subst (λ (p : Position). IsGroup p.namespace p.captures f.text group) keeps.position f.is;
+      is = subst (λ (p : Position). IsGroup p.namespace p.captures f.text read.group) keeps.position f.is;
       volume = f.volume ∙ ap (λ (p : Position). p.extent.volumes) keeps.position;
       at = f.at ∙ ap (λ (p : Position). p.extent.end) keeps.position;
       len = f.len;

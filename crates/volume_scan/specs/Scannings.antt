@@ -10,6 +10,7 @@ use Rattle.warc_journal.specs.Texts.{Hold, with_more}
 use Rattle.warc_journal.specs.declared.extent.Further.TheVariants.{Absent}
 use Rattle.warc_journal.specs.declared.place.Place.{Place}
 use Rattle.warc_scan.specs.Groups.{IsGroup}
+use Rattle.warc_scan.specs.Headed.{HasItsHead}
 use Rattle.warc_scan.specs.Infos.{IsInfo}
 use Rattle.warc_scan.specs.declared.group.Group.{Group as GroupFound}
 use Rattle.volume_scan.specs.Damage.{IsDamagedAt}
@@ -143,8 +144,14 @@ pub record Ends {D : Type 0} (d : Ghosts D) (old new : Scanning D) : Type 0 wher
 -- what a step that answers Ok says
 abbrev pub Finds : {D : Type 0} → Ghosts D → Scanning D → Scanning D → Found → Type 0
 Finds d old new (Info volume namespace born) = BeginsOne d old new volume namespace born
-Finds d old new (Group place group) = GoesOnWith d old new place group
+Finds d old new (Group place read) = GoesOnWith d old new place read.group
 Finds d old new End = Ends d old new
+
+-- a group comes with the parts of its response's head
+abbrev pub IsHeaded : Found → Type 0
+IsHeaded (Info volume namespace born) = ⊤
+IsHeaded (Group place read) = HasItsHead read
+IsHeaded End = ⊤
 
 -- damage is answered where it is
 abbrev pub IsDamage : {D : Type 0} → Ghosts D → Scanning D → ScanFault → Type 0

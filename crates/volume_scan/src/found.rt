@@ -1,7 +1,7 @@
 //! What a step finds.
 use uuid::Uuid;
 use warc_journal::Place;
-use warc_scan::Group;
+use warc_scan::HeadedGroup;
 
 /// What stands next in the volumes.
 #[derive(Debug, PartialEq, Eq, Drop)]
@@ -19,8 +19,8 @@ pub enum Found {
     Group {
         /// Where its group stands.
         place: Place,
-        /// The group.
-        group: Group,
+        /// The group, with the parts of its response's head.
+        read: HeadedGroup,
     },
     /// Nothing: all volumes were read.
     End,

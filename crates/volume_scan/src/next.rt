@@ -4,13 +4,13 @@ ghost use Rattle.volume_scan.specs.steps.Next.{Asks, FitsGroup, FitsInfo, IsNext
 
 use std::alloc::Global;
 use uuid::Uuid;
-use warc_scan::{Group, GroupStep, InfoStep, next_group, next_info};
+use warc_scan::{HeadedGroup, InfoStep, NoRecord, next_headed_group, next_info};
 
 /// What stands behind the text that was read of a volume.
 #[derive(Debug, Drop)]
 pub enum NextGroup {
     /// This group.
-    Group(Group),
+    Group(HeadedGroup),
     /// Nothing.
     Nothing,
     /// A tail, as a stop leaves it.
@@ -62,12 +62,12 @@ pub fn judge_group(
     ensures unsaid { IfErr result (Asks (length bytes.now) room) }
 {
     let more = (bytes.len() as u64) < room;
-    match next_group(alloc, bytes, more, namespace, number) {
-        GroupStep::Group(group) => Ok(NextGroup::Group(group)),
-        GroupStep::End => Ok(NextGroup::Nothing),
-        GroupStep::Unfinished => Ok(NextGroup::Tail),
-        GroupStep::Damaged => Ok(NextGroup::Damaged),
-        GroupStep::Need(n) => {
+    match next_headed_group(alloc, bytes, more, namespace, number) {
+        Ok(read) => Ok(NextGroup::Group(read)),
+        Err(NoRecord::End) => Ok(NextGroup::Nothing),
+        Err(NoRecord::Unfinished) => Ok(NextGroup::Tail),
+        Err(NoRecord::Damaged) => Ok(NextGroup::Damaged),
+        Err(NoRecord::Need(n)) => {
             if n <= room {
                 Err(Unsaid::Need(n))
             } else {
@@ -75,7 +75,7 @@ pub fn judge_group(
                 Ok(NextGroup::Damaged)
             }
         }
-        GroupStep::Memory => Err(Unsaid::Memory),
+        Err(NoRecord::Memory) => Err(Unsaid::Memory),
     }
 }
 

@@ -13,7 +13,7 @@ use disk_model::Disk;
 use std::alloc::Global;
 use uuid::Uuid;
 use warc_journal::{Journal, Place};
-use warc_scan::Group;
+use warc_scan::{Group, HeadedGroup};
 
 /// The group with this number that stands at a place of a volume's file. No more is read than the place has, which may be
 /// more than the group. `Damaged`, with the place: no such group stands there.
@@ -60,7 +60,10 @@ fn group_in(
         place: place.at,
     };
     match judge_group(alloc, bytes, place.len, namespace, number) {
-        Ok(NextGroup::Group(group)) => Ok(group),
+        Ok(NextGroup::Group(read)) => {
+            let HeadedGroup { group, head: _ } = read;
+            Ok(group)
+        }
         Ok(NextGroup::Nothing) => Err(damaged),
         Ok(NextGroup::Tail) => Err(damaged),
         Ok(NextGroup::Damaged) => Err(damaged),

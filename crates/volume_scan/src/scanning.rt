@@ -6,7 +6,7 @@ ghost use Rattle.disk_model.specs.Crash.{Leaves};
 ghost use Rattle.warc_journal.specs.Extents.{warc_files};
 ghost use Rattle.warc_journal.specs.Journals.{IsInStep, Rests, disk_of as disk_of_journal, extent_of as extent_of_journal, texts as texts_of_journal};
 ghost use Rattle.warc_journal.specs.Texts.{Hold, with_more};
-ghost use Rattle.volume_scan.specs.Scannings.{CountsDisk, Finds, IsDamage, IsInPlace, begins_at, captures_of, disk_of, file_count, files_in, position_of, texts};
+ghost use Rattle.volume_scan.specs.Scannings.{CountsDisk, Finds, IsDamage, IsHeaded, IsInPlace, begins_at, captures_of, disk_of, file_count, files_in, position_of, texts};
 ghost use Rattle.volume_scan.specs.Unread.{unread};
 ghost use Rattle.volume_scan.specs.declared.position.Stage.TheVariants.{Opened, Skipped as Skips, Done as IsDone};
 
@@ -99,6 +99,7 @@ impl<D: Disk> Scanning<D> {
         requires in_place { IsInPlace D.Disk self.old }
         requires fewer { captures_of self.old < 2 ^ 32 - 1 }
         ensures finds { IfOk result (Finds D.Disk self.old self.new) }
+        ensures headed { IfOk result IsHeaded }
         ensures damage { IfErr result (IsDamage D.Disk self.old) }
         ensures stays { OnErr result (position_of self.new ≡ position_of self.old) }
         ensures in_place { IsInPlace D.Disk self.new }

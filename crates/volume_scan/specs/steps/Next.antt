@@ -3,6 +3,7 @@ use Rattle.std.specs.Prelude.{◌≡◌, ◌<◌, ◌≤◌, ℕ, List, [], ⊤}
 use Rattle.capture.specs.Tails.{IsCommitted, IsTail}
 use Rattle.warc_scan.specs.Infos.{IsInfo}
 use Rattle.warc_scan.specs.Answers.{BeginsWithGroup, BeginsWithInfo}
+use Rattle.warc_scan.specs.Headed.{HasItsHead}
 use Rattle.warc_scan.specs.declared.group.Group.{Group as GroupFound}
 use Rattle.warc_text.specs.StandsFor.{commit_byte}
 use Rattle.volume_scan.specs.declared.next.NextGroup.{NextGroup}
@@ -17,7 +18,7 @@ use Rattle.warc_journal.specs.declared.extent.Further.TheVariants.{Absent, Empty
 
 -- the rest of a volume, behind its warcinfo or a group
 abbrev pub IsNextGroup : List ℕ → ℕ → List ℕ → NextGroup → Type 0
-IsNextGroup namespace number rest (next_group.Group group) = BeginsWithGroup namespace number rest group
+IsNextGroup namespace number rest (next_group.Group read) = BeginsWithGroup namespace number rest read.group
 IsNextGroup namespace number rest next_group.Nothing = rest ≡ []
 IsNextGroup namespace number rest next_group.Tail = IsTail commit_byte rest
 IsNextGroup namespace number rest next_group.Damaged =
@@ -38,7 +39,7 @@ pub record HasInfoText (volume : ℕ) (namespace : List ℕ) (born len : ℕ) : 
 
 -- whatever a disk tells, a group that is answered is one
 abbrev pub FitsGroup : List ℕ → ℕ → ℕ → NextGroup → Type 0
-FitsGroup namespace number room (next_group.Group group) = HasGroupText namespace number room group
+FitsGroup namespace number room (next_group.Group read) = HasGroupText namespace number room read.group × HasItsHead read
 FitsGroup namespace number room next_group.Nothing = ⊤
 FitsGroup namespace number room next_group.Tail = ⊤
 FitsGroup namespace number room next_group.Damaged = ⊤

@@ -2,8 +2,9 @@
 ghost use Rattle.std.specs.Prelude.{◌≡◌, ◌≢◌, ◌+◌, ◌-◌, ◌<◌, ◌^◌, [], IfOk, IsTrue, OnOk, length};
 ghost use Rattle.warc_scan.specs.Answers.{BeginsWithGroup, BeginsWithInfo};
 ghost use Rattle.volume_scan.specs.steps.Next.{FitsGroup, FitsInfo, HasInfoText, IsNextGroup, IsNextInfo, IsFurther};
+ghost use Rattle.warc_scan.specs.Headed.{HasItsHead};
 ghost use Rattle.volume_scan.specs.Placed.{HasGroupText};
-ghost use Rattle.volume_scan.specs.Scannings.{Finds, IsInPlace, captures_of, disk_of, file_count, files_in, position_of};
+ghost use Rattle.volume_scan.specs.Scannings.{Finds, IsHeaded, IsInPlace, captures_of, disk_of, file_count, files_in, position_of};
 ghost use Rattle.volume_scan.specs.steps.Moves.{Comes, Keeps, Moves};
 ghost use Rattle.volume_scan.specs.Unread.{IsBehind, IsFurthest, file_at, unread};
 ghost use Rattle.volume_scan.specs.steps.Readings.{CountsRead};
@@ -18,7 +19,7 @@ use disk_model::Disk;
 use std::alloc::Global;
 use uuid::Uuid;
 use warc_journal::{Further, Place};
-use warc_scan::Group;
+use warc_scan::HeadedGroup;
 
 impl<D: Disk> Scanning<D> {
     /// What stands behind what was read: a group, or what a volume's end may be followed by.
@@ -27,13 +28,14 @@ impl<D: Disk> Scanning<D> {
         requires fewer { captures_of self.old < 2 ^ 32 - 1 }
         requires not_done { (position_of self.old).stage ≢ IsDone }
         ensures comes { Comes D.Disk self.old self.new result }
+        ensures headed { IfOk result IsHeaded }
     {
         if self.position.extent.volumes == 0 {
             return self.begin_volume(alloc, false);
         }
         let last = self.position.extent.volumes - 1;
         match self.next_group(alloc, last)? {
-            NextGroup::Group(group) => Ok(self.pass_group(last, group)),
+            NextGroup::Group(read) => Ok(self.pass_group(last, read)),
             NextGroup::Nothing => self.begin_volume(alloc, false),
             NextGroup::Tail => self.begin_volume(alloc, true),
             NextGroup::Damaged => Err(ScanFault::Damaged {
@@ -90,6 +92,7 @@ impl<D: Disk> Scanning<D> {
         requires behind { IsTrue D.tells → IsBehind is_dirty (unread (position_of self.old) (files_in D.Disk self.old)) }
         requires volume { IsTrue is_dirty → 0 < (position_of self.old).extent.volumes }
         ensures comes { Comes D.Disk self.old self.new result }
+        ensures headed { IfOk result IsHeaded }
     {
         let volume = self.position.extent.volumes;
         if volume >= self.files {
@@ -133,6 +136,7 @@ impl<D: Disk> Scanning<D> {
         requires behind { IsTrue D.tells → IsBehind is_dirty (unread (position_of self.old) (files_in D.Disk self.old)) }
         requires holds { IsTrue D.tells → IsFurther further (file_at (files_in D.Disk self.old) file) }
         ensures comes { Comes D.Disk self.old self.new result }
+        ensures headed { IfOk result IsHeaded }
     {
         if let Stage::Skipped = self.position.stage {
             return Err(ScanFault::Damaged { file, place: 0 });
@@ -145,26 +149,28 @@ impl<D: Disk> Scanning<D> {
     }
 
     /// Goes past a group, which stands behind what was read of the last volume.
-    fn pass_group(&mut self, last: u32, group: Group) -> Found
+    fn pass_group(&mut self, last: u32, read: HeadedGroup) -> Found
         requires in_place { IsInPlace D.Disk self.old }
         requires last { last + 1 ≡ (position_of self.old).extent.volumes }
         requires fewer { captures_of self.old < 2 ^ 32 - 1 }
         requires fits { HasGroupText (position_of self.old).namespace (captures_of self.old)
-            (2 ^ 64 - 1 - (position_of self.old).extent.end) group }
+            (2 ^ 64 - 1 - (position_of self.old).extent.end) read.group }
+        requires headed { HasItsHead read }
         requires next { IsTrue D.tells → BeginsWithGroup (position_of self.old).namespace (captures_of self.old)
-            (unread (position_of self.old) (files_in D.Disk self.old)) group }
+            (unread (position_of self.old) (files_in D.Disk self.old)) read.group }
         ensures finds { Finds D.Disk self.old self.new result }
+        ensures headed { IsHeaded result }
         ensures moves { Moves D.Disk self.old self.new }
     {
         let place = Place {
             volume: last,
             at: self.position.extent.end,
-            len: group.len,
+            len: read.group.len,
         };
-        self.position.extent.end += group.len;
+        self.position.extent.end += read.group.len;
         self.position.captures += 1;
         self.position.stage = Stage::Within;
-        Found::Group { place, group }
+        Found::Group { place, read }
     }
 
     /// Goes past the warcinfo with which the next volume begins.
@@ -177,6 +183,7 @@ impl<D: Disk> Scanning<D> {
         requires len { IsTrue D.tells → self.old.window.len ≡ length (file_at (files_in D.Disk self.old) volume) }
         requires next { IsTrue D.tells → BeginsWithInfo volume (file_at (files_in D.Disk self.old) volume) namespace born len }
         ensures finds { Finds D.Disk self.old self.new result }
+        ensures headed { IsHeaded result }
         ensures moves { Moves D.Disk self.old self.new }
     {
         self.position.extent.volumes = volume + 1;
@@ -198,6 +205,7 @@ impl<D: Disk> Scanning<D> {
         requires behind { IsTrue D.tells → IsBehind is_dirty (unread (position_of self.old) (files_in D.Disk self.old)) }
         requires further { IsTrue D.tells → IsFurthest further (position_of self.old).extent.volumes (files_in D.Disk self.old) }
         ensures finds { Finds D.Disk self.old self.new result }
+        ensures headed { IsHeaded result }
         ensures moves { Moves D.Disk self.old self.new }
     {
         self.position.extent.is_dirty = is_dirty;
