@@ -379,5 +379,5 @@ module _ {D : Type 0} (d : Ghosts D) (known : Option Book) (old new : Scanning D
 
   pub counts_by : (found : Found) (more : Bool) → Finds d old new found → Shapes was is found more → CountsTo image (position_of new) (book_of is.held) (step_of found)
   counts_by (Info volume namespace born) more one shapes = counts_info volume namespace born one (shapes.1 (one.number ∙ goes.volumes))
-  counts_by (Group place group) more on shapes = counts_group place group on shapes.1
+  counts_by (Group place read) more on shapes = counts_group place read.group on shapes.1
   counts_by End more ends shapes = subst (λ (g : Gathered). HasCountsOf image (book_of g.held)) (sym shapes.1) (counts_end ends)

@@ -53,12 +53,12 @@ module _ {D : Type 0} (d : Ghosts D) (old new : Scanning D) (was is : Gathered) 
           steady,
           fewer_info d old new was is follows volume namespace born one count,
         )
-    reads_more (Group place group) more on gathers steady =
-        let taken = gathers.1 on.text (group_at place group on) tt in
+    reads_more (Group place read) more on gathers steady =
+        let taken = gathers.1 on.text (group_at place read.group on) tt in
         subst (ReadsOn d old new is) (sym gathers.0) (
-          follows_group d old new was is follows place group on (some_texts d old new was is follows place group on) taken.gathered taken.count taken.namespace_is,
+          follows_group d old new was is follows place read.group on (some_texts d old new was is follows place read.group on) taken.gathered taken.count taken.namespace_is,
           steady,
-          fewer_group d old new was is follows place group on count (omega (arith, few)),
+          fewer_group d old new was is follows place read.group on count (omega (arith, few)),
         )
     reads_more End more ends gathers steady =
         subst (ReadsOn d old new is) (sym gathers.0) (
@@ -82,9 +82,9 @@ module _ {D : Type 0} (d : Ghosts D) (old new : Scanning D) (was is : Gathered) 
         let damage = damage_of_volume d old new was follows in_place after begin none told (rests told) volume namespace born one info
         (refused.2 one.text (one.number ∙ follows.volumes) one.is) in
         (is_warc, damage.1, subst (λ (f : ℕ). IsDamage (files_in d old) f place) (sym refused.0) (subst (IsDamage (files_in d old) volume) (sym refused.1) damage.2))
-    refused_at (Group at group) kind file place on is_warc refused =
-        let damage = damage_of_group d old new was follows in_place after begin none told (rests told) at group on (group_is at group on)
-        (refused.2 on.text (group_at at group on)) in
+    refused_at (Group at read) kind file place on is_warc refused =
+        let damage = damage_of_group d old new was follows in_place after begin none told (rests told) at read.group on (group_is at read.group on)
+        (refused.2 on.text (group_at at read.group on)) in
         (is_warc, damage.1, subst (λ (f : ℕ). IsDamage (files_in d old) f place) (sym refused.0) (subst (IsDamage (files_in d old) at.volume) (sym refused.1) damage.2))
     refused_at End kind file place ends is_warc refused = absurd refused
 

@@ -300,8 +300,8 @@ module _ {D : Type 0} (d : Ghosts D) (known : Option Book) (old new : Scanning D
         ),
         opens d known old new was is goes was_in in_place rests volume namespace born one begun small (λ b ts g. (gathers b ts g).1) files,
       )
-  steps_by files few (Group place group) more on shapes small gathers steady = (
-    goes_group d known old new was is goes was_in in_place rests place group on shapes.1 begin (λ b ts g. (gathers b ts g).1),
+  steps_by files few (Group place read) more on shapes small gathers steady = (
+    goes_group d known old new was is goes was_in in_place rests place read.group on shapes.1 begin (λ b ts g. (gathers b ts g).1),
     steady,
     omega (arith, ap (λ (p : Position). p.extent.volumes) on.position, ap (λ (p : Position). p.captures) on.position, files, few),
   )
@@ -319,11 +319,11 @@ module _ {D : Type 0} (d : Ghosts D) (known : Option Book) (old new : Scanning D
       let there : AreFronts (texts_read d old ++ one.text ∷ []) (files_in d new) =
       subst (λ (t : List (List ℕ)). AreFronts t (files_in d new)) (one.read told.tells) (begin (position_of new) (files_in d new) (in_place.stands told.tells).lies) in
       refused.1.2 one.text (one.number ∙ sym (count_texts d known old new was is goes was_in in_place rests told.tells)) one.is (files_in d new) there b refl settled.stands.sound settled.stands.for
-  outside_by (Group at group) (faults.Damaged kind file offset) on b told refused =
+  outside_by (Group at read) (faults.Damaged kind file offset) on b told refused =
       let settled = settled_on d (disk_of old) (disk_of new) b (rests told.tells) told.settled in
       let there : AreFronts (with_more (texts_read d old) on.text) (files_in d new) =
       subst (λ (t : List (List ℕ)). AreFronts t (files_in d new)) (on.read told.tells) (begin (position_of new) (files_in d new) (in_place.stands told.tells).lies) in
-      refused.1.2 on.text (group_found d known old new was is goes was_in in_place rests at group on b told) (files_in d new) there b refl settled.stands.sound settled.stands.for
+      refused.1.2 on.text (group_found d known old new was is goes was_in in_place rests at read.group on b told) (files_in d new) there b refl settled.stands.sound settled.stands.for
   outside_by End (faults.Damaged kind file offset) ends b told refused = refused.1
   outside_by found (faults.OtherNamespace other) finds b told refused = refused
   outside_by found faults.DiskFault finds b told refused = tt

@@ -35,9 +35,9 @@ module _ {D : Type 0} (d : Ghosts D) (old new : Scanning D) (was is : Gathered) 
   whole_step (Info volume namespace born) more one gathers =
       let begun = gathers.1 one.text (one.number ∙ reads.follows.volumes) one.is in
       whole_still (follows_info d old new was is reads.follows volume namespace born one begun.gathered begun.count begun.namespace_is)
-  whole_step (Group place group) more on gathers =
-      let taken = gathers.1 on.text (group_at d old new was is reads.follows place group on) tt in
-      whole_still (follows_group d old new was is reads.follows place group on (some_texts d old new was is reads.follows place group on) taken.gathered
+  whole_step (Group place read) more on gathers =
+      let taken = gathers.1 on.text (group_at d old new was is reads.follows place read.group on) tt in
+      whole_still (follows_group d old new was is reads.follows place read.group on (some_texts d old new was is reads.follows place read.group on) taken.gathered
       taken.count taken.namespace_is)
   whole_step End more ends gathers = subst (HasAll d new) (sym gathers.1) (has_all d old new was rests reads.follows ends)
 

@@ -133,23 +133,23 @@ pub record FitsGroup (g : Gathered) (place : Place) (group : GroupFound) : Type 
 
 abbrev pub FitsFound : Gathered → Found → Type 0
 FitsFound g (Info volume namespace born) = IsUuid namespace × InRange born
-FitsFound g (Group place group) = FitsGroup g place group
+FitsFound g (Group place read) = FitsGroup g place read.group
 FitsFound g End = ⊤
 
 -- what was found is gathered, if anything was
 abbrev pub Gathers : Option Book → Gathered → Gathered → List (List ℕ) → Found → Bool → Type 0
 Gathers known was is texts (Info volume namespace born) more = (more ≡ true)
     × ((text : List ℕ) → volume ≡ length texts → IsInfo volume text namespace born (length text) → HasBegun known was is texts text namespace)
-Gathers known was is texts (Group place group) more = (more ≡ true)
-    × ((text : List ℕ) → IsGroupAt (book_of was.held) texts text place group → MayStand known (with_more texts text) → HasTaken known was is texts text)
+Gathers known was is texts (Group place read) more = (more ≡ true)
+    × ((text : List ℕ) → IsGroupAt (book_of was.held) texts text place read.group → MayStand known (with_more texts text) → HasTaken known was is texts text)
 Gathers known was is texts End more = (more ≡ false) × (is ≡ was)
 
 -- no sound book that may be meant goes on with what was found
 abbrev pub IsRefusedAt : Option Book → Gathered → List (List ℕ) → Found → ℕ → ℕ → Type 0
 IsRefusedAt known was texts (Info volume namespace born) file place = (file ≡ volume) × (place ≡ 0)
     × ((text : List ℕ) → volume ≡ length texts → IsInfo volume text namespace born (length text) → IsDeadEnd known (texts ++ text ∷ []))
-IsRefusedAt known was texts (Group at group) file place = (file ≡ at.volume) × (place ≡ at.at)
-    × ((text : List ℕ) → IsGroupAt (book_of was.held) texts text at group → IsDeadEnd known (with_more texts text))
+IsRefusedAt known was texts (Group at read) file place = (file ≡ at.volume) × (place ≡ at.at)
+    × ((text : List ℕ) → IsGroupAt (book_of was.held) texts text at read.group → IsDeadEnd known (with_more texts text))
 IsRefusedAt known was texts End file place = ⊥
 
 abbrev pub IsRefused : Option Book → Gathered → List (List ℕ) → Found → ReopenFault → Type 0

@@ -147,7 +147,7 @@ pub record HasTakenOne (was is : Gathered) (place : Place) : Type 0 where
 -- whatever is known, what was found was gathered so
 abbrev pub Shapes : Gathered → Gathered → Found → Bool → Type 0
 Shapes was is (founds.Info volume namespace born) more = (more ≡ true) × (volume ≡ length (book_of was.held).volumes → HasBegunOne was is namespace)
-Shapes was is (founds.Group place group) more = (more ≡ true) × HasTakenOne was is place
+Shapes was is (founds.Group place read) more = (more ≡ true) × HasTakenOne was is place
 Shapes was is founds.End more = (more ≡ false) × (is ≡ was)
 
 -- what was gathered so far are this book's first volumes and captures
@@ -187,7 +187,7 @@ pub record OpensAt {D : Type 0} (scanning : Scanning D) (volume : ℕ) : Type 0 
 -- what a step is, by what was found
 abbrev pub step_of : Found → Step
 step_of (founds.Info volume namespace born) = steps.Begun volume
-step_of (founds.Group place group) = steps.More
+step_of (founds.Group place read) = steps.More
 step_of founds.End = steps.End
 
 -- the number of the volume fits its type

@@ -3,11 +3,12 @@ ghost use Rattle.std.specs.Prelude.{◌≡◌, ◌≢◌, ◌+◌, ◌-◌, ◌^
 ghost use Rattle.httparse.specs.Grammar as grammar;
 ghost use Rattle.capture.specs.Captures.{captures};
 ghost use Rattle.cdxj_line.specs.Lines.{IsWritable};
-ghost use Rattle.capture.specs.Message.{IsResponseHeadText};
 ghost use Rattle.capture.specs.declared.book.Book.{Book as BookValue};
-ghost use Rattle.http_head.specs.Heads.{HoldsResponse, HoldsResponseParts};
+ghost use Rattle.http_head.specs.Heads.{HoldsResponseParts};
 ghost use Rattle.time_text.specs.Texts.{InRange};
 ghost use Rattle.warc_journal.specs.Texts.{with_more};
+ghost use Rattle.volume_scan.specs.Scannings.{IsHeaded};
+ghost use Rattle.warc_scan.specs.Headed.{HasItsHead};
 ghost use Rattle.warc_scan.specs.Infos.{IsInfo};
 ghost use Rattle.warc_text.specs.Ids.{IsUuid};
 ghost use Rattle.archive_shelf.specs.Storing.{empty_book};
@@ -34,7 +35,7 @@ use capture::{Book, Digest, Kept, Memory, captures_have_one_payload};
 use cdxj_index::Entry;
 use cdxj_line::Line;
 use disk_model::Kind;
-use http_head::{ResponseHead, WireFault, read_head};
+use http_head::ResponseHead;
 use revisit_table::Digests;
 use shown::Shown;
 use std::alloc::Global;
@@ -42,7 +43,7 @@ use surt_key::accepted_targets_have_keys;
 use uuid::Uuid;
 use volume_scan::Found;
 use warc_journal::Place;
-use warc_scan::Group;
+use warc_scan::{Group, HeadedGroup};
 
 /// Why what was found isn't gathered.
 #[derive(Clone, Copy, Debug, PartialEq, Eq)]
@@ -149,6 +150,7 @@ impl Gathered {
     pub(crate) fn gather(&mut self, alloc: Global, found: Found) -> Result<bool, ReopenFault>
         requires steady { IsSteady self.old }
         requires fits { FitsFound self.old found }
+        requires headed { IsHeaded found }
         ensures steady { OnOk result (IsSteady self.new) }
         ensures gathers { (known : Option BookValue) (texts : List (List ℕ)) → IsGathered known self.old texts → IfOk result (Gathers known self.old self.new texts found) }
         ensures refused { (known : Option BookValue) (texts : List (List ℕ)) → IsGathered known self.old texts → IfErr result (IsRefused known self.old texts found) }
@@ -166,7 +168,7 @@ impl Gathered {
                 Err(Refusal::Damaged) => Err(damaged(volume, 0)),
                 Err(Refusal::Memory) => Err(ReopenFault::Memory),
             },
-            Found::Group { place, group } => match self.take(alloc, place, group) {
+            Found::Group { place, read } => match self.take(alloc, place, read) {
                 Ok(()) => Ok(true),
                 Err(Refusal::Damaged) => Err(damaged(place.volume, place.at)),
                 Err(Refusal::Memory) => Err(ReopenFault::Memory),
@@ -223,28 +225,26 @@ impl Gathered {
 
     /// Gathers a capture, whose group was found behind the last volume's text. A revisit that refers to no capture with its
     /// payload, and a group with which a bound is passed, are damage.
-    fn take(&mut self, alloc: Global, place: Place, group: Group) -> Result<(), Refusal>
+    fn take(&mut self, alloc: Global, place: Place, read: HeadedGroup) -> Result<(), Refusal>
         requires steady { IsSteady self.old }
-        requires fits { FitsGroup self.old place group }
+        requires fits { FitsGroup self.old place read.group }
+        requires headed { HasItsHead read }
         ensures steady { OnOk result (IsSteady self.new) }
         ensures gathered { (known : Option BookValue) (texts : List (List ℕ)) (text : List ℕ) → IsGathered known self.old texts
-            → IsGroupAt (book_of self.old.held) texts text place group → MayStand known (with_more texts text)
+            → IsGroupAt (book_of self.old.held) texts text place read.group → MayStand known (with_more texts text)
             → OnOk result (HasTaken known self.old self.new texts text) }
         ensures damaged { (known : Option BookValue) (texts : List (List ℕ)) (text : List ℕ) → IsGathered known self.old texts
-            → IsGroupAt (book_of self.old.held) texts text place group
+            → IsGroupAt (book_of self.old.held) texts text place read.group
             → IfErr result (λ refusal. refusal ≡ IsDamaged → IsDeadEnd known (with_more texts text)) }
         ensures taken { OnOk result (HasTakenOne self.old self.new place) }
     {
         reading_laws();
         accepted_targets_have_keys();
+        let HeadedGroup { group, head } = read;
         let number = self.spots.len() as u32;
         if passes_bounds(number, &place, &group) {
             return Err(Refusal::Damaged);
         }
-        let head = match read_parts(alloc, group.stored.head.as_slice()) {
-            Ok(head) => head,
-            Err(refusal) => return Err(refusal),
-        };
         let first = match self.original(&group, &head) {
             Ok(first) => first,
             Err(refusal) => return Err(refusal),
@@ -449,17 +449,5 @@ fn is_whole(kept: &Kept) -> bool
         Kept::Wire(_) => true,
         Kept::Same(_) => false,
         Kept::Cut(_) => false,
-    }
-}
-
-/// The parts of a head.
-fn read_parts(alloc: Global, text: &[u8]) -> Result<ResponseHead, Refusal>
-    ensures parts { IfOk result (HoldsResponse text.now) }
-    ensures none { IfErr result (λ refusal. refusal ≡ IsDamaged → (h : grammar.ResponseHead) → IsResponseHeadText text.now h → ⊥) }
-{
-    match read_head(alloc, text) {
-        Ok(head) => Ok(head),
-        Err(WireFault::Malformed) => Err(Refusal::Damaged),
-        Err(_) => Err(Refusal::Memory),
     }
 }

@@ -59,7 +59,7 @@ fn step_to(found: &Found) -> Step
             namespace: _,
             born: _,
         } => Step::Begun(*volume),
-        Found::Group { place: _, group: _ } => Step::More,
+        Found::Group { place: _, read: _ } => Step::More,
         Found::End => Step::End,
     }
 }

@@ -4,14 +4,14 @@ ghost use Rattle.warc_journal.specs.Extents.{warc_files};
 ghost use Rattle.warc_journal.specs.Journals.{IsInStep, disk_of};
 ghost use Rattle.volume_scan.specs.Unread.{file_at};
 
-use crate::opening::{put_fault, put_found};
+use crate::opening::{group_told, put_fault};
 use crate::outcome::Outcome;
 use capture::Memory;
 use case_language::{number_in, split_front};
 use disk_model::Disk;
 use std::alloc::Global;
 use uuid::Uuid;
-use volume_scan::{Found, ScanFault, group_at};
+use volume_scan::{ScanFault, group_at};
 use warc_journal::{DiskFault, Journal, Place};
 
 /// A place of a volume's file, and the group that is to stand there.
@@ -76,7 +76,7 @@ fn put_read<D: Disk>(
                 at: place.at,
                 len: group.len,
             };
-            put_found(alloc, outcome, &Found::Group { place, group })
+            outcome.put_found(alloc, group_told(alloc, place, group.number)?.as_str())
         }
         Err(fault) => put_fault(alloc, outcome, fault),
     }

@@ -12,7 +12,7 @@ use capture::Memory;
 use disk_model::{Disk, MemoryDisk};
 use std::alloc::Global;
 use volume_scan::{Found, ScanFault, Scanning};
-use warc_journal::Journal;
+use warc_journal::{Journal, Place};
 
 /// How many captures are read at most.
 const MOST: u32 = 1_000_000;
@@ -218,23 +218,26 @@ fn read_on<D: Disk>(
 }
 
 /// Tells what was found.
-pub fn put_found(alloc: Global, outcome: &mut Outcome, found: &Found) -> Result<(), Memory> {
+fn put_found(alloc: Global, outcome: &mut Outcome, found: &Found) -> Result<(), Memory> {
     let text = match found {
         Found::Info {
             volume,
             namespace,
             born,
         } => format!(in alloc; "volume {volume} {namespace} {born}")?,
-        Found::Group { place, group } => {
-            let number = group.number;
-            format!(in alloc;
-                "group {number} in {} at {} of {}",
-                place.volume, place.at, place.len
-            )?
-        }
+        Found::Group { place, read } => group_told(alloc, *place, read.group.number)?,
         Found::End => String::from_str(alloc, "end")?,
     };
     outcome.put_found(alloc, text.as_str())
+}
+
+/// What is told of the group with this number.
+pub fn group_told(alloc: Global, place: Place, number: u32) -> Result<String, Memory> {
+    let text = format!(in alloc;
+        "group {number} in {} at {} of {}",
+        place.volume, place.at, place.len
+    )?;
+    Ok(text)
 }
 
 /// Tells why nothing was found.

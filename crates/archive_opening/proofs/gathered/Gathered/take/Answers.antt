@@ -1,4 +1,4 @@
-use Rattle.std.proofs.Common.{rules, ◌≡◌, ℕ, List, length, refl, subst, ◌∙◌}
+use Rattle.std.proofs.Common.{rules, ◌≡◌, ℕ, length, refl, subst, ◌∙◌}
 use Rattle.capture.specs.Captures.{captures}
 use Rattle.http_head.specs.Heads.{HoldsResponseParts}
 use Rattle.archive_volumes.specs.Held.{book_of}
@@ -9,37 +9,34 @@ use Rattle.archive_opening.proofs.gathered.Gathered.take.Goals as goal
 
 pub returns-then-passes_bounds-clause-damaged : goal.returns-then-passes_bounds-clause-damaged
 returns-then-passes_bounds-clause-damaged c = λ known texts text gathered at _.
-    past_is_dead c.reading_laws.ensures (book_of c.args.self.now.held) texts known gathered.read text c.args.place c.args.group at c.len-number.result
+    past_is_dead c.reading_laws.ensures (book_of c.args.self.now.held) texts known gathered.read text c.args.place c.args.read.group at c.len-number.result
     (search rules) (c.if-passes_bounds.ensures.past refl)
 
-pub returns-in-Err-original-clause-damaged : goal.returns-in-Err-original-clause-damaged
-returns-in-Err-original-clause-damaged c = λ known texts text gathered at is.
-    let parts = c.in-Ok.ensures.parts in
-    let of : HoldsResponseParts c.args.group.stored.head parts.0 c.in-Ok.head =
-    subst (λ (t : List ℕ). HoldsResponseParts t parts.0 c.in-Ok.head) c.as_slice.ensures parts.1 in
-    lost_is_dead c.reading_laws.ensures (book_of c.args.self.now.held) texts known gathered.read text c.args.place c.args.group at
-    (c.in-Err-original.ensures.none known texts parts.0 gathered of c.requires.fits.number is)
+pub returns-in-Err-clause-damaged : goal.returns-in-Err-clause-damaged
+returns-in-Err-clause-damaged c = λ known texts text gathered at is.
+    let parts = c.requires.headed in
+    let of : HoldsResponseParts c.args.read.group.stored.head parts.0 c.args.read.head = parts.1 in
+    lost_is_dead c.reading_laws.ensures (book_of c.args.self.now.held) texts known gathered.read text c.args.place c.args.read.group at
+    (c.in-Err.ensures.none known texts parts.0 gathered of c.requires.fits.number is)
 
 pub returns-in-Ok-add-clause-gathered : goal.returns-in-Ok-add-clause-gathered
 returns-in-Ok-add-clause-gathered c = λ known texts text gathered at stand.
-    let parts = c.in-Ok.ensures.parts in
-    let of : HoldsResponseParts c.args.group.stored.head parts.0 c.in-Ok.head =
-    subst (λ (t : List ℕ). HoldsResponseParts t parts.0 c.in-Ok.head) c.as_slice.ensures parts.1 in
+    let parts = c.requires.headed in
+    let of : HoldsResponseParts c.args.read.group.stored.head parts.0 c.args.read.head = parts.1 in
     let number : c.len-number.result ≡ length (captures (book_of c.args.self.now.held)) = search rules in
-    taken c.reading_laws.ensures c.accepted_targets_have_keys.ensures known c.args.self.now c.add.new.self texts text c.args.place c.args.group c.len-number.result
-    c.in-Ok-original.first parts.0 c.in-Ok-note.noted gathered at (c.requires.steady.lengths_too ∙ c.requires.steady.count) number
-    (c.if-passes_bounds.ensures.within refl) of.reads (c.in-Ok-original.ensures.found known texts parts.0 gathered of c.requires.fits.number
-    (may_refer c.reading_laws.ensures (book_of c.args.self.now.held) texts known gathered.read text c.args.place c.args.group at stand))
+    taken c.reading_laws.ensures c.accepted_targets_have_keys.ensures known c.args.self.now c.add.new.self texts text c.args.place c.args.read.group c.len-number.result
+    c.in-Ok.first parts.0 c.in-Ok-note.noted gathered at (c.requires.steady.lengths_too ∙ c.requires.steady.count) number
+    (c.if-passes_bounds.ensures.within refl) of.reads (c.in-Ok.ensures.found known texts parts.0 gathered of c.requires.fits.number
+    (may_refer c.reading_laws.ensures (book_of c.args.self.now.held) texts known gathered.read text c.args.place c.args.read.group at stand))
     (c.in-Ok-note.ensures parts.0 of) c.in-Ok-add.ensures.added
 
 pub returns-in-Ok-add-clause-taken : goal.returns-in-Ok-add-clause-taken
 returns-in-Ok-add-clause-taken c =
-    let parts = c.in-Ok.ensures.parts in
-    let of : HoldsResponseParts c.args.group.stored.head parts.0 c.in-Ok.head =
-    subst (λ (t : List ℕ). HoldsResponseParts t parts.0 c.in-Ok.head) c.as_slice.ensures parts.1 in
+    let parts = c.requires.headed in
+    let of : HoldsResponseParts c.args.read.group.stored.head parts.0 c.args.read.head = parts.1 in
     let number : c.len-number.result ≡ length c.args.self.now.spots.items = search rules in
     let some = c.requires.fits.some in
-    taken_one c.args.self.now c.add.new.self c.args.place c.args.group some.namespace some.number some.text some.is c.in-Ok-original.first
-    c.in-Ok-original.ensures.refers parts.0 c.in-Ok-note.noted (c.in-Ok-note.ensures parts.0 of)
-    (subst (λ (n : ℕ). IsWithin n c.args.place c.args.group) number (c.if-passes_bounds.ensures.within refl)) c.requires.steady c.requires.fits.len c.requires.fits.volume
-    c.requires.fits.number c.in-Ok-add.ensures.added c.in-Ok-original.ensures.whole
+    taken_one c.args.self.now c.add.new.self c.args.place c.args.read.group some.namespace some.number some.text some.is c.in-Ok.first
+    c.in-Ok.ensures.refers parts.0 c.in-Ok-note.noted (c.in-Ok-note.ensures parts.0 of)
+    (subst (λ (n : ℕ). IsWithin n c.args.place c.args.read.group) number (c.if-passes_bounds.ensures.within refl)) c.requires.steady c.requires.fits.len c.requires.fits.volume
+    c.requires.fits.number c.in-Ok-add.ensures.added c.in-Ok.ensures.whole
