@@ -1,4 +1,4 @@
-//! Fixity: whether the bytes of a volume are still what an archive wrote.
+//! Fixity: whether a volume still holds its captures whole, in order, with their ids, and each payload with its digest.
 #![tactic(auto)]
 
 mod batch;

@@ -15,7 +15,7 @@ use warc_text::files_stand_for_one_book;
 /// Where no count of faults rises, over a disk that stands for a sound book in the namespace that is asked for, `check` prints how
 /// much there is, and over one that is settled for a book that is known `pipe` goes well unless its client's link fails or ends inside a message, and `import` unless its
 /// input isn't a whole file of records or the archive gets full, and `follow` unless its source isn't followed to its end: or memory ran out. Each image that they may leave
-/// is ready for the next run, those of `pipe` and `import` with a book that this may know, and each that
+/// is ready for the next run, those of `pipe`, `import` and `follow` with a book that this may know, and each that
 /// `pipe` may leave stands for a book that holds all captures of the last one in order, and one more at most. Where the disk didn't fail it stands for the last one itself, if links
 /// tell their traffic; and where memory sufficed besides, it has the finished checkpoint of each sealed volume. What might be opened at any moment of `pipe` might have been before it, or a round of its
 /// connection may leave it.

@@ -6,10 +6,8 @@ use Rattle.capture.specs.Tails.{IsCommitted, IsTail}
 use Rattle.warc_scan.specs.Answers.{BeginsWithGroup, BeginsWithInfo, GroupsReach, HasNoGroup, HasNoInfo, InfosReach, IsCommittedRest, IsEnd, IsUnfinished, MayFollow}
 use Rattle.warc_scan.specs.declared.group.Group.{Group}
 use Rattle.warc_text.specs.StandsFor.{commit_byte}
-use Rattle.volume_scan.specs.steps.Next.{FitsGroup, HasInfoText}
+use Rattle.volume_scan.specs.steps.Next.{HasInfoText}
 use Rattle.volume_scan.specs.Placed.{HasGroupText}
-use Rattle.volume_scan.specs.declared.next.NextGroup.{NextGroup}
-use Rattle.volume_scan.specs.declared.next.NextGroup.TheVariants as next_group
 
 -- a text that begins the bytes isn't longer
 pub group_fits : (namespace : List ℕ) (number : ℕ) (bytes : List ℕ) (room : ℕ) (group : Group) → length bytes ≤ room
@@ -22,14 +20,6 @@ group_fits namespace number bytes room group within begins = record {
 
 pub info_fits : (volume : ℕ) (bytes namespace : List ℕ) (born len : ℕ) → BeginsWithInfo volume bytes namespace born len → HasInfoText volume namespace born len
 info_fits volume bytes namespace born len begins = record { text = begins.text; is = begins.is }
-
--- it fits where there is more room
-pub fits_more : (namespace : List ℕ) (number room more : ℕ) (next : NextGroup) → room ≤ more → FitsGroup namespace number room next → FitsGroup namespace number more next
-fits_more namespace number room more (next_group.Group read) within has =
-    (record { text = has.0.text; is = has.0.is; fits = omega (arith, has.0.fits, within) }, has.1)
-fits_more namespace number room more next_group.Nothing within has = tt
-fits_more namespace number room more next_group.Tail within has = tt
-fits_more namespace number room more next_group.Damaged within has = tt
 
 -- the first byte of bytes, with more behind them
 first_is : (bytes after : List ℕ) → 0 < length bytes → slice_index (bytes ++ after) 0 ≡ slice_index bytes 0
