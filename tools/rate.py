@@ -4,7 +4,7 @@
     rate.py PROGRAM [FOLDER]       PROGRAM is the program's file, and FOLDER lies on the disk that is measured
     rate.py mitmdump [FOLDER]      the same requests through `mitmdump -w`, which syncs nothing
 
-nginx answers with 2,048 bytes, a connection each, and ab asks: bodies that are new each time, and one that is always the same. Rounds of the server and of the disk
+nginx answers with 2,048 bytes, a connection each, and wrk asks over connections that it keeps, as browsers and crawlers do: bodies that are new each time, and one that is always the same. Rounds of the server and of the disk
 alone take turns, since a disk's own rate changes; what is printed are medians of 5 rounds, or of as many as ROUNDS says. The disk alone writes records of the length that the
 server's had. With steady_sync.so preloaded both meet a disk whose syncs all take the same time.
 """
@@ -38,12 +38,15 @@ def begin_origin(folder):
 # ---- a round
 
 def asked(clients, body):
-    """How many requests a second ab has answered through the proxy; none may fail."""
-    told = subprocess.run(["ab", "-q", "-t", "2", "-n", "1000000", "-c", str(clients), "-X", f"localhost:{PROXY}", f"http://127.0.0.1:{ORIGIN}/{body}"],
-                          capture_output=True, text=True).stdout
-    if not re.search(r"Failed requests: +0\n", told):
+    """How many requests a second wrk has answered through the proxy, and how many in all; none may fail."""
+    request = f"GET http://127.0.0.1:{ORIGIN}/{body} HTTP/1.1\\r\\nHost: 127.0.0.1:{ORIGIN}\\r\\n\\r\\n"
+    with tempfile.NamedTemporaryFile("w", suffix=".lua") as script:
+        script.write(f'request = function() return "{request}" end')
+        script.flush()
+        told = subprocess.run(["wrk", "-t", "1", "-c", str(clients), "-d", "2", "-s", script.name, f"http://localhost:{PROXY}/"], capture_output=True, text=True).stdout
+    if "Non-2xx" in told or "Socket errors" in told:
         sys.exit(f"requests failed:\n{told}")
-    return float(re.search(r"Requests per second: +([0-9.]+)", told)[1]), int(re.search(r"Complete requests: +(\d+)", told)[1])
+    return float(re.search(r"Requests/sec: +([0-9.]+)", told)[1]), int(re.search(r"(\d+) requests in", told)[1])
 
 
 def wait_for(port):
