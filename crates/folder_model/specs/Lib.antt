@@ -2,6 +2,7 @@ pub mod Calls
 pub mod DiskCalls
 pub mod File
 pub mod Folder
+pub mod Found
 pub mod Known
 pub mod Laws
 pub mod Ranges

@@ -1,5 +1,5 @@
 //! A folder that this process holds: what the file system's calls do in it.
-ghost use Rattle.std.specs.Prelude.{◌≡◌, ◌≢◌, ◌≤◌, ℕ, Bool, IsTrue, List, None, length, take, drop, is_ok, IfOk, OnOk, OnErr};
+ghost use Rattle.std.specs.Prelude.{◌≡◌, ◌≢◌, ◌⊎◌, ◌≤◌, ℕ, Bool, IsTrue, List, None, length, take, drop, is_ok, IfOk, OnOk, OnErr};
 ghost use Rattle.std.specs.Io.{ReadsAtMost, WritesAtMost};
 ghost use Rattle.folder_model.specs.Calls.{Lists, MayMake, WritesInPart, CutsInPart};
 ghost use Rattle.folder_model.specs.File.{Made, Wrote, Shortened, Synced};
@@ -53,11 +53,13 @@ pub trait Folder {
         ensures length { IsTrue tells → IfOk result (λ len. len ≡ length (bytes_of (past self.old) (name_of file.now))) }
         ensures past { IsTrue tells → past self.new ≡ past self.old };
 
-    /// Reads at a place, and answers how many bytes stand at the front of `into` now: 0 only at the file's end.
+    /// Reads at a place, and answers how many bytes stand at the front of `into` now: 0 only at the file's end, or where none were asked for.
     fn read_at(&mut self, file: &Self::File, into: &mut [u8], at: u64) -> io::Result<usize>
         ensures bound { ReadsAtMost result into.new }
         ensures gives { IsTrue tells → IfOk result
             (λ n. take n into.new ≡ take n (drop at (bytes_of (past self.old) (name_of file.now)))) }
+        ensures end { IsTrue tells → IfOk result
+            (λ n. n ≡ 0 → (length into.new ≡ 0) ⊎ (length (bytes_of (past self.old) (name_of file.now)) ≤ at)) }
         ensures past { IsTrue tells → past self.new ≡ past self.old };
 
     /// Writes at a place that isn't past the end, and answers how many bytes of the front of `piece` were taken. Until a
