@@ -3,8 +3,6 @@ use crate::quiet::Quiet;
 use capture::Memory;
 use case_archive::Held;
 use folder_disk::{ArchiveNames, FolderDisk};
-use memory_folder::{MemoryFolder, MemoryFolders};
-use std::alloc::Global;
 
 /// The disk in the folder.
 pub type Disk = FolderDisk<Quiet, ArchiveNames>;
@@ -29,20 +27,10 @@ impl Found {
 }
 
 /// What a stop leaves of it by this choice. `None` where memory was refused.
-pub fn stopped(alloc: Global, quiet: Quiet, choice: u32) -> Option<Quiet> {
+pub fn stopped(quiet: Quiet, choice: u32) -> Option<Quiet> {
     let Quiet { folders } = quiet;
-    match left_of(&folders.folder, choice) {
-        Ok(left) => Some(Quiet {
-            folders: MemoryFolders::new(alloc, left),
-        }),
+    match folders.stop(choice) {
+        Ok(left) => Some(Quiet { folders: left }),
         Err(Memory) => None,
-    }
-}
-
-/// What is left of a folder, where there is one.
-fn left_of(folder: &Option<MemoryFolder>, choice: u32) -> Result<Option<MemoryFolder>, Memory> {
-    match folder {
-        Some(folder) => folder.stop(choice),
-        None => Ok(None),
     }
 }

@@ -98,7 +98,7 @@ fn set(alloc: Global, choice: u32, quiet: Quiet, step: &Deed) -> Result<Option<F
 fn left_by(alloc: Global, choice: u32, quiet: Quiet, step: &Deed) -> Result<Option<Quiet>, Memory> {
     let text = step.text.as_slice();
     match step.name {
-        "stop" => Ok(stopped_by(alloc, quiet, text, choice)),
+        "stop" => Ok(stopped_by(quiet, text, choice)),
         "let-go" => Ok(unchanged(quiet, text)),
         "fuse" => Ok(fused(quiet, text)),
         "in-part" => Ok(failing_in_part(quiet, text)),
@@ -190,11 +190,11 @@ fn told(
 }
 
 /// Stops the machine by the choice that the text names, or by this one where it is empty.
-fn stopped_by(alloc: Global, quiet: Quiet, text: &[u8], choice: u32) -> Option<Quiet> {
+fn stopped_by(quiet: Quiet, text: &[u8], choice: u32) -> Option<Quiet> {
     let choice = if text.is_empty() {
         choice
     } else {
         u32::try_from(number_in(text)?).ok()?
     };
-    stopped(alloc, quiet, choice)
+    stopped(quiet, choice)
 }

@@ -21,25 +21,35 @@ impl Causes for Quiet {
 }
 
 impl Folders for Quiet {
+    ghost use Rattle.memory_folder.specs.Found.{found_in, is_alone};
+
     type Folder = MemoryFolder;
 
-    fn make_folder(&mut self, path: &str) -> io::Result<()> {
-        self.folders.make_folder(path)
+    ghost alone = { λ quiet. is_alone quiet.folders };
+
+    ghost found = { λ quiet. found_in quiet.folders };
+
+    fn make_folder(&mut self) -> io::Result<()> {
+        self.folders.make_folder()
     }
 
-    fn hold(&mut self, path: &str, lock: Lock) -> io::Result<MemoryFolder> {
-        self.folders.hold(path, lock)
+    fn hold(&mut self, lock: Lock) -> io::Result<MemoryFolder> {
+        self.folders.hold(lock)
     }
 
     fn let_go(&mut self, folder: MemoryFolder) {
         self.folders.let_go(folder);
     }
 
-    fn is_link(&mut self, path: &str) -> io::Result<bool> {
-        self.folders.is_link(path)
+    fn is_link(&mut self) -> io::Result<bool> {
+        self.folders.is_link()
     }
 
-    fn check_writable(&mut self, path: &str) -> io::Result<()> {
-        self.folders.check_writable(path)
+    fn check_writable(&mut self) -> io::Result<()> {
+        self.folders.check_writable()
+    }
+
+    fn check_around(&mut self) -> io::Result<()> {
+        self.folders.check_around()
     }
 }

@@ -1,4 +1,4 @@
 pub mod Entry
+pub mod Found
 pub mod Past
 pub mod Standing
-pub mod Stopped

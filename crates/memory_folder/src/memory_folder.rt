@@ -1,9 +1,9 @@
 //! A folder in memory, which tells what was done in it, fails where it is told to, and can be stopped.
-ghost use Rattle.std.specs.Prelude.{◌≡◌, ◌≤◌, length, take, drop, IfOk, IfSome};
+ghost use Rattle.std.specs.Prelude.{◌≡◌, ◌<◌, ◌≤◌, ◌⊎◌, Some, length, take, drop, IfOk};
 ghost use Rattle.folder_model.specs.Calls.{MayMake, WritesInPart, CutsInPart};
-ghost use Rattle.folder_model.specs.Folder.{MayLeave};
-ghost use Rattle.memory_folder.specs.Past.{past_of, nothing_done, IsSettled};
-ghost use Rattle.memory_folder.specs.Stopped.{left_of};
+ghost use Rattle.folder_model.specs.Found.{IsFoundAfterCrash};
+ghost use Rattle.memory_folder.specs.Found.{past_found};
+ghost use Rattle.memory_folder.specs.Past.{past_of, nothing_done};
 
 use crate::plan::Plan;
 use crate::store::Store;
@@ -70,8 +70,7 @@ impl MemoryFolder {
     /// that isn't sure to be on the disk, at choice 1 all that reads find, and at a choice c above 1 all names, and of each file's writes and
     /// cuts that aren't sure the first c - 2 bytes, in order, and one byte more that is `W`.
     pub fn stop(&self, choice: u32) -> Result<Option<MemoryFolder>, Memory>
-        ensures left { IfOk result (λ left. MayLeave (past_of self.now.store) (left_of left)) }
-        ensures settled { IfOk result (λ left. IfSome left (λ folder. IsSettled folder.store)) }
+        ensures { IfOk result (λ left. IsFoundAfterCrash (Some (past_of self.now.store)) (past_found left)) }
     {
         match self.store.stop(choice)? {
             Some(store) => Ok(Some(MemoryFolder {
@@ -195,7 +194,10 @@ impl Folder for MemoryFolder {
             return Err(planned());
         }
         match self.store.bytes(file.name()) {
-            Ok(bytes) => Ok(read_from(bytes.as_slice(), at as usize, into, self.plan.most)),
+            Ok(bytes) => {
+                let most = self.plan.most.max(1);
+                Ok(read_from(bytes.as_slice(), at as usize, into, most))
+            }
             Err(Memory) => Err(refused()),
         }
     }
@@ -280,10 +282,12 @@ impl Folder for MemoryFolder {
     }
 }
 
-/// Reads at a place, so many bytes at most, and answers how many.
+/// Reads at a place, so many bytes at most, and answers how many: 0 only at the end, or where none were asked for.
 fn read_from(bytes: &[u8], at: usize, into: &mut [u8], most: usize) -> usize
+    requires { 0 < most }
     ensures bound { result ≤ length into.new }
     ensures gives { take result into.new ≡ take result (drop at bytes.now) }
+    ensures end { result ≡ 0 → (length into.new ≡ 0) ⊎ (length bytes.now ≤ at) }
 {
     let from = at.min(bytes.len());
     let (_, rest) = bytes.split_at(from);

@@ -1,8 +1,13 @@
 //! Where a folder in memory is found, and who else comes there.
-ghost use Rattle.std.specs.Prelude.{◌≡◌};
+ghost use Rattle.std.specs.Prelude.{◌≡◌, IsTrue, Some, None, IfOk, IfErr};
+ghost use Rattle.std.specs.IoError.{error_kind};
+ghost use Rattle.std.specs.declared.io.ErrorKind.TheVariants.{NotFound};
+ghost use Rattle.folder_model.specs.Found.{IsFoundAfterCrash};
+ghost use Rattle.memory_folder.specs.Found.{past_found, found_in, is_alone};
 
 use crate::memory_folder::MemoryFolder;
 use crate::plan::Plan;
+use capture::Memory;
 use folder_model::{Folder, Folders, Lock};
 use std::alloc::Global;
 use std::io::ErrorKind;
@@ -22,7 +27,7 @@ pub struct Visit {
     pub synced: bool,
 }
 
-/// One folder in memory, at whatever path, which is there or not. While it is held nobody else has it: a second `hold` is refused.
+/// One folder in memory, which is there or not. While it is held nobody else has it: a second `hold` is refused.
 #[derive(Drop)]
 pub struct MemoryFolders {
     /// The folder, where it is there and not held.
@@ -36,9 +41,10 @@ pub struct MemoryFolders {
 }
 
 impl MemoryFolders {
-    /// This folder, where there is one. No call fails.
+    /// This folder, where there is one. No call fails, and nobody else comes.
     pub fn new(alloc: Global, folder: Option<MemoryFolder>) -> MemoryFolders
-        ensures { result.folder ≡ folder }
+        ensures folder { result.folder ≡ folder }
+        ensures alone { IsTrue (is_alone result) }
     {
         MemoryFolders {
             folder,
@@ -49,8 +55,20 @@ impl MemoryFolders {
         }
     }
 
+    /// Stops the machine, as a crash now may, and starts it again, for a folder that nobody holds. The choices are those of
+    /// [`MemoryFolder::stop`]. Then no call fails, and nobody else comes.
+    pub fn stop(&self, choice: u32) -> Result<MemoryFolders, Memory>
+        ensures left { IfOk result (λ left. IsFoundAfterCrash (found_in self.now) (found_in left)) }
+        ensures alone { IfOk result (λ left. IsTrue (is_alone left)) }
+    {
+        let left = left_of(&self.folder, choice)?;
+        Ok(MemoryFolders::new(self.alloc, left))
+    }
+
     /// Lets others come who come before this call, counts it, and says whether it is to fail.
-    fn begin(&mut self) -> bool {
+    fn begin(&mut self) -> bool
+        ensures { IsTrue (is_alone self.old) → self.new.folder ≡ self.old.folder }
+    {
         if !self.held {
             self.visit();
         }
@@ -58,7 +76,12 @@ impl MemoryFolders {
     }
 
     /// Lets others come who come before this call.
-    fn visit(&mut self) {
+    fn visit(&mut self)
+        ensures { IsTrue (is_alone self.old) → self.new.folder ≡ self.old.folder }
+    {
+        if self.visits.as_slice().is_empty() {
+            return;
+        }
         for visit in self.visits.as_slice() {
             if visit.call == self.plan.calls {
                 come(self.alloc, &mut self.folder, visit);
@@ -66,13 +89,41 @@ impl MemoryFolders {
         }
     }
 
+    /// Fails where a call is to fail that does nothing.
+    fn check(&mut self) -> io::Result<()> {
+        if self.begin() {
+            return Err(io::Error::from(ErrorKind::Other));
+        }
+        Ok(())
+    }
+
     /// Takes the folder out, where it is there.
-    fn take(&mut self) -> io::Result<MemoryFolder> {
+    fn take(&mut self) -> io::Result<MemoryFolder>
+        ensures there { IfOk result (λ folder. self.old.folder ≡ Some folder) }
+        ensures none { IfErr result (λ error. error_kind error ≡ NotFound → self.old.folder ≡ None) }
+    {
         match self.folder.take() {
             Some(folder) => Ok(folder),
             None if self.held => Err(io::Error::from(ErrorKind::WouldBlock)),
             None => Err(io::Error::from(ErrorKind::NotFound)),
         }
+    }
+
+    /// Puts it where it is found.
+    fn put(&mut self, folder: MemoryFolder)
+        ensures { self.new.folder ≡ Some folder }
+    {
+        self.folder = Some(folder);
+    }
+}
+
+/// What a crash leaves of a folder, where there is one.
+fn left_of(folder: &Option<MemoryFolder>, choice: u32) -> Result<Option<MemoryFolder>, Memory>
+    ensures { IfOk result (λ left. IsFoundAfterCrash (past_found folder.now) (past_found left)) }
+{
+    match folder {
+        Some(folder) => folder.stop(choice),
+        None => Ok(None),
     }
 }
 
@@ -101,27 +152,32 @@ fn visit_folder(folder: &mut MemoryFolder, visit: &Visit) -> io::Result<()> {
 impl Folders for MemoryFolders {
     type Folder = MemoryFolder;
 
-    fn make_folder(&mut self, path: &str) -> io::Result<()> {
-        let _ = path;
+    ghost alone = { is_alone };
+
+    ghost found = { found_in };
+
+    fn make_folder(&mut self) -> io::Result<()> {
         if self.begin() {
             return Err(io::Error::from(ErrorKind::Other));
         }
-        if self.held || self.folder.is_some() {
+        if self.held {
+            return Err(io::Error::from(ErrorKind::AlreadyExists));
+        }
+        if self.folder.is_some() {
             return Err(io::Error::from(ErrorKind::AlreadyExists));
         }
         self.folder = Some(MemoryFolder::empty(self.alloc, false));
         Ok(())
     }
 
-    fn hold(&mut self, path: &str, lock: Lock) -> io::Result<MemoryFolder> {
-        let _ = path;
+    fn hold(&mut self, lock: Lock) -> io::Result<MemoryFolder> {
         let _ = lock;
         if self.begin() {
             return Err(io::Error::from(ErrorKind::Other));
         }
         let mut folder = self.take()?;
         if !folder.store.is_unfailed() {
-            self.folder = Some(folder);
+            self.put(folder);
             return Err(io::Error::from(ErrorKind::Other));
         }
         folder.plan = mem::replace(&mut self.plan, Plan::none(self.alloc));
@@ -132,23 +188,22 @@ impl Folders for MemoryFolders {
     fn let_go(&mut self, folder: MemoryFolder) {
         let mut folder = folder;
         self.plan = mem::replace(&mut folder.plan, Plan::none(self.alloc));
-        self.folder = Some(folder);
+        self.put(folder);
         self.held = false;
     }
 
-    fn is_link(&mut self, path: &str) -> io::Result<bool> {
-        let _ = path;
+    fn is_link(&mut self) -> io::Result<bool> {
         if self.begin() {
             return Err(io::Error::from(ErrorKind::Other));
         }
         Ok(false)
     }
 
-    fn check_writable(&mut self, path: &str) -> io::Result<()> {
-        let _ = path;
-        if self.begin() {
-            return Err(io::Error::from(ErrorKind::Other));
-        }
-        Ok(())
+    fn check_writable(&mut self) -> io::Result<()> {
+        self.check()
+    }
+
+    fn check_around(&mut self) -> io::Result<()> {
+        self.check()
     }
 }

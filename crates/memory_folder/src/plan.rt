@@ -14,7 +14,7 @@ pub struct Plan {
     pub fuse: Option<u64>,
     /// Whether a call that is to fail does a part: a write its first half, a cut and a `make` all.
     pub in_part: bool,
-    /// How many bytes a read or a write moves at most.
+    /// How many bytes a read or a write moves at most. A read moves one at least, where there is one.
     pub most: usize,
     /// How many calls were made.
     pub calls: u64,
