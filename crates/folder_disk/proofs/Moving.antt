@@ -7,6 +7,7 @@ use Rattle.std.proofs.Crossing.{crosses}
 use Rattle.std.specs.declared.fmt.Display.{Ghosts as Displays}
 use Rattle.shown.specs.contracts.shown.Shown as shown
 use Rattle.folder_model.specs.declared.folder.Folder.{Ghosts as Folders}
+use Rattle.folder_model.specs.declared.folders.Folders.{Ghosts as Places}
 use Rattle.folder_model.specs.contracts.timed.Timed as timed
 use Rattle.folder_disk.specs.declared.names.FileNames.{Ghosts as Names}
 use Rattle.folder_disk.specs.contracts.trust.Trust as trust
@@ -57,10 +58,10 @@ held_send F N T P f t =
 standing_send : (S N F T P : RattleType) → IsSend F → IsSend T → IsSend (standing.the_row S N F T P)
 standing_send S N F T P f t = variants_send (standing.enum S N F T P) ((held_send F N T P f t, tt), (tt, (tt, tt)))
 
-inside_send : (S N F T P : RattleType) (g : Folders F.Denot T.Denot) (n : Names N.Denot P.Denot) (p : Displays P.Denot) →
-    IsSend S → IsSend F → IsSend T → IsSend (inside.the_row S N F T P g n p)
-inside_send S N F T P g n p s f t =
-    declared_send (inside.the_type S N F T P g n p) (
+inside_send : (S N F T P : RattleType) (w : Places S.Denot F.Denot T.Denot) (g : Folders F.Denot T.Denot) (n : Names N.Denot P.Denot) (p : Displays P.Denot) →
+    IsSend S → IsSend F → IsSend T → IsSend (inside.the_row S N F T P w g n p)
+inside_send S N F T P w g n p s f t =
+    declared_send (inside.the_type S N F T P w g n p) (
       as_row_send (row_field S) s,
       (
         search (sendable, crosses) depth 20,
@@ -71,9 +72,9 @@ inside_send S N F T P g n p s f t =
       ),
     )
 
-pub disk_send : (S N F T P : RattleType) (g : Folders F.Denot T.Denot) (n : Names N.Denot P.Denot) (p : Displays P.Denot) →
-    IsSend S → IsSend F → IsSend T → IsSend (disk.the_row S N F T P g n p)
-disk_send S N F T P g n p s f t = let i = inside_send S N F T P g n p s f t in search (sendable, crosses) depth 20
+pub disk_send : (S N F T P : RattleType) (w : Places S.Denot F.Denot T.Denot) (g : Folders F.Denot T.Denot) (n : Names N.Denot P.Denot) (p : Displays P.Denot) →
+    IsSend S → IsSend F → IsSend T → IsSend (disk.the_row S N F T P w g n p)
+disk_send S N F T P w g n p s f t = let i = inside_send S N F T P w g n p s f t in search (sendable, crosses) depth 20
 
 reading_send : (F N T P : RattleType) → IsSend F → IsSend T → IsSend (reading.the_row F N T P)
 reading_send F N T P f t = search (sendable, crosses) depth 40

@@ -22,3 +22,8 @@ pub record Kept (F : Type 0) : Type 0 where
 abbrev pub state_in : {F : Type 0} → (F → FolderPast) → Option (InFolder F) → State
 state_in past None = no_folder
 state_in past (Some held) = record { past = past held.folder; warc = held.warc; cdxj = held.cdxj; trust = held.trust; times = held.times }
+
+-- the folder, where there is one
+abbrev pub folder_in : {F : Type 0} → Option (InFolder F) → Option F
+folder_in None = None
+folder_in (Some held) = Some held.folder

@@ -4,9 +4,11 @@ pub mod Counting
 pub mod Doubts
 pub mod Held
 pub mod Kept
+pub mod Laws
 pub mod Mending
 pub mod NameTexts
 pub mod OpenFiles
+pub mod Reader
 pub mod Standing
 pub mod State
 pub mod View

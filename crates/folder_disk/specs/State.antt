@@ -1,6 +1,6 @@
 -- A disk over a folder as contracts see it.
-use Rattle.std.specs.Prelude.{◌^◌, ◌≡◌, ◌⊎◌, ◌<◌, ◌+◌, ℕ, Bool, true, false, IsTrue, None, List, []}
-use Rattle.disk_model.specs.Image.{Image, file_count}
+use Rattle.std.specs.Prelude.{◌^◌, ◌≡◌, ◌⊎◌, ◌<◌, ◌+◌, ℕ, Bool, true, false, IsTrue, Option, Some, None, List, []}
+use Rattle.disk_model.specs.Image.{Image, no_files, file_count}
 use Rattle.disk_model.specs.declared.kind.Kind.{Kind}
 use Rattle.disk_model.specs.declared.kind.Kind.TheVariants.{Warc, Cdxj}
 use Rattle.folder_model.specs.Folder.{FolderPast, contents_of, IsUnfailed}
@@ -70,6 +70,11 @@ pub record IsCounted (name : Kind → ℕ → List ℕ) (past : FolderPast) (war
   pub seen : IsSeen name (contents_of past) image
   pub counts : (kind : Kind) → file_count image kind ≡ known_of warc cdxj kind
   pub numbers : (kind : Kind) → known_of warc cdxj kind < 2 ^ 32
+
+-- A disk reads what is seen of the folder that was found: its files under their names, and none where there was no folder.
+abbrev pub IsAsFound : (Kind → ℕ → List ℕ) → Option FolderPast → Image → Type 0
+IsAsFound name None image = image ≡ no_files
+IsAsFound name (Some past) image = IsSeen name (contents_of past) image
 
 -- A disk that was just made: it has so many files of each kind, hasn't given up, and its first moment has begun.
 pub record IsNew (warc cdxj : ℕ) (s : State) : Type 0 where

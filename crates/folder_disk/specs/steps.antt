@@ -1,6 +1,7 @@
 -- The laws' proofs. They stand here since the impl of `Disk` cites them.
 pub mod BegunLaws
 pub mod CountLaws
+pub mod FoundLaws
 pub mod NameLaws
 pub mod OpenLaws
 pub mod StateLaws

@@ -13,9 +13,6 @@ use std::str::from_utf8;
 /// The folder of the archive, in the folder where the program runs.
 pub const FOLDER: &str = "archive";
 
-/// The folder around it.
-pub(crate) const AROUND: &str = ".";
-
 /// `vol-NNNNNN.warc` and `vol-NNNNNN.cdxj`, with six digits or more.
 #[derive(Drop)]
 pub struct ArchiveNames;

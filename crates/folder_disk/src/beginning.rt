@@ -1,12 +1,15 @@
 //! How a disk comes to hold its folder.
-ghost use Rattle.std.specs.Prelude.{◌≡◌, IsTrue, IfOk};
-ghost use Rattle.folder_model.specs.Folder.{IsUnfailed};
+ghost use Rattle.std.specs.Prelude.{◌≡◌, IsTrue, IfOk, OnOk};
+ghost use Rattle.std.specs.IoError.{error_kind};
+ghost use Rattle.std.specs.declared.io.ErrorKind.TheVariants.{NotFound};
+ghost use Rattle.disk_model.specs.Image.{no_files};
+ghost use Rattle.folder_model.specs.Folder.{contents_of, IsUnfailed};
+ghost use Rattle.folder_model.specs.Seen.{IsSeen};
 ghost use Rattle.folder_disk.specs.Begun.{IsBegunHeld, IsBegunIn, IsHeldSince};
 ghost use Rattle.folder_disk.specs.Held.{state_of, AreHeld};
 ghost use Rattle.folder_disk.specs.Standing.{state_at, AreOpenAt};
-ghost use Rattle.folder_disk.specs.State.{IsCounted, IsKnown};
+ghost use Rattle.folder_disk.specs.State.{IsAsFound, IsCounted, IsKnown, reading};
 
-use crate::archive_names::{AROUND, FOLDER};
 use crate::counting::{Counts, count};
 use crate::held::Held;
 use crate::names::FileNames;
@@ -47,14 +50,27 @@ where
     N: FileNames,
     ensures known { IsTrue S.Folder.tells → IfOk result (λ standing. IsKnown N.name (state_at S.Folder.past standing)) }
     ensures open { IsTrue S.Folder.tells → IfOk result (AreOpenAt N.name S.Folder.name_of S.Folder.past) }
+    ensures found { IsTrue S.Folder.tells → IsTrue (S.alone system.old) → IfOk result
+        (λ standing. IsAsFound N.name (S.found system.old) (reading N.name (state_at S.Folder.past standing))) }
 {
-    match take(system) {
+    match system.hold(Lock::Alone) {
         Ok(folder) => found(system, folder, alloc),
-        Err(error) => {
-            check_absent(system, error)?;
-            Ok(Standing::Absent)
-        }
+        Err(error) => absent(system, error),
     }
+}
+
+/// Finds no folder, which may be made, or fails with the cause that it wasn't held.
+fn absent<S, N>(system: &mut S, error: io::Error) -> io::Result<Standing<S, N>>
+where
+    S: Folders,
+    N: FileNames,
+    ensures known { IfOk result (λ standing. IsKnown N.name (state_at S.Folder.past standing)) }
+    ensures open { IfOk result (AreOpenAt N.name S.Folder.name_of S.Folder.past) }
+    ensures none { IfOk result (λ standing. reading N.name (state_at S.Folder.past standing) ≡ no_files) }
+    ensures missing { OnOk result (error_kind error ≡ NotFound) }
+{
+    check_absent(system, error)?;
+    Ok(Standing::Absent)
 }
 
 /// Holds a folder that is there, or lets it go.
@@ -66,7 +82,13 @@ where
     requires { IsTrue S.Folder.tells → IsUnfailed (S.Folder.past folder) }
     ensures known { IsTrue S.Folder.tells → IfOk result (λ standing. IsKnown N.name (state_at S.Folder.past standing)) }
     ensures open { IsTrue S.Folder.tells → IfOk result (AreOpenAt N.name S.Folder.name_of S.Folder.past) }
+    ensures seen { IsTrue S.Folder.tells → IfOk result
+        (λ standing. IsSeen N.name (contents_of (S.Folder.past folder)) (reading N.name (state_at S.Folder.past standing))) }
 {
+    if let Err(error) = system.check_writable() {
+        system.let_go(folder);
+        return Err(error);
+    }
     match held_by_counts(folder, alloc) {
         Ok(held) => Ok(Standing::Held(held)),
         Err(unheld) => {
@@ -154,7 +176,7 @@ where
     S::Folder: Drop,
     ensures { IsTrue S.Folder.tells → IfOk result (λ folder. IsUnfailed (S.Folder.past folder)) }
 {
-    if let Err(error) = system.make_folder(FOLDER) {
+    if let Err(error) = system.make_folder() {
         if error.kind() != ErrorKind::AlreadyExists {
             return Err(error);
         }
@@ -169,8 +191,8 @@ where
     S::Folder: Drop,
     ensures { IsTrue S.Folder.tells → IfOk result (λ folder. IsUnfailed (S.Folder.past folder)) }
 {
-    match system.hold(FOLDER, Lock::Alone) {
-        Ok(folder) => match system.check_writable(FOLDER) {
+    match system.hold(Lock::Alone) {
+        Ok(folder) => match system.check_writable() {
             Ok(()) => Ok(folder),
             Err(error) => {
                 system.let_go(folder);
@@ -188,7 +210,9 @@ where
     F: Folder + Drop,
     N: FileNames,
     requires { IsTrue F.tells → IsUnfailed (F.past folder) }
-    ensures { IsTrue F.tells → IfOk result (IsHeldSince N.name F.name_of F.past) }
+    ensures since { IsTrue F.tells → IfOk result (IsHeldSince N.name F.name_of F.past) }
+    ensures seen { IsTrue F.tells → IfOk result
+        (λ held. IsSeen N.name (contents_of (F.past folder)) (reading N.name (state_of F.past held))) }
 {
     let mut folder = folder;
     match count_to_write::<F, N>(&mut folder, alloc) {
@@ -207,7 +231,9 @@ where
     N: FileNames,
     requires known { IsTrue F.tells → IsKnown N.name (state_of F.past held) }
     requires open { IsTrue F.tells → AreHeld N.name F.name_of F.past held }
-    ensures { IsTrue F.tells → IfOk result (IsHeldSince N.name F.name_of F.past) }
+    ensures since { IsTrue F.tells → IfOk result (IsHeldSince N.name F.name_of F.past) }
+    ensures same { IsTrue F.tells → IfOk result
+        (λ synced. reading N.name (state_of F.past synced) ≡ reading N.name (state_of F.past held)) }
 {
     let mut held = held;
     match sync_lasts(&mut held) {
@@ -228,6 +254,7 @@ where
     requires open { IsTrue F.tells → AreHeld N.name F.name_of F.past held.old }
     ensures known { IsTrue F.tells → IsKnown N.name (state_of F.past held.new) }
     ensures open { IsTrue F.tells → AreHeld N.name F.name_of F.past held.new }
+    ensures same { IsTrue F.tells → reading N.name (state_of F.past held.new) ≡ reading N.name (state_of F.past held.old) }
 {
     held.sync_last(Kind::Warc)?;
     held.sync_last(Kind::Cdxj)
@@ -236,7 +263,8 @@ where
 /// Counts the files of a folder, and fails where this process may not write the last of a kind.
 fn count_to_write<F: Folder, N: FileNames>(folder: &mut F, alloc: Global) -> io::Result<Counts>
     requires { IsTrue F.tells → IsUnfailed (F.past folder.old) }
-    ensures { IsTrue F.tells → IfOk result (λ counts. IsCounted N.name (F.past folder.new) counts.warc counts.cdxj) }
+    ensures past { IsTrue F.tells → F.past folder.new ≡ F.past folder.old }
+    ensures counts { IsTrue F.tells → IfOk result (λ counts. IsCounted N.name (F.past folder.new) counts.warc counts.cdxj) }
 {
     let counts = count::<F, N>(folder, alloc)?;
     check_last::<F, N>(folder, alloc, Kind::Warc, counts.warc)?;
@@ -263,17 +291,21 @@ fn check_last<F: Folder, N: FileNames>(
 }
 
 /// Fails unless the folder wasn't held since it isn't there, and this process may make it.
-fn check_absent<S: Folders>(system: &mut S, error: io::Error) -> io::Result<()> {
+fn check_absent<S: Folders>(system: &mut S, error: io::Error) -> io::Result<()>
+    ensures { OnOk result (error_kind error ≡ NotFound) }
+{
     check_missing(system, error)?;
-    system.check_writable(AROUND)
+    system.check_around()
 }
 
 /// Fails unless the folder wasn't held since it isn't there. A link that leads to none isn't one that isn't there.
-pub(crate) fn check_missing<S: Folders>(system: &mut S, error: io::Error) -> io::Result<()> {
+pub(crate) fn check_missing<S: Folders>(system: &mut S, error: io::Error) -> io::Result<()>
+    ensures { OnOk result (error_kind error ≡ NotFound) }
+{
     if error.kind() != ErrorKind::NotFound {
-        return Err(error);
+        return Err(of_lock(error));
     }
-    if system.is_link(FOLDER)? {
+    if system.is_link()? {
         return Err(leads_nowhere());
     }
     Ok(())

@@ -1,8 +1,8 @@
 //! A disk of numbered files in the folder `archive`.
-ghost use Rattle.std.specs.Prelude.{◌≡◌, IfOk};
+ghost use Rattle.std.specs.Prelude.{◌≡◌, IsTrue, Some, IfOk, IfSome};
 ghost use Rattle.folder_model.specs.Times.{moment_of};
-ghost use Rattle.folder_disk.specs.Kept.{state_in};
-ghost use Rattle.folder_disk.specs.State.{reading, images, images_since};
+ghost use Rattle.folder_disk.specs.Kept.{folder_in, state_in};
+ghost use Rattle.folder_disk.specs.State.{IsAsFound, reading, images, images_since};
 ghost use Rattle.folder_disk.specs.steps.StateLaws.{reading_counts, no_more, now_counts, now_only, earlier};
 
 use crate::archive_names::FOLDER;
@@ -49,7 +49,9 @@ impl<S: Folders, N: FileNames> FolderDisk<S, N> {
     pub fn open(system: S, alloc: Global) -> Result<FolderDisk<S, N>, Unopened<S>>
     where
         S::Folder: Drop,
-        ensures { IfOk result (λ disk. disk.faults ≡ 0) }
+        ensures faults { IfOk result (λ disk. disk.faults ≡ 0) }
+        ensures found { IsTrue S.Folder.tells → IsTrue (S.alone system) → IfOk result
+            (λ disk. IsAsFound N.name (S.found system) (reading N.name (state_in S.Folder.past disk.held))) }
     {
         let mut system = system;
         match find(&mut system, alloc) {
@@ -68,6 +70,7 @@ impl<S: Folders, N: FileNames> FolderDisk<S, N> {
     where
         S: Drop,
         S::Folder: Drop,
+        ensures { IsTrue S.Folder.tells → IfSome (folder_in self.held) (λ folder. S.found result ≡ Some (S.Folder.past folder)) }
     {
         let FolderDisk {
             system,
@@ -75,12 +78,14 @@ impl<S: Folders, N: FileNames> FolderDisk<S, N> {
             standing,
             faults: _,
         } = self;
-        let mut system = system;
         match standing.into_folder() {
-            Some(folder) => system.let_go(folder),
-            None => {}
+            Some(folder) => {
+                let mut system = system;
+                system.let_go(folder);
+                system
+            }
+            None => system,
         }
-        system
     }
 }
 

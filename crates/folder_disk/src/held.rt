@@ -1,7 +1,8 @@
 //! A folder that is held, as a disk.
 ghost use Rattle.std.specs.Prelude.{◌≡◌, ◌≢◌, ◌<◌, ◌≤◌, ◌+◌, Bool, true, false, Some, IsTrue, IfOk, OnOk, length, take, drop};
 ghost use Rattle.disk_model.specs.Image.{file_count, file_of};
-ghost use Rattle.folder_model.specs.Folder.{SyncedFolder, SyncedAround, did};
+ghost use Rattle.folder_model.specs.Folder.{SyncedFolder, SyncedAround, did, contents_of};
+ghost use Rattle.folder_model.specs.Seen.{IsSeen};
 ghost use Rattle.folder_disk.specs.Calls.{Creates, WritesAt, Cuts, Syncs, Looks};
 ghost use Rattle.folder_disk.specs.Doubts.{range_of, doubt_in};
 ghost use Rattle.folder_disk.specs.Held.{state_of, AreHeld};
@@ -41,6 +42,8 @@ impl<F: Folder + Drop, N: FileNames> Held<F, N> {
         requires { IsTrue F.tells → IsCounted N.name (F.past folder) counts.warc counts.cdxj }
         ensures known { IsTrue F.tells → IfOk result (λ held. IsKnown N.name (state_of F.past held)) }
         ensures open { IfOk result (λ held. AreHeld N.name F.name_of F.past held) }
+        ensures seen { IsTrue F.tells → IfOk result
+            (λ held. IsSeen N.name (contents_of (F.past folder)) (reading N.name (state_of F.past held))) }
         ensures new { IfOk result (λ held. IsNew counts.warc counts.cdxj (state_of F.past held)) }
     {
         let mut folder = folder;
@@ -60,7 +63,9 @@ impl<F: Folder + Drop, N: FileNames> Held<F, N> {
     }
 
     /// The folder, whose files are closed.
-    pub(crate) fn into_folder(self) -> F {
+    pub(crate) fn into_folder(self) -> F
+        ensures { result ≡ self.timed.folder }
+    {
         let Held { timed, .. } = self;
         let Timed { folder, .. } = timed;
         folder
@@ -248,6 +253,7 @@ impl<F: Folder, N: FileNames> Held<F, N> {
         requires open { IsTrue F.tells → AreHeld N.name F.name_of F.past self.old }
         ensures known { IsTrue F.tells → IsKnown N.name (state_of F.past self.new) }
         ensures open { IsTrue F.tells → AreHeld N.name F.name_of F.past self.new }
+        ensures same { IsTrue F.tells → reading N.name (state_of F.past self.new) ≡ reading N.name (state_of F.past self.old) }
     {
         match self.known(kind).checked_sub(1) {
             None => Ok(()),

@@ -1,13 +1,14 @@
 //! A disk of numbered files in the folder `archive`, to be read alone.
-ghost use Rattle.std.specs.Prelude.{◌≡◌, false, IfOk};
+ghost use Rattle.std.specs.Prelude.{◌≡◌, false, IsTrue, IfOk};
 ghost use Rattle.disk_model.specs.Image.{no_files};
+ghost use Rattle.folder_disk.specs.Reader.{past_in, past_read};
 
 use crate::archive_names::FOLDER;
 use crate::beginning::check_missing;
 use crate::causes::{Causes, told};
 use crate::names::FileNames;
 use crate::reading::Reading;
-use crate::reasons::{of_lock, only_read, unknown};
+use crate::reasons::{only_read, unknown};
 use crate::unopened::Unopened;
 use capture::Failed;
 use disk_model::{Disk, Kind};
@@ -30,7 +31,9 @@ impl<S: Folders, N: FileNames> FolderReader<S, N> {
     pub fn open(system: S, alloc: Global) -> Result<FolderReader<S, N>, Unopened<S>>
     where
         S::Folder: Drop,
-        ensures { IfOk result (λ disk. disk.faults ≡ 0) }
+        ensures faults { IfOk result (λ disk. disk.faults ≡ 0) }
+        ensures found { IsTrue S.Folder.tells → IsTrue (S.alone system) → IfOk result
+            (λ disk. past_read S.Folder.past disk ≡ S.found system) }
     {
         let mut system = system;
         match find(&mut system, alloc) {
@@ -97,11 +100,13 @@ where
     S: Folders,
     S::Folder: Drop,
     N: FileNames,
+    ensures { IsTrue S.Folder.tells → IsTrue (S.alone system.old) → IfOk result
+        (λ folder. past_in S.Folder.past folder ≡ S.found system.old) }
 {
-    match system.hold(FOLDER, Lock::Shared) {
+    match system.hold(Lock::Shared) {
         Ok(folder) => Ok(Some(Reading::open(folder, alloc)?)),
         Err(error) => {
-            check_missing(system, of_lock(error))?;
+            check_missing(system, error)?;
             Ok(None)
         }
     }

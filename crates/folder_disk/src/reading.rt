@@ -1,4 +1,5 @@
 //! A folder that is held beside others that read.
+ghost use Rattle.std.specs.Prelude.{◌≡◌, IsTrue, IfOk};
 
 use crate::counting::{Counts, count};
 use crate::names::FileNames;
@@ -22,7 +23,9 @@ pub(crate) struct Reading<F: Folder, N: FileNames> {
 
 impl<F: Folder + Drop, N: FileNames> Reading<F, N> {
     /// A folder, whose files are counted.
-    pub(crate) fn open(folder: F, alloc: Global) -> io::Result<Reading<F, N>> {
+    pub(crate) fn open(folder: F, alloc: Global) -> io::Result<Reading<F, N>>
+        ensures { IsTrue F.tells → IfOk result (λ reading. F.past reading.folder ≡ F.past folder) }
+    {
         let mut folder = folder;
         let counts = count::<F, N>(&mut folder, alloc)?;
         Ok(Reading {

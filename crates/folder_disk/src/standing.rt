@@ -2,7 +2,8 @@
 ghost use Rattle.std.specs.Prelude.{◌≡◌, ◌<◌, ◌≤◌, IsTrue, IfOk, OnOk, length, take, drop};
 ghost use Rattle.disk_model.specs.Image.{file_count, file_of};
 ghost use Rattle.folder_disk.specs.Calls.{Creates, WritesAt, Cuts, Syncs, Looks};
-ghost use Rattle.folder_disk.specs.Standing.{state_at, AreOpenAt};
+ghost use Rattle.folder_disk.specs.Kept.{folder_in};
+ghost use Rattle.folder_disk.specs.Standing.{held_at, state_at, AreOpenAt};
 ghost use Rattle.folder_disk.specs.State.{IsKnown, no_folder, reading};
 
 use crate::beginning::{Begun, begin};
@@ -170,6 +171,7 @@ impl<S: Folders, N: FileNames> Standing<S, N> {
     pub(crate) fn into_folder(self) -> Option<S::Folder>
     where
         S::Folder: Drop,
+        ensures { result ≡ folder_in (held_at self) }
     {
         match self {
             Standing::Held(held) => Some(held.into_folder()),

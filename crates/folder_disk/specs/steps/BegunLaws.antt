@@ -1,16 +1,17 @@
 -- Laws of a disk without a folder, and of one whose folder was just made.
 use Rattle.std.proofs.Common.{◌≡◌, ◌<◌, ◌≤◌, ◌^◌, ℕ, Bool, IsTrue, List, [], ◌∷◌, length, refl, sym, ap, ◌∙◌, subst, inl, inr, ⊎_elim, arith}
-use Rattle.std.specs.Prelude.{Result, Err, OnOk, OnErr, IfOk}
+use Rattle.std.specs.Prelude.{Option, Result, Ok, Err, OnOk, OnErr, IfOk}
 use Rattle.disk_model.specs.Crash.{MayCreate, Stepped}
 use Rattle.disk_model.specs.Image.{Image, no_files, files_of, file_count, with_new}
 use Rattle.disk_model.specs.declared.kind.Kind.{Kind}
 use Rattle.disk_model.specs.declared.kind.Kind.TheVariants.{Warc, Cdxj}
+use Rattle.folder_model.specs.Folder.{FolderPast}
 use Rattle.folder_model.specs.Times.{moment_of}
 use Rattle.folder_model.specs.Known.{image_of}
 use Rattle.folder_disk.specs.Calls.{Creates}
 use Rattle.folder_disk.specs.Doubts.{AreTorn}
 use Rattle.folder_disk.specs.declared.trust.Trust.{Trust}
-use Rattle.folder_disk.specs.State.{State, no_folder, known_of, reading, IsKnown, images, images_since, IsNew}
+use Rattle.folder_disk.specs.State.{State, no_folder, known_of, reading, IsAsFound, IsKnown, images, images_since, IsNew}
 use Rattle.folder_disk.specs.steps.StateLaws.{no_more, now_counts, now_only}
 
 -- ---- no folder
@@ -61,6 +62,12 @@ no_folder_known name = record {
     none_torn : AreTorn name no_folder.past no_folder.trust
     none_torn Warc = tt
     none_torn Cdxj = tt
+
+-- a disk without files is as was found, where the cause that no folder was held is one that comes only where none is there
+pub none_found : {S E : Type 0} (name : Kind → ℕ → List ℕ) (read : S → Image) (Missing : Type 0) (there : Option FolderPast) (result : Result S E)
+    → (Missing → there ≡ None) → OnOk result Missing → IfOk result (λ s. read s ≡ no_files) → IfOk result (λ s. IsAsFound name there (read s))
+none_found name read Missing there (Ok s) gives missing nothing = subst (λ (o : Option FolderPast). IsAsFound name o (read s)) (sym (gives missing)) nothing
+none_found name read Missing there (Err e) gives missing nothing = tt
 
 none_moment : moment_of no_folder.times ≡ 0
 unfolding no_folder

@@ -13,7 +13,7 @@ use Rattle.folder_model.specs.File.{Made, Wrote, Synced, Shortened, Listed}
 use Rattle.std.specs.Prelude.{Option}
 use Rattle.std.specs.Option.{unwrap_or}
 use Rattle.folder_model.specs.Folder.{Deed, Did, FolderPast, SyncedFolder, SyncedAround, did, did_to, contents_of, bytes_of}
-use Rattle.folder_model.specs.Seen.{NamesApart, images_of}
+use Rattle.folder_model.specs.Seen.{NamesApart, IsSeen, images_of}
 use Rattle.folder_model.specs.Times.{Times, moment_of, goes_on, images_since_of}
 use Rattle.folder_model.specs.Known.{IsInDoubt, Knows}
 use Rattle.folder_model.specs.Whole.{AreSyncs, WritesWithin, IsWriting, MakesInPart, made_durably}
@@ -486,6 +486,11 @@ opened name warc cdxj old new trust times counted whole fresh began =
     none_torn : AreTorn name new (record { gave_up = false; warc = None; cdxj = None })
     none_torn Warc = tt
     none_torn Cdxj = tt
+
+-- syncs of names leave what is seen
+pub still_seen : (name : Kind → ℕ → List ℕ) (old new : FolderPast) (image : Image)
+    → new ≡ did (did old (SyncedFolder true)) (SyncedAround true) → IsSeen name (contents_of new) image → IsSeen name (contents_of old) image
+still_seen name old new image whole seen = subst (λ (p : FolderPast). IsSeen name (contents_of p) image) whole seen
 
 -- ---- a call behind whose deeds the folder was only looked at
 

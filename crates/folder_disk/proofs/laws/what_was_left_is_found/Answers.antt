@@ -1,0 +1,9 @@
+-- The next run goes on where this one ended.
+use Rattle.folder_disk.specs.steps.FoundLaws.{crashed_is_image, let_go_is_read}
+use Rattle.folder_disk.proofs.laws.what_was_left_is_found.Goals as goal
+
+pub returns-clause-crashed : goal.returns-clause-crashed
+returns-clause-crashed c = crashed_is_image
+
+pub returns-clause-let_go : goal.returns-clause-let_go
+returns-clause-let_go c = let_go_is_read

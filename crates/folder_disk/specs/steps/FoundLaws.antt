@@ -1,0 +1,51 @@
+-- Laws of a disk whose folder is found again.
+use Rattle.std.proofs.Common.{◌≡◌, ◌<◌, ◌≤◌, ◌^◌, ℕ, List, refl, sym, ◌∙◌, subst, inr, ⊎_elim, arith}
+use Rattle.std.proofs.lemmas.Bool.{cases_lt}
+use Rattle.std.proofs.lemmas.Option.{none-some}
+use Rattle.std.specs.Prelude.{Some, None}
+use Rattle.disk_model.specs.Image.{Image, no_files, files_of, file_count, file_of}
+use Rattle.disk_model.specs.declared.kind.Kind.{Kind}
+use Rattle.disk_model.specs.declared.kind.Kind.TheVariants.{Warc, Cdxj}
+use Rattle.folder_model.specs.Folder.{Contents}
+use Rattle.folder_model.specs.Found.{contents_found}
+use Rattle.folder_model.specs.Seen.{IsSeen}
+use Rattle.folder_model.specs.steps.KnownLaws.{reading_is}
+use Rattle.folder_disk.specs.Laws.{CrashedIsImage, LetGoIsRead}
+use Rattle.folder_disk.specs.State.{known_of, reading}
+
+no_counts : (kind : Kind) → file_count no_files kind ≡ 0
+unfolding files_of
+no_counts Warc = refl
+no_counts Cdxj = refl
+
+-- where nothing is there is no file
+nothing_seen : (name : Kind → ℕ → List ℕ) → IsSeen name (λ n. None) no_files
+nothing_seen name = record {
+  few = λ kind. omega (arith, no_counts kind);
+  there = λ kind file inside. absurd (omega (arith, inside, no_counts kind));
+  no_more = λ kind file outside small. refl;
+}
+
+pub crashed_is_image : CrashedIsImage
+crashed_is_image name s None image known (left, settled) is =
+    (refl, inr (known, (contents_found None, left, subst (IsSeen name (λ n. None)) (sym is) (nothing_seen name))))
+crashed_is_image name s (Some past) image known (left, settled) seen = (refl, inr (known, (contents_found (Some past), left, seen)))
+
+-- images that are seen in the same contents have as many files
+no_fewer_seen : (name : Kind → ℕ → List ℕ) (contents : Contents) (one two : Image) (kind : Kind) → IsSeen name contents one → IsSeen name contents two
+    → file_count two kind ≤ file_count one kind
+no_fewer_seen name contents one two kind seen also =
+    ⊎_elim
+    (λ more.
+    let small : file_count one kind < 2 ^ 32 = omega (arith, more, also.few kind) in
+    absurd (none-some (file_of two kind (file_count one kind))
+    (sym (seen.no_more kind (file_count one kind) (omega arith) small) ∙ also.there kind (file_count one kind) more)))
+    (λ fewer. fewer)
+    (cases_lt (file_count one kind) (file_count two kind))
+
+pub let_go_is_read : LetGoIsRead
+unfolding reading
+let_go_is_read name s image known seen =
+    sym (reading_is name s.past (known_of s.warc s.cdxj) image seen known.knows.numbers
+    (λ kind. omega (arith, known.knows.no_fewer kind, no_fewer_seen name _ image (reading name s) kind seen known.knows.is.seen))
+    (λ kind. omega (arith, known.knows.one_more kind, no_fewer_seen name _ (reading name s) image kind known.knows.is.seen seen)))
