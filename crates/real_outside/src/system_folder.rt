@@ -5,7 +5,7 @@ ghost use Rattle.libc.specs.Io.{Ended};
 
 use crate::causes;
 use crate::file_system::{FileSystem, SilentFolders};
-use folder_disk::Causes;
+use folder_disk::{Causes, FOLDER};
 use folder_model::{Access, Folder, Folders, Lock, Names};
 use libc::{PATH_MAX, W_OK};
 use std::fmt::Display;
@@ -17,7 +17,7 @@ use std::{fs, io};
 /// Linux's number of the error that a file system has no locks, on x86-64 and aarch64.
 const ENOLCK: i32 = 37;
 
-/// Where the system's folders are found.
+/// Where the system's folder `archive` is found, in the folder where the program runs.
 #[derive(Clone, Copy)]
 pub struct SystemFolders {
     system: HostRuntime,
@@ -56,30 +56,32 @@ impl Causes for SystemFolders {
 impl Folders for SystemFolders {
     type Folder = SystemFolder;
 
-    fn make_folder(&mut self, path: &str) -> io::Result<()> {
-        fs::create_dir(&self.system, path)
+    ghost alone = { λ _. false };
+
+    ghost found = { λ _. None };
+
+    fn make_folder(&mut self) -> io::Result<()> {
+        fs::create_dir(&self.system, FOLDER)
     }
 
-    fn hold(&mut self, path: &str, lock: Lock) -> io::Result<SystemFolder> {
-        let folder = File::open(&self.system, path)?;
-        needed(lock, locked(&folder, lock))?;
-        let path = String::from_str(self.system.alloc(), path)?;
-        Ok(SystemFolder {
-            system: self.system,
-            folder,
-            path,
-        })
+    fn hold(&mut self, lock: Lock) -> io::Result<SystemFolder> {
+        held_at(self.system, FOLDER, lock)
     }
 
-    fn is_link(&mut self, path: &str) -> io::Result<bool> {
-        match fs::symlink_metadata(&self.system, path) {
-            Ok(metadata) => Ok(metadata.is_symlink()),
-            Err(error) => nothing_there(error),
-        }
+    fn let_go(&mut self, folder: SystemFolder) {
+        drop(folder);
     }
 
-    fn check_writable(&mut self, path: &str) -> io::Result<()> {
-        may_write(path)
+    fn is_link(&mut self) -> io::Result<bool> {
+        is_link_at(&self.system, FOLDER)
+    }
+
+    fn check_writable(&mut self) -> io::Result<()> {
+        may_write(FOLDER)
+    }
+
+    fn check_around(&mut self) -> io::Result<()> {
+        may_write(around(FOLDER))
     }
 }
 
@@ -165,6 +167,26 @@ impl Folder for SystemFolder {
     fn check_writable(&mut self, name: &str) -> io::Result<()> {
         let path = self.path_of(name)?;
         may_write(path.as_str())
+    }
+}
+
+/// Opens and locks the folder at a path.
+fn held_at(system: HostRuntime, path: &str, lock: Lock) -> io::Result<SystemFolder> {
+    let folder = File::open(&system, path)?;
+    needed(lock, locked(&folder, lock))?;
+    let path = String::from_str(system.alloc(), path)?;
+    Ok(SystemFolder {
+        system,
+        folder,
+        path,
+    })
+}
+
+/// Whether a symbolic link is at a path.
+fn is_link_at(system: &HostRuntime, path: &str) -> io::Result<bool> {
+    match fs::symlink_metadata(system, path) {
+        Ok(metadata) => Ok(metadata.is_symlink()),
+        Err(error) => nothing_there(error),
     }
 }
 
@@ -324,10 +346,10 @@ mod tests {
     }
 
     /// Whether a link of the system's, a folder and nothing are links.
-    fn links(folders: &mut SystemFolders) -> Written {
-        let link = folders.is_link("/proc/self").unwrap_or(false);
-        let folder = folders.is_link(".").unwrap_or(true);
-        let nothing = folders.is_link("/no/such/link").unwrap_or(true);
+    fn links(system: &HostRuntime) -> Written {
+        let link = is_link_at(system, "/proc/self").unwrap_or(false);
+        let folder = is_link_at(system, ".").unwrap_or(true);
+        let nothing = is_link_at(system, "/no/such/link").unwrap_or(true);
         written(format_args!("{link} {folder} {nothing}"))
     }
 
@@ -356,12 +378,12 @@ mod tests {
     }
 
     /// Syncs of what can't be synced are refused, so they are the system's.
-    fn refused_syncs(system: &mut SystemFolders) -> Written {
-        let folders = match system.hold("/proc/self", Lock::Shared) {
+    fn refused_syncs(system: HostRuntime) -> Written {
+        let folders = match held_at(system, "/proc/self", Lock::Shared) {
             Ok(mut folder) => syncs_of_folders(&mut folder),
             Err(_) => written("no folder"),
         };
-        let file = match system.hold("/dev", Lock::Shared) {
+        let file = match held_at(system, "/dev", Lock::Shared) {
             Ok(mut folder) => sync_of_file(&mut folder, "null"),
             Err(_) => written("no folder"),
         };
@@ -381,9 +403,8 @@ mod tests {
     // No case can say it: the disk of a case is in memory, lists no names and has no links.
     #[test]
     fn files_are_the_systems(rt: HostRuntime) {
-        let mut folders = rt.folders();
-        let syncs = refused_syncs(&mut folders);
-        let links = links(&mut folders);
+        let syncs = refused_syncs(rt);
+        let links = links(&rt);
         check(&rt, syncs, "failed;failed;failed;");
         check(&rt, writable(), "true false");
         check(&rt, links, "true false false");

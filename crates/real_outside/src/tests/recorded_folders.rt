@@ -4,7 +4,7 @@ ghost use Rattle.std.proofs.Common.{refl};
 
 use super::written::{Written, called, cause, joined, numbered, written};
 use crate::file_system::SilentFolders;
-use folder_disk::Causes;
+use folder_disk::{Causes, FOLDER};
 use folder_model::{Access, Folder, Folders, Lock, Names};
 use std::alloc::{AllocError, Global};
 use std::cell::Cell;
@@ -185,27 +185,39 @@ impl Causes for RecordedFolders {
 impl Folders for RecordedFolders {
     type Folder = RecordedFolder;
 
-    fn make_folder(&mut self, path: &str) -> io::Result<()> {
-        self.recorder.call("make", path)
+    ghost alone = { λ _. false };
+
+    ghost found = { λ _. None };
+
+    fn make_folder(&mut self) -> io::Result<()> {
+        self.recorder.call("make", FOLDER)
     }
 
-    fn hold(&mut self, path: &str, lock: Lock) -> io::Result<RecordedFolder> {
+    fn hold(&mut self, lock: Lock) -> io::Result<RecordedFolder> {
         let word = match lock {
             Lock::Alone => "lock",
             Lock::Shared => "share",
         };
-        self.recorder.call(word, path)?;
+        self.recorder.call(word, FOLDER)?;
         let recorder = self.recorder.share()?;
         Ok(RecordedFolder { recorder })
     }
 
-    fn is_link(&mut self, path: &str) -> io::Result<bool> {
-        let linked = self.recorder.plan.linked;
-        self.recorder.answer("is a link", path, linked)
+    fn let_go(&mut self, folder: RecordedFolder) {
+        drop(folder);
     }
 
-    fn check_writable(&mut self, path: &str) -> io::Result<()> {
-        self.recorder.call("may write", path)
+    fn is_link(&mut self) -> io::Result<bool> {
+        let linked = self.recorder.plan.linked;
+        self.recorder.answer("is a link", FOLDER, linked)
+    }
+
+    fn check_writable(&mut self) -> io::Result<()> {
+        self.recorder.call("may write", FOLDER)
+    }
+
+    fn check_around(&mut self) -> io::Result<()> {
+        self.recorder.call("may write", ".")
     }
 }
 
