@@ -2,7 +2,7 @@
 ghost use Rattle.std.specs.Prelude.{◌≡◌, IsTrue, Some, IfOk, IfSome};
 ghost use Rattle.folder_model.specs.Times.{moment_of};
 ghost use Rattle.folder_disk.specs.Kept.{folder_in, state_in};
-ghost use Rattle.folder_disk.specs.State.{IsAsFound, reading, images, images_since};
+ghost use Rattle.folder_disk.specs.State.{IsAsFound, IsKnown, reading, images, images_since};
 ghost use Rattle.folder_disk.specs.steps.StateLaws.{reading_counts, no_more, now_counts, now_only, earlier};
 
 use crate::archive_names::FOLDER;
@@ -65,12 +65,13 @@ impl<S: Folders, N: FileNames> FolderDisk<S, N> {
         }
     }
 
-    /// Where folders are found. The folder is let go, where it is held.
+    /// Where the folder is found. It is let go, where it is held, with all that was done in it.
     pub fn close(self) -> S
     where
         S: Drop,
         S::Folder: Drop,
-        ensures { IsTrue S.Folder.tells → IfSome (folder_in self.held) (λ folder. S.found result ≡ Some (S.Folder.past folder)) }
+        ensures found { IsTrue S.Folder.tells → IfSome (folder_in self.held) (λ folder. S.found result ≡ Some (S.Folder.past folder)) }
+        ensures known { IsTrue S.Folder.tells → IsKnown N.name (state_in S.Folder.past self.held) }
     {
         let FolderDisk {
             system,
