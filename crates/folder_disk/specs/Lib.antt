@@ -2,6 +2,7 @@ pub mod Begun
 pub mod Calls
 pub mod Counting
 pub mod Doubts
+pub mod Gaps
 pub mod Held
 pub mod Kept
 pub mod Laws

@@ -8,6 +8,7 @@ use Rattle.folder_model.specs.Seen.{IsSeen, images_of}
 use Rattle.folder_model.specs.Times.{Times, moment_of, goes_on, images_since_of}
 use Rattle.folder_model.specs.Known.{Knows, reading_of}
 use Rattle.folder_disk.specs.Doubts.{doubts_of, AreTorn}
+use Rattle.folder_disk.specs.Gaps.{IsSeenFilled}
 use Rattle.folder_disk.specs.declared.trust.Trust.{Trust}
 
 -- what was done in the folder, how many files of each kind the disk knows of, how far it is trusted, and its clock
@@ -71,10 +72,11 @@ pub record IsCounted (name : Kind → ℕ → List ℕ) (past : FolderPast) (war
   pub counts : (kind : Kind) → file_count image kind ≡ known_of warc cdxj kind
   pub numbers : (kind : Kind) → known_of warc cdxj kind < 2 ^ 32
 
--- A disk reads what is seen of the folder that was found: its files under their names, and none where there was no folder.
+-- A disk reads what is seen of the folder that was found: its files under their names, and missing checkpoints as empty ones; no files where there was no
+-- folder.
 abbrev pub IsAsFound : (Kind → ℕ → List ℕ) → Option FolderPast → Image → Type 0
 IsAsFound name None image = image ≡ no_files
-IsAsFound name (Some past) image = IsSeen name (contents_of past) image
+IsAsFound name (Some past) image = IsSeenFilled name (contents_of past) image
 
 -- A disk that was just made: it has so many files of each kind, hasn't given up, and its first moment has begun.
 pub record IsNew (warc cdxj : ℕ) (s : State) : Type 0 where

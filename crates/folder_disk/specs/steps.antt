@@ -2,6 +2,7 @@
 pub mod BegunLaws
 pub mod CountLaws
 pub mod FoundLaws
+pub mod GapLaws
 pub mod NameLaws
 pub mod OpenLaws
 pub mod StateLaws

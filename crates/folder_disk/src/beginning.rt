@@ -4,13 +4,14 @@ ghost use Rattle.std.specs.IoError.{error_kind};
 ghost use Rattle.std.specs.declared.io.ErrorKind.TheVariants.{NotFound};
 ghost use Rattle.disk_model.specs.Image.{no_files};
 ghost use Rattle.folder_model.specs.Folder.{contents_of, IsUnfailed};
-ghost use Rattle.folder_model.specs.Seen.{IsSeen};
 ghost use Rattle.folder_disk.specs.Begun.{IsBegunHeld, IsBegunIn, IsHeldSince};
+ghost use Rattle.folder_disk.specs.Gaps.{IsSeenFilled};
 ghost use Rattle.folder_disk.specs.Held.{state_of, AreHeld};
 ghost use Rattle.folder_disk.specs.Standing.{state_at, AreOpenAt};
-ghost use Rattle.folder_disk.specs.State.{IsAsFound, IsCounted, IsKnown, reading};
+ghost use Rattle.folder_disk.specs.State.{IsAsFound, IsKnown, reading};
 
-use crate::counting::{Counts, count};
+use crate::counting::count;
+use crate::gaps::count_to_write;
 use crate::held::Held;
 use crate::names::FileNames;
 use crate::reasons::{files_of_others, leads_nowhere, of_lock};
@@ -83,13 +84,13 @@ where
     ensures known { IsTrue S.Folder.tells → IfOk result (λ standing. IsKnown N.name (state_at S.Folder.past standing)) }
     ensures open { IsTrue S.Folder.tells → IfOk result (AreOpenAt N.name S.Folder.name_of S.Folder.past) }
     ensures seen { IsTrue S.Folder.tells → IfOk result
-        (λ standing. IsSeen N.name (contents_of (S.Folder.past folder)) (reading N.name (state_at S.Folder.past standing))) }
+        (λ standing. IsSeenFilled N.name (contents_of (S.Folder.past folder)) (reading N.name (state_at S.Folder.past standing))) }
 {
     if let Err(error) = system.check_writable() {
         system.let_go(folder);
         return Err(error);
     }
-    match held_by_counts(folder, alloc) {
+    match held_by_counts::<S::Folder, N>(folder, alloc) {
         Ok(held) => Ok(Standing::Held(held)),
         Err(unheld) => {
             let Unheld { folder, error } = unheld;
@@ -203,8 +204,8 @@ where
     }
 }
 
-/// Counts the files of a folder and holds it. The last of each kind may be written, and is synced. Where that fails the folder
-/// is given back.
+/// Counts the files of a folder, makes checkpoints that are missing, and holds it. The last of each kind may be written, and is
+/// synced. Where that fails the folder is given back.
 fn held_by_counts<F, N>(folder: F, alloc: Global) -> Result<Held<F, N>, Unheld<F>>
 where
     F: Folder + Drop,
@@ -212,7 +213,7 @@ where
     requires { IsTrue F.tells → IsUnfailed (F.past folder) }
     ensures since { IsTrue F.tells → IfOk result (IsHeldSince N.name F.name_of F.past) }
     ensures seen { IsTrue F.tells → IfOk result
-        (λ held. IsSeen N.name (contents_of (F.past folder)) (reading N.name (state_of F.past held))) }
+        (λ held. IsSeenFilled N.name (contents_of (F.past folder)) (reading N.name (state_of F.past held))) }
 {
     let mut folder = folder;
     match count_to_write::<F, N>(&mut folder, alloc) {
@@ -258,36 +259,6 @@ where
 {
     held.sync_last(Kind::Warc)?;
     held.sync_last(Kind::Cdxj)
-}
-
-/// Counts the files of a folder, and fails where this process may not write the last of a kind.
-fn count_to_write<F: Folder, N: FileNames>(folder: &mut F, alloc: Global) -> io::Result<Counts>
-    requires { IsTrue F.tells → IsUnfailed (F.past folder.old) }
-    ensures past { IsTrue F.tells → F.past folder.new ≡ F.past folder.old }
-    ensures counts { IsTrue F.tells → IfOk result (λ counts. IsCounted N.name (F.past folder.new) counts.warc counts.cdxj) }
-{
-    let counts = count::<F, N>(folder, alloc)?;
-    check_last::<F, N>(folder, alloc, Kind::Warc, counts.warc)?;
-    check_last::<F, N>(folder, alloc, Kind::Cdxj, counts.cdxj)?;
-    Ok(counts)
-}
-
-/// Fails where this process may not write the last of so many files of a kind.
-fn check_last<F: Folder, N: FileNames>(
-    folder: &mut F,
-    alloc: Global,
-    kind: Kind,
-    count: u32,
-) -> io::Result<()>
-    ensures { IsTrue F.tells → F.past folder.new ≡ F.past folder.old }
-{
-    match count.checked_sub(1) {
-        None => Ok(()),
-        Some(last) => {
-            let name = N::name_of(alloc, kind, last)?;
-            folder.check_writable(name.as_str())
-        }
-    }
 }
 
 /// Fails unless the folder wasn't held since it isn't there, and this process may make it.

@@ -5,6 +5,7 @@ ghost use Rattle.folder_disk.specs.Counting.{HasNoMore};
 ghost use Rattle.folder_disk.specs.State.{IsCounted, known_of};
 
 use crate::names::FileNames;
+use crate::reasons::number_missing;
 use disk_model::Kind;
 use folder_model::{Access, Folder, NameList, Names};
 use shown::Shown;
@@ -163,7 +164,7 @@ fn few(past: u64) -> io::Result<u32>
 }
 
 /// Fails where a file of a kind is missing whose number is below the count.
-fn check_there<F: Folder, N: FileNames>(
+pub(crate) fn check_there<F: Folder, N: FileNames>(
     folder: &mut F,
     alloc: Global,
     kind: Kind,
@@ -180,7 +181,7 @@ fn check_there<F: Folder, N: FileNames>(
 }
 
 /// Fails where a file isn't there.
-fn check_one<F: Folder, N: FileNames>(
+pub(crate) fn check_one<F: Folder, N: FileNames>(
     folder: &mut F,
     alloc: Global,
     kind: Kind,
@@ -199,10 +200,7 @@ fn check_one<F: Folder, N: FileNames>(
 /// Why a file below the greatest number isn't there.
 fn missing(error: io::Error) -> io::Error {
     if error.kind() == ErrorKind::NotFound {
-        io::Error::new(
-            ErrorKind::InvalidData,
-            "a number among its files is missing",
-        )
+        number_missing()
     } else {
         error
     }

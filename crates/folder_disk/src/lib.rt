@@ -6,6 +6,7 @@ mod beginning;
 mod causes;
 mod counting;
 mod folder_disk;
+mod gaps;
 mod handles;
 mod held;
 mod laws;

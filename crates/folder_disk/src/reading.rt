@@ -1,7 +1,8 @@
 //! A folder that is held beside others that read.
 ghost use Rattle.std.specs.Prelude.{◌≡◌, IsTrue, IfOk};
 
-use crate::counting::{Counts, count};
+use crate::counting::Counts;
+use crate::gaps::count_to_read;
 use crate::names::FileNames;
 use crate::open_files::{OpenFiles, OpenOne};
 use crate::reasons::{check_in_place, inside, unknown};
@@ -27,7 +28,7 @@ impl<F: Folder + Drop, N: FileNames> Reading<F, N> {
         ensures { IsTrue F.tells → IfOk result (λ reading. F.past reading.folder ≡ F.past folder) }
     {
         let mut folder = folder;
-        let counts = count::<F, N>(&mut folder, alloc)?;
+        let counts = count_to_read::<F, N>(&mut folder, alloc)?;
         Ok(Reading {
             folder,
             alloc,

@@ -79,9 +79,26 @@ pub(crate) fn end_of(at: u64, many: usize, len: u64) -> io::Result<u64>
     }
 }
 
-/// Where the folder's path is a link that leads to none, as one does whose disk isn't mounted.
+/// Where a path is a link that leads to none, as one does whose disk isn't mounted.
 pub(crate) fn leads_nowhere() -> io::Error {
     io::Error::new(ErrorKind::NotFound, "the link leads nowhere")
+}
+
+/// Why a file that isn't there couldn't be made: where something has its name that is a link which leads to none.
+pub(crate) fn of_dangling_link(error: io::Error) -> io::Error {
+    if error.kind() == ErrorKind::AlreadyExists {
+        leads_nowhere()
+    } else {
+        error
+    }
+}
+
+/// Where a file below another one of its kind isn't there.
+pub(crate) fn number_missing() -> io::Error {
+    io::Error::new(
+        ErrorKind::InvalidData,
+        "a number among its files is missing",
+    )
 }
 
 /// Why a folder couldn't be held.

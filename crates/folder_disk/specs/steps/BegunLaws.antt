@@ -1,6 +1,6 @@
 -- Laws of a disk without a folder, and of one whose folder was just made.
 use Rattle.std.proofs.Common.{◌≡◌, ◌<◌, ◌≤◌, ◌^◌, ℕ, Bool, IsTrue, List, [], ◌∷◌, length, refl, sym, ap, ◌∙◌, subst, inl, inr, ⊎_elim, arith}
-use Rattle.std.specs.Prelude.{Option, Result, Ok, Err, OnOk, OnErr, IfOk}
+use Rattle.std.specs.Prelude.{Option, None, Result, Ok, Err, OnOk, OnErr, IfOk}
 use Rattle.disk_model.specs.Crash.{MayCreate, Stepped}
 use Rattle.disk_model.specs.Image.{Image, no_files, files_of, file_count, with_new}
 use Rattle.disk_model.specs.declared.kind.Kind.{Kind}

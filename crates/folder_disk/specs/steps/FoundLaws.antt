@@ -6,10 +6,12 @@ use Rattle.std.specs.Prelude.{Some, None}
 use Rattle.disk_model.specs.Image.{Image, no_files, files_of, file_count, file_of}
 use Rattle.disk_model.specs.declared.kind.Kind.{Kind}
 use Rattle.disk_model.specs.declared.kind.Kind.TheVariants.{Warc, Cdxj}
-use Rattle.folder_model.specs.Folder.{Contents}
+use Rattle.folder_model.specs.Folder.{Contents, contents_of}
 use Rattle.folder_model.specs.Found.{contents_found}
 use Rattle.folder_model.specs.Seen.{IsSeen}
 use Rattle.folder_model.specs.steps.KnownLaws.{reading_is}
+use Rattle.folder_model.specs.steps.ReadingLaws.{each_is_seen}
+use Rattle.folder_disk.specs.Gaps.{IsGap, IsSeenFilled}
 use Rattle.folder_disk.specs.Laws.{CrashedIsImage, LetGoIsRead}
 use Rattle.folder_disk.specs.State.{known_of, reading}
 
@@ -26,10 +28,31 @@ nothing_seen name = record {
   no_more = λ kind file outside small. refl;
 }
 
+-- a folder that is seen as a disk has no gap
+no_gap : (name : Kind → ℕ → List ℕ) (contents : Contents) (image : Image) (file : ℕ) → IsSeen name contents image → IsGap name contents file → ⊥
+no_gap name contents image file seen gap =
+    ⊎_elim
+    (λ within. none-some (file_of image Cdxj file) (sym gap.none ∙ seen.there Cdxj file (omega (arith, gap.above, within))))
+    (λ past. gap.there (seen.no_more Cdxj gap.greater past gap.small))
+    (cases_lt gap.greater (file_count image Cdxj))
+
+-- so what is seen of it, once missing checkpoints are there, is seen of it
+unfilled : (name : Kind → ℕ → List ℕ) (old : Contents) (was image : Image) → IsSeen name old was → IsSeenFilled name old image → IsSeen name old image
+unfilled name old was image whole (contents, filled, seen) = record {
+  few = seen.few;
+  there = λ kind file inside. sym (same (name kind file)) ∙ seen.there kind file inside;
+  no_more = λ kind file outside small. sym (same (name kind file)) ∙ seen.no_more kind file outside small;
+}
+  where
+    same : (n : List ℕ) → contents n ≡ old n
+    same n = ⊎_elim (λ it. it) (λ made. absurd (no_gap name old was made.file whole made.gap)) (filled n)
+
 pub crashed_is_image : CrashedIsImage
 crashed_is_image name s None image known (left, settled) is =
     (refl, inr (known, (contents_found None, left, subst (IsSeen name (λ n. None)) (sym is) (nothing_seen name))))
-crashed_is_image name s (Some past) image known (left, settled) seen = (refl, inr (known, (contents_found (Some past), left, seen)))
+crashed_is_image name s (Some past) image known (left, settled) filled =
+    let was = each_is_seen name s.past (reading name s) (contents_of past) known.knows.is left in
+    (refl, inr (known, (contents_found (Some past), left, unfilled name (contents_of past) was.0 image was.1 filled)))
 
 -- images that are seen in the same contents have as many files
 no_fewer_seen : (name : Kind → ℕ → List ℕ) (contents : Contents) (one two : Image) (kind : Kind) → IsSeen name contents one → IsSeen name contents two
@@ -45,7 +68,8 @@ no_fewer_seen name contents one two kind seen also =
 
 pub let_go_is_read : LetGoIsRead
 unfolding reading
-let_go_is_read name s image known seen =
+let_go_is_read name s image known filled =
+    let seen = unfilled name (contents_of s.past) (reading name s) image known.knows.is.seen filled in
     sym (reading_is name s.past (known_of s.warc s.cdxj) image seen known.knows.numbers
     (λ kind. omega (arith, known.knows.no_fewer kind, no_fewer_seen name _ image (reading name s) kind seen known.knows.is.seen))
     (λ kind. omega (arith, known.knows.one_more kind, no_fewer_seen name _ (reading name s) image kind known.knows.is.seen seen)))
