@@ -9,9 +9,8 @@ mod tests;
 use command::Status;
 use command_line::{ends_of, lock_of, out_of, texts_of, words_of};
 use proxy_run::{CREW, Crew, run};
-use real_outside::{Made, Network, RealGate, StandardStreams, hold_standard_descriptors, make};
+use real_outside::{Made, hold_standard_descriptors, make};
 use status::{ended, exit_code};
-use std::io::Eprint;
 use std::process::ExitCode;
 
 /// Makes the real objects, runs, and ends with the status's number.
@@ -38,7 +37,6 @@ fn main(rt: HostRuntime) -> ExitCode {
         members,
         out,
     } = made;
-    tell_address(&rt, &gate);
     let mut out = out_of(rt, texts.as_slice(), out);
     let mut crew = Crew { members };
     ended(run(
@@ -50,11 +48,4 @@ fn main(rt: HostRuntime) -> ExitCode {
         &mut crew,
         &mut out,
     ))
-}
-
-/// Says on standard error where clients connect to, for who waits for that. Where it can't be said, nothing comes of it.
-fn tell_address<R: Eprint + Network + StandardStreams>(rt: &R, gate: &RealGate<R>) {
-    if let Some(own) = gate.own_address() {
-        let _told = rt.eprintln(format_args!("listening on http://{own}"));
-    }
 }

@@ -13,6 +13,8 @@ pub struct Limits {
     pub idle_crowded: u64,
     /// For each further piece of a request.
     pub piece: u64,
+    /// For the same, while another connection waits to be read. So often that is asked.
+    pub piece_crowded: u64,
     /// For a whole request, and a millisecond more for each byte of it.
     pub request: u64,
     /// For each piece of an origin's response.
@@ -42,7 +44,8 @@ pub struct Limits {
 /// - Where none waits it is kept half a second longer than crawlers pause (1, 2 or 5 seconds are usual), so that it
 ///   isn't closed just as the next request is on its way.
 /// - The first byte on a new connection may be sent twice or thrice, a second apart and more (RFC 6298).
-/// - Half a minute within a message is what a phone may take between two pieces in a tunnel.
+/// - Half a minute within a message is what a phone may take between two pieces in a tunnel. While a connection waits it
+///   is five seconds within a request, so that clients which stop within a head, as many as there are workers, don't stop a server.
 /// - A minute for a request and ten minutes for a response, and each a second more for every 1,000 bytes of it, end
 ///   what trickles, and let a body of 64 MiB pass on any line that carries 1,000 bytes a second. Ten minutes are one
 ///   while a connection waits, so that streams without an end, as many as there are workers, don't stop a server.
@@ -58,6 +61,7 @@ pub const LIMITS: Limits = Limits {
     idle: 5_500,
     idle_crowded: 50,
     piece: 30_000,
+    piece_crowded: 5_000,
     request: 60_000,
     origin: 60_000,
     write: 30_000,

@@ -47,6 +47,10 @@ pub trait Network: Causes {
     /// The address at which it listens.
     fn address_of(&mut self, listener: &Self::Listener) -> io::Result<SocketAddr>;
 
+    /// Says that connections are accepted from now on, and at which address, for who waits for that. Where it can't be said, nothing
+    /// comes of it.
+    fn announce(&mut self, own: SocketAddr);
+
     /// Whether an address is one of this machine's.
     fn is_here(&mut self, address: IpAddr) -> bool;
 

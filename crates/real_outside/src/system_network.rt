@@ -5,7 +5,7 @@ ghost use Rattle.std.specs.Iterator.{IsFinite};
 use crate::causes::Causes;
 use crate::network::{Network, Socket};
 use std::fmt::Display;
-use std::io::{Read, Write};
+use std::io::{Eprint, Read, Write};
 use std::net::{
     IpAddr, Net, OpenStream, Shutdown, SocketAddr, TcpListener, TcpStream, ToSocketAddrs, UdpSocket,
 };
@@ -81,6 +81,10 @@ impl Network for HostRuntime {
 
     fn address_of(&mut self, listener: &TcpListener) -> io::Result<SocketAddr> {
         listener.local_addr()
+    }
+
+    fn announce(&mut self, own: SocketAddr) {
+        let _told = self.eprintln(format_args!("listening on http://{own}"));
     }
 
     fn is_here(&mut self, address: IpAddr) -> bool {

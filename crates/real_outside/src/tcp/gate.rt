@@ -17,6 +17,8 @@ pub struct TcpGate<N: Network> {
     listener: Option<N::Listener>,
     /// Where the listener is.
     own: Option<SocketAddr>,
+    /// Whether that was said.
+    announced: bool,
     /// Whether it was to listen and couldn't.
     refused: bool,
     places: Places,
@@ -36,6 +38,7 @@ impl<N: Network> TcpGate<N> {
             address,
             listener: None,
             own: None,
+            announced: false,
             refused: false,
             places,
             limits,
@@ -55,12 +58,13 @@ impl<N: Network> TcpGate<N> {
     }
 
     /// The next connection, when there is a place for it. It fails where the address can't be bound, and where the
-    /// listener or memory fails.
+    /// listener or memory fails. Before the first one it says where connections are accepted.
     pub(crate) fn accept(&mut self) -> io::Result<TcpLink<N::Socket>> {
         let listener = match self.listener.take() {
             Some(listener) => listener,
-            None => self.listen()?,
+            None => self.listen_aloud()?,
         };
+        self.announce();
         wait_for_place(&mut self.network, &self.places, &self.limits);
         let came = next_link(&mut self.network, &listener, &self.places, &self.limits);
         if let Err(error) = &came {
@@ -70,13 +74,10 @@ impl<N: Network> TcpGate<N> {
         came
     }
 
-    /// Listens from now on. Where that fails, the next accept tries again.
+    /// Listens from now on. Where that fails, the next accept tries again, and tells the cause.
     pub(crate) fn bind(&mut self) {
         match self.listen() {
-            Ok(listener) => {
-                self.own = self.network.address_of(&listener).ok();
-                self.listener = Some(listener);
-            }
+            Ok(listener) => self.listener = Some(listener),
             Err(_) => self.refused = true,
         }
     }
@@ -92,15 +93,38 @@ impl<N: Network> TcpGate<N> {
     }
 
     /// A listener at the gate's address. The cause of a failure is told.
-    fn listen(&mut self) -> io::Result<N::Listener> {
-        let listens = match &self.address {
-            Some(address) => self.network.listen(address.host(), address.port()),
-            None => Err(io::Error::new(ErrorKind::AddrNotAvailable, "no HOST:PORT to listen at")),
-        };
+    fn listen_aloud(&mut self) -> io::Result<N::Listener> {
+        let listens = self.listen();
         if let Err(error) = &listens {
             self.tell("listen", error);
         }
         listens
+    }
+
+    /// A listener at the gate's address.
+    fn listen(&mut self) -> io::Result<N::Listener> {
+        let listener = match &self.address {
+            Some(address) => self.network.listen(address.host(), address.port())?,
+            None => {
+                return Err(io::Error::new(
+                    ErrorKind::AddrNotAvailable,
+                    "no HOST:PORT to listen at",
+                ));
+            }
+        };
+        self.own = self.network.address_of(&listener).ok();
+        Ok(listener)
+    }
+
+    /// Says once where it listens.
+    fn announce(&mut self) {
+        if self.announced {
+            return;
+        }
+        self.announced = true;
+        if let Some(own) = self.own {
+            self.network.announce(own);
+        }
     }
 
     /// Tells why a call at the gate's address failed.

@@ -9,6 +9,7 @@ use crate::places::Place;
 use crate::streams::{read_some, write_some};
 use std::io;
 use std::io::ErrorKind;
+use std::time::Duration;
 
 /// What a read waits for.
 #[derive(Clone, Copy, PartialEq, Eq)]
@@ -140,30 +141,49 @@ impl<S: Socket> TcpLink<S> {
     {
         let limits = self.limits;
         match self.awaited {
-            Awaited::First => self.read_first(into, limits.fresh, limits.fresh_crowded),
-            Awaited::Next => self.read_first(into, limits.idle, limits.idle_crowded),
-            Awaited::More => self.read_more(into, limits.piece, self.to_read),
+            Awaited::First => self.read_request(
+                into,
+                limits.fresh,
+                limits.fresh_crowded,
+                limits.idle_crowded,
+            ),
+            Awaited::Next => self.read_request(
+                into,
+                limits.idle,
+                limits.idle_crowded,
+                limits.idle_crowded,
+            ),
+            Awaited::More => {
+                let most = limits.piece.min(self.to_read);
+                self.read_request(into, most, limits.piece_crowded, limits.piece_crowded)
+            }
             Awaited::Response => {
                 let whole = self.left_of_whole(self.to_read);
-                self.read_more(into, limits.origin, whole)
+                self.read_response(into, limits.origin.min(whole))
             }
         }
     }
 
-    /// Reads the first bytes of a request within so many milliseconds, or within the lower limit where another
-    /// connection waits then.
-    fn read_first(&mut self, into: &mut [u8], most: u64, crowded: u64) -> io::Result<usize>
+    /// Reads some bytes of a request within so many milliseconds, or within the lower limit where another connection
+    /// waits then, which it asks so often.
+    fn read_request(
+        &mut self,
+        into: &mut [u8],
+        most: u64,
+        crowded: u64,
+        asks: u64,
+    ) -> io::Result<usize>
         ensures bound { ReadsAtMost result into.new }
     {
         self.place.serve();
         let start = self.socket.time()?;
         let mut gone = 0;
         for _ in 0..most {
-            self.limit_reads(self.limits.idle_crowded.min(most.saturating_sub(gone)))?;
+            self.limit_reads(asks.min(most.saturating_sub(gone)))?;
             match read_some(&mut self.socket, into) {
                 Ok(n) => {
+                    self.to_read = left_after(self.to_read, self.spent_since(start)?, n);
                     self.awaited = Awaited::More;
-                    self.to_read = left_after(self.to_read, 0, n);
                     return Ok(n);
                 }
                 Err(error) => {
@@ -180,11 +200,19 @@ impl<S: Socket> TcpLink<S> {
         Err(io::Error::from(ErrorKind::TimedOut))
     }
 
-    /// Reads a further piece of a message within a limit for a piece and what is left of the limit for the whole.
-    fn read_more(&mut self, into: &mut [u8], piece: u64, whole: u64) -> io::Result<usize>
+    /// How much of a request's own time has gone since a read began: none before its first byte.
+    fn spent_since(&mut self, start: Duration) -> io::Result<u64> {
+        match self.awaited {
+            Awaited::More => millis_since(&mut self.socket, start),
+            _ => Ok(0),
+        }
+    }
+
+    /// Reads a piece of a response within so many milliseconds.
+    fn read_response(&mut self, into: &mut [u8], most: u64) -> io::Result<usize>
         ensures bound { ReadsAtMost result into.new }
     {
-        self.limit_reads(piece.min(whole))?;
+        self.limit_reads(most)?;
         let start = self.socket.time()?;
         let n = match read_some(&mut self.socket, into) {
             Ok(n) => n,

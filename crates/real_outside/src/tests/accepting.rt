@@ -88,11 +88,13 @@ fn dialed(dialer: &mut TcpDialer<RecordedNetwork>) -> Written {
     joined(dialer.network().calls, came.as_str())
 }
 
-const AGAIN: &str = "listen a.test 8080;accept;accept;accept; connection connection false";
+const AGAIN: &str =
+    "listen a.test 8080;ready 10.0.0.9:80;accept;accept;accept; connection connection false";
 
-const WAITS: &str = "listen a.test 8080;accept;pause 5;accept;accept; connection connection false";
+const WAITS: &str =
+    "listen a.test 8080;ready 10.0.0.9:80;accept;pause 5;accept;accept; connection connection false";
 
-const ENDS: &str = "listen a.test 8080;accept;accept; failed connection false";
+const ENDS: &str = "listen a.test 8080;ready 10.0.0.9:80;accept;accept; failed connection false";
 
 /// An accept's error, and what is asked then. What fails with one connection ends no gate.
 static FAILED_ACCEPTS: [(&[Comes], &str); 21] = [
@@ -128,12 +130,12 @@ static ADDRESSES: [(Site, Plan, &str); 7] = [
     (
         Some(("[::1]", 9090)),
         QUIET,
-        "listen ::1 9090;accept;accept; connection connection false",
+        "listen ::1 9090;ready 10.0.0.9:80;accept;accept; connection connection false",
     ),
     (
         Some(("a.test", 80)),
         QUIET,
-        "listen a.test 80;accept;accept; connection connection false",
+        "listen a.test 80;ready 10.0.0.9:80;accept;accept; connection connection false",
     ),
     (
         Some(("127.0.0.1", 8080)),
@@ -149,7 +151,7 @@ static ADDRESSES: [(Site, Plan, &str); 7] = [
             comes: &[ODD],
             ..QUIET
         },
-        "listen a.test 80;accept;accept;accept; connection connection false",
+        "listen a.test 80;ready 10.0.0.9:80;accept;accept;accept; connection connection false",
     ),
     (
         Some(("a.test", 80)),
@@ -157,7 +159,7 @@ static ADDRESSES: [(Site, Plan, &str); 7] = [
             comes: &[NO_MEMORY; 8],
             ..QUIET
         },
-        "listen a.test 80;accept;pause 5;accept;pause 5;accept;pause 5;accept;accept;pause 5;accept;pause 5;accept;pause 5;accept; memory memory false",
+        "listen a.test 80;ready 10.0.0.9:80;accept;pause 5;accept;pause 5;accept;pause 5;accept;accept;pause 5;accept;pause 5;accept;pause 5;accept; memory memory false",
     ),
     // With the cause of each fault.
     (
@@ -167,7 +169,7 @@ static ADDRESSES: [(Site, Plan, &str); 7] = [
             tells: true,
             ..QUIET
         },
-        "listen ::1 80;[::1]:80: listen: Address already in use (os error 98);listen ::1 80;[::1]:80: listen: Address already in use (os error 98);listen ::1 80;[::1]:80: listen: Address already in use (os error 98); failed failed true",
+        "listen ::1 80;listen ::1 80;[::1]:80: listen: Address already in use (os error 98);listen ::1 80;[::1]:80: listen: Address already in use (os error 98); failed failed true",
     ),
     (
         None,
@@ -175,7 +177,7 @@ static ADDRESSES: [(Site, Plan, &str); 7] = [
             tells: true,
             ..QUIET
         },
-        "MEMPROXY_LISTEN: listen: no HOST:PORT to listen at;MEMPROXY_LISTEN: listen: no HOST:PORT to listen at;MEMPROXY_LISTEN: listen: no HOST:PORT to listen at; failed failed true",
+        "MEMPROXY_LISTEN: listen: no HOST:PORT to listen at;MEMPROXY_LISTEN: listen: no HOST:PORT to listen at; failed failed true",
     ),
 ];
 

@@ -29,6 +29,7 @@ const SHORT: Limits = Limits {
     idle: 50,
     idle_crowded: 50,
     piece: 5_000,
+    piece_crowded: 5_000,
     request: 5_000,
     origin: 50,
     write: 50,

@@ -18,6 +18,7 @@ pub(crate) const LIMITS: Limits = Limits {
     idle: 300,
     idle_crowded: 100,
     piece: 5_000,
+    piece_crowded: 3_000,
     request: 8_000,
     origin: 3_000,
     write: 2_000,
@@ -306,6 +307,11 @@ impl Network for RecordedNetwork {
 
     fn address_of(&mut self, _listener: &()) -> io::Result<SocketAddr> {
         Ok(address(9))
+    }
+
+    fn announce(&mut self, own: SocketAddr) {
+        let own = written(own);
+        self.call(called("ready", own.as_str()).as_str());
     }
 
     fn is_here(&mut self, address: IpAddr) -> bool {

@@ -124,7 +124,7 @@ fn told(link: &mut TcpLink<RecordedSocket>, steps: &[Step]) -> Written {
     joined(joined(told, millis.as_str()), socket.causes.as_str())
 }
 
-static ROWS: [Row; 26] = [
+static ROWS: [Row; 27] = [
     (
         Client,
         false,
@@ -151,7 +151,7 @@ static ROWS: [Row; 26] = [
         false,
         Peer::SendsOnce(10),
         &[Read, Answer, Read],
-        "at once;out 2000;in 100;read;write;in 5000;read; 10;19;failed; 5000 10.0.0.7:80: read: timed out;",
+        "at once;out 2000;in 100;read;write;in 3000;read;in 2000;read; 10;19;failed; 5000 10.0.0.7:80: read: timed out;",
     ),
     (
         Client,
@@ -172,14 +172,14 @@ static ROWS: [Row; 26] = [
         true,
         Peer::Trickles(10),
         &[Read, Read, Read, Read],
-        "at once;out 2000;in 100;read;in 5000;read;read;in 2030;read; 10;10;10;failed; 8030 10.0.0.7:80: read: timed out;",
+        "at once;out 2000;in 100;read;in 3000;read;read;in 2030;read; 10;10;10;failed; 8030 10.0.0.7:80: read: timed out;",
     ),
     (
         Client,
         false,
         Peer::Trickles(10),
         &[Read, Read, Read, Answer, Await, Read, Read],
-        "at once;out 2000;in 100;read;in 5000;read;read;write;in 100;read;in 5000;read; 10;10;10;19;0;10;10; 9000",
+        "at once;out 2000;in 100;read;in 3000;read;read;write;in 100;read;in 3000;read; 10;10;10;19;0;10;10; 9000",
     ),
     (
         Client,
@@ -298,7 +298,14 @@ static ROWS: [Row; 26] = [
         false,
         Peer::SendsOnce(10),
         &[Read, Read, Read],
-        "at once;out 2000;in 100;read;in 5000;read; 10;failed;failed; 5000 10.0.0.7:80: read: timed out;",
+        "at once;out 2000;in 100;read;in 3000;read;in 2000;read; 10;failed;failed; 5000 10.0.0.7:80: read: timed out;",
+    ),
+    (
+        Client,
+        true,
+        Peer::SendsOnce(10),
+        &[Read, Read],
+        "at once;out 2000;in 100;read;in 3000;read; 10;failed; 3000 10.0.0.7:80: read: timed out;",
     ),
     (
         Origin,
@@ -328,10 +335,11 @@ type Lasting = (Who, bool, Peer, &'static [Step], Step, u64);
 /// What a user meets, by the limits of the program: a client that says nothing, one that stops, a head of which a byte a
 /// second comes, an idle one, an origin that says nothing, events of 20 bytes a second, and a client that takes a byte now
 /// and then or none.
-static LASTING: [Lasting; 12] = [
+static LASTING: [Lasting; 13] = [
     (Client, false, Peer::Silent, &[], Read, 10_000),
     (Client, true, Peer::Silent, &[], Read, 2_000),
-    (Client, true, Peer::SendsOnce(10), &[], Read, 30_000),
+    (Client, true, Peer::SendsOnce(10), &[], Read, 5_000),
+    (Client, false, Peer::SendsOnce(10), &[], Read, 30_000),
     (Client, false, Peer::Trickles(3), &[], Read, 60_063),
     (
         Client,
