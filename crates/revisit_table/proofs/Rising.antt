@@ -1,11 +1,12 @@
 -- Lists whose numbers rise strictly: what a filter, a push and a search of them give.
 use Rattle.std.proofs.Common.{◌≡◌, ℕ, ◌<◌, zero, suc, Bool, true, false, not, cond, List, [], ◌∷◌, ◌++◌, map, length, get_or, refl, sym, ap, arith}
-use Rattle.std.specs.Prelude.{◌==◌, filter}
+use Rattle.std.specs.Prelude.{◌==◌, All, filter}
 use Rattle.std.specs.List.{AllByRecursion, remove}
 use Rattle.std.specs.List.Sorted.{IsStrictlyIncreasing, IsStrictlySortedBy}
 use Rattle.std.specs.Ordering.{nat_cmp}
 use Rattle.std.specs.declared.cmp.Ordering.TheVariants.{Less}
 use Rattle.std.proofs.lemmas.Bool.Decides.{nat_tests}
+use Rattle.std.proofs.lemmas.List.Elements.{All-from_recursion}
 use Rattle.std.proofs.lemmas.Map.Keys.{sorted_from_strictly_increasing, IsStrictlyIncreasing-from_sorted}
 
 -- what holds of both sides holds of the one that is chosen
@@ -123,3 +124,27 @@ module _ {X : Type 0} (key : X → ℕ) where
   -- where a key stands, its removal is a filter
   pub remove_is_filter : (xs : List X) (i n : ℕ) (d : X) → IsStrictlyIncreasing (map key xs) → i < length xs → key (get_or xs i d) ≡ n → remove xs i ≡ filter (λ x. not (key x == n)) xs
   remove_is_filter xs i n d h within same = removed_rise xs i n d (rise_from_increasing xs h) within same
+
+  all_front : (P : X → Type 0) (xs ys : List X) → AllByRecursion P (xs ++ ys) → AllByRecursion P xs
+  all_front P [] ys h = tt
+  all_front P (x ∷ xs) ys h = (h.0, all_front P xs ys h.1)
+
+  rise-front : (xs ys : List X) → Rise (xs ++ ys) → Rise xs
+  rise-front [] ys h = tt
+  rise-front (x ∷ xs) ys h = (all_front (λ y. key x < key y) xs ys h.0, rise-front xs ys h.1)
+
+  -- the keys of a front rise
+  pub increasing-front : (xs ys : List X) → IsStrictlyIncreasing (map key (xs ++ ys)) → IsStrictlyIncreasing (map key xs)
+  increasing-front xs ys h = increasing_from_rise xs (rise-front xs ys (rise_from_increasing (xs ++ ys) h))
+
+  below_middle : (n : ℕ) (xs : List X) (y : X) (ys : List X) → AllByRecursion (λ x. n < key x) (xs ++ y ∷ ys) → n < key y
+  below_middle n [] y ys h = h.0
+  below_middle n (x ∷ xs) y ys h = below_middle n xs y ys h.1
+
+  front_below : (xs : List X) (y : X) (ys : List X) → Rise (xs ++ y ∷ ys) → AllByRecursion (λ x. key x < key y) xs
+  front_below [] y ys h = tt
+  front_below (x ∷ xs) y ys h = (below_middle (key x) xs y ys h.0, front_below xs y ys h.1)
+
+  -- the keys before one that rises with them are below it
+  pub below_next : (xs : List X) (y : X) (ys : List X) → IsStrictlyIncreasing (map key (xs ++ y ∷ ys)) → All (λ x. key x < key y) xs
+  below_next xs y ys h = All-from_recursion (λ x. key x < key y) xs (front_below xs y ys (rise_from_increasing (xs ++ y ∷ ys) h))

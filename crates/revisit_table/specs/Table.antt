@@ -11,6 +11,10 @@ pub record Table : Type 0 where
 abbrev pub empty_table : Table
 empty_table = record { kept = []; reserved = None }
 
+-- these were added, and no room is reserved
+abbrev pub table_of : List (List ℕ × ℕ) → Table
+table_of kept = record { kept = kept; reserved = None }
+
 -- the numbers of the captures that have a digest, in the order of the list
 abbrev pub numbers_of : List ℕ → List (List ℕ × ℕ) → List ℕ
 numbers_of digest kept = map (λ entry. entry.1) (filter (λ entry. bytes_eq entry.0 digest) kept)
@@ -30,3 +34,15 @@ without number kept = filter (λ entry. not (entry.1 == number)) kept
 -- the table without the capture of this number, if it's there
 abbrev pub with_taken_back : Table → ℕ → Table
 with_taken_back table number = record { kept = without number table.kept; reserved = table.reserved }
+
+-- what is kept for a table that is made once it is asked: all captures, and the last of them, which aren't in the table yet
+pub record LazyTable : Type 0 where
+  pub kept : List (List ℕ × ℕ)
+  pub waiting : List (List ℕ × ℕ)
+
+abbrev pub empty_lazy_table : LazyTable
+empty_lazy_table = record { kept = []; waiting = [] }
+
+-- all are in the table
+abbrev pub settled_table : List (List ℕ × ℕ) → LazyTable
+settled_table kept = record { kept = kept; waiting = [] }

@@ -1,8 +1,9 @@
 //! The table of digests.
-ghost use Rattle.std.specs.Prelude.{◌≡◌, ℕ, ◌<◌, ◌≤◌, not, ◌==◌, nat_le, Some, map, filter, All, IfSome, IfNone, remove, length, OnOk, OnErr};
+ghost use Rattle.std.specs.Prelude.{◌≡◌, ℕ, ◌<◌, ◌≤◌, true, [], not, ◌==◌, nat_le, Some, map, filter, All, IfOk, IfSome, IfNone, remove, length, OnOk, OnErr};
 ghost use Rattle.std.specs.List.Sorted.{IsStrictlyIncreasing};
-ghost use Rattle.revisit_table.specs.Table.{empty_table, numbers_of, with_room, with_added, with_taken_back, without};
+ghost use Rattle.revisit_table.specs.Table.{empty_table, numbers_of, table_of, with_room, with_added, with_taken_back, without};
 
+use crate::groups::lists_of;
 use crate::lists::{add_at, drop_unused, put_at, reserve_at, take_at};
 use crate::numbers::Numbers;
 use capture::{Digest, Memory};
@@ -13,7 +14,7 @@ use std::marker::Model;
 /// Which captures have which digest. A clause sees the list of what was added and not taken back,
 /// each digest with a capture's number, and the digest for which room is reserved.
 ///
-/// The numbers of that list rise strictly. Only `reserve` and `put` take memory.
+/// The numbers of that list rise strictly. Only `of`, `reserve` and `put` take memory.
 #[derive(Debug, Drop)]
 pub struct Digests {
     kept: Vec<(Digest, u32)>,
@@ -42,6 +43,26 @@ impl Digests {
             lists: BTreeMap::new(alloc),
             reserved: None,
         }
+    }
+
+    /// The table of these captures, which are in order of their numbers: they are sorted by digest, and the map is made of them at once.
+    pub fn of(alloc: Global, kept: Vec<(Digest, u32)>) -> Result<Digests, Memory>
+        requires rising { IsStrictlyIncreasing (map (λ entry. entry.1) kept.items) }
+        ensures { IfOk result (λ table. table ≡ table_of kept.items) }
+    {
+        let lists = lists_of(alloc, kept.as_slice())?;
+        Ok(Digests {
+            kept,
+            lists,
+            reserved: None,
+        })
+    }
+
+    /// Whether there is no capture.
+    pub(crate) fn is_empty(&self) -> bool
+        ensures { result ≡ true → self.now.kept ≡ [] }
+    {
+        self.kept.is_empty()
     }
 
     /// The numbers of the captures that have this digest, which rise strictly.

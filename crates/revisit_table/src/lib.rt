@@ -2,7 +2,10 @@
 #![tactic(auto)]
 
 mod digests;
+mod groups;
+mod lazy;
 mod lists;
 mod numbers;
 
 pub use digests::Digests;
+pub use lazy::LazyDigests;
