@@ -8,7 +8,7 @@ use Rattle.std.proofs.lemmas.Option.{same_Some, slice_get_within}
 use Rattle.capture.specs.Captures.{captures}
 use Rattle.capture.specs.declared.book.Book.{Book}
 use Rattle.capture.specs.declared.captured.Stored.{Stored}
-use Rattle.revisit_table.specs.Table.{Table, numbers_of}
+use Rattle.revisit_table.specs.Table.{numbers_of}
 use Rattle.archive_opening.specs.Gathering.{IsInStepWith}
 use Rattle.archive_volumes.proofs.SpotLaws.{table_with, whole_below}
 use Rattle.archive_volumes.specs.Spots.{may_be_whole, whole_from}
@@ -98,9 +98,9 @@ above_by spots kept n is count =
     (subst (λ (m : ℕ). All (λ (e : List ℕ × ℕ). e.1 < m) (whole_from 0 spots)) (sym count) (whole_below spots))
 
 -- the parts stay in step when a capture is added
-pub steady_with : (old new : Book) (stored : Stored) (spots after : List Spot) (spot : Spot) (table now : Table) (lengths longer : List ℕ) (len : ℕ)
+pub steady_with : (old new : Book) (stored : Stored) (spots after : List Spot) (spot : Spot) (table now : List (List ℕ × ℕ)) (lengths longer : List ℕ) (len : ℕ)
     → IsInStepWith old spots table lengths → captures new ≡ captures old ++ stored ∷ [] → after ≡ spots ++ spot ∷ [] → longer ≡ lengths ++ len ∷ []
-    → now.kept ≡ table.kept ++ (if may_be_whole spot.form then (spot.digest, length spots) ∷ [] else []) → length spots + 1 < 2 ^ 32 - 1
+    → now ≡ table ++ (if may_be_whole spot.form then (spot.digest, length spots) ∷ [] else []) → length spots + 1 < 2 ^ 32 - 1
     → IsInStepWith new after now longer
 steady_with old new stored spots after spot table now lengths longer len is gains more longer_is kept few = record {
   count = omega (arith, is.count, ap length gains, ap length more, length-append spots (spot ∷ []), length-append (captures old) (stored ∷ []));

@@ -8,7 +8,6 @@ use Rattle.cdxj_index.specs.OfBook.{AreEntries}
 use Rattle.disk_model.specs.Crash.{Leaves}
 use Rattle.disk_model.specs.declared.disk.Disk.{Ghosts}
 use Rattle.disk_model.specs.declared.kind.Kind.TheVariants.{Warc}
-use Rattle.revisit_table.specs.Table.{Table}
 use Rattle.time_text.specs.Texts.{InRange}
 use Rattle.volume_scan.specs.Scannings.{captures_of, file_count, files_in, position_of, texts as texts_read}
 use Rattle.volume_scan.specs.declared.found.Found.{Found}
@@ -51,11 +50,11 @@ pub record AreLengths (book : Book) (spots : List Spot) (lengths : List ℕ) : T
   pub small : (number : ℕ) → number < length lengths → slice_index_or lengths number 0 < 2 ^ 64
 
 -- whatever was read, the parts are in step
-pub record IsInStepWith (book : Book) (spots : List Spot) (table : Table) (lengths : List ℕ) : Type 0 where
+pub record IsInStepWith (book : Book) (spots : List Spot) (kept : List (List ℕ × ℕ)) (lengths : List ℕ) : Type 0 where
   pub count : length spots ≡ length (captures book)
   pub lengths_too : length lengths ≡ length spots
   pub few : length spots < 2 ^ 32 - 1
-  pub table_is : table.kept ≡ whole_from 0 spots
+  pub table_is : kept ≡ whole_from 0 spots
 
 -- each capture's group was read
 abbrev pub AreAllRead : List Spot → Type 0
@@ -93,7 +92,7 @@ abbrev pub MayStand : Option Book → List (List ℕ) → Type 0
 MayStand known texts = IfSome known (λ book. StandsBehind book texts)
 
 abbrev pub IsSteady : Gathered → Type 0
-IsSteady g = IsInStepWith (book_of g.held) g.spots.items g.table g.lengths.items
+IsSteady g = IsInStepWith (book_of g.held) g.spots.items g.table.kept g.lengths.items
 
 abbrev pub IsGathered : Option Book → Gathered → List (List ℕ) → Type 0
 IsGathered known g texts = TellsOf known (book_of g.held) texts g.spots.items g.lengths.items g.entries.items

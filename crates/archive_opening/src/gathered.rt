@@ -36,7 +36,7 @@ use cdxj_index::Entry;
 use cdxj_line::Line;
 use disk_model::Kind;
 use http_head::ResponseHead;
-use revisit_table::Digests;
+use revisit_table::LazyDigests;
 use shown::Shown;
 use std::alloc::Global;
 use surt_key::accepted_targets_have_keys;
@@ -74,7 +74,7 @@ pub struct Gathered {
     /// The length of each capture's payload in bytes, of those that keep their whole wire.
     lengths: Vec<u64>,
     /// The captures that keep their whole wire, by the digests of their payloads.
-    table: Digests,
+    table: LazyDigests,
     /// The entries of the captures that are found by date, by number.
     entries: Vec<Entry>,
 }
@@ -93,7 +93,7 @@ impl Gathered {
             held: Held::new(alloc, namespace),
             spots: Vec::new(alloc),
             lengths: Vec::new(alloc),
-            table: Digests::new(alloc),
+            table: LazyDigests::new(alloc),
             entries: Vec::new(alloc),
         }
     }
@@ -128,9 +128,9 @@ impl Gathered {
         }
     }
 
-    /// Its parts: the book without its bytes, what is kept of the captures, the table of their digests, and the entries by
-    /// number.
-    pub fn into_parts(self) -> (Held, Vec<Spot>, Digests, Vec<Entry>)
+    /// Its parts: the book without its bytes, what is kept of the captures, their digests, of which the table may still have to be
+    /// made, and the entries by number.
+    pub fn into_parts(self) -> (Held, Vec<Spot>, LazyDigests, Vec<Entry>)
         ensures held { result.0 ≡ self.held }
         ensures spots { result.1.items ≡ self.spots.items }
         ensures table { result.2 ≡ self.table }
@@ -245,6 +245,7 @@ impl Gathered {
         if passes_bounds(number, &place, &group) {
             return Err(Refusal::Damaged);
         }
+        settle_for(alloc, &mut self.table, &group)?;
         let first = match self.original(&group, &head) {
             Ok(first) => first,
             Err(refusal) => return Err(refusal),
@@ -253,7 +254,7 @@ impl Gathered {
             Ok(noted) => noted,
             Err(Memory) => return Err(Refusal::Memory),
         };
-        match self.add(alloc, noted) {
+        match self.add(noted) {
             Ok(()) => Ok(()),
             Err(Memory) => Err(Refusal::Memory),
         }
@@ -263,6 +264,7 @@ impl Gathered {
     fn original(&self, group: &Group, head: &ResponseHead) -> Result<Option<u32>, Refusal>
         requires steady { IsSteady self.now }
         requires found { IsSomeGroup group.now }
+        requires ready { IfSome group.now.same (λ _. self.now.table.waiting ≡ []) }
         ensures found { (known : Option BookValue) (texts : List (List ℕ)) (h : grammar.ResponseHead) → IsGathered known self.now texts
             → HoldsResponseParts group.now.stored.head h head.now → group.now.number ≡ length (captures (book_of self.now.held))
             → MayRefer known (book_of self.now.held) group.now → IfOk result (RefersRight (book_of self.now.held) group.now) }
@@ -295,7 +297,7 @@ impl Gathered {
     }
 
     /// Adds what was noted of the next capture.
-    fn add(&mut self, alloc: Global, noted: Noted) -> Result<(), Memory>
+    fn add(&mut self, noted: Noted) -> Result<(), Memory>
         requires steady { IsSteady self.old }
         requires volume { 0 < length (book_of self.old.held).volumes }
         requires few { length self.old.spots.items + 1 < 2 ^ 32 - 1 }
@@ -313,7 +315,7 @@ impl Gathered {
         } = noted;
         let number = self.spots.len() as u32;
         let whole = is_whole(&stored.kept);
-        add_digest(alloc, &mut self.table, whole, &digest, number)?;
+        add_digest(&mut self.table, whole, &digest, number)?;
         add_entry(&mut self.entries, entry)?;
         self.lengths.push(length)?;
         self.held.reserve()?;
@@ -326,7 +328,6 @@ impl Gathered {
     /// Adds the captures of these lines, which are those of the next ones.
     pub(crate) fn add_lines(
         &mut self,
-        alloc: Global,
         lines: Vec<Line>,
         len: u64,
         known: &Shown<Option<Book>>,
@@ -349,18 +350,13 @@ impl Gathered {
         let _ = len;
         let mut rest = lines.into_iter();
         'lines: while let Some(line) = rest.next() {
-            self.add_line(alloc, line, known)?;
+            self.add_line(line, known)?;
         }
         Ok(())
     }
 
     /// Adds the capture of which a line tells, the next one.
-    fn add_line(
-        &mut self,
-        alloc: Global,
-        line: Line,
-        known: &Shown<Option<Book>>,
-    ) -> Result<(), Memory>
+    fn add_line(&mut self, line: Line, known: &Shown<Option<Book>>) -> Result<(), Memory>
         requires steady { IsSteady self.old }
         requires volume { 0 < length (book_of self.old.held).volumes }
         requires number { line.number ≡ length self.old.spots.items }
@@ -371,7 +367,7 @@ impl Gathered {
     {
         let spot = Spot::of_line(&line)?;
         let whole = is_whole_told(&spot);
-        add_digest(alloc, &mut self.table, whole, &line.digest, line.number)?;
+        add_digest(&mut self.table, whole, &line.digest, line.number)?;
         self.lengths.push(0)?;
         self.held.reserve()?;
         self.held.add_ghost(told_ghost(&line, known));
@@ -414,10 +410,20 @@ pub(crate) fn damaged(file: u32, place: u64) -> ReopenFault
     }
 }
 
+/// Makes the table ready to be asked, if the group refers to an earlier capture.
+fn settle_for(alloc: Global, table: &mut LazyDigests, group: &Group) -> Result<(), Memory>
+    ensures kept { OnOk result (table.new.kept ≡ table.old.kept) }
+    ensures ready { OnOk result (IfSome group.now.same (λ _. table.new.waiting ≡ [])) }
+{
+    match &group.same {
+        Some(_) => table.settle(alloc),
+        None => Ok(()),
+    }
+}
+
 /// Adds a capture to the table, if it keeps its whole wire.
 fn add_digest(
-    alloc: Global,
-    table: &mut Digests,
+    table: &mut LazyDigests,
     whole: bool,
     digest: &Digest,
     number: u32,
@@ -428,7 +434,7 @@ fn add_digest(
     if !whole {
         return Ok(());
     }
-    table.put(alloc, digest, number)
+    table.push(digest, number)
 }
 
 /// Adds an entry, if there is one.

@@ -115,7 +115,6 @@ pub(crate) struct FileLines {
 
 /// Takes these lines in place of the rest of the volume that was just begun, if they are those of the next captures.
 fn take_lines<D: Disk>(
-    alloc: Global,
     scanning: &mut Scanning<D>,
     gathered: &mut Gathered,
     told: FileLines,
@@ -150,7 +149,7 @@ fn take_lines<D: Disk>(
         return Ok(());
     }
     let count = lines.len() as u32;
-    match gathered.add_lines(alloc, lines, len, known) {
+    match gathered.add_lines(lines, len, known) {
         Ok(()) => {
             scanning.skip(count);
             Ok(())
@@ -248,7 +247,7 @@ fn tell_volume<D: Disk>(
         return Ok(());
     }
     match file_lines(alloc, scanning.disk(), volume) {
-        Ok(Some(told)) => take_lines(alloc, scanning, gathered, told, known),
+        Ok(Some(told)) => take_lines(scanning, gathered, told, known),
         Ok(None) => Ok(()),
         Err(fault) => Err(fault),
     }

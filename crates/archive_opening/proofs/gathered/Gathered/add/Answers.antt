@@ -23,5 +23,5 @@ returns-clause-steady c =
     let spot : Spot = spot_of noted.stored noted.digest noted.volume noted.at noted.head_at in
     let book : book_of c.add.new.self ≡ with_capture old noted.stored = search rules in
     let gains = ap (λ (b : Book). captures b) book ∙ captures_more old.volumes noted.stored (no_volumes old.volumes c.requires.volume) in
-    steady_with old (book_of c.add.new.self) noted.stored was.spots.items c.push-2.new.self.items spot was.table c.add_digest.new.table was.lengths.items
+    steady_with old (book_of c.add.new.self) noted.stored was.spots.items c.push-2.new.self.items spot was.table.kept c.add_digest.new.table.kept was.lengths.items
     c.push.new.self.items noted.length c.requires.steady gains (search rules) (search rules) (search rules) c.requires.few

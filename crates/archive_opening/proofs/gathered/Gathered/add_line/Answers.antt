@@ -28,8 +28,8 @@ returns-clause-steady c =
     let spot : Spot = told_spot c.args.line in
     let book : book_of c.add_ghost.new.self ≡ with_capture old stored = search rules in
     let gains = ap (λ (b : Book). captures b) book ∙ captures_more old.volumes stored (no_volumes old.volumes c.requires.volume) in
-    let steady : IsInStepWith (book_of c.add_ghost.new.self) c.push-2.new.self.items c.add_digest.new.table c.push.new.self.items =
-    steady_with old (book_of c.add_ghost.new.self) stored was.spots.items c.push-2.new.self.items spot was.table c.add_digest.new.table was.lengths.items
+    let steady : IsInStepWith (book_of c.add_ghost.new.self) c.push-2.new.self.items c.add_digest.new.table.kept c.push.new.self.items =
+    steady_with old (book_of c.add_ghost.new.self) stored was.spots.items c.push-2.new.self.items spot was.table.kept c.add_digest.new.table.kept was.lengths.items
     c.push.new.self.items 0 c.requires.steady gains (search rules) (search rules) (search rules) (omega (arith, c.requires.few, c.requires.number)) in
     on_ok_weaker {P = c.add_entry.new.entries.items ≡ c.args.self.now.entries.items ++ option_to_list c.entry_in.result}
-    {Q = IsInStepWith (book_of c.add_ghost.new.self) c.push-2.new.self.items c.add_digest.new.table c.push.new.self.items} c.add_entry.result (λ _. steady) c.add_entry.ensures
+    {Q = IsInStepWith (book_of c.add_ghost.new.self) c.push-2.new.self.items c.add_digest.new.table.kept c.push.new.self.items} c.add_entry.result (λ _. steady) c.add_entry.ensures
