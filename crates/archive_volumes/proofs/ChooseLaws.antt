@@ -25,8 +25,8 @@ use Rattle.archive_shelf.specs.declared.fault.StoreFault.TheVariants as stores
 use Rattle.archive_shelf.specs.declared.looked.Looked.{Looked}
 use Rattle.archive_volumes.proofs.BringLaws.{found_is, place_at, spot_at}
 use Rattle.archive_volumes.specs.Bringing.{IsKept}
-use Rattle.archive_volumes.specs.Choosing.{MayBeWhole, Chooses, Compares, ComparesWith, IsFirstOf, MayBeWholeAt, LooksOn, NoneDamagedBelow, NoneHas}
-use Rattle.archive_volumes.specs.Decoding.{HoldsPayload, TellsFraming, is_plain}
+use Rattle.archive_volumes.specs.Choosing.{MayBeWhole, Chooses, Compares, ComparesWith, IsFirstOf, IsKeptWith, MayBeWholeAt, LooksOn, NoneDamagedBelow, NoneHas, OnSame}
+use Rattle.archive_volumes.specs.Decoding.{Decodes, HoldsPayload, TellsFraming, is_plain}
 use Rattle.archive_volumes.specs.Rereading.{HaveDigest}
 use Rattle.archive_volumes.specs.Spots.{ArePlaced, AreSpotsOf, IsPlaced, IsSpotOf, form_of, head_in, is_cut_form, is_same_form, is_told_form, may_be_whole, whole_from, wire_in}
 use Rattle.archive_volumes.specs.declared.compare.Compared.{Compared}
@@ -170,6 +170,19 @@ candidates_whole upto payload spots candidates are k less =
     let stands : Stands (candidates_of upto payload spots) n = subst (λ (l : List ℕ). Stands l n) are (record { place = k; within = less; is = refl }) in
     let w = number_whole (sha1 payload) 0 spots n (stood_least upto (numbers_of (sha1 payload) (whole_from 0 spots)) n stands) in
     record { spot = w.spot; placed = ap (slice_get spots) (w.is ∙ none w.place) ∙ w.placed; whole = w.whole }
+  where
+    none : (m : ℕ) → 0 + m ≡ m
+    none m = omega arith
+
+-- the payload's digest is kept of the one that is chosen
+pub chosen_kept : (tells : Bool) (book : Book) (upto : ℕ) (payload : List ℕ) (spots : List Spot) (candidates : List ℕ) → candidates ≡ candidates_of upto payload spots
+    → (same : Option ℕ) → Chooses tells book candidates payload (Ok same) → IfSome same (IsKeptWith spots (sha1 payload))
+chosen_kept tells book upto payload spots candidates are None none_has = tt
+chosen_kept tells book upto payload spots candidates are (Some found) first = λ spot at.
+    let stands : Stands (candidates_of upto payload spots) found =
+    subst (λ (l : List ℕ). Stands l found) are (record { place = first.place; within = first.within; is = first.is }) in
+    let w = number_whole (sha1 payload) 0 spots found (stood_least upto (numbers_of (sha1 payload) (whole_from 0 spots)) found stands) in
+    ap (λ (s : Spot). s.digest) (same_Some spot w.spot (sym at ∙ ap (slice_get spots) (w.is ∙ none w.place) ∙ w.placed)) ∙ w.digested
   where
     none : (m : ℕ) → 0 + m ≡ m
     none m = omega arith
@@ -567,6 +580,47 @@ module _ (wires : WiresHaveOnePayload) (texts : List (List ℕ)) (book : Book) (
       (λ c so. compares_right one texts book number spot kept kept.placed.payload payload refl c so)
       (compared kept.placed.payload (λ found holds. found_is wires texts book number spot kept framing there found
       (subst (λ (t : List (List ℕ)). HoldsPayload (is_cut_form spot.form) framing (wire_in t spot) found) stay holds)))
+
+-- ---- where the disk tells, whatever is told of the book
+
+on_same : (compared : Compared) (P Q : Type 0) → (P → Q) → OnSame compared P → OnSame compared Q
+on_same compares.Same P Q f p = f p
+on_same compares.Other P Q f p = tt
+on_same (compares.Damaged found) P Q f p = tt
+
+-- of a capture that was decoded just the payload was found
+pub found_same : (compared : Compared) (cut : Bool) (framing : Framing) (wire payload : List ℕ) (found : Option (List ℕ)) → HoldsPayload cut framing wire found
+    → OnSame compared (found ≡ Some payload) → OnSame compared (IsPayload cut framing wire payload)
+found_same compared cut framing wire payload found holds same =
+    on_same compared (found ≡ Some payload) (IsPayload cut framing wire payload) (λ is. subst (HoldsPayload cut framing wire) is holds) same
+
+module _ (texts : List (List ℕ)) (spot : Spot) (head : List ℕ) (is : head ≡ head_in texts spot) (framing : Framing)
+    (tells : TellsFraming spot.method head (Some framing)) (later : List (List ℕ)) (stay : later ≡ texts) (payload : List ℕ) where
+  decodes_by : IsPayload false framing (wire_in texts spot) payload → Decodes false spot.method (head_in texts spot) (wire_in texts spot) payload
+  decodes_by decoded = record {
+    framing = framing;
+    tells = subst (λ (h : List ℕ). TellsFraming spot.method h (Some framing)) is tells;
+    decoded = decoded;
+  }
+
+  -- it keeps the very wire of the payload
+  pub same_there : (other : Framing) (wire : List ℕ) → (is_plain framing ≡ is_plain other) × (wire_in later spot ≡ wire) → IsPayload false other wire payload
+      → Decodes false spot.method (head_in texts spot) (wire_in texts spot) payload
+  same_there other wire same decoded =
+      decodes_by (subst (λ (w : List ℕ). IsPayload false framing w payload) (sym same.1 ∙ ap (λ (t : List (List ℕ)). wire_in t spot) stay)
+      (framed_alike framing other wire payload same.0 decoded))
+
+  -- its wire was read and decoded
+  pub read_there : is_cut_form spot.form ≡ false → (r : Result Compared ReadFault)
+      → IfOk r (λ compared. OnSame compared (IsPayload (is_cut_form spot.form) framing (wire_in later spot) payload))
+      → IfOk r (λ compared. OnSame compared (Decodes false spot.method (head_in texts spot) (wire_in texts spot) payload))
+  read_there whole r so =
+      ok_weaker r (λ compared. OnSame compared (IsPayload (is_cut_form spot.form) framing (wire_in later spot) payload))
+      (λ compared. OnSame compared (Decodes false spot.method (head_in texts spot) (wire_in texts spot) payload))
+      (λ compared one. on_same compared (IsPayload (is_cut_form spot.form) framing (wire_in later spot) payload)
+      (Decodes false spot.method (head_in texts spot) (wire_in texts spot) payload)
+      (λ decoded. decodes_by (subst (λ (b : Bool). IsPayload b framing (wire_in texts spot) payload) whole
+      (subst (λ (t : List (List ℕ)). IsPayload (is_cut_form spot.form) framing (wire_in t spot) payload) stay decoded))) one) so
 
 -- ---- no bytes
 

@@ -44,6 +44,12 @@ Compares kept bytes payload compares.Same = bytes ≡ payload
 Compares kept bytes payload compares.Other = bytes ≢ payload
 Compares kept bytes payload (compares.Damaged found) = sha1 bytes ≢ kept
 
+-- what holds where it is answered to be the same
+abbrev pub OnSame : Compared → Type 0 → Type 0
+OnSame compares.Same holds = holds
+OnSame compares.Other holds = ⊤
+OnSame (compares.Damaged found) holds = ⊤
+
 -- how the payload of the capture with this number compares, where the disk tells
 abbrev pub ComparesWith : Book → ℕ → List ℕ → Compared → Type 0
 ComparesWith book number payload compares.Same = IsPayloadOf book number payload
@@ -90,6 +96,10 @@ pub record IsDamagedOf (tells : Bool) (candidates : List ℕ) (number : ℕ) (ke
   pub within : place < length candidates
   pub is : number ≡ get_or candidates place 0
   pub damaged : IsDamaged tells kept found
+
+-- this digest is kept of the capture with this number
+abbrev pub IsKeptWith : List Spot → List ℕ → ℕ → Type 0
+IsKeptWith spots digest number = (spot : Spot) → slice_get spots number ≡ Some spot → spot.digest ≡ digest
 
 -- what choosing among candidates answers: the first that has the payload, or that none has
 abbrev pub Chooses : Bool → Book → List ℕ → List ℕ → Result (Option ℕ) StoreFault → Type 0

@@ -15,8 +15,8 @@ use Rattle.warc_text.specs.Ids.{id_of}
 use Rattle.warc_text.specs.declared.id.IdKind.TheVariants.{Response}
 use Rattle.archive_shelf.specs.Comparing.{KeepsWire}
 use Rattle.archive_volumes.specs.Bringing.{AreOf}
-use Rattle.archive_volumes.specs.Decoding.{IsHead}
-use Rattle.archive_volumes.specs.Spots.{form_of, is_same_form, is_told_form, part, text_at}
+use Rattle.archive_volumes.specs.Decoding.{Decodes, IsHead}
+use Rattle.archive_volumes.specs.Spots.{form_of, head_in, is_same_form, is_told_form, part, text_at, wire_in}
 use Rattle.archive_volumes.specs.declared.payload.ReadBack.{ReadBack}
 use Rattle.archive_volumes.specs.declared.payload.ReadBack.TheVariants as back
 use Rattle.archive_volumes.specs.declared.reread.Reread.{Reread}
@@ -112,12 +112,14 @@ abbrev pub IsBroughtThere : List (List ℕ) → List ℕ → ℕ → Spot → Br
 IsBroughtThere texts namespace number spot brought =
     is_told_form spot.form ≡ true → (group : Group) × StandsThere texts namespace number spot group × IsBroughtOf group brought
 
--- of a capture of which a line alone told a group stands at its place that tells what is kept of it, and keeps a whole wire with this payload
-abbrev pub IsChosenThere : List (List ℕ) → List ℕ → List Spot → List ℕ → ℕ → Type 0
-IsChosenThere texts namespace spots payload number =
-    (spot : Spot) → slice_get spots number ≡ Some spot → is_told_form spot.form ≡ true
-    → (group : Group) × StandsThere texts namespace number spot group
-    × HasPayload false group.stored.method group.stored.head (kept_wire group.stored.kept) payload
+-- The bytes that stand there give a capture just this payload. Of one of which a line alone told a group stands at its place that tells what is kept of
+-- it, and keeps a whole wire with the payload. Of one whose records were read, a head stands in its volume by which the wire behind it decodes to the payload.
+pub record IsChosenThere (texts : List (List ℕ)) (namespace : List ℕ) (spots : List Spot) (payload : List ℕ) (number : ℕ) : Type 0 where
+  pub told : (spot : Spot) → slice_get spots number ≡ Some spot → is_told_form spot.form ≡ true
+      → (group : Group) × StandsThere texts namespace number spot group
+      × HasPayload false group.stored.method group.stored.head (kept_wire group.stored.kept) payload
+  pub read : (spot : Spot) → slice_get spots number ≡ Some spot → is_told_form spot.form ≡ false
+      → Decodes false spot.method (head_in texts spot) (wire_in texts spot) payload
 
 -- ---- where the book is told
 

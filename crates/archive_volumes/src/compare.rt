@@ -9,11 +9,11 @@ ghost use Rattle.warc_journal.specs.Journals.{IsInStep, disk_of, texts};
 ghost use Rattle.archive_shelf.specs.Answers.{CountsIf};
 ghost use Rattle.archive_shelf.specs.Comparing.{IsRight};
 ghost use Rattle.archive_volumes.specs.Bringing.{IsKept, OnlyReads, is_read_fault};
-ghost use Rattle.archive_volumes.specs.Choosing.{Asks, Chooses, Compares, ComparesWith, IsComparison, LooksOn, MayBeWhole, MayBeWholeAt, NoneDamagedBelow, is_look_fault};
-ghost use Rattle.archive_volumes.specs.Decoding.{HoldsPayload, is_plain as spec_plain};
+ghost use Rattle.archive_volumes.specs.Choosing.{Asks, Chooses, Compares, ComparesWith, IsComparison, IsKeptWith, LooksOn, MayBeWhole, MayBeWholeAt, NoneDamagedBelow, OnSame, is_look_fault};
+ghost use Rattle.archive_volumes.specs.Decoding.{Decodes, HoldsPayload, is_plain as spec_plain};
 ghost use Rattle.archive_volumes.specs.Held.{book_of};
 ghost use Rattle.archive_volumes.specs.Rereading.{IsChosenThere};
-ghost use Rattle.archive_volumes.specs.Spots.{AreHeldWhole, AreSpotsOf, ArePlaced, AreWithin, HasPlace, is_cut_form, whole_from, wire_in};
+ghost use Rattle.archive_volumes.specs.Spots.{AreHeldWhole, AreSpotsOf, ArePlaced, AreWithin, HasPlace, head_in, is_cut_form, whole_from, wire_in};
 ghost use Rattle.archive_volumes.specs.Volumes.{HoldsBook, IsMeasured};
 ghost use Rattle.archive_volumes.specs.declared.spot.Form.TheVariants as forms;
 ghost use Rattle.archive_volumes.specs.declared.spot.Spot.{Spot as SpotValue};
@@ -78,6 +78,7 @@ fn compare_found(kept: &Digest, found: Option<Bytes>, framing: Framing, wire: &[
     ensures comparison { (payload : List ℕ) → IsPayload false framing wire.now payload → IsComparison kept.now payload result }
     ensures compares { (payload bytes : List ℕ) → IsPayload false framing wire.now payload → found ≡ Some bytes
         → Compares kept.now bytes payload result }
+    ensures same { (payload : List ℕ) → IsPayload false framing wire.now payload → OnSame result (found ≡ Some payload) }
 {
     match found {
         None => Compared::Damaged(None),
@@ -169,6 +170,8 @@ impl<D: Disk> Volumes<D> {
             → ((found : Option (List ℕ)) → HoldsPayload (is_cut_form spot.now.form) kept
             (wire_in (texts D.Disk self.old.journal) spot.now) found → found ≡ Some bytes)
             → IfOk result (Compares spot.now.digest bytes payload) }
+        ensures same { IsTrue D.tells → (payload : List ℕ) → IsPayload false framing wire.now payload → IfOk result (λ compared. OnSame compared
+            (IsPayload (is_cut_form spot.now.form) kept (wire_in (texts D.Disk self.old.journal) spot.now) payload)) }
         ensures reads { OnlyReads D.Disk self.old self.new }
         ensures faults { CountsIf (is_read_fault result) (D.faults (disk_of self.old.journal)) (D.faults (disk_of self.new.journal)) }
     {
@@ -194,6 +197,8 @@ impl<D: Disk> Volumes<D> {
         ensures compares { (payload : List ℕ) (number : ℕ) → IsPayload false framing wire.now payload → IsTrue D.tells
             → IsKept (texts D.Disk self.old.journal) (book_of self.old.held) number spot.now
             → IfOk result (ComparesWith (book_of self.old.held) number payload) }
+        ensures same { IsTrue D.tells → (payload : List ℕ) → IsPayload false framing wire.now payload → IfOk result (λ compared. OnSame compared
+            (Decodes false spot.now.method (head_in (texts D.Disk self.old.journal) spot.now) (wire_in (texts D.Disk self.old.journal) spot.now) payload)) }
         ensures reads { OnlyReads D.Disk self.old self.new }
         ensures faults { CountsIf (is_read_fault result) (D.faults (disk_of self.old.journal)) (D.faults (disk_of self.new.journal)) }
     {
@@ -359,6 +364,8 @@ impl<D: Disk> Volumes<D> {
         ensures there { IsTrue D.tells → (payload : List ℕ) → IsPayload false framing wire.now payload → looked.same ≡ None
             → IfOk result (λ now. IfSome now.same
             (IsChosenThere (texts D.Disk self.old.journal) (book_of self.old.held).namespace spots.now payload)) }
+        ensures digest { (payload : List ℕ) → IsPayload false framing wire.now payload → looked.same ≡ None
+            → IfOk result (λ now. IfSome now.same (IsKeptWith spots.now (sha1 payload))) }
         ensures reads { OnlyReads D.Disk self.old self.new }
         ensures faults { CountsIf (is_look_fault result) (D.faults (disk_of self.old.journal)) (D.faults (disk_of self.new.journal)) }
     {

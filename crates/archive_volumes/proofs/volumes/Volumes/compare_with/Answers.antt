@@ -2,7 +2,7 @@ use Rattle.std.proofs.Common.{◌≡◌, List, ℕ, Option, Some, None, sym, sub
 use Rattle.capture.specs.declared.framing.Framing.{Framing}
 use Rattle.warc_journal.specs.Journals.{texts}
 use Rattle.archive_volumes.proofs.BringLaws.{kept_tells, reads_then, texts_stay}
-use Rattle.archive_volumes.proofs.ChooseLaws.{data_right, same_right}
+use Rattle.archive_volumes.proofs.ChooseLaws.{data_right, read_there, same_right, same_there}
 use Rattle.archive_volumes.specs.Bringing.{OnlyReads}
 use Rattle.archive_volumes.specs.Decoding.{TellsFraming}
 use Rattle.archive_volumes.specs.Held.{book_of}
@@ -16,8 +16,8 @@ returns-in-None-clause-compares g c payload number is told kept =
     (rw c.head_place.ensures at c.in_ok-head.ensures.bytes told) in
     let tells : TellsFraming spot.method c.in_ok-head.head.items None =
     subst (λ (f : Option Framing). TellsFraming spot.method c.in_ok-head.head.items f) c.in-None.is (rw c.as_slice-2.ensures.value at (rw c.as_slice.ensures.value at c.in_ok-kept.ensures)) in
-    kept_tells (texts g.D.Disk c.args.self.now.journal) (book_of c.args.self.now.held) number spot kept
-    (subst (λ (h : List ℕ). TellsFraming spot.method h None) head tells)
+    absurd (kept_tells (texts g.D.Disk c.args.self.now.journal) (book_of c.args.self.now.held) number spot kept
+    (subst (λ (h : List ℕ). TellsFraming spot.method h None) head tells))
 
 pub returns-in_err-same-clause-reads : goal.returns-in_err-same-clause-reads
 returns-in_err-same-clause-reads g c =
@@ -60,3 +60,23 @@ returns-clause-reads g c =
     let reads : OnlyReads g.D.Disk c.args.self.now c.keeps_wire.new.self =
     reads_then g.D.Disk c.args.self.now c.read_part.new.self c.keeps_wire.new.self c.read_part.ensures.reads c.keeps_wire.ensures.reads in
     reads_then g.D.Disk c.args.self.now c.keeps_wire.new.self c.compare_read.new.self reads c.compare_read.ensures.reads
+
+pub returns-then-same-clause-same : goal.returns-then-same-clause-same
+returns-then-same-clause-same g c told payload is =
+    let spot = c.args.spot.now in
+    let tells : TellsFraming spot.method c.in_ok-head.head.items (Some c.in-Some.kept) =
+    subst (λ (f : Option Framing). TellsFraming spot.method c.in_ok-head.head.items f) c.in-Some.is (rw c.as_slice-2.ensures.value at (rw c.as_slice.ensures.value at c.in_ok-kept.ensures)) in
+    same_there (texts g.D.Disk c.args.self.now.journal) spot c.in_ok-head.head.items (rw c.head_place.ensures at c.in_ok-head.ensures.bytes told)
+    c.in-Some.kept tells (texts g.D.Disk c.read_part.new.self.journal) (texts_stay g.D.Disk c.args.self.now c.read_part.new.self c.read_part.ensures.reads told)
+    payload c.args.framing c.args.wire.now (c.in_ok-same.ensures.keeps told c.if-same.true) is
+
+pub returns-clause-same : goal.returns-clause-same
+returns-clause-same g c told payload is =
+    let spot = c.args.spot.now in
+    let reads : OnlyReads g.D.Disk c.args.self.now c.keeps_wire.new.self =
+    reads_then g.D.Disk c.args.self.now c.read_part.new.self c.keeps_wire.new.self c.read_part.ensures.reads c.keeps_wire.ensures.reads in
+    let tells : TellsFraming spot.method c.in_ok-head.head.items (Some c.in-Some.kept) =
+    subst (λ (f : Option Framing). TellsFraming spot.method c.in_ok-head.head.items f) c.in-Some.is (rw c.as_slice-2.ensures.value at (rw c.as_slice.ensures.value at c.in_ok-kept.ensures)) in
+    read_there (texts g.D.Disk c.args.self.now.journal) spot c.in_ok-head.head.items (rw c.head_place.ensures at c.in_ok-head.ensures.bytes told)
+    c.in-Some.kept tells (texts g.D.Disk c.keeps_wire.new.self.journal) (texts_stay g.D.Disk c.args.self.now c.keeps_wire.new.self reads told)
+    payload c.requires.whole c.compare_read.result (c.compare_read.ensures.same told payload is)

@@ -5,9 +5,10 @@ use Rattle.warc_journal.specs.Journals.{texts}
 use Rattle.archive_volumes.proofs.BringLaws.{damaged, within_at}
 use Rattle.archive_volumes.proofs.ChooseLaws.{has_whole, its_bound, its_kept, its_spot, its_told, its_whole, its_wire}
 use Rattle.archive_volumes.proofs.GroupLaws.{got}
-use Rattle.archive_volumes.specs.Choosing.{ComparesWith, IsComparison}
+use Rattle.archive_volumes.specs.Choosing.{ComparesWith, IsComparison, OnSame}
+use Rattle.archive_volumes.specs.Decoding.{Decodes}
 use Rattle.archive_volumes.specs.Held.{book_of}
-use Rattle.archive_volumes.specs.Spots.{is_told_form}
+use Rattle.archive_volumes.specs.Spots.{head_in, is_told_form, wire_in}
 use Rattle.archive_volumes.specs.declared.compare.Compared.{Compared}
 use Rattle.archive_volumes.specs.declared.spot.Spot.{Spot}
 use Rattle.archive_volumes.proofs.volumes.Volumes.has_payload.Goals as goal
@@ -76,9 +77,16 @@ returns-in-Damaged-clause-asks g c payload is =
     )
 
 pub returns-in-Same-clause-there : goal.returns-in-Same-clause-there
-returns-in-Same-clause-there g c tells payload is has other at told =
+returns-in-Same-clause-there g c tells payload is has =
     let book = book_of c.args.self.now.held in
     let spot = c.index-spots-number.result in
+    let all = texts g.D.Disk c.args.self.now.journal in
     let here = got c.args.spots.now c.args.number spot (its_bound book c.args.spots.now c.requires.spots c.args.number c.requires.whole) c.index-spots-number.is in
     let read : is_told_form spot.form ≡ false = sym c.is_told.ensures ∙ c.if-is_told.false in
-    absurd (false≢true (sym read ∙ ap (λ (s : Spot). is_told_form s.form) (same_Some spot other (sym here ∙ at)) ∙ told))
+    record {
+      told = λ other at told. absurd (false≢true (sym read ∙ ap (λ (s : Spot). is_told_form s.form) (same_Some spot other (sym here ∙ at)) ∙ told));
+      read = λ other at _.
+          subst (λ (s : Spot). Decodes false s.method (head_in all s) (wire_in all s) payload) (same_Some spot other (sym here ∙ at))
+          (subst (λ (r : Compared). OnSame r (Decodes false spot.method (head_in all spot) (wire_in all spot) payload)) c.in-Same.is
+          (c.in_ok-answer.ensures.same tells payload is));
+    }

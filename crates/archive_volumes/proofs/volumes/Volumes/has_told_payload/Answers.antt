@@ -1,5 +1,6 @@
 use Rattle.warc_journal.specs.Journals.{texts}
-use Rattle.std.proofs.Common.{Bool, Err, IsTrue, subst}
+use Rattle.std.proofs.Common.{Bool, Err, IsTrue, ap, sym, subst, ◌∙◌}
+use Rattle.std.proofs.lemmas.Bool.{false≢true}
 use Rattle.std.specs.Prelude.{IsFalse}
 use Rattle.archive_shelf.specs.Comparing.{KeepsWire}
 use Rattle.archive_shelf.specs.declared.fault.StoreFault.TheVariants as stores
@@ -10,6 +11,7 @@ use Rattle.archive_volumes.proofs.RereadLaws.{no_revisit, own_chosen_there}
 use Rattle.archive_volumes.specs.Choosing.{Asks}
 use Rattle.archive_volumes.specs.Held.{book_of}
 use Rattle.archive_volumes.specs.Rereading.{IsOwnOf, IsReread, IsRereadOf, IsRereadThere}
+use Rattle.archive_volumes.specs.Spots.{is_told_form}
 use Rattle.archive_volumes.specs.declared.reread.Reread.{Reread}
 use Rattle.archive_volumes.specs.declared.reread.Reread.TheVariants as reread
 use Rattle.archive_volumes.specs.declared.spot.Spot.{Spot}
@@ -75,11 +77,15 @@ returns-in-Damaged-clause-asks g c payload is =
     (subst (λ (r : Reread). IsReread spot.digest r) c.in-Damaged.is (c.in_ok-read.ensures.read spot here)))
 
 pub returns-in-Own-default-default-false-clause-there : goal.returns-in-Own-default-default-false-clause-there
-returns-in-Own-default-default-false-clause-there g c tells payload is has other at told =
+returns-in-Own-default-default-false-clause-there g c tells payload is has =
     let all = texts g.D.Disk c.args.self.now.journal in
     let namespace = (book_of c.args.self.now.held).namespace in
-    own_chosen_there all namespace c.args.number other c.in-Own-default-default-false.head c.in-Own-default-default-false.payload payload
-    ((rw c.as_slice.ensures at (c.has_bytes.ensures payload is)).0 has)
-    (subst (λ (b : Bool). IsRereadThere all namespace c.args.number other (reread.Own c.in-Own-default-default-false.head c.in-Own-default-default-false.payload b))
-    c.in-Own-default-default-false.cut-test
-    (subst (λ (r : Reread). IsRereadThere all namespace c.args.number other r) c.in-Own-default-default-false.is (c.in_ok-read.ensures.there tells other at)))
+    record {
+      told = λ other at told.
+          own_chosen_there all namespace c.args.number other c.in-Own-default-default-false.head c.in-Own-default-default-false.payload payload
+          ((rw c.as_slice.ensures at (c.has_bytes.ensures payload is)).0 has)
+          (subst (λ (b : Bool). IsRereadThere all namespace c.args.number other (reread.Own c.in-Own-default-default-false.head c.in-Own-default-default-false.payload b))
+          c.in-Own-default-default-false.cut-test
+          (subst (λ (r : Reread). IsRereadThere all namespace c.args.number other r) c.in-Own-default-default-false.is (c.in_ok-read.ensures.there tells other at)));
+      read = λ other at read. absurd (false≢true (sym read ∙ ap is_told_form (c.requires.form other at)));
+    }
