@@ -1,3 +1,1 @@
-mod FitLaws
 mod LookingLaws
-mod PreparedLaws

@@ -9,7 +9,7 @@ use Rattle.archive_shelf.specs.Comparing.{IsRight}
 use Rattle.archive_shelf.specs.Contents.{Contents}
 use Rattle.archive_shelf.specs.declared.looked.Looked.{Looked}
 use Rattle.archive_core.specs.Looking.{FoundServesLater}
-use Rattle.case_archive.specs.Preparing.{IsPayloadOfTaken}
+use Rattle.case_captures.specs.Preparing.{IsPayloadOfTaken}
 
 -- an archive with this book
 abbrev with_book : Bool → Book → Contents

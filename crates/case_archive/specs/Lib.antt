@@ -1,3 +1,3 @@
 pub mod Listing
 pub mod Opening
-pub mod Preparing
+pub mod Timing

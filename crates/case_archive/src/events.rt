@@ -7,8 +7,8 @@ ghost use Rattle.warc_text.specs.Fits.{Fits};
 
 use crate::opening::{Opening, opening_in};
 use crate::replies::put_ran;
-use crate::taking::{exchanged_in, prepared_of};
 use capture::{Limits, Memory, Taken};
+use case_captures::{exchanged_in, prepared_of};
 use case_disk::{Deed, Outcome};
 use case_language::{number_in, split_word};
 use case_texts::key_in;

@@ -1,13 +1,13 @@
 //! A load is stored, one exchange after the other.
 ghost use Rattle.std.specs.Prelude.{IfOk, IfSome};
-ghost use Rattle.case_archive.specs.Preparing.{IsPrepared};
+ghost use Rattle.case_captures.specs.Preparing.{IsPrepared};
 
 use crate::storing::store_fault_text;
-use crate::taking::{Exchanged, Prepared, prepared_of};
 use crate::words;
 use archive_core::Archive;
 use archive_shelf::Shelf;
 use capture::Memory;
+use case_captures::{Exchanged, Prepared, prepared_of};
 use case_language::{number_in, split_word};
 use disk_model::Disk;
 use load_maker::{date, origin, uri};

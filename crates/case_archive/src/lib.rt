@@ -17,7 +17,6 @@ mod play;
 mod replies;
 mod settling;
 mod storing;
-mod taking;
 mod words;
 
 pub use altered::Change;

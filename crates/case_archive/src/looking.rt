@@ -3,13 +3,14 @@ ghost use Rattle.std.specs.Prelude.{◌≡◌, IfOk, IfSome};
 ghost use Rattle.sha1.specs.Sha1.{sha1};
 ghost use Rattle.archive_core.specs.Holdings.{contents_of};
 ghost use Rattle.archive_core.specs.Looking.{IsRightOf};
-ghost use Rattle.case_archive.specs.Preparing.{IsPayloadOfTaken, IsPrepared, IsTimed};
+ghost use Rattle.case_archive.specs.Timing.{IsTimed};
+ghost use Rattle.case_captures.specs.Preparing.{IsPayloadOfTaken, IsPrepared};
 
 use crate::storing::{receipt_text, store_fault_text};
-use crate::taking::{Prepared, exchanged_in, prepared_of};
 use archive_core::{Archive, compared_payloads_serve_later};
 use archive_shelf::{Looked, StoreFault};
 use capture::{Digest, Memory, growth_keeps_captures};
+use case_captures::{Prepared, exchanged_in, prepared_of};
 use case_disk::Outcome;
 use case_language::{number_in, split_word};
 use digest32::payload_digest;

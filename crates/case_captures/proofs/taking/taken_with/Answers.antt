@@ -1,7 +1,7 @@
 -- What is stored of an exchange fits.
 use Rattle.std.proofs.Common.{refl, ℕ, List, length, ap, ◌∙◌, arith}
-use Rattle.case_archive.proofs.FitLaws.{fits_by}
-use Rattle.case_archive.proofs.taking.taken_with.Goals as goal
+use Rattle.case_captures.proofs.FitLaws.{fits_by}
+use Rattle.case_captures.proofs.taking.taken_with.Goals as goal
 
 pub returns-clause-fits : goal.returns-clause-fits
 returns-clause-fits c =

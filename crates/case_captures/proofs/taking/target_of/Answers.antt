@@ -1,5 +1,5 @@
 -- The origin that a request is aimed at.
-use Rattle.case_archive.proofs.taking.target_of.Goals as goal
+use Rattle.case_captures.proofs.taking.target_of.Goals as goal
 
 pub returns-in-Ok-Origin : goal.returns-in-Ok-Origin
 returns-in-Ok-Origin c = record {

@@ -5,7 +5,7 @@ use Rattle.capture.specs.Payload.{IsPayload}
 use Rattle.capture.specs.declared.captured.Taken.{Taken}
 use Rattle.http_wire.specs.Messages.{IsOneResponse}
 use Rattle.http_head.specs.declared.head.Received.{Received}
-use Rattle.case_archive.specs.Preparing.{IsOf, IsPayloadOfTaken}
+use Rattle.case_captures.specs.Preparing.{IsOf, IsPayloadOfTaken}
 
 pub has_payload : (method : List ℕ) (response : Received) (taken : Taken) (payload : List ℕ) → IsOneResponse (asks_for_head method) response
     → IsPayload response.cut response.framing response.wire payload → IsOf method response taken → IsPayloadOfTaken taken payload

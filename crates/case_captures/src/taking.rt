@@ -2,7 +2,7 @@
 ghost use Rattle.std.specs.Prelude.{◌≡◌, ℕ, List, IfOk, IfSome};
 ghost use Rattle.capture.specs.Methods.{asks_for_head};
 ghost use Rattle.capture.specs.Payload.{IsPayload};
-ghost use Rattle.case_archive.specs.Preparing.{IsOf, IsPrepared};
+ghost use Rattle.case_captures.specs.Preparing.{IsOf, IsPrepared};
 ghost use Rattle.http_wire.specs.Messages.{IsOneResponse};
 ghost use Rattle.exchange.specs.Storing.{IsForOrigin};
 ghost use Rattle.http_wire.specs.Messages.{IsRequest};

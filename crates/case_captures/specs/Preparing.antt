@@ -4,8 +4,7 @@ use Rattle.capture.specs.Captures.{HasPayload}
 use Rattle.capture.specs.declared.captured.Taken.{Taken}
 use Rattle.http_head.specs.declared.head.Received.{Received}
 use Rattle.warc_text.specs.Fits.{Fits}
-use Rattle.case_archive.specs.declared.looking.Timed.{Timed}
-use Rattle.case_archive.specs.declared.taking.Prepared.{Prepared}
+use Rattle.case_captures.specs.declared.taking.Prepared.{Prepared}
 
 -- the capture is of this response to a request of this method
 pub record IsOf (method : List ℕ) (response : Received) (taken : Taken) : Type 0 where
@@ -22,7 +21,3 @@ IsPayloadOfTaken taken payload = HasPayload taken.cut taken.method taken.head ta
 pub record IsPrepared (prepared : Prepared) : Type 0 where
   pub fits : Fits prepared.taken
   pub has : IsPayloadOfTaken prepared.taken prepared.payload
-
--- the same of one that is stored after a look
-abbrev pub IsTimed : Timed → Type 0
-IsTimed timed = IsPrepared timed.prepared

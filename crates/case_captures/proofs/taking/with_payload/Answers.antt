@@ -1,6 +1,6 @@
 -- A capture that may be stored has the payload of the response.
-use Rattle.case_archive.proofs.PreparedLaws.{has_payload}
-use Rattle.case_archive.proofs.taking.with_payload.Goals as goal
+use Rattle.case_captures.proofs.PreparedLaws.{has_payload}
+use Rattle.case_captures.proofs.taking.with_payload.Goals as goal
 
 pub returns-in-Ok-Some : goal.returns-in-Ok-Some
 returns-in-Ok-Some c = record {
