@@ -13,7 +13,6 @@ pub mod SharingLaws
 pub mod Moving
 pub mod PassLaws
 pub mod TellingLaws
-pub mod FittingLaws
 pub mod GatherLaws
 pub mod ItemLaws
 pub mod PublishLaws

@@ -21,8 +21,6 @@ mod pass;
 mod piece;
 mod published;
 mod shelf;
-#[cfg(test)]
-mod tests;
 mod turning;
 mod vault;
 

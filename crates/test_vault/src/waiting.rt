@@ -2,10 +2,9 @@
 ghost use Rattle.std.specs.Prelude.{◌≡◌};
 ghost use Rattle.warc_text.specs.Fits.{Fits};
 
-use super::waiting_disk::{Meeting, WaitingDisk};
-use super::{StoreAnswer, begun, both_captures, capture_of, limits, not_said, stored, take_pass};
-use crate::at::At;
-use crate::naming::{Naming, Unnamed};
+use crate::captures::{different_capture, first_capture, second_capture};
+use crate::passes::{StoreAnswer, begun, limits, not_said, stored, take_pass};
+use crate::waiting_disk::{Meeting, WaitingDisk};
 use archive_core::Archive;
 use archive_shelf::{Depth, Shelf};
 use capture::Taken;
@@ -17,6 +16,7 @@ use std::rt::Clock;
 use std::sync::{Arc, Wait};
 use std::test::*;
 use std::thread::{Threads, join};
+use vault::{At, Naming, Unnamed};
 
 #[test]
 fn another_pass_reads_between_a_comparison_and_its_commit(rt: HostRuntime) -> Result<(), Fail> {
@@ -59,7 +59,8 @@ fn met<J: Naming + Send + Sync, R: Threads + Wait + Clock + Abort + Sync, D: Dis
 ) -> Archive<D>
     requires name { unnamed ≡ J.vault }
 {
-    let (one, other) = both_captures(rt, alloc);
+    let one = first_capture(rt, alloc);
+    let other = second_capture(rt, alloc);
     let different = different_capture(rt, alloc);
     let (vault, mut passes) = begun::<J, D>(unnamed);
     let first = take_pass::<J, R>(rt, &mut passes);
@@ -72,20 +73,6 @@ fn met<J: Naming + Send + Sync, R: Threads + Wait + Clock + Abort + Sync, D: Dis
     assert!(rt; answer.number == 2 && answer.same == Some(0));
     let all = vault.join(first.into_pass(), second.into_pass());
     vault.close(rt, all)
-}
-
-// A capture with another payload.
-fn different_capture<R: Abort>(rt: &R, alloc: Global) -> Taken
-    ensures { Fits result }
-{
-    capture_of(
-        rt,
-        alloc,
-        b"http://c.test/z",
-        b"GET /z HTTP/1.1\r\nHost: c.test\r\nVia: 1.1 memproxy\r\nConnection: close\r\n\r\n",
-        b"HTTP/1.1 200 OK\r\nContent-Length: 5\r\n\r\n",
-        b"world",
-    )
 }
 
 // One pass stores, and another one asks meanwhile, each in a thread of its own.

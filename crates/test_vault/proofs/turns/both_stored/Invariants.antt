@@ -1,4 +1,4 @@
-use Rattle.vault.proofs.tests.both_stored.Given as goal
+use Rattle.test_vault.proofs.turns.both_stored.Given as goal
 
 -- the vault that was just made
 abbrev pub ghosts-stored_in_threads : goal.ghosts-stored_in_threads
