@@ -8,8 +8,6 @@ mod lock;
 mod pass;
 mod plays;
 mod steps;
-#[cfg(test)]
-mod tests;
 mod told;
 mod view;
 

@@ -8,8 +8,6 @@ mod plays;
 mod post;
 mod queue;
 mod serving;
-#[cfg(test)]
-mod tests;
 mod view;
 mod waiting;
 

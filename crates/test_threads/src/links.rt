@@ -2,7 +2,7 @@
 ghost use Rattle.std.specs.Prelude.{◌≡◌, ◌<◌, vec_len};
 ghost use Rattle.std.specs.Vec.{vec_capacity};
 
-use crate::{Acceptor, Served, Worker, serve_beside};
+use link_queue::{Acceptor, Served, Worker, serve_beside};
 use std::alloc::Global;
 use std::process::Abort;
 use std::sync::Wait;

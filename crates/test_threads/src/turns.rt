@@ -2,7 +2,7 @@
 ghost use Rattle.std.specs.Prelude.{◌≡◌, ◌≤◌, [], ◌∷◌, IfOk, MatchBool};
 ghost use Rattle.std.specs.List.{All};
 
-use crate::{HistoryLock, Pass, Told, Work};
+use history_lock::{HistoryLock, Pass, Told, Work};
 use std::alloc::{AllocError, Global};
 use std::process::Abort;
 use std::sync::Wait;

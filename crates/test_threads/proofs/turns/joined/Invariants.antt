@@ -1,6 +1,6 @@
 use Rattle.std.proofs.Common.{◌≡◌, vec_len}
 use Rattle.std.specs.List.{All}
-use Rattle.history_lock.proofs.tests.joined.Given as goal
+use Rattle.test_threads.proofs.turns.joined.Given as goal
 
 abbrev pub invariant-loop-other : goal.invariant-loop-other
 invariant-loop-other l = (l.all.lock ≡ l.lock) × All (λ p. p.lock ≡ l.lock) l.others.items
