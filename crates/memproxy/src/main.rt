@@ -3,8 +3,6 @@
 
 mod command_line;
 mod status;
-#[cfg(test)]
-mod tests;
 
 use command::Status;
 use command_line::{ends_of, lock_of, out_of, texts_of, words_of};

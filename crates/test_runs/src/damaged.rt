@@ -1,6 +1,4 @@
-//! The call that serves, over real objects, which no case has.
-mod side_by_side;
-
+//! A folder that holds no archive, met by the real objects.
 use command::Status;
 use disk_model::{Disk, Kind};
 use folder_model::Lock;

@@ -1,6 +1,6 @@
 use Rattle.std.specs.Prelude.{◌≡◌, ◌≤◌, length}
 use Rattle.std.specs.Vec.{vec_capacity}
-use Rattle.memproxy.proofs.tests.side_by_side.crew_of.Given as goal
+use Rattle.test_runs.proofs.side_by_side.crew_of.Given as goal
 
 -- so many members were made, and there is room for all
 abbrev pub invariant-making : goal.invariant-making

@@ -1,4 +1,4 @@
-//! Two connections that a server serves at once. No case can say it: a case has one thread.
+//! Two connections that a server serves at once.
 ghost use Rattle.std.specs.Prelude.{◌≡◌, ◌≤◌, [], false, length, IfOk};
 ghost use Rattle.outside.specs.Link.{no_traffic};
 ghost use Rattle.outside.specs.Gate.{heard_of, no_connections};
