@@ -146,30 +146,30 @@ pub entries_as : (book other : Book) (entries others : List Facts) → other ≡
 entries_as book other entries others eb es are = subst (λ (b : Book). AreEntries b others) (sym eb) (subst (AreEntries book) (sym es) are)
 
 -- what is kept of a book
-abbrev pub AreParts : {D : Type 0} → Ghosts D → Bool → Journal D → Book → List Spot → Table → List ℕ → List Facts → Type 0
-AreParts d told journal book spots table lengths entries =
-    IsInStepWith book spots table lengths × AreSpotsOf book spots × HaveNumbers book spots entries × (IsTrue told → AreEntries book entries)
+abbrev pub AreParts : {D : Type 0} → Ghosts D → Bool → Journal D → Book → List Spot → List (List ℕ × ℕ) → List ℕ → List Facts → Type 0
+AreParts d told journal book spots kept lengths entries =
+    IsInStepWith book spots kept lengths × AreSpotsOf book spots × HaveNumbers book spots entries × (IsTrue told → AreEntries book entries)
     × (IsTrue d.tells → AreWithin (texts d journal) spots)
     × (IsTrue told → ArePlaced (texts d journal) book spots) × (IsFalse told → AreHeldWhole book spots)
 
 -- the parts of what was opened, as they are taken out
 pub parts_of : {D : Type 0} (d : Ghosts D) (told : Bool) (opened : Opened D) → IsUsable d told opened → AreNumbered opened.gathered
     → (IsTrue told → AreEntries (book_of opened.gathered.held) opened.gathered.entries.items)
-    → (journal : Journal D) (book : Book) (spots : List Spot) (table : Table) (entries : List Facts)
-    → journal ≡ opened.journal → book ≡ book_of opened.gathered.held → spots ≡ opened.gathered.spots.items → table ≡ opened.gathered.table
-    → entries ≡ opened.gathered.entries.items → AreParts d told journal book spots table opened.gathered.lengths.items entries
-parts_of d told opened is numbers entries_are journal book spots table entries ej eb es et ee =
+    → (journal : Journal D) (book : Book) (spots : List Spot) (kept : List (List ℕ × ℕ)) (entries : List Facts)
+    → journal ≡ opened.journal → book ≡ book_of opened.gathered.held → spots ≡ opened.gathered.spots.items → kept ≡ opened.gathered.table.kept
+    → entries ≡ opened.gathered.entries.items → AreParts d told journal book spots kept opened.gathered.lengths.items entries
+parts_of d told opened is numbers entries_are journal book spots kept entries ej eb es et ee =
     let g = opened.gathered in
     let ls = g.lengths.items in
-    subst (λ (x : Journal _). AreParts d told x book spots table ls entries) (sym ej)
-    (subst (λ (x : Book). AreParts d told opened.journal x spots table ls entries) (sym eb)
-    (subst (λ (x : List Spot). AreParts d told opened.journal (book_of g.held) x table ls entries) (sym es)
-    (subst (λ (x : Table). AreParts d told opened.journal (book_of g.held) g.spots.items x ls entries) (sym et)
-    (subst (λ (x : List Facts). AreParts d told opened.journal (book_of g.held) g.spots.items g.table ls x) (sym ee)
+    subst (λ (x : Journal _). AreParts d told x book spots kept ls entries) (sym ej)
+    (subst (λ (x : Book). AreParts d told opened.journal x spots kept ls entries) (sym eb)
+    (subst (λ (x : List Spot). AreParts d told opened.journal (book_of g.held) x kept ls entries) (sym es)
+    (subst (λ (x : List (List ℕ × ℕ)). AreParts d told opened.journal (book_of g.held) g.spots.items x ls entries) (sym et)
+    (subst (λ (x : List Facts). AreParts d told opened.journal (book_of g.held) g.spots.items g.table.kept ls x) (sym ee)
     (is.steady, is.spots, (numbers.in_order, numbers.below, numbers.named), entries_are, is.within, is.placed, is.made)))))
 
 module _ {D : Type 0} (d : Ghosts D) (told : Bool) (journal : Journal D) (book : Book) (spots : List Spot) (table : Table) (lengths : List ℕ)
-    (entries index : List Facts) (parts : AreParts d told journal book spots table lengths entries) (same : IsPermutation entries index) (is : IsIndex index) where
+    (entries index : List Facts) (parts : AreParts d told journal book spots table.kept lengths entries) (same : IsPermutation entries index) (is : IsIndex index) where
   pub shown_sorted : AreEntries book entries → AreEntries book (numbered index)
   shown_sorted are = entries_shown book index is (of_sorted book entries index are.of_book same)
 

@@ -86,7 +86,12 @@ pub(crate) fn archive_of<D: Disk>(
     ensures memory { IfErr result (λ refused. refused ≡ (IsMemory, disk_of opened.journal)) }
 {
     let Opened { journal, gathered } = opened;
-    let (held, spots, table, entries) = gathered.into_parts();
+    let (held, spots, digests, entries) = gathered.into_parts();
+    // before the index, since it takes memory meanwhile
+    let table = match digests.into_table(alloc) {
+        Ok(table) => table,
+        Err(Memory) => return Err((ReopenFault::Memory, journal.into_disk())),
+    };
     let index = match index_of(alloc, entries) {
         Ok(index) => index,
         Err(Memory) => return Err((ReopenFault::Memory, journal.into_disk())),
