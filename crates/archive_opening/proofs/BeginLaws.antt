@@ -21,6 +21,7 @@ use Rattle.archive_shelf.specs.Storing.{empty_book, with_volume}
 use Rattle.archive_opening.proofs.ReadingLaws.{nothing_read, with_info}
 use Rattle.archive_volumes.proofs.SpotLaws.{GoOn, placed_stay, spots_stay}
 use Rattle.archive_opening.specs.Gathering.{AreLengths, GroupWasRead, HasBegun, HasVolumeMore, IsGathered, TellsOf, AreAllRead}
+use Rattle.archive_opening.specs.Refusing.{HasEmptyLast}
 use Rattle.archive_opening.specs.Telling.{AreFilledBefore}
 use Rattle.archive_volumes.specs.Held.{book_of, is_filled}
 use Rattle.archive_opening.specs.Reading.{IsRead, Laws}
@@ -87,13 +88,6 @@ pub filled_by : (known : Option Book) (book : Book) (texts : List (List ℕ)) �
 filled_by known book texts read is = filled_all book read.sound.sound.filled is
 
 -- a volume without a capture is the last one
-pub record HasEmptyLast (book : Book) : Type 0 where
-  pub number : ℕ
-  pub volume : Volume
-  pub last : number + 1 ≡ length book.volumes
-  pub placed : slice_get book.volumes number ≡ Some volume
-  pub none : volume.captures ≡ []
-
 empty_last : (volumes : List Volume) (namespace : List ℕ) → 0 < length volumes → is_filled volumes ≡ false → HasEmptyLast (record { namespace = namespace; volumes = volumes })
 empty_last [] namespace some is = absurd (omega (arith, some))
 empty_last (v ∷ []) namespace some is =

@@ -122,10 +122,7 @@ module _ {D : Type 0} (d : Ghosts D) (known : Option Book) (old new : Scanning D
 
   -- ---- a volume
 
-  module _ (volume : ℕ) (namespace : List ℕ) (born : ℕ) (one : BeginsOne d old new volume namespace born) (begun : HasBegunOne was is namespace) where
-    abbrev now : Book
-    now = book_of is.held
-
+  module _ (volume : ℕ) (namespace : List ℕ) (born : ℕ) (one : BeginsOne d old new volume namespace born) where
     at : volume ≡ length texts
     at = one.number ∙ sym count_texts
 
@@ -135,7 +132,7 @@ module _ {D : Type 0} (d : Ghosts D) (known : Option Book) (old new : Scanning D
     fronts_now : AreFronts (texts ++ one.text ∷ []) (warc_files image)
     fronts_now = subst (λ (t : List (List ℕ)). AreFronts t (warc_files image)) (one.read tells) fronts
 
-    info : InfoEndsAt volume namespace (file_of image Warc volume) (length one.text)
+    pub info : InfoEndsAt volume namespace (file_of image Warc volume) (length one.text)
     info =
         let front = fronts_now.last volume (omega (arith, at, length_push texts one.text)) in
         let text : get_or (texts ++ one.text ∷ []) volume [] ≡ one.text =
@@ -157,7 +154,7 @@ module _ {D : Type 0} (d : Ghosts D) (known : Option Book) (old new : Scanning D
         drop_all end (file_of image Warc k) (omega (arith, ap length same, end_is k last))
 
     -- the volumes before it are counted
-    before : AreCounted image book.namespace book.volumes
+    pub before : AreCounted image book.namespace book.volumes
     before = by (length book.volumes) refl
       where
         by : (n : ℕ) → length book.volumes ≡ n → AreCounted image book.namespace book.volumes
@@ -171,44 +168,45 @@ module _ {D : Type 0} (d : Ghosts D) (known : Option Book) (old new : Scanning D
             (λ other. last_by_groups last.0 last.1 false other (whole (length (sealed_in book.volumes)) (omega (arith, at_end, at, volumes_are))))
             (is_skipped (position_of old).stage)))
 
-    same_namespace : 0 < length book.volumes → book.namespace ≡ now.namespace
-    same_namespace some = sym (begun.namespace_stays some)
+    module _ (begun : HasBegunOne was is namespace) where
+      abbrev now : Book
+      now = book_of is.held
 
-    nothing_yet : length (captures now) - length (captures_in (sealed_in now.volumes)) ≡ 0
-    nothing_yet = omega (arith, ap length begun.captures_are, ap (λ (l : List Volume). length (captures_in l)) begun.sealed)
+      same_namespace : 0 < length book.volumes → book.namespace ≡ now.namespace
+      same_namespace some = sym (begun.namespace_stays some)
 
-    pub counts_info : CountsUpTo image (position_of new) now
-    counts_info = record {
-      infos = λ k less. ⊎_elim
-          (λ (before_it : k < length book.volumes).
-          subst (λ (n : List ℕ). HasInfo image n k) (same_namespace (omega (arith, before_it))) (here.0.infos k before_it))
-          (λ (behind : length book.volumes ≤ k).
-          let e : volume ≡ k = omega (arith, behind, less, begun.volumes, volumes_are) in
-          subst (HasInfo image now.namespace) e (subst (λ (n : List ℕ). HasInfo image n volume) (sym begun.namespace_is) (length one.text, info)))
-          (cases_lt k (length book.volumes));
-      sealed = subst (AreCounted image now.namespace) (sym begun.sealed) (by (length book.volumes) refl);
-      last = λ k last.
-          let e : volume ≡ k = omega (arith, last, begun.volumes, volumes_are) in
-          let stage : stages.Opened ≡ (position_of new).stage = sym (ap (λ (p : Position). p.stage) one.position) in
-          let place : length one.text ≡ (position_of new).extent.end = sym (ap (λ (p : Position). p.extent.end) one.position) in
-          subst (λ (s : Stage). Reaches s image (last_counted now k) (position_of new).extent.end) stage
-          (subst (λ (p : ℕ). Reaches stages.Opened image (last_counted now k) p) place (
-            nothing_yet,
-            subst (λ (n : ℕ). InfoEndsAt n now.namespace (file_of image Warc n) (length one.text)) e
-                (subst (λ (n : List ℕ). InfoEndsAt volume n (file_of image Warc volume) (length one.text)) (sym begun.namespace_is) info),
-          ));
-    }
-      where
-        by : (n : ℕ) → length book.volumes ≡ n → AreCounted image now.namespace book.volumes
-        by zero none = λ k v placed. absurd (omega (arith, none, slice_get_within book.volumes k v placed))
-        by (suc n) some = subst (λ (x : List ℕ). AreCounted image x book.volumes) (same_namespace (omega (arith, some))) before
+      nothing_yet : length (captures now) - length (captures_in (sealed_in now.volumes)) ≡ 0
+      nothing_yet = omega (arith, ap length begun.captures_are, ap (λ (l : List Volume). length (captures_in l)) begun.sealed)
+
+      pub counts_info : CountsUpTo image (position_of new) now
+      counts_info = record {
+        infos = λ k less. ⊎_elim
+            (λ (before_it : k < length book.volumes).
+            subst (λ (n : List ℕ). HasInfo image n k) (same_namespace (omega (arith, before_it))) (here.0.infos k before_it))
+            (λ (behind : length book.volumes ≤ k).
+            let e : volume ≡ k = omega (arith, behind, less, begun.volumes, volumes_are) in
+            subst (HasInfo image now.namespace) e (subst (λ (n : List ℕ). HasInfo image n volume) (sym begun.namespace_is) (length one.text, info)))
+            (cases_lt k (length book.volumes));
+        sealed = subst (AreCounted image now.namespace) (sym begun.sealed) (by (length book.volumes) refl);
+        last = λ k last.
+            let e : volume ≡ k = omega (arith, last, begun.volumes, volumes_are) in
+            let stage : stages.Opened ≡ (position_of new).stage = sym (ap (λ (p : Position). p.stage) one.position) in
+            let place : length one.text ≡ (position_of new).extent.end = sym (ap (λ (p : Position). p.extent.end) one.position) in
+            subst (λ (s : Stage). Reaches s image (last_counted now k) (position_of new).extent.end) stage
+            (subst (λ (p : ℕ). Reaches stages.Opened image (last_counted now k) p) place (
+              nothing_yet,
+              subst (λ (n : ℕ). InfoEndsAt n now.namespace (file_of image Warc n) (length one.text)) e
+                  (subst (λ (n : List ℕ). InfoEndsAt volume n (file_of image Warc volume) (length one.text)) (sym begun.namespace_is) info),
+            ));
+      }
+        where
+          by : (n : ℕ) → length book.volumes ≡ n → AreCounted image now.namespace book.volumes
+          by zero none = λ k v placed. absurd (omega (arith, none, slice_get_within book.volumes k v placed))
+          by (suc n) some = subst (λ (x : List ℕ). AreCounted image x book.volumes) (same_namespace (omega (arith, some))) before
 
   -- ---- a capture
 
-  module _ (place : Place) (group : GroupFound) (on : GoesOnWith d old new place group) (taken : HasTakenOne was is place) where
-    abbrev with_it : Book
-    with_it = book_of is.held
-
+  module _ (place : Place) (group : GroupFound) (on : GoesOnWith d old new place group) where
     abbrev volume_is : ℕ
     volume_is = place.volume
 
@@ -219,7 +217,7 @@ module _ {D : Type 0} (d : Ghosts D) (known : Option Book) (old new : Scanning D
     count_more = length-set texts (length texts - 1) (get_or texts (length texts - 1) [] ++ on.text)
 
     -- its text stands behind what was read
-    front : (rest : List ℕ) × (file_of image Warc volume_is ≡ get_or texts volume_is [] ++ (on.text ++ rest))
+    pub front : (rest : List ℕ) × (file_of image Warc volume_is ≡ get_or texts volume_is [] ++ (on.text ++ rest))
     front =
         let there = (subst (λ (t : List (List ℕ)). AreFronts t (warc_files image)) (on.read tells) fronts).last volume_is (omega (arith, last_text, count_more)) in (
           there.0,
@@ -227,7 +225,7 @@ module _ {D : Type 0} (d : Ghosts D) (known : Option Book) (old new : Scanning D
               ∙ append_assoc (get_or texts volume_is []) on.text there.0,
         )
 
-    behind : drop end (file_of image Warc volume_is) ≡ on.text ++ front.0
+    pub behind : drop end (file_of image Warc volume_is) ≡ on.text ++ front.0
     behind =
         ap (drop end) front.1
         ∙ ap (λ (n : ℕ). drop n (get_or texts volume_is [] ++ (on.text ++ front.0))) (sym (end_is volume_is last_text))
@@ -272,39 +270,43 @@ module _ {D : Type 0} (d : Ghosts D) (known : Option Book) (old new : Scanning D
     longer : StandsUpTo volume_is book.namespace first_is (file_of image Warc volume_is) (suc (length (captures book) - first_is)) (end + length on.text)
     longer = (end, groups_so_far volume_is at_volume not_skipped, stands)
 
-    first_same : first_is ≡ length (captures_in (sealed_in with_it.volumes))
-    first_same = ap (λ (l : List Volume). length (captures_in l)) (sym taken.sealed)
+    module _ (taken : HasTakenOne was is place) where
+      abbrev with_it : Book
+      with_it = book_of is.held
 
-    count_is : suc (length (captures book) - first_is) ≡ length (captures with_it) - length (captures_in (sealed_in with_it.volumes))
-    count_is = omega (arith, first_same, taken.captures_are, sum_at_least book.volumes)
+      first_same : first_is ≡ length (captures_in (sealed_in with_it.volumes))
+      first_same = ap (λ (l : List Volume). length (captures_in l)) (sym taken.sealed)
 
-    place_is : end + length on.text ≡ (position_of new).extent.end
-    place_is = omega (arith, on.at, ap (λ (p : Position). p.extent.end) on.position)
+      count_is : suc (length (captures book) - first_is) ≡ length (captures with_it) - length (captures_in (sealed_in with_it.volumes))
+      count_is = omega (arith, first_same, taken.captures_are, sum_at_least book.volumes)
 
-    reached : StandsUpTo volume_is with_it.namespace (length (captures_in (sealed_in with_it.volumes))) (file_of image Warc volume_is)
-        (length (captures with_it) - length (captures_in (sealed_in with_it.volumes))) (position_of new).extent.end
-    reached =
-        subst (λ (p : ℕ). StandsUpTo volume_is with_it.namespace (length (captures_in (sealed_in with_it.volumes))) (file_of image Warc volume_is)
-        (length (captures with_it) - length (captures_in (sealed_in with_it.volumes))) p) place_is
-        (subst (λ (c : ℕ). StandsUpTo volume_is with_it.namespace (length (captures_in (sealed_in with_it.volumes))) (file_of image Warc volume_is) c (end + length on.text)) count_is
-        (subst (λ (f : ℕ). StandsUpTo volume_is with_it.namespace f (file_of image Warc volume_is) (suc (length (captures book) - first_is)) (end + length on.text)) first_same
-        (subst (λ (n : List ℕ). StandsUpTo volume_is n first_is (file_of image Warc volume_is) (suc (length (captures book) - first_is)) (end + length on.text)) (sym taken.namespace) longer)))
+      place_is : end + length on.text ≡ (position_of new).extent.end
+      place_is = omega (arith, on.at, ap (λ (p : Position). p.extent.end) on.position)
 
-    pub counts_group : CountsOn image (position_of new) with_it
-    counts_group = (
-      record {
-        infos = λ k less. subst (λ (n : List ℕ). HasInfo image n k) (sym taken.namespace) (here.0.infos k (omega (arith, less, taken.volumes)));
-        sealed = subst (AreCounted image with_it.namespace) (sym taken.sealed)
-            (subst (λ (n : List ℕ). AreCounted image n (sealed_in book.volumes)) (sym taken.namespace) here.0.sealed);
-        last = λ k last.
-            let e : volume_is ≡ k = omega (arith, last, taken.volumes, at_volume) in
-            let stage : stages.Within ≡ (position_of new).stage = sym (ap (λ (p : Position). p.stage) on.position) in
-            subst (λ (s : Stage). Reaches s image (last_counted with_it k) (position_of new).extent.end) stage
-            (subst (λ (n : ℕ). StandsUpTo n with_it.namespace (length (captures_in (sealed_in with_it.volumes))) (file_of image Warc n)
-            (length (captures with_it) - length (captures_in (sealed_in with_it.volumes))) (position_of new).extent.end) e reached);
-      },
-      λ k last other. subst (IsUntold image k) first_same (here.1 k (omega (arith, last, taken.volumes)) not_skipped),
-    )
+      reached : StandsUpTo volume_is with_it.namespace (length (captures_in (sealed_in with_it.volumes))) (file_of image Warc volume_is)
+          (length (captures with_it) - length (captures_in (sealed_in with_it.volumes))) (position_of new).extent.end
+      reached =
+          subst (λ (p : ℕ). StandsUpTo volume_is with_it.namespace (length (captures_in (sealed_in with_it.volumes))) (file_of image Warc volume_is)
+          (length (captures with_it) - length (captures_in (sealed_in with_it.volumes))) p) place_is
+          (subst (λ (c : ℕ). StandsUpTo volume_is with_it.namespace (length (captures_in (sealed_in with_it.volumes))) (file_of image Warc volume_is) c (end + length on.text)) count_is
+          (subst (λ (f : ℕ). StandsUpTo volume_is with_it.namespace f (file_of image Warc volume_is) (suc (length (captures book) - first_is)) (end + length on.text)) first_same
+          (subst (λ (n : List ℕ). StandsUpTo volume_is n first_is (file_of image Warc volume_is) (suc (length (captures book) - first_is)) (end + length on.text)) (sym taken.namespace) longer)))
+
+      pub counts_group : CountsOn image (position_of new) with_it
+      counts_group = (
+        record {
+          infos = λ k less. subst (λ (n : List ℕ). HasInfo image n k) (sym taken.namespace) (here.0.infos k (omega (arith, less, taken.volumes)));
+          sealed = subst (AreCounted image with_it.namespace) (sym taken.sealed)
+              (subst (λ (n : List ℕ). AreCounted image n (sealed_in book.volumes)) (sym taken.namespace) here.0.sealed);
+          last = λ k last.
+              let e : volume_is ≡ k = omega (arith, last, taken.volumes, at_volume) in
+              let stage : stages.Within ≡ (position_of new).stage = sym (ap (λ (p : Position). p.stage) on.position) in
+              subst (λ (s : Stage). Reaches s image (last_counted with_it k) (position_of new).extent.end) stage
+              (subst (λ (n : ℕ). StandsUpTo n with_it.namespace (length (captures_in (sealed_in with_it.volumes))) (file_of image Warc n)
+              (length (captures with_it) - length (captures_in (sealed_in with_it.volumes))) (position_of new).extent.end) e reached);
+        },
+        λ k last other. subst (IsUntold image k) first_same (here.1 k (omega (arith, last, taken.volumes)) not_skipped),
+      )
 
   -- ---- the end
 

@@ -6,5 +6,6 @@ pub mod Noting
 pub mod Opening
 pub mod Originals
 pub mod Reading
+pub mod Refusing
 pub mod Revisits
 pub mod Telling

@@ -18,6 +18,7 @@ ghost use Rattle.archive_volumes.specs.Lines.{told_spot};
 ghost use Rattle.archive_opening.specs.Lines.{AreLinesIn, AreNext, ArePlacedIn, HasAddedLine, HasCome, HasMoreCaptures, IsSoFar, capture_by};
 ghost use Rattle.archive_opening.specs.Noting.{IsGroupAt, IsSomeGroup};
 ghost use Rattle.archive_opening.specs.Opening.{CountsFault, IsCause, IsDeadEnd, IsIn, IsOther};
+ghost use Rattle.archive_opening.specs.Refusing.{IsUnfit, IsUnfitGroup, IsUnfitVolume};
 ghost use Rattle.archive_opening.specs.Revisits.{MayRefer, RefersRight, RefersToNone};
 ghost use Rattle.archive_volumes.specs.Spots.{AreWithin, form_of, is_told_form, may_be_whole};
 ghost use Rattle.archive_opening.specs.Telling.{HasBegunOne, HasTakenOne, IsMadeUp, RefersAt, Shapes};
@@ -155,6 +156,7 @@ impl Gathered {
         ensures gathers { (known : Option BookValue) (texts : List (List ℕ)) → IsGathered known self.old texts → IfOk result (Gathers known self.old self.new texts found) }
         ensures refused { (known : Option BookValue) (texts : List (List ℕ)) → IsGathered known self.old texts → IfErr result (IsRefused known self.old texts found) }
         ensures shapes { IfOk result (Shapes self.old self.new found) }
+        ensures unfit { IfErr result (IsUnfit (book_of self.old.held) found) }
         ensures cause { IfErr result (IsCause None) }
         ensures still { (count : ℕ) → IfErr result (CountsFault count count) }
     {
@@ -194,6 +196,8 @@ impl Gathered {
             → IsInfo volume text namespace born (length text) → OnOk result (HasBegun known self.old self.new texts text namespace) }
         ensures damaged { (known : Option BookValue) (texts : List (List ℕ)) (text : List ℕ) → IsGathered known self.old texts → volume ≡ length texts
             → IsInfo volume text namespace born (length text) → IfErr result (λ refusal. refusal ≡ IsDamaged → IsDeadEnd known (texts ++ text ∷ [])) }
+        ensures unfit { volume ≡ length (book_of self.old.held).volumes → IfErr result (λ refusal. refusal ≡ IsDamaged
+            → IsUnfitVolume (book_of self.old.held) namespace) }
         ensures begun { volume ≡ length (book_of self.old.held).volumes → OnOk result (HasBegunOne self.old self.new namespace) }
     {
         reading_laws();
@@ -236,6 +240,7 @@ impl Gathered {
         ensures damaged { (known : Option BookValue) (texts : List (List ℕ)) (text : List ℕ) → IsGathered known self.old texts
             → IsGroupAt (book_of self.old.held) texts text place read.group
             → IfErr result (λ refusal. refusal ≡ IsDamaged → IsDeadEnd known (with_more texts text)) }
+        ensures unfit { IfErr result (λ refusal. refusal ≡ IsDamaged → IsUnfitGroup (length (captures (book_of self.old.held))) place read.group) }
         ensures taken { OnOk result (HasTakenOne self.old self.new place) }
     {
         reading_laws();
@@ -271,6 +276,7 @@ impl Gathered {
         ensures none { (known : Option BookValue) (texts : List (List ℕ)) (h : grammar.ResponseHead) → IsGathered known self.now texts → HoldsResponseParts group.now.stored.head h head.now
             → group.now.number ≡ length (captures (book_of self.now.held))
             → IfErr result (λ refusal. refusal ≡ IsDamaged → RefersToNone (book_of self.now.held) group.now) }
+        ensures revisit { IfErr result (λ refusal. group.now.same ≢ None) }
         ensures there { IfOk result (λ first. IfSome first (λ number. number < length self.now.spots.items)) }
         ensures whole { IfOk result (λ first. IfSome first (MayBeWholeAt self.now.spots.items)) }
         ensures refers { IfOk result (RefersAt group.now.same) }

@@ -15,6 +15,7 @@ ghost use Rattle.archive_opening.specs.Lines.{FitsVolume, IsReadOf};
 ghost use Rattle.archive_opening.specs.Gathering.{HasAll, IsOpened, IsSteady, left};
 ghost use Rattle.archive_volumes.specs.Held.{book_of};
 ghost use Rattle.archive_opening.specs.Opening.{CountsFault, IsCause, IsDamageIn, IsOtherIn, IsOutside, IsReadRefusal};
+ghost use Rattle.archive_opening.specs.Refusing.{IsBorneOut};
 ghost use Rattle.archive_opening.specs.Telling.{AreCheckpointsSynced, GoesWith, HasAllOf, IsAskedFor, IsKnownRefusal, IsOpenedBy, IsReadWhole, IsSmall, MayBeSettled, OpensAt, ReadsWhole, ReadsWholeOn, ReadsWholeTo, StepsOn, TellsOn, known_to, step_of};
 
 use crate::gathered::{Gathered, damaged};
@@ -80,6 +81,7 @@ fn read_found<D: Disk>(
     ensures refused { IfErr result (IsKnownRefusal known.now.value) }
     ensures whole { ReadsWhole D.Disk scanning.old gathered.old → IfOk result (ReadsWholeTo D.Disk scanning.new gathered.new) }
     ensures damage { ReadsWhole D.Disk scanning.old gathered.old → IfErr result (IsReadRefusal (files_in D.Disk scanning.old)) }
+    ensures borne_out { IsTrue D.tells → IfErr result (IsBorneOut (D.reading (disk_of scanning.old))) }
     ensures cause { IfErr result (IsCause None) }
     ensures in_place { IsInPlace D.Disk scanning.new }
     ensures rests { IsTrue D.tells → Rests D.Disk (disk_of scanning.old) (disk_of scanning.new) }
@@ -269,6 +271,7 @@ fn read_next<D: Disk>(
     ensures refused { IfErr result (IsKnownRefusal known.now.value) }
     ensures whole { ReadsWhole D.Disk scanning.old gathered.old → IfOk result (ReadsWholeOn D.Disk scanning.new gathered.new) }
     ensures damage { ReadsWhole D.Disk scanning.old gathered.old → IfErr result (IsReadRefusal (files_in D.Disk scanning.old)) }
+    ensures borne_out { IsTrue D.tells → IfErr result (IsBorneOut (D.reading (disk_of scanning.old))) }
     ensures cause { IfErr result (IsCause None) }
     ensures in_place { IsInPlace D.Disk scanning.new }
     ensures rests { IsTrue D.tells → Rests D.Disk (disk_of scanning.old) (disk_of scanning.new) }
@@ -304,6 +307,7 @@ fn read_each<D: Disk>(
     ensures refused { IfErr result (IsKnownRefusal known.now.value) }
     ensures whole { ReadsWhole D.Disk scanning.old gathered.old → OnOk result (HasAll D.Disk scanning.new gathered.new) }
     ensures damage { ReadsWhole D.Disk scanning.old gathered.old → IfErr result (IsReadRefusal (files_in D.Disk scanning.old)) }
+    ensures borne_out { IsTrue D.tells → IfErr result (IsBorneOut (D.reading (disk_of scanning.old))) }
     ensures cause { IfErr result (IsCause None) }
     ensures in_place { IsInPlace D.Disk scanning.new }
     ensures rests { IsTrue D.tells → Rests D.Disk (disk_of scanning.old) (disk_of scanning.new) }
@@ -335,6 +339,7 @@ fn finish<D: Disk>(
     ensures whole { HasAll D.Disk scanning gathered → IfOk result (IsOpened D.Disk (disk_of scanning) asked.now) }
     ensures damage { HasAll D.Disk scanning gathered → IfErr result (λ refused. IsDamageIn (files_in D.Disk scanning) refused.0) }
     ensures other { HasAll D.Disk scanning gathered → IfErr result (λ refused. IsTrue D.tells → IsOtherIn (files_in D.Disk scanning) asked.now refused.0) }
+    ensures borne_out { IsTrue D.tells → IfErr result (λ refused. IsBorneOut (D.reading (disk_of scanning)) refused.0) }
     ensures cause { IfErr result (λ refused. IsCause asked.now refused.0) }
     ensures given_back { IfErr result (λ refused. refused.1 ≡ disk_of scanning) }
     ensures faults { IfErr result (λ refused. CountsFault (D.faults (disk_of scanning)) (D.faults refused.1) refused.0) }
@@ -379,6 +384,7 @@ pub fn open_by_checkpoints<D: Disk>(
     ensures damage { IsTrue D.tells → IsReadWhole (D.reading disk) → IfErr result (λ refused. IsDamageIn (warc_files (D.reading disk)) refused.0) }
     ensures other { IsTrue D.tells → IsReadWhole (D.reading disk) → IfErr result (λ refused. IsOtherIn (warc_files (D.reading disk)) asked.now refused.0) }
     ensures synced { IfOk result (λ opened. IsTrue D.tells → AreCheckpointsSynced (D.reading disk) (D.images (disk_of_journal opened.journal))) }
+    ensures borne_out { IsTrue D.tells → IfErr result (λ refused. IsBorneOut (D.reading disk) refused.0) }
     ensures cause { IfErr result (λ refused. IsCause asked.now refused.0) }
     ensures given_back { IfErr result (λ refused. IsTrue D.tells → Rests D.Disk disk refused.1) }
     ensures faults { IfErr result (λ refused. CountsFault (D.faults disk) (D.faults refused.1) refused.0) }

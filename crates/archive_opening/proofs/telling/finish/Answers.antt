@@ -1,4 +1,4 @@
-use Rattle.std.proofs.Common.{rules, ◌≡◌, ◌^◌, ◌≤◌, ℕ, List, length, sym, ap, subst, arith}
+use Rattle.std.proofs.Common.{rules, ◌≡◌, ◌-◌, ◌^◌, ◌<◌, ◌≤◌, ℕ, List, length, sym, ap, subst, arith}
 use Rattle.archive_volumes.specs.Held.{book_of}
 use Rattle.std.specs.Prelude.{None}
 use Rattle.warc_journal.specs.Journals.{last_len}
@@ -10,6 +10,7 @@ use Rattle.archive_opening.proofs.LinedLaws.{counts_none}
 use Rattle.archive_opening.proofs.OpenedLaws.{cause_other, opened_by}
 use Rattle.archive_opening.proofs.WholeLaws.{short_whole}
 use Rattle.archive_opening.specs.Gathering.{IsGathered}
+use Rattle.archive_opening.proofs.BorneOutLaws.{long_borne_out, long_file, other_borne_out}
 use Rattle.archive_opening.proofs.telling.finish.Goals as goal
 
 pub other_than-requires : goal.other_than-requires
@@ -70,3 +71,22 @@ returns-then-volumes-eq0-clause-counts g c = λ told.
     counts_none (g.D.Disk.reading (disk_of c.args.scanning)) (book_of c.args.gathered.held) (book_of c.in_namespace.result.held)
     (omega (arith, c.if-volumes-eq0.true, c.volumes.ensures, ap (λ (e : Extent). e.volumes) c.finish-journal.ensures.extent, c.requires.all.goes.volumes))
     (sym (c.in_namespace.ensures.gathered None).read.are.count) (c.requires.counts told)
+
+pub returns-in-Some-clause-borne_out : goal.returns-in-Some-clause-borne_out
+returns-in-Some-clause-borne_out g c = λ tells.
+    other_borne_out (g.D.Disk.reading (disk_of c.args.scanning)) (book_of c.args.gathered.held) c.args.asked.now c.in-Some.fault (c.requires.counts tells)
+    (some_volumes_told g.D.Disk c.args.known.now.value c.args.scanning c.args.gathered c.requires.all c.requires.in_place c.finish-journal.result
+    c.finish-journal.ensures.disk c.finish-journal.ensures.extent (search rules)) c.in-Some.ensures.other
+
+pub returns-then-last_len-ge-TEXT_BOUND-clause-borne_out : goal.returns-then-last_len-ge-TEXT_BOUND-clause-borne_out
+returns-then-last_len-ge-TEXT_BOUND-clause-borne_out g c = λ tells.
+    let extent = c.finish-journal.ensures.extent in
+    let book = book_of c.args.gathered.held in
+    let some : 0 < length book.volumes =
+    some_volumes_told g.D.Disk c.args.known.now.value c.args.scanning c.args.gathered c.requires.all c.requires.in_place c.finish-journal.result
+    c.finish-journal.ensures.disk extent (search rules) in
+    let count : c.volumes-last.result ≡ length book.volumes = omega (arith, c.volumes-last.ensures, ap (λ (e : Extent). e.volumes) extent, c.requires.all.goes.volumes) in
+    let file : ℕ = c.volumes-last.result - 1 in
+    let long : 2 ^ 62 ≤ last_len c.finish-journal.result = search rules in
+    long_borne_out (g.D.Disk.reading (disk_of c.args.scanning)) book file c.damaged.result c.damaged.ensures (c.requires.counts tells) (omega (arith, some, count))
+    (long_file g.D.Disk c.args.scanning c.requires.in_place tells file (omega (arith, some, count, c.requires.all.goes.volumes)) (omega (arith, long, ap (λ (e : Extent). e.end) extent)))

@@ -8,6 +8,7 @@ use Rattle.archive_opening.specs.Counting.{HasCountsOf}
 use Rattle.archive_opening.proofs.LinedLaws.{counts_first}
 use Rattle.warc_journal.specs.Extents.{warc_files}
 use Rattle.archive_opening.specs.Opening.{IsDamageIn, IsOtherIn, IsReadRefusal}
+use Rattle.archive_opening.specs.Refusing.{IsBorneOut}
 use Rattle.archive_opening.specs.Telling.{GoesWith, IsAskedFor, IsOpenedBy, ReadsWhole}
 use Rattle.archive_opening.proofs.EndLaws.{given_back_by, opened_by_on, other_in, synced_by}
 use Rattle.archive_opening.proofs.FirstLaws.{asked_first, goes_first, settled_first, whole_first}
@@ -96,3 +97,16 @@ returns-in-Ok-read_each-clause-other g c = λ tells whole.
     other_in d (warc_files (d.reading c.args.disk)) c.args.asked.now c.finish.result tells
     (subst (λ (i : Image). IfErr c.finish.result (λ refused. IsTrue d.tells → IsOtherIn (warc_files i) c.args.asked.now refused.0)) rests.read
     (c.finish.ensures.other (c.in-Ok-read_each.ensures.whole reads)))
+
+pub returns-in-Err-clause-borne_out : goal.returns-in-Err-clause-borne_out
+returns-in-Err-clause-borne_out g c = λ tells. subst (IsBorneOut (g.D.Disk.reading c.args.disk)) (sym c.in-Err.ensures.refused) tt
+
+pub returns-in-Ok-read_each-clause-borne_out : goal.returns-in-Ok-read_each-clause-borne_out
+returns-in-Ok-read_each-clause-borne_out g c = λ tells.
+    let d = g.D.Disk in
+    let rests = rests_on d c.args.disk (disk_of c.in-Ok.scanning) (disk_of c.read_each.new.scanning) (c.in-Ok.ensures.rests tells) (c.read_each.ensures.rests tells) in
+    subst (λ (i : Image). IfErr c.finish.result (λ refused. IsBorneOut i refused.0)) rests.read (c.finish.ensures.borne_out tells)
+
+pub returns-clause-borne_out : goal.returns-clause-borne_out
+returns-clause-borne_out g c = λ tells.
+    subst (λ (i : Image). IsBorneOut i c.in-Err-read_each.fault) (c.in-Ok.ensures.rests tells).read (c.in-Err-read_each.ensures.borne_out tells)

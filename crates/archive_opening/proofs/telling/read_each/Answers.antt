@@ -1,9 +1,12 @@
 use Rattle.std.proofs.Common.{true, subst, ◌∙◌}
+use Rattle.disk_model.specs.Image.{Image}
 use Rattle.volume_scan.specs.Scannings.{disk_of, position_of}
 use Rattle.archive_volumes.specs.Held.{book_of}
 use Rattle.archive_opening.specs.Counting.{CountsOnTo}
 use Rattle.archive_opening.proofs.FollowingLaws.{rests_on}
+use Rattle.archive_opening.specs.Refusing.{IsBorneOut}
 use Rattle.archive_opening.specs.Telling.{ReadsWholeOn, TellsOn}
+use Rattle.archive_opening.proofs.BorneOutLaws.{exit_borne_out}
 use Rattle.archive_opening.proofs.telling.read_each.Goals as goal
 
 pub steps-preserved : goal.steps-preserved
@@ -41,3 +44,8 @@ pub returns-clause-counts : goal.returns-clause-counts
 returns-clause-counts g c = λ told.
     subst (CountsOnTo (g.D.Disk.reading (disk_of c.read_next.new.scanning)) (position_of c.read_next.new.scanning) (book_of c.read_next.new.gathered.held)) c.if-branch.false
     (c.in_ok-read_next.ensures.counts told)
+
+pub returns-in_err-read_next-clause-borne_out : goal.returns-in_err-read_next-clause-borne_out
+returns-in_err-read_next-clause-borne_out g c = λ tells.
+    exit_borne_out (g.D.Disk.reading (disk_of c.args.scanning.now)) c.in_err-read_next.field-0.0 c.from_residual.result c.from_residual.ensures.1
+    (subst (λ (i : Image). IsBorneOut i c.in_err-read_next.field-0.0) (c.steps.invariant.rests tells).read (c.in_err-read_next.ensures.borne_out tells))

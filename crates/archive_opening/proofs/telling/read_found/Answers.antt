@@ -7,11 +7,13 @@ use Rattle.archive_opening.specs.Counting.{CountsTo}
 use Rattle.archive_opening.proofs.CountLaws.{counts_by}
 use Rattle.archive_shelf.specs.declared.fault.ReopenFault.{ReopenFault}
 use Rattle.archive_opening.specs.Opening.{CountsFault, IsOutside, IsReadRefusal}
+use Rattle.archive_opening.specs.Refusing.{IsBorneOut}
 use Rattle.archive_opening.specs.Telling.{IsKnownRefusal, IsTold, ReadsWholeTo, StepsOn}
 use Rattle.archive_opening.proofs.FollowingLaws.{damage_of_scan}
 use Rattle.archive_opening.proofs.StepLaws.{refused_by}
 use Rattle.archive_opening.proofs.TellLaws.{outside_by, steps_by, undamaged}
 use Rattle.archive_opening.proofs.WholeLaws.{whole_step}
+use Rattle.archive_opening.proofs.BorneOutLaws.{found_borne_out, scan_borne_out}
 use Rattle.archive_opening.proofs.telling.read_found.Goals as goal
 
 pub returns-in-Ok-gather-clause-steps : goal.returns-in-Ok-gather-clause-steps
@@ -79,3 +81,18 @@ returns-in-Err-Damaged-clause-damage g c = λ reads.
     subst (λ (r : ReopenFault). IsReadRefusal (files_in d c.args.scanning.now) r) (sym same)
     (damage_of_scan d c.args.scanning.now c.args.gathered.now reads.follows c.requires.in_place c.files_begin_with_what_was_read.ensures
     c.damaged_files_stand_for_no_book.ensures reads.tells c.in-Err-Damaged.file c.in-Err-Damaged.place (damage reads.tells))
+
+pub returns-in-Err-clause-borne_out : goal.returns-in-Err-clause-borne_out
+returns-in-Err-clause-borne_out g c = λ tells.
+    found_borne_out g.D.Disk c.args.known.now.value c.args.scanning.now c.args.gathered.now c.requires.goes c.requires.in_place tells (c.requires.counts tells)
+    c.step.new.self c.gather.new.self c.step.ensures.in_place (c.step.ensures.rests tells) c.files_begin_with_what_was_read.ensures c.in-Ok.found c.in-Ok.ensures.finds
+    c.in-Err.fault c.in-Err.ensures.unfit
+
+pub returns-in-Err-Damaged-clause-borne_out : goal.returns-in-Err-Damaged-clause-borne_out
+returns-in-Err-Damaged-clause-borne_out g c = λ tells.
+    let d = g.D.Disk in
+    let same = rw c.in-Err-Damaged.field-0-is at c.damaged.ensures in
+    let damage = rw c.in-Err-Damaged.field-0-is at c.in-Err-Damaged.ensures.damage in
+    subst (IsBorneOut (d.reading (disk_of c.args.scanning.now))) (sym same)
+    (scan_borne_out d c.args.known.now.value c.args.scanning.now c.args.gathered.now c.requires.goes c.requires.in_place tells (c.requires.counts tells)
+    c.in-Err-Damaged.file c.in-Err-Damaged.place (damage tells))

@@ -1,4 +1,4 @@
-use Rattle.std.proofs.Common.{rules, ◌≡◌, ℕ, ◌<◌, false, length, sym, subst, ◌∙◌, arith}
+use Rattle.std.proofs.Common.{rules, ◌≡◌, ℕ, ◌<◌, false, length, sym, subst, ◌∙◌, inl, inr, arith}
 use Rattle.std.specs.Prelude.{nat_eq}
 use Rattle.std.specs.Cmp.Lexicographic.{other_text, pointwise, same_text}
 use Rattle.std.proofs.lemmas.Bool.{not-false, not-true}
@@ -73,3 +73,16 @@ returns-then-volume-eq0-clause-begun c = λ at.
     on_ok_weaker {P = HasVolumeMore first is c.args.born} {Q = HasBegunOne was is c.args.namespace} c.add_volume.result
     (λ more. begun_anew was first is c.args.namespace c.args.born c.requires.steady (omega (arith, at, zero)) c.new.ensures.book c.new.ensures.spots c.new.ensures.entries more)
     c.add_volume.ensures.added
+
+pub returns-then-ne-clause-unfit : goal.returns-then-ne-clause-unfit
+returns-then-ne-clause-unfit c = λ at _.
+    let book : Book = book_of c.args.self.now.held in
+    let apart : pointwise nat_eq c.args.namespace book.namespace ≡ false =
+    not-true (pointwise nat_eq c.args.namespace book.namespace) (sym c.ne.ensures ∙ c.if-ne.true) in
+    (omega (arith, not_zero c.args.volume (search rules), at), inl (other_text c.args.namespace book.namespace (sym apart)))
+
+pub returns-then-not-is_filled-clause-unfit : goal.returns-then-not-is_filled-clause-unfit
+returns-then-not-is_filled-clause-unfit c = λ at _.
+    let book : Book = book_of c.args.self.now.held in
+    let some : 0 < length book.volumes = omega (arith, not_zero c.args.volume (search rules), at) in
+    (some, inr (empty_by book some (sym c.is_filled.ensures ∙ c.if-not-is_filled.true)))

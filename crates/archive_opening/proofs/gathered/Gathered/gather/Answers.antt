@@ -2,7 +2,9 @@ use Rattle.std.proofs.Common.{true, refl, sym, subst}
 use Rattle.volume_scan.specs.declared.found.Found.{Found}
 use Rattle.archive_shelf.specs.declared.fault.ReopenFault.{ReopenFault}
 use Rattle.archive_opening.specs.Gathering.{Gathers, IsRefused, IsRefusedAt}
+use Rattle.archive_opening.specs.Refusing.{IsUnfit, IsUnfitAt}
 use Rattle.archive_opening.specs.Telling.{Shapes}
+use Rattle.archive_volumes.specs.Held.{book_of}
 use Rattle.archive_opening.proofs.gathered.Gathered.gather.Goals as goal
 
 pub returns-in-Ok-clause-gathers : goal.returns-in-Ok-clause-gathers
@@ -30,3 +32,16 @@ returns-in-Ok-clause-shapes c =
 pub returns-in-Ok-take-clause-shapes : goal.returns-in-Ok-take-clause-shapes
 returns-in-Ok-take-clause-shapes c =
     subst (λ (f : Found). Shapes c.args.self.now c.take.new.self f true) (sym c.in-Group.is) (refl, c.in-Ok-take.ensures.taken)
+
+pub returns-in-Err-Damaged-clause-unfit : goal.returns-in-Err-Damaged-clause-unfit
+returns-in-Err-Damaged-clause-unfit c =
+    let book = book_of c.args.self.now.held in
+    subst (λ (r : ReopenFault). IsUnfit book c.args.found r) (sym c.damaged.ensures)
+    (subst (λ (f : Found). IsUnfitAt book f c.in-Info.volume 0) (sym c.in-Info.is) (refl, refl, λ at. c.in-Err-Damaged.ensures.unfit at c.in-Err-Damaged.field-0-is))
+
+pub returns-in-Err-Damaged-take-clause-unfit : goal.returns-in-Err-Damaged-take-clause-unfit
+returns-in-Err-Damaged-take-clause-unfit c =
+    let book = book_of c.args.self.now.held in
+    subst (λ (r : ReopenFault). IsUnfit book c.args.found r) (sym c.damaged-in-Err-Damaged-take.ensures)
+    (subst (λ (f : Found). IsUnfitAt book f c.in-Group.place.volume c.in-Group.place.at) (sym c.in-Group.is)
+    (refl, refl, c.in-Err-Damaged-take.ensures.unfit c.in-Err-Damaged-take.field-0-is))

@@ -1,9 +1,10 @@
 use Rattle.std.proofs.Common.{◌≡◌, ℕ, List, length, sym, ap, subst, ◌∙◌, arith}
-use Rattle.std.specs.Prelude.{Some}
+use Rattle.std.specs.Prelude.{Some, None}
 use Rattle.std.proofs.lemmas.Option.{slice_get_within}
 use Rattle.capture.specs.declared.book.Book.{Book}
 use Rattle.revisit_table.specs.Table.{numbers_of}
 use Rattle.warc_scan.specs.Groups.{reference_in}
+use Rattle.warc_scan.specs.declared.group.Revisited.{Revisited}
 use Rattle.archive_volumes.specs.Held.{book_of}
 use Rattle.archive_opening.specs.Originals.{IsMet}
 use Rattle.archive_volumes.specs.declared.spot.Spot.{Spot}
@@ -63,3 +64,9 @@ returns-in-Some-first_met-clause-whole c =
     let self = c.args.self.now in
     let are = c.candidates-candidates.ensures.numbers ∙ ap (numbers_of c.args.group.now.digest) c.requires.steady.table_is in
     met_is_whole self.spots.items c.args.group.now.digest c.candidates-candidates.result.now are c.in-Some-first_met.first c.in-Some-first_met.ensures.met.one
+
+pub returns-in-None-clause-revisit : goal.returns-in-None-clause-revisit
+returns-in-None-clause-revisit c = λ none. some_none c.in-Some.same (sym c.in-Some.is ∙ none)
+  where
+    some_none : (same : Revisited) → Some same ≡ None → ⊥
+    some_none same e = cc

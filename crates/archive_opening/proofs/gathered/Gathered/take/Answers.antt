@@ -1,11 +1,11 @@
 -- The table is made ready where the group refers to a capture, and then holds what it held.
-use Rattle.std.proofs.Common.{rules, ◌≡◌, ℕ, List, length, refl, sym, subst, ◌∙◌}
+use Rattle.std.proofs.Common.{rules, ◌≡◌, ℕ, List, length, refl, sym, subst, ◌∙◌, inl, inr}
 use Rattle.capture.specs.Captures.{captures}
 use Rattle.http_head.specs.Heads.{HoldsResponseParts}
 use Rattle.archive_volumes.specs.Held.{book_of}
 use Rattle.archive_opening.specs.Gathering.{HasAdded, IsInStepWith}
 use Rattle.archive_opening.proofs.ShapeLaws.{taken_one}
-use Rattle.archive_opening.specs.Noting.{IsWithin}
+use Rattle.archive_opening.specs.Noting.{IsPast, IsWithin}
 use Rattle.archive_opening.proofs.TakenLaws.{lost_is_dead, may_refer, past_is_dead, taken}
 use Rattle.archive_opening.proofs.gathered.Gathered.take.Goals as goal
 
@@ -56,3 +56,11 @@ returns-in-Ok-add-clause-taken c =
     c.in-Ok.ensures.refers parts.0 c.in-Ok-note.noted (c.in-Ok-note.ensures parts.0 of)
     (subst (λ (n : ℕ). IsWithin n c.args.place c.args.read.group) number (c.if-passes_bounds.ensures.within refl)) c.requires.steady c.requires.fits.len c.requires.fits.volume
     c.requires.fits.number added c.in-Ok.ensures.whole
+
+pub returns-then-passes_bounds-clause-unfit : goal.returns-then-passes_bounds-clause-unfit
+returns-then-passes_bounds-clause-unfit c = λ _.
+    let number : c.len-number.result ≡ length (captures (book_of c.args.self.now.held)) = search rules in
+    inl (subst (λ (n : ℕ). IsPast n c.args.place c.args.read.group) number (c.if-passes_bounds.ensures.past refl))
+
+pub returns-in-Err-clause-unfit : goal.returns-in-Err-clause-unfit
+returns-in-Err-clause-unfit c = λ _. inr c.in-Err.ensures.revisit
