@@ -26,6 +26,7 @@ use Rattle.archive_volumes.specs.declared.spot.Spot.{Spot}
 use Rattle.archive_core.specs.Holdings.{Holdings}
 use Rattle.archive_opening.specs.Counting.{HasCountsOf}
 use Rattle.archive_opening.specs.Opening.{CountsFault, IsCause, IsDamageIn, IsOtherIn, IsOutside}
+use Rattle.archive_opening.specs.Refusing.{IsBorneOut}
 use Rattle.archive_core.specs.Finished.{HasCheckpoint}
 use Rattle.archive_core.specs.Reopening.{AreFinishedAsTold, IsMadeOf, IsNotOpened, IsReopened}
 use Rattle.archive_core.specs.Known.{HasCheckpointsOfKnown, IsNotOpenedAt, IsNotOpenedKnown, IsReopenedAt, IsReopenedKnown, MayBeKnown, told_at}
@@ -155,12 +156,14 @@ module _ {D : Type 0} (d : Ghosts D) (laws : DiskLaws d) (disk : D) (asked : Opt
   pub refused_told : (refused : ReopenFault × D) → IsKnownRefusal (known_to d.tells known) refused.0 → IsCause asked refused.0
       → (IsTrue d.tells → IsReadWhole (d.reading disk) → IsDamageIn (warc_files (d.reading disk)) refused.0)
       → (IsTrue d.tells → IsReadWhole (d.reading disk) → IsOtherIn (warc_files (d.reading disk)) asked refused.0)
+      → (IsTrue d.tells → IsBorneOut (d.reading disk) refused.0)
       → (IsTrue d.tells → Rests d disk refused.1) → CountsFault (d.faults disk) (d.faults refused.1) refused.0
       → IsNotOpenedKnown d disk asked known refused
-  refused_told refused outside cause damage other rests count = record {
+  refused_told refused outside cause damage other borne_out rests count = record {
     cause = cause;
     complete = by known outside;
     unsettled = λ so read. not_opened d laws disk asked limits refused cause (λ _. damage so read) (λ _. other so read) rests count;
+    borne_out = λ so. inr (borne_out so);
     rests = rests;
     quiet = quiet_by d laws disk refused.1 rests;
     faults = count;

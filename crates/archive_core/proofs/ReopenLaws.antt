@@ -253,6 +253,7 @@ module _ {D : Type 0} (d : Ghosts D) (laws : DiskLaws d) (disk : D) (asked : Opt
       cause = not.cause;
       complete = by known may;
       unsettled = λ so read. not;
+      borne_out = λ so. inl (not.damage so, not.other so);
       rests = not.rests;
       quiet = not.quiet;
       faults = not.faults;

@@ -1,10 +1,12 @@
 -- What opening an archive gives where its book may be known: to somebody who kept the disk. By checkpoints only such a book is told, since a
 -- checkpoint may say something else than its volume holds.
-use Rattle.std.specs.Prelude.{◌≡◌, Bool, false, Contains, IsTrue, IfSome, List, ℕ, [], slice_get, Option, Some, None, ⊤}
+use Rattle.std.specs.Prelude.{◌≡◌, ◌⊎◌, Bool, false, Contains, IsTrue, IfSome, List, ℕ, [], slice_get, Option, Some, None, ⊤}
 use Rattle.capture.specs.declared.book.Book.{Book}
 use Rattle.capture.specs.declared.limits.Limits.{Limits}
 use Rattle.cdxj_index.specs.Facts.{Facts}
+use Rattle.disk_model.specs.Image.{Image}
 use Rattle.disk_model.specs.declared.disk.Disk.{Ghosts}
+use Rattle.warc_journal.specs.Extents.{warc_files}
 use Rattle.warc_journal.specs.Journals.{Rests, disk_of}
 use Rattle.warc_text.specs.StandsFor.{IdsDifferIn}
 use Rattle.archive_shelf.specs.Openings.{ImageStandsFor, SameBook}
@@ -13,7 +15,8 @@ use Rattle.archive_shelf.specs.declared.depth.Depth.TheVariants as depths
 use Rattle.archive_shelf.specs.declared.fault.ReopenFault.{ReopenFault}
 use Rattle.archive_core.specs.Holdings.{Holdings, contents_of}
 use Rattle.archive_opening.specs.Counting.{HasCountsOf}
-use Rattle.archive_opening.specs.Opening.{CountsFault, IsCause, IsIn, IsOutside}
+use Rattle.archive_opening.specs.Opening.{CountsFault, IsCause, IsDamageIn, IsIn, IsOtherIn, IsOutside}
+use Rattle.archive_opening.specs.Refusing.{IsBorneOut}
 use Rattle.archive_opening.specs.Telling.{AreCheckpointsSynced, AreReadOrTold, HasCheckpointsOf, IsAskedFor, IsReadWhole}
 use Rattle.archive_core.specs.Reopening.{IsNotOpened, IsReopened, NamesCapture}
 use Rattle.archive_shelf.specs.Digests.{HasRequest}
@@ -75,12 +78,18 @@ pub record IsReopenedKnown {D : Type 0} (d : Ghosts D) (disk : D) (asked : Optio
   pub faults : d.faults (disk_of held.journal) ≡ d.faults disk
   pub lined : IsLinedAt depth d disk held
 
+-- the files are refused for what they hold: for what is there with each volume read whole, or as bytes bear it out where checkpoints are used
+abbrev pub IsRefusedFor : Image → Option (List ℕ) → ReopenFault → Type 0
+IsRefusedFor image asked fault = (IsDamageIn (warc_files image) fault × IsOtherIn (warc_files image) asked fault) ⊎ IsBorneOut image fault
+
 -- Why an archive isn't opened, and the disk as it is given back: nothing was written. One whose book is known isn't refused for what it holds;
 -- where each volume was read whole, it is refused for what is there.
 pub record IsNotOpenedKnown {D : Type 0} (d : Ghosts D) (disk : D) (asked : Option (List ℕ)) (known : Option Book) (refused : ReopenFault × D) : Type 0 where
   pub cause : IsCause asked refused.0
   pub complete : IfSome known (λ book. IsTrue d.tells → IsOutside refused.0)
   pub unsettled : IsTrue d.tells → IsReadWhole (d.reading disk) → IsNotOpened d disk asked refused
+  -- where the disk tells, whatever is known and whichever checkpoints are used, damage and another namespace are told where they are
+  pub borne_out : IsTrue d.tells → IsRefusedFor (d.reading disk) asked refused.0
   pub rests : IsTrue d.tells → Rests d disk refused.1
   pub quiet : IsQuiet d disk refused.1
   pub faults : CountsFault (d.faults disk) (d.faults refused.1) refused.0

@@ -49,4 +49,4 @@ returns-in-Ok-clause-refused g c =
 pub returns-in-Err-clause-refused : goal.returns-in-Err-clause-refused
 returns-in-Err-clause-refused g c =
     refused_told g.D.Disk (disk_laws g) c.args.disk c.args.namespace c.args.limits c.args.known.now.value c.requires.known c.in-Err.refused c.in-Err.ensures.refused
-    c.in-Err.ensures.cause c.in-Err.ensures.damage c.in-Err.ensures.other c.in-Err.ensures.given_back c.in-Err.ensures.faults
+    c.in-Err.ensures.cause c.in-Err.ensures.damage c.in-Err.ensures.other c.in-Err.ensures.borne_out c.in-Err.ensures.given_back c.in-Err.ensures.faults
