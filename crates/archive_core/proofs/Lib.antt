@@ -36,4 +36,5 @@ pub mod SortLaws
 pub mod StoredLaws
 pub mod SupplyingLaws
 pub mod TellingLaws
+pub mod ThereLaws
 pub mod WalkingLaws

@@ -1,12 +1,12 @@
 -- What an archive is after a call that only reads its disk.
-use Rattle.std.specs.Prelude.{◌≡◌, ℕ, ◌<◌, true, IsTrue, List, length, Option, Result, Ok, Err, ⊤}
+use Rattle.std.specs.Prelude.{◌≡◌, ℕ, ◌<◌, true, IfSome, IsTrue, List, length, Option, Result, Ok, Err, ⊤}
 use Rattle.sha1.specs.Sha1.{sha1}
 use Rattle.capture.specs.Captures.{captures, HasPayload}
 use Rattle.capture.specs.Growth.{Grows}
 use Rattle.capture.specs.Soundness.{HasSoundCaptures}
 use Rattle.capture.specs.declared.captured.Taken.{Taken}
 use Rattle.disk_model.specs.declared.disk.Disk.{Ghosts}
-use Rattle.warc_journal.specs.Journals.{Rests, disk_of, extent_of}
+use Rattle.warc_journal.specs.Journals.{Rests, disk_of, extent_of, texts}
 use Rattle.archive_shelf.specs.Answers.{IsDamaged, IsFull, IsNotFull}
 use Rattle.archive_shelf.specs.Comparing.{CanRefer, IsRight, IsSameAs}
 use Rattle.archive_shelf.specs.Contents.{Contents}
@@ -14,6 +14,8 @@ use Rattle.archive_shelf.specs.Told.{WritesNothing}
 use Rattle.archive_shelf.specs.declared.fault.StoreFault.{StoreFault}
 use Rattle.archive_shelf.specs.declared.fault.StoreFault.TheVariants as stores
 use Rattle.archive_shelf.specs.declared.looked.Looked.{Looked}
+use Rattle.archive_volumes.specs.Choosing.{IsKeptWith}
+use Rattle.archive_volumes.specs.Rereading.{IsChosenThere}
 use Rattle.archive_core.specs.Holdings.{Holdings}
 use Rattle.archive_core.specs.Told.{told_of}
 
@@ -53,6 +55,17 @@ IsRightOf now taken looked =
 pub record RefersTo (now : Contents) (taken : Taken) (same : Option ℕ) : Type 0 where
   pub can : CanRefer taken.cut now.seen same
   pub does : IsTrue now.tells → IsSameAs now.seen taken same
+
+-- A capture that is found has the payload. On each disk the payload's digest is kept of it; where the disk tells, whatever is told of the book, the bytes
+-- that stand there give it just this payload.
+pub record IsFoundThere {D : Type 0} (d : Ghosts D) (held : Holdings D) (payload : List ℕ) (number : ℕ) : Type 0 where
+  pub kept : IsKeptWith held.spots (sha1 payload) number
+  pub there : IsTrue d.tells → IsChosenThere (texts d held.journal) held.book.namespace held.spots payload number
+
+-- so has the one that a new capture refers to, if it refers to any
+abbrev pub RefersThere : {D : Type 0} → Ghosts D → Holdings D → Taken → Option ℕ → Type 0
+RefersThere d held taken same =
+    (payload : List ℕ) → HasPayload taken.cut taken.method taken.head taken.wire payload → IfSome same (IsFoundThere d held payload)
 
 -- what looking for that capture answers
 abbrev pub LooksFor : Contents → Taken → Result (Option ℕ) StoreFault → Type 0

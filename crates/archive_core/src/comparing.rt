@@ -1,5 +1,5 @@
 //! How a payload is compared with those of the captures, and which earlier capture a new one refers to.
-ghost use Rattle.std.specs.Prelude.{◌≡◌, ℕ, Bool, List, false, IsTrue, OnOk, IfOk, length};
+ghost use Rattle.std.specs.Prelude.{◌≡◌, ℕ, Bool, List, None, false, IsTrue, OnOk, IfOk, IfSome, length};
 ghost use Rattle.sha1.specs.Sha1.{sha1};
 ghost use Rattle.warc_journal.specs.Journals.{disk_of};
 ghost use Rattle.warc_text.specs.Sound.{IsSound};
@@ -7,7 +7,7 @@ ghost use Rattle.archive_shelf.specs.Answers.{CountsIf};
 ghost use Rattle.archive_shelf.specs.Comparing.{IsRight};
 ghost use Rattle.archive_volumes.specs.Choosing.{LooksOn, NoneDamagedBelow, is_look_fault};
 ghost use Rattle.archive_core.specs.Holdings.{contents_of};
-ghost use Rattle.archive_core.specs.Looking.{Looks, OnlyLooks, IsDigestOf, IsRightOf, LooksFor};
+ghost use Rattle.archive_core.specs.Looking.{IsDigestOf, IsFoundThere, IsRightOf, Looks, LooksFor, OnlyLooks, RefersThere};
 ghost use Rattle.capture.specs.Body.{IsWire};
 ghost use Rattle.capture.specs.Captures.{captures, HasPayload};
 ghost use Rattle.capture.specs.Payload.{IsPayload};
@@ -39,6 +39,8 @@ impl<D: Disk> Archive<D> {
         requires right { (payload : List ℕ) → IsPayload false framing wire.now payload → IsRight self.old.told self.old.book payload looked }
         ensures looks { (payload : List ℕ) → IsPayload false framing wire.now payload → LooksOn self.new.told self.new.book payload result }
         ensures since { NoneDamagedBelow looked.upto result }
+        ensures there { (payload : List ℕ) → IsPayload false framing wire.now payload → looked.same ≡ None
+            → IfOk result (λ now. IfSome now.same (IsFoundThere D.Disk self.old payload)) }
         ensures only_looks { OnlyLooks D.Disk self.old self.new }
         ensures faults { CountsIf (is_look_fault result) (D.faults (disk_of self.old.journal)) (D.faults (disk_of self.new.journal)) }
         ensures sound { IsTrue self.new.told → IsSound self.new.book }
@@ -68,6 +70,7 @@ impl<D: Disk> Archive<D> {
         requires right { IsRight self.old.told self.old.book payload.now looked }
         ensures looks { Looks (contents_of self.new) payload.now result }
         ensures since { NoneDamagedBelow looked.upto result }
+        ensures there { looked.same ≡ None → IfOk result (λ now. IfSome now.same (IsFoundThere D.Disk self.old payload.now)) }
         ensures only_looks { OnlyLooks D.Disk self.old self.new }
         ensures faults { CountsIf (is_look_fault result) (D.faults (disk_of self.old.journal)) (D.faults (disk_of self.new.journal)) }
         ensures sound { OnOk result (IsTrue self.new.told → IsSound self.new.book) }
@@ -139,6 +142,8 @@ impl<D: Disk> Archive<D> {
         requires digest { (payload : List ℕ) → IsPayload false framing wire.now payload → digest.now ≡ sha1 payload }
         requires right { (payload : List ℕ) → IsPayload false framing wire.now payload → IsRight self.old.told self.old.book payload looked }
         ensures finds { (payload : List ℕ) → IsPayload false framing wire.now payload → FindsAmongAll self.new.told self.new.book payload result }
+        ensures there { (payload : List ℕ) → IsPayload false framing wire.now payload → looked.same ≡ None
+            → IfOk result (λ same. IfSome same (IsFoundThere D.Disk self.old payload)) }
         ensures since { NoneDamagedBelow looked.upto result }
         ensures looks { OnlyLooks D.Disk self.old self.new }
         ensures faults { CountsIf (is_look_fault result) (D.faults (disk_of self.old.journal)) (D.faults (disk_of self.new.journal)) }
@@ -162,6 +167,7 @@ impl<D: Disk> Archive<D> {
         requires digest { IsDigestOf taken.now digest.now }
         requires right { IsRightOf (contents_of self.old) taken.now looked }
         ensures refers { LooksFor (contents_of self.new) taken.now result }
+        ensures there { looked.same ≡ None → IfOk result (RefersThere D.Disk self.old taken.now) }
         ensures looks { OnlyLooks D.Disk self.old self.new }
         ensures faults { CountsIf (is_look_fault result) (D.faults (disk_of self.old.journal)) (D.faults (disk_of self.new.journal)) }
     {
@@ -185,6 +191,7 @@ impl<D: Disk> Archive<D> {
         requires digest { IsDigestOf taken.now digest.now }
         requires right { IsRightOf (contents_of self.old) taken.now looked }
         ensures refers { LooksFor (contents_of self.new) taken.now result }
+        ensures there { looked.same ≡ None → IfOk result (RefersThere D.Disk self.old taken.now) }
         ensures looks { OnlyLooks D.Disk self.old self.new }
         ensures since { NoneDamagedBelow looked.upto result }
         ensures unread { looked.upto ≡ length (captures self.old.book) → self.new ≡ self.old }

@@ -42,3 +42,6 @@ look_on-requires-clause-digest g c payload is = c.requires.digest ∙ ap sha1 (s
 pub look_on-requires-clause-right : goal.look_on-requires-clause-right
 look_on-requires-clause-right g c payload is =
     subst (λ (p : List ℕ). IsRight c.args.self.now.told c.args.self.now.book p c.args.looked) (sym is) c.requires.right
+
+pub returns-clause-there : goal.returns-clause-there
+returns-clause-there g c none = c.look_on.ensures.there c.args.payload.now refl none

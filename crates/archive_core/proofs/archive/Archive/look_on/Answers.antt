@@ -1,18 +1,21 @@
 -- An archive stays one while its disk is read.
 use Rattle.std.proofs.Common.{List, ℕ, refl, sym, ap, subst, ◌∙◌}
-use Rattle.std.specs.Prelude.{filter, nat_le}
+use Rattle.std.specs.Prelude.{IfOk, IfSome, filter, nat_le}
 use Rattle.sha1.specs.Sha1.{sha1}
 use Rattle.capture.specs.declared.book.Book.{Book}
 use Rattle.revisit_table.specs.Table.{numbers_of}
 use Rattle.archive_shelf.specs.Comparing.{IsRight}
-use Rattle.archive_volumes.specs.Choosing.{LooksOn}
+use Rattle.archive_volumes.specs.Choosing.{IsKeptWith, LooksOn}
+use Rattle.archive_volumes.specs.Rereading.{IsChosenThere}
+use Rattle.archive_volumes.specs.declared.spot.Spot.{Spot}
 use Rattle.archive_volumes.specs.Held.{book_of}
 use Rattle.archive_volumes.specs.Spots.{AreHeldWhole, ArePlaced, AreWithin, whole_from}
 use Rattle.warc_journal.specs.Journals.{texts}
 use Rattle.archive_core.specs.Holdings.{Holdings}
-use Rattle.archive_core.specs.Looking.{OnlyLooks}
+use Rattle.archive_core.specs.Looking.{IsFoundThere, OnlyLooks}
 use Rattle.archive_core.specs.View.{holdings_of}
 use Rattle.archive_core.proofs.ReadLaws as laws
+use Rattle.archive_core.proofs.ThereLaws.{found_there}
 use Rattle.archive_core.proofs.archive.Archive.look_on.Goals as goal
 
 pub look_on_wire-requires-clause-holds : goal.look_on_wire-requires-clause-holds
@@ -58,3 +61,14 @@ pub returns-clause-only_looks : goal.returns-clause-only_looks
 returns-clause-only_looks g c =
     subst (λ (held : Holdings _). OnlyLooks g.D.Disk held (record (holdings_of c.self.inside) { journal = c.look_on_wire.new.self.journal; book = book_of c.look_on_wire.new.self.held })) c.self.view_is
     (laws.looks g.D.Disk (holdings_of c.self.inside) c.self.inside.volumes c.look_on_wire.new.self refl refl c.look_on_wire.ensures.reads c.self.invariant.holds.tells)
+
+pub returns-clause-there : goal.returns-clause-there
+returns-clause-there g c payload is none =
+    let was : Holdings _ = holdings_of c.self.inside in
+    let read = c.look_on_wire.result in
+    subst (λ (held : Holdings _). IfOk read (λ now. IfSome now.same (IsFoundThere g.D.Disk held payload))) c.self.view_is
+    (found_there g.D.Disk was payload read
+    (subst (λ (l : List Spot). IfOk read (λ now. IfSome now.same (IsKeptWith l (sha1 payload)))) c.as_slice.ensures.value
+    (c.look_on_wire.ensures.digest payload is none))
+    (λ tells. subst (λ (l : List Spot). IfOk read (λ now. IfSome now.same (IsChosenThere (texts g.D.Disk was.journal) was.book.namespace l payload))) c.as_slice.ensures.value
+    (c.look_on_wire.ensures.there tells payload is none)))

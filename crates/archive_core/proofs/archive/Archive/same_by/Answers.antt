@@ -2,6 +2,7 @@
 use Rattle.archive_core.specs.Holdings.{contents_of}
 use Rattle.archive_core.proofs.MatchLaws.{its_decoded, its_payload, looks_for, refers_cut, wire_whole}
 use Rattle.archive_core.proofs.PayloadLaws.{has_one}
+use Rattle.archive_core.proofs.ThereLaws.{refers_there}
 use Rattle.archive_core.proofs.archive.Archive.same_by.Goals as goal
 
 pub returns-then-taken-clause-refers : goal.returns-then-taken-clause-refers
@@ -27,3 +28,9 @@ returns-clause-refers g c =
     looks_for (contents_of c.same_with.new.self) taken there.payload there.has c.if-taken.false c.same_with.result
     (c.same_with.ensures.finds there.payload
     (its_decoded taken c.args.framing c.requires.framed c.if-taken.false c.as_slice.result.now c.as_slice.ensures there.payload there.has))
+
+pub returns-clause-there : goal.returns-clause-there
+returns-clause-there g c none =
+    refers_there g.D.Disk c.args.self.now c.args.taken.now c.same_with.result
+    (λ payload has. c.same_with.ensures.there payload
+    (its_decoded c.args.taken.now c.args.framing c.requires.framed c.if-taken.false c.as_slice.result.now c.as_slice.ensures payload has) none)

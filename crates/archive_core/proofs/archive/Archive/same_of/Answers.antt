@@ -1,9 +1,11 @@
-use Rattle.std.proofs.Common.{rules, ◌≡◌, subst, ◌∙◌}
+use Rattle.std.proofs.Common.{rules, ◌≡◌, sym, subst, ◌∙◌}
 use Rattle.std.specs.Prelude.{length}
 use Rattle.capture.specs.Captures.{captures}
 use Rattle.archive_core.specs.Holdings.{Holdings, contents_of}
+use Rattle.archive_core.specs.Looking.{RefersThere}
 use Rattle.archive_core.proofs.MatchLaws.{its_decoded, its_payload, looks_for, refers_before, refers_cut, wire_whole}
 use Rattle.archive_core.proofs.PayloadLaws.{has_one}
+use Rattle.archive_core.proofs.ThereLaws.{refers_there}
 use Rattle.archive_core.proofs.archive.Archive.same_of.Goals as goal
 
 pub returns-then-taken-clause-refers : goal.returns-then-taken-clause-refers
@@ -37,3 +39,13 @@ returns-clause-refers g c =
     looks_for (contents_of c.same_with.new.self) taken there.payload there.has c.if-taken.false c.same_with.result
     (c.same_with.ensures.finds there.payload
     (its_decoded taken c.in_ok-framing.framing c.in_ok-framing.ensures c.if-taken.false c.as_slice.result.now c.as_slice.ensures there.payload there.has))
+
+pub returns-then-looked-count-clause-there : goal.returns-then-looked-count-clause-there
+returns-then-looked-count-clause-there g c none =
+    subst (RefersThere g.D.Disk c.args.self.now c.args.taken.now) (sym none) (λ payload has. tt)
+
+pub returns-clause-there : goal.returns-clause-there
+returns-clause-there g c none =
+    refers_there g.D.Disk c.args.self.now c.args.taken.now c.same_with.result
+    (λ payload has. c.same_with.ensures.there payload
+    (its_decoded c.args.taken.now c.in_ok-framing.framing c.in_ok-framing.ensures c.if-taken.false c.as_slice.result.now c.as_slice.ensures payload has) none)

@@ -17,3 +17,6 @@ returns-clause-finds g c payload is =
 pub returns-in_err-all-clause-since : goal.returns-in_err-all-clause-since
 returns-in_err-all-clause-since g c =
     since_exit Looked _ c.args.looked.upto c.in_err-all.field-0.0 c.from_residual.result c.from_residual.ensures.1 c.in_err-all.ensures.since
+
+pub returns-clause-there : goal.returns-clause-there
+returns-clause-there g c payload is none = c.in_ok-all.ensures.there payload is none
