@@ -1,11 +1,11 @@
 //! How a capture is stored whose payload was compared.
-ghost use Rattle.std.specs.Prelude.{◌≡◌, ℕ, is_some, if◌then◌else◌};
+ghost use Rattle.std.specs.Prelude.{◌≡◌, ℕ, IfOk, None, is_some, if◌then◌else◌};
 ghost use Rattle.warc_text.specs.Fits.{Fits};
 ghost use Rattle.archive_shelf.specs.Answers.{IsNotFull};
 ghost use Rattle.archive_core.specs.Basis.{StoringBasis};
 ghost use Rattle.archive_volumes.specs.Choosing.{NoneDamagedBelow};
 ghost use Rattle.archive_core.specs.Holdings.{contents_of};
-ghost use Rattle.archive_core.specs.Looking.{IsDigestOf, IsRightOf, RefersTo};
+ghost use Rattle.archive_core.specs.Looking.{IsDigestOf, IsRightOf, RefersThere, RefersTo};
 ghost use Rattle.archive_core.specs.Stores.{Stores};
 
 use crate::Archive;
@@ -60,6 +60,7 @@ impl<D: Disk> Archive<D> {
         requires digest { IsDigestOf taken.now digest.now }
         requires refers { RefersTo (contents_of self.old) taken.now same }
         ensures stores { Stores D.Disk self.old self.new taken.now result }
+        ensures same { IfOk result (λ receipt. receipt.same_as ≡ same) }
         ensures unread { (number : ℕ) → NoneDamagedBelow number result }
     {
         storing_has_a_basis();
@@ -103,6 +104,7 @@ impl<D: Disk> Archive<D> {
         requires digest { IsDigestOf taken.now digest.now }
         requires right { IsRightOf (contents_of self.old) taken.now looked }
         ensures stores { Stores D.Disk self.old self.new taken.now result }
+        ensures there { looked.same ≡ None → IfOk result (λ receipt. RefersThere D.Disk self.old taken.now receipt.same_as) }
         ensures since { NoneDamagedBelow looked.upto result }
     {
         let same = self.same_of(alloc, taken, digest, looked)?;
@@ -122,16 +124,18 @@ impl<D: Disk> Archive<D> {
         requires digest { IsDigestOf taken.now digest.now }
         requires right { IsRightOf (contents_of self.old) taken.now looked }
         ensures stores { Stores D.Disk self.old self.new taken.now result }
+        ensures there { looked.same ≡ None → IfOk result (λ receipt. RefersThere D.Disk self.old taken.now receipt.same_as) }
         ensures since { NoneDamagedBelow looked.upto result }
     {
         self.check_room()?;
         self.store_looked(alloc, taken, digest, looked)
     }
 
-    /// Stores a capture whose payload wasn't looked for.
-    pub(crate) fn store_new(&mut self, alloc: Global, taken: &Taken) -> Result<Receipt, StoreFault>
+    /// Stores a capture whose payload wasn't looked for. It is what `store` of the shelf answers, with all that is said of it.
+    pub fn store_new(&mut self, alloc: Global, taken: &Taken) -> Result<Receipt, StoreFault>
         requires fits { Fits taken.now }
-        ensures { Stores D.Disk self.old self.new taken.now result }
+        ensures stores { Stores D.Disk self.old self.new taken.now result }
+        ensures there { IfOk result (λ receipt. RefersThere D.Disk self.old taken.now receipt.same_as) }
     {
         self.check_room()?;
         wires_have_one_payload();

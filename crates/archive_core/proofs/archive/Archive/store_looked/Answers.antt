@@ -6,6 +6,7 @@ use Rattle.archive_core.proofs.AfterLaws.{fault_exit, stores_after}
 use Rattle.archive_volumes.proofs.ChangeLaws.{DiskLaws}
 use Rattle.archive_volumes.proofs.SinceLaws.{since_exit}
 use Rattle.archive_core.proofs.archive.Archive.store_looked.Given.{Over}
+use Rattle.archive_core.proofs.ThereLaws.{receipt_there}
 use Rattle.archive_core.proofs.archive.Archive.store_looked.Goals as goal
 
 -- what is asked of the disk
@@ -32,3 +33,7 @@ returns-in_err-same-clause-since g c =
 
 pub returns-clause-since : goal.returns-clause-since
 returns-clause-since g c = c.store_compared.ensures.unread c.args.looked.upto
+
+pub returns-clause-there : goal.returns-clause-there
+returns-clause-there g c none =
+    receipt_there g.D.Disk c.args.self.now c.args.taken.now c.in_ok-same.same c.store_compared.result c.store_compared.ensures.same (c.in_ok-same.ensures.there none)
