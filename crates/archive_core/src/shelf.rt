@@ -5,6 +5,7 @@ ghost use Rattle.archive_shelf.specs.Answers.{Brings, CountsIf, NamesKeeper, is_
 ghost use Rattle.archive_shelf.specs.Digests.{GoesByDigest};
 ghost use Rattle.archive_shelf.specs.Told.{ShowsItsBook};
 ghost use Rattle.archive_volumes.specs.Digests.{GoesByKept};
+ghost use Rattle.archive_volumes.specs.Spots.{AreSpotsOf};
 ghost use Rattle.archive_volumes.specs.Volumes.{OpensNear};
 ghost use Rattle.archive_core.specs.Bringing.{BringsAsThere};
 ghost use Rattle.archive_core.specs.Holdings.{IsArchive, contents_of};
@@ -49,11 +50,13 @@ impl<D: Disk> Archive<D> {
     }
 
     /// An archive shows its book, whatever was called before: where that is told, which is only of a disk that tells, the book is
-    /// sound and its entries are what is shown; what may be opened is next to it.
+    /// sound and its entries are what is shown; what may be opened is next to it. What is kept of each capture is kept of that of
+    /// the book, whatever is told.
     pub fn shows_its_book(&self)
         ensures shows { ShowsItsBook true (told_of D.Disk self.now) }
         ensures near { IsTrue self.now.told → OpensNear D.Disk (disk_of self.now.journal) self.now.book }
         ensures tells { IsTrue self.now.told → IsTrue D.tells }
+        ensures spots { AreSpotsOf self.now.book self.now.spots }
     {
         self.is_an_archive();
     }

@@ -21,3 +21,6 @@ returns-clause-near g c = c.is_an_archive.ensures.holds.near
 
 pub returns-clause-tells : goal.returns-clause-tells
 returns-clause-tells g c = c.is_an_archive.ensures.holds.tells
+
+pub returns-clause-spots : goal.returns-clause-spots
+returns-clause-spots g c = c.is_an_archive.ensures.spots
