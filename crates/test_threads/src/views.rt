@@ -2,13 +2,13 @@
 ghost use Rattle.std.specs.Prelude.{◌≡◌, None, [], ◌∷◌};
 
 use cdxj_index::{Entry, Index, SharedEntry};
+use cdxj_line::read_line;
 use index_snapshot::{Brings, Publisher, Viewer, published};
-use measuring::entry_of;
 use std::alloc::Global;
 use std::process::Abort;
 use std::sync::Wait;
 use std::test::*;
-use std::thread::{Threads, join};
+use std::thread::{Threads, join_mut};
 
 // Items that bring an entry each, or none.
 struct Pages;
@@ -43,13 +43,23 @@ fn begun<R: Wait + Abort>(
     (publisher, viewer)
 }
 
+// A line of an index.
+const LINE: &[u8] =
+    b"test,a)/x 20240131120000 {\"digest\":\"VL2MMHO4YXUKFWV63YHTWSBM3GXKSQ2N\",\"filename\":\"vol-000000.warc\",\"length\":\"341\",\"method\":\"GET\",\"mime\":\"unk\",\"number\":\"0\",\"offset\":\"311\",\"status\":\"200\",\"url\":\"http://a.test/x\"}\n";
+
+// The entry of that line.
+fn entry_of_line<R: Abort>(rt: &R, alloc: Global) -> Entry {
+    let Ok(Some(line)) = read_line(alloc, LINE) else {
+        panic!(rt; "no line")
+    };
+    Entry::of_line(line)
+}
+
 // Appends an item that brings an entry.
 fn append_one<R: Abort>(rt: &R, alloc: Global, publisher: &mut Publisher<Option<Entry>, Pages>)
     requires { publisher.old.full ≡ None ∷ [] }
 {
-    let Ok(entry) = entry_of(alloc, 0, 0) else {
-        panic!(rt; "no memory")
-    };
+    let entry = entry_of_line(rt, alloc);
     let Ok(copy) = entry.copy() else {
         panic!(rt; "no memory")
     };
@@ -60,26 +70,15 @@ fn append_one<R: Abort>(rt: &R, alloc: Global, publisher: &mut Publisher<Option<
     assert!(rt; publisher.append(&item, Some(shared)).is_ok());
 }
 
-// Shows readers what was appended, and says whether that was done.
-fn shown<R: Wait>(
-    rt: &R,
-    mut publisher: Publisher<Option<Entry>, Pages>,
-) -> (Publisher<Option<Entry>, Pages>, bool) {
-    let done = publisher.publish(rt).is_ok();
-    (publisher, done)
-}
-
-// The same in a thread of its own.
+// Shows readers in another thread what was appended, and says whether that was done.
 fn shown_beside<R: Threads + Wait + Sync>(
     rt: &R,
-    publisher: Publisher<Option<Entry>, Pages>,
-) -> (Publisher<Option<Entry>, Pages>, bool) {
-    let (answer, _) = join(
-        rt,
-        move || -> (Publisher<Option<Entry>, Pages>, bool) { shown(rt, publisher) },
-        || -> bool { true },
-    );
-    answer
+    publisher: &mut Publisher<Option<Entry>, Pages>,
+) -> bool {
+    let mut beside = || -> bool { publisher.publish(rt).is_ok() };
+    let mut here = || {};
+    let (done, ()) = join_mut(rt, &mut beside, &mut here);
+    done
 }
 
 #[test]
@@ -94,8 +93,7 @@ fn shown_beside_a_view<R: Threads + Wait + Abort + Sync>(rt: &R, alloc: Global) 
         panic!(rt; "no view")
     };
     append_one(rt, alloc, &mut publisher);
-    let (publisher, done) = shown_beside(rt, publisher);
-    assert!(rt; done);
+    assert!(rt; shown_beside(rt, &mut publisher));
     assert!(rt; view.index().len() == 0);
     assert!(rt; listed_by(rt, view.leave()) == 1);
     publisher.close(rt);
