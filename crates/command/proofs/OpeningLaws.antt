@@ -1,67 +1,38 @@
 -- What is told of an archive that was opened.
-use Rattle.std.proofs.Common.{◌≡◌, ◌⊎◌, ℕ, IsTrue, List, Option, Some, None, is_some, refl, sym, ◌∙◌, ap, inl, inr, arith}
+use Rattle.std.proofs.Common.{◌≡◌, ◌⊎◌, ℕ, true, IsTrue, List, Some, None, is_some, sym, ◌∙◌, ap, inl, inr, arith}
 use Rattle.std.proofs.lemmas.Bool.{false≢true}
 use Rattle.archive_core.specs.Holdings.{Holdings, contents_of}
-use Rattle.archive_core.specs.Known.{IsNotOpenedKnown, IsReopenedKnown}
-use Rattle.archive_core.specs.Reopening.{IsNotOpened as IsRefused, IsReopened}
-use Rattle.archive_shelf.specs.Openings.{HasIds, SameBook}
-use Rattle.archive_shelf.specs.declared.depth.Depth.{Depth}
-use Rattle.archive_shelf.specs.declared.depth.Depth.TheVariants as depths
+use Rattle.archive_core.specs.Known.{IsNotOpenedKnown}
+use Rattle.archive_core.specs.Reopening.{IsNotOpened as IsRefused}
+use Rattle.archive_shelf.specs.Contents.{IsConsistent}
+use Rattle.archive_shelf.specs.Openings.{HasIds, ImageStandsFor, SameBook}
+use Rattle.archive_shelf.specs.declared.depth.Depth.TheVariants.{Whole}
 use Rattle.archive_shelf.specs.declared.fault.ReopenFault.{ReopenFault}
 use Rattle.capture.specs.declared.book.Book.{Book}
 use Rattle.disk_model.specs.declared.disk.Disk.{Ghosts as Disks}
 use Rattle.outside.specs.declared.sink.Sink.{Ghosts as Sinks}
-use Rattle.command.specs.Opening.{IsNotOpened, IsOpened, IsReadAt, IsUnchanged, usual_limits}
+use Rattle.command.specs.Opening.{IsNotOpened, IsOpened, Opening}
 use Rattle.command.specs.Printing.{LacksMemory, Prints}
 use Rattle.command.specs.Texts.{IsFaultText}
 use Rattle.command.specs.declared.status.Status.{Status}
 use Rattle.command.specs.declared.status.Status.TheVariants.{Archive}
-use Rattle.warc_journal.specs.Journals.{disk_of}
 use Rattle.warc_text.specs.StandsFor.{IdsDifferIn}
 
-module _ {D : Type 0} (disks : Disks D) (disk : D) (asked : Option (List ℕ)) (known : Option Book) (depth : Depth) where
-  pub opened_as : (held : Holdings D) → IsReopenedKnown disks disk asked usual_limits depth known held
-      → IsOpened disks depth known asked disk (contents_of held)
-  opened_as held is =
-      let tells : IsTrue held.told → IsTrue disks.tells = λ so. sym (is.whole so).told_is ∙ so in
-      record {
-        same_tells = is.told_is;
-        stands = λ so. record { for = (is.whole so).stands (tells so); sound = (is.whole so).sound };
-        one = λ so book stands ids. (is.whole so).one (tells so) book stands.sound ids stands.for;
-        known_is = is.known_is;
-        in_namespace = is.in_namespace;
-        consistent = record { sound = λ so. (is.whole so).sound; shown = λ alone so. (is.whole so).shown };
-        limits_are = is.limits_are;
-        none_stored = is.mine;
-      }
+module _ {D : Type 0} (disks : Disks D) {opening : Opening D} {held : Holdings D} (o : IsOpened disks opening held) where
+  -- where the book is told, what a read gives stands for it
+  pub opened_stands : IsTrue held.told → ImageStandsFor (disks.reading opening.disk) held.book
+  opened_stands so = record { for = (o.is.whole so).stands (sym (o.is.whole so).told_is ∙ so); sound = (o.is.whole so).sound }
 
-  pub rests_as : (held : Holdings D) → IsReopenedKnown disks disk asked usual_limits depth known held → IsUnchanged disks disk (disk_of held.journal)
-  rests_as held is = record { rests = is.rests; quiet = is.quiet }
+  pub opened_consistent : IsConsistent true (contents_of held)
+  opened_consistent = record { sound = λ so. (o.is.whole so).sound; shown = λ alone so. (o.is.whole so).shown }
 
-  module _ {O : Type 0} (sinks : Sinks O) (refused : ReopenFault × D) (not : IsNotOpenedKnown disks disk asked known refused)
-      (whole : depth ≡ depths.Whole → IsRefused disks disk asked refused) where
-    read_at : (d : Depth) → (d ≡ depths.Whole → IsRefused disks disk asked refused) → IsTrue disks.tells → IsReadAt d (disks.reading disk)
-        → IsRefused disks disk asked refused
-    read_at depths.Whole by tells read = by refl
-    read_at depths.Checkpoints by tells read = not.unsettled tells read
-
-    pub refused_as : (out_was out_is : O) (status : Status)
-        → ((text : List ℕ) × IsFaultText refused.0 text × Prints sinks Archive text out_was out_is status) ⊎ LacksMemory sinks out_was out_is status
-        → IsNotOpened disks sinks depth known asked disk refused.1 out_was out_is status
-    refused_as out_was out_is status told = record {
-      fault = refused.0;
-      cause = not.cause;
-      damage = λ tells read. (read_at depth whole tells read).damage tells;
-      other = λ tells read. (read_at depth whole tells read).other tells;
-      complete = not.complete;
-      counts = not.faults;
-      unchanged = record { rests = not.rests; quiet = not.quiet };
-      told = told;
-    }
-
-pub unchanged_by : {D : Type 0} (disks : Disks D) (disk : D) (asked : Option (List ℕ)) (held : Holdings D)
-    → IsReopened disks disk asked usual_limits held → IsUnchanged disks disk (disk_of held.journal)
-unchanged_by disks disk asked held is = record { rests = is.rests; quiet = is.quiet }
+-- it was refused, and that was told
+pub refused_as : {D O : Type 0} (disks : Disks D) (sinks : Sinks O) (opening : Opening D) (refused : ReopenFault × D) (out_was out_is : O) (status : Status)
+    → IsNotOpenedKnown disks opening.disk opening.asked opening.known refused → (opening.depth ≡ Whole → IsRefused disks opening.disk opening.asked refused)
+    → ((text : List ℕ) × IsFaultText refused.0 text × Prints sinks Archive text out_was out_is status) ⊎ LacksMemory sinks out_was out_is status
+    → IsNotOpened disks sinks opening refused.1 out_was out_is status
+refused_as disks sinks opening (fault, is) out_was out_is status refused whole told =
+    record { fault = fault; refused = refused; whole = whole; told = told }
 
 -- ---- books for which a disk stands
 

@@ -1,5 +1,5 @@
 -- What it leaves of an archive that its checkpoints were written.
-use Rattle.std.proofs.Common.{◌≡◌, ℕ, ◌≤◌, Bool, true, IsTrue, List, length, Option, Some, None, Result, Ok, Err, refl, sym, ap, subst, ◌∙◌, ⊎_elim, arith}
+use Rattle.std.proofs.Common.{◌≡◌, ℕ, ◌≤◌, Bool, true, IsTrue, List, [], length, Option, Some, None, Result, Ok, Err, refl, sym, ap, subst, ◌∙◌, ⊎_elim, arith}
 use Rattle.std.specs.Prelude.{IfOk, IfSome}
 use Rattle.std.proofs.lemmas.Bool.{false≢true}
 use Rattle.archive_core.proofs.FinishedLaws.{same_checkpoints_of}
@@ -8,8 +8,9 @@ use Rattle.archive_core.specs.Known.{HasCheckpointsOfKnown, IsReopenedKnown, tol
 use Rattle.archive_core.specs.Finished.{IsSettled}
 use Rattle.archive_core.specs.Settling.{GoesWith, KeepsSettled, OpensNoMore, Settles, SettlesOn, reach}
 use Rattle.archive_volumes.specs.Volumes.{OpensNear, crash_of, muted}
+use Rattle.archive_opening.specs.Opening.{IsIn}
 use Rattle.archive_opening.specs.Telling.{HasCheckpointsOf, MayBeSettled}
-use Rattle.archive_shelf.specs.Contents.{Contents}
+use Rattle.archive_shelf.specs.Contents.{Contents, IsConsistent}
 use Rattle.archive_shelf.specs.Openings.{ImageStandsFor, SameBook}
 use Rattle.archive_shelf.specs.declared.depth.Depth.{Depth}
 use Rattle.archive_shelf.specs.declared.depth.Depth.TheVariants.{Checkpoints, Whole}
@@ -25,10 +26,10 @@ use Rattle.disk_model.specs.declared.disk.Disk.{Ghosts as Disks}
 use Rattle.warc_journal.specs.Extents.{warc_files}
 use Rattle.warc_journal.specs.Journals.{disk_of}
 use Rattle.warc_text.specs.StandsFor.{StandsFor}
-use Rattle.command.specs.Opening.{usual_limits}
-use Rattle.command.specs.Settling.{ClosesSettled, HasSettled, IsOf, OpensSettled, settled_status}
+use Rattle.command.specs.Opening.{IsOpened, Opening, by_checkpoints, usual_limits}
+use Rattle.command.specs.Settling.{ClosesSettled, IsOf, OpensSettled}
 use Rattle.command.specs.declared.status.Status.{Status}
-use Rattle.command.proofs.OpeningLaws.{opened_as, rests_as}
+use Rattle.command.proofs.OpeningLaws.{opened_consistent}
 
 -- ---- what is told
 
@@ -103,85 +104,107 @@ opened_is_of disks disk asked known may held is so image left =
           (right_of disks disk asked held.book known may (is.known_is so) (sym is.told_is ∙ so));
     }
 
-module _ {D : Type 0} (disks : Disks D) (stays : KeepsSettled) (disk : D) (asked : Option (List ℕ)) (known : Option Book) (may : MayBeSettled disks disk asked known)
-    (held now : Holdings D) (is : IsReopenedKnown disks disk asked usual_limits Checkpoints known held) (answer : Result ℕ CheckpointFault)
-    (h : SettlesOn disks held now answer) where
-  same_contents : contents_of now ≡ contents_of held
-  same_contents = ap (λ (x : Holdings D). contents_of x) h.others
+pub opens_settled : {D : Type 0} (disks : Disks D) → KeepsSettled → (disk : D) (asked : Option (List ℕ)) (known : Option Book) → MayBeSettled disks disk asked known
+    → (held now : Holdings D) → IsOpened disks (by_checkpoints disk asked known) held → (answer : Result ℕ CheckpointFault) → SettlesOn disks held now answer
+    → OpensSettled disks (by_checkpoints disk asked known) now
+opens_settled {D} disks stays disk asked known may held now o answer h = record {
+  held = held;
+  opened = o;
+  answer = answer;
+  settles = h;
+  left = λ told.
+      let so : IsTrue held.told = sym (ap (λ (x : Holdings D). x.told) h.others) ∙ told in
+      let same : now.book ≡ held.book = ap (λ (x : Holdings D). x.book) h.others in
+      is_of_still disks stays held now answer h (sym (o.is.whole so).told_is ∙ so) so now.book same
+      (subst (λ (b : Book). Leaves (disks.images (disk_of held.journal)) (IsOf b)) (sym same) (opened_is_of disks disk asked known may held o.is so));
+}
 
-  pub opens_settled : OpensSettled disks known asked disk (contents_of now) (disk_of now.journal)
-  opens_settled = subst (λ (c : Contents). OpensSettled disks known asked disk c (disk_of now.journal)) (sym same_contents) (record {
-    opened = opened_as disks disk asked known Checkpoints held is;
-    begun = disk_of held.journal;
-    unchanged = rests_as disks disk asked known Checkpoints held is;
-    same_faults = is.faults;
-    answer = answer;
-    settles = record { before = held; after = now; settles = h; now_is = refl; was_is = refl; is_is = refl };
-    left = λ so. is_of_still disks stays held now answer h (sym (is.whole so).told_is ∙ so) so held.book refl (opened_is_of disks disk asked known may held is so);
-  })
+-- ---- of an archive that was opened and settled
 
--- ---- settled and closed
+module _ {D : Type 0} (disks : Disks D) {opening : Opening D} {now : Holdings D} (o : OpensSettled disks opening now) where
+  same_contents : contents_of o.held ≡ contents_of now
+  same_contents = sym (ap (λ (x : Holdings D). contents_of x) o.settles.others)
 
-module _ {D : Type 0} (disks : Disks D) (before after : Holdings D) (answer : Result ℕ CheckpointFault) (h : SettlesOn disks before after answer) where
-  pub closes_settled : (said : Status) (is : D) (status : Status) → is ≡ disk_of after.journal → status ≡ settled_status answer said
-      → ClosesSettled disks (contents_of before) (disk_of before.journal) said is status
-  closes_settled said is status closed told = record {
-    answer = answer;
-    settles = record { before = before; after = after; settles = h; now_is = refl; was_is = refl; is_is = sym closed };
-    status_is = told;
-  }
+  pub ready_tells : now.told ≡ told_at opening.depth disks.tells opening.known
+  ready_tells = ap (λ (x : Holdings D). x.told) o.settles.others ∙ o.opened.is.told_is
 
-  pub near_still : (is : D) → (IsTrue after.told → OpensNear disks is after.book) → IsTrue before.told → OpensNear disks is before.book
-  near_still is near told =
-      subst (λ (b : Book). OpensNear disks is b) (ap (λ (x : Holdings D). x.book) h.others) (near (ap (λ (x : Holdings D). x.told) h.others ∙ told))
+  -- it is the book that is known
+  pub ready_known : IsTrue now.told → IfSome opening.known (λ book. SameBook now.book book)
+  ready_known =
+      subst (λ (c : Contents). IsTrue c.tells → IfSome opening.known (λ book. SameBook c.seen book)) same_contents o.opened.is.known_is
 
--- ---- of an archive of which this is told
+  -- it has the namespace that was asked for
+  pub ready_in : IsIn opening.asked now.book
+  ready_in = subst (λ (c : Contents). IsIn opening.asked c.seen) same_contents o.opened.is.in_namespace
 
-module _ {D : Type 0} (disks : Disks D) (now : Contents) (was is : D) (answer : Result ℕ CheckpointFault) (s : HasSettled disks now was is answer) where
-  told_same : s.after.told ≡ s.before.told
-  told_same = ap (λ (h : Holdings D). h.told) s.settles.others
+  pub ready_consistent : IsConsistent true (contents_of now)
+  ready_consistent = subst (λ (c : Contents). IsConsistent true c) same_contents (opened_consistent disks o.opened)
 
-  told_is : s.before.told ≡ now.tells
-  told_is = ap (λ (c : Contents). c.tells) s.now_is
+  pub ready_limits : now.limits ≡ usual_limits
+  ready_limits = ap (λ (x : Holdings D). x.limits) o.settles.others ∙ o.opened.is.limits_are
 
-  pub settled_opens : OpensNoMore (crash_of (muted now.tells disks) was) (crash_of (muted now.tells disks) is)
-  settled_opens =
-      subst (λ (d : D). OpensNoMore (crash_of (muted now.tells disks) d) (crash_of (muted now.tells disks) is)) s.was_is
-      (subst (λ (d : D). OpensNoMore (crash_of (muted now.tells disks) (disk_of s.before.journal)) (crash_of (muted now.tells disks) d)) s.is_is
-      (subst (λ (t : Bool). OpensNoMore (crash_of (muted t disks) (disk_of s.before.journal)) (crash_of (muted t disks) (disk_of s.after.journal))) told_is
-      (subst (λ (t : Bool). OpensNoMore (crash_of (muted s.before.told disks) (disk_of s.before.journal)) (crash_of (muted t disks) (disk_of s.after.journal)))
-      told_same s.settles.opens)))
+  -- none of its captures was stored by it
+  pub ready_none : (contents_of now).mine ≡ []
+  ready_none = subst (λ (c : Contents). c.mine ≡ []) same_contents o.opened.is.mine
 
-  pub settled_faults : disks.faults was ≤ disks.faults is
-  settled_faults =
-      let later = counts_later answer (disks.faults (disk_of s.before.journal)) (disks.faults (disk_of s.after.journal)) s.settles.faults in
-      omega (arith, later, ap disks.faults s.was_is, ap disks.faults s.is_is)
+  pub ready_faults : disks.faults opening.disk ≤ disks.faults (disk_of now.journal)
+  ready_faults =
+      let later = counts_later o.answer (disks.faults (disk_of o.held.journal)) (disks.faults (disk_of now.journal)) o.settles.faults in
+      omega (arith, later, o.opened.is.faults)
+
+  -- settling opens no more than what was opened
+  pub ready_opens : OpensNoMore (crash_of (muted now.told disks) (disk_of o.held.journal)) (crash_of (muted now.told disks) (disk_of now.journal))
+  ready_opens =
+      subst (λ (t : Bool). OpensNoMore (crash_of (muted t disks) (disk_of o.held.journal)) (crash_of (muted now.told disks) (disk_of now.journal)))
+      (sym (ap (λ (x : Holdings D). x.told) o.settles.others)) o.settles.opens
+
+-- ---- of one that was settled and closed
+
+pub near_still : {D : Type 0} (disks : Disks D) (before after : Holdings D) (answer : Result ℕ CheckpointFault) → SettlesOn disks before after answer → (is : D)
+    → (IsTrue after.told → OpensNear disks is after.book) → IsTrue before.told → OpensNear disks is before.book
+near_still {D} disks before after answer h is near told =
+    subst (λ (b : Book). OpensNear disks is b) (ap (λ (x : Holdings D). x.book) h.others) (near (ap (λ (x : Holdings D). x.told) h.others ∙ told))
+
+module _ {D : Type 0} (disks : Disks D) {before : Holdings D} {said status : Status} {is : D} (c : ClosesSettled disks before said is status) where
+  -- an image that is left is one behind the settling
+  there : (image : Image) → disks.images is image → disks.images (disk_of c.after.journal) image
+  there image left = subst (λ (d : D). disks.images d image) c.closed left
+
+  pub closed_opens : OpensNoMore (crash_of (muted before.told disks) (disk_of before.journal)) (crash_of (muted before.told disks) is)
+  closed_opens =
+      subst (λ (d : D). OpensNoMore (crash_of (muted before.told disks) (disk_of before.journal)) (crash_of (muted before.told disks) d)) (sym c.closed)
+      (subst (λ (t : Bool). OpensNoMore (crash_of (muted before.told disks) (disk_of before.journal)) (crash_of (muted t disks) (disk_of c.after.journal)))
+      (ap (λ (x : Holdings D). x.told) c.settles.others) c.settles.opens)
+
+  pub closed_faults : disks.faults (disk_of before.journal) ≤ disks.faults is
+  closed_faults =
+      let later = counts_later c.answer (disks.faults (disk_of before.journal)) (disks.faults (disk_of c.after.journal)) c.settles.faults in
+      omega (arith, later, ap disks.faults c.closed)
 
   -- an image that it leaves has the volumes of one from before
-  pub settled_from : IsTrue disks.tells → (image : Image) → disks.images is image
-      → (before : Image) × disks.images was before × (warc_files image ≡ warc_files before)
-  settled_from tells image left =
-      let by = (s.settles.leaves tells).images image (subst (λ (d : D). disks.images d image) (sym s.is_is) left) in
-      (by.before, subst (λ (d : D). disks.images d by.before) s.was_is by.was, by.goes.warc)
+  pub closed_from : IsTrue disks.tells → (image : Image) → disks.images is image
+      → (was : Image) × disks.images (disk_of before.journal) was × (warc_files image ≡ warc_files was)
+  closed_from tells image left =
+      let by = (c.settles.leaves tells).images image (there image left) in
+      (by.before, by.was, by.goes.warc)
 
   -- checkpoints that are right stay so
-  pub settled_right : KeepsSettled → IsTrue disks.tells → IsTrue now.tells → Leaves (disks.images was) (λ image. HasCheckpointsOf image now.seen)
-      → Leaves (disks.images is) (λ image. HasCheckpointsOf image now.seen)
-  settled_right stays tells told are image left =
-      right_still disks stays s.before s.after answer s.settles tells (told_is ∙ told) now.seen (sym (ap (λ (c : Contents). c.seen) s.now_is))
-      (λ before then. are before (subst (λ (d : D). disks.images d before) s.was_is then)) image (subst (λ (d : D). disks.images d image) (sym s.is_is) left)
+  pub closed_right : KeepsSettled → IsTrue disks.tells → IsTrue before.told
+      → Leaves (disks.images (disk_of before.journal)) (λ image. HasCheckpointsOf image before.book)
+      → Leaves (disks.images is) (λ image. HasCheckpointsOf image before.book)
+  closed_right stays tells told are image left =
+      right_still disks stays before c.after c.answer c.settles tells told before.book refl are image (there image left)
 
   -- and where it was done, all are finished
-  pub settled_all : (n : ℕ) → answer ≡ Ok n → IsTrue now.tells → Leaves (disks.images is) (IsSettled now.seen)
-  settled_all n done told image left =
-      let settles = subst (λ (r : Result ℕ CheckpointFault). IfOk r (Settles disks s.before.book (disk_of s.before.journal) (disk_of s.after.journal))) done
-      (s.settles.settles (told_is ∙ told)) in
-      subst (λ (b : Book). IsSettled b image) (ap (λ (c : Contents). c.seen) s.now_is)
-      (settles.images image (subst (λ (d : D). disks.images d image) (sym s.is_is) left))
+  pub closed_all : (n : ℕ) → c.answer ≡ Ok n → IsTrue before.told → Leaves (disks.images is) (IsSettled before.book)
+  closed_all n done told image left =
+      let settles = subst (λ (r : Result ℕ CheckpointFault). IfOk r (Settles disks before.book (disk_of before.journal) (disk_of c.after.journal))) done
+      (c.settles.settles told) in
+      settles.images image (there image left)
 
--- a fault of the disk was counted
-pub settled_rose : {D : Type 0} (disks : Disks D) (now : Contents) (was is : D) → HasSettled disks now was is (Err checkpoints.DiskFault)
-    → Rose (disks.faults was) (disks.faults is)
-settled_rose disks now was is s =
-    subst (λ (d : _). Rose (disks.faults d) (disks.faults is)) s.was_is
-    (subst (λ (d : _). Rose (disks.faults (disk_of s.before.journal)) (disks.faults d)) s.is_is s.settles.faults.1)
+  -- a fault of the disk was counted
+  pub closed_rose : c.answer ≡ Err checkpoints.DiskFault → Rose (disks.faults (disk_of before.journal)) (disks.faults is)
+  closed_rose failed =
+      let counts = subst (λ (r : Result ℕ CheckpointFault). CountsDisk (disks.faults (disk_of before.journal)) (disks.faults (disk_of c.after.journal)) r) failed
+      c.settles.faults in
+      subst (λ (d : D). Rose (disks.faults (disk_of before.journal)) (disks.faults d)) (sym c.closed) counts.1

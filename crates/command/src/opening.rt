@@ -1,10 +1,7 @@
 //! Opens the archive on a disk, and says why it isn't opened.
 ghost use Rattle.std.specs.Prelude.{◌≡◌, ◌⊎◌, IfErr, IfOk, IfSome, List, OnOk, ℕ};
 ghost use Rattle.archive_opening.specs.Telling.{MayBeSettled};
-ghost use Rattle.archive_core.specs.Holdings.{contents_of};
-ghost use Rattle.archive_core.specs.Known.{IsReopenedKnown};
-ghost use Rattle.archive_core.specs.Reopening.{IsReopened};
-ghost use Rattle.command.specs.Opening.{IsNotOpened, IsOpened, usual_limits};
+ghost use Rattle.command.specs.Opening.{IsNotOpened, IsOpened, opening_of};
 ghost use Rattle.command.specs.Printing.{LacksMemory, Prints};
 ghost use Rattle.command.specs.Texts.{IsFaultText};
 ghost use Rattle.warc_text.specs.Ids.{IsUuid};
@@ -53,10 +50,8 @@ pub fn open<K: Known, D: Disk, O: Sink>(
 ) -> Result<Archive<D>, Ran<D>>
     requires uuid { IfSome asked IsUuid }
     requires known { MayBeSettled D.Disk disk asked K.book }
-    ensures reopened { IfOk result (IsReopenedKnown D.Disk disk asked usual_limits depth K.book) }
-    ensures whole { depth ≡ Depth.Whole → IfOk result (IsReopened D.Disk disk asked usual_limits) }
-    ensures opened { IfOk result (λ archive. IsOpened D.Disk depth K.book asked disk (contents_of archive)) }
-    ensures refused { IfErr result (λ ran. IsNotOpened D.Disk O.Sink depth K.book asked disk ran.disk out.old out.new ran.status) }
+    ensures opened { IfOk result (IsOpened D.Disk (opening_of disk depth asked K.book)) }
+    ensures refused { IfErr result (λ ran. IsNotOpened D.Disk O.Sink (opening_of disk depth asked K.book) ran.disk out.old out.new ran.status) }
     ensures prints_nothing { OnOk result (out.new ≡ out.old) }
 {
     match Archive::reopen_known(alloc, disk, asked, LIMITS, depth) {

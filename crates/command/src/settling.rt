@@ -1,12 +1,10 @@
 //! The checkpoints that are missing are written before and after a command works with its archive.
 ghost use Rattle.std.specs.Prelude.{◌≡◌, IfErr, IfOk, IfSome, IsTrue, OnOk};
-ghost use Rattle.archive_core.specs.Holdings.{contents_of};
 ghost use Rattle.archive_opening.specs.Telling.{MayBeSettled};
 ghost use Rattle.archive_volumes.specs.Volumes.{OpensNear};
-ghost use Rattle.command.specs.Opening.{IsNotOpened};
+ghost use Rattle.command.specs.Opening.{IsNotOpened, by_checkpoints};
 ghost use Rattle.command.specs.Settling as spec;
 ghost use Rattle.command.specs.Settling.{ClosesSettled, OpensSettled};
-ghost use Rattle.warc_journal.specs.Journals.{disk_of};
 ghost use Rattle.warc_text.specs.Ids.{IsUuid};
 
 use crate::opening::{Known, open};
@@ -29,8 +27,8 @@ pub fn open_and_settle<K: Known, D: Disk, O: Sink>(
 ) -> Result<Archive<D>, Ran<D>>
     requires uuid { IfSome asked IsUuid }
     requires known { MayBeSettled D.Disk disk asked K.book }
-    ensures opened { IfOk result (λ archive. OpensSettled D.Disk K.book asked disk (contents_of archive) (disk_of archive.journal)) }
-    ensures refused { IfErr result (λ ran. IsNotOpened D.Disk O.Sink Depth.Checkpoints K.book asked disk ran.disk out.old out.new ran.status) }
+    ensures opened { IfOk result (OpensSettled D.Disk (by_checkpoints disk asked K.book)) }
+    ensures refused { IfErr result (λ ran. IsNotOpened D.Disk O.Sink (by_checkpoints disk asked K.book) ran.disk out.old out.new ran.status) }
     ensures prints_nothing { OnOk result (out.new ≡ out.old) }
 {
     settling_keeps_checkpoints_right();
@@ -44,7 +42,7 @@ pub fn open_and_settle<K: Known, D: Disk, O: Sink>(
 
 /// Writes the checkpoints that are missing, and closes the archive. The status is that of what was done before, unless there was no memory for this.
 pub fn settle_and_close<D: Disk>(alloc: Global, archive: Archive<D>, said: Status) -> Ran<D>
-    ensures closed { ClosesSettled D.Disk (contents_of archive) (disk_of archive.journal) said result.disk result.status }
+    ensures closed { ClosesSettled D.Disk archive said result.disk result.status }
     ensures near { IsTrue archive.told → OpensNear D.Disk result.disk archive.book }
 {
     let mut archive = archive;

@@ -1,9 +1,10 @@
 -- The archive was opened, or it was refused.
 use Rattle.std.proofs.Common.{arith}
 use Rattle.archive_core.proofs.KnownLaws.{may_be_known}
-use Rattle.command.proofs.OpeningLaws.{opened_as, refused_as}
+use Rattle.command.proofs.OpeningLaws.{refused_as}
 use Rattle.command.proofs.SettlingLaws.{checkpoints_known}
 use Rattle.command.proofs.opening.open.Goals as goal
+use Rattle.command.specs.Opening.{opening_of}
 
 pub reopen_known-requires : goal.reopen_known-requires
 reopen_known-requires g c = λ κs within. (
@@ -21,10 +22,9 @@ reopen_known-requires g c = λ κs within. (
 )
 
 pub returns-in-Ok-clause-opened : goal.returns-in-Ok-clause-opened
-returns-in-Ok-clause-opened g c =
-    opened_as g.D.Disk c.args.disk c.args.asked g.K.Known.book c.args.depth c.in-Ok.archive c.in-Ok.ensures.reopened
+returns-in-Ok-clause-opened g c = record { is = c.in-Ok.ensures.reopened; whole = c.in-Ok.ensures.whole }
 
 pub returns-in-Err-clause-refused : goal.returns-in-Err-clause-refused
 returns-in-Err-clause-refused g c =
-    refused_as g.D.Disk c.args.disk c.args.asked g.K.Known.book c.args.depth g.O.Sink _ c.in-Err.ensures.refused c.in-Err.ensures.whole_refused
-    c.args.out.now c.print_fault.new.out _ c.print_fault.ensures
+    refused_as g.D.Disk g.O.Sink (opening_of c.args.disk c.args.depth c.args.asked g.K.Known.book) _ c.args.out.now c.print_fault.new.out _
+    c.in-Err.ensures.refused c.in-Err.ensures.whole_refused c.print_fault.ensures
