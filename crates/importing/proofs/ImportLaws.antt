@@ -31,7 +31,7 @@ use Rattle.importing.specs.Imports.{Ends, HasImported, Imports, IsTellable, Tell
 use Rattle.command.specs.Gates.{gate_told, GateTold}
 use Rattle.importing.specs.Inputs.{Gives}
 use Rattle.importing.specs.Keeping.{Keeps, OpensAtLast, OpensBehind, OpensPast, Step, is_denied}
-use Rattle.command.specs.Opening.{IsOpened, usual_limits}
+use Rattle.command.specs.Opening.{IsOpened, by_checkpoints, usual_limits}
 use Rattle.command.specs.Printing.{LacksMemory, Prints}
 use Rattle.importing.specs.Texts.{refusal_line, skip_line, skips_in, summary_line}
 use Rattle.importing.specs.declared.input.InputFault.{InputFault}
@@ -218,23 +218,22 @@ module _ {D : Type 0} (disks : Disks D) (laws : DiskLaws disks) (given : D) (ask
 
 -- an archive that was opened, and what was left of it
 imports_left : {D G L P O : Type 0} (disks : Disks D) (gates : Gates G L P) (sinks : Sinks O) (clients_tell : Bool) → (laws : DiskLaws disks) (asked : Option (List ℕ))
-    (was is : Ends D G O) (status : Status) (held left : Holdings D) (known : Option Book) → IsReopenedKnown disks was.disk asked usual_limits Checkpoints known held
-    → IsOpened disks Checkpoints known asked was.disk (contents_of held)
+    (was is : Ends D G O) (status : Status) (held left : Holdings D) (known : Option Book) → IsOpened disks (by_checkpoints was.disk asked known) held
     → (IsTrue held.told → Leaves (disks.images (disk_of held.journal)) (IsOf held.book)) → (IsTrue left.told → OpensNear disks (disk_of left.journal) left.book)
     → ImportsFirst true sinks clients_tell (gate_told gates was.gate) (gate_told gates is.gate) (told_of disks held) (told_of disks left) was.out is.out status
     → Imports disks gates sinks clients_tell known asked was (record is { disk = disk_of left.journal }) status
 unfolding imported_since keeps_since
-imports_left disks gates sinks clients_tell laws asked was is status held left known reopened opened are near first =
+imports_left disks gates sinks clients_tell laws asked was is status held left known opened are near first =
     let k = first.imported.keeps in
     let so : IsTrue held.told → IsTrue left.told = λ told. k.goes_on.same_tells ∙ told in
     record {
-      before = contents_of held;
+      before = held;
       after = contents_of left;
       opened = opened;
       input = first.input;
       came = first.came;
       gate_failed = first.gate_failed;
-      imported = imported_since disks laws was.disk asked held left known reopened sinks first.input was.out is.out status first.imported;
+      imported = imported_since disks laws was.disk asked held left known opened.is sinks first.input was.out is.out status first.imported;
       near = λ told. near (so told);
       right = λ told image now.
           let before = k.goes_on.kept (cdxj_files image) (record { told = so told; image = image; left = now; are = refl }) in
@@ -242,7 +241,7 @@ imports_left disks gates sinks clients_tell laws asked was is status held left k
           (same_checkpoints_of image before.image held.book (sym before.are) (are told before.image before.left).checkpoints);
       left = λ told ids have last image x now stands. last_by first.imported.refused k.rest k.steps k.reached (contents_of left)
           (λ b. (told_of disks held).crash.openings (told_of disks held).crash.moment b) (λ b. SameBook b held.book) x
-          (λ b o. only_one ((reopened.whole told).state (ids_differ held.book ids) b o))
+          (λ b o. only_one ((opened.is.whole told).state (ids_differ held.book ids) b o))
           (k.left refl told have last x
           (opens_now (muted left.told disks) (laws_muted disks left.told laws) (disk_of left.journal) x image (so told) now stands));
     }
@@ -250,14 +249,14 @@ imports_left disks gates sinks clients_tell laws asked was is status held left k
 -- the archive was opened, and closed behind the import
 pub imports_by : {D G L P O : Type 0} (disks : Disks D) (gates : Gates G L P) (sinks : Sinks O) (clients_tell : Bool) → (laws : DiskLaws disks) (asked : Option (List ℕ))
     (was is : Ends D G O) (out_opened : O) (status : Status) (held left : Holdings D) (known : Option Book)
-    → IsReopenedKnown disks was.disk asked usual_limits Checkpoints known held → IsOpened disks Checkpoints known asked was.disk (contents_of held)
-    → (IsTrue held.told → Leaves (disks.images (disk_of held.journal)) (IsOf held.book)) → is.disk ≡ disk_of left.journal → out_opened ≡ was.out
+    → IsOpened disks (by_checkpoints was.disk asked known) held → (IsTrue held.told → Leaves (disks.images (disk_of held.journal)) (IsOf held.book))
+    → is.disk ≡ disk_of left.journal → out_opened ≡ was.out
     → (IsTrue left.told → OpensNear disks is.disk left.book)
     → ImportsFirst true sinks clients_tell (gate_told gates was.gate) (gate_told gates is.gate) (told_of disks held) (told_of disks left) out_opened is.out status
     → Imports disks gates sinks clients_tell known asked was is status
-imports_by {D} {G} {L} {P} {O} disks gates sinks clients_tell laws asked was is out_opened status held left known reopened opened are closed silent near first =
+imports_by {D} {G} {L} {P} {O} disks gates sinks clients_tell laws asked was is out_opened status held left known opened are closed silent near first =
     subst (λ (d : D). Imports disks gates sinks clients_tell known asked was (record is { disk = d }) status) (sym closed)
-    (imports_left disks gates sinks clients_tell laws asked was is status held left known reopened opened are
+    (imports_left disks gates sinks clients_tell laws asked was is status held left known opened are
     (λ told. subst (λ (d : D). OpensNear disks d left.book) closed (near told))
     (subst (λ (o : O). ImportsFirst true sinks clients_tell (gate_told gates was.gate) (gate_told gates is.gate) (told_of disks held) (told_of disks left) o is.out status)
     silent first))

@@ -1,12 +1,12 @@
 -- What the command `import` leaves: the captures of a WARC file of another tool, stored in their order.
 use Rattle.std.specs.Prelude.{◌≡◌, ◌⊎◌, ℕ, Bool, true, List, [], ◌∷◌, IsTrue, Option, Some, None, Result, Ok, Err, ⊤}
 use Rattle.std.specs.List.{flat_map}
+use Rattle.archive_core.specs.Holdings.{Holdings, contents_of}
 use Rattle.archive_core.specs.Told.{told_on}
 use Rattle.archive_volumes.specs.Volumes.{OpensNear}
 use Rattle.archive_shelf.specs.Contents.{Contents}
 use Rattle.archive_shelf.specs.Openings.{HasIds, ImageStandsFor, SameBook}
 use Rattle.archive_shelf.specs.Told.{Told}
-use Rattle.archive_shelf.specs.declared.depth.Depth.TheVariants.{Checkpoints}
 use Rattle.archive_shelf.specs.declared.fault.StoreFault.{StoreFault}
 use Rattle.archive_shelf.specs.declared.fault.StoreFault.TheVariants as stores
 use Rattle.capture.specs.declared.book.Book.{Book}
@@ -20,7 +20,7 @@ use Rattle.outside.specs.declared.gate.Gate.{Ghosts as Gates}
 use Rattle.outside.specs.declared.sink.Sink.{Ghosts as Sinks}
 use Rattle.importing.specs.Inputs.{Gives}
 use Rattle.importing.specs.Keeping.{HaveIds, Keeps, OpensAtLast, OpensBehind}
-use Rattle.command.specs.Opening.{IsOpened}
+use Rattle.command.specs.Opening.{IsOpened, by_checkpoints}
 use Rattle.command.specs.Printing.{LacksMemory, Prints}
 use Rattle.importing.specs.Texts.{damaged_input, import_text, too_long}
 use Rattle.importing.specs.declared.input.InputFault.{InputFault}
@@ -114,18 +114,18 @@ ends_of disk gate out = record { disk = disk; gate = gate; out = out }
 module _ {D G L P O : Type 0} (disks : Disks D) (gates : Gates G L P) (sinks : Sinks O) (clients_tell : Bool) where
   -- The archive was opened by its checkpoints, the gate's first connection was read to its end and hung up, and what it gave was imported.
   pub record Imports (known : Option Book) (asked : Option (List ℕ)) (was is : Ends D G O) (status : Status) : Type 0 where
-    pub before : Contents
+    pub before : Holdings D
     pub after : Contents
-    pub opened : IsOpened disks Checkpoints known asked was.disk before
+    pub opened : IsOpened disks (by_checkpoints was.disk asked known) before
     pub input : Result (List ℕ) InputFault
     pub came : IsTrue clients_tell → Gives (gate_told gates was.gate) (gate_told gates is.gate) input
     pub gate_failed : (input ≡ Err input_fault.Failed) ⊎ (gates.faults is.gate ≡ gates.faults was.gate)
-    pub imported : HasImported true sinks input (told_on disks was.disk before) (told_on disks is.disk after) was.out is.out status
-    pub near : IsTrue before.tells → OpensNear disks is.disk after.seen
+    pub imported : HasImported true sinks input (told_on disks was.disk (contents_of before)) (told_on disks is.disk after) was.out is.out status
+    pub near : IsTrue before.told → OpensNear disks is.disk after.seen
     -- where the book is told, the finished checkpoints of each image that a crash may leave are those of its sealed volumes
-    pub right : IsTrue before.tells → Leaves (disks.images is.disk) (λ image. HasCheckpointsOf image after.seen)
+    pub right : IsTrue before.told → Leaves (disks.images is.disk) (λ image. HasCheckpointsOf image after.seen)
     -- where the book is told and ids differ, each image that a crash may leave, and so what a read gives, stands for just what was stored
-    pub left : IsTrue before.tells → HasIds before.seen → HaveIds imported.keeps.steps → HasIds imported.keeps.reached.seen
+    pub left : IsTrue before.told → HasIds before.book → HaveIds imported.keeps.steps → HasIds imported.keeps.reached.seen
         → (image : Image) (x : Book) → disks.images is.disk image → ImageStandsFor image x
         → OpensAtLast imported.refused imported.keeps.rest imported.keeps.reached after
-        (OpensBehind imported.keeps.steps imported.keeps.reached (λ b. SameBook b before.seen)) x
+        (OpensBehind imported.keeps.steps imported.keeps.reached (λ b. SameBook b before.book)) x

@@ -21,9 +21,9 @@ returns-in-Err g c = inr (rw c.asked_of.ensures at c.in-Err.ensures.refused, ref
 
 pub returns : goal.returns
 returns g c =
+    let opened = rw c.asked_of.ensures at c.in-Ok.ensures.opened in
     inl (imports_by g.D.Disk g.G.Gate g.O.Sink g.G.Link.Link.tells (disk_laws g) _
     (ends_of c.args.disk c.args.gate.now c.args.out.now) (ends_of c.close.result c.import_first-status.new.gate c.import_first-status.new.out)
     c.open.new.out c.import_first-status.result c.in-Ok.archive c.import_first-status.new.shelf g.K.Known.book
-    (rw c.asked_of.ensures at c.in-Ok.ensures.reopened) (rw c.asked_of.ensures at c.in-Ok.ensures.opened)
-    (opened_is_of g.D.Disk c.args.disk _ g.K.Known.book c.requires.known c.in-Ok.archive (rw c.asked_of.ensures at c.in-Ok.ensures.reopened)) c.close.ensures.disk
+    opened (opened_is_of g.D.Disk c.args.disk _ g.K.Known.book c.requires.known c.in-Ok.archive opened.is) c.close.ensures.disk
     c.in-Ok.ensures.prints_nothing c.close.ensures.near c.import_first-status.ensures)
