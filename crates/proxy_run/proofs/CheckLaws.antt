@@ -1,11 +1,9 @@
 -- What the command `check` leaves.
-use Rattle.std.proofs.Common.{◌≡◌, ◌⊎◌, None, sym, ap, subst, ◌∙◌}
-use Rattle.archive_core.specs.Holdings.{Holdings, contents_of}
-use Rattle.archive_core.specs.Reopening.{IsReopened}
+use Rattle.std.proofs.Common.{◌≡◌, ◌⊎◌, None, subst}
+use Rattle.archive_core.specs.Holdings.{Holdings}
 use Rattle.archive_shelf.specs.Storing.{counts_of}
-use Rattle.command.proofs.OpeningLaws.{unchanged_by}
 use Rattle.archive_shelf.specs.declared.depth.Depth.TheVariants.{Whole}
-use Rattle.command.specs.Opening.{IsOpened, IsUnchanged, usual_limits}
+use Rattle.command.specs.Opening.{IsOpened, opening_of}
 use Rattle.command.specs.Printing.{LacksMemory, Prints}
 use Rattle.command.specs.Texts.{counts_text}
 use Rattle.command.specs.declared.status.Status.{Status}
@@ -17,13 +15,12 @@ use Rattle.warc_journal.specs.Journals.{disk_of}
 
 -- an archive that was opened, counted and closed
 pub counted_by : {D O : Type 0} (disks : Disks D) (sinks : Sinks O) (was is : D) (held : Holdings D) (out_was out_opened out_is : O) (status : Status)
-    → IsReopened disks was None usual_limits held → IsOpened disks Whole None None was (contents_of held) → is ≡ disk_of held.journal
+    → IsOpened disks (opening_of was Whole None None) held → is ≡ disk_of held.journal
     → Prints sinks Done (counts_text (counts_of held.book)) out_opened out_is status ⊎ LacksMemory sinks out_opened out_is status → out_opened ≡ out_was
     → IsCounted disks sinks was is out_was out_is status
-counted_by disks sinks was is held out_was out_opened out_is status reopened opened closed printed silent = record {
-  now = contents_of held;
+counted_by disks sinks was is held out_was out_opened out_is status opened closed printed silent = record {
+  held = held;
   opened = opened;
-  unchanged = subst (λ d. IsUnchanged disks was d) (sym closed) (unchanged_by disks was None held reopened);
-  same_faults = ap disks.faults closed ∙ reopened.faults;
+  closed = closed;
   printed = subst (λ o. Prints sinks Done (counts_text (counts_of held.book)) o out_is status ⊎ LacksMemory sinks o out_is status) silent printed;
 }

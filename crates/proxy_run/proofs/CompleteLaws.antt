@@ -4,20 +4,19 @@ use Rattle.std.specs.Prelude.{IfSome, ⊤}
 use Rattle.archive_opening.specs.Opening.{CountsFault, HoldsOther, IsDamageIn, IsOtherIn, IsOutside}
 use Rattle.archive_core.proofs.FinishedLaws.{checkpoints_later, same_checkpoints_of}
 use Rattle.archive_core.specs.Finished.{IsSettled}
-use Rattle.archive_core.specs.Holdings.{Holdings}
+use Rattle.archive_core.specs.Holdings.{Holdings, contents_of}
 use Rattle.archive_core.specs.Known.{told_at}
 use Rattle.archive_core.specs.Settling.{KeepsSettled}
 use Rattle.archive_opening.specs.Telling.{HasCheckpointsOf, IsReadWhole}
 use Rattle.archive_shelf.specs.declared.depth.Depth.TheVariants.{Checkpoints, Whole}
 use Rattle.checkpoint.specs.declared.fault.CheckpointFault.{CheckpointFault}
 use Rattle.checkpoint.specs.declared.fault.CheckpointFault.TheVariants as checkpoints
-use Rattle.command.specs.Settling.{HasSettled, settled_status}
+use Rattle.command.specs.Settling.{settled_status}
 use Rattle.disk_model.specs.Crash.{Leaves}
 use Rattle.archive_core.specs.Told.{told_on}
 use Rattle.archive_core.proofs.TellingLaws.{quiet_muted}
 use Rattle.archive_shelf.proofs.CallLaws.{no_more, stored_tells}
 use Rattle.archive_shelf.specs.Answers.{CountsIf, IsDamaged}
-use Rattle.archive_shelf.specs.Contents.{Contents}
 use Rattle.archive_shelf.specs.declared.fault.StoreFault.{StoreFault}
 use Rattle.archive_shelf.specs.declared.fault.StoreFault.TheVariants as stores
 use Rattle.archive_shelf.specs.Openings.{HasIds, ImageStandsFor, SameBook}
@@ -31,11 +30,11 @@ use Rattle.capture.specs.declared.book.Book.{Book}
 use Rattle.capture.specs.declared.site.Site.{Site}
 use Rattle.disk_model.specs.Image.{Image}
 use Rattle.outside.specs.declared.sink.Sink.{Ghosts as Sinks}
-use Rattle.command.proofs.OpeningLaws.{ids_differ}
-use Rattle.command.proofs.SettlingLaws.{settled_all, settled_from, settled_opens, settled_right, settled_rose, told_tells}
+use Rattle.command.proofs.OpeningLaws.{ids_differ, opened_consistent}
+use Rattle.command.proofs.SettlingLaws.{closed_all, closed_from, closed_opens, closed_right, closed_rose, ready_consistent, ready_in, ready_opens, ready_tells, told_tells}
 use Rattle.proxy_run.proofs.ConnectionLaws.{course_one}
 use Rattle.vault.proofs.CalmLaws.{ids_earlier}
-use Rattle.proxy_run.proofs.PipeLaws.{ready_faults, served_faults}
+use Rattle.proxy_run.proofs.PipeLaws.{faults_before, faults_behind}
 use Rattle.proxy_run.proofs.StatusLaws.{settled_answered}
 use Rattle.proxy_run.proofs.NextLaws.{all_next, settled_next, sound_still, stands_same}
 use Rattle.proxy_run.specs.Complete.{CapturesComeBack, ChecksAreAnswered, EndsBadly, FollowsAreAnswered, FollowsBadly, FollowsLeaveReady, ImportsAreAnswered, ImportsBadly, ImportsLeaveReady, IsFullBefore, IsNotFollowed, IsNotTaken, IsReady, IsLeftSettled, IsSteady, NoFaults, PipesAreAnswered, PipesLeaveReady, PipesLeaveSettled, PipesLeaveTheLast, PipesPassOn, ServesBadly}
@@ -63,6 +62,7 @@ use Rattle.session.specs.Rounds.{disk_faults}
 use Rattle.session.specs.declared.served.Served.{Served}
 use Rattle.session.specs.declared.served.Served.TheVariants as served
 use Rattle.warc_journal.specs.Extents.{cdxj_files, warc_files}
+use Rattle.warc_journal.specs.Journals.{disk_of}
 use Rattle.warc_text.specs.Sound.{IsSound}
 use Rattle.warc_text.specs.StandsFor.{FilesStandForNoVolume, FilesStandForOneBook, StandsFor}
 
@@ -116,7 +116,7 @@ module _ {D G L P N M C O : Type 0} (kinds : Kinds D G L P N M C O) where
       → IsTrue (told_at Checkpoints kinds.disks.tells known) → NoFaults kinds was is → Refuses kinds Checkpoints known asked was is status → status ≡ Memory
   refused_known known asked was is status told steady refuses =
       lacks_by kinds.sinks (kinds.disks.faults was.disk) (kinds.disks.faults is.disk) was.out is.out status steady.disk refuses.refused.fault
-      (of_known kinds.disks.tells known (IsOutside refuses.refused.fault) told refuses.refused.complete) refuses.refused.counts refuses.refused.told
+      (of_known kinds.disks.tells known (IsOutside refuses.refused.fault) told refuses.refused.refused.complete) refuses.refused.refused.faults refuses.refused.told
 
   -- each volume was read
   pub refused_unsettled : (known : Option Book) (was is : Objects D G (List (N × C)) O) (status : Status) → IsTrue kinds.disks.tells
@@ -124,8 +124,8 @@ module _ {D G L P N M C O : Type 0} (kinds : Kinds D G L P N M C O) where
       → NoFaults kinds was is → Refuses kinds Checkpoints known None was is status → status ≡ Memory
   refused_unsettled known was is status told ready whole steady refuses =
       lacks_memory kinds.sinks None (kinds.disks.reading was.disk) ready.book (kinds.disks.faults was.disk) (kinds.disks.faults is.disk) was.out is.out status
-      ready.stands (λ other holds. holds.asked_for refl) steady.disk refuses.refused.fault (refuses.refused.damage told whole) (refuses.refused.other told whole)
-      refuses.refused.counts refuses.refused.told
+      ready.stands (λ other holds. holds.asked_for refl) steady.disk refuses.refused.fault
+      ((refuses.refused.refused.unsettled told whole).damage told) ((refuses.refused.refused.unsettled told whole).other told) refuses.refused.refused.faults refuses.refused.told
 
   pub refused_for_memory : (asked : Option (List ℕ)) (was is : Objects D G (List (N × C)) O) (status : Status) → IsTrue kinds.disks.tells
       → IsReady asked (kinds.disks.reading was.disk)
@@ -133,7 +133,8 @@ module _ {D G L P N M C O : Type 0} (kinds : Kinds D G L P N M C O) where
       → NoFaults kinds was is → Refuses kinds Whole None asked was is status → status ≡ Memory
   refused_for_memory asked was is status told ready none steady refuses =
       lacks_memory kinds.sinks asked (kinds.disks.reading was.disk) ready.book (kinds.disks.faults was.disk) (kinds.disks.faults is.disk) was.out is.out status
-      ready.stands none steady.disk refuses.refused.fault (refuses.refused.damage told tt) (refuses.refused.other told tt) refuses.refused.counts refuses.refused.told
+      ready.stands none steady.disk refuses.refused.fault ((refuses.refused.whole refl).damage told) ((refuses.refused.whole refl).other told)
+      refuses.refused.refused.faults refuses.refused.told
 
   -- ---- `check`
 
@@ -156,13 +157,13 @@ module _ {D G L P N M C O : Type 0} (kinds : Kinds D G L P N M C O) where
   ends_or_badly (served.ClientRefused refusal) status e = inl e
   ends_or_badly served.WantOfMemory status e = inr (inl e)
 
-  badly : (was is : Objects D G (List (N × C)) O) (before after : Contents) (ready left : D) (status : Status) (first : UsesFirst was.crew is.crew)
-      (s : HasServed kinds (record (with_one was first.before) { disk = ready }) (record (with_one is first.after) { disk = left }) before after status)
+  badly : (was is : Objects D G (List (N × C)) O) (before after : Holdings D) (status : Status) (first : UsesFirst was.crew is.crew)
+      (s : HasServed kinds (with_one was first.before) (with_one is first.after) before after status)
       → (status ≡ Done) ⊎ (status ≡ Memory) ⊎ EndsBadly s.one.served → (status ≡ Done) ⊎ (status ≡ Memory) ⊎ ServesBadly kinds was is status
-  badly was is before after ready left status first s (inl done) = inl done
-  badly was is before after ready left status first s (inr (inl memory)) = inr (inl memory)
-  badly was is before after ready left status first s (inr (inr ends)) =
-      inr (inr (record { before = before; after = after; ready = ready; left = left; first = first; served = s; badly = ends }))
+  badly was is before after status first s (inl done) = inl done
+  badly was is before after status first s (inr (inl memory)) = inr (inl memory)
+  badly was is before after status first s (inr (inr ends)) =
+      inr (inr (record { before = before; after = after; first = first; served = s; badly = ends }))
 
   without : (closed : Bool) (before now : ℕ) (status : Status) → IsSteady before now → IsReason closed before now status
       → (status ≡ Done) ⊎ (status ≡ Memory)
@@ -176,14 +177,14 @@ module _ {D G L P N M C O : Type 0} (kinds : Kinds D G L P N M C O) where
   one_more (inl a) = inl a
   one_more (inr b) = inr (inl b)
 
-  served_answered : (was is : Objects D G (List (N × C)) O) (before after : Contents) (ready left : D) (status : Status) (first : UsesFirst was.crew is.crew)
+  served_answered : (was is : Objects D G (List (N × C)) O) (before after : Holdings D) (status : Status) (first : UsesFirst was.crew is.crew)
       → NoFaults kinds was is
-      → HasServed kinds (record (with_one was first.before) { disk = ready }) (record (with_one is first.after) { disk = left }) before after status
-      ⊎ HasServedNone kinds (record (with_one was first.before) { disk = ready }) (record (with_one is first.after) { disk = left }) before after status
+      → HasServed kinds (with_one was first.before) (with_one is first.after) before after status
+      ⊎ HasServedNone kinds (with_one was first.before) (with_one is first.after) before after status
       → (status ≡ Done) ⊎ (status ≡ Memory) ⊎ ServesBadly kinds was is status
-  served_answered was is before after ready left status first steady (inl s) =
-      badly was is before after ready left status first s (ends_or_badly s.one.served status s.one.status_is)
-  served_answered was is before after ready left status first steady (inr n) =
+  served_answered was is before after status first steady (inl s) =
+      badly was is before after status first s (ends_or_badly s.one.served status s.one.status_is)
+  served_answered was is before after status first steady (inr n) =
       one_more (without (kinds.gates.closed was.gate) (kinds.gates.faults was.gate) (kinds.gates.faults is.gate) status steady.gate n.none.reason)
 
   pipe_answered : (known : Option Book) (namespace : List ℕ) (was is : Objects D G (List (N × C)) O) (status : Status)
@@ -193,7 +194,7 @@ module _ {D G L P N M C O : Type 0} (kinds : Kinds D G L P N M C O) where
   pipe_answered known namespace was is status told clients origins steady (inl piped) =
       let p = piped.piped in
       settled_answered (λ (s : Status). ServesBadly kinds was is s) p.closed.answer p.said status p.closed.status_is
-      (served_answered was is p.before p.after p.ready p.served p.said piped.first steady (p.serves clients origins))
+      (served_answered was is p.before p.after p.said piped.first steady (p.serves clients origins))
   pipe_answered known namespace was is status told clients origins steady (inr refuses) =
       inr (inl (refused_known known (Some namespace) was is status told steady refuses))
 
@@ -221,13 +222,13 @@ module _ {D G L P N M C O : Type 0} (kinds : Kinds D G L P N M C O) where
   read_answered known namespace was is status taken told steady file whole (Some (stores.Damaged number kept found)) fault tellable text printed =
       absurd (undamaged (subst (λ r. EndsBy true r k.rest k.reached taken.imported.after) fault k.ends))
     where
-      k : Keeps true taken.imported.imported.takens taken.imported.imported.stored taken.imported.imported.refused (told_on kinds.disks was.disk taken.imported.before) (told_on kinds.disks is.disk taken.imported.after)
+      k : Keeps true taken.imported.imported.takens taken.imported.imported.stored taken.imported.imported.refused (told_on kinds.disks was.disk (contents_of taken.imported.before)) (told_on kinds.disks is.disk taken.imported.after)
       k = taken.imported.imported.keeps
 
       undamaged : EndsBy true (Some (stores.Damaged number kept found)) k.rest k.reached taken.imported.after → ⊥
       undamaged ends =
           damage_is_untold k.reached.tells kept found
-          (subst IsTrue (sym taken.imported.opened.same_tells ∙ sym k.goes_on.same_tells ∙ stored_tells true ends.0 k.reached taken.imported.after (Err (stores.Damaged number kept found)) ends.3) told)
+          (subst IsTrue (sym taken.imported.opened.is.told_is ∙ sym k.goes_on.same_tells ∙ stored_tells true ends.0 k.reached taken.imported.after (Err (stores.Damaged number kept found)) ends.3) told)
           ends.3.3
   read_answered known namespace was is status taken told steady file whole (Some stores.Memory) fault tellable text printed = absurd tellable
 
@@ -269,7 +270,7 @@ module _ {D G L P N M C O : Type 0} (kinds : Kinds D G L P N M C O) where
   told_then known namespace site was is status taken told number at kept found ends =
       let f = taken.follows.follows.followed in
       damage_is_untold f.reached.told kept found
-      (sym (ap (λ (h : Holdings D). h.told) ends.2.leaves.1.others) ∙ f.goes_on.same_told ∙ taken.follows.opened.same_tells ∙ told) ends.2.leaves.3
+      (sym (ap (λ (h : Holdings D). h.told) ends.2.leaves.1.others) ∙ f.goes_on.same_told ∙ taken.follows.opened.is.told_is ∙ told) ends.2.leaves.3
 
   ended_answered : (known : Option Book) (namespace : List ℕ) (site : Site) (was is : Objects D G (List (N × C)) O) (status : Status) (taken : HasReplicated kinds known namespace site was is status)
       → IsTrue (told_at Checkpoints kinds.disks.tells known) → NoFaults kinds was is → (result : Result ⊤ Stop) → taken.follows.follows.result ≡ result
@@ -320,20 +321,20 @@ module _ {D G L P N M C O : Type 0} (kinds : Kinds D G L P N M C O) where
   pub follows_leave_ready : FollowsLeaveReady kinds
   follows_leave_ready known namespace site was is status taken told ids image now =
       let f = taken.follows in
-      let so : IsTrue f.before.told = f.opened.same_tells ∙ told in
+      let so : IsTrue f.before.told = f.opened.is.told_is ∙ told in
       let x = f.near so image now in
       let grows = f.follows.followed.goes_on.grows in
-      settled_next namespace image f.after.book x.0 (grows.namespace ∙ f.opened.in_namespace)
-      (sound_still f.before.book f.after.book grows (f.opened.consistent.sound so)) ids x.2 x.1 (f.right so image now)
+      settled_next namespace image f.after.book x.0 (grows.namespace ∙ f.opened.is.in_namespace)
+      (sound_still f.before.book f.after.book grows (f.opened.is.whole so).sound) ids x.2 x.1 (f.right so image now)
 
   pub imports_leave_ready : ImportsLeaveReady kinds
   imports_leave_ready known namespace was is status taken told ids image now =
       let i = taken.imported in
-      let so : IsTrue i.before.tells = i.opened.same_tells ∙ told in
+      let so : IsTrue i.before.told = i.opened.is.told_is ∙ told in
       let g = i.imported.keeps.goes_on in
       let x = i.near so image now in
-      settled_next namespace image i.after.seen x.0 (g.grows.namespace ∙ i.opened.in_namespace)
-      (λ none. (g.consistent i.opened.consistent).sound (g.same_tells ∙ so)) ids x.2 x.1 (i.right so image now)
+      settled_next namespace image i.after.seen x.0 (g.grows.namespace ∙ i.opened.is.in_namespace)
+      (λ none. (g.consistent (opened_consistent kinds.disks i.opened)).sound (g.same_tells ∙ so)) ids x.2 x.1 (i.right so image now)
 
   -- ---- what `pipe` leaves
 
@@ -342,75 +343,74 @@ module _ {D G L P N M C O : Type 0} (kinds : Kinds D G L P N M C O) where
     tells : IsTrue kinds.disks.tells
     tells = told_tells Checkpoints kinds.disks.tells known told
 
-    told_first : IsTrue piped.before.tells
-    told_first = piped.opened.opened.same_tells ∙ told
+    told_first : IsTrue piped.before.told
+    told_first = ready_tells kinds.disks piped.opened ∙ told
 
-    told_last : IsTrue piped.after.tells
+    told_last : IsTrue piped.after.told
     told_last = piped.goes_on.same_tells ∙ told_first
 
-    sound_last : IsSound piped.after.seen
-    sound_last = (piped.goes_on.consistent piped.opened.opened.consistent).sound told_last
+    sound_last : IsSound piped.after.book
+    sound_last = (piped.goes_on.consistent (ready_consistent kinds.disks piped.opened)).sound told_last
 
     -- the finished checkpoints are those of the last book, in each image that the connection leaves
-    right_then : Leaves (kinds.disks.images piped.served) (λ image. HasCheckpointsOf image piped.after.seen)
+    right_then : Leaves (kinds.disks.images (disk_of piped.after.journal)) (λ image. HasCheckpointsOf image piped.after.book)
     right_then image left =
         let before = piped.goes_on.kept (cdxj_files image) (record { told = told_last; image = image; left = left; are = refl }) in
-        checkpoints_later piped.before.seen piped.after.seen image piped.goes_on.grows
-        (same_checkpoints_of image before.image piped.before.seen (sym before.are) (piped.opened.left told_first before.image before.left).checkpoints)
+        checkpoints_later piped.before.book piped.after.book image piped.goes_on.grows
+        (same_checkpoints_of image before.image piped.before.book (sym before.are) (piped.opened.left told_first before.image before.left).checkpoints)
 
-    right_last : KeepsSettled → Leaves (kinds.disks.images is.disk) (λ image. HasCheckpointsOf image piped.after.seen)
-    right_last stays =
-        settled_right kinds.disks piped.after piped.served is.disk piped.closed.answer piped.closed.settles stays tells told_last right_then
+    right_last : KeepsSettled → Leaves (kinds.disks.images is.disk) (λ image. HasCheckpointsOf image piped.after.book)
+    right_last stays = closed_right kinds.disks piped.closed stays tells told_last right_then
 
-    all_done : (answer : Result ℕ CheckpointFault) → HasSettled kinds.disks piped.after piped.served is.disk answer → status ≡ settled_status answer piped.said
-        → kinds.disks.faults is.disk ≡ kinds.disks.faults piped.served → kinds.disks.faults piped.served < 2 ^ 64 - 1 → status ≢ Memory
-        → Leaves (kinds.disks.images is.disk) (IsSettled piped.after.seen)
-    all_done (Ok n) settles says same below some = settled_all kinds.disks piped.after piped.served is.disk (Ok n) settles n refl told_last
-    all_done (Err checkpoints.DiskFault) settles says same below some =
-        absurd (not_risen (kinds.disks.faults piped.served) (kinds.disks.faults is.disk) (record { same = same; below = below })
-        (settled_rose kinds.disks piped.after piped.served is.disk settles))
-    all_done (Err checkpoints.Memory) settles says same below some = absurd (some says)
+    all_done : (answer : Result ℕ CheckpointFault) → piped.closed.answer ≡ answer → status ≡ settled_status answer piped.said
+        → kinds.disks.faults is.disk ≡ kinds.disks.faults (disk_of piped.after.journal) → kinds.disks.faults (disk_of piped.after.journal) < 2 ^ 64 - 1 → status ≢ Memory
+        → Leaves (kinds.disks.images is.disk) (IsSettled piped.after.book)
+    all_done (Ok n) answers says same below some = closed_all kinds.disks piped.closed n answers told_last
+    all_done (Err checkpoints.DiskFault) answers says same below some =
+        absurd (not_risen (kinds.disks.faults (disk_of piped.after.journal)) (kinds.disks.faults is.disk) (record { same = same; below = below })
+        (closed_rose kinds.disks piped.closed answers))
+    all_done (Err checkpoints.Memory) answers says same below some = absurd (some says)
 
     pub left_settled : IsSteady (kinds.disks.faults was.disk) (kinds.disks.faults is.disk) → status ≢ Memory
-        → Leaves (kinds.disks.images is.disk) (IsLeftSettled piped.after.seen)
+        → Leaves (kinds.disks.images is.disk) (IsLeftSettled piped.after.book)
     left_settled steady some image left =
         let at = piped.near told_first image left in
-        let same : kinds.disks.faults is.disk ≡ kinds.disks.faults piped.served = steady.same ∙ sym (served_faults kinds piped steady.same) in record {
+        let same : kinds.disks.faults is.disk ≡ kinds.disks.faults (disk_of piped.after.journal) = steady.same ∙ sym (faults_behind kinds piped steady.same) in record {
           x = at.0;
           stands = at.1;
           next = at.2;
-          checkpoints = all_done piped.closed.answer piped.closed.settles piped.closed.status_is same (omega (arith, same, steady.same, steady.below)) some image left;
+          checkpoints = all_done piped.closed.answer refl piped.closed.status_is same (omega (arith, same, steady.same, steady.below)) some image left;
         }
 
     -- ---- where the disk didn't fail
 
     -- what an image stands for, that the connection leaves, is the last book
-    last_then : CoursesCountFaults → IdsDifferOnTheWay → HasIds piped.after.seen → IsSteady (kinds.disks.faults was.disk) (kinds.disks.faults is.disk)
-        → HasServed kinds (record was { disk = piped.ready }) (record is { disk = piped.served }) piped.before piped.after piped.said
-        ⊎ HasServedNone kinds (record was { disk = piped.ready }) (record is { disk = piped.served }) piped.before piped.after piped.said
-        → (image : Image) (x : Book) → kinds.disks.images piped.served image → ImageStandsFor image x → SameBook x piped.after.seen
+    last_then : CoursesCountFaults → IdsDifferOnTheWay → HasIds piped.after.book → IsSteady (kinds.disks.faults was.disk) (kinds.disks.faults is.disk)
+        → HasServed kinds was is piped.before piped.after piped.said ⊎ HasServedNone kinds was is piped.before piped.after piped.said
+        → (image : Image) (x : Book) → kinds.disks.images (disk_of piped.after.journal) image → ImageStandsFor image x → SameBook x piped.after.book
     last_then counts differ ids steady (inl s) image x left stands =
         let c = s.one.connection in
-        let met : RoseBy (disk_faults c.rounds) (kinds.disks.faults piped.ready) (kinds.disks.faults piped.served) = (counts _ _ _ c.rounds _ c.lawful).1.rose in
+        let met : RoseBy (disk_faults c.rounds) (kinds.disks.faults (disk_of piped.before.journal)) (kinds.disks.faults (disk_of piped.after.journal)) =
+        (counts _ _ _ c.rounds _ c.lawful).1.rose in
         let none : disk_faults c.rounds ≡ 0 =
-        omega (arith, met, ready_faults kinds piped steady.same, served_faults kinds piped steady.same, steady.same, steady.below) in
-        course_one (pipe_terms piped.before) 0 _ c.rounds _ (λ book. SameBook book piped.before.seen) x refl c.lawful none (λ b same. same)
-        (s.left told_first (ids_earlier piped.before.seen piped.after.seen piped.goes_on.grows ids) (differ _ _ _ c.rounds _ c.lawful ids) image x left stands)
+        omega (arith, met, faults_before kinds piped steady.same, faults_behind kinds piped steady.same, steady.same, steady.below) in
+        course_one (pipe_terms (contents_of piped.before)) 0 _ c.rounds _ (λ book. SameBook book piped.before.book) x refl c.lawful none (λ b same. same)
+        (s.left told_first (ids_earlier piped.before.book piped.after.book piped.goes_on.grows ids) (differ _ _ _ c.rounds _ c.lawful ids) image x left stands)
     last_then counts differ ids steady (inr n) image x left stands =
-        let at : ImageStandsFor image piped.before.seen =
-        (piped.opened.left told_first image (subst (λ (d : D). kinds.disks.images d image) n.unasked left)).stands in
-        subst (λ (now : Contents). SameBook x now.seen) (sym n.same)
-        (one_of image x piped.before.seen stands at (ids_differ piped.before.seen (ids_earlier piped.before.seen piped.after.seen piped.goes_on.grows ids)))
+        let at : ImageStandsFor image piped.before.book =
+        (piped.opened.left told_first image (subst (λ (h : Holdings D). kinds.disks.images (disk_of h.journal) image) n.same left)).stands in
+        subst (λ (now : Holdings D). SameBook x now.book) (sym n.same)
+        (one_of image x piped.before.book stands at (ids_differ piped.before.book (ids_earlier piped.before.book piped.after.book piped.goes_on.grows ids)))
 
     pub left_last : CoursesCountFaults → IdsDifferOnTheWay → IsTrue kinds.clients_tell → IsTrue kinds.origins_tell
-        → IsSteady (kinds.disks.faults was.disk) (kinds.disks.faults is.disk) → HasIds piped.after.seen
-        → Leaves (kinds.disks.images is.disk) (λ image. ImageStandsFor image piped.after.seen)
+        → IsSteady (kinds.disks.faults was.disk) (kinds.disks.faults is.disk) → HasIds piped.after.book
+        → Leaves (kinds.disks.images is.disk) (λ image. ImageStandsFor image piped.after.book)
     left_last counts differ clients origins steady ids image left =
         let at = piped.near told_first image left in
-        let from = settled_from kinds.disks piped.after piped.served is.disk piped.closed.answer piped.closed.settles tells image left in
+        let from = closed_from kinds.disks piped.closed tells image left in
         let stood : ImageStandsFor from.0 at.0 =
         record { for = subst (λ (files : List (List ℕ)). StandsFor files at.0) from.2 at.1.for; sound = at.1.sound } in
-        stands_same image at.0 piped.after.seen (last_then counts differ ids steady (piped.serves clients origins) from.0 at.0 from.1 stood) sound_last at.1
+        stands_same image at.0 piped.after.book (last_then counts differ ids steady (piped.serves clients origins) from.0 at.0 from.1 stood) sound_last at.1
 
   pub pipes_leave_settled : PipesLeaveSettled kinds
   pipes_leave_settled known namespace was is status piped told steady some = left_settled known (Some namespace) was is status piped told steady some
@@ -421,12 +421,13 @@ module _ {D G L P N M C O : Type 0} (kinds : Kinds D G L P N M C O) where
 
   pub pipes_pass_on : PipesPassOn kinds
   pipes_pass_on known namespace was is status piped s ids t x le o =
-      let quiet = quiet_muted kinds.disks piped.before.tells
-      (λ so. told_tells Checkpoints kinds.disks.tells known (sym piped.opened.opened.same_tells ∙ so)) was.disk piped.opened.begun piped.opened.unchanged.quiet in
-      let first = settled_opens kinds.disks piped.before piped.opened.begun piped.ready piped.opened.answer piped.opened.settles in
+      let quiet = quiet_muted kinds.disks piped.before.told
+      (λ so. told_tells Checkpoints kinds.disks.tells known (sym (ready_tells kinds.disks piped.opened) ∙ so)) was.disk (disk_of piped.opened.held.journal)
+      piped.opened.opened.is.quiet in
+      let first = ready_opens kinds.disks piped.opened in
       let during = s.one.connection.images in
-      let last = settled_opens kinds.disks piped.after piped.served is.disk piped.closed.answer piped.closed.settles in
-      let later : (crash_of (muted piped.before.tells kinds.disks) was.disk).moment ≤ (crash_of (muted piped.before.tells kinds.disks) piped.ready).moment =
+      let last = closed_opens kinds.disks piped.closed in
+      let later : (crash_of (muted piped.before.told kinds.disks) was.disk).moment ≤ (crash_of (muted piped.before.told kinds.disks) (disk_of piped.before.journal)).moment =
       omega (arith, quiet.later, first.later) in
       let then = no_more (last.moves t x (omega (arith, le, later, during.later))
       (subst (λ (b : Bool). (crash_of (muted b kinds.disks) is.disk).openings t x) (sym piped.goes_on.same_tells) o)) in
@@ -438,11 +439,11 @@ module _ {D G L P N M C O : Type 0} (kinds : Kinds D G L P N M C O) where
   pub pipes_leave_ready : KeepsSettled → PipesLeaveReady kinds
   pipes_leave_ready stays known namespace was is status piped told ids image now =
       let x = piped.near (told_first known (Some namespace) was is status piped told) image now in
-      settled_next namespace image piped.after.seen x.0 (piped.goes_on.grows.namespace ∙ piped.opened.opened.in_namespace)
+      settled_next namespace image piped.after.book x.0 (piped.goes_on.grows.namespace ∙ ready_in kinds.disks piped.opened)
       (λ none. sound_last known (Some namespace) was is status piped told) ids x.2 x.1
       (right_last known (Some namespace) was is status piped told stays image now)
 
   pub captures_come_back : FilesStandForOneBook → FilesStandForNoVolume → CapturesComeBack kinds
   captures_come_back one no_volume known namespace was is status piped told ids image x now stands =
       let y = piped.near (told_first known (Some namespace) was is status piped told) image now in
-      all_next one no_volume image piped.after.seen y.0 x ids y.2 y.1 stands
+      all_next one no_volume image piped.after.book y.0 x ids y.2 y.1 stands

@@ -1,15 +1,13 @@
 -- What the command `follow` leaves.
 use Rattle.std.proofs.Common.{◌≡◌, ◌⊎◌, ℕ, Bool, IsTrue, List, [], ◌∷◌, length, Option, Err, refl, sym, subst, ◌∙◌, inl, inr, ⊎_elim, arith}
-use Rattle.archive_core.specs.Holdings.{Holdings, contents_of}
+use Rattle.archive_core.specs.Holdings.{Holdings}
 use Rattle.archive_core.proofs.FinishedLaws.{checkpoints_later, same_checkpoints_of}
-use Rattle.archive_core.specs.Known.{IsReopenedKnown}
 use Rattle.command.specs.Settling.{IsOf}
 use Rattle.disk_model.specs.Crash.{Leaves}
 use Rattle.warc_journal.specs.Extents.{cdxj_files}
 use Rattle.archive_core.specs.Told.{told_of}
 use Rattle.archive_shelf.proofs.CallLaws.{no_more}
 use Rattle.archive_shelf.specs.Answers.{CountsIf}
-use Rattle.archive_shelf.specs.declared.depth.Depth.TheVariants.{Checkpoints}
 use Rattle.archive_shelf.specs.Openings.{Moves, SameBook, StaysCovered}
 use Rattle.archive_volumes.proofs.ChangeLaws.{DiskLaws, laws_muted, opens_now}
 use Rattle.archive_volumes.specs.Volumes.{OpensNear, crash_of, muted}
@@ -26,7 +24,7 @@ use Rattle.command.proofs.OpeningLaws.{ids_differ, only_one}
 use Rattle.replica.proofs.FollowLaws.{at_last, ended_unasked}
 use Rattle.replica.specs.Following.{IsOfRefused, IsOnWay, OpensBehind, Step, is_disk_stop}
 use Rattle.proxy_run.specs.Follows.{Follows, FollowsTo}
-use Rattle.command.specs.Opening.{IsOpened, usual_limits}
+use Rattle.command.specs.Opening.{IsOpened, by_checkpoints}
 use Rattle.replica.specs.Sources.{source_of}
 use Rattle.replica.specs.declared.asking.SourceFault.TheVariants as sources
 use Rattle.replica.specs.declared.following.Stop.TheVariants.{Source}
@@ -62,16 +60,16 @@ moves_so disks was is before after Allowed same_before same_after moves =
     (subst (λ (told : Bool). Moves (crash_of (muted told disks) was) (crash_of (muted after disks) is) Allowed) same_before moves)
 
 follows_left : {D N M C O : Type 0} (disks : Disks D) (known : Option Book) (dialers : Dialers N M) (sinks : Sinks O) (tells : Bool) → (laws : DiskLaws disks) (asked : Option (List ℕ)) (site : Site)
-    (was : D) (member_was member_is : N × C) (out_was out_is : O) (status : Status) (held left : Holdings D) → IsReopenedKnown disks was asked usual_limits Checkpoints known held
-    → IsOpened disks Checkpoints known asked was (contents_of held) → (IsTrue held.told → Leaves (disks.images (disk_of held.journal)) (IsOf held.book))
+    (was : D) (member_was member_is : N × C) (out_was out_is : O) (status : Status) (held left : Holdings D)
+    → IsOpened disks (by_checkpoints was asked known) held → (IsTrue held.told → Leaves (disks.images (disk_of held.journal)) (IsOf held.book))
     → (IsTrue left.told → OpensNear disks (disk_of left.journal) left.book)
     → FollowsTo disks sinks (source_of site) tells held left (dialers.links member_was.0) (dialers.links member_is.0) (dialers.faults member_was.0)
     (dialers.faults member_is.0) out_was out_is status
     → member_is.1 ≡ member_was.1 → Follows disks known dialers sinks tells asked site was (disk_of left.journal) member_was member_is out_was out_is status
-follows_left disks known dialers sinks tells laws asked site was member_was member_is out_was out_is status held left reopened opened are near follows clock =
+follows_left disks known dialers sinks tells laws asked site was member_was member_is out_was out_is status held left opened are near follows clock =
     let f = follows.followed in
     let stays = f.goes_on.same_told in
-    let quiet = reopened.quiet in
+    let quiet = opened.is.quiet in
     record {
       before = held;
       after = left;
@@ -84,12 +82,12 @@ follows_left disks known dialers sinks tells laws asked site was member_was memb
           checkpoints_later held.book left.book image f.goes_on.grows
           (same_checkpoints_of image before.image held.book (sym before.are) (are told before.image before.left).checkpoints);
       covered = λ told t le all.
-          let tells = (reopened.whole told).told_is in
+          let tells = (opened.is.whole told).told_is in
           covered_so disks (disk_of held.journal) (disk_of left.journal) held.told left.told tells (stays ∙ tells) f.goes_on.covered t
           (omega (arith, le, quiet.later)) (quiet.covered t le all);
-      disk_faults = subst (λ (n : ℕ). CountsIf (is_disk_stop follows.result) n (told_of disks left).faults) reopened.faults f.faults;
+      disk_faults = subst (λ (n : ℕ). CountsIf (is_disk_stop follows.result) n (told_of disks left).faults) opened.is.faults f.faults;
       moves = λ told ids last t x le o.
-          let tells = (reopened.whole told).told_is in
+          let tells = (opened.is.whole told).told_is in
           ⊎_elim
           (λ then. inl (no_more (quiet.moves t x le then)))
           (λ on. inr on)
@@ -100,7 +98,7 @@ follows_left disks known dialers sinks tells laws asked site was member_was memb
           (OpensBehind f.steps f.reached.book (λ b. (told_of disks held).crash.openings (told_of disks held).crash.moment b))
           (OpensBehind f.steps f.reached.book (λ b. SameBook b held.book)) x
           (λ behind. behind_so f.steps f.reached.book (λ b. (told_of disks held).crash.openings (told_of disks held).crash.moment b) (λ b. SameBook b held.book) x
-          (λ o. only_one ((reopened.whole told).state (ids_differ held.book ids) x o)) behind)
+          (λ o. only_one ((opened.is.whole told).state (ids_differ held.book ids) x o)) behind)
           (f.left have last x (opens_now (muted left.told disks) (laws_muted disks left.told laws) (disk_of left.journal) x image (stays ∙ told) now stands));
       same_clock = clock;
     }
@@ -108,16 +106,15 @@ follows_left disks known dialers sinks tells laws asked site was member_was memb
 -- the archive was opened, and closed behind its source
 pub follows_by : {D N M C O : Type 0} (disks : Disks D) (known : Option Book) (dialers : Dialers N M) (sinks : Sinks O) (tells : Bool) → (laws : DiskLaws disks) (asked : Option (List ℕ))
     (site : Site) (was is : D) (member_was member_is : N × C) (out_was out_opened out_is : O) (status : Status) (held left : Holdings D)
-    → IsReopenedKnown disks was asked usual_limits Checkpoints known held → IsOpened disks Checkpoints known asked was (contents_of held)
-    → (IsTrue held.told → Leaves (disks.images (disk_of held.journal)) (IsOf held.book)) → is ≡ disk_of left.journal → out_opened ≡ out_was
+    → IsOpened disks (by_checkpoints was asked known) held → (IsTrue held.told → Leaves (disks.images (disk_of held.journal)) (IsOf held.book)) → is ≡ disk_of left.journal → out_opened ≡ out_was
     → (IsTrue left.told → OpensNear disks is left.book)
     → FollowsTo disks sinks (source_of site) tells held left (dialers.links member_was.0) (dialers.links member_is.0) (dialers.faults member_was.0)
     (dialers.faults member_is.0) out_opened out_is status
     → member_is.1 ≡ member_was.1 → Follows disks known dialers sinks tells asked site was is member_was member_is out_was out_is status
-follows_by {D} {N} {M} {C} {O} disks known dialers sinks tells laws asked site was is member_was member_is out_was out_opened out_is status held left reopened opened are closed
+follows_by {D} {N} {M} {C} {O} disks known dialers sinks tells laws asked site was is member_was member_is out_was out_opened out_is status held left opened are closed
     silent near follows clock =
     subst (λ (x : D). Follows disks known dialers sinks tells asked site was x member_was member_is out_was out_is status) (sym closed)
-    (follows_left disks known dialers sinks tells laws asked site was member_was member_is out_was out_is status held left reopened opened are
+    (follows_left disks known dialers sinks tells laws asked site was member_was member_is out_was out_is status held left opened are
     (λ told. subst (λ (x : D). OpensNear disks x left.book) closed (near told))
     (subst (λ (o : O). FollowsTo disks sinks (source_of site) tells held left (dialers.links member_was.0) (dialers.links member_is.0) (dialers.faults member_was.0)
     (dialers.faults member_is.0) o out_is status) silent follows) clock)

@@ -10,16 +10,19 @@ use Rattle.disk_model.specs.declared.disk.Disk.{Ghosts as Disks}
 use Rattle.outside.specs.Records.{Links}
 use Rattle.outside.specs.declared.dialer.Transcript.{Transcript}
 use Rattle.outside.specs.declared.gate.Heard.{Heard}
+use Rattle.archive_core.specs.Holdings.{Holdings, contents_of}
 use Rattle.archive_core.specs.Known.{told_at}
 use Rattle.archive_shelf.specs.declared.depth.Depth.TheVariants.{Checkpoints}
-use Rattle.proxy_run.proofs.PipeLaws.{ready_faults, served_faults}
+use Rattle.proxy_run.proofs.PipeLaws.{faults_before, faults_behind}
 use Rattle.proxy_run.proofs.StatusLaws.{memory_told, said_by}
 use Rattle.session.specs.Rounds.{IsCourse}
 use Rattle.std.specs.Prelude.{IfSome}
 use Rattle.std.proofs.lemmas.Bool.{false≢true}
+use Rattle.command.proofs.SettlingLaws.{ready_consistent, ready_in, ready_known, ready_limits, ready_none, ready_tells}
 use Rattle.command.specs.Objects.{Kinds, Objects}
 use Rattle.proxy_run.specs.OnePipe.{PipesLeaveNoChoice, PipesWell}
-use Rattle.command.specs.Opening.{IsOpened}
+use Rattle.command.specs.Opening.{by_checkpoints}
+use Rattle.command.specs.Settling.{OpensSettled}
 use Rattle.proxy_run.specs.Pipes.{Pipes, pipe_terms}
 use Rattle.proxy_run.specs.Serving.{pipe_site, status_of}
 use Rattle.command.specs.Gates.{unheard}
@@ -32,6 +35,7 @@ use Rattle.session.specs.Stopping.{Course, Ends, closes_course}
 use Rattle.session.specs.Traces.{View, view_of}
 use Rattle.session.specs.declared.served.Served.{Served}
 use Rattle.session.specs.declared.served.Served.TheVariants as served
+use Rattle.warc_journal.specs.Journals.{disk_of}
 
 -- ---- an end
 
@@ -81,16 +85,19 @@ known_same : (known : Option Book) (tells : Bool) (a b : Book) → IsTrue (told_
 known_same None tells a b told namespace same also = absurd (false≢true told)
 known_same (Some book) tells a b told namespace same also = both_same a b book namespace same also
 
-opened_same : {D : Type 0} (disks : Disks D) (known : Option Book) (namespace : List ℕ) (disk : D) (a b : Contents) → BooksHaveOneListOfEntries
-    → IsTrue (told_at Checkpoints disks.tells known) → IsOpened disks Checkpoints known (Some namespace) disk a
-    → IsOpened disks Checkpoints known (Some namespace) disk b → a ≡ b
+opened_same : {D : Type 0} (disks : Disks D) (known : Option Book) (namespace : List ℕ) (disk : D) (a b : Holdings D) → BooksHaveOneListOfEntries
+    → IsTrue (told_at Checkpoints disks.tells known) → OpensSettled disks (by_checkpoints disk (Some namespace) known) a
+    → OpensSettled disks (by_checkpoints disk (Some namespace) known) b → contents_of a ≡ contents_of b
 opened_same disks known namespace disk a b one tells h k =
-    let seen : a.seen ≡ b.seen =
-    known_same known disks.tells a.seen b.seen tells (h.in_namespace ∙ sym k.in_namespace) (h.known_is (h.same_tells ∙ tells)) (k.known_is (k.same_tells ∙ tells)) in
-    let shown : a.shown ≡ b.shown =
-    one a.seen a.shown b.shown (h.consistent.shown refl (h.same_tells ∙ tells))
-    (subst (λ (x : Book). AreEntries x b.shown) (sym seen) (k.consistent.shown refl (k.same_tells ∙ tells))) in
-    contents_same a b (h.same_tells ∙ sym k.same_tells) seen shown (h.none_stored ∙ sym k.none_stored) (h.limits_are ∙ sym k.limits_are)
+    let first : IsTrue a.told = ready_tells disks h ∙ tells in
+    let second : IsTrue b.told = ready_tells disks k ∙ tells in
+    let seen : a.book ≡ b.book =
+    known_same known disks.tells a.book b.book tells (ready_in disks h ∙ sym (ready_in disks k)) (ready_known disks h first) (ready_known disks k second) in
+    let shown : (contents_of a).shown ≡ (contents_of b).shown =
+    one a.book (contents_of a).shown (contents_of b).shown ((ready_consistent disks h).shown refl first)
+    (subst (λ (x : Book). AreEntries x (contents_of b).shown) (sym seen) ((ready_consistent disks k).shown refl second)) in
+    contents_same (contents_of a) (contents_of b) (ready_tells disks h ∙ sym (ready_tells disks k)) seen shown (ready_none disks h ∙ sym (ready_none disks k))
+    (ready_limits disks h ∙ sym (ready_limits disks k))
 
 -- ---- two connections
 
@@ -113,12 +120,15 @@ module _ {D G L P N M C O : Type 0} (kinds : Kinds D G L P N M C O) where
     pub said : status ≡ piped.said
     said = said_by piped.closed.answer piped.said status piped.closed.status_is a.memory
 
-    went_well : WentWell (pipe_terms piped.before) (seen_by was piped.before) course_of (seen_by (record is { disk = was.disk }) piped.after)
+    went_well : WentWell (pipe_terms (contents_of piped.before)) (seen_by was (contents_of piped.before)) course_of
+        (seen_by (record is { disk = was.disk }) (contents_of piped.after))
     went_well = record {
-      lawful = subst (λ (n : ℕ). IsCourse (pipe_terms piped.before) 0 (view_of piped.before (kinds.dialers.faults was.crew.0) n) a.served.one.connection.rounds
-          (view_of piped.after (kinds.dialers.faults is.crew.0) (kinds.disks.faults was.disk))) (ready_faults kinds piped a.disk.same)
-          (subst (λ (n : ℕ). IsCourse (pipe_terms piped.before) 0 (view_of piped.before (kinds.dialers.faults was.crew.0) (kinds.disks.faults piped.ready))
-          a.served.one.connection.rounds (view_of piped.after (kinds.dialers.faults is.crew.0) n)) (served_faults kinds piped a.disk.same) a.served.one.connection.lawful);
+      lawful = subst (λ (n : ℕ). IsCourse (pipe_terms (contents_of piped.before)) 0 (view_of (contents_of piped.before) (kinds.dialers.faults was.crew.0) n)
+          a.served.one.connection.rounds (view_of (contents_of piped.after) (kinds.dialers.faults is.crew.0) (kinds.disks.faults was.disk))) (faults_before kinds piped a.disk.same)
+          (subst (λ (n : ℕ). IsCourse (pipe_terms (contents_of piped.before)) 0
+          (view_of (contents_of piped.before) (kinds.dialers.faults was.crew.0) (kinds.disks.faults (disk_of piped.before.journal)))
+          a.served.one.connection.rounds (view_of (contents_of piped.after) (kinds.dialers.faults is.crew.0) n)) (faults_behind kinds piped a.disk.same)
+          a.served.one.connection.lawful);
       memory = whole;
       dialer = a.dialer.same;
       dialer_counts = a.dialer.below;
@@ -134,12 +144,17 @@ pipes_one_way kinds entries one ends known namespace was is other status end pip
     let its = b.served.one.connection in
     let first : Course = course_of kinds piped a in
     let second : Course = course_of kinds also b in
-    let opened : also.before ≡ piped.before = opened_same kinds.disks known namespace was.disk also.before piped.before entries tells also.opened.opened piped.opened.opened in
-    let well : WentWell (pipe_terms piped.before) (seen_by kinds was piped.before) second (seen_by kinds (record other { disk = was.disk }) also.after) =
-    subst (λ (x : Contents). WentWell (pipe_terms x) (seen_by kinds was x) second (seen_by kinds (record other { disk = was.disk }) also.after)) opened (went_well kinds also b) in
-    let courses : AreOneCourse first second (seen_by kinds (record is { disk = was.disk }) piped.after) (seen_by kinds (record other { disk = was.disk }) also.after) =
-    one (pipe_terms piped.before) (seen_by kinds was piped.before) first second (seen_by kinds (record is { disk = was.disk }) piped.after) (seen_by kinds (record other { disk = was.disk }) also.after) refl
-    (piped.opened.opened.same_tells ∙ tells) piped.opened.opened.consistent.shown (went_well kinds piped a) well (record {
+    let now : Contents = contents_of piped.before in
+    let opened : contents_of also.before ≡ now =
+    opened_same kinds.disks known namespace was.disk also.before piped.before entries tells also.opened piped.opened in
+    let well : WentWell (pipe_terms now) (seen_by kinds was now) second (seen_by kinds (record other { disk = was.disk }) (contents_of also.after)) =
+    subst (λ (x : Contents). WentWell (pipe_terms x) (seen_by kinds was x) second (seen_by kinds (record other { disk = was.disk }) (contents_of also.after))) opened
+    (went_well kinds also b) in
+    let courses : AreOneCourse first second (seen_by kinds (record is { disk = was.disk }) (contents_of piped.after))
+    (seen_by kinds (record other { disk = was.disk }) (contents_of also.after)) =
+    one (pipe_terms now) (seen_by kinds was now) first second (seen_by kinds (record is { disk = was.disk }) (contents_of piped.after))
+    (seen_by kinds (record other { disk = was.disk }) (contents_of also.after)) refl
+    (ready_tells kinds.disks piped.opened ∙ tells) (ready_consistent kinds.disks piped.opened).shown (went_well kinds piped a) well (record {
       served = refl;
       bytes = sym mine.given ∙ same.bytes ∙ its.given;
       times = append_cancel_left (kinds.clocks.answers was.crew.1) (gains_of mine.rounds).times (gains_of its.rounds).times
@@ -147,7 +162,8 @@ pipes_one_way kinds entries one ends known namespace was is other status end pip
       transcripts = append_cancel_left (kinds.dialers.links was.crew.0).log (gains_of mine.rounds).transcripts (gains_of its.rounds).transcripts
           (sym (ap (λ (l : Links Transcript). l.log) mine.gained.around.logged) ∙ same.transcripts ∙ ap (λ (l : Links Transcript). l.log) its.gained.around.logged);
     }) in
-    let alike = ends pipe_site first second (seen_by kinds (record is { disk = was.disk }) piped.after) (seen_by kinds (record other { disk = was.disk }) also.after)
+    let alike = ends pipe_site first second (seen_by kinds (record is { disk = was.disk }) (contents_of piped.after))
+    (seen_by kinds (record other { disk = was.disk }) (contents_of also.after))
     a.served.one.served b.served.one.served unheard a.served.one.heard b.served.one.heard courses (whole kinds piped a) (whole kinds also b)
     mine.ends its.ends a.client b.client in
     record {

@@ -9,6 +9,7 @@ use Rattle.archive_core.specs.Finished.{IsSettled}
 use Rattle.archive_core.specs.Settling.{KeepsSettled}
 use Rattle.archive_shelf.specs.Contents.{Contents}
 use Rattle.archive_shelf.specs.Openings.{ImageStandsFor, SameBook}
+use Rattle.archive_core.specs.Holdings.{Holdings, contents_of}
 use Rattle.archive_core.specs.Known.{told_at}
 use Rattle.archive_shelf.specs.Told.{Told}
 use Rattle.archive_shelf.specs.declared.depth.Depth.TheVariants.{Checkpoints}
@@ -33,15 +34,15 @@ use Rattle.outside.specs.declared.sink.Sink.{Ghosts as Sinks}
 use Rattle.crew.specs.Crews.{IsEnd, all_hung_up}
 use Rattle.command.specs.Objects.{Kinds, Objects}
 use Rattle.command.proofs.OpeningLaws.{only_one}
-use Rattle.command.proofs.SettlingLaws.{settled_all, settled_faults, settled_from, settled_right, settled_rose, told_tells}
+use Rattle.command.proofs.SettlingLaws.{closed_all, closed_faults, closed_from, closed_right, closed_rose, ready_consistent, ready_faults, ready_in, ready_none, ready_tells, told_tells}
 use Rattle.command.specs.Printing.{LacksMemory, Prints}
-use Rattle.command.specs.Settling.{HasSettled, settled_status}
+use Rattle.command.specs.Settling.{ClosesSettled, settled_status}
 use Rattle.proxy_run.proofs.CompleteLaws.{not_risen, printed_or_lacked, refused_known}
 use Rattle.proxy_run.proofs.NextLaws.{all_next, settled_next, sound_still, stands_same}
 use Rattle.proxy_run.specs.Complete.{IsSteady, NoFaults}
 use Rattle.proxy_run.specs.Pipes.{Refuses}
 use Rattle.proxy_run.proofs.StatusLaws.{memory_told, said_by, settled_well}
-use Rattle.proxy_run.specs.Promises.{AllAreHungUp, AllAreReadOut, AreReadOut, BooksLeadOn, BooksOnlyGrow, CapturesAreStoredOnce, FaultsAreCounted, GatesAreEmptied, IsHeardOut, IsReadOut, LeadTo, LeadsTo, LogsAreInOrder, ServersAreAnswered, ServersCapturesComeBack, ServersLeaveReady, ServersLeaveSettled, ServersLeaveTheLast, ServersWithoutShelvesLeaveReady, numbers_of, rounds_in, rounds_of}
+use Rattle.proxy_run.specs.Promises.{AllAreHungUp, AllAreReadOut, AreReadOut, BooksLeadOn, BooksOnlyGrow, CapturesAreStoredOnce, FaultsAreCounted, GatesAreEmptied, IsHeardOut, IsReadOut, LeadTo, LeadsTo, LogsAreInOrder, ServersAreAnswered, ServersCapturesComeBack, ServersLeaveReady, ServersLeaveSettled, ServersLeaveTheLast, ServersWithoutShelvesComeBack, ServersWithoutShelvesLeaveReady, numbers_of, rounds_in, rounds_of}
 use Rattle.proxy_run.specs.Runs.{LacksWords}
 use Rattle.proxy_run.specs.Serves.{AreNewcomers, HasShare, LacksShelves, Seat, Serves, all_faults, all_mine, told_by, worst}
 use Rattle.command.specs.Gates.{unheard}
@@ -56,6 +57,7 @@ use Rattle.session.specs.Rounds.{Round, disk_faults, is_closed, lacks, numbers_b
 use Rattle.session.specs.Stopping.{Course, Ends, IsClosed, IsLeftOver}
 use Rattle.session.specs.declared.served.Served.{Served}
 use Rattle.session.specs.declared.served.Served.TheVariants as end
+use Rattle.warc_journal.specs.Journals.{disk_of}
 use Rattle.warc_text.specs.Sound.{IsSound}
 use Rattle.warc_text.specs.StandsFor.{FilesStandForNoVolume, FilesStandForOneBook, StandsFor}
 
@@ -99,13 +101,13 @@ counted_well closed before now Memory printed steady end tells = inr refl
 
 -- ---- what a settling leaves
 
-module _ {D : Type 0} (disks : Disks D) (now : Contents) (was is : D) where
+module _ {D : Type 0} (disks : Disks D) {before : Holdings D} {said status : Status} {is : D} (c : ClosesSettled disks before said is status) where
   -- all checkpoints are finished behind one that wasn't refused
-  finished : (answer : Result ℕ CheckpointFault) (said status : Status) → HasSettled disks now was is answer → IsTrue now.tells → status ≡ settled_status answer said
-      → (status ≡ Memory → ⊥) → (Rose (disks.faults was) (disks.faults is) → ⊥) → Leaves (disks.images is) (IsSettled now.seen)
-  finished (Ok n) said status settled told same spared calm = settled_all disks now was is (Ok n) settled n refl told
-  finished (Err checkpoints.DiskFault) said status settled told same spared calm = absurd (calm (settled_rose disks now was is settled))
-  finished (Err checkpoints.Memory) said status settled told same spared calm = absurd (spared same)
+  finished : (answer : Result ℕ CheckpointFault) → c.answer ≡ answer → status ≡ settled_status answer said → IsTrue before.told
+      → (status ≡ Memory → ⊥) → (Rose (disks.faults (disk_of before.journal)) (disks.faults is) → ⊥) → Leaves (disks.images is) (IsSettled before.book)
+  finished (Ok n) answers same told spared calm = closed_all disks c n answers told
+  finished (Err checkpoints.DiskFault) answers same told spared calm = absurd (calm (closed_rose disks c answers))
+  finished (Err checkpoints.Memory) answers same told spared calm = absurd (spared same)
 
 -- ---- shifts
 
@@ -306,7 +308,7 @@ module _ {D G L P N M C O : Type 0} (kinds : Kinds D G L P N M C O) where
   books_only_grow known asked site workers was is status s = (
     s.shared.grows,
     λ done tells.
-        all_printed kinds.sinks (length (captures s.after.seen)) s.said s.told.printed was.out is.out s.told.prints
+        all_printed kinds.sinks (length (captures s.after.book)) s.said s.told.printed was.out is.out s.told.prints
         (worst_done s.said s.told.printed
         (sym s.told.status_is ∙ (sym (said_by s.closed.answer s.counted status s.closed.status_is (λ memory. cc (done, memory))) ∙ done))) tells,
   )
@@ -360,18 +362,18 @@ module _ {D G L P N M C O : Type 0} (kinds : Kinds D G L P N M C O) where
       let after = hands_of kinds.dialers kinds.clocks s.seats is.crew in
       let numbers = flat_map numbers_of (rounds_of false told_by setting before served.heards after served.shifts) in
       let same : numbers ≡ all_mine s.seats =
-      sym (all_mine_on false told_by setting before served.heards after served.shifts (none_stored kinds.dialers kinds.clocks setting s.before s.opened.opened.none_stored s.starts was.crew s.new))
+      sym (all_mine_on false told_by setting before served.heards after served.shifts (none_stored kinds.dialers kinds.clocks setting (contents_of s.before) (ready_none kinds.disks s.opened) s.starts was.crew s.new))
       ∙ mine_of_hands kinds.dialers kinds.clocks setting s.seats is.crew (omega (arith, room, s.count)) in (
-        subst (λ ns. IsPermutation ns (range_with_len (length (captures s.before.seen)) (length ns))) (sym same) s.shared.once,
-        s.shared.count ∙ ap (λ ns. length (captures s.before.seen) + length ns) (sym same),
+        subst (λ ns. IsPermutation ns (range_with_len (length (captures s.before.book)) (length ns))) (sym same) s.shared.once,
+        s.shared.count ∙ ap (λ ns. length (captures s.before.book) + length ns) (sym same),
       )
 
   pub books_lead_on : CoursesGrow → BooksLeadOn kinds
   books_lead_on grow known asked site workers was is status s clients origins =
       let served = s.serves clients origins in
       let setting : Setting = record { site = site; clock_tells = kinds.clocks.tells } in
-      lead_to false told_by setting grow s.after.seen (hands_of kinds.dialers kinds.clocks s.starts was.crew) served.heards
-      (hands_of kinds.dialers kinds.clocks s.seats is.crew) served.shifts (hands_grow kinds.dialers kinds.clocks setting s.after.seen s.seats is.crew s.shared.each)
+      lead_to false told_by setting grow s.after.book (hands_of kinds.dialers kinds.clocks s.starts was.crew) served.heards
+      (hands_of kinds.dialers kinds.clocks s.seats is.crew) served.shifts (hands_grow kinds.dialers kinds.clocks setting s.after.book s.seats is.crew s.shared.each)
 
   pub faults_are_counted : CoursesCountFaults → FaultsAreCounted kinds
   faults_are_counted counts known asked site workers was is status s clients origins room =
@@ -379,10 +381,10 @@ module _ {D G L P N M C O : Type 0} (kinds : Kinds D G L P N M C O) where
       let setting : Setting = record { site = site; clock_tells = kinds.clocks.tells } in
       let before = hands_of kinds.dialers kinds.clocks s.starts was.crew in
       let after = hands_of kinds.dialers kinds.clocks s.seats is.crew in
-      let met = all_faults_on false told_by setting counts before served.heards after served.shifts (none_met kinds.dialers kinds.clocks setting s.before s.starts was.crew s.new) in
-      let first = settled_faults kinds.disks s.before s.opened.begun s.ready s.opened.answer s.opened.settles in
-      let last = settled_faults kinds.disks s.after s.left is.disk s.closed.answer s.closed.settles in
-      omega (arith, met, faults_of_hands kinds.dialers kinds.clocks setting s.seats is.crew (omega (arith, room, s.count)), s.disk_faults, s.opened.same_faults, first, last)
+      let met = all_faults_on false told_by setting counts before served.heards after served.shifts (none_met kinds.dialers kinds.clocks setting (contents_of s.before) s.starts was.crew s.new) in
+      let first = ready_faults kinds.disks s.opened in
+      let last = closed_faults kinds.disks s.closed in
+      omega (arith, met, faults_of_hands kinds.dialers kinds.clocks setting s.seats is.crew (omega (arith, room, s.count)), s.disk_faults, first, last)
 
   pub all_are_read_out : AllAreReadOut kinds
   all_are_read_out known asked site workers was is status s clients origins =
@@ -393,62 +395,66 @@ module _ {D G L P N M C O : Type 0} (kinds : Kinds D G L P N M C O) where
 
   pub servers_leave_settled : ServersLeaveSettled kinds
   servers_leave_settled known asked site workers was is status s told steady spared image left =
-      let first = settled_faults kinds.disks s.before s.opened.begun s.ready s.opened.answer s.opened.settles in
-      let last = settled_faults kinds.disks s.after s.left is.disk s.closed.answer s.closed.settles in
-      let so : IsTrue s.before.tells = s.opened.opened.same_tells ∙ told in
+      let first = ready_faults kinds.disks s.opened in
+      let last = closed_faults kinds.disks s.closed in
+      let so : IsTrue s.before.told = ready_tells kinds.disks s.opened ∙ told in
       let near = s.near so image left in
       record {
         x = near.0;
         stands = near.1;
         next = near.2;
-        checkpoints = finished kinds.disks s.after s.left is.disk s.closed.answer s.counted status s.closed.settles (s.same_tells ∙ so) s.closed.status_is
-            spared (λ rose. grind (arith, rose, steady.same, steady.below, s.disk_faults, s.opened.same_faults, first, last)) image left;
+        checkpoints = finished kinds.disks s.closed s.closed.answer refl s.closed.status_is (s.same_told ∙ so)
+            spared (λ rose. grind (arith, rose, steady.same, steady.below, s.disk_faults, first, last)) image left;
       }
 
   pub servers_leave_the_last : DiskLaws kinds.disks → ServersLeaveTheLast kinds
   servers_leave_the_last laws known asked site workers was is status s told steady ids image left =
-      let first = settled_faults kinds.disks s.before s.opened.begun s.ready s.opened.answer s.opened.settles in
-      let last = settled_faults kinds.disks s.after s.left is.disk s.closed.answer s.closed.settles in
-      let so : IsTrue s.before.tells = s.opened.opened.same_tells ∙ told in
+      let first = ready_faults kinds.disks s.opened in
+      let last = closed_faults kinds.disks s.closed in
+      let so : IsTrue s.before.told = ready_tells kinds.disks s.opened ∙ told in
       let at = s.near so image left in
-      let from = settled_from kinds.disks s.after s.left is.disk s.closed.answer s.closed.settles (told_tells Checkpoints kinds.disks.tells known told) image left in
+      let from = closed_from kinds.disks s.closed (told_tells Checkpoints kinds.disks.tells known told) image left in
       let stood : ImageStandsFor from.0 at.0 =
       record { for = subst (λ (files : List (List ℕ)). StandsFor files at.0) from.2 at.1.for; sound = at.1.sound } in
-      let none : all_faults s.seats ≡ 0 = omega (arith, s.disk_faults, steady.same, steady.below, s.opened.same_faults, first, last) in
-      let opened = opens_now (muted s.after.tells kinds.disks) (laws_muted kinds.disks s.after.tells laws) s.left at.0 from.0 (s.same_tells ∙ so) from.1 stood in
-      stands_last image at.0 s.before.seen s.after.seen (only_one (s.only none ids at.0 opened)) s.shared.grows (s.opened.opened.consistent.sound so) at.1
+      let none : all_faults s.seats ≡ 0 = omega (arith, s.disk_faults, steady.same, steady.below, first, last) in
+      let opened = opens_now (muted s.after.told kinds.disks) (laws_muted kinds.disks s.after.told laws) (disk_of s.after.journal) at.0 from.0 (s.same_told ∙ so) from.1 stood in
+      stands_last image at.0 s.before.book s.after.book (only_one (s.only none ids at.0 opened)) s.shared.grows ((ready_consistent kinds.disks s.opened).sound so) at.1
 
   pub servers_leave_ready : KeepsSettled → ServersLeaveReady kinds
   servers_leave_ready stays known namespace site workers was is status s told ids image left =
-      let so : IsTrue s.before.tells = s.opened.opened.same_tells ∙ told in
-      let last : IsTrue s.after.tells = s.same_tells ∙ so in
+      let so : IsTrue s.before.told = ready_tells kinds.disks s.opened ∙ told in
+      let last : IsTrue s.after.told = s.same_told ∙ so in
       let near = s.near so image left in
-      settled_next namespace image s.after.seen near.0 (s.shared.grows.namespace ∙ s.opened.opened.in_namespace)
-      (sound_still s.before.seen s.after.seen s.shared.grows (s.opened.opened.consistent.sound so)) ids near.2 near.1
-      (settled_right kinds.disks s.after s.left is.disk s.closed.answer s.closed.settles stays (told_tells Checkpoints kinds.disks.tells known told) last (s.right last)
-      image left)
+      settled_next namespace image s.after.book near.0 (s.shared.grows.namespace ∙ ready_in kinds.disks s.opened)
+      (sound_still s.before.book s.after.book s.shared.grows ((ready_consistent kinds.disks s.opened).sound so)) ids near.2 near.1
+      (closed_right kinds.disks s.closed stays (told_tells Checkpoints kinds.disks.tells known told) last (s.right last) image left)
 
   pub servers_captures_come_back : FilesStandForOneBook → FilesStandForNoVolume → ServersCapturesComeBack kinds
   servers_captures_come_back one no_volume known asked site workers was is status s told ids image x left stands =
-      let near = s.near (s.opened.opened.same_tells ∙ told) image left in
-      all_next one no_volume image s.after.seen near.0 x ids near.2 near.1 stands
+      let near = s.near (ready_tells kinds.disks s.opened ∙ told) image left in
+      all_next one no_volume image s.after.book near.0 x ids near.2 near.1 stands
 
   pub servers_without_shelves_leave_ready : KeepsSettled → ServersWithoutShelvesLeaveReady kinds
   servers_without_shelves_leave_ready stays known namespace was is status lacks told ids image left =
-      let so : IsTrue lacks.before.tells = lacks.opened.opened.same_tells ∙ told in
+      let so : IsTrue lacks.before.told = ready_tells kinds.disks lacks.opened ∙ told in
       let tells = told_tells Checkpoints kinds.disks.tells known told in
-      let from = settled_from kinds.disks lacks.before lacks.ready is.disk lacks.closed.answer lacks.closed.settles tells image left in
+      let from = closed_from kinds.disks lacks.closed tells image left in
       let stood = (lacks.opened.left so from.0 from.1).stands in
       record {
-        book = lacks.before.seen;
+        book = lacks.before.book;
         settled = record {
-          stands = record { for = subst (λ (files : List (List ℕ)). StandsFor files lacks.before.seen) (sym from.2) stood.for; sound = stood.sound };
+          stands = record { for = subst (λ (files : List (List ℕ)). StandsFor files lacks.before.book) (sym from.2) stood.for; sound = stood.sound };
           ids = ids;
-          checkpoints = settled_right kinds.disks lacks.before lacks.ready is.disk lacks.closed.answer lacks.closed.settles stays tells so
+          checkpoints = closed_right kinds.disks lacks.closed stays tells so
               (λ before then. (lacks.opened.left so before then).checkpoints) image left;
         };
-        asked_for = λ ns is. lacks.opened.opened.in_namespace ∙ same_Some namespace ns is;
+        asked_for = λ ns is. ready_in kinds.disks lacks.opened ∙ same_Some namespace ns is;
       }
+
+  pub servers_without_shelves_come_back : FilesStandForOneBook → FilesStandForNoVolume → ServersWithoutShelvesComeBack kinds
+  servers_without_shelves_come_back one no_volume known asked was is status lacks told ids image x left stands =
+      let near = lacks.near (ready_tells kinds.disks lacks.opened ∙ told) image left in
+      all_next one no_volume image lacks.before.book near.0 x ids near.2 near.1 stands
 
   server_answered : (known : Option Book) (namespace : List ℕ) (site : Site) (workers : ℕ) (was is : Objects D G (List (N × C)) O) (status : Status)
       → IsTrue (told_at Checkpoints kinds.disks.tells known) → NoFaults kinds was is
@@ -456,7 +462,7 @@ module _ {D G L P N M C O : Type 0} (kinds : Kinds D G L P N M C O) where
       ⊎ Refuses kinds Checkpoints known (Some namespace) was is status ⊎ LacksWords kinds known was is status
       → (status ≡ Done) ⊎ (status ≡ Memory)
   server_answered known namespace site workers was is status told steady (inl s) =
-      let printed = printed_or_lacked kinds.sinks s.said (captures_line (length (captures s.after.seen))) was.out is.out s.told.printed steady.out s.told.prints in
+      let printed = printed_or_lacked kinds.sinks s.said (captures_line (length (captures s.after.book))) was.out is.out s.told.printed steady.out s.told.prints in
       settled_well s.closed.answer s.counted status s.closed.status_is
       (subst (λ (c : Status). (c ≡ Done) ⊎ (c ≡ Memory)) (sym s.told.status_is)
       (counted_well (kinds.gates.closed is.gate) (kinds.gates.faults was.gate) (kinds.gates.faults is.gate) s.said s.told.printed steady.gate s.ended printed))

@@ -6,12 +6,13 @@ use Rattle.std.proofs.lemmas.List.{length-map}
 use Rattle.std.proofs.lemmas.List.Concat.{length-flat_map}
 use Rattle.std.proofs.lemmas.List.Elements.{All-from_recursion, recursion_from_All}
 use Rattle.std.proofs.lemmas.List.Sums.{sum_by-cons}
-use Rattle.archive_core.specs.Holdings.{Holdings}
+use Rattle.archive_core.specs.Holdings.{Holdings, contents_of}
+use Rattle.archive_core.specs.Told.{told_of}
 use Rattle.archive_opening.specs.Telling.{HasCheckpointsOf}
 use Rattle.archive_shelf.specs.Contents.{Contents}
 use Rattle.archive_shelf.specs.Openings.{HasIds, IsState}
 use Rattle.archive_volumes.proofs.ChangeLaws.{DiskLaws, laws_muted, now_image, one_of}
-use Rattle.archive_volumes.specs.Volumes.{OpensNear, crash_of, muted}
+use Rattle.archive_volumes.specs.Volumes.{OpensNear, muted}
 use Rattle.capture.specs.Captures.{captures}
 use Rattle.capture.specs.declared.book.Book.{Book}
 use Rattle.capture.specs.declared.site.Site.{Site}
@@ -31,6 +32,8 @@ use Rattle.vault.proofs.MemberLaws.{new_captures, new_faults}
 use Rattle.crew.specs.Crews.{IsEnd, ServesAll}
 use Rattle.command.specs.Objects.{Kinds, Objects}
 use Rattle.command.proofs.OpeningLaws.{ids_differ}
+use Rattle.command.proofs.SettlingLaws.{ready_none}
+use Rattle.command.specs.Opening.{by_checkpoints}
 use Rattle.command.specs.Settling.{ClosesSettled, IsOf, OpensSettled}
 use Rattle.proxy_run.specs.Serves.{AreNewcomers, HasShare, IsNewcomer, IsSharedOut, Seat, Serves, TellsCount, all_faults, all_mine, told_by}
 use Rattle.crew.specs.Shifts.{hands_of}
@@ -157,32 +160,30 @@ shared_out book passes history shared =
 module _ {D G L P N M C O : Type 0} (kinds : Kinds D G L P N M C O) (known : Option Book) (asked : Option (List ℕ)) (site : Site)
     (was is : Objects D G (List (N × C)) O) (vault : VaultName) (starts seats : List Passing) where
   -- all that a crew serves over a vault of an archive that was opened and settled
-  pub serves_over : (before after : Contents) (ready left : D) → OpensSettled kinds.disks known asked was.disk before ready
-      → IsNameOf vault before (kinds.disks.faults ready) → AreNewMembers vault starts → AreMembers vault seats → (said : Status)
+  pub serves_over : (before after : Holdings D) → OpensSettled kinds.disks (by_checkpoints was.disk asked known) before
+      → IsNameOf vault (contents_of before) (kinds.disks.faults (disk_of before.journal)) → AreNewMembers vault starts → AreMembers vault seats → (said : Status)
       → (IsTrue kinds.clients_tell → IsTrue kinds.origins_tell
       → ServesAll false told_at (record { site = site; clock_tells = kinds.clocks.tells }) (kinds.gates.connections was.gate) (kinds.gates.connections is.gate)
       (hands_of kinds.dialers kinds.clocks starts was.crew) (hands_of kinds.dialers kinds.clocks seats is.crew))
       → IsEnd (kinds.gates.closed is.gate) (kinds.gates.faults was.gate) (kinds.gates.faults is.gate) said
-      → IsLeftByAll vault (map known_of seats) after.seen after.limits after.tells (kinds.disks.faults left) (record {
-        calm = HasIds after.seen → IsState (crash_of (muted after.tells kinds.disks) left) after.seen None;
-        right = IsTrue after.tells → Leaves (kinds.disks.images left) (λ image. HasCheckpointsOf image after.seen);
+      → IsLeftByAll vault (map known_of seats) after.book after.limits after.told (kinds.disks.faults (disk_of after.journal)) (record {
+        calm = HasIds after.book → IsState (told_of kinds.disks after).crash after.book None;
+        right = IsTrue after.told → Leaves (kinds.disks.images (disk_of after.journal)) (λ image. HasCheckpointsOf image after.book);
       })
-      → (counted : Status) → TellsCount kinds.sinks (length (captures after.seen)) said was.out is.out counted
-      → (status : Status) → ClosesSettled kinds.disks after left counted is.disk status → (IsTrue after.tells → OpensNear kinds.disks is.disk after.seen)
+      → (counted : Status) → TellsCount kinds.sinks (length (captures after.book)) said was.out is.out counted
+      → (status : Status) → ClosesSettled kinds.disks after counted is.disk status → (IsTrue after.told → OpensNear kinds.disks is.disk after.book)
       → drop vault.passes is.crew ≡ drop vault.passes was.crew → Serves kinds known asked site vault.passes was is status
-  serves_over before after ready left opened name new back said serves ended of_all counted tells status closed near others =
-      let same : after.tells ≡ before.tells = of_all.told_is ∙ name.tells in
+  serves_over before after opened name new back said serves ended of_all counted tells status closed near others =
+      let same : after.told ≡ before.told = of_all.told_is ∙ name.tells in
       record {
         before = before;
         after = after;
-        ready = ready;
-        left = left;
         starts = map seat_of starts;
         seats = map seat_of seats;
         said = said;
         counted = counted;
         opened = opened;
-        new = newcomers vault before (kinds.disks.faults ready) name opened.opened.none_stored (λ k. k + 1) starts new.each;
+        new = newcomers vault (contents_of before) (kinds.disks.faults (disk_of before.journal)) name (ready_none kinds.disks opened) (λ k. k + 1) starts new.each;
         workers_are = length-map starts seat_of ∙ new.count;
         count = length-map seats seat_of ∙ back.count;
         serves = λ t u.
@@ -192,7 +193,7 @@ module _ {D G L P N M C O : Type 0} (kinds : Kinds D G L P N M C O) (known : Opt
         ended = ended;
         shared = subst (λ (z : Book × Book). IsSharedOut z.0 (map seat_of seats) z.1) (λ i. (name.book i, sym of_all.book_is i))
             (shared_out vault.book seats of_all.history of_all.shared);
-        same_tells = same;
+        same_told = same;
         disk_faults =
             let met = faults_as seats in
             let risen = of_all.counted in

@@ -5,9 +5,8 @@ use Rattle.std.proofs.lemmas.Bool.{cases_lt}
 use Rattle.std.proofs.lemmas.List.{map-append}
 use Rattle.std.proofs.lemmas.List.Concat.{flat_map-append}
 use Rattle.std.proofs.lemmas.List.Elements.{All-append, All-cons, All-nil}
-use Rattle.archive_core.specs.Holdings.{Holdings, contents_of}
+use Rattle.archive_core.specs.Holdings.{Holdings}
 use Rattle.archive_core.specs.Known.{IsReopenedKnown}
-use Rattle.archive_core.specs.Reopening.{IsReopened}
 use Rattle.archive_opening.specs.Counting.{HasCountsOf, HasInfo}
 use Rattle.archive_volumes.specs.Facts.{facts_from, facts_of}
 use Rattle.archive_volumes.specs.declared.volume_facts.VolumeFacts.{VolumeFacts}
@@ -22,8 +21,8 @@ use Rattle.disk_model.specs.declared.kind.Kind.TheVariants.{Warc}
 use Rattle.fixity.specs.Verdicts.{IsVerdict, volume_of}
 use Rattle.fixity.specs.declared.verdict.Verdict.{Verdict}
 use Rattle.outside.specs.declared.sink.Sink.{Ghosts as Sinks}
-use Rattle.archive_shelf.specs.declared.depth.Depth.TheVariants.{Checkpoints, Whole}
-use Rattle.command.specs.Opening.{IsOpened, usual_limits}
+use Rattle.archive_shelf.specs.declared.depth.Depth.TheVariants.{Checkpoints}
+use Rattle.command.specs.Opening.{IsOpened, by_checkpoints, usual_limits}
 use Rattle.command.specs.Printing.{Prints}
 use Rattle.proxy_run.specs.Verifies.{Checked, ChecksVolumes, IsRight, IsVerified, facts_in, has_damage, is_damaged, lines_of, verdict_line}
 use Rattle.proxy_run.specs.declared.plan.Plan.{Plan}
@@ -168,36 +167,17 @@ checks_from disks sinks namespace volumes was closed is out_was out_is status re
 }))
 checks_from disks sinks namespace volumes was closed is out_was out_is status read faults (inr (inr lacks)) = inr (inr lacks)
 
--- what is told of an archive with each volume read
-opened_whole : {D : Type 0} (disks : Disks D) (disk : D) (held : Holdings D) → IsReopened disks disk None usual_limits held
-    → IsOpened disks Whole None None disk (contents_of held)
-opened_whole disks disk held is =
-    let tells : IsTrue held.told → IsTrue disks.tells = λ so. sym is.told_is ∙ so in
-    record {
-      same_tells = is.told_is;
-      stands = λ so. record { for = is.stands (tells so); sound = is.sound };
-      one = λ so book stands ids. is.one (tells so) book stands.sound ids stands.for;
-      known_is = λ so. tt;
-      in_namespace = is.in_namespace;
-      consistent = record { sound = λ so. is.sound; shown = λ alone so. is.shown };
-      limits_are = is.limits_are;
-      none_stored = is.mine;
-    }
-
 -- an archive that was opened
 module _ {D O : Type 0} (disks : Disks D) (sinks : Sinks O) (known : Option Book) (was closed : D) (held : Holdings D)
-    (reopened : IsReopenedKnown disks was None usual_limits Checkpoints known held) (opened : IsOpened disks Checkpoints known None was (contents_of held))
-    (shut : closed ≡ disk_of held.journal) (out_was out_opened : O) (silent : out_opened ≡ out_was) where
+    (opened : IsOpened disks (by_checkpoints was None known) held) (shut : closed ≡ disk_of held.journal) (out_was out_opened : O) (silent : out_opened ≡ out_was) where
   read : IsTrue disks.tells → disks.reading closed ≡ disks.reading was
-  read told = ap disks.reading shut ∙ (reopened.rests told).read
+  read told = ap disks.reading shut ∙ (opened.is.rests told).read
 
   verified : (is : D) (out_is : O) (status : Status) → (IsTrue disks.tells → disks.reading is ≡ disks.reading was)
       → ChecksVolumes disks sinks held.book.namespace (facts_of held.book) was is out_was out_is status → IsVerified disks sinks known was is out_was out_is status
   verified is out_is status reading checked = record {
-    now = contents_of held;
+    held = held;
     opened = opened;
-    counts = reopened.lined.counts;
-    unsettled = λ told whole. opened_whole disks was (record held { told = disks.tells }) (reopened.unsettled told whole);
     reading = reading;
     checked = checked;
   }
@@ -208,7 +188,7 @@ module _ {D O : Type 0} (disks : Disks D) (sinks : Sinks O) (known : Option Book
       → IsVerified disks sinks known was is out_was out_is status
   verified_by is plan out_is status namespace volumes checks reading =
       verified is out_is status (λ told. reading told ∙ read told)
-      (checks_from disks sinks _ _ was closed is out_was out_is status read (ap disks.faults shut ∙ reopened.faults)
+      (checks_from disks sinks _ _ was closed is out_was out_is status read (ap disks.faults shut ∙ opened.is.faults)
       (subst (λ (o : O). ChecksVolumes disks sinks held.book.namespace (facts_of held.book) closed is o out_is status) silent
       (subst (λ (l : List VolumeFacts). ChecksVolumes disks sinks held.book.namespace l closed is out_opened out_is status) volumes
       (subst (λ (n : List ℕ). ChecksVolumes disks sinks n plan.volumes.items closed is out_opened out_is status) namespace checks))))

@@ -1,10 +1,10 @@
 -- When a run isn't refused, and what the next one finds.
 use Rattle.std.specs.Prelude.{◌≡◌, ◌≢◌, ◌⊎◌, ℕ, ◌-◌, ◌^◌, ◌<◌, ◌≤◌, List, [], ◌++◌, length, IsTrue, Option, Some, None, Result, Ok, Err, ⊤}
 use Rattle.archive_core.specs.Finished.{IsSettled}
+use Rattle.archive_core.specs.Holdings.{Holdings, contents_of}
 use Rattle.archive_core.specs.Known.{told_at}
 use Rattle.archive_opening.specs.Opening.{IsIn}
 use Rattle.archive_opening.specs.Telling.{IsAskedFor, IsSettledFor}
-use Rattle.archive_shelf.specs.Contents.{Contents}
 use Rattle.archive_shelf.specs.Openings.{HasIds, ImageStandsFor, IsNext, Moves}
 use Rattle.archive_volumes.specs.Volumes.{crash_of, muted}
 use Rattle.archive_shelf.specs.declared.depth.Depth.TheVariants.{Checkpoints}
@@ -113,12 +113,10 @@ module _ {D G L P N M C O : Type 0} (kinds : Kinds D G L P N M C O) where
 
   -- a connection was served by the first member, and ended badly
   pub record ServesBadly (was is : Objects D G (List (N × C)) O) (status : Status) : Type 0 where
-    pub before : Contents
-    pub after : Contents
-    pub ready : D
-    pub left : D
+    pub before : Holdings D
+    pub after : Holdings D
     pub first : UsesFirst was.crew is.crew
-    pub served : HasServed kinds (record (with_one was first.before) { disk = ready }) (record (with_one is first.after) { disk = left }) before after status
+    pub served : HasServed kinds (with_one was first.before) (with_one is first.after) before after status
     pub badly : EndsBadly served.one.served
 
   -- Where nothing failed and what a read gives is ready, `check` prints how much there is, or memory ran out.
@@ -178,7 +176,7 @@ module _ {D G L P N M C O : Type 0} (kinds : Kinds D G L P N M C O) where
   abbrev pub PipesLeaveReady : Type 0
   PipesLeaveReady =
       (known : Option Book) (namespace : List ℕ) (was is : Objects D G (N × C) O) (status : Status) (piped : Pipes kinds known (Some namespace) was is status)
-      → IsTrue (told_at Checkpoints kinds.disks.tells known) → HasIds piped.after.seen → (image : Image) → kinds.disks.images is.disk image
+      → IsTrue (told_at Checkpoints kinds.disks.tells known) → HasIds piped.after.book → (image : Image) → kinds.disks.images is.disk image
       → IsReadied (Some namespace) image
 
   -- Where the disk didn't fail and memory sufficed, each image that `pipe` may leave has the finished checkpoint of each volume of the last book but the last,
@@ -187,29 +185,29 @@ module _ {D G L P N M C O : Type 0} (kinds : Kinds D G L P N M C O) where
   PipesLeaveSettled =
       (known : Option Book) (namespace : List ℕ) (was is : Objects D G (N × C) O) (status : Status) (piped : Pipes kinds known (Some namespace) was is status)
       → IsTrue (told_at Checkpoints kinds.disks.tells known) → IsSteady (kinds.disks.faults was.disk) (kinds.disks.faults is.disk) → status ≢ Memory
-      → Leaves (kinds.disks.images is.disk) (IsLeftSettled piped.after.seen)
+      → Leaves (kinds.disks.images is.disk) (IsLeftSettled piped.after.book)
 
   -- Where the disk didn't fail, the links tell their traffic and the ids differ, each image that `pipe` may leave stands for the last book.
   abbrev pub PipesLeaveTheLast : Type 0
   PipesLeaveTheLast =
       (known : Option Book) (namespace : List ℕ) (was is : Objects D G (N × C) O) (status : Status) (piped : Pipes kinds known (Some namespace) was is status)
       → IsTrue (told_at Checkpoints kinds.disks.tells known) → IsTrue kinds.clients_tell → IsTrue kinds.origins_tell
-      → IsSteady (kinds.disks.faults was.disk) (kinds.disks.faults is.disk) → HasIds piped.after.seen
-      → Leaves (kinds.disks.images is.disk) (λ image. ImageStandsFor image piped.after.seen)
+      → IsSteady (kinds.disks.faults was.disk) (kinds.disks.faults is.disk) → HasIds piped.after.book
+      → Leaves (kinds.disks.images is.disk) (λ image. ImageStandsFor image piped.after.book)
 
   -- Each book that may be opened since an earlier moment might have been before the call, or one of the connection's rounds may leave it, wherever it is stopped.
   abbrev pub PipesPassOn : Type 0
   PipesPassOn =
       (known : Option Book) (namespace : List ℕ) (was is : Objects D G (N × C) O) (status : Status) (piped : Pipes kinds known (Some namespace) was is status)
-      (s : HasServed kinds (record was { disk = piped.ready }) (record is { disk = piped.served }) piped.before piped.after piped.said)
+      (s : HasServed kinds was is piped.before piped.after piped.said)
       → HasAllIds s.one.connection.rounds
-      → Moves (crash_of (muted piped.before.tells kinds.disks) was.disk) (crash_of (muted piped.before.tells kinds.disks) is.disk)
-      (IsPassed (pipe_terms piped.before) s.one.connection.rounds)
+      → Moves (crash_of (muted piped.before.told kinds.disks) was.disk) (crash_of (muted piped.before.told kinds.disks) is.disk)
+      (IsPassed (pipe_terms (contents_of piped.before)) s.one.connection.rounds)
 
   -- What was stored comes back: each book for which such an image stands holds all captures of the last book in order, and one more
   -- at most.
   abbrev pub CapturesComeBack : Type 0
   CapturesComeBack =
       (known : Option Book) (namespace : List ℕ) (was is : Objects D G (N × C) O) (status : Status) (piped : Pipes kinds known (Some namespace) was is status)
-      → IsTrue (told_at Checkpoints kinds.disks.tells known) → HasIds piped.after.seen → (image : Image) (x : Book) → kinds.disks.images is.disk image
-      → ImageStandsFor image x → HoldsAll piped.after.seen x
+      → IsTrue (told_at Checkpoints kinds.disks.tells known) → HasIds piped.after.book → (image : Image) (x : Book) → kinds.disks.images is.disk image
+      → ImageStandsFor image x → HoldsAll piped.after.book x

@@ -1,9 +1,8 @@
 -- What the command `follow` leaves.
 use Rattle.std.specs.Prelude.{◌≡◌, ◌⊎◌, ℕ, Bool, List, length, IsTrue, Option, Result, Ok, Err, ⊤}
-use Rattle.archive_core.specs.Holdings.{Holdings, contents_of}
+use Rattle.archive_core.specs.Holdings.{Holdings}
 use Rattle.archive_shelf.specs.Answers.{CountsIf}
 use Rattle.archive_opening.specs.Telling.{HasCheckpointsOf}
-use Rattle.archive_shelf.specs.declared.depth.Depth.TheVariants.{Checkpoints}
 use Rattle.archive_shelf.specs.Openings.{HasIds, ImageStandsFor, Moves, SameBook, StaysCovered}
 use Rattle.archive_volumes.specs.Volumes.{OpensNear, crash_of}
 use Rattle.capture.specs.Captures.{captures}
@@ -18,7 +17,7 @@ use Rattle.outside.specs.declared.dialer.Dialer.{Ghosts as Dialers}
 use Rattle.outside.specs.declared.dialer.Transcript.{Transcript}
 use Rattle.outside.specs.declared.sink.Sink.{Ghosts as Sinks}
 use Rattle.replica.specs.Following.{HasFollowed, HaveIds, IsOfRefused, IsOnWay, OpensAtLast, OpensBehind, is_disk_stop, is_outside_stop}
-use Rattle.command.specs.Opening.{IsOpened}
+use Rattle.command.specs.Opening.{IsOpened, by_checkpoints}
 use Rattle.command.specs.Printing.{LacksMemory, Prints}
 use Rattle.replica.specs.Sources.{source_of}
 use Rattle.proxy_run.specs.StopTexts.{IsStopText, caught_up}
@@ -55,14 +54,14 @@ pub record FollowsTo {D O : Type 0} (disks : Disks D) (sinks : Sinks O) (source 
   pub dialer_faults : CountsIf (is_outside_stop result) faults_was faults_is
   pub told : TellsEnd sinks (length (captures is.book)) result out_was out_is status
 
--- The archive on a disk was opened by its checkpoints, and followed the source at the site, by a member's dialer; its clock wasn't asked. Where the book is told,
+-- The archive on a disk was opened by its checkpoints, over which nothing was written, and followed the source at the site, by a member's dialer; its clock wasn't asked. Where the book is told,
 -- whatever a crash leaves since an earlier moment stands for a sound book where it did before; and what it may leave at last is the last book alone, but for
 -- what a refusal by the disk may leave.
 pub record Follows {D N M C O : Type 0} (disks : Disks D) (known : Option Book) (dialers : Dialers N M) (sinks : Sinks O) (tells : Bool) (asked : Option (List ℕ)) (site : Site)
     (was is : D) (member_was member_is : N × C) (out_was out_is : O) (status : Status) : Type 0 where
   pub before : Holdings D
   pub after : Holdings D
-  pub opened : IsOpened disks Checkpoints known asked was (contents_of before)
+  pub opened : IsOpened disks (by_checkpoints was asked known) before
   pub follows : FollowsTo disks sinks (source_of site) tells before after (dialers.links member_was.0) (dialers.links member_is.0)
       (dialers.faults member_was.0) (dialers.faults member_is.0) out_was out_is status
   pub closed : is ≡ disk_of after.journal

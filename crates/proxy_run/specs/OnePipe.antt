@@ -1,5 +1,6 @@
 -- What `pipe` answers is told by what it is given: over one disk whose book is known the same bytes, times and transcripts are answered in one way.
 use Rattle.std.specs.Prelude.{◌≡◌, ◌≢◌, ℕ, ◌-◌, ◌^◌, ◌<◌, List, length, IsTrue, Option, Some}
+use Rattle.archive_core.specs.Holdings.{contents_of}
 use Rattle.archive_core.specs.Known.{told_at}
 use Rattle.archive_shelf.specs.declared.depth.Depth.TheVariants.{Checkpoints}
 use Rattle.capture.specs.declared.book.Book.{Book}
@@ -14,7 +15,7 @@ module _ {D G L P N M C O : Type 0} (kinds : Kinds D G L P N M C O) where
     -- A connection was served. Its client's link didn't fail, nor did the dialer, with its links, or the disk; the clock told its answers;
     -- and memory sufficed.
     pub record PipesWell (piped : Pipes kinds known (Some namespace) was is status) : Type 0 where
-      pub served : HasServed kinds (record was { disk = piped.ready }) (record is { disk = piped.served }) piped.before piped.after piped.said
+      pub served : HasServed kinds was is piped.before piped.after piped.said
       pub client : served.one.heard.faults ≡ 0
       pub dialer : IsSteady (kinds.dialers.faults was.crew.0) (kinds.dialers.faults is.crew.0)
       pub disk : IsSteady (kinds.disks.faults was.disk) (kinds.disks.faults is.disk)
@@ -32,8 +33,8 @@ module _ {D G L P N M C O : Type 0} (kinds : Kinds D G L P N M C O) where
     -- the same was written to the clients, the same archive is left, and the status is the same
     pub record AnswerTheSame (a : PipesWell piped) (b : PipesWell also) : Type 0 where
       pub written : a.served.one.heard.written ≡ b.served.one.heard.written
-      pub seen : piped.after.seen ≡ also.after.seen
-      pub shown : piped.after.shown ≡ also.after.shown
+      pub seen : piped.after.book ≡ also.after.book
+      pub shown : (contents_of piped.after).shown ≡ (contents_of also.after).shown
       pub status_is : status ≡ end
 
   abbrev pub PipesLeaveNoChoice : Type 0

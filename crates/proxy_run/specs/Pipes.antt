@@ -1,6 +1,7 @@
 -- What the command `pipe` leaves.
 use Rattle.std.specs.Prelude.{◌≡◌, ◌⊎◌, ◌≤◌, ℕ, List, true, IsTrue, Option}
-use Rattle.archive_core.specs.Told.{told_on}
+use Rattle.archive_core.specs.Holdings.{Holdings, contents_of}
+use Rattle.archive_core.specs.Told.{told_of}
 use Rattle.archive_volumes.specs.Volumes.{OpensNear, crash_of, muted}
 use Rattle.archive_shelf.specs.Contents.{Contents}
 use Rattle.archive_shelf.specs.Openings.{HasIds, ImageStandsFor, SameBook, StaysCovered}
@@ -10,7 +11,7 @@ use Rattle.capture.specs.declared.book.Book.{Book}
 use Rattle.disk_model.specs.Image.{Image}
 use Rattle.disk_model.specs.declared.disk.Disk.{Ghosts as Disks}
 use Rattle.command.specs.Objects.{Around, Kinds, Objects, told_around}
-use Rattle.command.specs.Opening.{IsNotOpened}
+use Rattle.command.specs.Opening.{IsNotOpened, by_checkpoints, opening_of}
 use Rattle.command.specs.Settling.{ClosesSettled, OpensSettled}
 use Rattle.proxy_run.specs.Serving.{IsServedStatus, ServesNone, ServesOne, pipe_setting, pipe_site}
 use Rattle.command.specs.declared.status.Status.{Status}
@@ -18,6 +19,7 @@ use Rattle.command.specs.declared.status.Status.TheVariants.{Outside}
 use Rattle.session.specs.Images.{HasAllIds, OpensAtLast}
 use Rattle.session.specs.Rounds.{Round}
 use Rattle.session.specs.Traces.{Terms, terms_of}
+use Rattle.warc_journal.specs.Journals.{disk_of}
 
 -- where and over what `pipe` serves its connection
 abbrev pub pipe_terms : Contents → Terms
@@ -37,16 +39,14 @@ module _ {D G L P N M C O : Type 0} (kinds : Kinds D G L P N M C O) where
   around_in objects = told_around kinds.gates kinds.dialers kinds.clocks objects.gate objects.crew
 
   -- the gate's first connection was served over the archive, and hung up
-  pub record HasServed (was is : Objects D G (N × C) O) (before after : Contents) (status : Status) : Type 0 where
-    pub one : ServesOne true (pipe_setting kinds.clocks.tells) (around_in was) (around_in is)
-        (told_on kinds.disks was.disk before) (told_on kinds.disks is.disk after) status
-    pub left : LeavesJust kinds.disks before one.connection.rounds is.disk
+  pub record HasServed (was is : Objects D G (N × C) O) (before after : Holdings D) (status : Status) : Type 0 where
+    pub one : ServesOne true (pipe_setting kinds.clocks.tells) (around_in was) (around_in is) (told_of kinds.disks before) (told_of kinds.disks after) status
+    pub left : LeavesJust kinds.disks (contents_of before) one.connection.rounds (disk_of after.journal)
 
-  -- the gate gave no connection, and the disk wasn't asked
-  pub record HasServedNone (was is : Objects D G (N × C) O) (before after : Contents) (status : Status) : Type 0 where
+  -- the gate gave no connection, and the archive wasn't asked
+  pub record HasServedNone (was is : Objects D G (N × C) O) (before after : Holdings D) (status : Status) : Type 0 where
     pub none : ServesNone (kinds.gates.closed was.gate) (kinds.gates.faults was.gate) (kinds.gates.faults is.gate)
         (around_in was) (around_in is) status
-    pub unasked : is.disk ≡ was.disk
     pub same : after ≡ before
 
   -- The archive was opened by its checkpoints, those that were missing were written, the connection was served, and those that were missing then were written.
@@ -54,20 +54,16 @@ module _ {D G L P N M C O : Type 0} (kinds : Kinds D G L P N M C O) where
   -- read gives, stands for a sound book that is that one or next to it; each image since an earlier moment stands for a sound book where it did before; a
   -- fault of the gate is told.
   pub record Pipes (known : Option Book) (asked : Option (List ℕ)) (was is : Objects D G (N × C) O) (status : Status) : Type 0 where
-    pub before : Contents
-    pub after : Contents
-    -- the disk as the first settling left it, and as the connection did, with that one's status
-    pub ready : D
-    pub served : D
+    -- the archive as the first settling left it, and as the connection did, with that one's status
+    pub before : Holdings D
+    pub after : Holdings D
     pub said : Status
-    pub opened : OpensSettled kinds.disks known asked was.disk before ready
-    pub serves : IsTrue kinds.clients_tell → IsTrue kinds.origins_tell
-        → HasServed (record was { disk = ready }) (record is { disk = served }) before after said
-        ⊎ HasServedNone (record was { disk = ready }) (record is { disk = served }) before after said
-    pub goes_on : GoesOn true (told_on kinds.disks ready before) (told_on kinds.disks served after)
-    pub closed : ClosesSettled kinds.disks after served said is.disk status
-    pub near : IsTrue before.tells → OpensNear kinds.disks is.disk after.seen
-    pub covered : StaysCovered (crash_of (muted before.tells kinds.disks) was.disk) (crash_of (muted before.tells kinds.disks) is.disk)
+    pub opened : OpensSettled kinds.disks (by_checkpoints was.disk asked known) before
+    pub serves : IsTrue kinds.clients_tell → IsTrue kinds.origins_tell → HasServed was is before after said ⊎ HasServedNone was is before after said
+    pub goes_on : GoesOn true (told_of kinds.disks before) (told_of kinds.disks after)
+    pub closed : ClosesSettled kinds.disks after said is.disk status
+    pub near : IsTrue before.told → OpensNear kinds.disks is.disk after.book
+    pub covered : StaysCovered (crash_of (muted before.told kinds.disks) was.disk) (crash_of (muted before.told kinds.disks) is.disk)
     pub ends : IsServedStatus said
     pub gate_failed : (said ≡ Outside) ⊎ (kinds.gates.faults is.gate ≡ kinds.gates.faults was.gate)
     pub disk_faults : kinds.disks.faults was.disk ≤ kinds.disks.faults is.disk
@@ -75,5 +71,5 @@ module _ {D G L P N M C O : Type 0} (kinds : Kinds D G L P N M C O) where
 
   -- The archive was refused, and neither gate nor crew was touched.
   pub record Refuses {W : Type 0} (depth : Depth) (known : Option Book) (asked : Option (List ℕ)) (was is : Objects D G W O) (status : Status) : Type 0 where
-    pub refused : IsNotOpened kinds.disks kinds.sinks depth known asked was.disk is.disk was.out is.out status
+    pub refused : IsNotOpened kinds.disks kinds.sinks (opening_of was.disk depth asked known) is.disk was.out is.out status
     pub untouched : is ≡ record was { disk = is.disk; out = is.out }

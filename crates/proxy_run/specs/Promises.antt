@@ -90,8 +90,8 @@ module _ {D G L P N M C O : Type 0} (kinds : Kinds D G L P N M C O) where
   abbrev pub BooksOnlyGrow : Type 0
   BooksOnlyGrow =
       (known : Option Book) (asked : Option (List ℕ)) (site : Site) (workers : ℕ) (was is : Objects D G (List (N × C)) O) (status : Status) (s : Serves kinds known asked site workers was is status)
-      → Grows s.before.seen s.after.seen
-      × (status ≡ Done → IsTrue kinds.sinks.tells → kinds.sinks.written is.out ≡ kinds.sinks.written was.out ++ captures_line (length (captures s.after.seen)))
+      → Grows s.before.book s.after.book
+      × (status ≡ Done → IsTrue kinds.sinks.tells → kinds.sinks.written is.out ≡ kinds.sinks.written was.out ++ captures_line (length (captures s.after.book)))
 
   -- as many connections were hung up as the gate gave, whatever the status, and as many are out as were before
   abbrev pub AllAreHungUp : Type 0
@@ -127,8 +127,8 @@ module _ {D G L P N M C O : Type 0} (kinds : Kinds D G L P N M C O) where
       let rounds = rounds_of false told_by (record { site = site; clock_tells = kinds.clocks.tells })
       (hands_of kinds.dialers kinds.clocks s.starts was.crew) served.heards (hands_of kinds.dialers kinds.clocks s.seats is.crew) served.shifts in
       let numbers = flat_map numbers_of rounds in
-      IsPermutation numbers (range_with_len (length (captures s.before.seen)) (length numbers))
-      × (length (captures s.after.seen) ≡ length (captures s.before.seen) + length numbers)
+      IsPermutation numbers (range_with_len (length (captures s.before.book)) (length numbers))
+      × (length (captures s.after.book) ≡ length (captures s.before.book) + length numbers)
 
   -- What each connection begins with has grown from the book that was opened, with what is shown of it, into the book that is left.
   abbrev pub BooksLeadOn : Type 0
@@ -136,7 +136,7 @@ module _ {D G L P N M C O : Type 0} (kinds : Kinds D G L P N M C O) where
       (known : Option Book) (asked : Option (List ℕ)) (site : Site) (workers : ℕ) (was is : Objects D G (List (N × C)) O) (status : Status) (s : Serves kinds known asked site workers was is status)
       (clients : IsTrue kinds.clients_tell) (origins : IsTrue kinds.origins_tell)
       → let served = s.serves clients origins in
-      LeadTo false told_by (record { site = site; clock_tells = kinds.clocks.tells }) s.after.seen
+      LeadTo false told_by (record { site = site; clock_tells = kinds.clocks.tells }) s.after.book
       (hands_of kinds.dialers kinds.clocks s.starts was.crew) served.heards (hands_of kinds.dialers kinds.clocks s.seats is.crew) served.shifts
 
   -- The faults of the disk that rounds met are together at most the rise of its count.
@@ -164,21 +164,21 @@ module _ {D G L P N M C O : Type 0} (kinds : Kinds D G L P N M C O) where
   ServersLeaveSettled =
       (known : Option Book) (asked : Option (List ℕ)) (site : Site) (workers : ℕ) (was is : Objects D G (List (N × C)) O) (status : Status)
       (s : Serves kinds known asked site workers was is status) → IsTrue (told_at Checkpoints kinds.disks.tells known)
-      → IsSteady (kinds.disks.faults was.disk) (kinds.disks.faults is.disk) → status ≢ Memory → Leaves (kinds.disks.images is.disk) (IsLeftSettled s.after.seen)
+      → IsSteady (kinds.disks.faults was.disk) (kinds.disks.faults is.disk) → status ≢ Memory → Leaves (kinds.disks.images is.disk) (IsLeftSettled s.after.book)
 
   -- Where the disk didn't fail and the ids differ, each image that a crash may leave stands for the last book.
   abbrev pub ServersLeaveTheLast : Type 0
   ServersLeaveTheLast =
       (known : Option Book) (asked : Option (List ℕ)) (site : Site) (workers : ℕ) (was is : Objects D G (List (N × C)) O) (status : Status)
       (s : Serves kinds known asked site workers was is status) → IsTrue (told_at Checkpoints kinds.disks.tells known)
-      → IsSteady (kinds.disks.faults was.disk) (kinds.disks.faults is.disk) → HasIds s.after.seen
-      → Leaves (kinds.disks.images is.disk) (λ image. ImageStandsFor image s.after.seen)
+      → IsSteady (kinds.disks.faults was.disk) (kinds.disks.faults is.disk) → HasIds s.after.book
+      → Leaves (kinds.disks.images is.disk) (λ image. ImageStandsFor image s.after.book)
 
   -- Each image that a server may leave, and so what a read gives, is settled for a book that the next run may know, where the ids differ.
   abbrev pub ServersLeaveReady : Type 0
   ServersLeaveReady =
       (known : Option Book) (namespace : List ℕ) (site : Site) (workers : ℕ) (was is : Objects D G (List (N × C)) O) (status : Status)
-      (s : Serves kinds known (Some namespace) site workers was is status) → IsTrue (told_at Checkpoints kinds.disks.tells known) → HasIds s.after.seen
+      (s : Serves kinds known (Some namespace) site workers was is status) → IsTrue (told_at Checkpoints kinds.disks.tells known) → HasIds s.after.book
       → (image : Image) → kinds.disks.images is.disk image → IsReadied (Some namespace) image
 
   -- What was stored comes back: each book for which such an image stands, as the next run may know it, holds all captures of the last book in order, and
@@ -186,15 +186,22 @@ module _ {D G L P N M C O : Type 0} (kinds : Kinds D G L P N M C O) where
   abbrev pub ServersCapturesComeBack : Type 0
   ServersCapturesComeBack =
       (known : Option Book) (asked : Option (List ℕ)) (site : Site) (workers : ℕ) (was is : Objects D G (List (N × C)) O) (status : Status)
-      (s : Serves kinds known asked site workers was is status) → IsTrue (told_at Checkpoints kinds.disks.tells known) → HasIds s.after.seen
-      → (image : Image) (x : Book) → kinds.disks.images is.disk image → ImageStandsFor image x → HoldsAll s.after.seen x
+      (s : Serves kinds known asked site workers was is status) → IsTrue (told_at Checkpoints kinds.disks.tells known) → HasIds s.after.book
+      → (image : Image) (x : Book) → kinds.disks.images is.disk image → ImageStandsFor image x → HoldsAll s.after.book x
 
   -- Each image that one may leave for whose shelves there was no memory is settled so too.
   abbrev pub ServersWithoutShelvesLeaveReady : Type 0
   ServersWithoutShelvesLeaveReady =
       (known : Option Book) (namespace : List ℕ) (was is : Objects D G (List (N × C)) O) (status : Status)
       (lacks : LacksShelves kinds known (Some namespace) was is status) → IsTrue (told_at Checkpoints kinds.disks.tells known)
-      → IdsDifferIn lacks.before.seen → (image : Image) → kinds.disks.images is.disk image → IsReadied (Some namespace) image
+      → IdsDifferIn lacks.before.book → (image : Image) → kinds.disks.images is.disk image → IsReadied (Some namespace) image
+
+  -- And each book for which such an image stands holds all captures of the one that was opened in order, and one more at most.
+  abbrev pub ServersWithoutShelvesComeBack : Type 0
+  ServersWithoutShelvesComeBack =
+      (known : Option Book) (asked : Option (List ℕ)) (was is : Objects D G (List (N × C)) O) (status : Status)
+      (lacks : LacksShelves kinds known asked was is status) → IsTrue (told_at Checkpoints kinds.disks.tells known) → HasIds lacks.before.book
+      → (image : Image) (x : Book) → kinds.disks.images is.disk image → ImageStandsFor image x → HoldsAll lacks.before.book x
 
   -- Where nothing failed and the book is known, it goes well, or memory ran out.
   abbrev pub ServersAreAnswered : Type 0

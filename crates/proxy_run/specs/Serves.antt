@@ -2,11 +2,13 @@
 use Rattle.std.specs.Prelude.{◌≡◌, ◌⊎◌, ℕ, ◌+◌, List, [], ◌∷◌, false, drop, length, slice_get, IfSome, IsTrue, IsPermutation, Option, None}
 use Rattle.std.specs.List.{flat_map, range_with_len, sum_by}
 use Rattle.std.specs.List.Sorted.{IsStrictlyIncreasing}
+use Rattle.archive_core.specs.Holdings.{Holdings, contents_of}
+use Rattle.archive_core.specs.Told.{told_of}
 use Rattle.archive_opening.specs.Telling.{HasCheckpointsOf}
 use Rattle.archive_shelf.specs.Contents.{Contents}
 use Rattle.archive_shelf.specs.Openings.{HasIds, IsState}
 use Rattle.archive_shelf.specs.Told.{Told}
-use Rattle.archive_volumes.specs.Volumes.{OpensNear, crash_of, muted}
+use Rattle.archive_volumes.specs.Volumes.{OpensNear}
 use Rattle.capture.specs.Captures.{captures}
 use Rattle.capture.specs.Faults.{RoseBy}
 use Rattle.capture.specs.Growth.{Grows}
@@ -18,12 +20,15 @@ use Rattle.disk_model.specs.Image.{no_files}
 use Rattle.outside.specs.declared.sink.Sink.{Ghosts as Sinks}
 use Rattle.crew.specs.Crews.{IsEnd, ServesAll}
 use Rattle.command.specs.Objects.{Kinds, Objects}
+use Rattle.command.specs.Opening.{by_checkpoints}
 use Rattle.command.specs.Printing.{LacksMemory, Prints}
 use Rattle.command.specs.Settling.{ClosesSettled, OpensSettled}
 use Rattle.crew.specs.Shifts.{hands_of}
 use Rattle.command.specs.Texts.{captures_line}
 use Rattle.command.specs.declared.status.Status.{Status}
 use Rattle.command.specs.declared.status.Status.TheVariants.{Done, Words, Archive, Outside, Memory}
+use Rattle.vault.specs.Company.{untold}
+use Rattle.warc_journal.specs.Journals.{disk_of}
 
 -- What is told of one of many shelves over an archive: its number among them, its contents, and how many faults of the disk it met itself.
 pub record Seat : Type 0 where
@@ -38,7 +43,7 @@ told_by seat = record {
   contents = record seat.contents { mine = seat.number ∷ seat.contents.mine };
   faults = seat.faults;
   reading = no_files;
-  crash = record { moment = 0; openings = λ t book. ⊥; covered = λ t. ⊥; checkpoints = λ files. ⊥ };
+  crash = untold;
 }
 
 -- A shelf that has stored nothing and met no fault, over an archive of which this is told. Where the disk is told, what is shown of it are
@@ -93,38 +98,36 @@ module _ {D G L P N M C O : Type 0} (kinds : Kinds D G L P N M C O) (known : Opt
   -- were missing by then were written. So there are four disks: as it was given, was settled, was served over, and was settled at last. What
   -- hangs on the links is said where they tell their traffic, and what hangs on the disk where the book is told.
   pub record Serves (asked : Option (List ℕ)) (site : Site) (workers : ℕ) (was is : Objects D G (List (N × C)) O) (status : Status) : Type 0 where
-    pub before : Contents
-    pub after : Contents
-    pub ready : D
-    pub left : D
+    pub before : Holdings D
+    pub after : Holdings D
     pub starts : List Seat
     pub seats : List Seat
     pub said : Status
     pub counted : Status
-    pub opened : OpensSettled kinds.disks known asked was.disk before ready
-    pub new : AreNewcomers before starts
+    pub opened : OpensSettled kinds.disks (by_checkpoints was.disk asked known) before
+    pub new : AreNewcomers (contents_of before) starts
     pub workers_are : length starts ≡ workers
     pub count : length seats ≡ workers
     pub serves : IsTrue kinds.clients_tell → IsTrue kinds.origins_tell
         → ServesAll false told_by (record { site = site; clock_tells = kinds.clocks.tells }) (kinds.gates.connections was.gate) (kinds.gates.connections is.gate)
         (hands_of kinds.dialers kinds.clocks starts was.crew) (hands_of kinds.dialers kinds.clocks seats is.crew)
     pub ended : IsEnd (kinds.gates.closed is.gate) (kinds.gates.faults was.gate) (kinds.gates.faults is.gate) said
-    pub shared : IsSharedOut before.seen seats after.seen
-    pub same_tells : after.tells ≡ before.tells
-    pub disk_faults : RoseBy (all_faults seats) (kinds.disks.faults ready) (kinds.disks.faults left)
-    pub told : TellsCount kinds.sinks (length (captures after.seen)) said was.out is.out counted
-    pub closed : ClosesSettled kinds.disks after left counted is.disk status
+    pub shared : IsSharedOut before.book seats after.book
+    pub same_told : after.told ≡ before.told
+    pub disk_faults : RoseBy (all_faults seats) (kinds.disks.faults (disk_of before.journal)) (kinds.disks.faults (disk_of after.journal))
+    pub told : TellsCount kinds.sinks (length (captures after.book)) said was.out is.out counted
+    pub closed : ClosesSettled kinds.disks after counted is.disk status
     -- where the members met no fault of the disk and ids differ, only the last book may be opened of what they leave
-    pub only : all_faults seats ≡ 0 → HasIds after.seen → IsState (crash_of (muted after.tells kinds.disks) left) after.seen None
+    pub only : all_faults seats ≡ 0 → HasIds after.book → IsState (told_of kinds.disks after).crash after.book None
     -- where the book is told, the finished checkpoints of each image that they leave are those of the last book
-    pub right : IsTrue after.tells → Leaves (kinds.disks.images left) (λ image. HasCheckpointsOf image after.seen)
-    pub near : IsTrue before.tells → OpensNear kinds.disks is.disk after.seen
+    pub right : IsTrue after.told → Leaves (kinds.disks.images (disk_of after.journal)) (λ image. HasCheckpointsOf image after.book)
+    pub near : IsTrue before.told → OpensNear kinds.disks is.disk after.book
     pub others : drop workers is.crew ≡ drop workers was.crew
 
   -- The archive was opened and settled, but there was no memory for so many shelves: it was settled again, and nothing else was touched.
   pub record LacksShelves (asked : Option (List ℕ)) (was is : Objects D G (List (N × C)) O) (status : Status) : Type 0 where
-    pub before : Contents
-    pub ready : D
-    pub opened : OpensSettled kinds.disks known asked was.disk before ready
-    pub closed : ClosesSettled kinds.disks before ready Memory is.disk status
+    pub before : Holdings D
+    pub opened : OpensSettled kinds.disks (by_checkpoints was.disk asked known) before
+    pub closed : ClosesSettled kinds.disks before Memory is.disk status
+    pub near : IsTrue before.told → OpensNear kinds.disks is.disk before.book
     pub untouched : is ≡ record was { disk = is.disk }

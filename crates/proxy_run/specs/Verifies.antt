@@ -1,9 +1,7 @@
 -- What the command `verify` leaves.
 use Rattle.std.specs.Prelude.{◌≡◌, ◌⊎◌, ℕ, suc, Bool, true, false, nat_eq, ◌||◌, List, [], ◌∷◌, ◌++◌, codes, decimal, length, map, All, None, Option, IsTrue}
 use Rattle.std.specs.List.{flat_map}
-use Rattle.archive_opening.specs.Counting.{HasCountsOf}
-use Rattle.archive_opening.specs.Telling.{IsReadWhole}
-use Rattle.archive_shelf.specs.Contents.{Contents}
+use Rattle.archive_core.specs.Holdings.{Holdings}
 use Rattle.archive_volumes.specs.Facts.{facts_of}
 use Rattle.archive_volumes.specs.declared.volume_facts.VolumeFacts.{VolumeFacts}
 use Rattle.capture.specs.Faults.{Rose}
@@ -16,8 +14,7 @@ use Rattle.fixity.specs.declared.verdict.Verdict.{Verdict}
 use Rattle.fixity.specs.declared.verdict.Verdict.TheVariants.{Sound, Damaged}
 use Rattle.httparse.specs.Ascii.{line_feed}
 use Rattle.outside.specs.declared.sink.Sink.{Ghosts as Sinks}
-use Rattle.archive_shelf.specs.declared.depth.Depth.TheVariants.{Checkpoints, Whole}
-use Rattle.command.specs.Opening.{IsOpened}
+use Rattle.command.specs.Opening.{IsOpened, by_checkpoints}
 use Rattle.command.specs.Printing.{LacksMemory, Prints}
 use Rattle.command.specs.Texts.{file_name}
 use Rattle.command.specs.declared.status.Status.{Status}
@@ -105,13 +102,9 @@ module _ {D O : Type 0} (disks : Disks D) (sinks : Sinks O) (namespace : List �
   abbrev pub ChecksVolumes : Type 0
   ChecksVolumes = ChecksAll ⊎ BreaksOff ⊎ LacksMemory sinks out_was out_is status
 
--- The archive was opened by its checkpoints, and its volumes were checked. A read gives what it gave.
+-- The archive was opened by its checkpoints, and its volumes were checked. What is due in them is told by bytes alone, whatever is known (`lined`), and a read gives what it gave.
 pub record IsVerified {D O : Type 0} (disks : Disks D) (sinks : Sinks O) (known : Option Book) (was is : D) (out_was out_is : O) (status : Status) : Type 0 where
-  pub now : Contents
-  pub opened : IsOpened disks Checkpoints known None was now
-  -- whatever is known, what is due is told by bytes alone: the volumes that stand there, each with as many captures as its groups are or its checkpoint tells
-  pub counts : IsTrue disks.tells → HasCountsOf (disks.reading was) now.seen
-  -- where no checkpoint was taken in place of a volume, it is the archive that was opened with each of them read
-  pub unsettled : IsTrue disks.tells → IsReadWhole (disks.reading was) → IsOpened disks Whole None None was (record now { tells = disks.tells })
+  pub held : Holdings D
+  pub opened : IsOpened disks (by_checkpoints was None known) held
   pub reading : IsTrue disks.tells → disks.reading is ≡ disks.reading was
-  pub checked : ChecksVolumes disks sinks now.seen.namespace (facts_of now.seen) was is out_was out_is status
+  pub checked : ChecksVolumes disks sinks held.book.namespace (facts_of held.book) was is out_was out_is status

@@ -1,7 +1,7 @@
 //! The command `check`: how much an archive holds.
 ghost use Rattle.std.specs.Prelude.{◌⊎◌, None};
 ghost use Rattle.proxy_run.specs.Checks.{IsCounted};
-ghost use Rattle.command.specs.Opening.{IsNotOpened};
+ghost use Rattle.command.specs.Opening.{IsNotOpened, opening_of};
 ghost use Rattle.command.specs.Printing.{LacksMemory, Prints};
 ghost use Rattle.command.specs.Texts as spec;
 
@@ -15,7 +15,7 @@ use std::alloc::Global;
 /// Opens the archive on the disk, prints how much it holds, and closes it. Nothing is written.
 pub fn check<D: Disk, O: Sink>(alloc: Global, disk: D, out: &mut O) -> Ran<D>
     ensures { IsCounted D.Disk O.Sink disk result.disk out.old out.new result.status
-        ⊎ IsNotOpened D.Disk O.Sink Depth.Whole None None disk result.disk out.old out.new result.status }
+        ⊎ IsNotOpened D.Disk O.Sink (opening_of disk Depth.Whole None None) result.disk out.old out.new result.status }
 {
     let archive = match open::<Unknown, D, O>(alloc, disk, None, Depth::Whole, out) {
         Ok(archive) => archive,

@@ -2,7 +2,7 @@
 ghost use Rattle.proxy_run.specs.Complete.{CapturesComeBack, ChecksAreAnswered, FollowsAreAnswered, FollowsLeaveReady, ImportsAreAnswered, ImportsLeaveReady, PipesAreAnswered, PipesLeaveReady, PipesLeaveSettled, PipesLeaveTheLast, PipesPassOn};
 ghost use Rattle.command.specs.Objects.{kinds_of};
 ghost use Rattle.proxy_run.specs.OnePipe.{PipesLeaveNoChoice};
-ghost use Rattle.proxy_run.specs.Promises.{AllAreHungUp, AllAreReadOut, BooksLeadOn, BooksOnlyGrow, CapturesAreStoredOnce, FaultsAreCounted, GatesAreEmptied, LogsAreInOrder, ServersAreAnswered, ServersCapturesComeBack, ServersLeaveReady, ServersLeaveSettled, ServersLeaveTheLast, ServersWithoutShelvesLeaveReady};
+ghost use Rattle.proxy_run.specs.Promises.{AllAreHungUp, AllAreReadOut, BooksLeadOn, BooksOnlyGrow, CapturesAreStoredOnce, FaultsAreCounted, GatesAreEmptied, LogsAreInOrder, ServersAreAnswered, ServersCapturesComeBack, ServersLeaveReady, ServersLeaveSettled, ServersLeaveTheLast, ServersWithoutShelvesComeBack, ServersWithoutShelvesLeaveReady};
 ghost use Rattle.proxy_run.specs.Verified.{SoundVolumesVerify, VerifiesAreAnswered, VolumesVerifyOneWay};
 
 use archive_core::settling_keeps_checkpoints_right;
@@ -86,6 +86,7 @@ pub fn servers_leave_ready<D: Disk, G: Gate, N: Dialer, C: Clock, O: Sink>()
     ensures served { ServersLeaveReady (kinds_of D.Disk G.Gate N.Dialer C.Clock O.Sink G.Link.tells N.Link.tells) }
     ensures back { ServersCapturesComeBack (kinds_of D.Disk G.Gate N.Dialer C.Clock O.Sink G.Link.tells N.Link.tells) }
     ensures without_shelves { ServersWithoutShelvesLeaveReady (kinds_of D.Disk G.Gate N.Dialer C.Clock O.Sink G.Link.tells N.Link.tells) }
+    ensures without_back { ServersWithoutShelvesComeBack (kinds_of D.Disk G.Gate N.Dialer C.Clock O.Sink G.Link.tells N.Link.tells) }
 {
     files_stand_for_one_book();
     settling_keeps_checkpoints_right();

@@ -1,10 +1,11 @@
 //! The command `serve`: the connections of many clients over one archive.
 ghost use Rattle.std.specs.Prelude.{◌⊎◌, ◌≡◌, ◌<◌, ◌≤◌, ℕ, true, IfSome, IsTrue, List, Option, length};
+ghost use Rattle.archive_core.specs.Holdings.{Holdings, contents_of};
 ghost use Rattle.archive_opening.specs.Telling.{MayBeSettled};
-ghost use Rattle.archive_shelf.specs.Contents.{Contents};
 ghost use Rattle.archive_shelf.specs.declared.depth.Depth.TheVariants.{Checkpoints};
 ghost use Rattle.capture.specs.declared.book.Book.{Book};
 ghost use Rattle.command.specs.Objects.{kinds_of, objects_of};
+ghost use Rattle.command.specs.Opening.{by_checkpoints};
 ghost use Rattle.command.specs.Settling.{IsOf, OpensSettled};
 ghost use Rattle.disk_model.specs.Crash.{Leaves};
 ghost use Rattle.proxy_run.specs.Pipes.{Refuses};
@@ -129,8 +130,8 @@ where
     requires few { unnamed.passes ≤ 16 }
     requires enough { unnamed.passes ≤ length crew.old.items }
     ensures { let kinds = kinds_of D.Disk G.Gate N.Dialer C.Clock O.Sink G.Link.tells N.Link.tells in
-        (known : Option Book) (asked : Option (List ℕ)) (disk : D) (before : Contents) (ready : D) → OpensSettled D.Disk known asked disk before ready
-        → IsNameOf unnamed before (D.faults ready) → Serves kinds known asked site.now unnamed.passes (objects_of disk gate.old crew.old.items out.old)
+        (known : Option Book) (asked : Option (List ℕ)) (disk : D) (before : Holdings D) → OpensSettled D.Disk (by_checkpoints disk asked known) before
+        → IsNameOf unnamed (contents_of before) (D.faults (disk_of before.journal)) → Serves kinds known asked site.now unnamed.passes (objects_of disk gate.old crew.old.items out.old)
         (objects_of result.disk gate.new crew.new.items out.new) result.status }
 {
     let (vault, mut passes) = unnamed.named::<J>();

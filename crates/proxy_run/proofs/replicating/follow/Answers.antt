@@ -11,10 +11,10 @@ disk_laws g = record { earlier = g.met.D.Disk.earlier; now_counts = g.met.D.Disk
 
 pub returns : goal.returns
 returns g c =
+    let opened = rw c.asked_of.ensures at c.in-Ok.ensures.opened in
     inl (follows_by g.D.Disk g.K.Known.book g.N.Dialer g.O.Sink g.N.Link.Link.tells (disk_laws g) _ c.args.site.now c.args.disk c.close.result c.args.member.now _ c.args.out.now
     c.open.new.out c.follow_site-status.new.out c.follow_site-status.result c.in-Ok.archive c.follow_site-status.new.archive
-    (rw c.asked_of.ensures at c.in-Ok.ensures.reopened) (rw c.asked_of.ensures at c.in-Ok.ensures.opened)
-    (opened_is_of g.D.Disk c.args.disk _ g.K.Known.book c.requires.known c.in-Ok.archive (rw c.asked_of.ensures at c.in-Ok.ensures.reopened)) c.close.ensures.disk c.in-Ok.ensures.prints_nothing
+    opened (opened_is_of g.D.Disk c.args.disk _ g.K.Known.book c.requires.known c.in-Ok.archive opened.is) c.close.ensures.disk c.in-Ok.ensures.prints_nothing
     c.close.ensures.near c.follow_site-status.ensures refl)
 
 pub open-requires-clause-uuid : goal.open-requires-clause-uuid

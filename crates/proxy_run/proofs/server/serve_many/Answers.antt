@@ -1,6 +1,7 @@
 -- The archive was refused, or there was no memory for its shelves, or it was served over.
-use Rattle.std.proofs.Common.{refl, ap, subst, ◌∙◌, inl, inr, arith}
+use Rattle.std.proofs.Common.{IsTrue, refl, ap, subst, ◌∙◌, inl, inr, arith}
 use Rattle.archive_core.specs.Holdings.{Holdings, contents_of}
+use Rattle.archive_volumes.specs.Volumes.{OpensNear}
 use Rattle.warc_journal.specs.Journals.{disk_of}
 use Rattle.command.specs.Objects.{kinds_of, objects_of}
 use Rattle.command.specs.Settling.{ClosesSettled}
@@ -45,7 +46,7 @@ returns-in-Ok-new g c =
       calm = ap (λ (s : Sure). s.calm) sure;
       right = ap (λ (s : Sure). s.right) sure;
     } in
-    let served = c.serve_named.ensures known asked c.args.disk (contents_of c.in-Ok.archive) (disk_of c.in-Ok.archive.journal)
+    let served = c.serve_named.ensures known asked c.args.disk c.in-Ok.archive
     (rw c.asked_of.ensures at c.in-Ok.ensures.opened) name in
     inl (subst (λ n. Serves kinds known asked c.args.service.site.now n (objects_of c.args.disk c.args.gate.now c.args.crew.now.items c.args.out.now) is c.serve_named.result.status)
     c.in-Ok-new.ensures.passes
@@ -55,10 +56,11 @@ returns-in-Ok-new g c =
 pub returns-in-Err-new : goal.returns-in-Err-new
 returns-in-Err-new g c =
     inr (inl (record {
-      before = contents_of c.in-Ok.archive;
-      ready = disk_of c.in-Ok.archive.journal;
+      before = c.in-Ok.archive;
       opened = rw c.asked_of.ensures at c.in-Ok.ensures.opened;
-      closed = subst (λ (h : Holdings g.row.D.Denot). ClosesSettled g.D.Disk (contents_of h) (disk_of h.journal) Memory c.settle_and_close.result.disk c.settle_and_close.result.status)
+      closed = subst (λ (h : Holdings g.row.D.Denot). ClosesSettled g.D.Disk h Memory c.settle_and_close.result.disk c.settle_and_close.result.status)
           c.in-Err-new.ensures.err c.settle_and_close.ensures.closed;
+      near = subst (λ (h : Holdings g.row.D.Denot). IsTrue h.told → OpensNear g.D.Disk c.settle_and_close.result.disk h.book) c.in-Err-new.ensures.err
+          c.settle_and_close.ensures.near;
       untouched = ap (λ o. objects_of c.settle_and_close.result.disk c.args.gate.now c.args.crew.now.items o) c.in-Ok.ensures.prints_nothing;
     }))

@@ -9,7 +9,7 @@ use Rattle.proxy_run.proofs.server.serve_named.Goals as goal
 use Rattle.warc_journal.specs.Journals.{disk_of}
 
 pub returns : goal.returns
-returns g c = λ known asked disk before ready opened name.
+returns g c = λ known asked disk before opened name.
     let kinds = kinds_of g.D.Disk g.G.Gate g.N.Dialer g.C.Clock g.O.Sink g.G.Link.Link.tells g.N.Link.Link.tells in
     let was = objects_of disk c.args.gate.now c.args.crew.now.items c.args.out.now in
     let is = objects_of c.settle_and_close.result.disk c.serve_by-said.new.gate c.serve_by-said.new.crew.items c.tell_count-counted.new.out in
@@ -17,9 +17,8 @@ returns g c = λ known asked disk before ready opened name.
     let many : vec_len starts ≡ g.J.Naming.vault.passes = omega (arith, starts.ok.0, c.named-vault.ensures.passes.count) in
     let left = c.close_all-archive.result in
     subst (λ v. Serves kinds known asked c.args.site.now v.passes was is c.settle_and_close.result.status) (sym c.requires.name)
-    (serves_over kinds known asked c.args.site.now was is g.J.Naming.vault starts.items c.serve_by-said.new.passes.items before (contents_of left) ready
-    (disk_of left.journal) opened
-    (subst (λ v. IsNameOf v before (g.D.Disk.faults ready)) c.requires.name name) c.named-vault.ensures.passes c.serve_by-said.ensures.members
+    (serves_over kinds known asked c.args.site.now was is g.J.Naming.vault starts.items c.serve_by-said.new.passes.items before left opened
+    (subst (λ v. IsNameOf v (contents_of before) (g.D.Disk.faults (disk_of before.journal))) c.requires.name name) c.named-vault.ensures.passes c.serve_by-said.ensures.members
     c.serve_by-said.result (λ t u. c.serve_by-said.ensures.serves t u) c.serve_by-said.ensures.ended c.close_all-archive.ensures c.tell_count-counted.result
     (subst (λ n. TellsCount g.O.Sink n c.serve_by-said.result c.args.out.now c.tell_count-counted.new.out c.tell_count-counted.result)
     (ap (λ k. k.captures) c.counts.ensures) c.tell_count-counted.ensures)
