@@ -7,6 +7,7 @@ use Rattle.archive_core.specs.Holdings.{Holdings, contents_of}
 use Rattle.archive_core.specs.Known.{HasCheckpointsOfKnown, IsReopenedKnown, told_at}
 use Rattle.archive_core.specs.Finished.{IsSettled}
 use Rattle.archive_core.specs.Settling.{GoesWith, KeepsSettled, OpensNoMore, Settles, SettlesOn, reach}
+use Rattle.archive_volumes.specs.Spots.{AreSpotsOf}
 use Rattle.archive_volumes.specs.Volumes.{OpensNear, crash_of, muted}
 use Rattle.archive_opening.specs.Opening.{IsIn}
 use Rattle.archive_opening.specs.Telling.{HasCheckpointsOf, MayBeSettled}
@@ -105,11 +106,12 @@ opened_is_of disks disk asked known may held is so image left =
     }
 
 pub opens_settled : {D : Type 0} (disks : Disks D) → KeepsSettled → (disk : D) (asked : Option (List ℕ)) (known : Option Book) → MayBeSettled disks disk asked known
-    → (held now : Holdings D) → IsOpened disks (by_checkpoints disk asked known) held → (answer : Result ℕ CheckpointFault) → SettlesOn disks held now answer
+    → (held now : Holdings D) → IsOpened disks (by_checkpoints disk asked known) held → AreSpotsOf held.book held.spots → (answer : Result ℕ CheckpointFault) → SettlesOn disks held now answer
     → OpensSettled disks (by_checkpoints disk asked known) now
-opens_settled {D} disks stays disk asked known may held now o answer h = record {
+opens_settled {D} disks stays disk asked known may held now o kept answer h = record {
   held = held;
   opened = o;
+  spots = kept;
   answer = answer;
   settles = h;
   left = λ told.

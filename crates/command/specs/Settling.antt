@@ -4,6 +4,7 @@ use Rattle.archive_core.specs.Holdings.{Holdings}
 use Rattle.archive_core.specs.Settling.{SettlesOn}
 use Rattle.archive_opening.specs.Telling.{HasCheckpointsOf}
 use Rattle.archive_shelf.specs.Openings.{ImageStandsFor}
+use Rattle.archive_volumes.specs.Spots.{AreSpotsOf}
 use Rattle.capture.specs.declared.book.Book.{Book}
 use Rattle.checkpoint.specs.declared.fault.CheckpointFault.{CheckpointFault}
 use Rattle.checkpoint.specs.declared.fault.CheckpointFault.TheVariants as checkpoints
@@ -20,11 +21,12 @@ pub record IsOf (book : Book) (image : Image) : Type 0 where
   pub stands : ImageStandsFor image book
   pub checkpoints : HasCheckpointsOf image book
 
--- The archive was opened, over which nothing was written, and then it wrote the checkpoints that were missing, or was refused. Where its book is told, each
+-- The archive was opened, over which nothing was written, with what it keeps of the captures of its book, and then it wrote the checkpoints that were missing, or was refused. Where its book is told, each
 -- image that is left stands for it, and has its checkpoints.
 pub record OpensSettled {D : Type 0} (disks : Disks D) (opening : Opening D) (now : Holdings D) : Type 0 where
   pub held : Holdings D
   pub opened : IsOpened disks opening held
+  pub spots : AreSpotsOf held.book held.spots
   pub answer : Result ℕ CheckpointFault
   pub settles : SettlesOn disks held now answer
   pub left : IsTrue now.told → Leaves (disks.images (disk_of now.journal)) (IsOf now.book)
@@ -35,8 +37,9 @@ settled_status (Ok written) said = said
 settled_status (Err checkpoints.DiskFault) said = said
 settled_status (Err checkpoints.Memory) said = Memory
 
--- The archive wrote the checkpoints that were missing, or was refused, and was closed.
+-- The archive, with what it keeps of the captures of its book, wrote the checkpoints that were missing, or was refused, and was closed.
 pub record ClosesSettled {D : Type 0} (disks : Disks D) (before : Holdings D) (said : Status) (is : D) (status : Status) : Type 0 where
+  pub spots : AreSpotsOf before.book before.spots
   pub after : Holdings D
   pub answer : Result ℕ CheckpointFault
   pub settles : SettlesOn disks before after answer

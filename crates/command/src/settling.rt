@@ -36,6 +36,7 @@ pub fn open_and_settle<K: Known, D: Disk, O: Sink>(
         Ok(archive) => archive,
         Err(ran) => return Err(ran),
     };
+    archive.shows_its_book();
     let _answer = archive.settle(alloc);
     Ok(archive)
 }
@@ -46,6 +47,7 @@ pub fn settle_and_close<D: Disk>(alloc: Global, archive: Archive<D>, said: Statu
     ensures near { IsTrue archive.told → OpensNear D.Disk result.disk archive.book }
 {
     let mut archive = archive;
+    archive.shows_its_book();
     let answer = archive.settle(alloc);
     Ran {
         status: status_behind(answer, said),

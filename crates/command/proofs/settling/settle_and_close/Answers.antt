@@ -4,6 +4,7 @@ use Rattle.command.proofs.settling.settle_and_close.Goals as goal
 
 pub returns-clause-closed : goal.returns-clause-closed
 returns-clause-closed g c = record {
+  spots = c.shows_its_book.ensures.spots;
   after = c.settle-answer.new.self;
   answer = c.settle-answer.result;
   settles = c.settle-answer.ensures;
