@@ -2,9 +2,5 @@
 #![tactic(auto)]
 
 mod file;
-#[cfg(test)]
-mod partial_disk;
-#[cfg(test)]
-mod tests;
 
 pub use file::GatedFile;

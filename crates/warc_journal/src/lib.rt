@@ -7,11 +7,7 @@ mod fault;
 mod journal;
 mod laws;
 mod opening;
-#[cfg(test)]
-mod partial_disk;
 mod place;
-#[cfg(test)]
-mod tests;
 
 pub use extent::{Extent, Further};
 pub use fault::DiskFault;

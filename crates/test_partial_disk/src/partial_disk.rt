@@ -54,12 +54,13 @@ fn split(bytes: &[u8], at: usize) -> (&[u8], &[u8]) {
     bytes.split_at(at.min(bytes.len()))
 }
 
-/// A disk of Warc files. The calls of two numbers fail, counted from 0: a write then puts the first half of its bytes
-/// there, a single one wholly, a cut takes half of what it was to take, and a file is made that a stop may lose. A read
-/// or a sync that fails does nothing. Each call for another kind fails.
+/// A disk of files of one kind. The calls of two numbers fail, counted from 0: a write then puts the first half of its
+/// bytes there, a single one wholly, a cut takes half of what it was to take, and a file is made that a stop may lose. A
+/// read or a sync that fails does nothing. Each call for the other kind fails.
 #[derive(Drop)]
 pub struct PartialDisk {
     alloc: Global,
+    kind: Kind,
     files: Vec<PartialFile>,
     calls: u64,
     fails: (u64, u64),
@@ -68,9 +69,10 @@ pub struct PartialDisk {
 
 impl PartialDisk {
     /// A disk without files, whose calls of these numbers fail.
-    pub fn new(alloc: Global, fails: (u64, u64)) -> PartialDisk {
+    pub fn new(alloc: Global, kind: Kind, fails: (u64, u64)) -> PartialDisk {
         PartialDisk {
             alloc,
+            kind,
             files: Vec::new(alloc),
             calls: 0,
             fails,
@@ -86,7 +88,7 @@ impl PartialDisk {
 
     /// The disk that a stop leaves, none of whose calls fails.
     pub fn stopped(&self, choice: usize) -> Result<PartialDisk, AllocError> {
-        let mut disk = PartialDisk::new(self.alloc, (u64::MAX, u64::MAX));
+        let mut disk = PartialDisk::new(self.alloc, self.kind, (u64::MAX, u64::MAX));
         for file in self.files.iter() {
             if file.is_durable || choice % 2 == 1 {
                 disk.add(file.left(self.alloc, choice)?.as_slice())?;
@@ -108,13 +110,26 @@ impl PartialDisk {
         }
     }
 
+    /// What was there in a file at the last sync that succeeded; nothing where it isn't there.
+    pub fn synced(&self, file: usize) -> &[u8] {
+        match self.files.get(file) {
+            Some(file) => file.synced.as_slice(),
+            None => &[],
+        }
+    }
+
+    /// How many calls were made.
+    pub fn calls(&self) -> u64 {
+        self.calls
+    }
+
     /// Counts a call, and answers whether it is one that fails.
     fn is_failing(&mut self, kind: Kind) -> bool
         ensures { self.new.faults ≡ self.old.faults }
     {
         let number = self.calls;
         self.calls = number.saturating_add(1);
-        number == self.fails.0 || number == self.fails.1 || kind == Kind::Cdxj
+        number == self.fails.0 || number == self.fails.1 || kind != self.kind
     }
 
     /// Counts a failure where there is no answer, or where the call is one that fails.

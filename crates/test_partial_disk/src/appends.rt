@@ -1,12 +1,11 @@
-//! Appends over a disk whose failed calls act in part, and which counts what it is asked. No case can say it: the disk of a case
-//! does a call whole or not at all.
+//! Texts that are added to a file behind a commit byte, of which a call fails, and how many calls they take.
 ghost use Rattle.std.specs.Prelude.{◌≡◌};
 
-use crate::GatedFile;
 use crate::partial_disk::PartialDisk;
 use capture::Failed;
 use disk_model::Kind;
-use std::alloc::Global;
+use gated_file::GatedFile;
+use std::alloc::{AllocError, Global};
 use std::test::Fail;
 
 /// A file whose finished text is `Wab`.
@@ -23,13 +22,16 @@ fn file_of_three(is_dirty: bool) -> GatedFile
     }
 }
 
-/// A disk whose file holds these bytes and is synced.
-fn disk_of(alloc: Global, bytes: &[u8], fails: u64) -> Result<PartialDisk, Fail> {
-    Ok(PartialDisk::new(
-        Vec::from_slice(alloc, bytes)?,
-        Vec::from_slice(alloc, bytes)?,
-        fails,
-    ))
+/// A disk whose one file, of this kind, holds these bytes and is synced, and whose call of this number fails.
+fn disk_of(alloc: Global, kind: Kind, bytes: &[u8], fails: u64) -> Result<PartialDisk, AllocError> {
+    let mut disk = PartialDisk::new(alloc, kind, (fails, fails));
+    disk.add(bytes)?;
+    Ok(disk)
+}
+
+/// Whether a read of the disk's file gives this, and that was there at the last sync that succeeded.
+fn holds(disk: &PartialDisk, reading: &[u8], synced: &[u8]) -> bool {
+    disk.bytes(0) == reading && disk.synced(0) == synced
 }
 
 /// What a file holds, to which `Wcd` is added, and the number of the call that fails; then what a read gives, and what
@@ -72,30 +74,25 @@ static ROWS: [Row; 26] = [
     (b"WabWxyz", 99, b"WabWcd", b"WabWcd"),
 ];
 
+/// Whether the append of a row leaves what it says, and the next one just its text behind what is finished.
+fn is_left_and_mended(
+    alloc: Global,
+    (first, fails, reading, synced): &Row,
+) -> Result<bool, AllocError> {
+    let mut disk = disk_of(alloc, Kind::Warc, first, *fails)?;
+    let mut file = file_of_three(first.len() > 3);
+    let is_added = file.append(&mut disk, b"Wcd").is_ok();
+    let is_left = holds(&disk, reading, synced);
+    let is_again = file.append(&mut disk, b"We").is_ok();
+    let whole: &[u8] = if is_added { b"WabWcdWe" } else { b"WabWe" };
+    Ok(is_left && is_again && holds(&disk, whole, whole))
+}
+
 /// Whichever call of an append fails, the file is mended by the next.
 #[test]
 fn each_failing_call_leaves_a_file_that_is_mended(rt: HostRuntime) -> Result<(), Fail> {
-    let alloc = rt.alloc();
-    for (number, (first, fails, reading, synced)) in ROWS.iter().enumerate() {
-        let mut file = file_of_three(first.len() > 3);
-        let mut disk = disk_of(alloc, first, *fails)?;
-        let answer = file.append(&mut disk, b"Wcd");
-        assert_eq!(rt;
-            (disk.bytes(), disk.synced()),
-            (*reading, *synced),
-            "row {number}"
-        );
-        let again = file.append(&mut disk, b"We");
-        let whole: &[u8] = if answer.is_ok() {
-            b"WabWcdWe"
-        } else {
-            b"WabWe"
-        };
-        assert_eq!(rt;
-            (again, disk.bytes(), disk.synced()),
-            (Ok(()), whole, whole),
-            "row {number}, again"
-        );
+    for (number, row) in ROWS.iter().enumerate() {
+        assert!(rt; is_left_and_mended(rt.alloc(), row)?, "row {number}");
     }
     Ok(())
 }
@@ -103,25 +100,20 @@ fn each_failing_call_leaves_a_file_that_is_mended(rt: HostRuntime) -> Result<(),
 /// What stands behind the text is taken away.
 #[test]
 fn a_file_is_mended(rt: HostRuntime) -> Result<(), Fail> {
-    let alloc = rt.alloc();
     let mut file = file_of_three(true);
-    let mut disk = disk_of(alloc, b"WabWxyz", 3)?;
-    assert_eq!(rt;
-        (file.mend(&mut disk), file),
-        (Err(Failed), file_of_three(true))
-    );
-    assert_eq!(rt;
-        (file.mend(&mut disk), file),
-        (Ok(()), file_of_three(false))
-    );
-    assert_eq!(rt; (disk.bytes(), disk.calls()), (b"Wab".as_slice(), 9));
+    let mut disk = disk_of(rt.alloc(), Kind::Warc, b"WabWxyz", 3)?;
+    assert!(rt; file.mend(&mut disk) == Err(Failed));
+    assert!(rt; file == file_of_three(true));
+    assert!(rt; file.mend(&mut disk) == Ok(()));
+    assert!(rt; file == file_of_three(false));
+    assert!(rt; disk.bytes(0) == b"Wab".as_slice());
+    assert_eq!(rt; disk.calls(), 9);
     Ok(())
 }
 
 /// A long text takes as many calls as a short one.
 #[test]
 fn a_long_text_is_added_in_six_calls(rt: HostRuntime) -> Result<(), Fail> {
-    let alloc = rt.alloc();
     let mut file = GatedFile {
         kind: Kind::Cdxj,
         file: 0,
@@ -129,13 +121,12 @@ fn a_long_text_is_added_in_six_calls(rt: HostRuntime) -> Result<(), Fail> {
         end: 0,
         is_dirty: false,
     };
-    let mut disk = disk_of(alloc, b"", 99)?;
-    let mut text = vec![in alloc; 0; 200_000]?;
+    let mut disk = disk_of(rt.alloc(), Kind::Cdxj, b"", 99)?;
+    let mut text = vec![in rt.alloc(); 0; 200_000]?;
     text[0] = b'!';
-    assert_eq!(rt; file.append(&mut disk, text.as_slice()), Ok(()));
-    assert_eq!(rt;
-        (disk.synced() == text.as_slice(), file.end, disk.calls()),
-        (true, 200_000, 6)
-    );
+    assert!(rt; file.append(&mut disk, text.as_slice()) == Ok(()));
+    assert!(rt; disk.synced(0) == text.as_slice());
+    assert_eq!(rt; file.end, 200_000);
+    assert_eq!(rt; disk.calls(), 6);
     Ok(())
 }

@@ -1,9 +1,9 @@
-//! What stops leave over a disk whose failed calls act in part. No case can say it: the disk of a case does a call whole or not
-//! at all.
+//! What stops leave of the volumes of an archive, behind steps of their journal of which calls fail.
 use crate::partial_disk::PartialDisk;
-use crate::{Extent, Further, Journal};
+use disk_model::Kind;
 use std::alloc::{AllocError, Global};
 use std::test::Fail;
+use warc_journal::{Extent, Further, Journal};
 
 /// What is done to a journal: a text is added, a volume is begun, or it is repaired.
 #[derive(Clone, Copy, Debug, PartialEq, Eq)]
@@ -155,7 +155,7 @@ fn disk_with(
     (tail, further): (&[u8], Option<&[u8]>),
     fails: (u64, u64),
 ) -> Result<PartialDisk, AllocError> {
-    let mut disk = PartialDisk::new(alloc, fails);
+    let mut disk = PartialDisk::new(alloc, Kind::Warc, fails);
     disk.add(FIRST[0])?;
     let mut last = Vec::from_slice(alloc, FIRST[1])?;
     last.extend_from_slice(tail)?;
