@@ -89,7 +89,7 @@ class Program:
         self.lines = []
         self.ready = threading.Event()
         threading.Thread(target=self.listen, daemon=True).start()
-        if not self.ready.wait(60):
+        if not self.ready.wait(300):
             sys.exit(f"the server doesn't listen: {self.lines}, status {self.process.poll()}")
 
     def listen(self):
