@@ -1,5 +1,5 @@
 -- A book's checkpoints stay right where those that are missing are written.
-use Rattle.std.proofs.Common.{◌<◌, ◌+◌, ℕ, true, List, length, refl, sym, subst, inr, ⊎_elim}
+use Rattle.std.proofs.Common.{◌<◌, ◌+◌, ℕ, List, length, sym, subst, inr, ⊎_elim}
 use Rattle.cdxj_line.specs.declared.line.Line.{Line}
 use Rattle.checkpoint.specs.Checkpoints.{IsCheckpoint, checkpoint_of}
 use Rattle.checkpoint.specs.OfVolume.{AreLinesOf}
@@ -7,16 +7,16 @@ use Rattle.checkpoint.specs.Putting.{FinishedIsGiven}
 use Rattle.archive_core.specs.Settling.{IsSupplied, KeepsSettled}
 
 pub settled_stays : FinishedIsGiven → KeepsSettled
-settled_stays given book spots upto first before image goes right = record { each = each }
+settled_stays given shelved upto first before image told goes right = record { each = each }
   where
-    each : (k : ℕ) (lines : List Line) → IsCheckpoint k lines (checkpoint_of image k) → (k + 1 < length book.volumes) × AreLinesOf book k lines
+    each : (k : ℕ) (lines : List Line) → IsCheckpoint k lines (checkpoint_of image k) → (k + 1 < length shelved.book.volumes) × AreLinesOf shelved.book k lines
     each k lines is = ⊎_elim
         (λ same. right.each k lines (subst (λ (bytes : List ℕ). IsCheckpoint k lines bytes) same is))
-        (λ (supplied : (k < upto) × IsSupplied true book spots first k (checkpoint_of image k)). ⊎_elim
+        (λ (supplied : (k < upto) × IsSupplied shelved first k (checkpoint_of image k)). ⊎_elim
         (λ was. right.each k lines was)
         (λ done. (
           supplied.1.missed.sealed,
-          subst (AreLinesOf book k) (sym done.lines_are) (supplied.1.missed.own.are refl),
+          subst (AreLinesOf shelved.book k) (sym done.lines_are) (supplied.1.missed.own.are told),
         ))
         (given k supplied.1.lines k lines before image (inr supplied.1.own) is))
         (goes.each k)

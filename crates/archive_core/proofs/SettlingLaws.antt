@@ -16,7 +16,7 @@ use Rattle.archive_volumes.specs.declared.volumes.Volumes.{Volumes}
 use Rattle.archive_core.specs.Finished.{FirstAreFinished, HasCheckpoint}
 use Rattle.archive_core.specs.Holdings.{Holdings, IsArchive}
 use Rattle.archive_core.specs.Looking.{OnlyLooks}
-use Rattle.archive_core.specs.Settling.{HasWithout, IsAsBefore, LeavesCheckpoints, Settles, SettlesOn, reach}
+use Rattle.archive_core.specs.Settling.{HasWithout, IsAsBefore, LeavesCheckpoints, Settles, SettlesOn, reach, shelved_as}
 use Rattle.archive_core.specs.steps.Supplying.{GoesThrough, KeepsVolumes, KnowsMore}
 use Rattle.archive_core.proofs.KeepingLaws.{measured_kept, opens_told, quiet_told, texts_kept}
 
@@ -34,12 +34,12 @@ on_ok (Err fault) gives p = tt
 
 module _ {D : Type 0} (d : Ghosts D) (laws : DiskLaws d) (base : Holdings D) (old new : Volumes D) (known now : ℕ)
     (keeps : KeepsVolumes d base.told old new) (is : IsArchive d (over base old known)) (result : Result ℕ CheckpointFault)
-    (went : IsTrue d.tells → GoesThrough d base.told (book_of old.held) base.spots now (disk_of old.journal) (disk_of new.journal) result)
+    (went : IsTrue d.tells → GoesThrough d (shelved_as base.told (book_of old.held) base.spots) now (disk_of old.journal) (disk_of new.journal) result)
     (knows : KnowsMore (book_of old.held) known now result) where
   other_book : over base new now ≡ record base { journal = new.journal; book = book_of old.held; settled = now }
   other_book = ap (λ (h : Held). record base { journal = new.journal; book = book_of h; settled = now }) keeps.held
 
-  first : (r : Result ℕ CheckpointFault) → GoesThrough d base.told (book_of old.held) base.spots now (disk_of old.journal) (disk_of new.journal) r
+  first : (r : Result ℕ CheckpointFault) → GoesThrough d (shelved_as base.told (book_of old.held) base.spots) now (disk_of old.journal) (disk_of new.journal) r
       → IsTrue base.told → Leaves (d.images (disk_of new.journal)) (FirstAreFinished (book_of old.held) now)
   first (Ok n) through told = through.settled told
   first (Err fault) through told = through.settled told
@@ -68,15 +68,15 @@ module _ {D : Type 0} (d : Ghosts D) (laws : DiskLaws d) (base : Holdings D) (ol
     settled = λ told. first result (went (is.holds.tells told)) told;
   })
 
-  left : (r : Result ℕ CheckpointFault) → GoesThrough d base.told (book_of old.held) base.spots now (disk_of old.journal) (disk_of new.journal) r
-      → LeavesCheckpoints d base.told (book_of old.held) base.spots (reach now r) (disk_of old.journal) (disk_of new.journal)
+  left : (r : Result ℕ CheckpointFault) → GoesThrough d (shelved_as base.told (book_of old.held) base.spots) now (disk_of old.journal) (disk_of new.journal) r
+      → LeavesCheckpoints d (shelved_as base.told (book_of old.held) base.spots) (reach now r) (disk_of old.journal) (disk_of new.journal)
   left (Ok n) through = through.left
   left (Err checkpoints.DiskFault) through = through.left
   left (Err checkpoints.Memory) through = through.left
 
   module _ (reads : IsTrue d.tells → d.images (disk_of new.journal) (d.reading (disk_of new.journal))) where
     settles : (r : Result ℕ CheckpointFault) → IsTrue base.told → KnowsMore (book_of old.held) known now r
-        → GoesThrough d base.told (book_of old.held) base.spots now (disk_of old.journal) (disk_of new.journal) r
+        → GoesThrough d (shelved_as base.told (book_of old.held) base.spots) now (disk_of old.journal) (disk_of new.journal) r
         → IfOk r (Settles d (book_of old.held) (disk_of old.journal) (disk_of new.journal))
     settles (Ok n) told more through = record {
       reading = λ k less. through.settled told (d.reading (disk_of new.journal)) (reads (is.holds.tells told)) k (omega (arith, less, more.all));
@@ -87,7 +87,7 @@ module _ {D : Type 0} (d : Ghosts D) (laws : DiskLaws d) (base : Holdings D) (ol
 
     -- how many files are others than before
     wrote : (r : Result ℕ CheckpointFault) → KnowsMore (book_of old.held) known now r
-        → GoesThrough d base.told (book_of old.held) base.spots now (disk_of old.journal) (disk_of new.journal) r
+        → GoesThrough d (shelved_as base.told (book_of old.held) base.spots) now (disk_of old.journal) (disk_of new.journal) r
         → IfOk r (HasWithout (IsAsBefore (d.reading (disk_of old.journal)) (d.reading (disk_of new.journal))) (length (book_of old.held).volumes - 1))
     wrote (Ok n) more through =
         subst (λ (k : ℕ). HasWithout (IsAsBefore (d.reading (disk_of old.journal)) (d.reading (disk_of new.journal))) k n) more.all through.wrote
@@ -106,7 +106,7 @@ module _ {D : Type 0} (d : Ghosts D) (laws : DiskLaws d) (base : Holdings D) (ol
     }
 
     none : (r : Result ℕ CheckpointFault)
-        → (IsTrue d.tells → GoesThrough d base.told (book_of old.held) base.spots now (disk_of old.journal) (disk_of new.journal) r) → r ≡ Ok 0
+        → (IsTrue d.tells → GoesThrough d (shelved_as base.told (book_of old.held) base.spots) now (disk_of old.journal) (disk_of new.journal) r) → r ≡ Ok 0
         → OnlyLooks d (over base old known) (over base new known)
     unfolding answer
     none (Ok n) through same = looks (λ tells. (through tells).none (ap answer same))

@@ -16,50 +16,49 @@ use Rattle.checkpoint.specs.Putting.{HasPut, HoldsCheckpoint, IsBeside, IsWritte
 use Rattle.checkpoint.specs.declared.fault.CheckpointFault.{CheckpointFault}
 use Rattle.checkpoint.specs.declared.fault.CheckpointFault.TheVariants as checkpoints
 use Rattle.archive_volumes.proofs.ChangeLaws.{DiskLaws}
-use Rattle.archive_volumes.specs.declared.spot.Spot.{Spot}
 use Rattle.archive_core.proofs.FinishedLaws.{has_still}
 use Rattle.archive_core.proofs.MissingLaws.{is_there}
 use Rattle.archive_core.specs.Finished.{FirstAreFinished, HasCheckpoint}
-use Rattle.archive_core.specs.Settling.{AreLinesFrom, GoesWith, HasSupplied, HasWithout, IsAsBefore, IsMissing, IsSupplied, LeavesCheckpoints, StaysFinished, Supplies, WritesMissing}
+use Rattle.archive_core.specs.Settling.{AreLinesFrom, GoesWith, HasSupplied, HasWithout, IsAsBefore, IsMissing, IsSupplied, LeavesCheckpoints, Shelved, StaysFinished, Supplies, WritesMissing}
 use Rattle.archive_core.specs.steps.Supplying.{GoesTo, Stopped, Went}
 
 -- ---- checkpoints that go with those from before
 
-pub goes_itself : (told : Bool) (book : Book) (spots : List Spot) (upto : ℕ) (first image : Image) → GoesWith told book spots upto first image image
-goes_itself told book spots upto first image = record { warc = refl; each = λ k. inl refl; no_fewer = omega arith; no_more = inl refl }
+pub goes_itself : (shelved : Shelved) (upto : ℕ) (first image : Image) → GoesWith shelved upto first image image
+goes_itself shelved upto first image = record { warc = refl; each = λ k. inl refl; no_fewer = omega arith; no_more = inl refl }
 
 -- more volumes may have been gone through
-goes_wider : (told : Bool) (book : Book) (spots : List Spot) (upto more : ℕ) (first before image : Image) → upto ≤ more
-    → GoesWith told book spots upto first before image → GoesWith told book spots more first before image
-goes_wider told book spots upto more first before image le goes = record {
+goes_wider : (shelved : Shelved) (upto more : ℕ) (first before image : Image) → upto ≤ more
+    → GoesWith shelved upto first before image → GoesWith shelved more first before image
+goes_wider shelved upto more first before image le goes = record {
   warc = goes.warc;
   each = λ k. ⊎_elim (λ e. inl e) (λ s. inr (omega (arith, le, s.0), s.1)) (goes.each k);
   no_fewer = goes.no_fewer;
   no_more = goes.no_more;
 }
 
-supplied_wider : (told : Bool) (book : Book) (spots : List Spot) (upto more : ℕ) (first : Image) (images : Image → Type 0) (image : Image) → upto ≤ more
-    → HasSupplied told book spots upto first images image → HasSupplied told book spots more first images image
-supplied_wider told book spots upto more first images image le has = record {
+supplied_wider : (shelved : Shelved) (upto more : ℕ) (first : Image) (images : Image → Type 0) (image : Image) → upto ≤ more
+    → HasSupplied shelved upto first images image → HasSupplied shelved more first images image
+supplied_wider shelved upto more first images image le has = record {
   before = has.before;
   was = has.was;
-  goes = goes_wider told book spots upto more first has.before image le has.goes;
+  goes = goes_wider shelved upto more first has.before image le has.goes;
 }
 
 count_rises : (k m i : ℕ) → (i ≡ m) ⊎ ((m ≡ k) × (i ≡ k + 1)) → m ≤ i
 count_rises k m i (inl e) = omega (arith, e)
 count_rises k m i (inr e) = omega (arith, e.0, e.1)
 
-module _ (told : Bool) (book : Book) (spots : List Spot) (upto : ℕ) (first : Image) (k : ℕ) (lines : List Line)
-    (is : IsMissing told book spots first k lines) (within : k < upto) where
+module _ (shelved : Shelved) (upto : ℕ) (first : Image) (k : ℕ) (lines : List Line)
+    (is : IsMissing shelved first k lines) (within : k < upto) where
   -- what stands in the file of a volume, as it was or as it is supplied
   abbrev Stands : Image → Image → ℕ → Type 0
-  Stands before image j = (checkpoint_of image j ≡ checkpoint_of before j) ⊎ ((j < upto) × IsSupplied told book spots first j (checkpoint_of image j))
+  Stands before image j = (checkpoint_of image j ≡ checkpoint_of before j) ⊎ ((j < upto) × IsSupplied shelved first j (checkpoint_of image j))
 
   other_put : (before mid image : Image) (j : ℕ) → checkpoint_of image j ≡ checkpoint_of mid j → Stands before mid j → Stands before image j
   other_put before mid image j same was = ⊎_elim
       (λ e. inl (same ∙ e))
-      (λ s. inr (s.0, subst (IsSupplied told book spots first j) (sym same) s.1))
+      (λ s. inr (s.0, subst (IsSupplied shelved first j) (sym same) s.1))
       was
 
   own_put : (before mid image : Image) → IsWrittenFrom k lines mid image → Stands before mid k → Stands before image k
@@ -73,13 +72,13 @@ module _ (told : Bool) (book : Book) (spots : List Spot) (upto : ℕ) (first : I
   apart_above : (j : ℕ) → k < j → j ≢ k
   apart_above j more same = omega (arith, more, same)
 
-  counted_more : (b m i : ℕ) → (i ≡ m) ⊎ ((m ≡ k) × (i ≡ k + 1)) → (m ≡ b) ⊎ (m < length book.volumes) → (i ≡ b) ⊎ (i < length book.volumes)
+  counted_more : (b m i : ℕ) → (i ≡ m) ⊎ ((m ≡ k) × (i ≡ k + 1)) → (m ≡ b) ⊎ (m < length shelved.book.volumes) → (i ≡ b) ⊎ (i < length shelved.book.volumes)
   counted_more b m i (inl e) (inl f) = inl (e ∙ f)
   counted_more b m i (inl e) (inr l) = inr (omega (arith, e, l))
   counted_more b m i (inr e) was = inr (omega (arith, e.1, is.sealed))
 
-  goes_put : (before mid image : Image) → IsBeside k mid image → IsWrittenFrom k lines mid image → GoesWith told book spots upto first before mid
-      → GoesWith told book spots upto first before image
+  goes_put : (before mid image : Image) → IsBeside k mid image → IsWrittenFrom k lines mid image → GoesWith shelved upto first before mid
+      → GoesWith shelved upto first before image
   goes_put before mid image beside own goes = record {
     warc = beside.warc ∙ goes.warc;
     each = λ j. each j (cases_order j k);
@@ -92,8 +91,8 @@ module _ (told : Bool) (book : Book) (spots : List Spot) (upto : ℕ) (first : I
       each j (inr (inl less)) = other_put before mid image j (beside.others j (apart_below j less)) (goes.each j)
       each j (inr (inr more)) = other_put before mid image j (beside.others j (apart_above j more)) (goes.each j)
 
-  supplied_put : (images mids : Image → Type 0) → ((mid : Image) → mids mid → HasSupplied told book spots upto first images mid) → (image : Image)
-      → HasPut k lines mids image → HasSupplied told book spots upto first images image
+  supplied_put : (images mids : Image → Type 0) → ((mid : Image) → mids mid → HasSupplied shelved upto first images mid) → (image : Image)
+      → HasPut k lines mids image → HasSupplied shelved upto first images image
   supplied_put images mids so_far image has =
       let before = so_far has.before has.was in
       record { before = before.before; was = before.was; goes = goes_put before.before has.before image has.beside has.own before.goes }
@@ -135,10 +134,10 @@ all_there book image zero first = omega arith
 all_there book image (suc k) first = omega (arith, (first k (omega arith)).holds.there)
 
 -- where the book is told, it had no finished checkpoint of its lines
-missing_in_book : (told : Bool) (book : Book) (spots : List Spot) (first : Image) (k : ℕ) (lines : List Line) → VolumesHaveOneListOfLines → IsTrue told
-    → IsMissing told book spots first k lines → HasCheckpoint book k first → ⊥
-missing_in_book told book spots first k lines one so is has = is.missing
-    (subst (λ (all : List Line). IsCheckpoint k all (checkpoint_of first k)) (one book k has.lines lines has.are (is.own.are so)) has.holds.finished)
+missing_in_book : (shelved : Shelved) (first : Image) (k : ℕ) (lines : List Line) → VolumesHaveOneListOfLines → IsTrue shelved.told
+    → IsMissing shelved first k lines → HasCheckpoint shelved.book k first → ⊥
+missing_in_book shelved first k lines one so is has = is.missing
+    (subst (λ (all : List Line). IsCheckpoint k all (checkpoint_of first k)) (one shelved.book k has.lines lines has.are (is.own.are so)) has.holds.finished)
 
 -- ---- on a disk
 
@@ -159,27 +158,27 @@ module _ {D : Type 0} (d : Ghosts D) (laws : DiskLaws d) (tells : IsTrue d.tells
       now_has d.moment d.images_since old new (d.images old) (HasPut volume lines (d.images old)) (d.images new)
       (λ i left. laws.now_counts new (d.moment old) i puts.leaves.later left) (laws.now_only old) puts.leaves image now
 
-  module _ (told : Bool) (book : Book) (spots : List Spot) (from : D) where
+  module _ (shelved : Shelved) (from : D) where
     abbrev Supplied : ℕ → Image → Type 0
-    Supplied upto = HasSupplied told book spots upto (d.reading from) (d.images from)
+    Supplied upto = HasSupplied shelved upto (d.reading from) (d.images from)
 
     -- what a read gives of a checkpoint: what it gave, or it was missing
     abbrev Reads : ℕ → D → ℕ → Type 0
     Reads upto new j = (checkpoint_of (d.reading new) j ≡ checkpoint_of (d.reading from) j)
-        ⊎ ((j < upto) × (lines : List Line) × IsMissing told book spots (d.reading from) j lines)
+        ⊎ ((j < upto) × (lines : List Line) × IsMissing shelved (d.reading from) j lines)
 
-    left_wider : (upto more : ℕ) (now : D) → upto ≤ more → LeavesCheckpoints d told book spots upto from now
-        → LeavesCheckpoints d told book spots more from now
+    left_wider : (upto more : ℕ) (now : D) → upto ≤ more → LeavesCheckpoints d shelved upto from now
+        → LeavesCheckpoints d shelved more from now
     left_wider upto more now le left = record {
       warc = left.warc;
       reading = λ k. ⊎_elim (λ e. inl e) (λ m. inr (omega (arith, le, m.0), m.1, m.2)) (left.reading k);
       leaves = weakened d.moment d.images_since from now (Supplied upto) (Supplied more)
-          (λ image has. supplied_wider told book spots upto more (d.reading from) (d.images from) image le has) left.leaves;
-      images = λ image now. supplied_wider told book spots upto more (d.reading from) (d.images from) image le (left.images image now);
+          (λ image has. supplied_wider shelved upto more (d.reading from) (d.images from) image le has) left.leaves;
+      images = λ image now. supplied_wider shelved upto more (d.reading from) (d.images from) image le (left.images image now);
     }
 
-    left_still : (upto : ℕ) (mid new : D) → Rests d mid new → LeavesCheckpoints d told book spots upto from mid
-        → LeavesCheckpoints d told book spots upto from new
+    left_still : (upto : ℕ) (mid new : D) → Rests d mid new → LeavesCheckpoints d shelved upto from mid
+        → LeavesCheckpoints d shelved upto from new
     left_still upto mid new rests left = record {
       warc = ap warc_files rests.read ∙ left.warc;
       reading = λ k. ⊎_elim
@@ -191,8 +190,8 @@ module _ {D : Type 0} (d : Ghosts D) (laws : DiskLaws d) (tells : IsTrue d.tells
       images = λ image now. left.images image (rests.crash image now);
     }
 
-    left_put : (upto k : ℕ) (lines : List Line) (mid new : D) → IsMissing told book spots (d.reading from) k lines → k < upto → Puts d k lines mid new
-        → LeavesCheckpoints d told book spots upto from mid → LeavesCheckpoints d told book spots upto from new
+    left_put : (upto k : ℕ) (lines : List Line) (mid new : D) → IsMissing shelved (d.reading from) k lines → k < upto → Puts d k lines mid new
+        → LeavesCheckpoints d shelved upto from mid → LeavesCheckpoints d shelved upto from new
     left_put upto k lines mid new is within puts left = record {
       warc = puts.reading.warc ∙ left.warc;
       reading = λ j. read j (cases_order j k);
@@ -202,7 +201,7 @@ module _ {D : Type 0} (d : Ghosts D) (laws : DiskLaws d) (tells : IsTrue d.tells
     }
       where
         put : (image : Image) → HasPut k lines (d.images mid) image → Supplied upto image
-        put = supplied_put told book spots upto (d.reading from) k lines is within (d.images from) (d.images mid) left.images
+        put = supplied_put shelved upto (d.reading from) k lines is within (d.images from) (d.images mid) left.images
 
         apart : (j : ℕ) → j ≢ k → Reads upto new j
         apart j other = ⊎_elim (λ e. inl (puts.reading.others j other ∙ e)) (λ m. inr m) (left.reading j)
@@ -219,7 +218,7 @@ module _ {D : Type 0} (d : Ghosts D) (laws : DiskLaws d) (tells : IsTrue d.tells
         → HasWithout (IsAsBefore (d.reading from) (d.reading new)) k n
     wrote_still k n mid new same = subst (λ (i : Image). HasWithout (IsAsBefore (d.reading from) i) k n) (sym same)
 
-    pub went_still : (k n : ℕ) (mid new : D) → Rests d mid new → Went d told book spots k n from mid → Went d told book spots k n from new
+    pub went_still : (k n : ℕ) (mid new : D) → Rests d mid new → Went d shelved k n from mid → Went d shelved k n from new
     went_still k n mid new rests went = record {
       left = left_still k mid new rests went.left;
       ahead = λ j le. ap (λ (i : Image). checkpoint_of i j) rests.read ∙ went.ahead j le;
@@ -231,7 +230,7 @@ module _ {D : Type 0} (d : Ghosts D) (laws : DiskLaws d) (tells : IsTrue d.tells
     }
 
     -- nothing is known of the book, so no more has to be said than that it is as it was
-    pub went_past : (k n : ℕ) (mid : D) → (IsTrue told → ⊥) → Went d told book spots k n from mid → Went d told book spots (k + 1) n from mid
+    pub went_past : (k n : ℕ) (mid : D) → (IsTrue shelved.told → ⊥) → Went d shelved k n from mid → Went d shelved (k + 1) n from mid
     went_past k n mid untold went = record {
       left = left_wider k (k + 1) mid (omega arith) went.left;
       ahead = λ j le. went.ahead j (omega (arith, le));
@@ -243,16 +242,16 @@ module _ {D : Type 0} (d : Ghosts D) (laws : DiskLaws d) (tells : IsTrue d.tells
     }
 
     -- refused before anything was written
-    stopped_at : (k n : ℕ) (fault : CheckpointFault) (now : D) → Went d told book spots k n from now → Stopped d told book spots k fault from now
+    stopped_at : (k n : ℕ) (fault : CheckpointFault) (now : D) → Went d shelved k n from now → Stopped d shelved k fault from now
     stopped_at k n checkpoints.DiskFault now went = record { left = left_wider k (k + 1) now (omega arith) went.left; settled = went.settled }
     stopped_at k n checkpoints.Memory now went = record { left = went.left; settled = went.settled }
 
     below_or_at : (j k : ℕ) → j < k + 1 → (j < k) ⊎ (j ≡ k)
     below_or_at j k less = ⊎_elim (λ e. inr e) (λ other. inl (⊎_elim (λ l. l) (λ m. absurd (omega (arith, less, m))) other)) (cases_order j k)
 
-    module _ (k n : ℕ) (lines : List Line) (mid new : D) (own : AreLinesFrom told book spots k lines) (went : Went d told book spots k n from mid) where
+    module _ (k n : ℕ) (lines : List Line) (mid new : D) (own : AreLinesFrom shelved k lines) (went : Went d shelved k n from mid) where
       -- it was finished
-      pub went_kept : Rests d mid new → (k ≤ file_count (d.reading mid) Cdxj → StaysFinished d k lines mid new) → Went d told book spots (k + 1) n from new
+      pub went_kept : Rests d mid new → (k ≤ file_count (d.reading mid) Cdxj → StaysFinished d k lines mid new) → Went d shelved (k + 1) n from new
       went_kept rests stays =
           let so_far = went_still k n mid new rests went in
           record {
@@ -260,11 +259,11 @@ module _ {D : Type 0} (d : Ghosts D) (laws : DiskLaws d) (tells : IsTrue d.tells
             ahead = λ j le. so_far.ahead j (omega (arith, le));
             settled = λ so image now j less. ⊎_elim
                 (λ l. so_far.settled so image now j l)
-                (λ e. subst (λ (m : ℕ). HasCheckpoint book m image) (sym e)
+                (λ e. subst (λ (m : ℕ). HasCheckpoint shelved.book m image) (sym e)
                 (record { lines = lines; holds = (stays (went.there so)).is image now; are = own.are so }))
                 (below_or_at j k less);
             there = λ so. omega (arith, (stays (went.there so)).was.there, ap (λ (i : Image). file_count i Cdxj) rests.read);
-            counted = λ so. counts_one (λ j. HasCheckpoint book j (d.reading from)) k n
+            counted = λ so. counts_one (λ j. HasCheckpoint shelved.book j (d.reading from)) k n
                 (record {
                   lines = lines;
                   holds = record {
@@ -282,8 +281,8 @@ module _ {D : Type 0} (d : Ghosts D) (laws : DiskLaws d) (tells : IsTrue d.tells
           first_there was = is_there k lines (d.reading from)
               (subst (λ (bytes : List ℕ). IsCheckpoint k lines bytes) (went.ahead k (omega arith)) was.finished)
 
-      module _ (one : VolumesHaveOneListOfLines) (sealed : k + 1 < length book.volumes) (writes : WritesMissing d k lines mid new) where
-        missed : IsMissing told book spots (d.reading from) k lines
+      module _ (one : VolumesHaveOneListOfLines) (sealed : k + 1 < length shelved.book.volumes) (writes : WritesMissing d k lines mid new) where
+        missed : IsMissing shelved (d.reading from) k lines
         missed = record {
           sealed = sealed;
           own = own;
@@ -291,19 +290,19 @@ module _ {D : Type 0} (d : Ghosts D) (laws : DiskLaws d) (tells : IsTrue d.tells
         }
 
         -- it was written, or that was refused
-        left_writes : LeavesCheckpoints d told book spots (k + 1) from new
+        left_writes : LeavesCheckpoints d shelved (k + 1) from new
         left_writes = left_put (k + 1) k lines mid new missed (omega arith) writes.puts (left_wider k (k + 1) mid (omega arith) went.left)
 
         -- those before it stay finished
-        first_put : IsTrue told → Leaves (d.images new) (FirstAreFinished book k)
+        first_put : IsTrue shelved.told → Leaves (d.images new) (FirstAreFinished shelved.book k)
         first_put so image now j less = ⊎_elim
             (λ was. went.settled so image was j less)
-            (λ has. has_still book j has.before image (has.beside.others j (λ e. omega (arith, less, e)))
+            (λ has. has_still shelved.book j has.before image (has.beside.others j (λ e. omega (arith, less, e)))
             (count_rises k (file_count has.before Cdxj) (file_count image Cdxj) has.beside.count)
             (went.settled so has.before has.was j less))
             (put_images k lines mid new writes.puts image now)
 
-        pub stopped_writes : Stopped d told book spots k checkpoints.DiskFault from new
+        pub stopped_writes : Stopped d shelved k checkpoints.DiskFault from new
         stopped_writes = record { left = left_writes; settled = first_put }
 
         -- those before it are as they were where they were so
@@ -312,17 +311,17 @@ module _ {D : Type 0} (d : Ghosts D) (laws : DiskLaws d) (tells : IsTrue d.tells
             (λ j less e. writes.puts.reading.others j (λ s. omega (arith, less, s)) ∙ e)
             (λ j less e. sym (writes.puts.reading.others j (λ s. omega (arith, less, s))) ∙ e)
 
-        pub went_written : Leaves (d.images new) (HoldsCheckpoint k lines) → d.images new (d.reading new) → Went d told book spots (k + 1) (n + 1) from new
+        pub went_written : Leaves (d.images new) (HoldsCheckpoint k lines) → d.images new (d.reading new) → Went d shelved (k + 1) (n + 1) from new
         went_written only read = record {
           left = left_writes;
           ahead = λ j le. writes.puts.reading.others j (λ e. omega (arith, le, e)) ∙ went.ahead j (omega (arith, le));
           settled = λ so image now j less. ⊎_elim
               (first_put so image now j)
-              (λ e. subst (λ (m : ℕ). HasCheckpoint book m image) (sym e) (record { lines = lines; holds = only image now; are = own.are so }))
+              (λ e. subst (λ (m : ℕ). HasCheckpoint shelved.book m image) (sym e) (record { lines = lines; holds = only image now; are = own.are so }))
               (below_or_at j k less);
           there = λ so. omega (arith, (only (d.reading new) read).there);
-          counted = λ so. misses_one (λ j. HasCheckpoint book j (d.reading from)) k n
-              (missing_in_book told book spots (d.reading from) k lines one so missed) (went.counted so);
+          counted = λ so. misses_one (λ j. HasCheckpoint shelved.book j (d.reading from)) k n
+              (missing_in_book shelved (d.reading from) k lines one so missed) (went.counted so);
           wrote = misses_one (IsAsBefore (d.reading from) (d.reading new)) k n
               (λ same. missed.missing (subst (λ (bytes : List ℕ). IsCheckpoint k lines bytes) same (only (d.reading new) read).finished)) (wrote_put went.wrote);
           none = λ zero_is. absurd (omega (arith, zero_is));
@@ -330,8 +329,8 @@ module _ {D : Type 0} (d : Ghosts D) (laws : DiskLaws d) (tells : IsTrue d.tells
 
     -- a volume more, by what was done of its checkpoint
     pub goes_supplied : (k n : ℕ) (lines : List Line) (mid new : D) (result : Result Bool CheckpointFault) → VolumesHaveOneListOfLines
-        → k + 1 < length book.volumes → AreLinesFrom told book spots k lines → d.images new (d.reading new) → Went d told book spots k n from mid
-        → Supplies d k lines mid new result → GoesTo d told book spots k n from new result
+        → k + 1 < length shelved.book.volumes → AreLinesFrom shelved k lines → d.images new (d.reading new) → Went d shelved k n from mid
+        → Supplies d k lines mid new result → GoesTo d shelved k n from new result
     goes_supplied k n lines mid new (Ok true) one sealed own read went supplied =
         went_written k n lines mid new own went one sealed supplied.0 supplied.1 read
     goes_supplied k n lines mid new (Ok false) one sealed own read went supplied = went_kept k n lines mid new own went supplied.0 supplied.1
@@ -343,24 +342,24 @@ module _ {D : Type 0} (d : Ghosts D) (laws : DiskLaws d) (tells : IsTrue d.tells
         stopped_at k n checkpoints.Memory new (went_still k n mid new supplied went)
 
     -- refused before anything was written
-    pub goes_refused : (k n : ℕ) (mid new : D) (fault : CheckpointFault) → Rests d mid new → Went d told book spots k n from mid
-        → GoesTo d told book spots k n from new (Err fault)
+    pub goes_refused : (k n : ℕ) (mid new : D) (fault : CheckpointFault) → Rests d mid new → Went d shelved k n from mid
+        → GoesTo d shelved k n from new (Err fault)
     goes_refused k n mid new fault rests went = stopped_at k n fault new (went_still k n mid new rests went)
 
   -- at first those were gone through that are known to be finished
-  pub went_none : (told : Bool) (book : Book) (spots : List Spot) (k : ℕ) (from : D) → d.images from (d.reading from)
-      → (IsTrue told → Leaves (d.images from) (FirstAreFinished book k)) → Went d told book spots k 0 from from
-  went_none told book spots k from read first = record {
+  pub went_none : (shelved : Shelved) (k : ℕ) (from : D) → d.images from (d.reading from)
+      → (IsTrue shelved.told → Leaves (d.images from) (FirstAreFinished shelved.book k)) → Went d shelved k 0 from from
+  went_none shelved k from read first = record {
     left = record {
       warc = refl;
       reading = λ j. inl refl;
-      leaves = none_added d.moment d.images_since from (HasSupplied told book spots k (d.reading from) (d.images from));
-      images = λ image now. record { before = image; was = now; goes = goes_itself told book spots k (d.reading from) image };
+      leaves = none_added d.moment d.images_since from (HasSupplied shelved k (d.reading from) (d.images from));
+      images = λ image now. record { before = image; was = now; goes = goes_itself shelved k (d.reading from) image };
     };
     ahead = λ j le. refl;
     settled = first;
-    there = λ so. all_there book (d.reading from) k (first so (d.reading from) read);
-    counted = λ so. none_without (λ j. HasCheckpoint book j (d.reading from)) k (first so (d.reading from) read);
+    there = λ so. all_there shelved.book (d.reading from) k (first so (d.reading from) read);
+    counted = λ so. none_without (λ j. HasCheckpoint shelved.book j (d.reading from)) k (first so (d.reading from) read);
     wrote = none_without (IsAsBefore (d.reading from) (d.reading from)) k (λ j less. refl);
     none = λ zero_is. rests_none from;
   }

@@ -14,7 +14,7 @@ use Rattle.cdxj_line.specs.declared.line.Line.{Line}
 use Rattle.checkpoint.specs.OfVolume.{AreLinesOf}
 use Rattle.volume_lines.specs.OfGroups.{IsFactsOf}
 use Rattle.volume_lines.specs.OfSpots.{AreLinesOfSpots}
-use Rattle.archive_core.specs.Settling.{AreLinesFrom}
+use Rattle.archive_core.specs.Settling.{AreLinesFrom, shelved_as}
 use Rattle.archive_core.proofs.FinishedLaws.{volume_at}
 use Rattle.archive_core.specs.steps.Supplying.{GoesOnBy, Stopped, Went}
 
@@ -99,7 +99,7 @@ found_fact was now same facts k f all found filled less =
 -- the lines of a volume of which this is told
 pub lines_from : (told : Bool) (book : Book) (spots : List Spot) (facts : VolumeFacts) → IsFactsOf book facts → (lines : List Line)
     → AreLinesOfSpots spots facts.first facts.count lines → (IsTrue told → AreLinesOf book facts.volume lines)
-    → AreLinesFrom told book spots facts.volume lines
+    → AreLinesFrom (shelved_as told book spots) facts.volume lines
 lines_from told book spots facts of lines kept are = record {
   of = of.of;
   placed = of.placed;
@@ -121,17 +121,18 @@ at_exit P fault (Ok n) is p = absurd is
 at_exit P fault (Err f) is p = subst (λ (g : CheckpointFault). P (Err g)) (sym is) p
 
 module _ {D : Type 0} (d : Ghosts D) (told : Bool) (was now : Book) (same : now ≡ was) (spots : List Spot) (k n volume : ℕ) (number : volume ≡ k)
-    (from old new : D) (went : Went d told was spots k n from old) where
-  goes : (result : Result Bool CheckpointFault) → GoesOnBy d told now spots volume old new result → GoesOnBy d told was spots k old new result
-  goes result by = subst (λ (m : ℕ). GoesOnBy d told was spots m old new result) number
-      (subst (λ (b : Book). GoesOnBy d told b spots volume old new result) same by)
+    (from old new : D) (went : Went d (shelved_as told was spots) k n from old) where
+  goes : (result : Result Bool CheckpointFault) → GoesOnBy d (shelved_as told now spots) volume old new result
+      → GoesOnBy d (shelved_as told was spots) k old new result
+  goes result by = subst (λ (m : ℕ). GoesOnBy d (shelved_as told was spots) m old new result) number
+      (subst (λ (b : Book). GoesOnBy d (shelved_as told b spots) volume old new result) same by)
 
-  pub goes_next : (wrote : Bool) (more : ℕ) → more ≡ (if wrote then 1 else 0) → GoesOnBy d told now spots volume old new (Ok wrote)
-      → Went d told was spots (k + 1) (n + more) from new
-  goes_next true more is by = subst (λ (m : ℕ). Went d told was spots (k + 1) (n + m) from new) (sym is) (goes (Ok true) by from n went)
+  pub goes_next : (wrote : Bool) (more : ℕ) → more ≡ (if wrote then 1 else 0) → GoesOnBy d (shelved_as told now spots) volume old new (Ok wrote)
+      → Went d (shelved_as told was spots) (k + 1) (n + more) from new
+  goes_next true more is by = subst (λ (m : ℕ). Went d (shelved_as told was spots) (k + 1) (n + m) from new) (sym is) (goes (Ok true) by from n went)
   goes_next false more is by =
       let none : n ≡ n + more = omega (arith, is) in
-      subst (λ (m : ℕ). Went d told was spots (k + 1) m from new) none (goes (Ok false) by from n went)
+      subst (λ (m : ℕ). Went d (shelved_as told was spots) (k + 1) m from new) none (goes (Ok false) by from n went)
 
-  pub goes_no_further : (fault : CheckpointFault) → GoesOnBy d told now spots volume old new (Err fault) → Stopped d told was spots k fault from new
+  pub goes_no_further : (fault : CheckpointFault) → GoesOnBy d (shelved_as told now spots) volume old new (Err fault) → Stopped d (shelved_as told was spots) k fault from new
   goes_no_further fault by = goes (Err fault) by from n went

@@ -55,44 +55,53 @@ Supplies d volume lines old new (Err checkpoints.Memory) = Rests d old new
 
 -- ---- the checkpoints of a book
 
+-- a book as an archive has it: whether it is told, and what is kept of each of its captures
+pub record Shelved : Type 0 where
+  pub told : Bool
+  pub book : Book
+  pub spots : List Spot
+
+abbrev pub shelved_as : Bool → Book → List Spot → Shelved
+shelved_as told book spots = record { told = told; book = book; spots = spots }
+
 -- The lines of a volume: they tell what is kept of its captures, one for each; where the book is told, they are those of the book's volume.
-pub record AreLinesFrom (told : Bool) (book : Book) (spots : List Spot) (k : ℕ) (lines : List Line) : Type 0 where
+pub record AreLinesFrom (shelved : Shelved) (k : ℕ) (lines : List Line) : Type 0 where
   pub of : Volume
-  pub placed : slice_get book.volumes k ≡ Some of
-  pub kept : AreLinesOfSpots spots (first_number book k) (length of.captures) lines
-  pub are : IsTrue told → AreLinesOf book k lines
+  pub placed : slice_get shelved.book.volumes k ≡ Some of
+  pub kept : AreLinesOfSpots shelved.spots (first_number shelved.book k) (length of.captures) lines
+  pub are : IsTrue shelved.told → AreLinesOf shelved.book k lines
 
 -- a sealed volume with these lines, whose checkpoint wasn't finished with them at first
-pub record IsMissing (told : Bool) (book : Book) (spots : List Spot) (first : Image) (k : ℕ) (lines : List Line) : Type 0 where
-  pub sealed : k + 1 < length book.volumes
-  pub own : AreLinesFrom told book spots k lines
+pub record IsMissing (shelved : Shelved) (first : Image) (k : ℕ) (lines : List Line) : Type 0 where
+  pub sealed : k + 1 < length shelved.book.volumes
+  pub own : AreLinesFrom shelved k lines
   pub missing : IsCheckpoint k lines (checkpoint_of first k) → ⊥
 
 -- what stands in the file of such a volume: it is unfinished, or finished with its lines
-pub record IsSupplied (told : Bool) (book : Book) (spots : List Spot) (first : Image) (k : ℕ) (bytes : List ℕ) : Type 0 where
+pub record IsSupplied (shelved : Shelved) (first : Image) (k : ℕ) (bytes : List ℕ) : Type 0 where
   pub lines : List Line
-  pub missed : IsMissing told book spots first k lines
+  pub missed : IsMissing shelved first k lines
   pub own : IsRest commit_byte bytes ⊎ IsCheckpoint k lines bytes
 
 -- An image's checkpoints beside those of an image from before, with the same Warc files: each is as it was, or is of one of so many first
 -- volumes, was missing at first, and is unfinished or finished. No file is there but for volumes of the book, and none is gone.
-pub record GoesWith (told : Bool) (book : Book) (spots : List Spot) (upto : ℕ) (first before image : Image) : Type 0 where
+pub record GoesWith (shelved : Shelved) (upto : ℕ) (first before image : Image) : Type 0 where
   pub warc : warc_files image ≡ warc_files before
-  pub each : (k : ℕ) → (checkpoint_of image k ≡ checkpoint_of before k) ⊎ ((k < upto) × IsSupplied told book spots first k (checkpoint_of image k))
+  pub each : (k : ℕ) → (checkpoint_of image k ≡ checkpoint_of before k) ⊎ ((k < upto) × IsSupplied shelved first k (checkpoint_of image k))
   pub no_fewer : file_count before Cdxj ≤ file_count image Cdxj
-  pub no_more : (file_count image Cdxj ≡ file_count before Cdxj) ⊎ (file_count image Cdxj < length book.volumes)
+  pub no_more : (file_count image Cdxj ≡ file_count before Cdxj) ⊎ (file_count image Cdxj < length shelved.book.volumes)
 
 -- an image that goes with one from before
-pub record HasSupplied (told : Bool) (book : Book) (spots : List Spot) (upto : ℕ) (first : Image) (images : Image → Type 0) (image : Image) : Type 0 where
+pub record HasSupplied (shelved : Shelved) (upto : ℕ) (first : Image) (images : Image → Type 0) (image : Image) : Type 0 where
   pub before : Image
   pub was : images before
-  pub goes : GoesWith told book spots upto first before image
+  pub goes : GoesWith shelved upto first before image
 
--- a book's checkpoints stay right: where those of an image were, those of one that goes with it are
+-- the checkpoints of a book that is told stay right: where those of an image were, those of one that goes with it are
 abbrev pub KeepsSettled : Type 0
 KeepsSettled =
-    (book : Book) (spots : List Spot) (upto : ℕ) (first before image : Image) → GoesWith true book spots upto first before image
-    → HasCheckpointsOf before book → HasCheckpointsOf image book
+    (shelved : Shelved) (upto : ℕ) (first before image : Image) → IsTrue shelved.told → GoesWith shelved upto first before image
+    → HasCheckpointsOf before shelved.book → HasCheckpointsOf image shelved.book
 
 -- nothing more may be opened, at whatever moment a crash stops the call
 pub record OpensNoMore (was is : CrashStates) : Type 0 where
@@ -109,12 +118,12 @@ HasWithout P (suc k) (suc n) = (P k × HasWithout P k (suc n)) ⊎ ((P k → ⊥
 -- The checkpoints of so many of the first volumes were written where they were missing. Of each disk that tells, whatever is told of the book:
 -- the volumes' files are as they were, and so are the checkpoints that weren't missing and those of the other volumes. At each moment, and once
 -- it is done, a crash leaves what it might have left before, or an image that goes with such a one.
-pub record LeavesCheckpoints {D : Type 0} (d : Ghosts D) (told : Bool) (book : Book) (spots : List Spot) (upto : ℕ) (old new : D) : Type 0 where
+pub record LeavesCheckpoints {D : Type 0} (d : Ghosts D) (shelved : Shelved) (upto : ℕ) (old new : D) : Type 0 where
   pub warc : warc_files (d.reading new) ≡ warc_files (d.reading old)
   pub reading : (k : ℕ) → (checkpoint_of (d.reading new) k ≡ checkpoint_of (d.reading old) k)
-      ⊎ ((k < upto) × (lines : List Line) × IsMissing told book spots (d.reading old) k lines)
-  pub leaves : AddsOnly d.moment d.images_since old new (HasSupplied told book spots upto (d.reading old) (d.images old))
-  pub images : Leaves (d.images new) (HasSupplied told book spots upto (d.reading old) (d.images old))
+      ⊎ ((k < upto) × (lines : List Line) × IsMissing shelved (d.reading old) k lines)
+  pub leaves : AddsOnly d.moment d.images_since old new (HasSupplied shelved upto (d.reading old) (d.images old))
+  pub images : Leaves (d.images new) (HasSupplied shelved upto (d.reading old) (d.images old))
 
 -- how many of the first volumes may have been written, where so many were gone through: one more where the disk failed
 abbrev pub reach : ℕ → Result ℕ CheckpointFault → ℕ
@@ -145,7 +154,7 @@ pub record SettlesOn {D : Type 0} (d : Ghosts D) (was is : Holdings D) (result :
   pub extent : extent_of is.journal ≡ extent_of was.journal
   pub faults : CountsDisk (d.faults (disk_of was.journal)) (d.faults (disk_of is.journal)) result
   pub leaves : IsTrue d.tells
-      → LeavesCheckpoints d was.told was.book was.spots (reach is.settled result) (disk_of was.journal) (disk_of is.journal)
+      → LeavesCheckpoints d (shelved_as was.told was.book was.spots) (reach is.settled result) (disk_of was.journal) (disk_of is.journal)
   pub wrote : IsTrue d.tells → IfOk result
       (HasWithout (IsAsBefore (d.reading (disk_of was.journal)) (d.reading (disk_of is.journal))) (length was.book.volumes - 1))
   pub first : IsTrue was.told → Leaves (d.images (disk_of is.journal)) (FirstAreFinished was.book is.settled)

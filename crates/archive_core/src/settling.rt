@@ -8,7 +8,7 @@ ghost use Rattle.archive_volumes.specs.Spots.{AreSpotsOf, ArePlaced, AreWithin};
 ghost use Rattle.archive_volumes.specs.Volumes.{HoldsBook, IsMeasured};
 ghost use Rattle.volume_lines.specs.OfGroups.{IsFactsOf};
 ghost use Rattle.archive_core.specs.Finished.{FirstAreFinished};
-ghost use Rattle.archive_core.specs.Settling.{SettlesOn};
+ghost use Rattle.archive_core.specs.Settling.{SettlesOn, shelved_as};
 ghost use Rattle.archive_core.specs.steps.Supplying.{GoesOnBy, GoesThrough, KeepsVolumes, KnowsMore, checkpoint_fault_of};
 
 use crate::Archive;
@@ -56,7 +56,7 @@ fn settle_volumes<D: Disk>(
     requires sealed { settled.old ≤ length (book_of volumes.old.held).volumes - 1 }
     requires first { IsTrue told.now.value → Leaves (D.images (disk_of volumes.old.journal)) (FirstAreFinished (book_of volumes.old.held) settled.old) }
     ensures keeps { KeepsVolumes D.Disk told.now.value volumes.old volumes.new }
-    ensures went { IsTrue D.tells → GoesThrough D.Disk told.now.value (book_of volumes.old.held) spots.now settled.new
+    ensures went { IsTrue D.tells → GoesThrough D.Disk (shelved_as told.now.value (book_of volumes.old.held) spots.now) settled.new
         (disk_of volumes.old.journal) (disk_of volumes.new.journal) result }
     ensures knows { KnowsMore (book_of volumes.old.held) settled.old settled.new result }
     ensures unasked { settled.old ≡ length (book_of volumes.old.held).volumes - 1 → OnOk result (volumes.new ≡ volumes.old) }
@@ -100,7 +100,7 @@ fn settle_volume<D: Disk>(
     requires small { facts.first + facts.count < 2 ^ 32 }
     requires sealed { facts.volume + 1 < length (book_of volumes.old.held).volumes }
     ensures keeps { KeepsVolumes D.Disk told.now.value volumes.old volumes.new }
-    ensures went { IsTrue D.tells → GoesOnBy D.Disk told.now.value (book_of volumes.old.held) spots.now facts.volume
+    ensures went { IsTrue D.tells → GoesOnBy D.Disk (shelved_as told.now.value (book_of volumes.old.held) spots.now) facts.volume
         (disk_of volumes.old.journal) (disk_of volumes.new.journal) result }
     ensures faults { CountsDisk (D.faults (disk_of volumes.old.journal)) (D.faults (disk_of volumes.new.journal)) result }
 {

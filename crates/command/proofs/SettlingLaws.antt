@@ -6,7 +6,7 @@ use Rattle.archive_core.proofs.FinishedLaws.{same_checkpoints_of}
 use Rattle.archive_core.specs.Holdings.{Holdings, contents_of}
 use Rattle.archive_core.specs.Known.{HasCheckpointsOfKnown, IsReopenedKnown, told_at}
 use Rattle.archive_core.specs.Finished.{IsSettled}
-use Rattle.archive_core.specs.Settling.{GoesWith, KeepsSettled, OpensNoMore, Settles, SettlesOn, reach}
+use Rattle.archive_core.specs.Settling.{KeepsSettled, OpensNoMore, Settles, SettlesOn, reach, shelved_as}
 use Rattle.archive_volumes.specs.Spots.{AreSpotsOf}
 use Rattle.archive_volumes.specs.Volumes.{OpensNear, crash_of, muted}
 use Rattle.archive_opening.specs.Opening.{IsIn}
@@ -65,10 +65,9 @@ module _ {D : Type 0} (disks : Disks D) (stays : KeepsSettled) (before after : H
       → Leaves (disks.images (disk_of after.journal)) (λ image. HasCheckpointsOf image book)
   right_still are image left =
       let by = (h.leaves tells).images image left in
-      let goes : GoesWith true book before.spots (reach after.settled answer) (disks.reading (disk_of before.journal)) by.before image =
-      subst (λ (b : Book). GoesWith true b before.spots (reach after.settled answer) (disks.reading (disk_of before.journal)) by.before image) (sym seen)
-      (subst (λ (t : Bool). GoesWith t before.book before.spots (reach after.settled answer) (disks.reading (disk_of before.journal)) by.before image) told by.goes) in
-      stays book before.spots (reach after.settled answer) (disks.reading (disk_of before.journal)) by.before image goes (are by.before by.was)
+      subst (HasCheckpointsOf image) (sym seen)
+      (stays (shelved_as before.told before.book before.spots) (reach after.settled answer) (disks.reading (disk_of before.journal)) by.before image told by.goes
+      (subst (HasCheckpointsOf by.before) seen (are by.before by.was)))
 
   stands_still : Leaves (disks.images (disk_of before.journal)) (λ image. ImageStandsFor image book)
       → Leaves (disks.images (disk_of after.journal)) (λ image. ImageStandsFor image book)

@@ -1,5 +1,5 @@
 -- What an archive promises where checkpoints are written is the machine's step.
-use Rattle.std.proofs.Common.{◌≡◌, ℕ, ◌-◌, ◌<◌, Bool, true, IsTrue, List, [], get_or, Result, Ok, Err, refl, sym, ap, subst, ◌∙◌, inl, ⊎_elim, arith}
+use Rattle.std.proofs.Common.{◌≡◌, ℕ, ◌-◌, ◌<◌, true, IsTrue, List, [], get_or, Result, Ok, Err, refl, sym, ap, subst, ◌∙◌, inl, ⊎_elim, arith}
 use Rattle.std.specs.Prelude.{IfOk}
 use Rattle.capture.specs.declared.book.Book.{Book}
 use Rattle.capture.specs.declared.limits.Limits.{Limits}
@@ -15,7 +15,7 @@ use Rattle.archive_shelf.specs.Openings.{IsEarlier, Keeps}
 use Rattle.archive_shelf.specs.Told.{ShowsItsBook}
 use Rattle.archive_core.specs.Finished.{HasCheckpoint, IsSettled}
 use Rattle.archive_core.specs.Holdings.{Holdings}
-use Rattle.archive_core.specs.Settling.{HasSupplied, IsSupplied, HasWithout, KeepsSettled, Settles, SettlesOn, reach}
+use Rattle.archive_core.specs.Settling.{HasSupplied, IsSupplied, HasWithout, KeepsSettled, Settles, SettlesOn, Shelved, reach, shelved_as}
 use Rattle.archive_core.specs.Told.{told_of}
 use Rattle.event_core.proofs.ImageLaws.{count_files, file_at, finished_of, finished_sealed, right_files, right_image}
 use Rattle.event_core.proofs.StandLaws.{kept_state}
@@ -62,20 +62,22 @@ module _ {D : Type 0} (d : Ghosts D) (was is : Holdings D) (result : Result ℕ 
   first_now : d.images old_disk first
   first_now = basis.reads d_tells
 
+  abbrev as_shelved : Shelved
+  as_shelved = shelved_as was.told s.book was.spots
+
   abbrev Supplied : Image → Type 0
-  Supplied = HasSupplied true s.book was.spots (reach is.settled result) first (d.images old_disk)
+  Supplied = HasSupplied as_shelved (reach is.settled result) first (d.images old_disk)
 
   supplied : (image : Image) → d.images (disk_of is.journal) image → Supplied image
   supplied image now =
-      subst (λ (b : Bool). HasSupplied b s.book was.spots (reach is.settled result) first (d.images old_disk) image) told
-      (subst (λ (b : Book). HasSupplied was.told b was.spots (reach is.settled result) first (d.images old_disk) image) stands.book
-      ((h.leaves d_tells).images image now))
+      subst (λ (b : Book). HasSupplied (shelved_as was.told b was.spots) (reach is.settled result) first (d.images old_disk) image) stands.book
+      ((h.leaves d_tells).images image now)
 
   new_right : (image : Image) → d.images (disk_of is.journal) image → AreRight s.book (cdxj_files image)
   new_right image now =
       let by = supplied image now in
       right_files s.book image
-      (basis.stays s.book was.spots (reach is.settled result) first by.before image by.goes (right_image s.book by.before (old_right by.before by.was)))
+      (basis.stays as_shelved (reach is.settled result) first by.before image told by.goes (right_image s.book by.before (old_right by.before by.was)))
 
   -- a checkpoint that was finished, in an image from before and in what a read gave, stays so
   finished_stays : (image : Image) (by : Supplied image) (k : ℕ) → HasFinished (cdxj_files by.before) k → HasFinished (cdxj_files first) k
@@ -85,9 +87,9 @@ module _ {D : Type 0} (d : Ghosts D) (was is : Holdings D) (result : Result ℕ 
         lines = before.lines;
         is = subst (λ (bytes : List ℕ). IsCheckpoint k before.lines bytes) (sym (file_at by.before k) ∙ sym same ∙ file_at image k) before.is;
       })
-      (λ (new : (k < reach is.settled result) × IsSupplied true s.book was.spots first k (checkpoint_of image k)).
+      (λ (new : (k < reach is.settled result) × IsSupplied as_shelved first k (checkpoint_of image k)).
       let same : reading.lines ≡ new.1.lines =
-      basis.one s.book k reading.lines new.1.lines (old_right first first_now k reading.lines reading.is).1 (new.1.missed.own.are refl) in
+      basis.one s.book k reading.lines new.1.lines (old_right first first_now k reading.lines reading.is).1 (new.1.missed.own.are told) in
       absurd (new.1.missed.missing
       (subst (λ (bytes : List ℕ). IsCheckpoint k new.1.lines bytes) (sym (file_at first k))
       (subst (λ (lines : List Line). IsCheckpoint k lines (get_or (cdxj_files first) k [])) same reading.is))))

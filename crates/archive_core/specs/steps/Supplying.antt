@@ -1,5 +1,5 @@
 -- How the checkpoints of volumes are written one behind the other.
-use Rattle.std.specs.Prelude.{◌≡◌, ℕ, ◌+◌, ◌-◌, ◌≤◌, Bool, true, false, IsTrue, List, length, IfOk, OnOk, Result, Ok, Err}
+use Rattle.std.specs.Prelude.{◌≡◌, ℕ, ◌+◌, ◌-◌, ◌≤◌, Bool, true, false, IsTrue, length, IfOk, OnOk, Result, Ok, Err}
 use Rattle.capture.specs.declared.book.Book.{Book}
 use Rattle.disk_model.specs.Crash.{Leaves}
 use Rattle.disk_model.specs.Image.{file_count}
@@ -14,10 +14,9 @@ use Rattle.archive_volumes.specs.Held.{book_of}
 use Rattle.archive_volumes.specs.Volumes.{HoldsBook, crash_of}
 use Rattle.archive_volumes.specs.declared.part.ReadFault.{ReadFault}
 use Rattle.archive_volumes.specs.declared.part.ReadFault.TheVariants as reads
-use Rattle.archive_volumes.specs.declared.spot.Spot.{Spot}
 use Rattle.archive_volumes.specs.declared.volumes.Volumes.{Volumes}
 use Rattle.archive_core.specs.Finished.{FirstAreFinished, HasCheckpoint}
-use Rattle.archive_core.specs.Settling.{HasWithout, IsAsBefore, LeavesCheckpoints, OpensNoMore, reach}
+use Rattle.archive_core.specs.Settling.{HasWithout, IsAsBefore, LeavesCheckpoints, OpensNoMore, Shelved, reach}
 
 -- the fault of reading, as that of a checkpoint
 abbrev pub checkpoint_fault_of : ReadFault → CheckpointFault
@@ -34,35 +33,35 @@ pub record KeepsVolumes {D : Type 0} (d : Ghosts D) (told : Bool) (old new : Vol
 
 -- The first volumes were gone through, from one state of the disk on: so many of their checkpoints were missing, and were written. The files
 -- of the other volumes are as they were.
-pub record Went {D : Type 0} (d : Ghosts D) (told : Bool) (book : Book) (spots : List Spot) (k n : ℕ) (from now : D) : Type 0 where
-  pub left : LeavesCheckpoints d told book spots k from now
+pub record Went {D : Type 0} (d : Ghosts D) (shelved : Shelved) (k n : ℕ) (from now : D) : Type 0 where
+  pub left : LeavesCheckpoints d shelved k from now
   pub ahead : (j : ℕ) → k ≤ j → checkpoint_of (d.reading now) j ≡ checkpoint_of (d.reading from) j
-  pub settled : IsTrue told → Leaves (d.images now) (FirstAreFinished book k)
-  pub there : IsTrue told → k ≤ file_count (d.reading now) Cdxj
-  pub counted : IsTrue told → HasWithout (λ j. HasCheckpoint book j (d.reading from)) k n
+  pub settled : IsTrue shelved.told → Leaves (d.images now) (FirstAreFinished shelved.book k)
+  pub there : IsTrue shelved.told → k ≤ file_count (d.reading now) Cdxj
+  pub counted : IsTrue shelved.told → HasWithout (λ j. HasCheckpoint shelved.book j (d.reading from)) k n
   pub wrote : HasWithout (IsAsBefore (d.reading from) (d.reading now)) k n
   pub none : n ≡ 0 → Rests d from now
 
 -- it was refused when so many were gone through: those that were finished stay
-pub record Stopped {D : Type 0} (d : Ghosts D) (told : Bool) (book : Book) (spots : List Spot) (k : ℕ) (fault : CheckpointFault) (from now : D) : Type 0 where
-  pub left : LeavesCheckpoints d told book spots (reach k (Err fault)) from now
-  pub settled : IsTrue told → Leaves (d.images now) (FirstAreFinished book k)
+pub record Stopped {D : Type 0} (d : Ghosts D) (shelved : Shelved) (k : ℕ) (fault : CheckpointFault) (from now : D) : Type 0 where
+  pub left : LeavesCheckpoints d shelved (reach k (Err fault)) from now
+  pub settled : IsTrue shelved.told → Leaves (d.images now) (FirstAreFinished shelved.book k)
 
 -- one volume more was gone through, or it was refused
-abbrev pub GoesTo : {D : Type 0} → Ghosts D → Bool → Book → List Spot → ℕ → ℕ → D → D → Result Bool CheckpointFault → Type 0
-GoesTo d told book spots k n from new (Ok true) = Went d told book spots (k + 1) (n + 1) from new
-GoesTo d told book spots k n from new (Ok false) = Went d told book spots (k + 1) n from new
-GoesTo d told book spots k n from new (Err fault) = Stopped d told book spots k fault from new
+abbrev pub GoesTo : {D : Type 0} → Ghosts D → Shelved → ℕ → ℕ → D → D → Result Bool CheckpointFault → Type 0
+GoesTo d shelved k n from new (Ok true) = Went d shelved (k + 1) (n + 1) from new
+GoesTo d shelved k n from new (Ok false) = Went d shelved (k + 1) n from new
+GoesTo d shelved k n from new (Err fault) = Stopped d shelved k fault from new
 
 -- and so it goes on wherever it began
-abbrev pub GoesOnBy : {D : Type 0} → Ghosts D → Bool → Book → List Spot → ℕ → D → D → Result Bool CheckpointFault → Type 0
-GoesOnBy {D} d told book spots k old new result =
-    (from : D) (n : ℕ) → Went d told book spots k n from old → GoesTo d told book spots k n from new result
+abbrev pub GoesOnBy : {D : Type 0} → Ghosts D → Shelved → ℕ → D → D → Result Bool CheckpointFault → Type 0
+GoesOnBy {D} d shelved k old new result =
+    (from : D) (n : ℕ) → Went d shelved k n from old → GoesTo d shelved k n from new result
 
 -- all volumes but the last were gone through, or it was refused when so many were
-abbrev pub GoesThrough : {D : Type 0} → Ghosts D → Bool → Book → List Spot → ℕ → D → D → Result ℕ CheckpointFault → Type 0
-GoesThrough d told book spots k old new (Ok n) = Went d told book spots k n old new
-GoesThrough d told book spots k old new (Err fault) = Stopped d told book spots k fault old new
+abbrev pub GoesThrough : {D : Type 0} → Ghosts D → Shelved → ℕ → D → D → Result ℕ CheckpointFault → Type 0
+GoesThrough d shelved k old new (Ok n) = Went d shelved k n old new
+GoesThrough d shelved k old new (Err fault) = Stopped d shelved k fault old new
 
 -- how many are known to be finished: none is forgotten, and after success all are; no more were written than were gone through
 pub record KnowsMore {E : Type 0} (book : Book) (was is : ℕ) (result : Result ℕ E) : Type 0 where

@@ -4,6 +4,7 @@ use Rattle.warc_journal.specs.Journals.{disk_of}
 use Rattle.archive_volumes.proofs.ChangeLaws.{DiskLaws}
 use Rattle.archive_volumes.specs.Held.{book_of}
 use Rattle.volume_lines.specs.OfSpots.{AreLinesOfSpots}
+use Rattle.archive_core.specs.Settling.{shelved_as}
 use Rattle.archive_core.proofs.KeepingLaws.{keeps_beside, keeps_reads, keeps_then, warc_supplied}
 use Rattle.archive_core.proofs.SupplyingLaws.{goes_refused, goes_supplied, went_past, went_still}
 use Rattle.archive_core.proofs.WalkingLaws.{lines_from}
@@ -30,7 +31,7 @@ returns-in-Ok-Some-clause-went g c = λ tells from n went.
     let reads = c.in-Ok-Some.ensures.reads in
     let mid = c.lines_of.new.volumes in
     let book = book_of c.args.volumes.now.held in
-    goes_supplied g.D.Disk (disk_laws g) tells c.args.told.now.value book c.args.spots.now from c.args.facts.volume n c.as_slice.result.now
+    goes_supplied g.D.Disk (disk_laws g) tells (shelved_as c.args.told.now.value book c.args.spots.now) from c.args.facts.volume n c.as_slice.result.now
     (disk_of mid.journal) (disk_of c.supply.new.journal) c.supply.result c.volumes_have_one_list_of_lines.ensures.one c.requires.sealed
     (lines_from c.args.told.now.value book c.args.spots.now c.args.facts c.requires.there c.as_slice.result.now
     (subst (AreLinesOfSpots c.args.spots.now c.args.facts.first c.args.facts.count) (sym c.as_slice.ensures.value)
@@ -38,7 +39,7 @@ returns-in-Ok-Some-clause-went g c = λ tells from n went.
     (λ so. subst (AreLinesOf book c.args.facts.volume) (sym c.as_slice.ensures.value)
     (rw c.in-Ok-Some.field-0-is at (c.in-Ok-Some.ensures.exact so))))
     (g.met.D.Disk.reading_is_image (disk_of c.supply.new.journal) tells)
-    (went_still g.D.Disk (disk_laws g) tells c.args.told.now.value book c.args.spots.now from c.args.facts.volume n (disk_of c.args.volumes.now.journal) (disk_of mid.journal)
+    (went_still g.D.Disk (disk_laws g) tells (shelved_as c.args.told.now.value book c.args.spots.now) from c.args.facts.volume n (disk_of c.args.volumes.now.journal) (disk_of mid.journal)
     (reads.rests tells) went)
     (c.supply.ensures.supplies tells)
 
@@ -46,14 +47,14 @@ pub returns-in-Ok-None-clause-went : goal.returns-in-Ok-None-clause-went
 returns-in-Ok-None-clause-went g c = λ tells from n went.
     let mid = c.lines_of.new.volumes in
     let book = book_of c.args.volumes.now.held in
-    went_past g.D.Disk (disk_laws g) tells c.args.told.now.value book c.args.spots.now from c.args.facts.volume n (disk_of mid.journal)
+    went_past g.D.Disk (disk_laws g) tells (shelved_as c.args.told.now.value book c.args.spots.now) from c.args.facts.volume n (disk_of mid.journal)
     (λ so. rw c.in-Ok-None.field-0-is at (c.in-Ok-None.ensures.exact so))
-    (went_still g.D.Disk (disk_laws g) tells c.args.told.now.value book c.args.spots.now from c.args.facts.volume n (disk_of c.args.volumes.now.journal) (disk_of mid.journal)
+    (went_still g.D.Disk (disk_laws g) tells (shelved_as c.args.told.now.value book c.args.spots.now) from c.args.facts.volume n (disk_of c.args.volumes.now.journal) (disk_of mid.journal)
     (c.in-Ok-None.ensures.reads.rests tells) went)
 
 pub returns-in-Err-clause-went : goal.returns-in-Err-clause-went
 returns-in-Err-clause-went g c = λ tells from n went.
     let mid = c.lines_of.new.volumes in
     let book = book_of c.args.volumes.now.held in
-    goes_refused g.D.Disk (disk_laws g) tells c.args.told.now.value book c.args.spots.now from c.args.facts.volume n (disk_of c.args.volumes.now.journal) (disk_of mid.journal)
+    goes_refused g.D.Disk (disk_laws g) tells (shelved_as c.args.told.now.value book c.args.spots.now) from c.args.facts.volume n (disk_of c.args.volumes.now.journal) (disk_of mid.journal)
     c.fault_of.result (c.in-Err.ensures.reads.rests tells) went

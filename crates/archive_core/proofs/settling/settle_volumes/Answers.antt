@@ -6,6 +6,7 @@ use Rattle.warc_journal.specs.Journals.{disk_of}
 use Rattle.archive_volumes.proofs.ChangeLaws.{DiskLaws}
 use Rattle.archive_volumes.specs.Held.{book_of}
 use Rattle.archive_volumes.specs.declared.volume_facts.VolumeFacts.{VolumeFacts}
+use Rattle.archive_core.specs.Settling.{shelved_as}
 use Rattle.archive_core.specs.steps.Supplying.{GoesThrough, KnowsMore}
 use Rattle.archive_core.proofs.KeepingLaws.{keeps_itself, keeps_then}
 use Rattle.archive_core.proofs.PieceLaws.{few_volumes}
@@ -64,7 +65,7 @@ returns-in_err-wrote-clause-went g c = λ tells.
     let same = ap book_of c.volumes.invariant.keeps.held in
     let number = (found_fact book (book_of c.volumes.volumes.held) same c.in_ok-facts.facts.items
     c.volumes.settled c.index.result.now c.in_ok-facts.ensures c.index.ensures c.requires.measured.filled test).volume_is in
-    at_exit (λ (r : Result ℕ CheckpointFault). GoesThrough g.D.Disk c.args.told.now.value book c.args.spots.now c.volumes.settled (disk_of c.args.volumes.now.journal) (disk_of c.settle_volume.new.volumes.journal) r)
+    at_exit (λ (r : Result ℕ CheckpointFault). GoesThrough g.D.Disk (shelved_as c.args.told.now.value book c.args.spots.now) c.volumes.settled (disk_of c.args.volumes.now.journal) (disk_of c.settle_volume.new.volumes.journal) r)
     _ c.from_residual-in_err-wrote.result c.from_residual-in_err-wrote.ensures.1
     (goes_no_further g.D.Disk c.args.told.now.value book (book_of c.volumes.volumes.held) same c.args.spots.now c.volumes.settled c.volumes.written c.index.result.now.volume number
     (disk_of c.args.volumes.now.journal) (disk_of c.volumes.volumes.journal) (disk_of c.settle_volume.new.volumes.journal) (c.volumes.invariant.went tells)
@@ -110,7 +111,7 @@ volumes-preserved g c =
 pub volumes-init : goal.volumes-init
 volumes-init g c = record {
   keeps = keeps_itself g.D.Disk (disk_laws g) c.args.told.now.value c.args.volumes.now c.requires.holds;
-  went = λ tells. went_none g.D.Disk (disk_laws g) tells c.args.told.now.value (book_of c.args.volumes.now.held) c.args.spots.now c.args.settled.now (disk_of c.args.volumes.now.journal)
+  went = λ tells. went_none g.D.Disk (disk_laws g) tells (shelved_as c.args.told.now.value (book_of c.args.volumes.now.held) c.args.spots.now) c.args.settled.now (disk_of c.args.volumes.now.journal)
       (g.met.D.Disk.reading_is_image (disk_of c.args.volumes.now.journal) tells) c.requires.first;
   faults = refl;
   within = omega (arith, c.requires.sealed, ap (λ (l : List VolumeFacts). length l) c.in_ok-facts.ensures ∙ many_facts (book_of c.args.volumes.now.held).volumes 0 0);

@@ -1,6 +1,7 @@
 use Rattle.std.proofs.Common.{◌≡◌, ◌+◌, ◌-◌, ◌≤◌, IsTrue, length}
 use Rattle.warc_journal.specs.Journals.{disk_of}
 use Rattle.archive_volumes.specs.Held.{book_of}
+use Rattle.archive_core.specs.Settling.{shelved_as}
 use Rattle.archive_core.specs.steps.Supplying.{KeepsVolumes, Went}
 use Rattle.archive_core.proofs.settling.settle_volumes.Given as goal
 
@@ -8,7 +9,7 @@ abbrev pub invariant-volumes : goal.invariant-volumes
 invariant-volumes g l =
     record {
       keeps : KeepsVolumes g.D.Disk l.fn.told.value l.fn.volumes l.volumes;
-      went : IsTrue g.D.Disk.tells → Went g.D.Disk l.fn.told.value (book_of l.fn.volumes.held) l.fn.spots l.settled l.written
+      went : IsTrue g.D.Disk.tells → Went g.D.Disk (shelved_as l.fn.told.value (book_of l.fn.volumes.held) l.fn.spots) l.settled l.written
           (disk_of l.fn.volumes.journal) (disk_of l.volumes.journal);
       faults : g.D.Disk.faults (disk_of l.volumes.journal) ≡ g.D.Disk.faults (disk_of l.fn.volumes.journal);
       within : l.settled ≤ length l.facts.items - 1;

@@ -4,7 +4,7 @@ use Rattle.archive_volumes.proofs.ChangeLaws.{DiskLaws}
 use Rattle.archive_volumes.specs.Held.{book_of}
 use Rattle.archive_volumes.specs.declared.spot.Spot.{Spot}
 use Rattle.archive_core.specs.Holdings.{Holdings}
-use Rattle.archive_core.specs.Settling.{SettlesOn}
+use Rattle.archive_core.specs.Settling.{SettlesOn, shelved_as}
 use Rattle.archive_core.specs.View.{holdings_of}
 use Rattle.archive_core.specs.steps.Supplying.{GoesThrough}
 use Rattle.archive_core.proofs.SettlingLaws.{over, settled_archive, settles_on}
@@ -18,7 +18,7 @@ disk_laws g = record { earlier = g.met.D.Disk.earlier; now_counts = g.met.D.Disk
 pub invariant_of-self : goal.invariant_of-self
 invariant_of-self g c =
     settled_archive g.D.Disk (disk_laws g) (holdings_of c.self.inside) c.self.inside.volumes c.settle_volumes.new.volumes c.self.inside.settled c.settle_volumes.new.settled
-    c.settle_volumes.ensures.keeps c.self.invariant c.settle_volumes.result (λ tells. subst (λ (l : List Spot). GoesThrough g.D.Disk c.self.inside.told.value (book_of c.self.inside.volumes.held) l c.settle_volumes.new.settled
+    c.settle_volumes.ensures.keeps c.self.invariant c.settle_volumes.result (λ tells. subst (λ (l : List Spot). GoesThrough g.D.Disk (shelved_as c.self.inside.told.value (book_of c.self.inside.volumes.held) l) c.settle_volumes.new.settled
     (disk_of c.self.inside.volumes.journal) (disk_of c.settle_volumes.new.volumes.journal) c.settle_volumes.result) c.as_slice.ensures.value
     (c.settle_volumes.ensures.went tells)) c.settle_volumes.ensures.knows
 
@@ -27,7 +27,7 @@ returns g c =
     let new = c.settle_volumes.new.volumes in
     subst (λ (held : Holdings _). SettlesOn g.D.Disk held (over (holdings_of c.self.inside) new c.settle_volumes.new.settled) c.settle_volumes.result) c.self.view_is
     (settles_on g.D.Disk (disk_laws g) (holdings_of c.self.inside) c.self.inside.volumes new c.self.inside.settled c.settle_volumes.new.settled
-    c.settle_volumes.ensures.keeps c.self.invariant c.settle_volumes.result (λ tells. subst (λ (l : List Spot). GoesThrough g.D.Disk c.self.inside.told.value (book_of c.self.inside.volumes.held) l c.settle_volumes.new.settled
+    c.settle_volumes.ensures.keeps c.self.invariant c.settle_volumes.result (λ tells. subst (λ (l : List Spot). GoesThrough g.D.Disk (shelved_as c.self.inside.told.value (book_of c.self.inside.volumes.held) l) c.settle_volumes.new.settled
     (disk_of c.self.inside.volumes.journal) (disk_of c.settle_volumes.new.volumes.journal) c.settle_volumes.result) c.as_slice.ensures.value
     (c.settle_volumes.ensures.went tells)) c.settle_volumes.ensures.knows
     (λ tells. g.met.D.Disk.reading_is_image (disk_of new.journal) tells) c.settle_volumes.ensures.unasked c.settle_volumes.ensures.faults)
