@@ -60,7 +60,7 @@ use Rattle.archive_pieces.specs.PieceFaults.{is_take_fault}
 use Rattle.archive_pieces.specs.PieceParts.{book_by, room_by}
 use Rattle.archive_pieces.specs.PieceReady.{IsReadyGroup, IsWithinBounds, MakesRoom, MayHold, RefersSo, end_in}
 use Rattle.archive_core.specs.Shown.{numbered, numbers_from}
-use Rattle.archive_core.specs.TakingPieces.{IsUntouched, Puts, disk_failed}
+use Rattle.archive_core.specs.TakingPieces.{IsUntouched, Puts, disk_failed, parts_as}
 use Rattle.archive_core.specs.Texts.{texts_room}
 use Rattle.archive_pieces.specs.declared.fault.PieceFault.{PieceFault}
 use Rattle.archive_pieces.specs.declared.fault.PieceFault.TheVariants as pieces
@@ -89,10 +89,10 @@ untouched d was is journal book index limits found told = record {
 
 -- what a `?` hands out is want of memory
 pub memory_exit : {D : Type 0} (d : Ghosts D) (was is : Holdings D) (text : List ℕ) (group : Group) (first begins : Option ℕ) → IsUntouched was is
-    → (result : Result ℕ PieceFault) → IsErrAnd result (λ fault. fault ≡ pieces.Memory) → Puts d was is text group first begins result
+    → (result : Result ℕ PieceFault) → IsErrAnd result (λ fault. fault ≡ pieces.Memory) → Puts d was is (parts_as text group first begins) result
 memory_exit d was is text group first begins same (Ok number) fault = absurd fault
 memory_exit d was is text group first begins same (Err other) fault =
-    subst (λ (f : PieceFault). Puts d was is text group first begins (Err f)) (sym fault) same
+    subst (λ (f : PieceFault). Puts d was is (parts_as text group first begins) (Err f)) (sym fault) same
 
 pub memory_faults : {D : Type 0} (d : Ghosts D) (was is : Journal D) → is ≡ was → (result : Result ℕ PieceFault)
     → IsErrAnd result (λ fault. fault ≡ pieces.Memory) → CountsIf (is_take_fault result) (d.faults (disk_of was)) (d.faults (disk_of is))
@@ -411,7 +411,7 @@ module _ {D : Type 0} (d : Ghosts D) (basis : StoringBasis) (reading : Laws) (wa
             → (IsTrue d.tells → WritesTexts {T = T} {E = E} d now.journal journal (texts_with (texts d now.journal) ready.prepared)
             (with_more (texts_with (texts d now.journal) ready.prepared) ready.group) (Err fault))
             → Puts d (in_volumes was now) (record was { journal = journal; book = after; table = table; index = index; spots = spots })
-            text group first begins (Err pieces.DiskFault)
+            (parts_as text group first begins) (Err pieces.DiskFault)
         refused_puts {T} {E} fault writes wrote =
             let told_writes : Writes {T = T} {E = E} (muted was.told d) (disk_of now.journal) (disk_of journal) book (room_by book begins)
             (book_by book begins group first) after (Err fault)
@@ -481,7 +481,7 @@ module _ {D : Type 0} (d : Ghosts D) (basis : StoringBasis) (reading : Laws) (wa
             (with_more (texts_with (texts d now.journal) ready.prepared) ready.group) (Ok value))
             → (answer : ℕ) → answer ≡ length (captures (book_of now.held))
             → Puts d (in_volumes was now) (record was { journal = journal; book = after; table = table; index = index; spots = spots; revisits = revisits })
-            text group first begins (Ok answer)
+            (parts_as text group first begins) (Ok answer)
         stored_puts {T} {E} value writes ends wrote answer number_is =
             let whole : after ≡ book_by book begins group first = with_it ∙ after_same in
             let told_writes : Writes {T = T} {E = E} (muted was.told d) (disk_of now.journal) (disk_of journal) book (room_by book begins) after after (Ok value)

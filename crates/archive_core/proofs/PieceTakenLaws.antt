@@ -40,7 +40,7 @@ use Rattle.archive_pieces.specs.PieceOriginals.{FindsOriginal}
 use Rattle.archive_pieces.specs.PieceParts.{HasNoParts, IsNoPiece, IsReadAs, book_by, room_by}
 use Rattle.archive_pieces.specs.PieceReady.{IsPastBounds, IsWithinBounds, MayHold, RefersSo, end_by, end_in}
 use Rattle.archive_core.specs.Stores.{Admits}
-use Rattle.archive_core.specs.TakingPieces.{HasPut, IsUnput, IsUntouched, PieceLeaves, Puts, Remains, TakesPiece, disk_failed, took}
+use Rattle.archive_core.specs.TakingPieces.{HasPut, IsUnput, IsUntouched, PieceLeaves, Puts, Remains, TakesPiece, disk_failed, parts_as, took}
 use Rattle.archive_core.specs.Texts.{texts_room}
 use Rattle.archive_core.specs.Told.{told_of, told_on}
 use Rattle.archive_pieces.specs.declared.fault.PieceFault.{PieceFault}
@@ -170,10 +170,10 @@ module _ {D : Type 0} (d : Ghosts D) (laws : DiskLaws d) (was mid is : Holdings 
       (subst (λ (room : List (List ℕ)). WritesTexts d mid.journal is.journal room (with_more room text) result) (room_same begins tells) wrote)
 
   module _ (text : List ℕ) (group : Group) (first begins : Option ℕ) where
-    pub put_on : (number : ℕ) → HasPut d mid is text group first begins number → HasPut d was is text group first begins number
+    pub put_on : (number : ℕ) → HasPut d mid is (parts_as text group first begins) number → HasPut d was is (parts_as text group first begins) number
     put_on number given =
-        let put : HasPut d (record was { journal = mid.journal }) is text group first begins number
-        = subst (λ (h : Holdings D). HasPut d h is text group first begins number) looks.others given in
+        let put : HasPut d (record was { journal = mid.journal }) is (parts_as text group first begins) number
+        = subst (λ (h : Holdings D). HasPut d h is (parts_as text group first begins) number) looks.others given in
         record {
           number_is = put.number_is;
           book = put.book;
@@ -187,10 +187,10 @@ module _ {D : Type 0} (d : Ghosts D) (laws : DiskLaws d) (was mid is : Holdings 
           checkpoints = λ tells. put.checkpoints tells ∙ ap (λ (image : Image). cdxj_files image) (looks.bytes tells).read;
         }
 
-    pub unput_on : IsUnput d mid is text group first begins → IsUnput d was is text group first begins
+    pub unput_on : IsUnput d mid is (parts_as text group first begins) → IsUnput d was is (parts_as text group first begins)
     unput_on given =
-        let put : IsUnput d (record was { journal = mid.journal }) is text group first begins
-        = subst (λ (h : Holdings D). IsUnput d h is text group first begins) looks.others given in
+        let put : IsUnput d (record was { journal = mid.journal }) is (parts_as text group first begins)
+        = subst (λ (h : Holdings D). IsUnput d h is (parts_as text group first begins)) looks.others given in
         record {
           left = put.left;
           group_is = put.group_is;
@@ -307,7 +307,7 @@ module _ {D : Type 0} (d : Ghosts D) (was mid : Holdings D) (looks : OnlyLooks d
             unwritten = subst (λ t. WritesNothing true (told_of d was) t) told_same looks.unwritten;
           }
 
-      leaves_by : (result : Result ℕ PieceFault) → Puts d mid is text group first begins result → PieceLeaves d was is bytes result
+      leaves_by : (result : Result ℕ PieceFault) → Puts d mid is (parts_as text group first begins) result → PieceLeaves d was is bytes result
       leaves_by (Ok number) put = (
         not_full,
         record {
@@ -318,7 +318,7 @@ module _ {D : Type 0} (d : Ghosts D) (was mid : Holdings D) (looks : OnlyLooks d
           read = read;
           refers = refers;
           put = put_on d laws was mid is looks read.text group first begins number
-              (subst (λ (l : List ℕ). HasPut d mid is l group first begins number) text_is put);
+              (subst (λ (l : List ℕ). HasPut d mid is (parts_as l group first begins) number) text_is put);
           some = subst (λ (n : ℕ). IsSomePiece is.book n bytes) (ap (λ (b : Book). length (captures b)) (sym same_book) ∙ sym put.number_is)
               (subst (λ (b : Book). IsSomePiece b (length (captures was.book)) bytes)
               (ap (λ (b : Book). book_by b begins group first) (sym same_book) ∙ sym put.book)
@@ -341,14 +341,14 @@ module _ {D : Type 0} (d : Ghosts D) (was mid : Holdings D) (looks : OnlyLooks d
           read = read;
           refers = refers;
           unput = unput_on d laws was mid is looks read.text group first begins
-              (subst (λ (l : List ℕ). IsUnput d mid is l group first begins) text_is put);
+              (subst (λ (l : List ℕ). IsUnput d mid is (parts_as l group first begins)) text_is put);
           takes = λ told. takes_so told put.sound put.group_is;
         }),
       )
       leaves_by (Err (pieces.Damaged number kept found)) put = absurd put
       leaves_by (Err pieces.Memory) put = untouched_remains put
 
-      pub taken_by : (result : Result ℕ PieceFault) → Puts d mid is text group first begins result
+      pub taken_by : (result : Result ℕ PieceFault) → Puts d mid is (parts_as text group first begins) result
           → d.faults (disk_of mid.journal) ≡ d.faults (disk_of was.journal)
           → CountsIf (is_take_fault result) (d.faults (disk_of mid.journal)) (d.faults (disk_of is.journal)) → TakesPiece d was is bytes result
       taken_by result put steady counts = record {

@@ -40,34 +40,44 @@ disk_failed = Err pieces.DiskFault
 
 -- ---- the capture of a group
 
--- at most the entry of the capture is shown more
-abbrev pub ShowsOneMore : ℕ → List Facts → List Facts → Type 0
-ShowsOneMore number was is = (is ≡ was) ⊎ ((entry : Facts) × (entry.number ≡ number) × (is ≡ was ++ entry ∷ []))
+-- the parts of a piece that is put: its group with the text of that, the capture to which it refers, if to any, and when the volume was born that it begins, if it begins one
+pub record Parts : Type 0 where
+  pub text : List ℕ
+  pub group : Group
+  pub first : Option ℕ
+  pub begins : Option ℕ
+
+abbrev pub parts_as : List ℕ → Group → Option ℕ → Option ℕ → Parts
+parts_as text group first begins = record { text = text; group = group; first = first; begins = begins }
 
 -- It stands behind all others of the book. Where the disk tells, whatever is told of the book: its text stands behind the volumes' texts, none of
 -- which loses a byte, at whatever moment a crash stops it.
-pub record HasPut {D : Type 0} (d : Ghosts D) (was is : Holdings D) (text : List ℕ) (group : Group) (first begins : Option ℕ) (number : ℕ) : Type 0 where
+pub record HasPut {D : Type 0} (d : Ghosts D) (was is : Holdings D) (parts : Parts) (number : ℕ) : Type 0 where
   pub number_is : number ≡ length (captures was.book)
-  pub book : is.book ≡ book_by was.book begins group first
-  pub group_is : IsTrue was.told → IsGroupText is.book (length (captures was.book)) text
+  pub book : is.book ≡ book_by was.book parts.begins parts.group parts.first
+  pub group_is : IsTrue was.told → IsGroupText is.book (length (captures was.book)) parts.text
   pub sound : IsTrue was.told → IsSound is.book
-  pub shown : ShowsOneMore number (numbered was.index) (numbered is.index)
+  -- at most the entry of the capture is shown more
+  pub shown : (numbered is.index ≡ numbered was.index)
+      ⊎ ((entry : Facts) × (entry.number ≡ number) × (numbered is.index ≡ numbered was.index ++ entry ∷ []))
   pub others : contents_of is
       ≡ record (contents_of was) { seen = is.book; shown = numbered is.index; mine = (contents_of was).mine ++ number ∷ [] }
-  pub ends : last_len is.journal ≡ end_in was.book (last_len was.journal) begins + length text
-  pub writes : Writes (muted was.told d) (disk_of was.journal) (disk_of is.journal) was.book (room_by was.book begins) is.book is.book (took number)
-  pub bytes : IsTrue d.tells → WritesTexts d was.journal is.journal (texts_room d was begins) (with_more (texts_room d was begins) text) (took number)
+  pub ends : last_len is.journal ≡ end_in was.book (last_len was.journal) parts.begins + length parts.text
+  pub writes : Writes (muted was.told d) (disk_of was.journal) (disk_of is.journal) was.book (room_by was.book parts.begins) is.book is.book (took number)
+  pub bytes : IsTrue d.tells
+      → WritesTexts d was.journal is.journal (texts_room d was parts.begins) (with_more (texts_room d was parts.begins) parts.text) (took number)
   pub checkpoints : IsTrue d.tells → cdxj_files (d.reading (disk_of is.journal)) ≡ cdxj_files (d.reading (disk_of was.journal))
 
 -- The disk refused it. The book is left, or it with the volume that was to be begun.
-pub record IsUnput {D : Type 0} (d : Ghosts D) (was is : Holdings D) (text : List ℕ) (group : Group) (first begins : Option ℕ) : Type 0 where
-  pub left : (is.book ≡ was.book) ⊎ (is.book ≡ room_by was.book begins)
-  pub group_is : IsTrue was.told → IsGroupText (book_by was.book begins group first) (length (captures was.book)) text
-  pub sound : IsTrue was.told → IsSound (book_by was.book begins group first)
+pub record IsUnput {D : Type 0} (d : Ghosts D) (was is : Holdings D) (parts : Parts) : Type 0 where
+  pub left : (is.book ≡ was.book) ⊎ (is.book ≡ room_by was.book parts.begins)
+  pub group_is : IsTrue was.told → IsGroupText (book_by was.book parts.begins parts.group parts.first) (length (captures was.book)) parts.text
+  pub sound : IsTrue was.told → IsSound (book_by was.book parts.begins parts.group parts.first)
   pub others : contents_of is ≡ record (contents_of was) { seen = is.book }
-  pub writes : Writes (muted was.told d) (disk_of was.journal) (disk_of is.journal) was.book (room_by was.book begins)
-      (book_by was.book begins group first) is.book disk_failed
-  pub bytes : IsTrue d.tells → WritesTexts d was.journal is.journal (texts_room d was begins) (with_more (texts_room d was begins) text) disk_failed
+  pub writes : Writes (muted was.told d) (disk_of was.journal) (disk_of is.journal) was.book (room_by was.book parts.begins)
+      (book_by was.book parts.begins parts.group parts.first) is.book disk_failed
+  pub bytes : IsTrue d.tells
+      → WritesTexts d was.journal is.journal (texts_room d was parts.begins) (with_more (texts_room d was parts.begins) parts.text) disk_failed
   pub checkpoints : IsTrue d.tells → cdxj_files (d.reading (disk_of is.journal)) ≡ cdxj_files (d.reading (disk_of was.journal))
 
 -- all is as it was, but for what is reserved
@@ -75,13 +85,13 @@ pub record IsUntouched {D : Type 0} (was is : Holdings D) : Type 0 where
   pub journal : is.journal ≡ was.journal
   pub contents : contents_of is ≡ contents_of was
 
-abbrev pub Puts : {D : Type 0} → Ghosts D → Holdings D → Holdings D → List ℕ → Group → Option ℕ → Option ℕ → Result ℕ PieceFault → Type 0
-Puts d was is text group first begins (Ok number) = HasPut d was is text group first begins number
-Puts d was is text group first begins (Err (pieces.Full count limit)) = ⊥
-Puts d was is text group first begins (Err pieces.NotAPiece) = ⊥
-Puts d was is text group first begins (Err pieces.DiskFault) = IsUnput d was is text group first begins
-Puts d was is text group first begins (Err (pieces.Damaged number kept found)) = ⊥
-Puts d was is text group first begins (Err pieces.Memory) = IsUntouched was is
+abbrev pub Puts : {D : Type 0} → Ghosts D → Holdings D → Holdings D → Parts → Result ℕ PieceFault → Type 0
+Puts d was is parts (Ok number) = HasPut d was is parts number
+Puts d was is parts (Err (pieces.Full count limit)) = ⊥
+Puts d was is parts (Err pieces.NotAPiece) = ⊥
+Puts d was is parts (Err pieces.DiskFault) = IsUnput d was is parts
+Puts d was is parts (Err (pieces.Damaged number kept found)) = ⊥
+Puts d was is parts (Err pieces.Memory) = IsUntouched was is
 
 -- ---- a piece
 
@@ -93,7 +103,7 @@ pub record HasTaken {D : Type 0} (d : Ghosts D) (was is : Holdings D) (bytes : L
   pub first : Option ℕ
   pub read : IsReadAs was.book bytes begins at group
   pub refers : RefersSo was.told was.book group first
-  pub put : HasPut d was is read.text group first begins number
+  pub put : HasPut d was is (parts_as read.text group first begins) number
   pub some : IsSomePiece is.book number bytes
   pub takes : IsTrue was.told → Takes was.book bytes is.book
 
@@ -105,7 +115,7 @@ pub record IsUntaken {D : Type 0} (d : Ghosts D) (was is : Holdings D) (bytes : 
   pub first : Option ℕ
   pub read : IsReadAs was.book bytes begins at group
   pub refers : RefersSo was.told was.book group first
-  pub unput : IsUnput d was is read.text group first begins
+  pub unput : IsUnput d was is (parts_as read.text group first begins)
   pub takes : IsTrue was.told → Takes was.book bytes (book_by was.book begins group first)
 
 -- all that is told of it stays, and nothing was written

@@ -10,7 +10,7 @@ ghost use Rattle.archive_core.specs.Looking.{OnlyLooks};
 ghost use Rattle.archive_pieces.specs.PieceOriginals.{FindsOriginal, IsNextGroup};
 ghost use Rattle.archive_pieces.specs.PieceParts.{IsFoundIn};
 ghost use Rattle.archive_pieces.specs.PieceReady.{IsWithinBounds, MayHold, RefersSo, end_in};
-ghost use Rattle.archive_core.specs.TakingPieces.{Puts, TakesPiece};
+ghost use Rattle.archive_core.specs.TakingPieces.{Puts, TakesPiece, parts_as};
 
 use crate::Archive;
 use crate::index::enter;
@@ -119,7 +119,7 @@ impl<D: Disk> Archive<D> {
         requires refers { RefersSo self.old.told self.old.book group first }
         requires holds { MayHold self.old.book begins }
         requires bounds { IsWithinBounds group (end_in self.old.book (last_len self.old.journal) begins) }
-        ensures puts { Puts D.Disk self.old self.new text.now group first begins result }
+        ensures puts { Puts D.Disk self.old self.new (parts_as text.now group first begins) result }
         ensures faults { CountsIf (is_take_fault result) (D.faults (disk_of self.old.journal)) (D.faults (disk_of self.new.journal)) }
     {
         storing_has_a_basis();

@@ -15,7 +15,7 @@ use Rattle.archive_volumes.specs.Spots.{AreHeldWhole, ArePlaced, AreSpotsOf, Are
 use Rattle.archive_volumes.specs.declared.spot.Spot.{Spot}
 use Rattle.archive_core.specs.Holdings.{Holdings}
 use Rattle.archive_pieces.specs.PieceReady.{MayHold}
-use Rattle.archive_core.specs.TakingPieces.{Puts}
+use Rattle.archive_core.specs.TakingPieces.{Puts, parts_as}
 use Rattle.archive_core.specs.View.{holdings_of}
 use Rattle.archive_pieces.specs.declared.fault.PieceFault.TheVariants as pieces
 use Rattle.archive_core.proofs.ExitLaws as exits
@@ -260,7 +260,7 @@ pub returns-in_err-reserve_kept-clause-puts : goal.returns-in_err-reserve_kept-c
 returns-in_err-reserve_kept-clause-puts g c =
     let was : Holdings _ = holdings_of c.self.inside in
     let is : Holdings _ = record was { journal = c.self.inside.volumes.journal; book = book_of c.self.inside.volumes.held; table = c.reserve_kept.new.table; index = c.self.inside.index; spots = c.reserve_kept.new.spots.items } in
-    subst (λ (held : Holdings _). Puts g.D.Disk held is c.args.text.now c.args.group c.args.first c.args.begins c.from_residual-in_err-reserve_kept.result) c.self.view_is
+    subst (λ (held : Holdings _). Puts g.D.Disk held is (parts_as c.args.text.now c.args.group c.args.first c.args.begins) c.from_residual-in_err-reserve_kept.result) c.self.view_is
     (laws.memory_exit g.D.Disk was is c.args.text.now c.args.group c.args.first c.args.begins
     (laws.untouched g.D.Disk was is refl refl refl refl refl refl) c.from_residual-in_err-reserve_kept.result c.from_residual-in_err-reserve_kept.ensures.1)
 
@@ -279,7 +279,7 @@ pub returns-in_err-ready-clause-puts : goal.returns-in_err-ready-clause-puts
 returns-in_err-ready-clause-puts g c =
     let was : Holdings _ = holdings_of c.self.inside in
     let is : Holdings _ = record was { journal = c.make_piece_ready.new.volumes.journal; book = book_of c.make_piece_ready.new.volumes.held; table = c.reserve_kept.new.table; index = c.self.inside.index; spots = c.reserve_kept.new.spots.items } in
-    subst (λ (held : Holdings _). Puts g.D.Disk held is c.args.text.now c.args.group c.args.first c.args.begins c.from_residual-in_err-ready.result) c.self.view_is
+    subst (λ (held : Holdings _). Puts g.D.Disk held is (parts_as c.args.text.now c.args.group c.args.first c.args.begins) c.from_residual-in_err-ready.result) c.self.view_is
     (laws.memory_exit g.D.Disk was is c.args.text.now c.args.group c.args.first c.args.begins
     (laws.untouched g.D.Disk was is c.make_piece_ready.ensures.journal c.make_piece_ready.ensures.book refl refl refl refl) c.from_residual-in_err-ready.result c.from_residual-in_err-ready.ensures.1)
 
@@ -298,7 +298,7 @@ pub returns-in_err-entry-clause-puts : goal.returns-in_err-entry-clause-puts
 returns-in_err-entry-clause-puts g c =
     let was : Holdings _ = holdings_of c.self.inside in
     let is : Holdings _ = record was { journal = c.make_piece_ready.new.volumes.journal; book = book_of c.make_piece_ready.new.volumes.held; table = c.reserve_kept.new.table; index = c.self.inside.index; spots = c.reserve_kept.new.spots.items } in
-    subst (λ (held : Holdings _). Puts g.D.Disk held is c.args.text.now c.args.group c.args.first c.args.begins c.from_residual-in_err-entry.result) c.self.view_is
+    subst (λ (held : Holdings _). Puts g.D.Disk held is (parts_as c.args.text.now c.args.group c.args.first c.args.begins) c.from_residual-in_err-entry.result) c.self.view_is
     (laws.memory_exit g.D.Disk was is c.args.text.now c.args.group c.args.first c.args.begins
     (laws.untouched g.D.Disk was is c.make_piece_ready.ensures.journal c.make_piece_ready.ensures.book refl refl refl refl) c.from_residual-in_err-entry.result c.from_residual-in_err-entry.ensures.1)
 
@@ -317,7 +317,7 @@ pub returns-in_err-enter-clause-puts : goal.returns-in_err-enter-clause-puts
 returns-in_err-enter-clause-puts g c =
     let was : Holdings _ = holdings_of c.self.inside in
     let is : Holdings _ = record was { journal = c.make_piece_ready.new.volumes.journal; book = book_of c.make_piece_ready.new.volumes.held; table = c.reserve_kept.new.table; index = c.enter.new.index; spots = c.reserve_kept.new.spots.items } in
-    subst (λ (held : Holdings _). Puts g.D.Disk held is c.args.text.now c.args.group c.args.first c.args.begins c.from_residual-in_err-enter.result) c.self.view_is
+    subst (λ (held : Holdings _). Puts g.D.Disk held is (parts_as c.args.text.now c.args.group c.args.first c.args.begins) c.from_residual-in_err-enter.result) c.self.view_is
     (laws.memory_exit g.D.Disk was is c.args.text.now c.args.group c.args.first c.args.begins
     (laws.untouched g.D.Disk was is c.make_piece_ready.ensures.journal c.make_piece_ready.ensures.book c.in_err-enter.ensures.refused refl refl refl) c.from_residual-in_err-enter.result c.from_residual-in_err-enter.ensures.1)
 
@@ -388,7 +388,7 @@ returns-clause-puts g c =
       index = c.take_back.new.self;
       spots = c.commit.new.spots.items;
     } in
-    subst (λ (held : Holdings _). Puts g.D.Disk held is text group first begins (Err pieces.DiskFault)) same
+    subst (λ (held : Holdings _). Puts g.D.Disk held is (parts_as text group first begins) (Err pieces.DiskFault)) same
     (laws.refused_puts g.D.Disk c.storing_has_a_basis.ensures c.reading_laws.ensures was now text group first begins ready t c.record_at-at.result c.len-number.result c.record_at-at.ensures number c.in_ok-entry.entry enters
     c.commit.new.self.journal (book_of c.commit.new.self.held) c.commit.new.table c.take_back.new.self c.commit.new.spots.items
     c.commit.ensures.holds c.commit.ensures.measured c.commit.ensures.table c.commit.ensures.spots c.commit.ensures.within c.commit.ensures.placed
@@ -463,7 +463,7 @@ returns-in-Ok-clause-puts g c =
       spots = c.commit.new.spots.items;
       revisits = c.self.inside.revisits + c.revisits_in.result;
     } in
-    subst (λ (held : Holdings _). Puts g.D.Disk held is text group first begins (Ok c.len-number.result)) same
+    subst (λ (held : Holdings _). Puts g.D.Disk held is (parts_as text group first begins) (Ok c.len-number.result)) same
     (laws.stored_puts g.D.Disk c.storing_has_a_basis.ensures c.reading_laws.ensures was now text group first begins ready t c.record_at-at.result c.len-number.result c.record_at-at.ensures number c.in_ok-entry.entry enters
     c.commit.new.self.journal (book_of c.commit.new.self.held) c.commit.new.table c.enter.new.index c.commit.new.spots.items
     c.commit.ensures.holds c.commit.ensures.measured c.commit.ensures.table c.commit.ensures.spots c.commit.ensures.within c.commit.ensures.placed
