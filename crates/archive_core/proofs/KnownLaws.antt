@@ -29,7 +29,7 @@ use Rattle.archive_opening.specs.Opening.{CountsFault, IsCause, IsDamageIn, IsOt
 use Rattle.archive_opening.specs.Refusing.{IsBorneOut}
 use Rattle.archive_core.specs.Finished.{HasCheckpoint}
 use Rattle.archive_core.specs.Reopening.{AreFinishedAsTold, IsMadeOf, IsNotOpened, IsReopened}
-use Rattle.archive_core.specs.Known.{HasCheckpointsOfKnown, IsNotOpenedAt, IsNotOpenedKnown, IsReopenedAt, IsReopenedKnown, MayBeKnown, told_at}
+use Rattle.archive_core.specs.Known.{HasCheckpointsOfKnown, IsNotOpenedAt, IsNotOpenedKnown, IsReopenedAt, IsReopenedKnown, MayBeKnown, by_checkpoints, opening_of, told_at}
 use Rattle.archive_opening.specs.declared.opening.Opened.{Opened}
 use Rattle.archive_opening.specs.Telling.{AreCheckpointsSynced, AreReadOrTold, IsKnownRefusal, IsOfLine, IsOpenedBy, IsReadWhole, MayBeSettled, known_to}
 use Rattle.archive_core.proofs.FinishedLaws.{has_finished, same_checkpoint, same_checkpoints_of}
@@ -139,11 +139,11 @@ module _ {D : Type 0} (d : Ghosts D) (laws : DiskLaws d) (disk : D) (asked : Opt
         → (IsTrue d.tells → AreCheckpointsSynced (d.reading disk) (d.images (disk_of opened.journal)))
         → (IsTrue d.tells → HasCountsOf (d.reading disk) (book_of opened.gathered.held)) → (result : Result (Holdings D) (ReopenFault × D))
         → IfOk result (IsMadeOf opened limits (told_at depths.Checkpoints d.tells known))
-        → IfOk result (IsReopenedKnown d disk asked limits depths.Checkpoints known)
+        → IfOk result (IsReopenedKnown d (by_checkpoints disk asked known) limits)
     reopened_told read synced counts (Ok held) made =
         known_as d laws disk asked limits (told_at depths.Checkpoints d.tells known) opened basis_told held made depths.Checkpoints known refl
         (λ so. subst (λ (b : Book). IfSome known (λ book. SameBook b book)) (sym made.book_is) (same_told so))
-        (record {
+        (λ at. record {
           requested = λ number spot at read_it. subst (λ (b : Book). HasRequest b number) (sym made.book_is)
               (is.requested.each number spot (subst (λ (spots : List Spot). slice_get spots number ≡ Some spot) made.spots_are at) read_it);
           read = λ so. subst (AreReadOrTold (d.reading disk)) (sym made.spots_are) (is.lined so);
@@ -176,7 +176,7 @@ module _ {D : Type 0} (d : Ghosts D) (laws : DiskLaws d) (disk : D) (asked : Opt
 -- ---- by a depth, where nothing is known
 
 pub opened_at : {D : Type 0} (d : Ghosts D) (disk : D) (asked : Option (List ℕ)) (limits : Limits) (depth : Depth)
-    (result : Result (Holdings D) (ReopenFault × D)) → IfOk result (IsReopenedKnown d disk asked limits depth None)
+    (result : Result (Holdings D) (ReopenFault × D)) → IfOk result (IsReopenedKnown d (opening_of disk depth asked None) limits)
     → (depth ≡ depths.Whole → IfOk result (IsReopened d disk asked limits)) → IfOk result (IsReopenedAt depth d disk asked limits)
 opened_at d disk asked limits depths.Whole result known whole = whole refl
 opened_at d disk asked limits depths.Checkpoints result known whole = known

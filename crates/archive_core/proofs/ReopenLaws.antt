@@ -27,7 +27,7 @@ use Rattle.archive_volumes.specs.Held.{book_of}
 use Rattle.archive_core.specs.Holdings.{Holdings, contents_of}
 use Rattle.archive_opening.specs.Opening.{CountsFault, HoldsOther, IsCause, IsDamageIn, IsIn, IsOtherIn, IsOutside}
 use Rattle.archive_core.specs.Reopening.{IsMadeOf, IsNotOpened, IsReopened, NamesCapture}
-use Rattle.archive_core.specs.Known.{IsLinedAt, IsNotOpenedKnown, IsReopenedKnown, MayBeKnown, told_at}
+use Rattle.archive_core.specs.Known.{IsLined, IsNotOpenedKnown, IsReopenedKnown, MayBeKnown, opening_of, told_at}
 use Rattle.archive_core.specs.Shown.{numbers_from}
 use Rattle.archive_core.specs.Told.{told_of}
 use Rattle.archive_volumes.specs.Volumes.{muted}
@@ -149,9 +149,9 @@ module _ {D : Type 0} (d : Ghosts D) (laws : DiskLaws d) (disk : D) (asked : Opt
 
       -- as deep as that, where what is told goes with the depth
       pub known_as : (depth : Depth) (known : Option Book) → told ≡ told_at depth d.tells known → (IsTrue told → IfSome known (λ book. SameBook held.book book))
-          → IsLinedAt depth d disk held
+          → (depth ≡ depths.Checkpoints → IsLined d disk held)
           → (IsTrue d.tells → IsReadWhole (d.reading disk) → IsReopened d disk asked limits (record held { told = d.tells }))
-          → IsReopenedKnown d disk asked limits depth known held
+          → IsReopenedKnown d (opening_of disk depth asked known) limits held
       known_as depth known at same lined unsettled =
           let to : IsTrue held.told → IsTrue told = λ so. sym made.told_is ∙ so in
           record {
@@ -226,7 +226,7 @@ module _ {D : Type 0} (d : Ghosts D) (laws : DiskLaws d) (disk : D) (asked : Opt
   module _ (known : Option Book) where
     -- read whole
     pub known_whole : MayBeKnown d disk asked known → (result : Result (Holdings D) (ReopenFault × D)) → IfOk result (IsReopened d disk asked limits)
-        → IfOk result (IsReopenedKnown d disk asked limits depths.Whole known)
+        → IfOk result (IsReopenedKnown d (opening_of disk depths.Whole asked known) limits)
     known_whole may (Ok held) is = record {
       told_is = is.told_is;
       whole = λ so. is;
@@ -239,7 +239,7 @@ module _ {D : Type 0} (d : Ghosts D) (laws : DiskLaws d) (disk : D) (asked : Opt
       rests = is.rests;
       quiet = is.quiet;
       faults = is.faults;
-      lined = tt;
+      lined = λ (other : depths.Whole ≡ depths.Checkpoints). cc;
     }
       where
         by : (k : Option Book) → MayBeKnown d disk asked k → IsTrue d.tells → IfSome k (λ book. SameBook held.book book)

@@ -4,7 +4,7 @@ ghost use Rattle.capture.specs.declared.book.Book.{Book as BookValue};
 ghost use Rattle.warc_text.specs.Ids.{IsUuid};
 ghost use Rattle.archive_opening.specs.Telling.{MayBeSettled};
 ghost use Rattle.archive_core.specs.Holdings.{AreLimits};
-ghost use Rattle.archive_core.specs.Known.{HasCheckpointsOfKnown, IsNotOpenedKnown, IsReopenedKnown, MayBeKnown};
+ghost use Rattle.archive_core.specs.Known.{HasCheckpointsOfKnown, IsNotOpenedKnown, IsReopenedKnown, MayBeKnown, by_checkpoints, opening_of};
 ghost use Rattle.archive_core.specs.Reopening.{IsNotOpened, IsReopened};
 
 use crate::Archive;
@@ -33,7 +33,7 @@ impl<D: Disk> Archive<D> {
         requires limits { AreLimits limits }
         requires known { MayBeKnown D.Disk disk namespace known }
         requires settled { depth ≡ Depth.Checkpoints → HasCheckpointsOfKnown D.Disk disk known }
-        ensures reopened { IfOk result (IsReopenedKnown D.Disk disk namespace limits depth known) }
+        ensures reopened { IfOk result (IsReopenedKnown D.Disk (opening_of disk depth namespace known) limits) }
         ensures refused { IfErr result (IsNotOpenedKnown D.Disk disk namespace known) }
         ensures whole { depth ≡ Depth.Whole → IfOk result (IsReopened D.Disk disk namespace limits) }
         ensures whole_refused { depth ≡ Depth.Whole → IfErr result (IsNotOpened D.Disk disk namespace) }
@@ -58,7 +58,7 @@ impl<D: Disk> Archive<D> {
         requires uuid { IfSome namespace IsUuid }
         requires limits { AreLimits limits }
         requires known { MayBeSettled D.Disk disk namespace known.now.value }
-        ensures reopened { IfOk result (IsReopenedKnown D.Disk disk namespace limits Depth.Checkpoints known.now.value) }
+        ensures reopened { IfOk result (IsReopenedKnown D.Disk (by_checkpoints disk namespace known.now.value) limits) }
         ensures refused { IfErr result (IsNotOpenedKnown D.Disk disk namespace known.now.value) }
     {
         match open_by_checkpoints(alloc, disk, &namespace, known) {

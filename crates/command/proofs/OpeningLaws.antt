@@ -2,7 +2,7 @@
 use Rattle.std.proofs.Common.{◌≡◌, ◌⊎◌, ℕ, true, IsTrue, List, Some, None, is_some, sym, ◌∙◌, ap, inl, inr, arith}
 use Rattle.std.proofs.lemmas.Bool.{false≢true}
 use Rattle.archive_core.specs.Holdings.{Holdings, contents_of}
-use Rattle.archive_core.specs.Known.{IsNotOpenedKnown}
+use Rattle.archive_core.specs.Known.{IsNotOpenedKnown, Opening}
 use Rattle.archive_core.specs.Reopening.{IsNotOpened as IsRefused}
 use Rattle.archive_shelf.specs.Contents.{IsConsistent}
 use Rattle.archive_shelf.specs.Openings.{HasIds, ImageStandsFor, SameBook}
@@ -11,10 +11,9 @@ use Rattle.archive_shelf.specs.declared.fault.ReopenFault.{ReopenFault}
 use Rattle.capture.specs.declared.book.Book.{Book}
 use Rattle.disk_model.specs.declared.disk.Disk.{Ghosts as Disks}
 use Rattle.outside.specs.declared.sink.Sink.{Ghosts as Sinks}
-use Rattle.command.specs.Opening.{IsNotOpened, IsOpened, Opening}
-use Rattle.command.specs.Printing.{LacksMemory, Prints}
+use Rattle.command.specs.Opening.{IsNotOpened, IsOpened}
+use Rattle.command.specs.Printing.{LacksMemory, Printed, Prints}
 use Rattle.command.specs.Texts.{IsFaultText}
-use Rattle.command.specs.declared.status.Status.{Status}
 use Rattle.command.specs.declared.status.Status.TheVariants.{Archive}
 use Rattle.warc_text.specs.StandsFor.{IdsDifferIn}
 
@@ -27,11 +26,11 @@ module _ {D : Type 0} (disks : Disks D) {opening : Opening D} {held : Holdings D
   opened_consistent = record { sound = λ so. (o.is.whole so).sound; shown = λ alone so. (o.is.whole so).shown }
 
 -- it was refused, and that was told
-pub refused_as : {D O : Type 0} (disks : Disks D) (sinks : Sinks O) (opening : Opening D) (refused : ReopenFault × D) (out_was out_is : O) (status : Status)
+pub refused_as : {D O : Type 0} (disks : Disks D) (sinks : Sinks O) (opening : Opening D) (refused : ReopenFault × D) (printed : Printed O)
     → IsNotOpenedKnown disks opening.disk opening.asked opening.known refused → (opening.depth ≡ Whole → IsRefused disks opening.disk opening.asked refused)
-    → ((text : List ℕ) × IsFaultText refused.0 text × Prints sinks Archive text out_was out_is status) ⊎ LacksMemory sinks out_was out_is status
-    → IsNotOpened disks sinks opening refused.1 out_was out_is status
-refused_as disks sinks opening (fault, is) out_was out_is status refused whole told =
+    → ((text : List ℕ) × IsFaultText refused.0 text × Prints sinks Archive text printed.was printed.is printed.status)
+    ⊎ LacksMemory sinks printed.was printed.is printed.status → IsNotOpened disks sinks opening refused.1 printed
+refused_as disks sinks opening (fault, is) printed refused whole told =
     record { fault = fault; refused = refused; whole = whole; told = told }
 
 -- ---- books for which a disk stands

@@ -4,7 +4,7 @@ use Rattle.std.specs.Prelude.{IfOk, IfSome}
 use Rattle.std.proofs.lemmas.Bool.{false≢true}
 use Rattle.archive_core.proofs.FinishedLaws.{same_checkpoints_of}
 use Rattle.archive_core.specs.Holdings.{Holdings, contents_of}
-use Rattle.archive_core.specs.Known.{HasCheckpointsOfKnown, IsReopenedKnown, told_at}
+use Rattle.archive_core.specs.Known.{HasCheckpointsOfKnown, IsReopenedKnown, Opening, by_checkpoints, told_at}
 use Rattle.archive_core.specs.Finished.{IsSettled}
 use Rattle.archive_core.specs.Settling.{KeepsSettled, OpensNoMore, Settles, SettlesOn, reach, shelved_as}
 use Rattle.archive_volumes.specs.Spots.{AreSpotsOf}
@@ -27,7 +27,7 @@ use Rattle.disk_model.specs.declared.disk.Disk.{Ghosts as Disks}
 use Rattle.warc_journal.specs.Extents.{warc_files}
 use Rattle.warc_journal.specs.Journals.{disk_of}
 use Rattle.warc_text.specs.StandsFor.{StandsFor}
-use Rattle.command.specs.Opening.{IsOpened, Opening, by_checkpoints, usual_limits}
+use Rattle.command.specs.Opening.{IsOpened, usual_limits}
 use Rattle.command.specs.Settling.{ClosesSettled, IsOf, OpensSettled}
 use Rattle.command.specs.declared.status.Status.{Status}
 use Rattle.command.proofs.OpeningLaws.{opened_consistent}
@@ -94,13 +94,13 @@ counts_later (Err checkpoints.Memory) before now same = omega (arith, same)
 
 -- each image that opening leaves stands for the book, and has its checkpoints
 pub opened_is_of : {D : Type 0} (disks : Disks D) (disk : D) (asked : Option (List ℕ)) (known : Option Book) → MayBeSettled disks disk asked known
-    → (held : Holdings D) → IsReopenedKnown disks disk asked usual_limits Checkpoints known held → IsTrue held.told
+    → (held : Holdings D) → IsReopenedKnown disks (by_checkpoints disk asked known) usual_limits held → IsTrue held.told
     → Leaves (disks.images (disk_of held.journal)) (IsOf held.book)
 opened_is_of disks disk asked known may held is so image left =
     let tells : IsTrue disks.tells = sym (is.whole so).told_is ∙ so in
     record {
       stands = (is.whole so).only tells image left;
-      checkpoints = same_checkpoints_of image (disks.reading disk) held.book (is.lined.synced tells image left)
+      checkpoints = same_checkpoints_of image (disks.reading disk) held.book ((is.lined refl).synced tells image left)
           (right_of disks disk asked held.book known may (is.known_is so) (sym is.told_is ∙ so));
     }
 

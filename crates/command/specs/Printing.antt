@@ -6,6 +6,15 @@ use Rattle.outside.specs.declared.sink.Sink.{Ghosts}
 use Rattle.command.specs.declared.status.Status.{Status}
 use Rattle.command.specs.declared.status.Status.TheVariants.{Memory, Outside}
 
+-- what was printed to, as it was and as it is then, and the status that tells it
+pub record Printed (O : Type 0) : Type 0 where
+  pub was : O
+  pub is : O
+  pub status : Status
+
+abbrev pub printed_as : {O : Type 0} → O → O → Status → Printed O
+printed_as was is status = record { was = was; is = is; status = status }
+
 module _ {O : Type 0} (sinks : Ghosts O) where
   -- The whole text was printed, and the status is the one that is told.
   pub record PrintsAll (told : Status) (text : List ℕ) (was is : O) (status : Status) : Type 0 where

@@ -1,6 +1,7 @@
 -- The checkpoints that are missing are written before and after a command works with its archive.
 use Rattle.std.specs.Prelude.{◌≡◌, ℕ, IsTrue, Result, Ok, Err}
 use Rattle.archive_core.specs.Holdings.{Holdings}
+use Rattle.archive_core.specs.Known.{Opening}
 use Rattle.archive_core.specs.Settling.{SettlesOn}
 use Rattle.archive_opening.specs.Telling.{HasCheckpointsOf}
 use Rattle.archive_shelf.specs.Openings.{ImageStandsFor}
@@ -12,7 +13,7 @@ use Rattle.disk_model.specs.Crash.{Leaves}
 use Rattle.disk_model.specs.Image.{Image}
 use Rattle.disk_model.specs.declared.disk.Disk.{Ghosts as Disks}
 use Rattle.warc_journal.specs.Journals.{disk_of}
-use Rattle.command.specs.Opening.{IsOpened, Opening}
+use Rattle.command.specs.Opening.{IsOpened}
 use Rattle.command.specs.declared.status.Status.{Status}
 use Rattle.command.specs.declared.status.Status.TheVariants.{Memory}
 

@@ -1,8 +1,9 @@
 //! Opens the archive on a disk, and says why it isn't opened.
 ghost use Rattle.std.specs.Prelude.{◌≡◌, ◌⊎◌, IfErr, IfOk, IfSome, List, OnOk, ℕ};
 ghost use Rattle.archive_opening.specs.Telling.{MayBeSettled};
-ghost use Rattle.command.specs.Opening.{IsNotOpened, IsOpened, opening_of};
-ghost use Rattle.command.specs.Printing.{LacksMemory, Prints};
+ghost use Rattle.archive_core.specs.Known.{opening_of};
+ghost use Rattle.command.specs.Opening.{IsNotOpened, IsOpened};
+ghost use Rattle.command.specs.Printing.{LacksMemory, Prints, printed_as};
 ghost use Rattle.command.specs.Texts.{IsFaultText};
 ghost use Rattle.warc_text.specs.Ids.{IsUuid};
 
@@ -51,7 +52,7 @@ pub fn open<K: Known, D: Disk, O: Sink>(
     requires uuid { IfSome asked IsUuid }
     requires known { MayBeSettled D.Disk disk asked K.book }
     ensures opened { IfOk result (IsOpened D.Disk (opening_of disk depth asked K.book)) }
-    ensures refused { IfErr result (λ ran. IsNotOpened D.Disk O.Sink (opening_of disk depth asked K.book) ran.disk out.old out.new ran.status) }
+    ensures refused { IfErr result (λ ran. IsNotOpened D.Disk O.Sink (opening_of disk depth asked K.book) ran.disk (printed_as out.old out.new ran.status)) }
     ensures prints_nothing { OnOk result (out.new ≡ out.old) }
 {
     match Archive::reopen_known(alloc, disk, asked, LIMITS, depth) {

@@ -2,7 +2,9 @@
 ghost use Rattle.std.specs.Prelude.{◌≡◌, IfErr, IfOk, IfSome, IsTrue, OnOk};
 ghost use Rattle.archive_opening.specs.Telling.{MayBeSettled};
 ghost use Rattle.archive_volumes.specs.Volumes.{OpensNear};
-ghost use Rattle.command.specs.Opening.{IsNotOpened, by_checkpoints};
+ghost use Rattle.archive_core.specs.Known.{by_checkpoints};
+ghost use Rattle.command.specs.Opening.{IsNotOpened};
+ghost use Rattle.command.specs.Printing.{printed_as};
 ghost use Rattle.command.specs.Settling as spec;
 ghost use Rattle.command.specs.Settling.{ClosesSettled, OpensSettled};
 ghost use Rattle.warc_text.specs.Ids.{IsUuid};
@@ -28,7 +30,7 @@ pub fn open_and_settle<K: Known, D: Disk, O: Sink>(
     requires uuid { IfSome asked IsUuid }
     requires known { MayBeSettled D.Disk disk asked K.book }
     ensures opened { IfOk result (OpensSettled D.Disk (by_checkpoints disk asked K.book)) }
-    ensures refused { IfErr result (λ ran. IsNotOpened D.Disk O.Sink (by_checkpoints disk asked K.book) ran.disk out.old out.new ran.status) }
+    ensures refused { IfErr result (λ ran. IsNotOpened D.Disk O.Sink (by_checkpoints disk asked K.book) ran.disk (printed_as out.old out.new ran.status)) }
     ensures prints_nothing { OnOk result (out.new ≡ out.old) }
 {
     settling_keeps_checkpoints_right();

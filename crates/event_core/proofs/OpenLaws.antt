@@ -19,10 +19,9 @@ use Rattle.archive_shelf.specs.Told.{ShowsItsBook}
 use Rattle.archive_shelf.specs.declared.fault.ReopenFault.{ReopenFault}
 use Rattle.archive_volumes.specs.Volumes.{crash_of, muted}
 use Rattle.archive_core.specs.Holdings.{Holdings}
-use Rattle.archive_core.specs.Known.{IsNotOpenedKnown, IsReopenedKnown}
+use Rattle.archive_core.specs.Known.{IsNotOpenedKnown, IsReopenedKnown, by_checkpoints}
 use Rattle.archive_core.specs.Reopening.{IsReopened}
 use Rattle.archive_opening.specs.Telling.{MayBeSettled}
-use Rattle.archive_shelf.specs.declared.depth.Depth.TheVariants.{Checkpoints}
 use Rattle.archive_core.specs.Told.{told_of}
 use Rattle.event_core.proofs.ImageLaws.{count_files, finished_sealed, right_files}
 use Rattle.event_core.proofs.NextLaws.{same_is}
@@ -92,7 +91,7 @@ first_tally start image = record { files = cdxj_files image; upto = sealed start
 
 -- at first
 module _ (disk : Device) (namespace : List ℕ) (limits : Limits) (start : State) (may : Starts disk namespace start × AllIdsDiffer namespace) where
-  first_follows : (held : Holdings MemoryDisk) → IsReopenedKnown ghosts disk (Some namespace) limits Checkpoints (Some start.book) held
+  first_follows : (held : Holdings MemoryDisk) → IsReopenedKnown ghosts (by_checkpoints disk (Some namespace) (Some start.book)) limits held
       → Follows limits namespace start [] [] (told_of ghosts held)
   first_follows held known =
       let starts = may.0 in
@@ -104,7 +103,7 @@ module _ (disk : Device) (namespace : List ℕ) (limits : Limits) (start : State
       let right : AreRight start.book (cdxj_files (reading_of disk)) = right_files start.book (reading_of disk) starts.right in
       let tally = first_tally start (reading_of disk) in
       let same : (files : List (List ℕ)) → (told_of ghosts held).crash.checkpoints files → files ≡ cdxj_files (reading_of disk) =
-      (λ files left. sym left.are ∙ known.lined.synced refl left.image left.left) in
+      (λ files left. sym left.are ∙ (known.lined refl).synced refl left.image left.left) in
       let tallied : IsTallied (told_of ghosts held).crash.checkpoints (sealed start.book) tally = record {
         missing = sealed start.book - start.settled;
         counted = count_files start.book (reading_of disk) (sealed start.book) (sealed start.book - start.settled) right starts.missing;
@@ -154,14 +153,14 @@ module _ (disk : Device) (namespace : List ℕ) (limits : Limits) where
   )
 
   pub first_stands : (start : Option State) → MayStart disk namespace start → (held : Holdings MemoryDisk)
-      → IsReopenedKnown ghosts disk (Some namespace) limits Checkpoints (first_book start) held
+      → IsReopenedKnown ghosts (by_checkpoints disk (Some namespace) (first_book start)) limits held
       → IsTrue (is_some (first_book start)) → IsStanding limits namespace (told_of ghosts held)
   first_stands None may held known so = absurd (false≢true so)
   first_stands (Some s) may held known so =
       let follows = first_follows disk namespace limits s may held known in record { was = follows.is; stands = follows.stands }
 
   pub first_runs : (start : Option State) → MayStart disk namespace start → (held : Holdings MemoryDisk)
-      → IsReopenedKnown ghosts disk (Some namespace) limits Checkpoints (first_book start) held → (Runs : State → Type 0)
+      → IsReopenedKnown ghosts (by_checkpoints disk (Some namespace) (first_book start)) limits held → (Runs : State → Type 0)
       → (IsTrue (is_some (first_book start)) → (s : State) → Follows limits namespace s [] [] (told_of ghosts held) → Runs s) → IfSome start Runs
   first_runs None may held known Runs by = tt
   first_runs (Some s) may held known Runs by = by refl s (first_follows disk namespace limits s may held known)

@@ -26,11 +26,10 @@ use Rattle.archive_shelf.specs.declared.receipt.Receipt.{Receipt}
 use Rattle.archive_volumes.proofs.ChangeLaws.{DiskLaws, laws_muted, opens_now}
 use Rattle.archive_volumes.specs.Volumes.{OpensNear, crash_of, muted}
 use Rattle.archive_core.specs.Holdings.{Holdings}
-use Rattle.archive_core.specs.Known.{IsNotOpenedKnown, IsReopenedKnown}
+use Rattle.archive_core.specs.Known.{IsNotOpenedKnown, IsReopenedKnown, by_checkpoints}
 use Rattle.archive_core.specs.Reopening.{IsReopened}
 use Rattle.archive_opening.specs.Opening.{IsOutside}
 use Rattle.archive_opening.specs.Telling.{IsAskedFor, IsSettledFor}
-use Rattle.archive_shelf.specs.declared.depth.Depth.TheVariants.{Checkpoints}
 use Rattle.archive_core.specs.Told.{told_of}
 use Rattle.archive_core.proofs.NextLaws.{next_grows}
 use Rattle.event_core.proofs.NextLaws.{next_in_namespace, same_is, same_stands_for}
@@ -206,12 +205,12 @@ module _ (limits : Limits) (namespace : List ℕ) (was : Holdings MemoryDisk) (c
 
     module _ (stood : Bool) (known : Option Book) (knows : Knows left namespace stood known) where
       -- it was opened to the book that is known
-      opened_to : (k : Option Book) (held : Holdings MemoryDisk) → IsTrue (is_some k) → IsReopenedKnown ghosts left (Some namespace) limits Checkpoints k held
+      opened_to : (k : Option Book) (held : Holdings MemoryDisk) → IsTrue (is_some k) → IsReopenedKnown ghosts (by_checkpoints left (Some namespace) k) limits held
           → IsReopened ghosts left (Some namespace) limits held
       opened_to None held so opened = absurd (false≢true so)
       opened_to (Some book) held so opened = opened.whole opened.told_is
 
-      pub reopen_goes : (result : Result (Holdings MemoryDisk) (ReopenFault × Device)) → IfOk result (IsReopenedKnown ghosts left (Some namespace) limits Checkpoints known)
+      pub reopen_goes : (result : Result (Holdings MemoryDisk) (ReopenFault × Device)) → IfOk result (IsReopenedKnown ghosts (by_checkpoints left (Some namespace) known) limits)
           → IfOk result (λ next. IsTrue stood
           → GoesOn limits namespace (told_of ghosts was) (told_of ghosts next) (events.Stop choice) (replies.Reopened (counts_of next.book)))
       reopen_goes (Ok held) opened = λ so s stands.

@@ -3,10 +3,10 @@ ghost use Rattle.std.specs.Prelude.{IfErr, IfOk, Some};
 ghost use Rattle.warc_text.specs.Ids.{IsUuid};
 ghost use Rattle.archive_opening.specs.Telling.{MayBeSettled};
 ghost use Rattle.archive_core.specs.Holdings.{AreLimits};
-ghost use Rattle.archive_core.specs.Known.{IsNotOpenedKnown, IsReopenedKnown};
+ghost use Rattle.archive_core.specs.Known.{IsNotOpenedKnown, IsReopenedKnown, by_checkpoints};
 
 use archive_core::Archive;
-use archive_shelf::{Depth, ReopenFault};
+use archive_shelf::ReopenFault;
 use capture::{Book, Limits};
 use disk_model::{Disk, MemoryDisk};
 use shown::Shown;
@@ -33,7 +33,7 @@ impl Opening {
         requires uuid { IsUuid self.now.namespace }
         requires limits { AreLimits self.now.limits }
         requires known { MayBeSettled ⟦<MemoryDisk as Disk>⟧ disk (Some self.now.namespace) known.now.value }
-        ensures reopened { IfOk result (IsReopenedKnown ⟦<MemoryDisk as Disk>⟧ disk (Some self.now.namespace) self.now.limits Depth.Checkpoints known.now.value) }
+        ensures reopened { IfOk result (IsReopenedKnown ⟦<MemoryDisk as Disk>⟧ (by_checkpoints disk (Some self.now.namespace) known.now.value) self.now.limits) }
         ensures refused { IfErr result (IsNotOpenedKnown ⟦<MemoryDisk as Disk>⟧ disk (Some self.now.namespace) known.now.value) }
     {
         Archive::reopen_told(alloc, disk, Some(self.namespace), self.limits, known)

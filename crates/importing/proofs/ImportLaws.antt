@@ -4,11 +4,10 @@ use Rattle.std.specs.List.{flat_map}
 use Rattle.archive_core.proofs.TellingLaws.{quiet_muted}
 use Rattle.archive_core.specs.Holdings.{Holdings, contents_of}
 use Rattle.archive_core.proofs.FinishedLaws.{checkpoints_later, same_checkpoints_of}
-use Rattle.archive_core.specs.Known.{IsReopenedKnown}
+use Rattle.archive_core.specs.Known.{IsReopenedKnown, by_checkpoints}
 use Rattle.command.specs.Settling.{IsOf}
 use Rattle.disk_model.specs.Crash.{Leaves}
 use Rattle.warc_journal.specs.Extents.{cdxj_files}
-use Rattle.archive_shelf.specs.declared.depth.Depth.TheVariants.{Checkpoints}
 use Rattle.archive_core.specs.Told.{told_of, told_on}
 use Rattle.archive_shelf.proofs.CallLaws.{no_more, opened_before}
 use Rattle.archive_shelf.specs.Answers.{CountsIf}
@@ -31,7 +30,7 @@ use Rattle.importing.specs.Imports.{Ends, HasImported, Imports, IsTellable, Tell
 use Rattle.command.specs.Gates.{gate_told, GateTold}
 use Rattle.importing.specs.Inputs.{Gives}
 use Rattle.importing.specs.Keeping.{Keeps, OpensAtLast, OpensBehind, OpensPast, Step, is_denied}
-use Rattle.command.specs.Opening.{IsOpened, by_checkpoints, usual_limits}
+use Rattle.command.specs.Opening.{IsOpened, usual_limits}
 use Rattle.command.specs.Printing.{LacksMemory, Prints}
 use Rattle.importing.specs.Texts.{refusal_line, skip_line, skips_in, summary_line}
 use Rattle.importing.specs.declared.input.InputFault.{InputFault}
@@ -161,7 +160,7 @@ last_by (Some fault) (t ∷ others) steps reached now P Q x f h =
     past_by fault t reached now (OpensBehind steps reached P) (OpensBehind steps reached Q) x (λ b p. behind_by steps reached P Q b f p) h
 
 module _ {D : Type 0} (disks : Disks D) (laws : DiskLaws disks) (given : D) (asked : Option (List ℕ)) (held left : Holdings D)
-    (known : Option Book) (reopened : IsReopenedKnown disks given asked usual_limits Checkpoints known held) where
+    (known : Option Book) (reopened : IsReopenedKnown disks (by_checkpoints given asked known) usual_limits held) where
   -- its book is told only where the disk tells
   told_tells : IsTrue held.told → IsTrue disks.tells
   told_tells told = sym (reopened.whole told).told_is ∙ told

@@ -2,6 +2,7 @@
 use Rattle.std.specs.Prelude.{◌≡◌, ◌⊎◌, ℕ, Bool, true, List, [], ◌∷◌, IsTrue, Option, Some, None, Result, Ok, Err, ⊤}
 use Rattle.std.specs.List.{flat_map}
 use Rattle.archive_core.specs.Holdings.{Holdings, contents_of}
+use Rattle.archive_core.specs.Known.{by_checkpoints}
 use Rattle.archive_core.specs.Told.{told_on}
 use Rattle.archive_volumes.specs.Volumes.{OpensNear}
 use Rattle.archive_shelf.specs.Contents.{Contents}
@@ -20,7 +21,7 @@ use Rattle.outside.specs.declared.gate.Gate.{Ghosts as Gates}
 use Rattle.outside.specs.declared.sink.Sink.{Ghosts as Sinks}
 use Rattle.importing.specs.Inputs.{Gives}
 use Rattle.importing.specs.Keeping.{HaveIds, Keeps, OpensAtLast, OpensBehind}
-use Rattle.command.specs.Opening.{IsOpened, by_checkpoints}
+use Rattle.command.specs.Opening.{IsOpened}
 use Rattle.command.specs.Printing.{LacksMemory, Prints}
 use Rattle.importing.specs.Texts.{damaged_input, import_text, too_long}
 use Rattle.importing.specs.declared.input.InputFault.{InputFault}

@@ -3,8 +3,10 @@ ghost use Rattle.std.specs.Prelude.{◌≡◌, ◌≤◌, ◌⊎◌, ℕ, List, 
 ghost use Rattle.archive_opening.specs.Telling.{MayBeSettled};
 ghost use Rattle.archive_shelf.specs.declared.fault.StoreFault.{StoreFault as Refusal};
 ghost use Rattle.importing.specs.Imports.{HasImported, Imports, IsTellable, Tells, TellsFile, ends_of, status_after as after, takens_in};
+ghost use Rattle.archive_core.specs.Known.{by_checkpoints};
 ghost use Rattle.command.specs.Gates.{gate_told};
-ghost use Rattle.command.specs.Opening.{IsNotOpened, by_checkpoints};
+ghost use Rattle.command.specs.Opening.{IsNotOpened};
+ghost use Rattle.command.specs.Printing.{printed_as};
 ghost use Rattle.command.specs.Words as spec;
 ghost use Rattle.importing.specs.steps.Importing.{ImportsFirst};
 ghost use Rattle.importing.specs.steps.Taking.{HasSkips};
@@ -40,7 +42,7 @@ pub fn import<K: Known, D: Disk, G: Gate, O: Sink>(
     ensures { let was = ends_of disk gate.old out.old in
         let is = ends_of result.disk gate.new out.new in
         Imports D.Disk G.Gate O.Sink G.Link.tells K.book (spec.asked_of command) was is result.status
-        ⊎ (IsNotOpened D.Disk O.Sink (by_checkpoints disk (spec.asked_of command) K.book) result.disk out.old out.new result.status × (gate.new ≡ gate.old)) }
+        ⊎ (IsNotOpened D.Disk O.Sink (by_checkpoints disk (spec.asked_of command) K.book) result.disk (printed_as out.old out.new result.status) × (gate.new ≡ gate.old)) }
 {
     let mut archive = match open::<K, D, O>(
         alloc,

@@ -5,6 +5,7 @@ use Rattle.archive_core.proofs.FinishedLaws.{checkpoints_later, same_checkpoints
 use Rattle.command.specs.Settling.{IsOf}
 use Rattle.disk_model.specs.Crash.{Leaves}
 use Rattle.warc_journal.specs.Extents.{cdxj_files}
+use Rattle.archive_core.specs.Known.{by_checkpoints}
 use Rattle.archive_core.specs.Told.{told_of}
 use Rattle.archive_shelf.proofs.CallLaws.{no_more}
 use Rattle.archive_shelf.specs.Answers.{CountsIf}
@@ -24,7 +25,7 @@ use Rattle.command.proofs.OpeningLaws.{ids_differ, only_one}
 use Rattle.replica.proofs.FollowLaws.{at_last, ended_unasked}
 use Rattle.replica.specs.Following.{IsOfRefused, IsOnWay, OpensBehind, Step, is_disk_stop}
 use Rattle.proxy_run.specs.Follows.{Follows, FollowsTo}
-use Rattle.command.specs.Opening.{IsOpened, by_checkpoints}
+use Rattle.command.specs.Opening.{IsOpened}
 use Rattle.replica.specs.Sources.{source_of}
 use Rattle.replica.specs.declared.asking.SourceFault.TheVariants as sources
 use Rattle.replica.specs.declared.following.Stop.TheVariants.{Source}

@@ -11,7 +11,7 @@ use Rattle.outside.specs.Records.{Links}
 use Rattle.outside.specs.declared.dialer.Transcript.{Transcript}
 use Rattle.outside.specs.declared.gate.Heard.{Heard}
 use Rattle.archive_core.specs.Holdings.{Holdings, contents_of}
-use Rattle.archive_core.specs.Known.{told_at}
+use Rattle.archive_core.specs.Known.{by_checkpoints, told_at}
 use Rattle.archive_shelf.specs.declared.depth.Depth.TheVariants.{Checkpoints}
 use Rattle.proxy_run.proofs.PipeLaws.{faults_before, faults_behind}
 use Rattle.proxy_run.proofs.StatusLaws.{memory_told, said_by}
@@ -21,7 +21,6 @@ use Rattle.std.proofs.lemmas.Bool.{false≢true}
 use Rattle.command.proofs.SettlingLaws.{ready_consistent, ready_in, ready_known, ready_limits, ready_none, ready_tells}
 use Rattle.command.specs.Objects.{Kinds, Objects}
 use Rattle.proxy_run.specs.OnePipe.{PipesLeaveNoChoice, PipesWell}
-use Rattle.command.specs.Opening.{by_checkpoints}
 use Rattle.command.specs.Settling.{OpensSettled}
 use Rattle.proxy_run.specs.Pipes.{Pipes, pipe_terms}
 use Rattle.proxy_run.specs.Serving.{pipe_site, status_of}

@@ -2,6 +2,7 @@
 use Rattle.std.proofs.Common.{◌≡◌, ◌⊎◌, ℕ, ◌≤◌, Bool, true, IsTrue, List, Option, sym, ap, subst, ◌∙◌, inl, inr, arith}
 use Rattle.archive_core.proofs.TellingLaws.{quiet_muted}
 use Rattle.archive_core.specs.Holdings.{Holdings}
+use Rattle.archive_core.specs.Known.{by_checkpoints}
 use Rattle.archive_core.specs.Told.{told_of}
 use Rattle.archive_core.specs.Settling.{OpensNoMore}
 use Rattle.archive_shelf.specs.Openings.{StaysCovered}
@@ -12,7 +13,6 @@ use Rattle.archive_volumes.specs.Volumes.{OpensNear, crash_of, muted}
 use Rattle.capture.specs.declared.book.Book.{Book}
 use Rattle.outside.specs.Gate.{Connections}
 use Rattle.command.specs.Objects.{Around, Kinds, Objects}
-use Rattle.command.specs.Opening.{by_checkpoints}
 use Rattle.command.specs.Settling.{ClosesSettled, OpensSettled}
 use Rattle.proxy_run.specs.Pipes.{HasServed, HasServedNone, Pipes, around_in}
 use Rattle.proxy_run.specs.Serving.{IsServedStatus, IsReason, ServesNone, ServesOne, pipe_setting}

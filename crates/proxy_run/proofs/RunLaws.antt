@@ -7,10 +7,11 @@ use Rattle.capture.specs.declared.site.Site.{Site}
 use Rattle.proxy_run.specs.Checks.{IsCounted}
 use Rattle.proxy_run.specs.Follows.{Follows}
 use Rattle.importing.specs.Imports.{Imports, ends_of}
+use Rattle.archive_core.specs.Known.{by_checkpoints, opening_of}
 use Rattle.command.specs.Objects.{Kinds, Objects, objects_of, with_one}
-use Rattle.command.specs.Opening.{IsNotOpened, by_checkpoints, opening_of}
+use Rattle.command.specs.Opening.{IsNotOpened}
 use Rattle.proxy_run.specs.Pipes.{Pipes, Refuses}
-use Rattle.command.specs.Printing.{Prints}
+use Rattle.command.specs.Printing.{Prints, printed_as}
 use Rattle.proxy_run.specs.Runs.{NamesNone, Runs}
 use Rattle.command.specs.Texts.{usage}
 use Rattle.proxy_run.specs.Trials.{Tries}
@@ -28,13 +29,13 @@ module _ {D G L P N M C O : Type 0} (kinds : Kinds D G L P N M C O) (known : Opt
       subst (λ f. Runs kinds known f site was (record was { out = out }) status) (sym none) (record { printed = printed; untouched = refl })
 
   checked : (was : Objects D G (List (N × C)) O) (disk : D) (out : O) (status : Status)
-      → IsCounted kinds.disks kinds.sinks was.disk disk was.out out status ⊎ IsNotOpened kinds.disks kinds.sinks (opening_of was.disk Whole None None) disk was.out out status
+      → IsCounted kinds.disks kinds.sinks was.disk disk was.out out status ⊎ IsNotOpened kinds.disks kinds.sinks (opening_of was.disk Whole None None) disk (printed_as was.out out status)
       → Runs kinds known (Some Check) site was (record was { disk = disk; out = out }) status
   checked was disk out status (inl counted) = inl (record { counted = counted; untouched = refl })
   checked was disk out status (inr refused) = inr (record { refused = refused; untouched = refl })
 
   pub runs_check : (command : Command) (was : Objects D G (List (N × C)) O) (disk : D) (out : O) (status : Status) → found ≡ Some command → command ≡ Check
-      → IsCounted kinds.disks kinds.sinks was.disk disk was.out out status ⊎ IsNotOpened kinds.disks kinds.sinks (opening_of was.disk Whole None None) disk was.out out status
+      → IsCounted kinds.disks kinds.sinks was.disk disk was.out out status ⊎ IsNotOpened kinds.disks kinds.sinks (opening_of was.disk Whole None None) disk (printed_as was.out out status)
       → Runs kinds known found site was (record was { disk = disk; out = out }) status
   runs_check command was disk out status is_command is_check result =
       subst (λ f. Runs kinds known f site was (record was { disk = disk; out = out }) status) (sym (is_command ∙ ap (λ (c : Command). Some c) is_check))
@@ -42,7 +43,7 @@ module _ {D G L P N M C O : Type 0} (kinds : Kinds D G L P N M C O) (known : Opt
 
   verified_in : (workers : ℕ) (was : Objects D G (List (N × C)) O) (disk : D) (out : O) (status : Status)
       → IsVerified kinds.disks kinds.sinks known was.disk disk was.out out status
-      ⊎ IsNotOpened kinds.disks kinds.sinks (by_checkpoints was.disk None known) disk was.out out status
+      ⊎ IsNotOpened kinds.disks kinds.sinks (by_checkpoints was.disk None known) disk (printed_as was.out out status)
       → Runs kinds known (Some (Verify workers)) site was (record was { disk = disk; out = out }) status
   verified_in workers was disk out status (inl verified) = inl (record { verified = verified; untouched = refl })
   verified_in workers was disk out status (inr refused) = inr (record { refused = refused; untouched = refl })
@@ -50,7 +51,7 @@ module _ {D G L P N M C O : Type 0} (kinds : Kinds D G L P N M C O) (known : Opt
   pub runs_verify : (command : Command) (workers : ℕ) (was : Objects D G (List (N × C)) O) (disk : D) (out : O) (status : Status) → found ≡ Some command
       → command ≡ Verify workers
       → IsVerified kinds.disks kinds.sinks known was.disk disk was.out out status
-      ⊎ IsNotOpened kinds.disks kinds.sinks (by_checkpoints was.disk None known) disk was.out out status
+      ⊎ IsNotOpened kinds.disks kinds.sinks (by_checkpoints was.disk None known) disk (printed_as was.out out status)
       → Runs kinds known found site was (record was { disk = disk; out = out }) status
   runs_verify command workers was disk out status is_command is_verify result =
       subst (λ f. Runs kinds known f site was (record was { disk = disk; out = out }) status) (sym (is_command ∙ ap (λ (c : Command). Some c) is_verify))
@@ -101,7 +102,7 @@ module _ {D G L P N M C O : Type 0} (kinds : Kinds D G L P N M C O) (known : Opt
 
   taken_in : (namespace : List ℕ) (was : Objects D G (List (N × C)) O) (disk : D) (gate : G) (out : O) (status : Status)
       → Imports kinds.disks kinds.gates kinds.sinks kinds.clients_tell known (Some namespace) (ends_of was.disk was.gate was.out) (ends_of disk gate out) status
-      ⊎ (IsNotOpened kinds.disks kinds.sinks (by_checkpoints was.disk (Some namespace) known) disk was.out out status × (gate ≡ was.gate))
+      ⊎ (IsNotOpened kinds.disks kinds.sinks (by_checkpoints was.disk (Some namespace) known) disk (printed_as was.out out status) × (gate ≡ was.gate))
       → Runs kinds known (Some (Import namespace)) site was (record was { disk = disk; gate = gate; out = out }) status
   taken_in namespace was disk gate out status (inl imports) = inl (record { imported = imports; untouched = refl })
   taken_in namespace was disk gate out status (inr (refused, same)) =
@@ -110,18 +111,18 @@ module _ {D G L P N M C O : Type 0} (kinds : Kinds D G L P N M C O) (known : Opt
   pub runs_import : (command : Command) (namespace : List ℕ) (was : Objects D G (List (N × C)) O) (disk : D) (gate : G) (out : O) (status : Status)
       → found ≡ Some command → command ≡ Import namespace
       → Imports kinds.disks kinds.gates kinds.sinks kinds.clients_tell known (asked_of command) (ends_of was.disk was.gate was.out) (ends_of disk gate out) status
-      ⊎ (IsNotOpened kinds.disks kinds.sinks (by_checkpoints was.disk (asked_of command) known) disk was.out out status × (gate ≡ was.gate))
+      ⊎ (IsNotOpened kinds.disks kinds.sinks (by_checkpoints was.disk (asked_of command) known) disk (printed_as was.out out status) × (gate ≡ was.gate))
       → Runs kinds known found site was (record was { disk = disk; gate = gate; out = out }) status
   runs_import command namespace was disk gate out status is_command is_import result =
       subst (λ f. Runs kinds known f site was (record was { disk = disk; gate = gate; out = out }) status) (sym (is_command ∙ ap (λ (c : Command). Some c) is_import))
       (taken_in namespace was disk gate out status
       (subst (λ c. Imports kinds.disks kinds.gates kinds.sinks kinds.clients_tell known (asked_of c) (ends_of was.disk was.gate was.out) (ends_of disk gate out) status
-      ⊎ (IsNotOpened kinds.disks kinds.sinks (by_checkpoints was.disk (asked_of c) known) disk was.out out status × (gate ≡ was.gate))) is_import result))
+      ⊎ (IsNotOpened kinds.disks kinds.sinks (by_checkpoints was.disk (asked_of c) known) disk (printed_as was.out out status) × (gate ≡ was.gate))) is_import result))
 
   replicated : (namespace : List ℕ) (base : Site) (was is : Objects D G (List (N × C)) O) (status : Status) (before after : N × C) (others : List (N × C))
       → was.crew ≡ before ∷ others → is.crew ≡ after ∷ others → is.gate ≡ was.gate
       → Follows kinds.disks known kinds.dialers kinds.sinks kinds.origins_tell (Some namespace) base was.disk is.disk before after was.out is.out status
-      ⊎ (IsNotOpened kinds.disks kinds.sinks (by_checkpoints was.disk (Some namespace) known) is.disk was.out is.out status × (after ≡ before))
+      ⊎ (IsNotOpened kinds.disks kinds.sinks (by_checkpoints was.disk (Some namespace) known) is.disk (printed_as was.out is.out status) × (after ≡ before))
       → Runs kinds known (Some (Follow namespace)) (Some base) was is status
   replicated namespace base was is status before after others were are gate (inl follows) = inl (record {
     first = record { before = before; after = after; others = others; were = were; are = are };
@@ -139,14 +140,14 @@ module _ {D G L P N M C O : Type 0} (kinds : Kinds D G L P N M C O) (known : Opt
       (others : List (N × C)) → found ≡ Some command → command ≡ Follow namespace → Some base ≡ site → was.crew ≡ before ∷ others → is.crew ≡ after ∷ others
       → is.gate ≡ was.gate
       → Follows kinds.disks known kinds.dialers kinds.sinks kinds.origins_tell (asked_of command) base was.disk is.disk before after was.out is.out status
-      ⊎ (IsNotOpened kinds.disks kinds.sinks (by_checkpoints was.disk (asked_of command) known) is.disk was.out is.out status × (after ≡ before))
+      ⊎ (IsNotOpened kinds.disks kinds.sinks (by_checkpoints was.disk (asked_of command) known) is.disk (printed_as was.out is.out status) × (after ≡ before))
       → Runs kinds known found site was is status
   runs_follow command namespace base was is status before after others is_command is_follow is_site were are gate result =
       subst (λ (s : Option Site). Runs kinds known found s was is status) is_site
       (subst (λ f. Runs kinds known f (Some base) was is status) (sym (is_command ∙ ap (λ (c : Command). Some c) is_follow))
       (replicated namespace base was is status before after others were are gate
       (subst (λ c. Follows kinds.disks known kinds.dialers kinds.sinks kinds.origins_tell (asked_of c) base was.disk is.disk before after was.out is.out status
-      ⊎ (IsNotOpened kinds.disks kinds.sinks (by_checkpoints was.disk (asked_of c) known) is.disk was.out is.out status × (after ≡ before))) is_follow result)))
+      ⊎ (IsNotOpened kinds.disks kinds.sinks (by_checkpoints was.disk (asked_of c) known) is.disk (printed_as was.out is.out status) × (after ≡ before))) is_follow result)))
 
   follow_lacking : (namespace : List ℕ) (base : Option Site) (was : Objects D G (List (N × C)) O) (status : Status) → status ≡ Memory
       → Runs kinds known (Some (Follow namespace)) base was was status

@@ -7,6 +7,7 @@ use Rattle.std.proofs.lemmas.List.Concat.{length-flat_map}
 use Rattle.std.proofs.lemmas.List.Elements.{All-from_recursion, recursion_from_All}
 use Rattle.std.proofs.lemmas.List.Sums.{sum_by-cons}
 use Rattle.archive_core.specs.Holdings.{Holdings, contents_of}
+use Rattle.archive_core.specs.Known.{by_checkpoints}
 use Rattle.archive_core.specs.Told.{told_of}
 use Rattle.archive_opening.specs.Telling.{HasCheckpointsOf}
 use Rattle.archive_shelf.specs.Contents.{Contents}
@@ -33,7 +34,6 @@ use Rattle.crew.specs.Crews.{IsEnd, ServesAll}
 use Rattle.command.specs.Objects.{Kinds, Objects}
 use Rattle.command.proofs.OpeningLaws.{ids_differ}
 use Rattle.command.proofs.SettlingLaws.{ready_none}
-use Rattle.command.specs.Opening.{by_checkpoints}
 use Rattle.command.specs.Settling.{ClosesSettled, IsOf, OpensSettled}
 use Rattle.proxy_run.specs.Serves.{AreNewcomers, HasShare, IsNewcomer, IsSharedOut, Seat, Serves, TellsCount, all_faults, all_mine, told_by}
 use Rattle.crew.specs.Shifts.{hands_of}

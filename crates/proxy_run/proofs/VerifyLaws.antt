@@ -6,7 +6,7 @@ use Rattle.std.proofs.lemmas.List.{map-append}
 use Rattle.std.proofs.lemmas.List.Concat.{flat_map-append}
 use Rattle.std.proofs.lemmas.List.Elements.{All-append, All-cons, All-nil}
 use Rattle.archive_core.specs.Holdings.{Holdings}
-use Rattle.archive_core.specs.Known.{IsReopenedKnown}
+use Rattle.archive_core.specs.Known.{IsReopenedKnown, by_checkpoints}
 use Rattle.archive_opening.specs.Counting.{HasCountsOf, HasInfo}
 use Rattle.archive_volumes.specs.Facts.{facts_from, facts_of}
 use Rattle.archive_volumes.specs.declared.volume_facts.VolumeFacts.{VolumeFacts}
@@ -21,8 +21,7 @@ use Rattle.disk_model.specs.declared.kind.Kind.TheVariants.{Warc}
 use Rattle.fixity.specs.Verdicts.{IsVerdict, volume_of}
 use Rattle.fixity.specs.declared.verdict.Verdict.{Verdict}
 use Rattle.outside.specs.declared.sink.Sink.{Ghosts as Sinks}
-use Rattle.archive_shelf.specs.declared.depth.Depth.TheVariants.{Checkpoints}
-use Rattle.command.specs.Opening.{IsOpened, by_checkpoints, usual_limits}
+use Rattle.command.specs.Opening.{IsOpened, usual_limits}
 use Rattle.command.specs.Printing.{Prints}
 use Rattle.proxy_run.specs.Verifies.{Checked, ChecksVolumes, IsRight, IsVerified, facts_in, has_damage, is_damaged, lines_of, verdict_line}
 use Rattle.proxy_run.specs.declared.plan.Plan.{Plan}
@@ -121,12 +120,12 @@ counted_there image book counts = by (length book.volumes) refl
 
 -- the files of an archive that was opened are there
 pub reopened_there : {D : Type 0} (disks : Disks D) (known : Option Book) (disk is : D) (held : Holdings D) (items : List VolumeFacts)
-    → IsReopenedKnown disks disk None usual_limits Checkpoints known held → is ≡ disk_of held.journal → items ≡ facts_of held.book → IsTrue disks.tells
+    → IsReopenedKnown disks (by_checkpoints disk None known) usual_limits held → is ≡ disk_of held.journal → items ≡ facts_of held.book → IsTrue disks.tells
     → All (IsThere (disks.reading is)) items
 reopened_there disks known disk is held items reopened closed listed told =
     let same : disks.reading is ≡ disks.reading disk = ap disks.reading closed ∙ (reopened.rests told).read in
     let there : All (IsThere (disks.reading disk)) (facts_of held.book) =
-    facts_there (file_count (disks.reading disk) Warc) 0 0 held.book.volumes (omega (arith, counted_there (disks.reading disk) held.book (reopened.lined.counts told))) in
+    facts_there (file_count (disks.reading disk) Warc) 0 0 held.book.volumes (omega (arith, counted_there (disks.reading disk) held.book ((reopened.lined refl).counts told))) in
     subst (λ (i : Image). All (IsThere i) items) (sym same) (subst (λ (l : List VolumeFacts). All (IsThere (disks.reading disk)) l) (sym listed) there)
 
 -- ---- what was told

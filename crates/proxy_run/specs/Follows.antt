@@ -17,7 +17,8 @@ use Rattle.outside.specs.declared.dialer.Dialer.{Ghosts as Dialers}
 use Rattle.outside.specs.declared.dialer.Transcript.{Transcript}
 use Rattle.outside.specs.declared.sink.Sink.{Ghosts as Sinks}
 use Rattle.replica.specs.Following.{HasFollowed, HaveIds, IsOfRefused, IsOnWay, OpensAtLast, OpensBehind, is_disk_stop, is_outside_stop}
-use Rattle.command.specs.Opening.{IsOpened, by_checkpoints}
+use Rattle.archive_core.specs.Known.{by_checkpoints}
+use Rattle.command.specs.Opening.{IsOpened}
 use Rattle.command.specs.Printing.{LacksMemory, Prints}
 use Rattle.replica.specs.Sources.{source_of}
 use Rattle.proxy_run.specs.StopTexts.{IsStopText, caught_up}

@@ -1,6 +1,7 @@
 -- What the command `pipe` leaves.
 use Rattle.std.specs.Prelude.{◌≡◌, ◌⊎◌, ◌≤◌, ℕ, List, true, IsTrue, Option}
 use Rattle.archive_core.specs.Holdings.{Holdings, contents_of}
+use Rattle.archive_core.specs.Known.{by_checkpoints, opening_of}
 use Rattle.archive_core.specs.Told.{told_of}
 use Rattle.archive_volumes.specs.Volumes.{OpensNear, crash_of, muted}
 use Rattle.archive_shelf.specs.Contents.{Contents}
@@ -11,7 +12,8 @@ use Rattle.capture.specs.declared.book.Book.{Book}
 use Rattle.disk_model.specs.Image.{Image}
 use Rattle.disk_model.specs.declared.disk.Disk.{Ghosts as Disks}
 use Rattle.command.specs.Objects.{Around, Kinds, Objects, told_around}
-use Rattle.command.specs.Opening.{IsNotOpened, by_checkpoints, opening_of}
+use Rattle.command.specs.Opening.{IsNotOpened}
+use Rattle.command.specs.Printing.{printed_as}
 use Rattle.command.specs.Settling.{ClosesSettled, OpensSettled}
 use Rattle.proxy_run.specs.Serving.{IsServedStatus, ServesNone, ServesOne, pipe_setting, pipe_site}
 use Rattle.command.specs.declared.status.Status.{Status}
@@ -71,5 +73,5 @@ module _ {D G L P N M C O : Type 0} (kinds : Kinds D G L P N M C O) where
 
   -- The archive was refused, and neither gate nor crew was touched.
   pub record Refuses {W : Type 0} (depth : Depth) (known : Option Book) (asked : Option (List ℕ)) (was is : Objects D G W O) (status : Status) : Type 0 where
-    pub refused : IsNotOpened kinds.disks kinds.sinks (opening_of was.disk depth asked known) is.disk was.out is.out status
+    pub refused : IsNotOpened kinds.disks kinds.sinks (opening_of was.disk depth asked known) is.disk (printed_as was.out is.out status)
     pub untouched : is ≡ record was { disk = is.disk; out = is.out }

@@ -3,6 +3,7 @@ use Rattle.std.specs.Prelude.{◌≡◌, ◌⊎◌, ℕ, ◌+◌, List, [], ◌�
 use Rattle.std.specs.List.{flat_map, range_with_len, sum_by}
 use Rattle.std.specs.List.Sorted.{IsStrictlyIncreasing}
 use Rattle.archive_core.specs.Holdings.{Holdings, contents_of}
+use Rattle.archive_core.specs.Known.{by_checkpoints}
 use Rattle.archive_core.specs.Told.{told_of}
 use Rattle.archive_opening.specs.Telling.{HasCheckpointsOf}
 use Rattle.archive_shelf.specs.Contents.{Contents}
@@ -20,7 +21,6 @@ use Rattle.disk_model.specs.Image.{no_files}
 use Rattle.outside.specs.declared.sink.Sink.{Ghosts as Sinks}
 use Rattle.crew.specs.Crews.{IsEnd, ServesAll}
 use Rattle.command.specs.Objects.{Kinds, Objects}
-use Rattle.command.specs.Opening.{by_checkpoints}
 use Rattle.command.specs.Printing.{LacksMemory, Prints}
 use Rattle.command.specs.Settling.{ClosesSettled, OpensSettled}
 use Rattle.crew.specs.Shifts.{hands_of}

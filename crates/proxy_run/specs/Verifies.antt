@@ -14,7 +14,8 @@ use Rattle.fixity.specs.declared.verdict.Verdict.{Verdict}
 use Rattle.fixity.specs.declared.verdict.Verdict.TheVariants.{Sound, Damaged}
 use Rattle.httparse.specs.Ascii.{line_feed}
 use Rattle.outside.specs.declared.sink.Sink.{Ghosts as Sinks}
-use Rattle.command.specs.Opening.{IsOpened, by_checkpoints}
+use Rattle.archive_core.specs.Known.{by_checkpoints}
+use Rattle.command.specs.Opening.{IsOpened}
 use Rattle.command.specs.Printing.{LacksMemory, Prints}
 use Rattle.command.specs.Texts.{file_name}
 use Rattle.command.specs.declared.status.Status.{Status}

@@ -1,8 +1,9 @@
 //! The command `check`: how much an archive holds.
 ghost use Rattle.std.specs.Prelude.{◌⊎◌, None};
 ghost use Rattle.proxy_run.specs.Checks.{IsCounted};
-ghost use Rattle.command.specs.Opening.{IsNotOpened, opening_of};
-ghost use Rattle.command.specs.Printing.{LacksMemory, Prints};
+ghost use Rattle.archive_core.specs.Known.{opening_of};
+ghost use Rattle.command.specs.Opening.{IsNotOpened};
+ghost use Rattle.command.specs.Printing.{LacksMemory, Prints, printed_as};
 ghost use Rattle.command.specs.Texts as spec;
 
 use archive_shelf::{Counts, Depth};
@@ -15,7 +16,7 @@ use std::alloc::Global;
 /// Opens the archive on the disk, prints how much it holds, and closes it. Nothing is written.
 pub fn check<D: Disk, O: Sink>(alloc: Global, disk: D, out: &mut O) -> Ran<D>
     ensures { IsCounted D.Disk O.Sink disk result.disk out.old out.new result.status
-        ⊎ IsNotOpened D.Disk O.Sink (opening_of disk Depth.Whole None None) result.disk out.old out.new result.status }
+        ⊎ IsNotOpened D.Disk O.Sink (opening_of disk Depth.Whole None None) result.disk (printed_as out.old out.new result.status) }
 {
     let archive = match open::<Unknown, D, O>(alloc, disk, None, Depth::Whole, out) {
         Ok(archive) => archive,

@@ -1,8 +1,9 @@
 //! The command `follow`: an archive takes the captures of another one, piece by piece.
 ghost use Rattle.std.specs.Prelude.{◌≡◌, ◌⊎◌, IfOk, IfSome};
 ghost use Rattle.proxy_run.specs.Follows.{Follows, FollowsTo, TellsStop};
-ghost use Rattle.command.specs.Opening.{IsNotOpened, by_checkpoints};
-ghost use Rattle.command.specs.Printing.{LacksMemory, Prints};
+ghost use Rattle.archive_core.specs.Known.{by_checkpoints};
+ghost use Rattle.command.specs.Opening.{IsNotOpened};
+ghost use Rattle.command.specs.Printing.{LacksMemory, Prints, printed_as};
 ghost use Rattle.replica.specs.Sources.{source_of as spec_source_of};
 ghost use Rattle.command.specs.Texts as text;
 ghost use Rattle.proxy_run.specs.StopTexts as spec;
@@ -36,7 +37,7 @@ pub fn follow<K: Known, D: Disk, N: Dialer, C: Clock, O: Sink>(
     requires known { MayBeSettled D.Disk disk (word.asked_of command) K.book }
     ensures { Follows D.Disk K.book N.Dialer O.Sink N.Link.tells (word.asked_of command) site.now disk result.disk member.old member.new out.old out.new
         result.status
-        ⊎ (IsNotOpened D.Disk O.Sink (by_checkpoints disk (word.asked_of command) K.book) result.disk out.old out.new result.status × (member.new ≡ member.old)) }
+        ⊎ (IsNotOpened D.Disk O.Sink (by_checkpoints disk (word.asked_of command) K.book) result.disk (printed_as out.old out.new result.status) × (member.new ≡ member.old)) }
 {
     let mut archive = match open::<K, D, O>(
         alloc,

@@ -4,7 +4,9 @@ ghost use Rattle.archive_volumes.specs.Facts.{facts_of};
 ghost use Rattle.archive_volumes.specs.declared.volume_facts.VolumeFacts.{VolumeFacts as Facts};
 ghost use Rattle.fixity.specs.Faults.{CountsDisk};
 ghost use Rattle.archive_opening.specs.Telling.{MayBeSettled};
-ghost use Rattle.command.specs.Opening.{IsNotOpened, by_checkpoints};
+ghost use Rattle.archive_core.specs.Known.{by_checkpoints};
+ghost use Rattle.command.specs.Opening.{IsNotOpened};
+ghost use Rattle.command.specs.Printing.{printed_as};
 ghost use Rattle.proxy_run.specs.Verifies.{ChecksVolumes, IsVerified};
 ghost use Rattle.proxy_run.specs.steps.Verifying.{ChecksUpTo, HasChecked, IsPlan, IsSmall, IsThere};
 
@@ -34,7 +36,7 @@ pub fn verify<K: Known, R: Threads + Sync, D: Disk, O: Sink>(
     requires workers { (0 < workers) × (workers ≤ 16) }
     requires known { MayBeSettled D.Disk disk None K.book }
     ensures { IsVerified D.Disk O.Sink K.book disk result.disk out.old out.new result.status
-        ⊎ IsNotOpened D.Disk O.Sink (by_checkpoints disk None K.book) result.disk out.old out.new result.status }
+        ⊎ IsNotOpened D.Disk O.Sink (by_checkpoints disk None K.book) result.disk (printed_as out.old out.new result.status) }
 {
     let archive = match open::<K, D, O>(alloc, disk, None, Depth::Checkpoints, out) {
         Ok(archive) => archive,

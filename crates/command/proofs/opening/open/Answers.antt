@@ -1,10 +1,11 @@
 -- The archive was opened, or it was refused.
 use Rattle.std.proofs.Common.{arith}
 use Rattle.archive_core.proofs.KnownLaws.{may_be_known}
+use Rattle.archive_core.specs.Known.{opening_of}
 use Rattle.command.proofs.OpeningLaws.{refused_as}
 use Rattle.command.proofs.SettlingLaws.{checkpoints_known}
 use Rattle.command.proofs.opening.open.Goals as goal
-use Rattle.command.specs.Opening.{opening_of}
+use Rattle.command.specs.Printing.{printed_as}
 
 pub reopen_known-requires : goal.reopen_known-requires
 reopen_known-requires g c = λ κs within. (
@@ -26,5 +27,5 @@ returns-in-Ok-clause-opened g c = record { is = c.in-Ok.ensures.reopened; whole 
 
 pub returns-in-Err-clause-refused : goal.returns-in-Err-clause-refused
 returns-in-Err-clause-refused g c =
-    refused_as g.D.Disk g.O.Sink (opening_of c.args.disk c.args.depth c.args.asked g.K.Known.book) _ c.args.out.now c.print_fault.new.out _
+    refused_as g.D.Disk g.O.Sink (opening_of c.args.disk c.args.depth c.args.asked g.K.Known.book) _ (printed_as c.args.out.now c.print_fault.new.out _)
     c.in-Err.ensures.refused c.in-Err.ensures.whole_refused c.print_fault.ensures

@@ -3,7 +3,7 @@ use Rattle.std.specs.Prelude.{IfOk}
 use Rattle.archive_shelf.specs.declared.depth.Depth.{Depth}
 use Rattle.archive_opening.specs.Telling.{MayBeSettled}
 use Rattle.archive_volumes.proofs.ChangeLaws.{DiskLaws}
-use Rattle.archive_core.specs.Known.{IsReopenedKnown}
+use Rattle.archive_core.specs.Known.{IsReopenedKnown, opening_of}
 use Rattle.archive_core.proofs.KnownLaws.{may_be_settled}
 use Rattle.archive_core.proofs.ReopenLaws.{known_whole, none_known}
 use Rattle.archive_core.proofs.archive.Archive.reopen_known.Given.{Over}
@@ -15,7 +15,7 @@ disk_laws g = record { earlier = g.met.D.Disk.earlier; now_counts = g.met.D.Disk
 
 pub returns-in-Whole-clause-reopened : goal.returns-in-Whole-clause-reopened
 returns-in-Whole-clause-reopened g c =
-    subst (λ (depth : Depth). IfOk c.open_whole.result (IsReopenedKnown g.D.Disk c.args.disk c.args.namespace c.args.limits depth g.known)) (sym c.in-Whole.is)
+    subst (λ (depth : Depth). IfOk c.open_whole.result (IsReopenedKnown g.D.Disk (opening_of c.args.disk depth c.args.namespace g.known) c.args.limits)) (sym c.in-Whole.is)
     (known_whole g.D.Disk (disk_laws g) c.args.disk c.args.namespace c.args.limits g.known c.requires.1.1.1.0 c.open_whole.result c.open_whole.ensures.reopened)
 
 pub returns-in-Whole-clause-refused : goal.returns-in-Whole-clause-refused
@@ -29,5 +29,5 @@ reopen_told-requires-clause-known g c =
 
 pub returns-in-Checkpoints-clause-reopened : goal.returns-in-Checkpoints-clause-reopened
 returns-in-Checkpoints-clause-reopened g c =
-    subst (λ (depth : Depth). IfOk c.reopen_told.result (IsReopenedKnown g.D.Disk c.args.disk c.args.namespace c.args.limits depth g.known))
+    subst (λ (depth : Depth). IfOk c.reopen_told.result (IsReopenedKnown g.D.Disk (opening_of c.args.disk depth c.args.namespace g.known) c.args.limits))
     (sym c.in-Checkpoints.is) (rw c.told_by-known.ensures at c.reopen_told.ensures.reopened)
