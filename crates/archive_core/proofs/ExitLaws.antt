@@ -53,8 +53,8 @@ use Rattle.archive_core.specs.Shown.{numbered, numbers_from}
 use Rattle.archive_volumes.specs.Spots.{AreHeldWhole, ArePlaced, AreSpotsOf, AreWithin, text_at, whole_from}
 use Rattle.archive_core.specs.Stores.{FillsVolumes, Stores}
 use Rattle.archive_core.specs.Told.{told_of}
-use Rattle.archive_volumes.specs.Writing.{HasRoomFor, IsWay, TakesSo, Writes, end_with, texts_with, with_prepared}
-use Rattle.archive_volumes.specs.Written.{WritesTexts}
+use Rattle.archive_volumes.specs.Writing.{HasRoomFor, IsWay, TakesSo, Writes, books_as, end_with, texts_with, with_prepared}
+use Rattle.archive_volumes.specs.Written.{WritesTexts, texts_as}
 use Rattle.archive_volumes.specs.Volumes.{HoldsBook, IsMeasured, crash_of, muted}
 use Rattle.archive_volumes.specs.declared.entry.RecordAt.{RecordAt}
 use Rattle.archive_volumes.specs.declared.room.Prepared.{Prepared}
@@ -423,8 +423,8 @@ module _ {D : Type 0} (d : Ghosts D) (basis : StoringBasis) (was : Holdings D) (
             left
 
         pub refused_archive : {T E : Type 0} (fault : E) → spots ≡ was.spots
-            → Writes {T = T} {E = E} (muted was.told d) (disk_of now.journal) (disk_of journal) (book_of now.held) (with_prepared (book_of now.held) ready.prepared)
-            (with_capture (with_prepared (book_of now.held) ready.prepared) (stored_in ready.stored)) after (Err fault)
+            → Writes {T = T} {E = E} (muted was.told d) (disk_of now.journal) (disk_of journal) (books_as (book_of now.held) (with_prepared (book_of now.held) ready.prepared)
+            (with_capture (with_prepared (book_of now.held) ready.prepared) (stored_in ready.stored)) after) (Err fault)
             → IsArchive d (record was { journal = journal; book = after; table = table; index = index; spots = spots })
         refused_archive fault kept writes =
             archive_left d (in_volumes was now) u.is journal after table holds measured (room_grows book after ready.prepared left) writes.kept index spots captures_stay index_stays table_is spots_are within placed made
@@ -432,11 +432,11 @@ module _ {D : Type 0} (d : Ghosts D) (basis : StoringBasis) (was : Holdings D) (
             (named_same was.spots spots was.index index u.is.named kept index_stays)
 
         pub refused_stores : {T E : Type 0} (fault : E)
-            → Writes {T = T} {E = E} (muted was.told d) (disk_of now.journal) (disk_of journal) (book_of now.held) (with_prepared (book_of now.held) ready.prepared)
-            (with_capture (with_prepared (book_of now.held) ready.prepared) (stored_in ready.stored)) after (Err fault)
+            → Writes {T = T} {E = E} (muted was.told d) (disk_of now.journal) (disk_of journal) (books_as (book_of now.held) (with_prepared (book_of now.held) ready.prepared)
+            (with_capture (with_prepared (book_of now.held) ready.prepared) (stored_in ready.stored)) after) (Err fault)
             → CountsFaults {T = T} {E = E} (d.faults (disk_of now.journal)) (d.faults (disk_of journal)) (Err fault)
-            → (IsTrue d.tells → WritesTexts {T = T} {E = E} d now.journal journal (texts_with (texts d now.journal) ready.prepared)
-            (with_more (texts_with (texts d now.journal) ready.prepared) ready.group) (Err fault))
+            → (IsTrue d.tells → WritesTexts {T = T} {E = E} d now.journal journal (texts_as (texts_with (texts d now.journal) ready.prepared)
+            (with_more (texts_with (texts d now.journal) ready.prepared) ready.group)) (Err fault))
             → Stores d (in_volumes was now) (record was { journal = journal; book = after; table = table; index = index; spots = spots })
             incoming.taken (Err stores.DiskFault)
         refused_stores {T} {E} fault writes counts wrote =
@@ -498,8 +498,8 @@ module _ {D : Type 0} (d : Ghosts D) (basis : StoringBasis) (was : Holdings D) (
         gains = ap (λ (b : Book). captures b) stored_is ∙ room_gains book ready.prepared stored some
 
         pub stored_archive : {T E : Type 0} (value : T) → spots ≡ was.spots ++ spot_in now ready ∷ []
-            → Writes {T = T} {E = E} (muted was.told d) (disk_of now.journal) (disk_of journal) (book_of now.held) (with_prepared (book_of now.held) ready.prepared)
-            (with_capture (with_prepared (book_of now.held) ready.prepared) (stored_in ready.stored)) after (Ok value)
+            → Writes {T = T} {E = E} (muted was.told d) (disk_of now.journal) (disk_of journal) (books_as (book_of now.held) (with_prepared (book_of now.held) ready.prepared)
+            (with_capture (with_prepared (book_of now.held) ready.prepared) (stored_in ready.stored)) after) (Ok value)
             → IsIndex index → revisits ≡ was.revisits + (if is_some incoming.same then 1 else 0)
             → IsArchive d (record was { journal = journal; book = after; table = table; index = index; spots = spots; revisits = revisits })
         stored_archive value kept writes indexed more =
@@ -549,12 +549,12 @@ module _ {D : Type 0} (d : Ghosts D) (basis : StoringBasis) (was : Holdings D) (
             }
 
         pub stored_stores : {T E : Type 0} (value : T)
-            → Writes {T = T} {E = E} (muted was.told d) (disk_of now.journal) (disk_of journal) (book_of now.held) (with_prepared (book_of now.held) ready.prepared)
-            (with_capture (with_prepared (book_of now.held) ready.prepared) (stored_in ready.stored)) after (Ok value)
+            → Writes {T = T} {E = E} (muted was.told d) (disk_of now.journal) (disk_of journal) (books_as (book_of now.held) (with_prepared (book_of now.held) ready.prepared)
+            (with_capture (with_prepared (book_of now.held) ready.prepared) (stored_in ready.stored)) after) (Ok value)
             → CountsFaults {T = T} {E = E} (d.faults (disk_of now.journal)) (d.faults (disk_of journal)) (Ok value)
             → last_len journal ≡ end_with now ready.prepared + length ready.group
-            → (IsTrue d.tells → WritesTexts {T = T} {E = E} d now.journal journal (texts_with (texts d now.journal) ready.prepared)
-            (with_more (texts_with (texts d now.journal) ready.prepared) ready.group) (Ok value))
+            → (IsTrue d.tells → WritesTexts {T = T} {E = E} d now.journal journal (texts_as (texts_with (texts d now.journal) ready.prepared)
+            (with_more (texts_with (texts d now.journal) ready.prepared) ready.group)) (Ok value))
             → (receipt : Receipt) → receipt.number ≡ length (captures (book_of now.held)) → receipt.same_as ≡ incoming.same
             → Stores d (in_volumes was now) (record was { journal = journal; book = after; table = table; index = index; spots = spots; revisits = revisits })
             incoming.taken (Ok receipt)

@@ -22,7 +22,7 @@ use Rattle.archive_volumes.proofs.WrittenLaws.{rests_on, texts_since}
 use Rattle.archive_volumes.specs.Grouping.{IsGroupFor}
 use Rattle.archive_volumes.specs.Held.{book_of}
 use Rattle.archive_volumes.specs.Writing.{HasRoomFor, IsDecided, IsNeeded, end_with, texts_with, with_prepared}
-use Rattle.archive_volumes.specs.Written.{WritesTexts}
+use Rattle.archive_volumes.specs.Written.{WritesTexts, texts_as}
 use Rattle.archive_volumes.specs.declared.room.Prepared.{Prepared}
 use Rattle.archive_volumes.specs.declared.volumes.Volumes.{Volumes}
 
@@ -39,8 +39,8 @@ pub fills_by : {D : Type 0} (d : Ghosts D) (was is : Holdings D) (now : Volumes 
     → (result : Result Receipt StoreFault)
     → OnOk result (is.book ≡ with_capture (with_prepared was.book prepared) (as_stored taken same))
     → OnOk result (last_len is.journal ≡ end_with now prepared + length group)
-    → (IsTrue d.tells → WritesTexts d now.journal is.journal (texts_with (texts d now.journal) prepared)
-    (with_more (texts_with (texts d now.journal) prepared) group) result)
+    → (IsTrue d.tells → WritesTexts d now.journal is.journal (texts_as (texts_with (texts d now.journal) prepared)
+    (with_more (texts_with (texts d now.journal) prepared) group)) result)
     → FillsVolumes d was is taken same result
 fills_by {D} d was is now taken same payload group journal_is book_is has of None room born decided result book ends wrote = record {
   payload = payload;
@@ -55,7 +55,7 @@ fills_by {D} d was is now taken same payload group journal_is book_is has of Non
       end ∙ sym (ap (λ (j : Journal D). last_len j + length group) journal_is))
       ends;
   bytes = λ tells.
-      subst (λ (j : Journal D). WritesTexts d j is.journal (texts d j) (with_more (texts d j) group) result) (sym journal_is) (wrote tells);
+      subst (λ (j : Journal D). WritesTexts d j is.journal (texts_as (texts d j) (with_more (texts d j) group)) result) (sym journal_is) (wrote tells);
 }
 fills_by {D} d was is now taken same payload group journal_is book_is has of (Some p) room born decided result book ends wrote =
     let info : List ℕ = info_text was.book.namespace (length was.book.volumes) taken.date in
@@ -78,9 +78,9 @@ fills_by {D} d was is now taken same payload group journal_is book_is has of (So
           (λ (end : last_len is.journal ≡ length p.info + length group). end ∙ ap (λ (text : List ℕ). length text + length group) info_is)
           ends;
       bytes = λ tells.
-          subst (λ (j : Journal D). WritesTexts d j is.journal (texts d j ++ info ∷ []) (with_more (texts d j ++ info ∷ []) group) result) (sym journal_is)
-          (subst (λ (text : List ℕ). WritesTexts d now.journal is.journal (texts d now.journal ++ text ∷ [])
-          (with_more (texts d now.journal ++ text ∷ []) group) result) info_is (wrote tells));
+          subst (λ (j : Journal D). WritesTexts d j is.journal (texts_as (texts d j ++ info ∷ []) (with_more (texts d j ++ info ∷ []) group)) result) (sym journal_is)
+          (subst (λ (text : List ℕ). WritesTexts d now.journal is.journal (texts_as (texts d now.journal ++ text ∷ [])
+          (with_more (texts d now.journal ++ text ∷ []) group)) result) info_is (wrote tells));
     }
 
 -- nothing was written
@@ -125,7 +125,7 @@ module _ {D : Type 0} (d : Ghosts D) (was is : Holdings D) (journal : Journal D)
         bytes = λ tells.
             texts_since d was.journal journal is.journal (texts_where d was f.begun taken.date) (with_more (texts_where d was f.begun taken.date) f.group)
             result (rests tells) (read_same tells)
-            (subst (λ (room : List (List ℕ)). WritesTexts d journal is.journal room (with_more room f.group) result) (where_same f.begun tells) (f.bytes tells));
+            (subst (λ (room : List (List ℕ)). WritesTexts d journal is.journal (texts_as room (with_more room f.group)) result) (where_same f.begun tells) (f.bytes tells));
       }
 
   pub fills_after : (result : Result Receipt StoreFault) → Fills d (record was { journal = journal }) is taken result → Fills d was is taken result

@@ -47,8 +47,8 @@ use Rattle.archive_volumes.specs.Held.{book_of, stored_in}
 use Rattle.archive_volumes.specs.Ready.{CanCommit, record_in, spot_in}
 use Rattle.archive_volumes.specs.Spots.{AreHeldWhole, ArePlaced, AreSpotsOf, AreWithin, IsPlaced, spot_of, text_at, whole_from}
 use Rattle.archive_volumes.specs.Volumes.{HoldsBook, IsMeasured, muted}
-use Rattle.archive_volumes.specs.Writing.{HasRoomFor, Writes, end_with, texts_with, with_prepared}
-use Rattle.archive_volumes.specs.Written.{WritesTexts}
+use Rattle.archive_volumes.specs.Writing.{HasRoomFor, Writes, books_as, end_with, texts_with, with_prepared}
+use Rattle.archive_volumes.specs.Written.{WritesTexts, texts_as}
 use Rattle.archive_volumes.specs.declared.entry.RecordAt.{RecordAt}
 use Rattle.archive_volumes.specs.declared.ready.Ready.{Ready}
 use Rattle.archive_volumes.specs.declared.room.Prepared.{Prepared}
@@ -361,7 +361,7 @@ module _ {D : Type 0} (d : Ghosts D) (basis : StoringBasis) (reading : Laws) (wa
       room_texts = texts_with_room d was now begins ready.prepared t.room_is.room room_same
 
       abbrev WritesSo : {T E : Type 0} → List (List ℕ) → List ℕ → Result T E → Type 0
-      WritesSo all group result = WritesTexts d now.journal journal all (with_more all group) result
+      WritesSo all group result = WritesTexts d now.journal journal (texts_as all (with_more all group)) result
 
       wrote_so : {T E : Type 0} (result : Result T E) → WritesSo (texts_with (texts d now.journal) ready.prepared) ready.group result
           → WritesSo (texts_room d (in_volumes was now) begins) text result
@@ -397,8 +397,8 @@ module _ {D : Type 0} (d : Ghosts D) (basis : StoringBasis) (reading : Laws) (wa
             left
 
         pub refused_archive : {T E : Type 0} (fault : E) → spots ≡ was.spots
-            → Writes {T = T} {E = E} (muted was.told d) (disk_of now.journal) (disk_of journal) (book_of now.held) (with_prepared (book_of now.held) ready.prepared)
-            (with_capture (with_prepared (book_of now.held) ready.prepared) (stored_in ready.stored)) after (Err fault)
+            → Writes {T = T} {E = E} (muted was.told d) (disk_of now.journal) (disk_of journal) (books_as (book_of now.held) (with_prepared (book_of now.held) ready.prepared)
+            (with_capture (with_prepared (book_of now.held) ready.prepared) (stored_in ready.stored)) after) (Err fault)
             → IsArchive d (record was { journal = journal; book = after; table = table; index = index; spots = spots })
         refused_archive fault kept writes =
             archive_left d (in_volumes was now) t.is journal after table holds measured (room_grows book after ready.prepared left) writes.kept index spots captures_stay index_stays table_is spots_are within placed made
@@ -406,17 +406,17 @@ module _ {D : Type 0} (d : Ghosts D) (basis : StoringBasis) (reading : Laws) (wa
             (named_same was.spots spots was.index index t.is.named kept index_stays)
 
         pub refused_puts : {T E : Type 0} (fault : E)
-            → Writes {T = T} {E = E} (muted was.told d) (disk_of now.journal) (disk_of journal) (book_of now.held) (with_prepared (book_of now.held) ready.prepared)
-            (with_capture (with_prepared (book_of now.held) ready.prepared) (stored_in ready.stored)) after (Err fault)
-            → (IsTrue d.tells → WritesTexts {T = T} {E = E} d now.journal journal (texts_with (texts d now.journal) ready.prepared)
-            (with_more (texts_with (texts d now.journal) ready.prepared) ready.group) (Err fault))
+            → Writes {T = T} {E = E} (muted was.told d) (disk_of now.journal) (disk_of journal) (books_as (book_of now.held) (with_prepared (book_of now.held) ready.prepared)
+            (with_capture (with_prepared (book_of now.held) ready.prepared) (stored_in ready.stored)) after) (Err fault)
+            → (IsTrue d.tells → WritesTexts {T = T} {E = E} d now.journal journal (texts_as (texts_with (texts d now.journal) ready.prepared)
+            (with_more (texts_with (texts d now.journal) ready.prepared) ready.group)) (Err fault))
             → Puts d (in_volumes was now) (record was { journal = journal; book = after; table = table; index = index; spots = spots })
             (parts_as text group first begins) (Err pieces.DiskFault)
         refused_puts {T} {E} fault writes wrote =
-            let told_writes : Writes {T = T} {E = E} (muted was.told d) (disk_of now.journal) (disk_of journal) book (room_by book begins)
-            (book_by book begins group first) after (Err fault)
-            = subst (λ (b : Book). Writes {T = T} {E = E} (muted was.told d) (disk_of now.journal) (disk_of journal) book b (book_by book begins group first) after (Err fault)) room_same
-            (subst (λ (b : Book). Writes {T = T} {E = E} (muted was.told d) (disk_of now.journal) (disk_of journal) book room b after (Err fault)) after_same writes) in
+            let told_writes : Writes {T = T} {E = E} (muted was.told d) (disk_of now.journal) (disk_of journal) (books_as book (room_by book begins)
+            (book_by book begins group first) after) (Err fault)
+            = subst (λ (b : Book). Writes {T = T} {E = E} (muted was.told d) (disk_of now.journal) (disk_of journal) (books_as book b (book_by book begins group first) after) (Err fault)) room_same
+            (subst (λ (b : Book). Writes {T = T} {E = E} (muted was.told d) (disk_of now.journal) (disk_of journal) (books_as book room b after) (Err fault)) after_same writes) in
             record {
               left = ⊎_elim
                   (λ (same : after ≡ book). inl same)
@@ -456,8 +456,8 @@ module _ {D : Type 0} (d : Ghosts D) (basis : StoringBasis) (reading : Laws) (wa
         gains = ap (λ (b : Book). captures b) stored_is ∙ room_gains book ready.prepared stored t.room_is.some
 
         pub stored_archive : {T E : Type 0} (value : T) → spots ≡ was.spots ++ spot_in now ready ∷ []
-            → Writes {T = T} {E = E} (muted was.told d) (disk_of now.journal) (disk_of journal) (book_of now.held) (with_prepared (book_of now.held) ready.prepared)
-            (with_capture (with_prepared (book_of now.held) ready.prepared) (stored_in ready.stored)) after (Ok value)
+            → Writes {T = T} {E = E} (muted was.told d) (disk_of now.journal) (disk_of journal) (books_as (book_of now.held) (with_prepared (book_of now.held) ready.prepared)
+            (with_capture (with_prepared (book_of now.held) ready.prepared) (stored_in ready.stored)) after) (Ok value)
             → IsIndex index → revisits ≡ was.revisits + (if is_some first then 1 else 0)
             → IsArchive d (record was { journal = journal; book = after; table = table; index = index; spots = spots; revisits = revisits })
         stored_archive value kept writes indexed more =
@@ -474,19 +474,19 @@ module _ {D : Type 0} (d : Ghosts D) (basis : StoringBasis) (reading : Laws) (wa
             numbered_so spots index kept index_is)
 
         pub stored_puts : {T E : Type 0} (value : T)
-            → Writes {T = T} {E = E} (muted was.told d) (disk_of now.journal) (disk_of journal) (book_of now.held) (with_prepared (book_of now.held) ready.prepared)
-            (with_capture (with_prepared (book_of now.held) ready.prepared) (stored_in ready.stored)) after (Ok value)
+            → Writes {T = T} {E = E} (muted was.told d) (disk_of now.journal) (disk_of journal) (books_as (book_of now.held) (with_prepared (book_of now.held) ready.prepared)
+            (with_capture (with_prepared (book_of now.held) ready.prepared) (stored_in ready.stored)) after) (Ok value)
             → last_len journal ≡ end_with now ready.prepared + length ready.group
-            → (IsTrue d.tells → WritesTexts {T = T} {E = E} d now.journal journal (texts_with (texts d now.journal) ready.prepared)
-            (with_more (texts_with (texts d now.journal) ready.prepared) ready.group) (Ok value))
+            → (IsTrue d.tells → WritesTexts {T = T} {E = E} d now.journal journal (texts_as (texts_with (texts d now.journal) ready.prepared)
+            (with_more (texts_with (texts d now.journal) ready.prepared) ready.group)) (Ok value))
             → (answer : ℕ) → answer ≡ length (captures (book_of now.held))
             → Puts d (in_volumes was now) (record was { journal = journal; book = after; table = table; index = index; spots = spots; revisits = revisits })
             (parts_as text group first begins) (Ok answer)
         stored_puts {T} {E} value writes ends wrote answer number_is =
             let whole : after ≡ book_by book begins group first = with_it ∙ after_same in
-            let told_writes : Writes {T = T} {E = E} (muted was.told d) (disk_of now.journal) (disk_of journal) book (room_by book begins) after after (Ok value)
-            = subst (λ (b : Book). Writes {T = T} {E = E} (muted was.told d) (disk_of now.journal) (disk_of journal) book b after after (Ok value)) room_same
-            (subst (λ (b : Book). Writes {T = T} {E = E} (muted was.told d) (disk_of now.journal) (disk_of journal) book room b after (Ok value)) (sym with_it) writes) in
+            let told_writes : Writes {T = T} {E = E} (muted was.told d) (disk_of now.journal) (disk_of journal) (books_as book (room_by book begins) after after) (Ok value)
+            = subst (λ (b : Book). Writes {T = T} {E = E} (muted was.told d) (disk_of now.journal) (disk_of journal) (books_as book b after after) (Ok value)) room_same
+            (subst (λ (b : Book). Writes {T = T} {E = E} (muted was.told d) (disk_of now.journal) (disk_of journal) (books_as book room b after) (Ok value)) (sym with_it) writes) in
             let count : length (captures after) ≡ number + 1 =
             omega (arith, ap (λ (l : List Stored). length l) gains, length-append (captures book) (stored ∷ [])) in
             let mine = mine_more was.found number (length (captures after)) answer t.is.counted.found count number_is in

@@ -21,7 +21,7 @@ use Rattle.archive_pieces.specs.PieceParts.{room_by}
 use Rattle.archive_pieces.specs.declared.fault.PieceFault.{PieceFault}
 use Rattle.archive_pieces.specs.declared.fault.PieceFault.TheVariants as pieces
 use Rattle.archive_volumes.specs.Volumes.{crash_of, muted}
-use Rattle.archive_volumes.specs.Writing.{Writes}
+use Rattle.archive_volumes.specs.Writing.{Writes, books_as}
 use Rattle.archive_core.specs.Holdings.{Holdings, contents_of}
 use Rattle.archive_core.specs.TakingPieces.{HasTaken, IsNextOf, IsNotRefused, IsUntaken, StaysBeginning, TakenPiecesLeadOn, TakesPiece, disk_failed, took}
 use Rattle.archive_core.specs.Told.{told_of}
@@ -50,8 +50,8 @@ module _ {D : Type 0} (d : Ghosts D) (leads : NextPiecesLeadOn) (was is : Holdin
   -- a capture was written, or refused by the disk
   stays_on : {T E : Type 0} (begins : Option ℕ) (stored : Stored) (result : Result T E) → is.told ≡ was.told
       → Takes was.book bytes (with_capture (room_by was.book begins) stored)
-      → Writes {T = T} {E = E} (muted was.told d) (disk_of was.journal) (disk_of is.journal) was.book (room_by was.book begins)
-      (with_capture (room_by was.book begins) stored) is.book result
+      → Writes {T = T} {E = E} (muted was.told d) (disk_of was.journal) (disk_of is.journal) (books_as was.book (room_by was.book begins)
+      (with_capture (room_by was.book begins) stored) is.book) result
       → Grows is.book source → StaysBeginning d was is source
   stays_on begins stored result told takes writes seen =
       let room : Book = room_by was.book begins in
@@ -82,7 +82,7 @@ module _ {D : Type 0} (d : Ghosts D) (leads : NextPiecesLeadOn) (was is : Holdin
       let told : is.told ≡ was.told = ap (λ (c : Contents). c.tells) t.put.others in
       stays_on t.begins stored (took number) told
       (subst (λ (b : Book). Takes was.book bytes b) t.put.book takes)
-      (subst (λ (b : Book). Writes (muted was.told d) (disk_of was.journal) (disk_of is.journal) was.book (room_by was.book t.begins) b is.book (took number))
+      (subst (λ (b : Book). Writes (muted was.told d) (disk_of was.journal) (disk_of is.journal) (books_as was.book (room_by was.book t.begins) b is.book) (took number))
       t.put.book t.put.writes)
       (grown_from is.book takes)
 

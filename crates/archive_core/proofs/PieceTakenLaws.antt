@@ -29,8 +29,8 @@ use Rattle.archive_volumes.proofs.StoreLaws.{opens_earlier, quiet_itself}
 use Rattle.archive_volumes.proofs.VolumeLaws.{texts_rest}
 use Rattle.archive_volumes.proofs.WrittenLaws.{rests_itself, texts_since}
 use Rattle.archive_volumes.specs.Volumes.{crash_of, muted}
-use Rattle.archive_volumes.specs.Writing.{Writes}
-use Rattle.archive_volumes.specs.Written.{WritesTexts}
+use Rattle.archive_volumes.specs.Writing.{Writes, books_as}
+use Rattle.archive_volumes.specs.Written.{WritesTexts, texts_as}
 use Rattle.archive_core.specs.Basis.{StoringBasis}
 use Rattle.archive_core.specs.Holdings.{Holdings, IsArchive, contents_of}
 use Rattle.archive_core.specs.Looking.{OnlyLooks}
@@ -127,8 +127,8 @@ module _ {D : Type 0} (d : Ghosts D) (laws : DiskLaws d) (was mid is : Holdings 
   earlier_mid = opens_earlier (muted was.told d) (laws_muted d was.told laws) (disk_of mid.journal)
 
   writes_on : (room after now : Book) (result : Result ℕ PieceFault)
-      → Writes (muted was.told d) (disk_of mid.journal) (disk_of is.journal) was.book room after now result
-      → Writes (muted was.told d) (disk_of was.journal) (disk_of is.journal) was.book room after now result
+      → Writes (muted was.told d) (disk_of mid.journal) (disk_of is.journal) (books_as was.book room after now) result
+      → Writes (muted was.told d) (disk_of was.journal) (disk_of is.journal) (books_as was.book room after now) result
   writes_on room after now result w = record {
     later = omega (arith, quiet.later, w.later);
     moves = λ ids t x le o. ⊎_elim
@@ -162,12 +162,12 @@ module _ {D : Type 0} (d : Ghosts D) (laws : DiskLaws d) (was mid is : Holdings 
       (texts_rest d was.journal mid.journal (looks.bytes tells) looks.extent)
 
   texts_on : (begins : Option ℕ) (text : List ℕ) (result : Result ℕ PieceFault) → IsTrue d.tells
-      → WritesTexts d mid.journal is.journal (texts_room d looked begins) (with_more (texts_room d looked begins) text) result
-      → WritesTexts d was.journal is.journal (texts_room d was begins) (with_more (texts_room d was begins) text) result
+      → WritesTexts d mid.journal is.journal (texts_as (texts_room d looked begins) (with_more (texts_room d looked begins) text)) result
+      → WritesTexts d was.journal is.journal (texts_as (texts_room d was begins) (with_more (texts_room d was begins) text)) result
   texts_on begins text result tells wrote =
       texts_since d was.journal mid.journal is.journal (texts_room d was begins) (with_more (texts_room d was begins) text) result (looks.bytes tells)
       (texts_rest d was.journal mid.journal (looks.bytes tells) looks.extent)
-      (subst (λ (room : List (List ℕ)). WritesTexts d mid.journal is.journal room (with_more room text) result) (room_same begins tells) wrote)
+      (subst (λ (room : List (List ℕ)). WritesTexts d mid.journal is.journal (texts_as room (with_more room text)) result) (room_same begins tells) wrote)
 
   module _ (text : List ℕ) (group : Group) (first begins : Option ℕ) where
     pub put_on : (number : ℕ) → HasPut d mid is (parts_as text group first begins) number → HasPut d was is (parts_as text group first begins) number

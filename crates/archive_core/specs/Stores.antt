@@ -20,7 +20,7 @@ use Rattle.archive_core.specs.Told.{told_of}
 use Rattle.archive_volumes.specs.Grouping.{IsGroupFor}
 use Rattle.archive_volumes.specs.Volumes.{LeavesJust, muted}
 use Rattle.archive_volumes.specs.Writing.{IsNeeded}
-use Rattle.archive_volumes.specs.Written.{WritesTexts}
+use Rattle.archive_volumes.specs.Written.{WritesTexts, texts_as}
 
 -- Whether a capture more may be stored: it is full exactly where there are as many as there may be.
 abbrev pub Admits : {T : Type 0} → Contents → Result T StoreFault → Type 0
@@ -49,7 +49,7 @@ pub record FillsVolumes {D : Type 0} (d : Ghosts D) (was is : Holdings D) (taken
   pub ends : OnOk result (last_len is.journal
       ≡ (if begun then length (info_text was.book.namespace (length was.book.volumes) taken.date) else last_len was.journal) + length group)
   pub bytes : IsTrue d.tells
-      → WritesTexts d was.journal is.journal (texts_where d was begun taken.date) (with_more (texts_where d was begun taken.date) group) result
+      → WritesTexts d was.journal is.journal (texts_as (texts_where d was begun taken.date) (with_more (texts_where d was begun taken.date) group)) result
 
 -- what a store leaves of the volumes, by what it answers: those that write nothing leave all bytes as they were
 abbrev pub Fills : {D : Type 0} → Ghosts D → Holdings D → Holdings D → Taken → Result Receipt StoreFault → Type 0

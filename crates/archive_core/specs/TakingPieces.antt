@@ -17,8 +17,8 @@ use Rattle.archive_shelf.specs.Openings.{Moves, SameBook}
 use Rattle.archive_shelf.specs.Pieces.{IsPiece, IsSomePiece}
 use Rattle.archive_shelf.specs.Told.{WritesNothing}
 use Rattle.archive_volumes.specs.Volumes.{muted}
-use Rattle.archive_volumes.specs.Writing.{Writes}
-use Rattle.archive_volumes.specs.Written.{WritesTexts}
+use Rattle.archive_volumes.specs.Writing.{Writes, books_as}
+use Rattle.archive_volumes.specs.Written.{WritesTexts, texts_as}
 use Rattle.archive_core.specs.Holdings.{Holdings, contents_of}
 use Rattle.archive_core.specs.Looking.{KeepsBytes, OnlyLooks}
 use Rattle.archive_pieces.specs.NextPieces.{Takes}
@@ -63,9 +63,9 @@ pub record HasPut {D : Type 0} (d : Ghosts D) (was is : Holdings D) (parts : Par
   pub others : contents_of is
       ≡ record (contents_of was) { seen = is.book; shown = numbered is.index; mine = (contents_of was).mine ++ number ∷ [] }
   pub ends : last_len is.journal ≡ end_in was.book (last_len was.journal) parts.begins + length parts.text
-  pub writes : Writes (muted was.told d) (disk_of was.journal) (disk_of is.journal) was.book (room_by was.book parts.begins) is.book is.book (took number)
+  pub writes : Writes (muted was.told d) (disk_of was.journal) (disk_of is.journal) (books_as was.book (room_by was.book parts.begins) is.book is.book) (took number)
   pub bytes : IsTrue d.tells
-      → WritesTexts d was.journal is.journal (texts_room d was parts.begins) (with_more (texts_room d was parts.begins) parts.text) (took number)
+      → WritesTexts d was.journal is.journal (texts_as (texts_room d was parts.begins) (with_more (texts_room d was parts.begins) parts.text)) (took number)
   pub checkpoints : IsTrue d.tells → cdxj_files (d.reading (disk_of is.journal)) ≡ cdxj_files (d.reading (disk_of was.journal))
 
 -- The disk refused it. The book is left, or it with the volume that was to be begun.
@@ -74,10 +74,10 @@ pub record IsUnput {D : Type 0} (d : Ghosts D) (was is : Holdings D) (parts : Pa
   pub group_is : IsTrue was.told → IsGroupText (book_by was.book parts.begins parts.group parts.first) (length (captures was.book)) parts.text
   pub sound : IsTrue was.told → IsSound (book_by was.book parts.begins parts.group parts.first)
   pub others : contents_of is ≡ record (contents_of was) { seen = is.book }
-  pub writes : Writes (muted was.told d) (disk_of was.journal) (disk_of is.journal) was.book (room_by was.book parts.begins)
-      (book_by was.book parts.begins parts.group parts.first) is.book disk_failed
+  pub writes : Writes (muted was.told d) (disk_of was.journal) (disk_of is.journal) (books_as was.book (room_by was.book parts.begins)
+      (book_by was.book parts.begins parts.group parts.first) is.book) disk_failed
   pub bytes : IsTrue d.tells
-      → WritesTexts d was.journal is.journal (texts_room d was parts.begins) (with_more (texts_room d was parts.begins) parts.text) disk_failed
+      → WritesTexts d was.journal is.journal (texts_as (texts_room d was parts.begins) (with_more (texts_room d was parts.begins) parts.text)) disk_failed
   pub checkpoints : IsTrue d.tells → cdxj_files (d.reading (disk_of is.journal)) ≡ cdxj_files (d.reading (disk_of was.journal))
 
 -- all is as it was, but for what is reserved

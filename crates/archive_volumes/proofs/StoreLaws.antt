@@ -11,7 +11,7 @@ use Rattle.archive_shelf.specs.Contents.{Contents}
 use Rattle.archive_shelf.specs.Openings.{HasIds, IsEarlier, IsRefused, IsState, Keeps, KeepsCheckpoints, MayLeave, Moves, SameBook, StaysCovered}
 use Rattle.archive_shelf.specs.Storing.{new_volume, with_volume}
 use Rattle.archive_volumes.proofs.ChangeLaws.{DiskLaws}
-use Rattle.archive_volumes.specs.Writing.{TakesSo, Writes}
+use Rattle.archive_volumes.specs.Writing.{TakesSo, Writes, books_as}
 use Rattle.archive_volumes.specs.Volumes.{IsQuiet, Makes, crash_of}
 
 -- a book that is kept where a call is refused
@@ -59,7 +59,7 @@ module _ {D : Type 0} (d : Ghosts D) (laws : DiskLaws d) where
 
   -- there is room for the capture
   pub writes_at : {T E : Type 0} (old new : D) (book after now : Book) (result : Result T E)
-      → Makes d old new book after result → OnErr result (now ≡ book) → Writes d old new book book after now result
+      → Makes d old new book after result → OnErr result (now ≡ book) → Writes d old new (books_as book book after now) result
   writes_at old new book after now result made stays = record {
     later = made.later;
     moves = λ ids t x le o. ⊎_elim
@@ -79,7 +79,7 @@ module _ {D : Type 0} (d : Ghosts D) (laws : DiskLaws d) where
 
   -- the volume is refused
   pub writes_none : {T E S F : Type 0} (old new : D) (book room after : Book) (fault : E) (answer : Result S F) → IsErr answer
-      → Makes {T = T} d old new book room (Err fault) → Writes d old new book room after book answer
+      → Makes {T = T} d old new book room (Err fault) → Writes d old new (books_as book room after book) answer
   writes_none old new book room after fault (Ok v) failed made = absurd (false≢true failed)
   writes_none old new book room after fault (Err f) failed made = record {
     later = made.later;
@@ -100,7 +100,7 @@ module _ {D : Type 0} (d : Ghosts D) (laws : DiskLaws d) where
   -- a volume is begun, and then the capture is added or refused
   pub writes_behind : {T E S F : Type 0} (old mid new : D) (book after now : Book) (born : ℕ) (value : T) (result : Result S F)
       → Makes {E = E} d old mid book (with_volume book born) (Ok value) → Makes d mid new (with_volume book born) after result
-      → OnErr result (now ≡ with_volume book born) → Writes d old new book (with_volume book born) after now result
+      → OnErr result (now ≡ with_volume book born) → Writes d old new (books_as book (with_volume book born) after now) result
   writes_behind old mid new book after now born value result first second stays =
       let room : Book = with_volume book born in
       record {
@@ -132,7 +132,7 @@ module _ {D : Type 0} (d : Ghosts D) (laws : DiskLaws d) where
 
   -- a refusal is handed out as another one
   pub writes_refused : {T E S F : Type 0} (old new : D) (book room after now : Book) (fault : E) (answer : Result S F) → IsErr answer
-      → Writes {T = T} d old new book room after now (Err fault) → Writes d old new book room after now answer
+      → Writes {T = T} d old new (books_as book room after now) (Err fault) → Writes d old new (books_as book room after now) answer
   writes_refused old new book room after now fault (Ok v) failed writes = absurd (false≢true failed)
   writes_refused old new book room after now fault (Err f) failed writes = record {
     later = writes.later;
@@ -148,7 +148,7 @@ module _ {D : Type 0} (d : Ghosts D) (laws : DiskLaws d) where
 
   module _ {T E : Type 0} (old mid new : D) (was is : Contents) (taken : Taken) (room after : Book) (result : Result T E)
       (takes : TakesSo d was.limits.volume_bytes was.seen taken room after) (quiet : IsQuiet d old mid)
-      (writes : Writes d mid new was.seen room after is.seen result) where
+      (writes : Writes d mid new (books_as was.seen room after is.seen) result) where
     pub store_later : (crash_of d old).moment ≤ (crash_of d new).moment
     store_later = omega (arith, quiet.later, writes.later)
 

@@ -9,7 +9,7 @@ use Rattle.warc_journal.specs.Extents.{warc_files}
 use Rattle.warc_journal.specs.Journals.{Changes, IsLeft, Rests, disk_of, texts}
 use Rattle.warc_journal.specs.Texts.{AreJust, Hold, HoldEither, with_more}
 use Rattle.warc_journal.specs.declared.journal.Journal.{Journal}
-use Rattle.archive_volumes.specs.Written.{HoldOneOf, WritesTexts}
+use Rattle.archive_volumes.specs.Written.{HoldOneOf, WritesTexts, texts_as}
 
 -- ---- answers that are handed out
 
@@ -27,13 +27,13 @@ change_refused d old new after fault (Err f) failed change = record {
 }
 
 pub texts_refused : {D T E S F : Type 0} (d : Ghosts D) (old new : Journal D) (room after : List (List ℕ)) (fault : E) (answer : Result S F) → IsErr answer
-    → WritesTexts {T = T} d old new room after (Err fault) → WritesTexts d old new room after answer
+    → WritesTexts {T = T} d old new (texts_as room after) (Err fault) → WritesTexts d old new (texts_as room after) answer
 texts_refused d old new room after fault (Ok v) failed wrote = absurd (false≢true failed)
 texts_refused d old new room after fault (Err f) failed wrote = record { leaves = wrote.leaves; only = tt; added = tt; stays = wrote.stays }
 
 -- and what was done as what was done
 pub texts_done : {D T E S F : Type 0} (d : Ghosts D) (old new : Journal D) (room after : List (List ℕ)) (value : T) (done : S)
-    → WritesTexts {E = E} d old new room after (Ok value) → WritesTexts {E = F} d old new room after (Ok done)
+    → WritesTexts {E = E} d old new (texts_as room after) (Ok value) → WritesTexts {E = F} d old new (texts_as room after) (Ok done)
 texts_done d old new room after value done wrote = record { leaves = wrote.leaves; only = wrote.only; added = wrote.added; stays = tt }
 
 pub change_done : {D T E S F : Type 0} (d : Ghosts D) (old new : Journal D) (after : List (List ℕ)) (value : T) (done : S)
@@ -65,7 +65,7 @@ module _ {D : Type 0} (d : Ghosts D) (old : Journal D) where
 
   -- there is room for the capture
   pub texts_at : {T E : Type 0} (new : Journal D) (after : List (List ℕ)) (result : Result T E) → Changes d old new after result
-      → WritesTexts d old new (texts d old) after result
+      → WritesTexts d old new (texts_as (texts d old) after) result
   texts_at new after result change = record {
     leaves = weakened d.moment d.images_since (disk_of old) (disk_of new) (IsLeft (d.images (disk_of old)) (HoldEither (texts d old) after))
         (IsLeft (d.images (disk_of old)) (HoldOneOf (texts d old) (texts d old) after))
@@ -79,7 +79,7 @@ module _ {D : Type 0} (d : Ghosts D) (old : Journal D) where
 
   -- the volume is refused
   pub texts_none : {T E S F : Type 0} (new : Journal D) (room after : List (List ℕ)) (fault : E) (answer : Result S F) → IsErr answer
-      → Changes {T = T} d old new room (Err fault) → WritesTexts d old new room after answer
+      → Changes {T = T} d old new room (Err fault) → WritesTexts d old new (texts_as room after) answer
   texts_none new room after fault (Ok v) failed change = absurd (false≢true failed)
   texts_none new room after fault (Err f) failed change = record {
     leaves = weakened d.moment d.images_since (disk_of old) (disk_of new) (IsLeft (d.images (disk_of old)) (HoldEither (texts d old) room))
@@ -108,7 +108,7 @@ module _ {D : Type 0} (d : Ghosts D) (old : Journal D) where
     more_same : with_more (texts d mid) group ≡ after
     more_same = ap (λ (all : List (List ℕ)). with_more all group) first.added
 
-    pub texts_behind : WritesTexts d old new room after result
+    pub texts_behind : WritesTexts d old new (texts_as room after) result
     texts_behind = record {
       leaves = record {
         later = omega (arith, first.leaves.later, second.leaves.later);
@@ -153,7 +153,7 @@ rests_on d old mid new first second = record {
 }
 
 pub texts_since : {D T E : Type 0} (d : Ghosts D) (old mid new : Journal D) (room after : List (List ℕ)) (result : Result T E)
-    → Rests d (disk_of old) (disk_of mid) → texts d mid ≡ texts d old → WritesTexts d mid new room after result → WritesTexts d old new room after result
+    → Rests d (disk_of old) (disk_of mid) → texts d mid ≡ texts d old → WritesTexts d mid new (texts_as room after) result → WritesTexts d old new (texts_as room after) result
 texts_since d old mid new room after result rests same wrote = record {
   leaves = record {
     later = omega (arith, rests.leaves.later, wrote.leaves.later);

@@ -56,17 +56,28 @@ end_with volumes_now (Some prepared) = length prepared.info
 
 -- ---- writing
 
--- A call that writes a capture into a book, once a volume was begun if it needs one; or it is refused, and this book is held.
-pub record Writes {D T E : Type 0} (d : Ghosts D) (old new : D) (book room after now : Book) (result : Result T E) : Type 0 where
+-- the books of a call that writes a capture: the one before, that with room for it, that with it, and the one that is held then
+pub record Books : Type 0 where
+  pub was : Book
+  pub room : Book
+  pub after : Book
+  pub is : Book
+
+abbrev pub books_as : (was room after is : Book) → Books
+books_as was room after is = record { was = was; room = room; after = after; is = is }
+
+-- A call that writes a capture into a book, once a volume was begun if it needs one; or it is refused.
+pub record Writes {D T E : Type 0} (d : Ghosts D) (old new : D) (books : Books) (result : Result T E) : Type 0 where
   pub later : (crash_of d old).moment ≤ (crash_of d new).moment
-  pub moves : HasIds book → Moves (crash_of d old) (crash_of d new) (λ x. SameBook x book ⊎ ((x ≡ room) ⊎ (x ≡ after)))
-  pub only : HasIds book → OnOk result (IsState (crash_of d new) after None)
-  pub refused : HasIds book → OnErr result
-      (((now ≡ book) × Keeps (crash_of d old) (crash_of d new) book)
-      ⊎ (IsState (crash_of d new) now (Some room) ⊎ IsState (crash_of d new) now (Some after)))
+  pub moves : HasIds books.was
+      → Moves (crash_of d old) (crash_of d new) (λ x. SameBook x books.was ⊎ ((x ≡ books.room) ⊎ (x ≡ books.after)))
+  pub only : HasIds books.was → OnOk result (IsState (crash_of d new) books.after None)
+  pub refused : HasIds books.was → OnErr result
+      (((books.is ≡ books.was) × Keeps (crash_of d old) (crash_of d new) books.was)
+      ⊎ (IsState (crash_of d new) books.is (Some books.room) ⊎ IsState (crash_of d new) books.is (Some books.after)))
   pub covered : StaysCovered (crash_of d old) (crash_of d new)
   pub kept : KeepsCheckpoints (crash_of d old) (crash_of d new)
-  pub just : OnOk result (LeavesJust d new after)
+  pub just : OnOk result (LeavesJust d new books.after)
 
 -- where the disk tells, the book takes the capture in this way: with this book with room, and this one after it
 pub record IsWay {D : Type 0} (d : Ghosts D) (limit : ℕ) (book : Book) (taken : Taken) (room after : Book) : Type 0 where

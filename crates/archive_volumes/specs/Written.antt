@@ -11,12 +11,21 @@ use Rattle.warc_journal.specs.declared.journal.Journal.{Journal}
 abbrev pub HoldOneOf : List (List ℕ) → List (List ℕ) → List (List ℕ) → List (List ℕ) → Type 0
 HoldOneOf before room after files = Hold before files ⊎ (Hold room files ⊎ Hold after files)
 
+-- the texts to which a call leads that writes a capture: those with room for it, and those with it
+pub record NextTexts : Type 0 where
+  pub room : List (List ℕ)
+  pub after : List (List ℕ)
+
+abbrev pub texts_as : List (List ℕ) → List (List ℕ) → NextTexts
+texts_as room after = record { room = room; after = after }
+
 -- What a call leaves that writes a capture, once a volume was begun if it needs one, or is refused: of each disk that tells, whatever is told of
 -- the book. At each moment a crash leaves what it might have left before, or the texts before, with room or after, beside the checkpoints of an
 -- image from before. Once it is done a read gives the texts after, and a crash leaves these alone. Refused, a read gives the texts before, or
 -- those with room.
-pub record WritesTexts {D T E : Type 0} (d : Ghosts D) (old new : Journal D) (room after : List (List ℕ)) (result : Result T E) : Type 0 where
-  pub leaves : AddsOnly d.moment d.images_since (disk_of old) (disk_of new) (IsLeft (d.images (disk_of old)) (HoldOneOf (texts d old) room after))
-  pub only : OnOk result (Leaves (d.images (disk_of new)) (IsLeft (d.images (disk_of old)) (AreJust after)))
-  pub added : OnOk result (texts d new ≡ after)
-  pub stays : OnErr result ((texts d new ≡ texts d old) ⊎ (texts d new ≡ room))
+pub record WritesTexts {D T E : Type 0} (d : Ghosts D) (old new : Journal D) (next : NextTexts) (result : Result T E) : Type 0 where
+  pub leaves : AddsOnly d.moment d.images_since (disk_of old) (disk_of new)
+      (IsLeft (d.images (disk_of old)) (HoldOneOf (texts d old) next.room next.after))
+  pub only : OnOk result (Leaves (d.images (disk_of new)) (IsLeft (d.images (disk_of old)) (AreJust next.after)))
+  pub added : OnOk result (texts d new ≡ next.after)
+  pub stays : OnErr result ((texts d new ≡ texts d old) ⊎ (texts d new ≡ next.room))

@@ -11,8 +11,8 @@ ghost use Rattle.warc_text.specs.Sound.{IsSound};
 ghost use Rattle.warc_text.specs.StandsFor.{commit_byte};
 ghost use Rattle.archive_shelf.specs.Storing.{with_capture};
 ghost use Rattle.archive_volumes.specs.Held.{book_of, stored_in};
-ghost use Rattle.archive_volumes.specs.Writing.{HasRoomFor, Writes, end_with, texts_with, with_prepared};
-ghost use Rattle.archive_volumes.specs.Written.{WritesTexts};
+ghost use Rattle.archive_volumes.specs.Writing.{HasRoomFor, Writes, books_as, end_with, texts_with, with_prepared};
+ghost use Rattle.archive_volumes.specs.Written.{WritesTexts, texts_as};
 ghost use Rattle.archive_volumes.specs.Volumes.{HoldsBook, IsMeasured, muted};
 ghost use Rattle.std.specs.Vec.{vec_capacity};
 ghost use Rattle.archive_volumes.specs.Ready.{CanCommit, spot_in};
@@ -64,12 +64,12 @@ impl<D: Disk> Volumes<D> {
             ⊎ (texts D.Disk self.new.journal ≡ texts_with (texts D.Disk self.old.journal) prepared)) }
         ensures others { IsTrue D.tells
             → cdxj_files (D.reading (disk_of self.new.journal)) ≡ cdxj_files (D.reading (disk_of self.old.journal)) }
-        ensures writes { Writes (muted told.now.value D.Disk) (disk_of self.old.journal) (disk_of self.new.journal) (book_of self.old.held)
-            (with_prepared (book_of self.old.held) prepared)
-            (with_capture (with_prepared (book_of self.old.held) prepared) (stored_in stored)) (book_of self.new.held) result }
+        ensures writes { Writes (muted told.now.value D.Disk) (disk_of self.old.journal) (disk_of self.new.journal)
+            (books_as (book_of self.old.held) (with_prepared (book_of self.old.held) prepared)
+            (with_capture (with_prepared (book_of self.old.held) prepared) (stored_in stored)) (book_of self.new.held)) result }
         ensures bytes { IsTrue D.tells → WritesTexts D.Disk self.old.journal self.new.journal
-            (texts_with (texts D.Disk self.old.journal) prepared)
-            (with_more (texts_with (texts D.Disk self.old.journal) prepared) group.now) result }
+            (texts_as (texts_with (texts D.Disk self.old.journal) prepared)
+            (with_more (texts_with (texts D.Disk self.old.journal) prepared) group.now)) result }
         ensures faults { CountsFaults (D.faults (disk_of self.old.journal)) (D.faults (disk_of self.new.journal)) result }
     {
         match prepared {
@@ -118,12 +118,12 @@ impl<D: Disk> Volumes<D> {
         ensures table { table.new.kept ≡ whole_from 0 spots.new.items }
         ensures others { IsTrue D.tells
             → cdxj_files (D.reading (disk_of self.new.journal)) ≡ cdxj_files (D.reading (disk_of self.old.journal)) }
-        ensures writes { Writes (muted told.now.value D.Disk) (disk_of self.old.journal) (disk_of self.new.journal) (book_of self.old.held)
-            (with_prepared (book_of self.old.held) ready.prepared)
-            (with_capture (with_prepared (book_of self.old.held) ready.prepared) (stored_in ready.stored)) (book_of self.new.held) result }
+        ensures writes { Writes (muted told.now.value D.Disk) (disk_of self.old.journal) (disk_of self.new.journal)
+            (books_as (book_of self.old.held) (with_prepared (book_of self.old.held) ready.prepared)
+            (with_capture (with_prepared (book_of self.old.held) ready.prepared) (stored_in ready.stored)) (book_of self.new.held)) result }
         ensures bytes { IsTrue D.tells → WritesTexts D.Disk self.old.journal self.new.journal
-            (texts_with (texts D.Disk self.old.journal) ready.prepared)
-            (with_more (texts_with (texts D.Disk self.old.journal) ready.prepared) ready.group) result }
+            (texts_as (texts_with (texts D.Disk self.old.journal) ready.prepared)
+            (with_more (texts_with (texts D.Disk self.old.journal) ready.prepared) ready.group)) result }
         ensures faults { CountsFaults (D.faults (disk_of self.old.journal)) (D.faults (disk_of self.new.journal)) result }
     {
         let Ready {

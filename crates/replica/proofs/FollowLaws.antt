@@ -14,7 +14,7 @@ use Rattle.archive_shelf.specs.Storing.{with_capture}
 use Rattle.archive_volumes.proofs.ChangeLaws.{DiskLaws, laws_muted}
 use Rattle.archive_volumes.proofs.StoreLaws.{opens_earlier}
 use Rattle.archive_volumes.specs.Volumes.{crash_of, muted}
-use Rattle.archive_volumes.specs.Writing.{Writes}
+use Rattle.archive_volumes.specs.Writing.{Writes, books_as}
 use Rattle.capture.proofs.GrowthLaws.{growth_goes_on, grows_from_itself}
 use Rattle.capture.specs.Captures.{captures}
 use Rattle.capture.specs.Growth.{Grows}
@@ -74,7 +74,7 @@ module _ {D : Type 0} (d : Disks D) (source : Target) (tells : Bool) where
   -- ---- what is told after a call that writes
 
   abbrev WritesSo : (was is : Holdings D) (room after now : Book) → Result ℕ PieceFault → Type 0
-  WritesSo was is room after now result = Writes (muted was.told d) (disk_of was.journal) (disk_of is.journal) was.book room after now result
+  WritesSo was is room after now result = Writes (muted was.told d) (disk_of was.journal) (disk_of is.journal) (books_as was.book room after now) result
 
   module _ (was is : Holdings D) (same : is.told ≡ was.told) (room after now : Book) (result : Result ℕ PieceFault) (w : WritesSo was is room after now result) where
     later_by : (told_of d was).crash.moment ≤ (told_of d is).crash.moment

@@ -6,7 +6,7 @@ use Rattle.archive_shelf.specs.Contents.{Contents}
 use Rattle.archive_shelf.specs.Storing.{new_volume, with_capture}
 use Rattle.archive_volumes.specs.Held.{is_filled}
 use Rattle.archive_volumes.specs.Volumes.{muted}
-use Rattle.archive_volumes.specs.Writing.{Writes}
+use Rattle.archive_volumes.specs.Writing.{Writes, books_as}
 use Rattle.capture.specs.Captures.{captures}
 use Rattle.capture.specs.declared.book.Book.{Book}
 use Rattle.capture.specs.declared.book.Volume.{Volume}
@@ -73,7 +73,7 @@ pub record IsTakenSo {D : Type 0} (d : Disks D) (was is : Holdings D) (bytes : L
   pub takes : IsTrue was.told → Takes was.book bytes is.book
   pub same_told : is.told ≡ was.told
   pub limits : is.limits ≡ was.limits
-  pub writes : Writes (muted was.told d) (disk_of was.journal) (disk_of is.journal) was.book room is.book is.book (took number)
+  pub writes : Writes (muted was.told d) (disk_of was.journal) (disk_of is.journal) (books_as was.book room is.book is.book) (took number)
 
 pub record IsUntakenSo {D : Type 0} (d : Disks D) (was is : Holdings D) (bytes : List ℕ) : Type 0 where
   pub room : Book
@@ -83,7 +83,7 @@ pub record IsUntakenSo {D : Type 0} (d : Disks D) (was is : Holdings D) (bytes :
   pub left : (is.book ≡ was.book) ⊎ (is.book ≡ room)
   pub same_told : is.told ≡ was.told
   pub limits : is.limits ≡ was.limits
-  pub writes : Writes (muted was.told d) (disk_of was.journal) (disk_of is.journal) was.book room after is.book disk_failed
+  pub writes : Writes (muted was.told d) (disk_of was.journal) (disk_of is.journal) (books_as was.book room after is.book) disk_failed
 
 -- what is told stays
 pub still_told : {D : Type 0} (d : Disks D) (was is : Holdings D) (bytes : List ℕ) (number : ℕ) → HasTaken d was is bytes number → is.told ≡ was.told

@@ -7,7 +7,7 @@ use Rattle.archive_volumes.specs.Ready.{book_with, room_of, spot_in}
 use Rattle.archive_volumes.specs.Spots.{spot_of}
 use Rattle.archive_volumes.specs.Volumes.{muted}
 use Rattle.archive_volumes.specs.Writing.{texts_with}
-use Rattle.archive_volumes.specs.Written.{WritesTexts}
+use Rattle.archive_volumes.specs.Written.{WritesTexts, texts_as}
 use Rattle.archive_volumes.specs.declared.spot.Spot.{Spot}
 use Rattle.archive_volumes.proofs.ChangeLaws.{DiskLaws, laws_muted}
 use Rattle.archive_volumes.proofs.KeepLaws.{kept_made, kept_placed, kept_spots, kept_within, made_left, placed_left, spots_left, within_left}
@@ -104,7 +104,7 @@ returns-in_err-place-clause-bytes g c tells =
     let old = c.args.self.now.journal in
     let new = c.write.new.self.journal in
     let room : List (List ℕ) = texts_with (texts g.D.Disk old) c.args.ready.prepared in
-    subst (λ (group : List ℕ). WritesTexts g.D.Disk old new room (with_more room group) c.from_residual.result) given
+    subst (λ (group : List ℕ). WritesTexts g.D.Disk old new (texts_as room (with_more room group)) c.from_residual.result) given
     (texts_refused g.D.Disk old new room (with_more room c.as_slice.result.now) c.in_err-place.field-0.0 c.from_residual.result c.from_residual.ensures.0
     (c.in_err-place.ensures.bytes tells))
 
@@ -114,5 +114,5 @@ returns-clause-bytes g c tells =
     let old = c.args.self.now.journal in
     let new = c.write.new.self.journal in
     let room : List (List ℕ) = texts_with (texts g.D.Disk old) c.args.ready.prepared in
-    subst (λ (group : List ℕ). WritesTexts g.D.Disk old new room (with_more room group) (Ok tt)) given
+    subst (λ (group : List ℕ). WritesTexts g.D.Disk old new (texts_as room (with_more room group)) (Ok tt)) given
     (texts_done g.D.Disk old new room (with_more room c.as_slice.result.now) c.in_ok-place.place tt (c.in_ok-place.ensures.bytes tells))

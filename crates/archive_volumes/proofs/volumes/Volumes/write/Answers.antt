@@ -4,8 +4,8 @@ use Rattle.warc_journal.specs.Journals.{disk_of, texts}
 use Rattle.warc_journal.specs.Texts.{with_more}
 use Rattle.archive_shelf.specs.Storing.{with_capture, with_volume}
 use Rattle.archive_volumes.specs.Held.{book_of, stored_in}
-use Rattle.archive_volumes.specs.Writing.{Writes, texts_with, with_prepared}
-use Rattle.archive_volumes.specs.Written.{WritesTexts}
+use Rattle.archive_volumes.specs.Writing.{Writes, books_as, texts_with, with_prepared}
+use Rattle.archive_volumes.specs.Written.{WritesTexts, texts_as}
 use Rattle.archive_volumes.specs.Volumes.{Makes, muted}
 use Rattle.archive_volumes.specs.declared.room.Prepared.{Prepared}
 use Rattle.archive_volumes.proofs.ChangeLaws.{DiskLaws, laws_muted}
@@ -24,9 +24,9 @@ returns-in_err-begin-in-Some-clause-writes g c =
     let old = disk_of c.args.self.now.journal in
     let new = disk_of c.begin.new.self.journal in
     let room : Book = with_volume book c.in-Some.prepared.shadow.born in
-    subst (λ (o : Option Prepared). Writes (muted c.args.told.now.value g.D.Disk) old new book (with_prepared book o) (with_capture (with_prepared book o) (stored_in c.args.stored))
-    (book_of c.begin.new.self.held) c.from_residual.result) (sym c.in-Some.is)
-    (subst (λ (b : Book). Writes (muted c.args.told.now.value g.D.Disk) old new book room (with_capture room (stored_in c.args.stored)) b c.from_residual.result) (sym c.in_err-begin-in-Some.ensures.book)
+    subst (λ (o : Option Prepared). Writes (muted c.args.told.now.value g.D.Disk) old new (books_as book (with_prepared book o) (with_capture (with_prepared book o) (stored_in c.args.stored))
+    (book_of c.begin.new.self.held)) c.from_residual.result) (sym c.in-Some.is)
+    (subst (λ (b : Book). Writes (muted c.args.told.now.value g.D.Disk) old new (books_as book room (with_capture room (stored_in c.args.stored)) b) c.from_residual.result) (sym c.in_err-begin-in-Some.ensures.book)
     (writes_none (muted c.args.told.now.value g.D.Disk) (laws_muted g.D.Disk c.args.told.now.value (disk_laws g)) old new book room (with_capture room (stored_in c.args.stored)) c.in_err-begin-in-Some.field-0.0
     c.from_residual.result c.from_residual.ensures.0 c.in_err-begin-in-Some.ensures.makes))
 
@@ -40,8 +40,8 @@ returns-in_ok-begin-in-Some-clause-writes g c =
     let after : Book = with_capture room (stored_in c.args.stored) in
     let now : Book = book_of c.add.new.self.held in
     let is_room : book_of c.begin.new.self.held ≡ room = c.in_ok-begin-in-Some.ensures.book in
-    subst (λ (o : Option Prepared). Writes (muted c.args.told.now.value g.D.Disk) old new book (with_prepared book o) (with_capture (with_prepared book o) (stored_in c.args.stored))
-    now c.add.result) (sym c.in-Some.is)
+    subst (λ (o : Option Prepared). Writes (muted c.args.told.now.value g.D.Disk) old new (books_as book (with_prepared book o) (with_capture (with_prepared book o) (stored_in c.args.stored))
+    now) c.add.result) (sym c.in-Some.is)
     (writes_behind (muted c.args.told.now.value g.D.Disk) (laws_muted g.D.Disk c.args.told.now.value (disk_laws g)) old mid new book after now c.in-Some.prepared.shadow.born c.in_ok-begin-in-Some.field-0 c.add.result
     c.in_ok-begin-in-Some.ensures.makes
     (subst (λ (b : Book). Makes (muted c.args.told.now.value g.D.Disk) mid new b (with_capture b (stored_in c.args.stored)) c.add.result) is_room c.add.ensures.makes)
@@ -54,8 +54,8 @@ returns-in-None-clause-writes g c =
     let old = disk_of c.args.self.now.journal in
     let new = disk_of c.add-in-None.new.self.journal in
     let now : Book = book_of c.add-in-None.new.self.held in
-    subst (λ (o : Option Prepared). Writes (muted c.args.told.now.value g.D.Disk) old new book (with_prepared book o) (with_capture (with_prepared book o) (stored_in c.args.stored))
-    now c.add-in-None.result) (sym c.in-None.is)
+    subst (λ (o : Option Prepared). Writes (muted c.args.told.now.value g.D.Disk) old new (books_as book (with_prepared book o) (with_capture (with_prepared book o) (stored_in c.args.stored))
+    now) c.add-in-None.result) (sym c.in-None.is)
     (writes_at (muted c.args.told.now.value g.D.Disk) (laws_muted g.D.Disk c.args.told.now.value (disk_laws g)) old new book (with_capture book (stored_in c.args.stored)) now c.add-in-None.result c.add-in-None.ensures.makes
     (stays_refused c.add-in-None.result now book (with_capture book (stored_in c.args.stored)) c.add-in-None.ensures.book))
 
@@ -64,7 +64,7 @@ returns-in_err-begin-in-Some-clause-bytes g c tells =
     let old = c.args.self.now.journal in
     let new = c.begin.new.self.journal in
     let room : List (List ℕ) = texts g.D.Disk old ++ c.in-Some.prepared.info ∷ [] in
-    subst (λ (o : Option Prepared). WritesTexts g.D.Disk old new (texts_with (texts g.D.Disk old) o) (with_more (texts_with (texts g.D.Disk old) o) c.args.group.now)
+    subst (λ (o : Option Prepared). WritesTexts g.D.Disk old new (texts_as (texts_with (texts g.D.Disk old) o) (with_more (texts_with (texts g.D.Disk old) o) c.args.group.now))
     c.from_residual.result) (sym c.in-Some.is)
     (texts_none g.D.Disk old new room (with_more room c.args.group.now) c.in_err-begin-in-Some.field-0.0 c.from_residual.result c.from_residual.ensures.0
     (c.in_err-begin-in-Some.ensures.change tells))
@@ -74,7 +74,7 @@ returns-in_ok-begin-in-Some-clause-bytes g c tells =
     let old = c.args.self.now.journal in
     let new = c.add.new.self.journal in
     let room : List (List ℕ) = texts g.D.Disk old ++ c.in-Some.prepared.info ∷ [] in
-    subst (λ (o : Option Prepared). WritesTexts g.D.Disk old new (texts_with (texts g.D.Disk old) o) (with_more (texts_with (texts g.D.Disk old) o) c.args.group.now)
+    subst (λ (o : Option Prepared). WritesTexts g.D.Disk old new (texts_as (texts_with (texts g.D.Disk old) o) (with_more (texts_with (texts g.D.Disk old) o) c.args.group.now))
     c.add.result) (sym c.in-Some.is)
     (texts_behind g.D.Disk old c.begin.new.self.journal new room c.args.group.now c.in_ok-begin-in-Some.field-0 c.add.result
     (c.in_ok-begin-in-Some.ensures.change tells) (c.add.ensures.change tells))
@@ -83,6 +83,6 @@ pub returns-in-None-clause-bytes : goal.returns-in-None-clause-bytes
 returns-in-None-clause-bytes g c tells =
     let old = c.args.self.now.journal in
     let new = c.add-in-None.new.self.journal in
-    subst (λ (o : Option Prepared). WritesTexts g.D.Disk old new (texts_with (texts g.D.Disk old) o) (with_more (texts_with (texts g.D.Disk old) o) c.args.group.now)
+    subst (λ (o : Option Prepared). WritesTexts g.D.Disk old new (texts_as (texts_with (texts g.D.Disk old) o) (with_more (texts_with (texts g.D.Disk old) o) c.args.group.now))
     c.add-in-None.result) (sym c.in-None.is)
     (texts_at g.D.Disk old new (with_more (texts g.D.Disk old) c.args.group.now) c.add-in-None.result (c.add-in-None.ensures.change tells))
