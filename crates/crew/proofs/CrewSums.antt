@@ -104,7 +104,7 @@ module _ {S P : Type 0} (alone : Bool) (told : S → Told) (clock_tells : Bool) 
 
   -- nothing was served
   pub serves_none : (was is : Connections) (before after : List (Hand S)) → is ≡ was → after ≡ before
-      → ServesAll alone told (record { site = site; clock_tells = clock_tells }) was is before after
+      → ServesAll (record { alone = alone; told = told; setting = record { site = site; clock_tells = clock_tells } }) was is before after
   serves_none was is before after same same_hands = record {
     heards = map (λ h. []) before;
     shifts = subst (λ hs. AreShifts alone told (record { site = site; clock_tells = clock_tells }) before (map (λ h. []) before) hs) (sym same_hands) (idle_shifts before);

@@ -23,8 +23,14 @@ IsEnd closed before now Memory = ⊤
 abbrev pub all_hung_up : Connections → List Heard → Connections
 all_hung_up connections heards = record connections { log = connections.log ++ heards; gave = connections.gave + length heards }
 
+-- where a crew works: whether its shelves stand alone over their archive, what is told of each, and the setting
+pub record Workplace (S : Type 0) : Type 1 where
+  pub alone : Bool
+  pub told : S → Told
+  pub setting : Setting
+
 -- All that the gate gave was served by the members, one after the other each, and was hung up in the members' order.
-pub record ServesAll {S : Type 0} (alone : Bool) (told : S → Told) (setting : Setting) (was is : Connections) (before after : List (Hand S)) : Type 0 where
+pub record ServesAll {S : Type 0} (place : Workplace S) (was is : Connections) (before after : List (Hand S)) : Type 0 where
   pub heards : List (List Heard)
-  pub shifts : AreShifts alone told setting before heards after
+  pub shifts : AreShifts place.alone place.told place.setting before heards after
   pub logged : is ≡ all_hung_up was (all_of heards)

@@ -57,7 +57,8 @@ where
     requires few { vec_len shelves ≤ vec_len crew.old }
     requires small { vec_len shelves < 2 ^ 32 }
     ensures serves { IsTrue G.Link.tells → IsTrue N.Link.tells
-        → ServesAll S.alone S.told (record { site = site.now; clock_tells = C.tells }) (G.connections gate.old) (G.connections gate.new)
+        → ServesAll (record { alone = S.alone; told = S.told; setting = record { site = site.now; clock_tells = C.tells } })
+        (G.connections gate.old) (G.connections gate.new)
         (hands_of N.Dialer C.Clock shelves.items crew.old.items) (hands_of N.Dialer C.Clock result.shelves.items crew.new.items) }
     ensures go_on { GoOn S.alone S.told (hands_of N.Dialer C.Clock shelves.items crew.old.items)
         (hands_of N.Dialer C.Clock result.shelves.items crew.new.items) }

@@ -39,8 +39,8 @@ module _ {S T N M C : Type 0} (f : S → T) (dialers : Dialers N M) (clocks : Cl
 
     -- a crew over such shelves
     pub serves_as : (was is : Connections) (before after : List S) (crew now : List (N × C))
-        → ServesAll alone told setting was is (hands_of dialers clocks before crew) (hands_of dialers clocks after now)
-        → ServesAll alone tells setting was is (hands_of dialers clocks (map f before) crew) (hands_of dialers clocks (map f after) now)
+        → ServesAll (record { alone = alone; told = told; setting = setting }) was is (hands_of dialers clocks before crew) (hands_of dialers clocks after now)
+        → ServesAll (record { alone = alone; told = tells; setting = setting }) was is (hands_of dialers clocks (map f before) crew) (hands_of dialers clocks (map f after) now)
     serves_as was is before after crew now all = record {
       heards = all.heards;
       shifts = subst (λ (z : List (Hand T) × List (Hand T)). AreShifts alone tells setting z.0 all.heards z.1)

@@ -163,7 +163,8 @@ module _ {D G L P N M C O : Type 0} (kinds : Kinds D G L P N M C O) (known : Opt
   pub serves_over : (before after : Holdings D) → OpensSettled kinds.disks (by_checkpoints was.disk asked known) before
       → IsNameOf vault (contents_of before) (kinds.disks.faults (disk_of before.journal)) → AreNewMembers vault starts → AreMembers vault seats → (said : Status)
       → (IsTrue kinds.clients_tell → IsTrue kinds.origins_tell
-      → ServesAll false told_at (record { site = site; clock_tells = kinds.clocks.tells }) (kinds.gates.connections was.gate) (kinds.gates.connections is.gate)
+      → ServesAll (record { alone = false; told = told_at; setting = record { site = site; clock_tells = kinds.clocks.tells } })
+      (kinds.gates.connections was.gate) (kinds.gates.connections is.gate)
       (hands_of kinds.dialers kinds.clocks starts was.crew) (hands_of kinds.dialers kinds.clocks seats is.crew))
       → IsEnd (kinds.gates.closed is.gate) (kinds.gates.faults was.gate) (kinds.gates.faults is.gate) said
       → IsLeftByAll vault (map known_of seats) after.book after.limits after.told (kinds.disks.faults (disk_of after.journal)) (record {

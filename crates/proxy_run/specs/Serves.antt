@@ -109,7 +109,8 @@ module _ {D G L P N M C O : Type 0} (kinds : Kinds D G L P N M C O) (known : Opt
     pub workers_are : length starts ≡ workers
     pub count : length seats ≡ workers
     pub serves : IsTrue kinds.clients_tell → IsTrue kinds.origins_tell
-        → ServesAll false told_by (record { site = site; clock_tells = kinds.clocks.tells }) (kinds.gates.connections was.gate) (kinds.gates.connections is.gate)
+        → ServesAll (record { alone = false; told = told_by; setting = record { site = site; clock_tells = kinds.clocks.tells } })
+        (kinds.gates.connections was.gate) (kinds.gates.connections is.gate)
         (hands_of kinds.dialers kinds.clocks starts was.crew) (hands_of kinds.dialers kinds.clocks seats is.crew)
     pub ended : IsEnd (kinds.gates.closed is.gate) (kinds.gates.faults was.gate) (kinds.gates.faults is.gate) said
     pub shared : IsSharedOut before.book seats after.book

@@ -44,7 +44,8 @@ where
     requires few { vec_len passes.old ≤ vec_len crew.old }
     requires small { vec_len passes.old < 2 ^ 32 }
     ensures serves { IsTrue G.Link.tells → IsTrue N.Link.tells
-        → ServesAll false told_at (record { site = site.now; clock_tells = C.tells }) (G.connections gate.old) (G.connections gate.new)
+        → ServesAll (record { alone = false; told = told_at; setting = record { site = site.now; clock_tells = C.tells } })
+        (G.connections gate.old) (G.connections gate.new)
         (hands_of N.Dialer C.Clock passes.old.items crew.old.items) (hands_of N.Dialer C.Clock passes.new.items crew.new.items) }
     ensures ended { IsEnd (G.closed gate.new) (G.faults gate.old) (G.faults gate.new) result }
     ensures same_others { drop (vec_len passes.old) crew.new.items ≡ drop (vec_len passes.old) crew.old.items }
