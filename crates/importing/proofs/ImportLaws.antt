@@ -1,6 +1,7 @@
 -- What the command `import` leaves.
 use Rattle.std.proofs.Common.{◌≡◌, ◌⊎◌, ℕ, Bool, true, IsTrue, List, [], ◌∷◌, ◌++◌, length, Option, Some, None, Result, Ok, Err, refl, sym, ap, subst, ◌∙◌, inl, inr, ⊎_elim, arith}
 use Rattle.std.specs.List.{flat_map}
+use Rattle.std.specs.Prelude.{⊤}
 use Rattle.archive_core.proofs.TellingLaws.{quiet_muted}
 use Rattle.archive_core.specs.Holdings.{Holdings, contents_of}
 use Rattle.archive_core.proofs.FinishedLaws.{checkpoints_later, same_checkpoints_of}
@@ -26,18 +27,19 @@ use Rattle.outside.specs.declared.gate.Gate.{Ghosts as Gates}
 use Rattle.outside.specs.declared.sink.Sink.{Ghosts as Sinks}
 use Rattle.command.proofs.OpeningLaws.{ids_differ, only_one}
 use Rattle.importing.proofs.KeepingLaws.{keeps_none}
-use Rattle.importing.specs.Imports.{Ends, HasImported, Imports, IsTellable, Tells, TellsFile, status_after, takens_in}
+use Rattle.importing.specs.Imports.{Imports, IsTellable, Tells, TellsFile, status_after, takens_in}
 use Rattle.command.specs.Gates.{gate_told, GateTold}
+use Rattle.command.specs.Objects.{Objects}
 use Rattle.importing.specs.Inputs.{Gives}
-use Rattle.importing.specs.Keeping.{Keeps, OpensAtLast, OpensBehind, OpensPast, Step, is_denied}
+use Rattle.importing.specs.Keeping.{Intake, Keeps, OpensAtLast, OpensBehind, OpensPast, Step, intake_of, is_denied}
 use Rattle.command.specs.Opening.{IsOpened, usual_limits}
-use Rattle.command.specs.Printing.{LacksMemory, Prints}
+use Rattle.command.specs.Printing.{LacksMemory, Printed, Prints, printed_as}
 use Rattle.importing.specs.Texts.{refusal_line, skip_line, skips_in, summary_line}
 use Rattle.importing.specs.declared.input.InputFault.{InputFault}
 use Rattle.importing.specs.declared.input.InputFault.TheVariants as input_fault
 use Rattle.command.specs.declared.status.Status.{Status}
 use Rattle.importing.specs.declared.tally.Tally.{Tally}
-use Rattle.importing.specs.steps.Importing.{ImportsFirst}
+use Rattle.importing.specs.steps.Importing.{HasImported, ImportsFirst}
 use Rattle.importing.specs.steps.Taking.{HasBegun, HasSkips, HasTakenAll}
 use Rattle.warc_journal.specs.Journals.{disk_of}
 use Rattle.warc_reader.proofs.InTurn.{all_given}
@@ -46,62 +48,56 @@ use Rattle.warc_reader.specs.declared.import.Outcome.{Outcome}
 
 -- ---- a file
 
-pub imported_whole : {O : Type 0} (alone : Bool) (sinks : Sinks O) (file : List ℕ) (tally : Tally) (was is : Told) (out_was out_is : O) (status : Status)
+pub imported_whole : {O : Type 0} (alone : Bool) (sinks : Sinks O) (file : List ℕ) (tally : Tally) (was is : Told) (printed : Printed O)
     → HasTakenAll alone file tally was is
     → ((other : List ℕ) (outcomes : List Outcome) → IsImport other outcomes → HasSkips tally outcomes → IsTellable tally.refused
-    → TellsFile sinks (takens_in outcomes) tally.stored tally.refused out_was out_is status other)
-    → HasImported alone sinks (Ok file) was is out_was out_is status
-imported_whole alone sinks file tally was is out_was out_is status taken told = record {
-  takens = takens_in taken.outcomes;
-  stored = tally.stored;
-  refused = tally.refused;
+    → TellsFile sinks (intake_of (takens_in outcomes) tally.stored tally.refused) printed other)
+    → HasImported alone sinks (Ok file) was is printed
+imported_whole alone sinks file tally was is printed taken told = record {
+  intake = intake_of (takens_in taken.outcomes) tally.stored tally.refused;
   keeps = taken.keeps;
   told = told file taken.outcomes taken.import taken.skips taken.tellable;
 }
 
-pub imported_front : {O : Type 0} (alone : Bool) (sinks : Sinks O) (file : List ℕ) (was is : Told) (out_was out_is : O) (status : Status)
-    → HasBegun alone file was is → LacksMemory sinks out_was out_is status → HasImported alone sinks (Ok file) was is out_was out_is status
-imported_front alone sinks file was is out_was out_is status begun lacks = record {
-  takens = takens_in begun.outcomes;
-  stored = begun.stored;
-  refused = begun.refused;
+pub imported_front : {O : Type 0} (alone : Bool) (sinks : Sinks O) (file : List ℕ) (was is : Told) (printed : Printed O)
+    → HasBegun alone file was is → LacksMemory sinks printed.was printed.is printed.status → HasImported alone sinks (Ok file) was is printed
+imported_front alone sinks file was is printed begun lacks = record {
+  intake = intake_of (takens_in begun.outcomes) begun.stored begun.refused;
   keeps = begun.keeps;
   told = inr (inr (record { outcomes = begun.outcomes; begun = inr (begun.at, begun.given); takens_are = refl; lacks = lacks }));
 }
 
-pub imported_none : {O : Type 0} (alone : Bool) (sinks : Sinks O) (input : Result (List ℕ) InputFault) (now : Told) (out_was out_is : O) (status : Status)
-    → Tells sinks [] 0 None out_was out_is status input → HasImported alone sinks input now now out_was out_is status
-imported_none alone sinks input now out_was out_is status told = record {
-  takens = [];
-  stored = 0;
-  refused = None;
+pub imported_none : {O : Type 0} (alone : Bool) (sinks : Sinks O) (input : Result (List ℕ) InputFault) (now : Told) (printed : Printed O)
+    → Tells sinks (intake_of [] 0 None) printed input → HasImported alone sinks input now now printed
+imported_none alone sinks input now printed told = record {
+  intake = intake_of [] 0 None;
   keeps = keeps_none alone 0 None now refl refl;
   told = told;
 }
 
-pub told_whole : {O : Type 0} (sinks : Sinks O) (file : List ℕ) (tally : Tally) (outcomes : List Outcome) (text : List ℕ) (out_was out_is : O) (status : Status)
+pub told_whole : {O : Type 0} (sinks : Sinks O) (file : List ℕ) (tally : Tally) (outcomes : List Outcome) (text : List ℕ) (printed : Printed O)
     → IsImport file outcomes → HasSkips tally outcomes → IsTellable tally.refused
     → text ≡ tally.lines.items ++ (summary_line tally.stored tally.skipped ++ refusal_line tally.refused)
-    → Prints sinks (status_after tally.refused) text out_was out_is status
-    → TellsFile sinks (takens_in outcomes) tally.stored tally.refused out_was out_is status file
-told_whole sinks file tally outcomes text out_was out_is status import skips tellable is printed = inl (record {
+    → Prints sinks (status_after tally.refused) text printed.was printed.is printed.status
+    → TellsFile sinks (intake_of (takens_in outcomes) tally.stored tally.refused) printed file
+told_whole sinks file tally outcomes text printed import skips tellable is told = inl (record {
   outcomes = outcomes;
   import = import;
   takens_are = refl;
   tellable = tellable;
-  told = subst (λ t. Prints sinks (status_after tally.refused) t out_was out_is status)
+  told = subst (λ t. Prints sinks (status_after tally.refused) t printed.was printed.is printed.status)
       (is ∙ ap (λ ls. ls ++ (summary_line tally.stored tally.skipped ++ refusal_line tally.refused)) skips.lines_are
       ∙ ap (λ (n : ℕ). flat_map skip_line (skips_in outcomes) ++ (summary_line tally.stored n ++ refusal_line tally.refused)) skips.count_is)
-      printed;
+      told;
 })
 
-pub broke_off : {O : Type 0} (sinks : Sinks O) (file : List ℕ) (stored : ℕ) (refused : Option StoreFault) (out_was out_is : O) (status : Status)
-    → LacksMemory sinks out_was out_is status → TellsFile sinks [] stored refused out_was out_is status file
-broke_off sinks file stored refused out_was out_is status lacks = inr (inr (record { outcomes = []; begun = inl refl; takens_are = refl; lacks = lacks }))
+pub broke_off : {O : Type 0} (sinks : Sinks O) (file : List ℕ) (stored : ℕ) (refused : Option StoreFault) (printed : Printed O)
+    → LacksMemory sinks printed.was printed.is printed.status → TellsFile sinks (intake_of [] stored refused) printed file
+broke_off sinks file stored refused printed lacks = inr (inr (record { outcomes = []; begun = inl refl; takens_are = refl; lacks = lacks }))
 
-pub untold_whole : {O : Type 0} (sinks : Sinks O) (file : List ℕ) (tally : Tally) (outcomes : List Outcome) (out : O) (status : Status) → IsImport file outcomes
-    → LacksMemory sinks out out status → TellsFile sinks (takens_in outcomes) tally.stored tally.refused out out status file
-untold_whole sinks file tally outcomes out status import lacks = inr (inr (record {
+pub untold_whole : {O : Type 0} (sinks : Sinks O) (file : List ℕ) (tally : Tally) (outcomes : List Outcome) (printed : Printed O) → IsImport file outcomes
+    → LacksMemory sinks printed.was printed.is printed.status → TellsFile sinks (intake_of (takens_in outcomes) tally.stored tally.refused) printed file
+untold_whole sinks file tally outcomes printed import lacks = inr (inr (record {
   outcomes = outcomes;
   begun = inr (length file, all_given file outcomes import);
   takens_are = refl;
@@ -110,11 +106,11 @@ untold_whole sinks file tally outcomes out status import lacks = inr (inr (recor
 
 -- ---- the gate's first connection
 
-pub first_read : {O : Type 0} (alone : Bool) (sinks : Sinks O) (clients_tell : Bool) (gate_was gate_is : GateTold) (was is : Told) (out_was out_is : O)
-    (status : Status) (input : Result (List ℕ) InputFault) → (IsTrue clients_tell → Gives gate_was gate_is input)
-    → (input ≡ Err input_fault.Failed) ⊎ (gate_is.faults ≡ gate_was.faults) → HasImported alone sinks input was is out_was out_is status
-    → ImportsFirst alone sinks clients_tell gate_was gate_is was is out_was out_is status
-first_read alone sinks clients_tell gate_was gate_is was is out_was out_is status input came failed imported = record {
+pub first_read : {O : Type 0} (alone : Bool) (sinks : Sinks O) (clients_tell : Bool) (gate_was gate_is : GateTold) (was is : Told) (printed : Printed O)
+    (input : Result (List ℕ) InputFault) → (IsTrue clients_tell → Gives gate_was gate_is input)
+    → (input ≡ Err input_fault.Failed) ⊎ (gate_is.faults ≡ gate_was.faults) → HasImported alone sinks input was is printed
+    → ImportsFirst alone sinks clients_tell gate_was gate_is was is printed
+first_read alone sinks clients_tell gate_was gate_is was is printed input came failed imported = record {
   input = input;
   came = came;
   gate_failed = failed;
@@ -166,9 +162,9 @@ module _ {D : Type 0} (disks : Disks D) (laws : DiskLaws disks) (given : D) (ask
   told_tells told = sym (reopened.whole told).told_is ∙ told
 
   -- from the disk that was given, over which nothing was written until the archive was opened
-  pub keeps_since : (takens : List Taken) (count : ℕ) (refused : Option StoreFault) → Keeps true takens count refused (told_of disks held) (told_of disks left)
-      → Keeps true takens count refused (told_on disks given (contents_of held)) (told_of disks left)
-  keeps_since takens count refused k =
+  pub keeps_since : (intake : Intake) → Keeps true intake (told_of disks held) (told_of disks left)
+      → Keeps true intake (told_on disks given (contents_of held)) (told_of disks left)
+  keeps_since intake k =
       let quiet : IsQuiet (muted held.told disks) given (disk_of held.journal) =
       quiet_muted disks held.told told_tells given (disk_of held.journal) reopened.quiet in
       record {
@@ -191,12 +187,12 @@ module _ {D : Type 0} (disks : Disks D) (laws : DiskLaws disks) (given : D) (ask
           covered = λ t le all. k.goes_on.covered t (omega (arith, le, quiet.later)) (quiet.covered t le all);
           kept = λ files has. quiet.kept files (k.goes_on.kept files has);
         };
-        faults = subst (λ (n : ℕ). CountsIf (is_denied refused) n (told_of disks left).faults) reopened.faults k.faults;
+        faults = subst (λ (n : ℕ). CountsIf (is_denied intake.refused) n (told_of disks left).faults) reopened.faults k.faults;
         moves = λ ids last t x le o. ⊎_elim
             (λ then. inl (no_more (quiet.moves t x le then)))
             (λ on. inr on)
             (k.moves ids last t x (omega (arith, le, quiet.later)) o);
-        left = λ a tells ids last x o. last_by refused k.rest k.steps k.reached (contents_of left)
+        left = λ a tells ids last x o. last_by intake.refused k.rest k.steps k.reached (contents_of left)
             (λ b. (told_of disks held).crash.openings (told_of disks held).crash.moment b)
             (λ b. (crash_of (muted held.told disks) given).openings (crash_of (muted held.told disks) given).moment b) x
             (opened_before (crash_of (muted held.told disks) given) (told_of disks held).crash
@@ -204,24 +200,13 @@ module _ {D : Type 0} (disks : Disks D) (laws : DiskLaws disks) (given : D) (ask
             (k.left a tells ids last x o);
       }
 
-  pub imported_since : {O : Type 0} (sinks : Sinks O) (input : Result (List ℕ) InputFault) (out_was out_is : O) (status : Status)
-      → HasImported true sinks input (told_of disks held) (told_of disks left) out_was out_is status
-      → HasImported true sinks input (told_on disks given (contents_of held)) (told_of disks left) out_was out_is status
-  imported_since sinks input out_was out_is status imported = record {
-    takens = imported.takens;
-    stored = imported.stored;
-    refused = imported.refused;
-    keeps = keeps_since imported.takens imported.stored imported.refused imported.keeps;
-    told = imported.told;
-  }
-
 -- an archive that was opened, and what was left of it
 imports_left : {D G L P O : Type 0} (disks : Disks D) (gates : Gates G L P) (sinks : Sinks O) (clients_tell : Bool) → (laws : DiskLaws disks) (asked : Option (List ℕ))
-    (was is : Ends D G O) (status : Status) (held left : Holdings D) (known : Option Book) → IsOpened disks (by_checkpoints was.disk asked known) held
+    (was is : Objects D G ⊤ O) (status : Status) (held left : Holdings D) (known : Option Book) → IsOpened disks (by_checkpoints was.disk asked known) held
     → (IsTrue held.told → Leaves (disks.images (disk_of held.journal)) (IsOf held.book)) → (IsTrue left.told → OpensNear disks (disk_of left.journal) left.book)
-    → ImportsFirst true sinks clients_tell (gate_told gates was.gate) (gate_told gates is.gate) (told_of disks held) (told_of disks left) was.out is.out status
+    → ImportsFirst true sinks clients_tell (gate_told gates was.gate) (gate_told gates is.gate) (told_of disks held) (told_of disks left) (printed_as was.out is.out status)
     → Imports disks gates sinks clients_tell known asked was (record is { disk = disk_of left.journal }) status
-unfolding imported_since keeps_since
+unfolding keeps_since
 imports_left disks gates sinks clients_tell laws asked was is status held left known opened are near first =
     let k = first.imported.keeps in
     let so : IsTrue held.told → IsTrue left.told = λ told. k.goes_on.same_tells ∙ told in
@@ -232,13 +217,15 @@ imports_left disks gates sinks clients_tell laws asked was is status held left k
       input = first.input;
       came = first.came;
       gate_failed = first.gate_failed;
-      imported = imported_since disks laws was.disk asked held left known opened.is sinks first.input was.out is.out status first.imported;
+      intake = first.imported.intake;
+      keeps = keeps_since disks laws was.disk asked held left known opened.is first.imported.intake first.imported.keeps;
+      told = first.imported.told;
       near = λ told. near (so told);
       right = λ told image now.
           let before = k.goes_on.kept (cdxj_files image) (record { told = so told; image = image; left = now; are = refl }) in
           checkpoints_later held.book left.book image k.goes_on.grows
           (same_checkpoints_of image before.image held.book (sym before.are) (are told before.image before.left).checkpoints);
-      left = λ told ids have last image x now stands. last_by first.imported.refused k.rest k.steps k.reached (contents_of left)
+      left = λ told ids have last image x now stands. last_by first.imported.intake.refused k.rest k.steps k.reached (contents_of left)
           (λ b. (told_of disks held).crash.openings (told_of disks held).crash.moment b) (λ b. SameBook b held.book) x
           (λ b o. only_one ((opened.is.whole told).state (ids_differ held.book ids) b o))
           (k.left refl told have last x
@@ -247,15 +234,15 @@ imports_left disks gates sinks clients_tell laws asked was is status held left k
 
 -- the archive was opened, and closed behind the import
 pub imports_by : {D G L P O : Type 0} (disks : Disks D) (gates : Gates G L P) (sinks : Sinks O) (clients_tell : Bool) → (laws : DiskLaws disks) (asked : Option (List ℕ))
-    (was is : Ends D G O) (out_opened : O) (status : Status) (held left : Holdings D) (known : Option Book)
+    (was is : Objects D G ⊤ O) (out_opened : O) (status : Status) (held left : Holdings D) (known : Option Book)
     → IsOpened disks (by_checkpoints was.disk asked known) held → (IsTrue held.told → Leaves (disks.images (disk_of held.journal)) (IsOf held.book))
     → is.disk ≡ disk_of left.journal → out_opened ≡ was.out
     → (IsTrue left.told → OpensNear disks is.disk left.book)
-    → ImportsFirst true sinks clients_tell (gate_told gates was.gate) (gate_told gates is.gate) (told_of disks held) (told_of disks left) out_opened is.out status
+    → ImportsFirst true sinks clients_tell (gate_told gates was.gate) (gate_told gates is.gate) (told_of disks held) (told_of disks left) (printed_as out_opened is.out status)
     → Imports disks gates sinks clients_tell known asked was is status
 imports_by {D} {G} {L} {P} {O} disks gates sinks clients_tell laws asked was is out_opened status held left known opened are closed silent near first =
     subst (λ (d : D). Imports disks gates sinks clients_tell known asked was (record is { disk = d }) status) (sym closed)
     (imports_left disks gates sinks clients_tell laws asked was is status held left known opened are
     (λ told. subst (λ (d : D). OpensNear disks d left.book) closed (near told))
-    (subst (λ (o : O). ImportsFirst true sinks clients_tell (gate_told gates was.gate) (gate_told gates is.gate) (told_of disks held) (told_of disks left) o is.out status)
+    (subst (λ (o : O). ImportsFirst true sinks clients_tell (gate_told gates was.gate) (gate_told gates is.gate) (told_of disks held) (told_of disks left) (printed_as o is.out status))
     silent first))

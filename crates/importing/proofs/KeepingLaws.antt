@@ -12,7 +12,7 @@ use Rattle.archive_shelf.specs.declared.receipt.Receipt.{Receipt}
 use Rattle.capture.specs.declared.book.Book.{Book}
 use Rattle.capture.specs.declared.captured.Taken.{Taken}
 use Rattle.command.proofs.OpeningLaws.{only_one}
-use Rattle.importing.specs.Keeping.{AreStored, HaveIds, IsOfRefused, IsOnWay, Keeps, OpensAtLast, OpensBehind, OpensPast, Step}
+use Rattle.importing.specs.Keeping.{AreStored, HaveIds, IsOfRefused, IsOnWay, Keeps, OpensAtLast, OpensBehind, OpensPast, Step, intake_of}
 
 -- ---- steps
 
@@ -56,7 +56,7 @@ record KeepsAll (alone : Bool) (takens : List Taken) (count : ℕ) (was is : Tol
   left : IsTrue alone → IsTrue was.contents.tells → HaveIds steps → HasIds is.contents.seen
       → (x : Book) → is.crash.openings is.crash.moment x → OpensBehind steps is.contents (λ b. was.crash.openings was.crash.moment b) x
 
-all_kept : (alone : Bool) (takens : List Taken) (count : ℕ) (was is : Told) → Keeps alone takens count None was is → KeepsAll alone takens count was is
+all_kept : (alone : Bool) (takens : List Taken) (count : ℕ) (was is : Told) → Keeps alone (intake_of takens count None) was is → KeepsAll alone takens count was is
 all_kept alone takens count was is k =
     let taken_of : Step → Taken = λ (step : Step). step.taken in
     let same : k.reached ≡ is.contents = sym k.ends.1 in
@@ -76,8 +76,8 @@ all_kept alone takens count was is k =
     }
 
 -- none so far
-pub keeps_none : (alone : Bool) (count : ℕ) (refused : Option StoreFault) (now : Told) → count ≡ 0 → refused ≡ None → Keeps alone [] count refused now now
-keeps_none alone count refused now zero none = subst (λ r. Keeps alone [] count r now now) (sym none) (record {
+pub keeps_none : (alone : Bool) (count : ℕ) (refused : Option StoreFault) (now : Told) → count ≡ 0 → refused ≡ None → Keeps alone (intake_of [] count refused) now now
+keeps_none alone count refused now zero none = subst (λ r. Keeps alone (intake_of [] count r) now now) (sym none) (record {
   steps = [];
   rest = [];
   reached = now.contents;
@@ -96,7 +96,7 @@ in_line takens steps t rest e = ap (λ ts. ts ++ t ∷ rest) e
 
 -- one more is stored
 keeps_stored_all : (alone : Bool) (takens : List Taken) (count : ℕ) (was mid is : Told) (t : Taken) (receipt : Receipt) → KeepsAll alone takens count was mid
-    → IsConsistent alone is.contents → StoresOn alone t mid is (Ok receipt) → Keeps alone (takens ++ t ∷ []) (count + 1) None was is
+    → IsConsistent alone is.contents → StoresOn alone t mid is (Ok receipt) → Keeps alone (intake_of (takens ++ t ∷ []) (count + 1) None) was is
 keeps_stored_all alone takens count was mid is t receipt k consistent stores =
     let step : Step = record { taken = t; receipt = receipt; before = mid.contents; after = is.contents } in
     let taken_of : Step → Taken = λ (s : Step). s.taken in
@@ -123,12 +123,12 @@ keeps_stored_all alone takens count was mid is t receipt k consistent stores =
     }
 
 pub keeps_stored : (alone : Bool) (takens : List Taken) (count : ℕ) (was mid is : Told) (t : Taken) (receipt : Receipt) (refused : Option StoreFault)
-    → refused ≡ None → Keeps alone takens count refused was mid → IsConsistent alone is.contents → StoresOn alone t mid is (Ok receipt)
-    → Keeps alone (takens ++ t ∷ []) (count + 1) refused was is
+    → refused ≡ None → Keeps alone (intake_of takens count refused) was mid → IsConsistent alone is.contents → StoresOn alone t mid is (Ok receipt)
+    → Keeps alone (intake_of (takens ++ t ∷ []) (count + 1) refused) was is
 keeps_stored alone takens count was mid is t receipt refused none k consistent stores =
-    subst (λ r. Keeps alone (takens ++ t ∷ []) (count + 1) r was is) (sym none)
+    subst (λ r. Keeps alone (intake_of (takens ++ t ∷ []) (count + 1) r) was is) (sym none)
     (keeps_stored_all alone takens count was mid is t receipt
-    (all_kept alone takens count was mid (subst (λ r. Keeps alone takens count r was mid) none k)) consistent stores)
+    (all_kept alone takens count was mid (subst (λ r. Keeps alone (intake_of takens count r) was mid) none k)) consistent stores)
 
 -- ---- one is refused
 
@@ -166,7 +166,7 @@ past alone Before mid is t Memory x a tells ids earlier before stores o =
 
 keeps_refused_all : (alone : Bool) (takens : List Taken) (count : ℕ) (was mid is : Told) (t : Taken) (fault : StoreFault) → KeepsAll alone takens count was mid
     → IsEarlier is.crash → IsConsistent alone is.contents → StoresOn alone t mid is (Err fault)
-    → Keeps alone (takens ++ t ∷ []) count (Some fault) was is
+    → Keeps alone (intake_of (takens ++ t ∷ []) count (Some fault)) was is
 keeps_refused_all alone takens count was mid is t fault k earlier consistent stores =
     let taken_of : Step → Taken = λ (s : Step). s.taken in
     record {
@@ -188,11 +188,11 @@ keeps_refused_all alone takens count was mid is t fault k earlier consistent sto
     }
 
 pub keeps_refused : (alone : Bool) (takens : List Taken) (count : ℕ) (was mid is : Told) (t : Taken) (fault : StoreFault) (refused : Option StoreFault)
-    → refused ≡ None → Keeps alone takens count refused was mid → IsEarlier is.crash → IsConsistent alone is.contents
-    → StoresOn alone t mid is (Err fault) → Keeps alone (takens ++ t ∷ []) count (Some fault) was is
+    → refused ≡ None → Keeps alone (intake_of takens count refused) was mid → IsEarlier is.crash → IsConsistent alone is.contents
+    → StoresOn alone t mid is (Err fault) → Keeps alone (intake_of (takens ++ t ∷ []) count (Some fault)) was is
 keeps_refused alone takens count was mid is t fault refused none k earlier consistent stores =
     keeps_refused_all alone takens count was mid is t fault
-    (all_kept alone takens count was mid (subst (λ r. Keeps alone takens count r was mid) none k)) earlier consistent stores
+    (all_kept alone takens count was mid (subst (λ r. Keeps alone (intake_of takens count r) was mid) none k)) earlier consistent stores
 
 -- ---- behind a refusal
 
@@ -207,7 +207,7 @@ last_more fault [] refused others t reached now Before x is o = absurd cc
 last_more fault (r ∷ rest) refused others t reached now Before x is o = o
 
 keeps_past_fault : (alone : Bool) (takens : List Taken) (count : ℕ) (was is : Told) (t : Taken) (fault : StoreFault)
-    → Keeps alone takens count (Some fault) was is → Keeps alone (takens ++ t ∷ []) count (Some fault) was is
+    → Keeps alone (intake_of takens count (Some fault)) was is → Keeps alone (intake_of (takens ++ t ∷ []) count (Some fault)) was is
 keeps_past_fault alone takens count was is t fault k =
     let taken_of : Step → Taken = λ (s : Step). s.taken in
     record {
@@ -229,12 +229,12 @@ keeps_past_fault alone takens count was is t fault k =
     }
 
 pub keeps_past : (alone : Bool) (takens : List Taken) (count : ℕ) (was is : Told) (t : Taken) (fault : StoreFault) (refused : Option StoreFault)
-    → refused ≡ Some fault → Keeps alone takens count refused was is → Keeps alone (takens ++ t ∷ []) count refused was is
+    → refused ≡ Some fault → Keeps alone (intake_of takens count refused) was is → Keeps alone (intake_of (takens ++ t ∷ []) count refused) was is
 keeps_past alone takens count was is t fault refused same k =
-    subst (λ r. Keeps alone (takens ++ t ∷ []) count r was is) (sym same)
-    (keeps_past_fault alone takens count was is t fault (subst (λ r. Keeps alone takens count r was is) same k))
+    subst (λ r. Keeps alone (intake_of (takens ++ t ∷ []) count r) was is) (sym same)
+    (keeps_past_fault alone takens count was is t fault (subst (λ r. Keeps alone (intake_of takens count r) was is) same k))
 
 -- nothing more
-pub keeps_as : (alone : Bool) (takens : List Taken) (count : ℕ) (refused : Option StoreFault) (was is : Told) → Keeps alone takens count refused was is
-    → Keeps alone (takens ++ []) count refused was is
-keeps_as alone takens count refused was is k = subst (λ ts. Keeps alone ts count refused was is) (sym (append-nil takens)) k
+pub keeps_as : (alone : Bool) (takens : List Taken) (count : ℕ) (refused : Option StoreFault) (was is : Told) → Keeps alone (intake_of takens count refused) was is
+    → Keeps alone (intake_of (takens ++ []) count refused) was is
+keeps_as alone takens count refused was is k = subst (λ ts. Keeps alone (intake_of ts count refused) was is) (sym (append-nil takens)) k

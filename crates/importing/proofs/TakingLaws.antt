@@ -8,7 +8,7 @@ use Rattle.archive_shelf.specs.Told.{Told}
 use Rattle.archive_shelf.specs.declared.fault.StoreFault.{StoreFault}
 use Rattle.capture.specs.declared.captured.Taken.{Taken}
 use Rattle.importing.specs.Imports.{IsTellable, taken_in, takens_in}
-use Rattle.importing.specs.Keeping.{Keeps, Step}
+use Rattle.importing.specs.Keeping.{Keeps, Step, intake_of}
 use Rattle.importing.specs.Texts.{skip_in, skip_line, skips_in}
 use Rattle.importing.specs.declared.tally.Tally.{Tally}
 use Rattle.importing.specs.steps.Taking.{FitsIn, HasBegun, HasTaken, HasTakenAll, Stands}
@@ -91,7 +91,7 @@ taken_none alone reading file tally now starts is lines skipped stored refused =
 
 pub taken_more : (alone : Bool) (old new : FileReading) (before tally : Tally) (was mid is : Told) (o : Outcome)
     → ((done rest : List WarcRecord) → IsBetween old done rest → Gives new done rest (Some o)) → HasTaken alone old before was mid
-    → ((takens : List Taken) → Keeps alone takens before.stored before.refused was mid → Keeps alone (takens ++ taken_in o) tally.stored tally.refused was is)
+    → ((takens : List Taken) → Keeps alone (intake_of takens before.stored before.refused) was mid → Keeps alone (intake_of (takens ++ taken_in o) tally.stored tally.refused) was is)
     → tally.lines.items ≡ before.lines.items ++ flat_map skip_line (skip_in o) → tally.skipped ≡ before.skipped + length (skip_in o)
     → (IsTellable before.refused → IsTellable tally.refused) → HasTaken alone new tally was is
 taken_more alone old new before tally was mid is o gives taken keeps lines count tellable = record {
@@ -103,12 +103,12 @@ taken_more alone old new before tally was mid is o gives taken keeps lines count
     count_is = omega (arith, count, taken.skips.count_is, ap length (skips_more taken.outcomes o), length-append (skips_in taken.outcomes) (skip_in o));
   };
   tellable = tellable taken.tellable;
-  keeps = subst (λ ts. Keeps alone ts tally.stored tally.refused was is) (sym (takens_more taken.outcomes o)) (keeps (takens_in taken.outcomes) taken.keeps);
+  keeps = subst (λ ts. Keeps alone (intake_of ts tally.stored tally.refused) was is) (sym (takens_more taken.outcomes o)) (keeps (takens_in taken.outcomes) taken.keeps);
 }
 
 pub begun_more : (alone : Bool) (old new : FileReading) (before tally : Tally) (was mid is : Told) (o : Outcome)
     → ((done rest : List WarcRecord) → IsBetween old done rest → Gives new done rest (Some o)) → HasTaken alone old before was mid
-    → ((takens : List Taken) → Keeps alone takens before.stored before.refused was mid → Keeps alone (takens ++ taken_in o) tally.stored tally.refused was is)
+    → ((takens : List Taken) → Keeps alone (intake_of takens before.stored before.refused) was mid → Keeps alone (intake_of (takens ++ taken_in o) tally.stored tally.refused) was is)
     → HasBegun alone new.file was is
 begun_more alone old new before tally was mid is o gives taken keeps = record {
   outcomes = taken.outcomes ++ o ∷ [];
@@ -116,7 +116,7 @@ begun_more alone old new before tally was mid is o gives taken keeps = record {
   given = (given_more old new taken.outcomes o taken.given gives).given;
   stored = tally.stored;
   refused = tally.refused;
-  keeps = subst (λ ts. Keeps alone ts tally.stored tally.refused was is) (sym (takens_more taken.outcomes o)) (keeps (takens_in taken.outcomes) taken.keeps);
+  keeps = subst (λ ts. Keeps alone (intake_of ts tally.stored tally.refused) was is) (sym (takens_more taken.outcomes o)) (keeps (takens_in taken.outcomes) taken.keeps);
 }
 
 pub begun_still : (alone : Bool) (old new : FileReading) (tally : Tally) (was is : Told) → new ≡ old → HasTaken alone old tally was is
@@ -169,7 +169,7 @@ taken_few alone reading tally was is taken =
 
 -- the same counts
 pub keeps_with : (alone : Bool) (takens : List Taken) (was is : Told) (before now : ℕ) (refused_before refused_now : Option StoreFault) → now ≡ before
-    → refused_now ≡ refused_before → Keeps alone takens before refused_before was is → Keeps alone (takens ++ []) now refused_now was is
+    → refused_now ≡ refused_before → Keeps alone (intake_of takens before refused_before) was is → Keeps alone (intake_of (takens ++ []) now refused_now) was is
 keeps_with alone takens was is before now refused_before refused_now count refused k =
     keeps_as alone takens now refused_now was is
-    (subst (λ r. Keeps alone takens now r was is) (sym refused) (subst (λ n. Keeps alone takens n refused_before was is) (sym count) k))
+    (subst (λ r. Keeps alone (intake_of takens now r) was is) (sym refused) (subst (λ n. Keeps alone (intake_of takens n refused_before) was is) (sym count) k))

@@ -74,26 +74,35 @@ OpensAtLast (Some fault) (refused ∷ others) reached now Before x = OpensPast f
 
 -- ---- the whole
 
+-- Captures that are to be stored, in order; how many of them were, and why the next one was refused, if one was.
+pub record Intake : Type 0 where
+  pub takens : List Taken
+  pub stored : ℕ
+  pub refused : Option StoreFault
+
+abbrev pub intake_of : List Taken → ℕ → Option StoreFault → Intake
+intake_of takens stored refused = record { takens = takens; stored = stored; refused = refused }
+
 -- a fault of the disk refused a capture
 abbrev pub is_denied : Option StoreFault → Bool
 is_denied None = false
 is_denied (Some fault) = is_store_fault (Err fault)
 
--- Of these captures the first so many were stored, in order, and each by the rule. All were, unless one was refused for this cause.
-pub record Keeps (alone : Bool) (takens : List Taken) (count : ℕ) (refused : Option StoreFault) (was is : Told) : Type 0 where
+-- Of the captures the first so many were stored, in order, and each by the rule. All were, unless one was refused for this cause.
+pub record Keeps (alone : Bool) (intake : Intake) (was is : Told) : Type 0 where
   pub steps : List Step
   pub rest : List Taken
   pub reached : Contents
-  pub in_order : takens ≡ map (λ (step : Step). step.taken) steps ++ rest
-  pub count_is : count ≡ length steps
+  pub in_order : intake.takens ≡ map (λ (step : Step). step.taken) steps ++ rest
+  pub count_is : intake.stored ≡ length steps
   pub stored : AreStored alone was.contents steps reached
-  pub ends : EndsBy alone refused rest reached is.contents
+  pub ends : EndsBy alone intake.refused rest reached is.contents
   pub goes_on : GoesOn alone was is
-  pub faults : CountsIf (is_denied refused) was.faults is.faults
+  pub faults : CountsIf (is_denied intake.refused) was.faults is.faults
   -- a book that may be opened since a moment might have been before, or storing one of them may leave it
   pub moves : HaveIds steps → HasIds reached.seen
-      → Moves was.crash is.crash (λ x. IsOnWay steps x ⊎ IsOfRefused refused rest reached x)
+      → Moves was.crash is.crash (λ x. IsOnWay steps x ⊎ IsOfRefused intake.refused rest reached x)
   -- behind the last that was stored no other book may be opened than the last one, but what a refusal by the disk leaves
   pub left : IsTrue alone → IsTrue was.contents.tells → HaveIds steps → HasIds reached.seen
       → (x : Book) → is.crash.openings is.crash.moment x
-      → OpensAtLast refused rest reached is.contents (OpensBehind steps reached (λ b. was.crash.openings was.crash.moment b)) x
+      → OpensAtLast intake.refused rest reached is.contents (OpensBehind steps reached (λ b. was.crash.openings was.crash.moment b)) x

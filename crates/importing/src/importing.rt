@@ -2,13 +2,15 @@
 ghost use Rattle.std.specs.Prelude.{◌≡◌, ◌≤◌, ◌⊎◌, ℕ, List, [], length, IfSome, Ok, Err, Option};
 ghost use Rattle.archive_opening.specs.Telling.{MayBeSettled};
 ghost use Rattle.archive_shelf.specs.declared.fault.StoreFault.{StoreFault as Refusal};
-ghost use Rattle.importing.specs.Imports.{HasImported, Imports, IsTellable, Tells, TellsFile, ends_of, status_after as after, takens_in};
+ghost use Rattle.importing.specs.Imports.{Imports, IsTellable, Tells, TellsFile, status_after as after, takens_in};
+ghost use Rattle.importing.specs.Keeping.{intake_of};
 ghost use Rattle.archive_core.specs.Known.{by_checkpoints};
 ghost use Rattle.command.specs.Gates.{gate_told};
+ghost use Rattle.command.specs.Objects.{objects_of};
 ghost use Rattle.command.specs.Opening.{IsNotOpened};
 ghost use Rattle.command.specs.Printing.{printed_as};
 ghost use Rattle.command.specs.Words as spec;
-ghost use Rattle.importing.specs.steps.Importing.{ImportsFirst};
+ghost use Rattle.importing.specs.steps.Importing.{HasImported, ImportsFirst};
 ghost use Rattle.importing.specs.steps.Taking.{HasSkips};
 ghost use Rattle.importing.specs.declared.input.TheConstants.{INPUT_LIMIT as LIMIT};
 ghost use Rattle.warc_reader.specs.Files.{IsFileFault};
@@ -39,9 +41,8 @@ pub fn import<K: Known, D: Disk, G: Gate, O: Sink>(
 ) -> Ran<D>
     requires uuid { IfSome (spec.asked_of command) IsUuid }
     requires known { MayBeSettled D.Disk disk (spec.asked_of command) K.book }
-    ensures { let was = ends_of disk gate.old out.old in
-        let is = ends_of result.disk gate.new out.new in
-        Imports D.Disk G.Gate O.Sink G.Link.tells K.book (spec.asked_of command) was is result.status
+    ensures { Imports D.Disk G.Gate O.Sink G.Link.tells K.book (spec.asked_of command) (objects_of disk gate.old tt out.old)
+        (objects_of result.disk gate.new tt out.new) result.status
         ⊎ (IsNotOpened D.Disk O.Sink (by_checkpoints disk (spec.asked_of command) K.book) result.disk (printed_as out.old out.new result.status) × (gate.new ≡ gate.old)) }
 {
     let mut archive = match open::<K, D, O>(
@@ -69,7 +70,7 @@ fn import_first<S: Shelf, G: Gate, O: Sink>(
     out: &mut O,
 ) -> Status
     ensures { ImportsFirst S.alone O.Sink G.Link.tells (gate_told G.Gate gate.old) (gate_told G.Gate gate.new) (S.told shelf.old) (S.told shelf.new)
-        out.old out.new result }
+        (printed_as out.old out.new result) }
 {
     match read_first(alloc, gate) {
         Ok(input) => import_file(alloc, shelf, input.as_slice(), out),
@@ -79,7 +80,7 @@ fn import_first<S: Shelf, G: Gate, O: Sink>(
 
 /// Tells why there is no input.
 fn tell_no_input<O: Sink>(out: &mut O, fault: InputFault) -> Status
-    ensures { (stored : ℕ) (refused : Option Refusal) → Tells O.Sink [] stored refused out.old out.new result (Err fault) }
+    ensures { (stored : ℕ) (refused : Option Refusal) → Tells O.Sink (intake_of [] stored refused) (printed_as out.old out.new result) (Err fault) }
 {
     match fault {
         InputFault::TooLong => print_as(out, b"input too long\n", Status::Archive),
@@ -91,7 +92,7 @@ fn tell_no_input<O: Sink>(out: &mut O, fault: InputFault) -> Status
 /// Stores what the records of the file give, and tells of it.
 fn import_file<S: Shelf, O: Sink>(alloc: Global, shelf: &mut S, file: &[u8], out: &mut O) -> Status
     requires { length file.now ≤ LIMIT }
-    ensures { HasImported S.alone O.Sink (Ok file.now) (S.told shelf.old) (S.told shelf.new) out.old out.new result }
+    ensures { HasImported S.alone O.Sink (Ok file.now) (S.told shelf.old) (S.told shelf.new) (printed_as out.old out.new result) }
 {
     let mut reader = match CaptureReader::new(alloc, file) {
         Ok(reader) => reader,
@@ -106,7 +107,7 @@ fn import_file<S: Shelf, O: Sink>(alloc: Global, shelf: &mut S, file: &[u8], out
 
 /// Tells at which place the input isn't records any more, unless there is no memory.
 fn tell_no_file<O: Sink>(alloc: Global, out: &mut O, fault: ImportFault) -> Status
-    ensures { (file : List ℕ) (stored : ℕ) (refused : Option Refusal) → IsFileFault file fault → TellsFile O.Sink [] stored refused out.old out.new result file }
+    ensures { (file : List ℕ) (stored : ℕ) (refused : Option Refusal) → IsFileFault file fault → TellsFile O.Sink (intake_of [] stored refused) (printed_as out.old out.new result) file }
 {
     match fault {
         ImportFault::NotARecord(at) => match damaged_input(alloc, at) {
@@ -120,7 +121,7 @@ fn tell_no_file<O: Sink>(alloc: Global, out: &mut O, fault: ImportFault) -> Stat
 /// Tells what was skipped, how many captures were stored and why no more were, unless there is no memory.
 fn tell_all<O: Sink>(out: &mut O, tally: Tally) -> Status
     ensures { (file : List ℕ) (outcomes : List Outcome) → IsImport file outcomes → HasSkips tally outcomes → IsTellable tally.refused
-        → TellsFile O.Sink (takens_in outcomes) tally.stored tally.refused out.old out.new result file }
+        → TellsFile O.Sink (intake_of (takens_in outcomes) tally.stored tally.refused) (printed_as out.old out.new result) file }
 {
     let Tally {
         mut lines,

@@ -3,7 +3,7 @@ ghost use Rattle.std.specs.Prelude.{◌≡◌, ◌+◌, ◌++◌, ◌≤◌, ◌
 ghost use Rattle.std.specs.List.{flat_map};
 ghost use Rattle.capture.specs.declared.captured.Taken.{Taken as Capture};
 ghost use Rattle.importing.specs.Imports.{IsTellable, taken_in};
-ghost use Rattle.importing.specs.Keeping.{Keeps};
+ghost use Rattle.importing.specs.Keeping.{Keeps, intake_of};
 ghost use Rattle.importing.specs.Texts.{skip_in, skip_line};
 ghost use Rattle.importing.specs.steps.Taking.{FitsIn, HasTaken, Stands, TakesAll, TakesNext};
 ghost use Rattle.importing.specs.declared.input.TheConstants.{INPUT_LIMIT as LIMIT};
@@ -71,8 +71,8 @@ fn take<S: Shelf>(
     requires fits { FitsIn outcome }
     requires stored { tally.old.stored ≤ LIMIT }
     requires skipped { tally.old.skipped ≤ LIMIT }
-    ensures keeps { (was : S) (takens : List Capture) → Keeps S.alone takens tally.old.stored tally.old.refused (S.told was) (S.told shelf.old)
-        → Keeps S.alone (takens ++ taken_in outcome) tally.new.stored tally.new.refused (S.told was) (S.told shelf.new) }
+    ensures keeps { (was : S) (takens : List Capture) → Keeps S.alone (intake_of takens tally.old.stored tally.old.refused) (S.told was) (S.told shelf.old)
+        → Keeps S.alone (intake_of (takens ++ taken_in outcome) tally.new.stored tally.new.refused) (S.told was) (S.told shelf.new) }
     ensures lines { OnOk result (tally.new.lines.items ≡ tally.old.lines.items ++ flat_map skip_line (skip_in outcome)) }
     ensures count { OnOk result (tally.new.skipped ≡ tally.old.skipped + length (skip_in outcome)) }
     ensures tellable { OnOk result (IsTellable tally.old.refused → IsTellable tally.new.refused) }
@@ -93,8 +93,8 @@ fn keep<S: Shelf>(
 ) -> Result<(), Memory>
     requires fits { Fits taken.now }
     requires stored { tally.old.stored ≤ LIMIT }
-    ensures keeps { (was : S) (takens : List Capture) → Keeps S.alone takens tally.old.stored tally.old.refused (S.told was) (S.told shelf.old)
-        → Keeps S.alone (takens ++ taken.now ∷ []) tally.new.stored tally.new.refused (S.told was) (S.told shelf.new) }
+    ensures keeps { (was : S) (takens : List Capture) → Keeps S.alone (intake_of takens tally.old.stored tally.old.refused) (S.told was) (S.told shelf.old)
+        → Keeps S.alone (intake_of (takens ++ taken.now ∷ []) tally.new.stored tally.new.refused) (S.told was) (S.told shelf.new) }
     ensures same_lines { tally.new.lines.items ≡ tally.old.lines.items }
     ensures same_skipped { tally.new.skipped ≡ tally.old.skipped }
     ensures tellable { OnOk result (IsTellable tally.old.refused → IsTellable tally.new.refused) }
@@ -115,8 +115,8 @@ fn store_one<S: Shelf>(
     requires fits { Fits taken.now }
     requires stored { tally.old.stored ≤ LIMIT }
     requires none_refused { tally.old.refused ≡ None }
-    ensures keeps { (was : S) (takens : List Capture) → Keeps S.alone takens tally.old.stored tally.old.refused (S.told was) (S.told shelf.old)
-        → Keeps S.alone (takens ++ taken.now ∷ []) tally.new.stored tally.new.refused (S.told was) (S.told shelf.new) }
+    ensures keeps { (was : S) (takens : List Capture) → Keeps S.alone (intake_of takens tally.old.stored tally.old.refused) (S.told was) (S.told shelf.old)
+        → Keeps S.alone (intake_of (takens ++ taken.now ∷ []) tally.new.stored tally.new.refused) (S.told was) (S.told shelf.new) }
     ensures same_lines { tally.new.lines.items ≡ tally.old.lines.items }
     ensures same_skipped { tally.new.skipped ≡ tally.old.skipped }
     ensures tellable { OnOk result (IsTellable tally.new.refused) }

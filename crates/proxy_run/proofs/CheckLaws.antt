@@ -5,7 +5,7 @@ use Rattle.archive_shelf.specs.Storing.{counts_of}
 use Rattle.archive_shelf.specs.declared.depth.Depth.TheVariants.{Whole}
 use Rattle.archive_core.specs.Known.{opening_of}
 use Rattle.command.specs.Opening.{IsOpened}
-use Rattle.command.specs.Printing.{LacksMemory, Prints}
+use Rattle.command.specs.Printing.{LacksMemory, Prints, printed_as}
 use Rattle.command.specs.Texts.{counts_text}
 use Rattle.command.specs.declared.status.Status.{Status}
 use Rattle.command.specs.declared.status.Status.TheVariants.{Done}
@@ -18,7 +18,7 @@ use Rattle.warc_journal.specs.Journals.{disk_of}
 pub counted_by : {D O : Type 0} (disks : Disks D) (sinks : Sinks O) (was is : D) (held : Holdings D) (out_was out_opened out_is : O) (status : Status)
     → IsOpened disks (opening_of was Whole None None) held → is ≡ disk_of held.journal
     → Prints sinks Done (counts_text (counts_of held.book)) out_opened out_is status ⊎ LacksMemory sinks out_opened out_is status → out_opened ≡ out_was
-    → IsCounted disks sinks was is out_was out_is status
+    → IsCounted disks sinks was is (printed_as out_was out_is status)
 counted_by disks sinks was is held out_was out_opened out_is status opened closed printed silent = record {
   held = held;
   opened = opened;

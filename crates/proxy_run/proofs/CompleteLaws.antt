@@ -5,7 +5,7 @@ use Rattle.archive_opening.specs.Opening.{CountsFault, HoldsOther, IsDamageIn, I
 use Rattle.archive_core.proofs.FinishedLaws.{checkpoints_later, same_checkpoints_of}
 use Rattle.archive_core.specs.Finished.{IsSettled}
 use Rattle.archive_core.specs.Holdings.{Holdings, contents_of}
-use Rattle.archive_core.specs.Known.{told_at}
+use Rattle.archive_core.specs.Known.{by_checkpoints, opening_of, told_at}
 use Rattle.archive_core.specs.Settling.{KeepsSettled}
 use Rattle.archive_opening.specs.Telling.{HasCheckpointsOf, IsReadWhole}
 use Rattle.archive_shelf.specs.declared.depth.Depth.TheVariants.{Checkpoints, Whole}
@@ -44,8 +44,9 @@ use Rattle.importing.specs.Imports.{IsTellable, Tells, status_after}
 use Rattle.importing.specs.Keeping.{EndsBy, Keeps, is_denied}
 use Rattle.command.specs.Objects.{Kinds, Objects, UsesFirst, with_one}
 use Rattle.proxy_run.specs.Pipes.{HasServed, HasServedNone, Pipes, Refuses, pipe_terms}
-use Rattle.command.specs.Printing.{LacksMemory, Prints}
-use Rattle.proxy_run.specs.Runs.{HasChecked, HasPiped, HasReplicated, HasTakenIn, LacksWords}
+use Rattle.command.specs.Printing.{LacksMemory, Prints, printed_as}
+use Rattle.proxy_run.specs.Checks.{IsCounted}
+use Rattle.proxy_run.specs.Runs.{HasPiped, HasReplicated, HasTakenIn, LacksWords}
 use Rattle.proxy_run.specs.Serving.{IsReason, status_of}
 use Rattle.replica.specs.Sources.{source_of}
 use Rattle.command.specs.Texts.{IsFaultText}
@@ -113,7 +114,7 @@ of_known tells (Some book) P so has = has so
 
 module _ {D G L P N M C O : Type 0} (kinds : Kinds D G L P N M C O) where
   pub refused_known : (known : Option Book) (asked : Option (List ℕ)) (was is : Objects D G (List (N × C)) O) (status : Status)
-      → IsTrue (told_at Checkpoints kinds.disks.tells known) → NoFaults kinds was is → Refuses kinds Checkpoints known asked was is status → status ≡ Memory
+      → IsTrue (told_at Checkpoints kinds.disks.tells known) → NoFaults kinds was is → Refuses kinds (by_checkpoints was.disk asked known) was is status → status ≡ Memory
   refused_known known asked was is status told steady refuses =
       lacks_by kinds.sinks (kinds.disks.faults was.disk) (kinds.disks.faults is.disk) was.out is.out status steady.disk refuses.refused.fault
       (of_known kinds.disks.tells known (IsOutside refuses.refused.fault) told refuses.refused.refused.complete) refuses.refused.refused.faults refuses.refused.told
@@ -121,7 +122,7 @@ module _ {D G L P N M C O : Type 0} (kinds : Kinds D G L P N M C O) where
   -- each volume was read
   pub refused_unsettled : (known : Option Book) (was is : Objects D G (List (N × C)) O) (status : Status) → IsTrue kinds.disks.tells
       → IsReady None (kinds.disks.reading was.disk) → IsReadWhole (kinds.disks.reading was.disk)
-      → NoFaults kinds was is → Refuses kinds Checkpoints known None was is status → status ≡ Memory
+      → NoFaults kinds was is → Refuses kinds (by_checkpoints was.disk None known) was is status → status ≡ Memory
   refused_unsettled known was is status told ready whole steady refuses =
       lacks_memory kinds.sinks None (kinds.disks.reading was.disk) ready.book (kinds.disks.faults was.disk) (kinds.disks.faults is.disk) was.out is.out status
       ready.stands (λ other holds. holds.asked_for refl) steady.disk refuses.refused.fault
@@ -130,7 +131,7 @@ module _ {D G L P N M C O : Type 0} (kinds : Kinds D G L P N M C O) where
   pub refused_for_memory : (asked : Option (List ℕ)) (was is : Objects D G (List (N × C)) O) (status : Status) → IsTrue kinds.disks.tells
       → IsReady asked (kinds.disks.reading was.disk)
       → ((other : List ℕ) → HoldsOther (warc_files (kinds.disks.reading was.disk)) asked other → ⊥)
-      → NoFaults kinds was is → Refuses kinds Whole None asked was is status → status ≡ Memory
+      → NoFaults kinds was is → Refuses kinds (opening_of was.disk Whole asked None) was is status → status ≡ Memory
   refused_for_memory asked was is status told ready none steady refuses =
       lacks_memory kinds.sinks asked (kinds.disks.reading was.disk) ready.book (kinds.disks.faults was.disk) (kinds.disks.faults is.disk) was.out is.out status
       ready.stands none steady.disk refuses.refused.fault ((refuses.refused.whole refl).damage told) ((refuses.refused.whole refl).other told)
@@ -139,9 +140,10 @@ module _ {D G L P N M C O : Type 0} (kinds : Kinds D G L P N M C O) where
   -- ---- `check`
 
   check_answered : (known : Option Book) (was is : Objects D G (List (N × C)) O) (status : Status) → IsTrue kinds.disks.tells → IsReady None (kinds.disks.reading was.disk)
-      → NoFaults kinds was is → HasChecked kinds known was is status ⊎ Refuses kinds Whole None None was is status → (status ≡ Done) ⊎ (status ≡ Memory)
+      → NoFaults kinds was is → (IsCounted kinds.disks kinds.sinks was.disk is.disk (printed_as was.out is.out status) × (is ≡ record was { disk = is.disk; out = is.out }))
+      ⊎ Refuses kinds (opening_of was.disk Whole None None) was is status → (status ≡ Done) ⊎ (status ≡ Memory)
   check_answered known was is status told ready steady (inl checked) =
-      printed_or_lacked kinds.sinks Done _ was.out is.out status steady.out checked.counted.printed
+      printed_or_lacked kinds.sinks Done _ was.out is.out status steady.out checked.0.printed
   check_answered known was is status told ready steady (inr refuses) =
       inr (refused_for_memory None was is status told ready (λ other holds. holds.asked_for refl) steady refuses)
 
@@ -185,11 +187,11 @@ module _ {D G L P N M C O : Type 0} (kinds : Kinds D G L P N M C O) where
   served_answered was is before after status first steady (inl s) =
       badly was is before after status first s (ends_or_badly s.one.served status s.one.status_is)
   served_answered was is before after status first steady (inr n) =
-      one_more (without (kinds.gates.closed was.gate) (kinds.gates.faults was.gate) (kinds.gates.faults is.gate) status steady.gate n.none.reason)
+      one_more (without (kinds.gates.closed was.gate) (kinds.gates.faults was.gate) (kinds.gates.faults is.gate) status steady.gate n.reason)
 
   pipe_answered : (known : Option Book) (namespace : List ℕ) (was is : Objects D G (List (N × C)) O) (status : Status)
       → IsTrue (told_at Checkpoints kinds.disks.tells known) → IsTrue kinds.clients_tell → IsTrue kinds.origins_tell → NoFaults kinds was is
-      → HasPiped kinds known namespace was is status ⊎ Refuses kinds Checkpoints known (Some namespace) was is status
+      → HasPiped kinds known namespace was is status ⊎ Refuses kinds (by_checkpoints was.disk (Some namespace) known) was is status
       → (status ≡ Done) ⊎ (status ≡ Memory) ⊎ ServesBadly kinds was is status
   pipe_answered known namespace was is status told clients origins steady (inl piped) =
       let p = piped.piped in
@@ -209,21 +211,21 @@ module _ {D G L P N M C O : Type 0} (kinds : Kinds D G L P N M C O) where
 
   read_answered : (known : Option Book) (namespace : List ℕ) (was is : Objects D G (List (N × C)) O) (status : Status) (taken : HasTakenIn kinds known namespace was is status)
       → IsTrue (told_at Checkpoints kinds.disks.tells known)
-      → NoFaults kinds was is → (file : List ℕ) → taken.imported.input ≡ Ok file → (refused : Option StoreFault) → taken.imported.imported.refused ≡ refused
+      → NoFaults kinds was is → (file : List ℕ) → taken.imported.input ≡ Ok file → (refused : Option StoreFault) → taken.imported.intake.refused ≡ refused
       → IsTellable refused → (text : List ℕ) → Prints kinds.sinks (status_after refused) text was.out is.out status
       → (status ≡ Done) ⊎ (status ≡ Memory) ⊎ ImportsBadly kinds known namespace was is status
   read_answered known namespace was is status taken told steady file whole None none tellable text printed =
       one_more (printed_or_lacked kinds.sinks Done text was.out is.out status steady.out (inl printed))
   read_answered known namespace was is status taken told steady file whole (Some (stores.Full count limit)) full tellable text printed =
-      inr (inr (record { taken = taken; badly = subst (λ i. IsNotTaken i taken.imported.imported.refused) (sym whole) (inr (subst IsFullBefore (sym full) tt)) }))
+      inr (inr (record { taken = taken; badly = subst (λ i. IsNotTaken i taken.imported.intake.refused) (sym whole) (inr (subst IsFullBefore (sym full) tt)) }))
   read_answered known namespace was is status taken told steady file whole (Some stores.DiskFault) fault tellable text printed =
       absurd (not_risen (kinds.disks.faults was.disk) (kinds.disks.faults is.disk) steady.disk
-      (subst (λ r. CountsIf (is_denied r) (kinds.disks.faults was.disk) (kinds.disks.faults is.disk)) fault taken.imported.imported.keeps.faults).1)
+      (subst (λ r. CountsIf (is_denied r) (kinds.disks.faults was.disk) (kinds.disks.faults is.disk)) fault taken.imported.keeps.faults).1)
   read_answered known namespace was is status taken told steady file whole (Some (stores.Damaged number kept found)) fault tellable text printed =
       absurd (undamaged (subst (λ r. EndsBy true r k.rest k.reached taken.imported.after) fault k.ends))
     where
-      k : Keeps true taken.imported.imported.takens taken.imported.imported.stored taken.imported.imported.refused (told_on kinds.disks was.disk (contents_of taken.imported.before)) (told_on kinds.disks is.disk taken.imported.after)
-      k = taken.imported.imported.keeps
+      k : Keeps true taken.imported.intake (told_on kinds.disks was.disk (contents_of taken.imported.before)) (told_on kinds.disks is.disk taken.imported.after)
+      k = taken.imported.keeps
 
       undamaged : EndsBy true (Some (stores.Damaged number kept found)) k.rest k.reached taken.imported.after → ⊥
       undamaged ends =
@@ -235,25 +237,25 @@ module _ {D G L P N M C O : Type 0} (kinds : Kinds D G L P N M C O) where
   taken_answered : (known : Option Book) (namespace : List ℕ) (was is : Objects D G (List (N × C)) O) (status : Status) (taken : HasTakenIn kinds known namespace was is status)
       → IsTrue (told_at Checkpoints kinds.disks.tells known)
       → NoFaults kinds was is → (input : Result (List ℕ) InputFault) → taken.imported.input ≡ input
-      → Tells kinds.sinks taken.imported.imported.takens taken.imported.imported.stored taken.imported.imported.refused was.out is.out status input
+      → Tells kinds.sinks taken.imported.intake (printed_as was.out is.out status) input
       → (status ≡ Done) ⊎ (status ≡ Memory) ⊎ ImportsBadly kinds known namespace was is status
   taken_answered known namespace was is status taken told steady (Ok file) whole (inl read) =
-      read_answered known namespace was is status taken told steady file whole taken.imported.imported.refused refl read.tellable _ read.told
+      read_answered known namespace was is status taken told steady file whole taken.imported.intake.refused refl read.tellable _ read.told
   taken_answered known namespace was is status taken told steady (Ok file) whole (inr (inl none)) =
-      inr (inr (record { taken = taken; badly = subst (λ i. IsNotTaken i taken.imported.imported.refused) (sym whole) (inl (none.at, none.none)) }))
+      inr (inr (record { taken = taken; badly = subst (λ i. IsNotTaken i taken.imported.intake.refused) (sym whole) (inl (none.at, none.none)) }))
   taken_answered known namespace was is status taken told steady (Ok file) whole (inr (inr breaks)) = inr (inl breaks.lacks.status_is)
   taken_answered known namespace was is status taken told steady (Err input_fault.TooLong) same tells =
-      inr (inr (record { taken = taken; badly = subst (λ i. IsNotTaken i taken.imported.imported.refused) (sym same) tt }))
+      inr (inr (record { taken = taken; badly = subst (λ i. IsNotTaken i taken.imported.intake.refused) (sym same) tt }))
   taken_answered known namespace was is status taken told steady (Err input_fault.Failed) same tells =
-      inr (inr (record { taken = taken; badly = subst (λ i. IsNotTaken i taken.imported.imported.refused) (sym same) tt }))
+      inr (inr (record { taken = taken; badly = subst (λ i. IsNotTaken i taken.imported.intake.refused) (sym same) tt }))
   taken_answered known namespace was is status taken told steady (Err input_fault.Memory) same tells = inr (inl tells.1.status_is)
 
   import_answered : (known : Option Book) (namespace : List ℕ) (was is : Objects D G (List (N × C)) O) (status : Status)
       → IsTrue (told_at Checkpoints kinds.disks.tells known) → NoFaults kinds was is
-      → HasTakenIn kinds known namespace was is status ⊎ Refuses kinds Checkpoints known (Some namespace) was is status
+      → HasTakenIn kinds known namespace was is status ⊎ Refuses kinds (by_checkpoints was.disk (Some namespace) known) was is status
       → (status ≡ Done) ⊎ (status ≡ Memory) ⊎ ImportsBadly kinds known namespace was is status
   import_answered known namespace was is status told steady (inl taken) =
-      taken_answered known namespace was is status taken told steady taken.imported.input refl taken.imported.imported.told
+      taken_answered known namespace was is status taken told steady taken.imported.input refl taken.imported.told
   import_answered known namespace was is status told steady (inr refuses) =
       inr (inl (refused_known known (Some namespace) was is status told steady refuses))
 
@@ -306,7 +308,7 @@ module _ {D G L P N M C O : Type 0} (kinds : Kinds D G L P N M C O) where
 
   follow_answered : (known : Option Book) (namespace : List ℕ) (site : Site) (was is : Objects D G (List (N × C)) O) (status : Status)
       → IsTrue (told_at Checkpoints kinds.disks.tells known) → NoFaults kinds was is
-      → HasReplicated kinds known namespace site was is status ⊎ Refuses kinds Checkpoints known (Some namespace) was is status ⊎ LacksWords kinds known was is status
+      → HasReplicated kinds known namespace site was is status ⊎ Refuses kinds (by_checkpoints was.disk (Some namespace) known) was is status ⊎ LacksWords kinds known was is status
       → (status ≡ Done) ⊎ (status ≡ Memory) ⊎ FollowsBadly kinds known namespace site was is status
   follow_answered known namespace site was is status told steady (inl taken) =
       ended_answered known namespace site was is status taken told steady taken.follows.follows.result refl taken.follows.follows.told taken.follows.follows.followed.ends
@@ -331,7 +333,7 @@ module _ {D G L P N M C O : Type 0} (kinds : Kinds D G L P N M C O) where
   imports_leave_ready known namespace was is status taken told ids image now =
       let i = taken.imported in
       let so : IsTrue i.before.told = i.opened.is.told_is ∙ told in
-      let g = i.imported.keeps.goes_on in
+      let g = i.keeps.goes_on in
       let x = i.near so image now in
       settled_next namespace image i.after.seen x.0 (g.grows.namespace ∙ i.opened.is.in_namespace)
       (λ none. (g.consistent (opened_consistent kinds.disks i.opened)).sound (g.same_tells ∙ so)) ids x.2 x.1 (i.right so image now)

@@ -5,17 +5,18 @@ use Rattle.archive_core.specs.Told.{told_of}
 use Rattle.archive_shelf.proofs.CallLaws.{leads_same}
 use Rattle.archive_volumes.proofs.ChangeLaws.{DiskLaws, laws_muted, now_image, one_of, opens_now}
 use Rattle.archive_volumes.specs.Volumes.{muted}
-use Rattle.archive_shelf.specs.Openings.{ImageStandsFor, SameBook}
+use Rattle.archive_shelf.specs.Openings.{HasIds, ImageStandsFor, SameBook}
 use Rattle.capture.specs.declared.book.Book.{Book}
 use Rattle.capture.specs.declared.refusal.Refusal.{Refusal}
 use Rattle.capture.specs.declared.refusal.Refusal.TheVariants.{Malformed, TargetRefused, BadTime, BadAcceptDatetime, BadQuery, NotAForm, NoCapture, NoSuch, MethodRefused, BodyTooLong, HeadTooLong, ClockRange, ConnectRefused, SecureRefused, CodingRefused, DialFault, OriginFault, OriginEnded, OriginMalformed, OriginTooLong, TooManyInterim, Full, DiskFault, Damaged}
 use Rattle.disk_model.specs.Crash.{Leaves}
+use Rattle.disk_model.specs.Image.{Image}
 use Rattle.disk_model.specs.declared.disk.Disk.{Ghosts as Disks}
 use Rattle.command.proofs.OpeningLaws.{ids_differ}
-use Rattle.proxy_run.specs.Pipes.{LeavesJust, pipe_terms}
+use Rattle.proxy_run.specs.Pipes.{pipe_terms}
 use Rattle.session.proofs.ImageLaws.{opens_more}
 use Rattle.session.specs.Exchanges.{Exchange, Fails, IsFailure, Passes}
-use Rattle.session.specs.Images.{KeepsImages, OpensAtLast, OpensBehind, deed_of, deed_of_failure}
+use Rattle.session.specs.Images.{HasAllIds, KeepsImages, OpensAtLast, OpensBehind, deed_of, deed_of_failure}
 use Rattle.session.specs.Rounds.{Exchanged, IsCourse, IsDecided, Outcome, Refused, Round, Undecided, Visited, disk_fault, disk_faults, is_disk_fault}
 use Rattle.session.specs.Traces.{StaysView, Terms, Traces, View}
 use Rattle.warc_journal.specs.Journals.{disk_of}
@@ -24,7 +25,8 @@ use Rattle.warc_journal.specs.Journals.{disk_of}
 pub leaves_just : {D : Type 0} (disks : Disks D) → DiskLaws disks → (rounds : List Round) (was is : Holdings D) → is.told ≡ was.told
     → (IsTrue was.told → Leaves (disks.images (disk_of was.journal)) (λ image. ImageStandsFor image was.book))
     → KeepsImages (pipe_terms (contents_of was)) rounds (told_of disks was) (told_of disks is)
-    → LeavesJust disks (contents_of was) rounds (disk_of is.journal)
+    → IsTrue was.told → HasIds was.book → HasAllIds rounds → (image : Image) (x : Book) → disks.images (disk_of is.journal) image → ImageStandsFor image x
+    → OpensAtLast (pipe_terms (contents_of was)) (λ book. SameBook book was.book) rounds x
 leaves_just disks laws rounds was is same stood k told ids all image x now stands =
     opens_more (pipe_terms (contents_of was)) rounds
     (λ b. (told_of disks was).crash.openings (told_of disks was).crash.moment b) (λ b. SameBook b was.book)

@@ -1,5 +1,6 @@
 -- What the command `follow` leaves.
 use Rattle.std.proofs.Common.{◌≡◌, ◌⊎◌, ℕ, Bool, IsTrue, List, [], ◌∷◌, length, Option, Err, refl, sym, subst, ◌∙◌, inl, inr, ⊎_elim, arith}
+use Rattle.std.specs.Prelude.{⊤}
 use Rattle.archive_core.specs.Holdings.{Holdings}
 use Rattle.archive_core.proofs.FinishedLaws.{checkpoints_later, same_checkpoints_of}
 use Rattle.command.specs.Settling.{IsOf}
@@ -17,15 +18,15 @@ use Rattle.capture.specs.declared.book.Book.{Book}
 use Rattle.capture.specs.declared.site.Site.{Site}
 use Rattle.disk_model.specs.declared.disk.Disk.{Ghosts as Disks}
 use Rattle.exchange.specs.declared.aim.Target.{Target}
-use Rattle.outside.specs.Records.{Links}
 use Rattle.outside.specs.declared.dialer.Dialer.{Ghosts as Dialers}
-use Rattle.outside.specs.declared.dialer.Transcript.{Transcript}
 use Rattle.outside.specs.declared.sink.Sink.{Ghosts as Sinks}
 use Rattle.command.proofs.OpeningLaws.{ids_differ, only_one}
 use Rattle.replica.proofs.FollowLaws.{at_last, ended_unasked}
 use Rattle.replica.specs.Following.{IsOfRefused, IsOnWay, OpensBehind, Step, is_disk_stop}
 use Rattle.proxy_run.specs.Follows.{Follows, FollowsTo}
+use Rattle.command.specs.Objects.{Objects}
 use Rattle.command.specs.Opening.{IsOpened}
+use Rattle.command.specs.Printing.{printed_as}
 use Rattle.replica.specs.Sources.{source_of}
 use Rattle.replica.specs.declared.asking.SourceFault.TheVariants as sources
 use Rattle.replica.specs.declared.following.Stop.TheVariants.{Source}
@@ -34,11 +35,11 @@ use Rattle.command.specs.declared.status.Status.TheVariants as status
 use Rattle.warc_journal.specs.Journals.{disk_of}
 
 -- there was no memory to ask
-pub unasked : {D O : Type 0} (disks : Disks D) (sinks : Sinks O) (source : Target) (tells : Bool) (now : Holdings D) (links : Links Transcript) (faults : ℕ) (out : O)
-    → FollowsTo disks sinks source tells now now links links faults faults out out status.Memory
-unasked disks sinks source tells now links faults out = record {
+pub unasked : {D N M O : Type 0} (disks : Disks D) (dialers : Dialers N M) (sinks : Sinks O) (tells : Bool) (source : Target) (now : Holdings D) (dialer : N) (out : O)
+    → FollowsTo disks dialers sinks tells source now now dialer dialer (printed_as out out status.Memory)
+unasked disks dialers sinks tells source now dialer out = record {
   result = Err (Source (length (captures now.book)) sources.Memory);
-  followed = ended_unasked disks source tells now links;
+  followed = ended_unasked disks source tells now (dialers.links dialer);
   dialer_faults = refl;
   told = inr (record { status_is = refl; same = refl });
 }
@@ -60,14 +61,13 @@ moves_so disks was is before after Allowed same_before same_after moves =
     subst (λ (told : Bool). Moves (crash_of disks was) (crash_of (muted told disks) is) Allowed) same_after
     (subst (λ (told : Bool). Moves (crash_of (muted told disks) was) (crash_of (muted after disks) is) Allowed) same_before moves)
 
-follows_left : {D N M C O : Type 0} (disks : Disks D) (known : Option Book) (dialers : Dialers N M) (sinks : Sinks O) (tells : Bool) → (laws : DiskLaws disks) (asked : Option (List ℕ)) (site : Site)
-    (was : D) (member_was member_is : N × C) (out_was out_is : O) (status : Status) (held left : Holdings D)
-    → IsOpened disks (by_checkpoints was asked known) held → (IsTrue held.told → Leaves (disks.images (disk_of held.journal)) (IsOf held.book))
+follows_left : {D N M C O : Type 0} (disks : Disks D) (dialers : Dialers N M) (sinks : Sinks O) (tells : Bool) (known : Option Book) → (laws : DiskLaws disks) (asked : Option (List ℕ)) (site : Site)
+    (was is : Objects D ⊤ (N × C) O) (status : Status) (held left : Holdings D)
+    → IsOpened disks (by_checkpoints was.disk asked known) held → (IsTrue held.told → Leaves (disks.images (disk_of held.journal)) (IsOf held.book))
     → (IsTrue left.told → OpensNear disks (disk_of left.journal) left.book)
-    → FollowsTo disks sinks (source_of site) tells held left (dialers.links member_was.0) (dialers.links member_is.0) (dialers.faults member_was.0)
-    (dialers.faults member_is.0) out_was out_is status
-    → member_is.1 ≡ member_was.1 → Follows disks known dialers sinks tells asked site was (disk_of left.journal) member_was member_is out_was out_is status
-follows_left disks known dialers sinks tells laws asked site was member_was member_is out_was out_is status held left opened are near follows clock =
+    → FollowsTo disks dialers sinks tells (source_of site) held left was.crew.0 is.crew.0 (printed_as was.out is.out status)
+    → is.crew.1 ≡ was.crew.1 → Follows disks dialers sinks tells known asked site was (record is { disk = disk_of left.journal }) status
+follows_left disks dialers sinks tells known laws asked site was is status held left opened are near follows clock =
     let f = follows.followed in
     let stays = f.goes_on.same_told in
     let quiet = opened.is.quiet in
@@ -105,17 +105,14 @@ follows_left disks known dialers sinks tells laws asked site was member_was memb
     }
 
 -- the archive was opened, and closed behind its source
-pub follows_by : {D N M C O : Type 0} (disks : Disks D) (known : Option Book) (dialers : Dialers N M) (sinks : Sinks O) (tells : Bool) → (laws : DiskLaws disks) (asked : Option (List ℕ))
-    (site : Site) (was is : D) (member_was member_is : N × C) (out_was out_opened out_is : O) (status : Status) (held left : Holdings D)
-    → IsOpened disks (by_checkpoints was asked known) held → (IsTrue held.told → Leaves (disks.images (disk_of held.journal)) (IsOf held.book)) → is ≡ disk_of left.journal → out_opened ≡ out_was
-    → (IsTrue left.told → OpensNear disks is left.book)
-    → FollowsTo disks sinks (source_of site) tells held left (dialers.links member_was.0) (dialers.links member_is.0) (dialers.faults member_was.0)
-    (dialers.faults member_is.0) out_opened out_is status
-    → member_is.1 ≡ member_was.1 → Follows disks known dialers sinks tells asked site was is member_was member_is out_was out_is status
-follows_by {D} {N} {M} {C} {O} disks known dialers sinks tells laws asked site was is member_was member_is out_was out_opened out_is status held left opened are closed
-    silent near follows clock =
-    subst (λ (x : D). Follows disks known dialers sinks tells asked site was x member_was member_is out_was out_is status) (sym closed)
-    (follows_left disks known dialers sinks tells laws asked site was member_was member_is out_was out_is status held left opened are
+pub follows_by : {D N M C O : Type 0} (disks : Disks D) (dialers : Dialers N M) (sinks : Sinks O) (tells : Bool) (known : Option Book) → (laws : DiskLaws disks) (asked : Option (List ℕ))
+    (site : Site) (was is : Objects D ⊤ (N × C) O) (out_opened : O) (status : Status) (held left : Holdings D)
+    → IsOpened disks (by_checkpoints was.disk asked known) held → (IsTrue held.told → Leaves (disks.images (disk_of held.journal)) (IsOf held.book))
+    → is.disk ≡ disk_of left.journal → out_opened ≡ was.out → (IsTrue left.told → OpensNear disks is.disk left.book)
+    → FollowsTo disks dialers sinks tells (source_of site) held left was.crew.0 is.crew.0 (printed_as out_opened is.out status)
+    → is.crew.1 ≡ was.crew.1 → Follows disks dialers sinks tells known asked site was is status
+follows_by {D} {N} {M} {C} {O} disks dialers sinks tells known laws asked site was is out_opened status held left opened are closed silent near follows clock =
+    subst (λ (x : D). Follows disks dialers sinks tells known asked site was (record is { disk = x }) status) (sym closed)
+    (follows_left disks dialers sinks tells known laws asked site was is status held left opened are
     (λ told. subst (λ (x : D). OpensNear disks x left.book) closed (near told))
-    (subst (λ (o : O). FollowsTo disks sinks (source_of site) tells held left (dialers.links member_was.0) (dialers.links member_is.0) (dialers.faults member_was.0)
-    (dialers.faults member_is.0) o out_is status) silent follows) clock)
+    (subst (λ (o : O). FollowsTo disks dialers sinks tells (source_of site) held left was.crew.0 is.crew.0 (printed_as o is.out status)) silent follows) clock)

@@ -15,7 +15,7 @@ use Rattle.outside.specs.Gate.{Connections}
 use Rattle.command.specs.Objects.{Around, Kinds, Objects}
 use Rattle.command.specs.Settling.{ClosesSettled, OpensSettled}
 use Rattle.proxy_run.specs.Pipes.{HasServed, HasServedNone, Pipes, around_in}
-use Rattle.proxy_run.specs.Serving.{IsServedStatus, IsReason, ServesNone, ServesOne, pipe_setting}
+use Rattle.proxy_run.specs.Serving.{IsServedStatus, IsReason, ServesOne, pipe_site}
 use Rattle.command.specs.declared.status.Status.{Status}
 use Rattle.command.specs.declared.status.Status.TheVariants.{Outside}
 use Rattle.command.proofs.SettlingLaws.{closed_faults, closed_opens, ready_faults, ready_opens, ready_tells, told_tells}
@@ -23,12 +23,8 @@ use Rattle.proxy_run.proofs.ConnectionLaws.{leaves_just}
 use Rattle.warc_journal.specs.Journals.{disk_of}
 
 -- nothing but connections might have been gained, and none was
-pub none_gained : (was : Around) (closed : Bool) (before now : ℕ) (connections : Connections) (status : Status) → IsReason closed before now status
-    → connections ≡ was.connections → ServesNone closed before now was (record was { connections = connections }) status
-none_gained was closed before now connections status reason same = record {
-  reason = reason;
-  nothing_gained = ap (λ (k : Connections). record was { connections = k }) same;
-}
+pub none_gained : (was : Around) (connections : Connections) → connections ≡ was.connections → record was { connections = connections } ≡ was
+none_gained was connections same = ap (λ (k : Connections). record was { connections = k }) same
 
 -- ---- the archive
 
@@ -36,7 +32,7 @@ module _ {D G L P N M C O : Type 0} (kinds : Kinds D G L P N M C O) (laws : Disk
     (asked : Option (List ℕ)) (said status : Status) (before after : Holdings D)
     (opened : OpensSettled kinds.disks (by_checkpoints was.disk asked known) before) where
   pub has_served : after.told ≡ before.told
-      → ServesOne true (pipe_setting kinds.clocks.tells) (around_in kinds was) (around_in kinds is) (told_of kinds.disks before) (told_of kinds.disks after) said
+      → ServesOne true (record { site = pipe_site; clock_tells = kinds.clocks.tells }) (around_in kinds was) (around_in kinds is) (told_of kinds.disks before) (told_of kinds.disks after) said
       → HasServed kinds was is before after said
   has_served same one = record {
     one = one;
@@ -44,16 +40,16 @@ module _ {D G L P N M C O : Type 0} (kinds : Kinds D G L P N M C O) (laws : Disk
   }
 
   serves_by : after.told ≡ before.told
-      → (ServesOne true (pipe_setting kinds.clocks.tells) (around_in kinds was) (around_in kinds is) (told_of kinds.disks before) (told_of kinds.disks after) said
-      ⊎ (ServesNone (kinds.gates.closed was.gate) (kinds.gates.faults was.gate) (kinds.gates.faults is.gate) (around_in kinds was) (around_in kinds is) said × (after ≡ before)))
+      → (ServesOne true (record { site = pipe_site; clock_tells = kinds.clocks.tells }) (around_in kinds was) (around_in kinds is) (told_of kinds.disks before) (told_of kinds.disks after) said
+      ⊎ (IsReason (kinds.gates.closed was.gate) (kinds.gates.faults was.gate) (kinds.gates.faults is.gate) said × (around_in kinds is ≡ around_in kinds was) × (after ≡ before)))
       → HasServed kinds was is before after said ⊎ HasServedNone kinds was is before after said
   serves_by same (inl one) = inl (has_served same one)
-  serves_by same (inr none) = inr (record { none = none.0; same = none.1 })
+  serves_by same (inr none) = inr (record { reason = none.0; nothing_gained = none.1; same = none.2 })
 
   pub pipes_by : ClosesSettled kinds.disks after said is.disk status → (IsTrue after.told → OpensNear kinds.disks is.disk after.book)
       → (IsTrue kinds.clients_tell → IsTrue kinds.origins_tell
-      → ServesOne true (pipe_setting kinds.clocks.tells) (around_in kinds was) (around_in kinds is) (told_of kinds.disks before) (told_of kinds.disks after) said
-      ⊎ (ServesNone (kinds.gates.closed was.gate) (kinds.gates.faults was.gate) (kinds.gates.faults is.gate) (around_in kinds was) (around_in kinds is) said × (after ≡ before)))
+      → ServesOne true (record { site = pipe_site; clock_tells = kinds.clocks.tells }) (around_in kinds was) (around_in kinds is) (told_of kinds.disks before) (told_of kinds.disks after) said
+      ⊎ (IsReason (kinds.gates.closed was.gate) (kinds.gates.faults was.gate) (kinds.gates.faults is.gate) said × (around_in kinds is ≡ around_in kinds was) × (after ≡ before)))
       → GoesOn true (told_of kinds.disks before) (told_of kinds.disks after)
       → IsServedStatus said → (said ≡ Outside) ⊎ (kinds.gates.faults is.gate ≡ kinds.gates.faults was.gate) → is.out ≡ was.out
       → Pipes kinds known asked was is status

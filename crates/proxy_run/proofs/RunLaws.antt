@@ -1,13 +1,12 @@
 -- What a run leaves, by what its words ask for.
 use Rattle.std.proofs.Common.{◌≡◌, ◌⊎◌, ℕ, List, ◌∷◌, Option, Some, None, refl, sym, ap, subst, ◌∙◌, inl, inr}
-use Rattle.archive_shelf.specs.declared.depth.Depth.{Depth}
-use Rattle.archive_shelf.specs.declared.depth.Depth.TheVariants.{Checkpoints, Whole}
+use Rattle.archive_shelf.specs.declared.depth.Depth.TheVariants.{Whole}
 use Rattle.capture.specs.declared.book.Book.{Book}
 use Rattle.capture.specs.declared.site.Site.{Site}
 use Rattle.proxy_run.specs.Checks.{IsCounted}
 use Rattle.proxy_run.specs.Follows.{Follows}
-use Rattle.importing.specs.Imports.{Imports, ends_of}
-use Rattle.archive_core.specs.Known.{by_checkpoints, opening_of}
+use Rattle.importing.specs.Imports.{Imports}
+use Rattle.archive_core.specs.Known.{Opening, by_checkpoints, opening_of}
 use Rattle.command.specs.Objects.{Kinds, Objects, objects_of, with_one}
 use Rattle.command.specs.Opening.{IsNotOpened}
 use Rattle.proxy_run.specs.Pipes.{Pipes, Refuses}
@@ -29,28 +28,28 @@ module _ {D G L P N M C O : Type 0} (kinds : Kinds D G L P N M C O) (known : Opt
       subst (λ f. Runs kinds known f site was (record was { out = out }) status) (sym none) (record { printed = printed; untouched = refl })
 
   checked : (was : Objects D G (List (N × C)) O) (disk : D) (out : O) (status : Status)
-      → IsCounted kinds.disks kinds.sinks was.disk disk was.out out status ⊎ IsNotOpened kinds.disks kinds.sinks (opening_of was.disk Whole None None) disk (printed_as was.out out status)
+      → IsCounted kinds.disks kinds.sinks was.disk disk (printed_as was.out out status) ⊎ IsNotOpened kinds.disks kinds.sinks (opening_of was.disk Whole None None) disk (printed_as was.out out status)
       → Runs kinds known (Some Check) site was (record was { disk = disk; out = out }) status
-  checked was disk out status (inl counted) = inl (record { counted = counted; untouched = refl })
+  checked was disk out status (inl counted) = inl (counted, refl)
   checked was disk out status (inr refused) = inr (record { refused = refused; untouched = refl })
 
   pub runs_check : (command : Command) (was : Objects D G (List (N × C)) O) (disk : D) (out : O) (status : Status) → found ≡ Some command → command ≡ Check
-      → IsCounted kinds.disks kinds.sinks was.disk disk was.out out status ⊎ IsNotOpened kinds.disks kinds.sinks (opening_of was.disk Whole None None) disk (printed_as was.out out status)
+      → IsCounted kinds.disks kinds.sinks was.disk disk (printed_as was.out out status) ⊎ IsNotOpened kinds.disks kinds.sinks (opening_of was.disk Whole None None) disk (printed_as was.out out status)
       → Runs kinds known found site was (record was { disk = disk; out = out }) status
   runs_check command was disk out status is_command is_check result =
       subst (λ f. Runs kinds known f site was (record was { disk = disk; out = out }) status) (sym (is_command ∙ ap (λ (c : Command). Some c) is_check))
       (checked was disk out status result)
 
   verified_in : (workers : ℕ) (was : Objects D G (List (N × C)) O) (disk : D) (out : O) (status : Status)
-      → IsVerified kinds.disks kinds.sinks known was.disk disk was.out out status
+      → IsVerified kinds.disks kinds.sinks (by_checkpoints was.disk None known) disk (printed_as was.out out status)
       ⊎ IsNotOpened kinds.disks kinds.sinks (by_checkpoints was.disk None known) disk (printed_as was.out out status)
       → Runs kinds known (Some (Verify workers)) site was (record was { disk = disk; out = out }) status
-  verified_in workers was disk out status (inl verified) = inl (record { verified = verified; untouched = refl })
+  verified_in workers was disk out status (inl verified) = inl (verified, refl)
   verified_in workers was disk out status (inr refused) = inr (record { refused = refused; untouched = refl })
 
   pub runs_verify : (command : Command) (workers : ℕ) (was : Objects D G (List (N × C)) O) (disk : D) (out : O) (status : Status) → found ≡ Some command
       → command ≡ Verify workers
-      → IsVerified kinds.disks kinds.sinks known was.disk disk was.out out status
+      → IsVerified kinds.disks kinds.sinks (by_checkpoints was.disk None known) disk (printed_as was.out out status)
       ⊎ IsNotOpened kinds.disks kinds.sinks (by_checkpoints was.disk None known) disk (printed_as was.out out status)
       → Runs kinds known found site was (record was { disk = disk; out = out }) status
   runs_verify command workers was disk out status is_command is_verify result =
@@ -61,7 +60,7 @@ module _ {D G L P N M C O : Type 0} (kinds : Kinds D G L P N M C O) (known : Opt
       → disk ≡ was.disk → Runs kinds known (Some (Trial count seed)) site was (record was { disk = disk; out = out }) status
   tried_in count seed was disk out status tries same =
       subst (λ d. Runs kinds known (Some (Trial count seed)) site was (record was { disk = d; out = out }) status) (sym same)
-      (record { tried = tries; untouched = refl })
+      (tries, refl)
 
   pub runs_trial : (command : Command) (count seed : ℕ) (was : Objects D G (List (N × C)) O) (disk : D) (out : O) (status : Status) → found ≡ Some command
       → command ≡ Trial count seed → Tries kinds.sinks count seed was.out out status → disk ≡ was.disk
@@ -70,10 +69,10 @@ module _ {D G L P N M C O : Type 0} (kinds : Kinds D G L P N M C O) (known : Opt
       subst (λ f. Runs kinds known f site was (record was { disk = disk; out = out }) status) (sym (is_command ∙ ap (λ (c : Command). Some c) is_trial))
       (tried_in count seed was disk out status tries same)
 
-  refuses_all : (depth : Depth) (book : Option Book) (asked : Option (List ℕ)) (was is : Objects D G (List (N × C)) O) (status : Status) (before after : N × C) (others : List (N × C))
-      → was.crew ≡ before ∷ others → is.crew ≡ after ∷ others → Refuses kinds depth book asked (with_one was before) (with_one is after) status
-      → Refuses kinds depth book asked was is status
-  refuses_all depth book asked was is status before after others were are refuses = record {
+  refuses_all : (opening : Opening D) (was is : Objects D G (List (N × C)) O) (status : Status) (before after : N × C) (others : List (N × C))
+      → was.crew ≡ before ∷ others → is.crew ≡ after ∷ others → Refuses kinds opening (with_one was before) (with_one is after) status
+      → Refuses kinds opening was is status
+  refuses_all opening was is status before after others were are refuses = record {
     refused = refuses.refused;
     untouched =
         ap (λ (w : List (N × C)). objects_of is.disk is.gate w is.out) are
@@ -84,24 +83,24 @@ module _ {D G L P N M C O : Type 0} (kinds : Kinds D G L P N M C O) (known : Opt
   piped : (namespace : List ℕ) (was is : Objects D G (List (N × C)) O) (status : Status) (before after : N × C) (others : List (N × C))
       → was.crew ≡ before ∷ others → is.crew ≡ after ∷ others
       → Pipes kinds known (Some namespace) (with_one was before) (with_one is after) status
-      ⊎ Refuses kinds Checkpoints known (Some namespace) (with_one was before) (with_one is after) status → Runs kinds known (Some (Pipe namespace)) site was is status
+      ⊎ Refuses kinds (by_checkpoints was.disk (Some namespace) known) (with_one was before) (with_one is after) status → Runs kinds known (Some (Pipe namespace)) site was is status
   piped namespace was is status before after others were are (inl pipes) =
       inl (record { first = record { before = before; after = after; others = others; were = were; are = are }; piped = pipes })
   piped namespace was is status before after others were are (inr refuses) =
-      inr (refuses_all Checkpoints known (Some namespace) was is status before after others were are refuses)
+      inr (refuses_all (by_checkpoints was.disk (Some namespace) known) was is status before after others were are refuses)
 
   pub runs_pipe : (command : Command) (namespace : List ℕ) (was is : Objects D G (List (N × C)) O) (status : Status) (before after : N × C) (others : List (N × C))
       → found ≡ Some command → command ≡ Pipe namespace → was.crew ≡ before ∷ others → is.crew ≡ after ∷ others
       → Pipes kinds known (asked_of command) (with_one was before) (with_one is after) status
-      ⊎ Refuses kinds Checkpoints known (asked_of command) (with_one was before) (with_one is after) status → Runs kinds known found site was is status
+      ⊎ Refuses kinds (by_checkpoints was.disk (asked_of command) known) (with_one was before) (with_one is after) status → Runs kinds known found site was is status
   runs_pipe command namespace was is status before after others is_command is_pipe were are result =
       subst (λ f. Runs kinds known f site was is status) (sym (is_command ∙ ap (λ (c : Command). Some c) is_pipe))
       (piped namespace was is status before after others were are
       (subst (λ c. Pipes kinds known (asked_of c) (with_one was before) (with_one is after) status
-      ⊎ Refuses kinds Checkpoints known (asked_of c) (with_one was before) (with_one is after) status) is_pipe result))
+      ⊎ Refuses kinds (by_checkpoints was.disk (asked_of c) known) (with_one was before) (with_one is after) status) is_pipe result))
 
   taken_in : (namespace : List ℕ) (was : Objects D G (List (N × C)) O) (disk : D) (gate : G) (out : O) (status : Status)
-      → Imports kinds.disks kinds.gates kinds.sinks kinds.clients_tell known (Some namespace) (ends_of was.disk was.gate was.out) (ends_of disk gate out) status
+      → Imports kinds.disks kinds.gates kinds.sinks kinds.clients_tell known (Some namespace) (objects_of was.disk was.gate tt was.out) (objects_of disk gate tt out) status
       ⊎ (IsNotOpened kinds.disks kinds.sinks (by_checkpoints was.disk (Some namespace) known) disk (printed_as was.out out status) × (gate ≡ was.gate))
       → Runs kinds known (Some (Import namespace)) site was (record was { disk = disk; gate = gate; out = out }) status
   taken_in namespace was disk gate out status (inl imports) = inl (record { imported = imports; untouched = refl })
@@ -110,18 +109,18 @@ module _ {D G L P N M C O : Type 0} (kinds : Kinds D G L P N M C O) (known : Opt
 
   pub runs_import : (command : Command) (namespace : List ℕ) (was : Objects D G (List (N × C)) O) (disk : D) (gate : G) (out : O) (status : Status)
       → found ≡ Some command → command ≡ Import namespace
-      → Imports kinds.disks kinds.gates kinds.sinks kinds.clients_tell known (asked_of command) (ends_of was.disk was.gate was.out) (ends_of disk gate out) status
+      → Imports kinds.disks kinds.gates kinds.sinks kinds.clients_tell known (asked_of command) (objects_of was.disk was.gate tt was.out) (objects_of disk gate tt out) status
       ⊎ (IsNotOpened kinds.disks kinds.sinks (by_checkpoints was.disk (asked_of command) known) disk (printed_as was.out out status) × (gate ≡ was.gate))
       → Runs kinds known found site was (record was { disk = disk; gate = gate; out = out }) status
   runs_import command namespace was disk gate out status is_command is_import result =
       subst (λ f. Runs kinds known f site was (record was { disk = disk; gate = gate; out = out }) status) (sym (is_command ∙ ap (λ (c : Command). Some c) is_import))
       (taken_in namespace was disk gate out status
-      (subst (λ c. Imports kinds.disks kinds.gates kinds.sinks kinds.clients_tell known (asked_of c) (ends_of was.disk was.gate was.out) (ends_of disk gate out) status
+      (subst (λ c. Imports kinds.disks kinds.gates kinds.sinks kinds.clients_tell known (asked_of c) (objects_of was.disk was.gate tt was.out) (objects_of disk gate tt out) status
       ⊎ (IsNotOpened kinds.disks kinds.sinks (by_checkpoints was.disk (asked_of c) known) disk (printed_as was.out out status) × (gate ≡ was.gate))) is_import result))
 
   replicated : (namespace : List ℕ) (base : Site) (was is : Objects D G (List (N × C)) O) (status : Status) (before after : N × C) (others : List (N × C))
       → was.crew ≡ before ∷ others → is.crew ≡ after ∷ others → is.gate ≡ was.gate
-      → Follows kinds.disks known kinds.dialers kinds.sinks kinds.origins_tell (Some namespace) base was.disk is.disk before after was.out is.out status
+      → Follows kinds.disks kinds.dialers kinds.sinks kinds.origins_tell known (Some namespace) base (objects_of was.disk tt before was.out) (objects_of is.disk tt after is.out) status
       ⊎ (IsNotOpened kinds.disks kinds.sinks (by_checkpoints was.disk (Some namespace) known) is.disk (printed_as was.out is.out status) × (after ≡ before))
       → Runs kinds known (Some (Follow namespace)) (Some base) was is status
   replicated namespace base was is status before after others were are gate (inl follows) = inl (record {
@@ -130,7 +129,7 @@ module _ {D G L P N M C O : Type 0} (kinds : Kinds D G L P N M C O) (known : Opt
     untouched = gate;
   })
   replicated namespace base was is status before after others were are gate (inr (refused, same)) =
-      inr (inl (refuses_all Checkpoints known (Some namespace) was is status before after others were are (record {
+      inr (inl (refuses_all (by_checkpoints was.disk (Some namespace) known) was is status before after others were are (record {
         refused = refused;
         untouched =
             ap (λ (m : N × C). objects_of is.disk is.gate m is.out) same ∙ ap (λ (g : G). objects_of is.disk g before is.out) gate;
@@ -139,14 +138,14 @@ module _ {D G L P N M C O : Type 0} (kinds : Kinds D G L P N M C O) (known : Opt
   pub runs_follow : (command : Command) (namespace : List ℕ) (base : Site) (was is : Objects D G (List (N × C)) O) (status : Status) (before after : N × C)
       (others : List (N × C)) → found ≡ Some command → command ≡ Follow namespace → Some base ≡ site → was.crew ≡ before ∷ others → is.crew ≡ after ∷ others
       → is.gate ≡ was.gate
-      → Follows kinds.disks known kinds.dialers kinds.sinks kinds.origins_tell (asked_of command) base was.disk is.disk before after was.out is.out status
+      → Follows kinds.disks kinds.dialers kinds.sinks kinds.origins_tell known (asked_of command) base (objects_of was.disk tt before was.out) (objects_of is.disk tt after is.out) status
       ⊎ (IsNotOpened kinds.disks kinds.sinks (by_checkpoints was.disk (asked_of command) known) is.disk (printed_as was.out is.out status) × (after ≡ before))
       → Runs kinds known found site was is status
   runs_follow command namespace base was is status before after others is_command is_follow is_site were are gate result =
       subst (λ (s : Option Site). Runs kinds known found s was is status) is_site
       (subst (λ f. Runs kinds known f (Some base) was is status) (sym (is_command ∙ ap (λ (c : Command). Some c) is_follow))
       (replicated namespace base was is status before after others were are gate
-      (subst (λ c. Follows kinds.disks known kinds.dialers kinds.sinks kinds.origins_tell (asked_of c) base was.disk is.disk before after was.out is.out status
+      (subst (λ c. Follows kinds.disks kinds.dialers kinds.sinks kinds.origins_tell known (asked_of c) base (objects_of was.disk tt before was.out) (objects_of is.disk tt after is.out) status
       ⊎ (IsNotOpened kinds.disks kinds.sinks (by_checkpoints was.disk (asked_of c) known) is.disk (printed_as was.out is.out status) × (after ≡ before))) is_follow result)))
 
   follow_lacking : (namespace : List ℕ) (base : Option Site) (was : Objects D G (List (N × C)) O) (status : Status) → status ≡ Memory

@@ -10,7 +10,7 @@ use Rattle.archive_core.specs.Settling.{KeepsSettled}
 use Rattle.archive_shelf.specs.Contents.{Contents}
 use Rattle.archive_shelf.specs.Openings.{ImageStandsFor, SameBook}
 use Rattle.archive_core.specs.Holdings.{Holdings, contents_of}
-use Rattle.archive_core.specs.Known.{told_at}
+use Rattle.archive_core.specs.Known.{by_checkpoints, told_at}
 use Rattle.archive_shelf.specs.Told.{Told}
 use Rattle.archive_shelf.specs.declared.depth.Depth.TheVariants.{Checkpoints}
 use Rattle.archive_volumes.proofs.ChangeLaws.{DiskLaws, laws_muted, opens_now}
@@ -305,7 +305,7 @@ module _ {N M C : Type 0} (dialers : Dialers N M) (clocks : Clocks C) (setting :
 
 module _ {D G L P N M C O : Type 0} (kinds : Kinds D G L P N M C O) where
   pub books_only_grow : BooksOnlyGrow kinds
-  books_only_grow known asked site workers was is status s = (
+  books_only_grow known duty was is status s = (
     s.shared.grows,
     λ done tells.
         all_printed kinds.sinks (length (captures s.after.book)) s.said s.told.printed was.out is.out s.told.prints
@@ -314,7 +314,7 @@ module _ {D G L P N M C O : Type 0} (kinds : Kinds D G L P N M C O) where
   )
 
   pub all_are_hung_up : AllAreHungUp kinds
-  all_are_hung_up known asked site workers was is status s clients origins =
+  all_are_hung_up known duty was is status s clients origins =
       let served = s.serves clients origins in
       hung (all_of served.heards) served.logged
     where
@@ -335,14 +335,14 @@ module _ {D G L P N M C O : Type 0} (kinds : Kinds D G L P N M C O) where
   emptied closed before now Memory printed status is ended = inr (inr is)
 
   pub gates_are_emptied : GatesAreEmptied kinds
-  gates_are_emptied known asked site workers was is status s =
+  gates_are_emptied known duty was is status s =
       ⊎_elim (λ closed. inl closed) (λ other. inr (⊎_elim (λ rose. inl rose) (λ memory. inr (memory_told s.closed.answer s.counted status s.closed.status_is memory)) other))
       (emptied (kinds.gates.closed is.gate) (kinds.gates.faults was.gate) (kinds.gates.faults is.gate) s.said s.told.printed s.counted s.told.status_is s.ended)
 
   pub logs_are_in_order : LogsAreInOrder kinds
-  logs_are_in_order known asked site workers was is status s clients origins few =
+  logs_are_in_order known duty was is status s clients origins few =
       let served = s.serves clients origins in
-      let setting : Setting = record { site = site; clock_tells = kinds.clocks.tells } in
+      let setting : Setting = record { site = duty.site; clock_tells = kinds.clocks.tells } in
       let start = s.starts in
       let many = s.workers_are in (
         (
@@ -355,9 +355,9 @@ module _ {D G L P N M C O : Type 0} (kinds : Kinds D G L P N M C O) where
       )
 
   pub captures_are_stored_once : CapturesAreStoredOnce kinds
-  captures_are_stored_once known asked site workers was is status s clients origins few room =
+  captures_are_stored_once known duty was is status s clients origins few room =
       let served = s.serves clients origins in
-      let setting : Setting = record { site = site; clock_tells = kinds.clocks.tells } in
+      let setting : Setting = record { site = duty.site; clock_tells = kinds.clocks.tells } in
       let before = hands_of kinds.dialers kinds.clocks s.starts was.crew in
       let after = hands_of kinds.dialers kinds.clocks s.seats is.crew in
       let numbers = flat_map numbers_of (rounds_of false told_by setting before served.heards after served.shifts) in
@@ -369,16 +369,16 @@ module _ {D G L P N M C O : Type 0} (kinds : Kinds D G L P N M C O) where
       )
 
   pub books_lead_on : CoursesGrow → BooksLeadOn kinds
-  books_lead_on grow known asked site workers was is status s clients origins =
+  books_lead_on grow known duty was is status s clients origins =
       let served = s.serves clients origins in
-      let setting : Setting = record { site = site; clock_tells = kinds.clocks.tells } in
+      let setting : Setting = record { site = duty.site; clock_tells = kinds.clocks.tells } in
       lead_to false told_by setting grow s.after.book (hands_of kinds.dialers kinds.clocks s.starts was.crew) served.heards
       (hands_of kinds.dialers kinds.clocks s.seats is.crew) served.shifts (hands_grow kinds.dialers kinds.clocks setting s.after.book s.seats is.crew s.shared.each)
 
   pub faults_are_counted : CoursesCountFaults → FaultsAreCounted kinds
-  faults_are_counted counts known asked site workers was is status s clients origins room =
+  faults_are_counted counts known duty was is status s clients origins room =
       let served = s.serves clients origins in
-      let setting : Setting = record { site = site; clock_tells = kinds.clocks.tells } in
+      let setting : Setting = record { site = duty.site; clock_tells = kinds.clocks.tells } in
       let before = hands_of kinds.dialers kinds.clocks s.starts was.crew in
       let after = hands_of kinds.dialers kinds.clocks s.seats is.crew in
       let met = all_faults_on false told_by setting counts before served.heards after served.shifts (none_met kinds.dialers kinds.clocks setting (contents_of s.before) s.starts was.crew s.new) in
@@ -387,14 +387,14 @@ module _ {D G L P N M C O : Type 0} (kinds : Kinds D G L P N M C O) where
       omega (arith, met, faults_of_hands kinds.dialers kinds.clocks setting s.seats is.crew (omega (arith, room, s.count)), s.disk_faults, first, last)
 
   pub all_are_read_out : AllAreReadOut kinds
-  all_are_read_out known asked site workers was is status s clients origins =
+  all_are_read_out known duty was is status s clients origins =
       let served = s.serves clients origins in
-      let setting : Setting = record { site = site; clock_tells = kinds.clocks.tells } in
+      let setting : Setting = record { site = duty.site; clock_tells = kinds.clocks.tells } in
       are_read_out false told_by setting (hands_of kinds.dialers kinds.clocks s.starts was.crew) served.heards
       (hands_of kinds.dialers kinds.clocks s.seats is.crew) served.shifts
 
   pub servers_leave_settled : ServersLeaveSettled kinds
-  servers_leave_settled known asked site workers was is status s told steady spared image left =
+  servers_leave_settled known duty was is status s told steady spared image left =
       let first = ready_faults kinds.disks s.opened in
       let last = closed_faults kinds.disks s.closed in
       let so : IsTrue s.before.told = ready_tells kinds.disks s.opened ∙ told in
@@ -408,7 +408,7 @@ module _ {D G L P N M C O : Type 0} (kinds : Kinds D G L P N M C O) where
       }
 
   pub servers_leave_the_last : DiskLaws kinds.disks → ServersLeaveTheLast kinds
-  servers_leave_the_last laws known asked site workers was is status s told steady ids image left =
+  servers_leave_the_last laws known duty was is status s told steady ids image left =
       let first = ready_faults kinds.disks s.opened in
       let last = closed_faults kinds.disks s.closed in
       let so : IsTrue s.before.told = ready_tells kinds.disks s.opened ∙ told in
@@ -430,7 +430,7 @@ module _ {D G L P N M C O : Type 0} (kinds : Kinds D G L P N M C O) where
       (closed_right kinds.disks s.closed stays (told_tells Checkpoints kinds.disks.tells known told) last (s.right last) image left)
 
   pub servers_captures_come_back : FilesStandForOneBook → FilesStandForNoVolume → ServersCapturesComeBack kinds
-  servers_captures_come_back one no_volume known asked site workers was is status s told ids image x left stands =
+  servers_captures_come_back one no_volume known duty was is status s told ids image x left stands =
       let near = s.near (ready_tells kinds.disks s.opened ∙ told) image left in
       all_next one no_volume image s.after.book near.0 x ids near.2 near.1 stands
 
@@ -458,8 +458,8 @@ module _ {D G L P N M C O : Type 0} (kinds : Kinds D G L P N M C O) where
 
   server_answered : (known : Option Book) (namespace : List ℕ) (site : Site) (workers : ℕ) (was is : Objects D G (List (N × C)) O) (status : Status)
       → IsTrue (told_at Checkpoints kinds.disks.tells known) → NoFaults kinds was is
-      → Serves kinds known (Some namespace) site workers was is status ⊎ LacksShelves kinds known (Some namespace) was is status
-      ⊎ Refuses kinds Checkpoints known (Some namespace) was is status ⊎ LacksWords kinds known was is status
+      → Serves kinds known (record { asked = Some namespace; site = site; workers = workers }) was is status ⊎ LacksShelves kinds known (Some namespace) was is status
+      ⊎ Refuses kinds (by_checkpoints was.disk (Some namespace) known) was is status ⊎ LacksWords kinds known was is status
       → (status ≡ Done) ⊎ (status ≡ Memory)
   server_answered known namespace site workers was is status told steady (inl s) =
       let printed = printed_or_lacked kinds.sinks s.said (captures_line (length (captures s.after.book))) was.out is.out s.told.printed steady.out s.told.prints in

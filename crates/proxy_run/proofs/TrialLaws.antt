@@ -11,7 +11,7 @@ use Rattle.capture.specs.declared.captured.Stored.{Stored}
 use Rattle.disk_model.specs.Image.{Image, files_of, no_files}
 use Rattle.load_shelf.specs.Loads.{HoldsFirst, IsFilled}
 use Rattle.command.specs.Texts.{trial_text}
-use Rattle.proxy_run.specs.Trials.{HasBytes, IsTried, trial_namespace, trial_volume}
+use Rattle.proxy_run.specs.Trials.{IsTried, trial_namespace, trial_volume}
 use Rattle.warc_journal.specs.Extents.{warc_files}
 use Rattle.warc_journal.specs.Texts.{AreJust}
 
@@ -43,14 +43,6 @@ just_sum texts files (inr e) =
     let joined : sum_by (λ (text : List ℕ). length text) (texts ++ [] ∷ []) ≡ sum_by (λ (text : List ℕ). length text) texts + 0 =
     sum_by-append (λ (text : List ℕ). length text) texts ([] ∷ []) in
     ap (sum_by (λ (text : List ℕ). length text)) e ∙ joined ∙ omega arith
-
-bytes_of : (book : Book) (told : Told) (bytes : ℕ) → HasJust told.reading book
-    → bytes ≡ sum_by (λ (text : List ℕ). length text) (warc_files told.reading) → HasBytes book bytes
-bytes_of book told bytes just sum = record {
-  texts = just.texts;
-  are = just.are;
-  sum = sum ∙ just_sum just.texts (warc_files told.reading) just.just;
-}
 
 pub no_warc_files : warc_files no_files ≡ []
 unfolding files_of
@@ -84,7 +76,9 @@ tried_by told seed count bytes counts text filled volume namespace all are sum t
           (subst (λ v. HoldsFirst v filled.namespace seed count book) volume filled.holds);
       all = all;
       payloads = filled.payloads;
-      bytes = bytes;
-      bytes_are = bytes_of book told bytes filled.just sum;
-      text_is = text_is ∙ ap (λ c. trial_text c bytes count) are;
+      volumes = filled.just.texts;
+      volumes_are = filled.just.are;
+      text_is =
+          text_is ∙ ap (λ c. trial_text c bytes count) are
+          ∙ ap (λ (n : ℕ). trial_text (counts_of book) n count) (sum ∙ just_sum filled.just.texts (warc_files told.reading) filled.just.just);
     }

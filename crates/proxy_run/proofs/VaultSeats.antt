@@ -34,6 +34,7 @@ use Rattle.crew.specs.Crews.{IsEnd, ServesAll}
 use Rattle.command.specs.Objects.{Kinds, Objects}
 use Rattle.command.proofs.OpeningLaws.{ids_differ}
 use Rattle.command.proofs.SettlingLaws.{ready_none}
+use Rattle.command.specs.Printing.{printed_as}
 use Rattle.command.specs.Settling.{ClosesSettled, IsOf, OpensSettled}
 use Rattle.proxy_run.specs.Serves.{AreNewcomers, HasShare, IsNewcomer, IsSharedOut, Seat, Serves, TellsCount, all_faults, all_mine, told_by}
 use Rattle.crew.specs.Shifts.{hands_of}
@@ -171,9 +172,9 @@ module _ {D G L P N M C O : Type 0} (kinds : Kinds D G L P N M C O) (known : Opt
         calm = HasIds after.book → IsState (told_of kinds.disks after).crash after.book None;
         right = IsTrue after.told → Leaves (kinds.disks.images (disk_of after.journal)) (λ image. HasCheckpointsOf image after.book);
       })
-      → (counted : Status) → TellsCount kinds.sinks (length (captures after.book)) said was.out is.out counted
+      → (counted : Status) → TellsCount kinds.sinks (length (captures after.book)) said (printed_as was.out is.out counted)
       → (status : Status) → ClosesSettled kinds.disks after counted is.disk status → (IsTrue after.told → OpensNear kinds.disks is.disk after.book)
-      → drop vault.passes is.crew ≡ drop vault.passes was.crew → Serves kinds known asked site vault.passes was is status
+      → drop vault.passes is.crew ≡ drop vault.passes was.crew → Serves kinds known (record { asked = asked; site = site; workers = vault.passes }) was is status
   serves_over before after opened name new back said serves ended of_all counted tells status closed near others =
       let same : after.told ≡ before.told = of_all.told_is ∙ name.tells in
       record {

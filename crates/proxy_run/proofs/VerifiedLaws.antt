@@ -3,6 +3,7 @@ use Rattle.std.proofs.Common.{◌≡◌, ◌⊎◌, IsTrue, List, Option, None, 
 use Rattle.std.specs.Prelude.{Bool}
 use Rattle.capture.specs.declared.book.Book.{Book}
 use Rattle.archive_volumes.specs.Facts.{facts_of}
+use Rattle.archive_core.specs.Known.{by_checkpoints}
 use Rattle.command.proofs.OpeningLaws.{opened_stands}
 use Rattle.command.proofs.SettlingLaws.{told_tells}
 use Rattle.proxy_run.proofs.CompleteLaws.{not_risen, printed_or_lacked, refused_known, refused_unsettled}
@@ -10,11 +11,11 @@ use Rattle.proxy_run.proofs.SoundVolumes.{sound_volumes_verify}
 use Rattle.archive_shelf.specs.Openings.{ImageStandsFor}
 use Rattle.proxy_run.specs.Complete.{NoFaults}
 use Rattle.command.specs.Objects.{Kinds, Objects}
+use Rattle.command.specs.Printing.{printed_as}
 use Rattle.archive_shelf.specs.declared.depth.Depth.TheVariants.{Checkpoints}
 use Rattle.proxy_run.specs.Pipes.{Refuses}
-use Rattle.proxy_run.specs.Runs.{Verifies}
 use Rattle.proxy_run.specs.Verified.{IsSureOf, VerifiesAreAnswered}
-use Rattle.proxy_run.specs.Verifies.{ChecksVolumes, lines_of, status_by}
+use Rattle.proxy_run.specs.Verifies.{ChecksVolumes, IsVerified, lines_of, status_by}
 use Rattle.command.specs.declared.status.Status.{Status}
 use Rattle.command.specs.declared.status.Status.TheVariants.{Done, Memory}
 
@@ -34,13 +35,15 @@ module _ {D G L P N M C O : Type 0} (kinds : Kinds D G L P N M C O) where
   checks_answered was is status book told steady stands (inr (inr lacks)) = inr lacks.status_is
 
   verified_answered : (known : Option Book) (was is : Objects D G (List (N × C)) O) (status : Status) → IsSureOf kinds.disks known was.disk
-      → NoFaults kinds was is → Verifies kinds known was is status ⊎ Refuses kinds Checkpoints known None was is status → (status ≡ Done) ⊎ (status ≡ Memory)
+      → NoFaults kinds was is →
+      (IsVerified kinds.disks kinds.sinks (by_checkpoints was.disk None known) is.disk (printed_as was.out is.out status) × (is ≡ record was { disk = is.disk; out = is.out }))
+      ⊎ Refuses kinds (by_checkpoints was.disk None known) was is status → (status ≡ Done) ⊎ (status ≡ Memory)
   verified_answered known was is status (inl told) steady (inl verifies) =
-      let verified = verifies.verified in
+      let verified = verifies.0 in
       checks_answered was is status verified.held.book (told_tells Checkpoints kinds.disks.tells known told) steady
       (opened_stands kinds.disks verified.opened (verified.opened.is.told_is ∙ told)) verified.checked
   verified_answered known was is status (inr (tells, ready, whole)) steady (inl verifies) =
-      let verified = verifies.verified in
+      let verified = verifies.0 in
       let read = verified.opened.is.unsettled tells whole in
       checks_answered was is status verified.held.book tells steady (record { for = read.stands tells; sound = read.sound }) verified.checked
   verified_answered known was is status (inl told) steady (inr refuses) = inr (refused_known kinds known None was is status told steady refuses)

@@ -21,8 +21,9 @@ use Rattle.disk_model.specs.declared.kind.Kind.TheVariants.{Warc}
 use Rattle.fixity.specs.Verdicts.{IsVerdict, volume_of}
 use Rattle.fixity.specs.declared.verdict.Verdict.{Verdict}
 use Rattle.outside.specs.declared.sink.Sink.{Ghosts as Sinks}
+use Rattle.archive_shelf.specs.declared.depth.Depth.TheVariants.{Checkpoints}
 use Rattle.command.specs.Opening.{IsOpened, usual_limits}
-use Rattle.command.specs.Printing.{Prints}
+use Rattle.command.specs.Printing.{Prints, printed_as}
 use Rattle.proxy_run.specs.Verifies.{Checked, ChecksVolumes, IsRight, IsVerified, facts_in, has_damage, is_damaged, lines_of, verdict_line}
 use Rattle.proxy_run.specs.declared.plan.Plan.{Plan}
 use Rattle.proxy_run.specs.declared.report.Report.{Report}
@@ -173,7 +174,7 @@ module _ {D O : Type 0} (disks : Disks D) (sinks : Sinks O) (known : Option Book
   read told = ap disks.reading shut ∙ (opened.is.rests told).read
 
   verified : (is : D) (out_is : O) (status : Status) → (IsTrue disks.tells → disks.reading is ≡ disks.reading was)
-      → ChecksVolumes disks sinks held.book.namespace (facts_of held.book) was is out_was out_is status → IsVerified disks sinks known was is out_was out_is status
+      → ChecksVolumes disks sinks held.book.namespace (facts_of held.book) was is out_was out_is status → IsVerified disks sinks (by_checkpoints was None known) is (printed_as out_was out_is status)
   verified is out_is status reading checked = record {
     held = held;
     opened = opened;
@@ -184,7 +185,7 @@ module _ {D O : Type 0} (disks : Disks D) (sinks : Sinks O) (known : Option Book
   -- it was checked and closed
   pub verified_by : (is : D) (plan : Plan) (out_is : O) (status : Status) → plan.namespace ≡ held.book.namespace → plan.volumes.items ≡ facts_of held.book
       → ChecksVolumes disks sinks plan.namespace plan.volumes.items closed is out_opened out_is status → (IsTrue disks.tells → disks.reading is ≡ disks.reading closed)
-      → IsVerified disks sinks known was is out_was out_is status
+      → IsVerified disks sinks (by_checkpoints was None known) is (printed_as out_was out_is status)
   verified_by is plan out_is status namespace volumes checks reading =
       verified is out_is status (λ told. reading told ∙ read told)
       (checks_from disks sinks _ _ was closed is out_was out_is status read (ap disks.faults shut ∙ opened.is.faults)
@@ -193,5 +194,5 @@ module _ {D O : Type 0} (disks : Disks D) (sinks : Sinks O) (known : Option Book
       (subst (λ (n : List ℕ). ChecksVolumes disks sinks n plan.volumes.items closed is out_opened out_is status) namespace checks))))
 
   -- there was no memory to say what is due
-  pub not_planned : IsVerified disks sinks known was closed out_was out_opened Memory
+  pub not_planned : IsVerified disks sinks (by_checkpoints was None known) closed (printed_as out_was out_opened Memory)
   not_planned = verified closed out_opened Memory read (inr (inr (record { status_is = refl; same = silent })))

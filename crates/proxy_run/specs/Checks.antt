@@ -7,15 +7,14 @@ use Rattle.outside.specs.declared.sink.Sink.{Ghosts as Sinks}
 use Rattle.archive_shelf.specs.declared.depth.Depth.TheVariants.{Whole}
 use Rattle.archive_core.specs.Known.{opening_of}
 use Rattle.command.specs.Opening.{IsOpened}
-use Rattle.command.specs.Printing.{LacksMemory, Prints}
+use Rattle.command.specs.Printing.{LacksMemory, Printed, Prints}
 use Rattle.command.specs.Texts.{counts_text}
-use Rattle.command.specs.declared.status.Status.{Status}
 use Rattle.command.specs.declared.status.Status.TheVariants.{Done}
 use Rattle.warc_journal.specs.Journals.{disk_of}
 
 -- The archive was opened, over which nothing was written, and closed; how much it holds was printed, or there was no memory for that.
-pub record IsCounted {D O : Type 0} (disks : Disks D) (sinks : Sinks O) (was is : D) (out_was out_is : O) (status : Status) : Type 0 where
+pub record IsCounted {D O : Type 0} (disks : Disks D) (sinks : Sinks O) (was is : D) (output : Printed O) : Type 0 where
   pub held : Holdings D
   pub opened : IsOpened disks (opening_of was Whole None None) held
   pub closed : is ≡ disk_of held.journal
-  pub printed : Prints sinks Done (counts_text (counts_of held.book)) out_was out_is status ⊎ LacksMemory sinks out_was out_is status
+  pub printed : Prints sinks Done (counts_text (counts_of held.book)) output.was output.is output.status ⊎ LacksMemory sinks output.was output.is output.status

@@ -135,7 +135,7 @@ module _ {D G L P N M C O : Type 0} (kinds : Kinds D G L P N M C O) where
   -- an import took not all
   pub record ImportsBadly (known : Option Book) (namespace : List ℕ) (was is : Objects D G (List (N × C)) O) (status : Status) : Type 0 where
     pub taken : HasTakenIn kinds known namespace was is status
-    pub badly : IsNotTaken taken.imported.input taken.imported.imported.refused
+    pub badly : IsNotTaken taken.imported.input taken.imported.intake.refused
 
   -- And so `import` goes well, unless its input isn't taken whole.
   abbrev pub ImportsAreAnswered : Type 0

@@ -1,39 +1,28 @@
 -- What the command `pipe` leaves.
 use Rattle.std.specs.Prelude.{◌≡◌, ◌⊎◌, ◌≤◌, ℕ, List, true, IsTrue, Option}
 use Rattle.archive_core.specs.Holdings.{Holdings, contents_of}
-use Rattle.archive_core.specs.Known.{by_checkpoints, opening_of}
+use Rattle.archive_core.specs.Known.{Opening, by_checkpoints, opening_of}
 use Rattle.archive_core.specs.Told.{told_of}
 use Rattle.archive_volumes.specs.Volumes.{OpensNear, crash_of, muted}
 use Rattle.archive_shelf.specs.Contents.{Contents}
 use Rattle.archive_shelf.specs.Openings.{HasIds, ImageStandsFor, SameBook, StaysCovered}
 use Rattle.archive_shelf.specs.Told.{GoesOn}
-use Rattle.archive_shelf.specs.declared.depth.Depth.{Depth}
 use Rattle.capture.specs.declared.book.Book.{Book}
 use Rattle.disk_model.specs.Image.{Image}
-use Rattle.disk_model.specs.declared.disk.Disk.{Ghosts as Disks}
 use Rattle.command.specs.Objects.{Around, Kinds, Objects, told_around}
 use Rattle.command.specs.Opening.{IsNotOpened}
 use Rattle.command.specs.Printing.{printed_as}
 use Rattle.command.specs.Settling.{ClosesSettled, OpensSettled}
-use Rattle.proxy_run.specs.Serving.{IsServedStatus, ServesNone, ServesOne, pipe_setting, pipe_site}
+use Rattle.proxy_run.specs.Serving.{IsReason, IsServedStatus, ServesOne, pipe_site}
 use Rattle.command.specs.declared.status.Status.{Status}
 use Rattle.command.specs.declared.status.Status.TheVariants.{Outside}
 use Rattle.session.specs.Images.{HasAllIds, OpensAtLast}
-use Rattle.session.specs.Rounds.{Round}
 use Rattle.session.specs.Traces.{Terms, terms_of}
 use Rattle.warc_journal.specs.Journals.{disk_of}
 
 -- where and over what `pipe` serves its connection
 abbrev pub pipe_terms : Contents → Terms
 pipe_terms now = terms_of pipe_site true now
-
--- Where the book is told and ids differ, each book for which an image stands that a crash may leave, and so what a read gives, is one that these rounds
--- leave of the book that was there before.
-abbrev pub LeavesJust : {D : Type 0} → Disks D → Contents → List Round → D → Type 0
-LeavesJust disks before rounds disk =
-    IsTrue before.tells → HasIds before.seen → HasAllIds rounds
-    → (image : Image) (x : Book) → disks.images disk image → ImageStandsFor image x
-    → OpensAtLast (pipe_terms before) (λ book. SameBook book before.seen) rounds x
 
 module _ {D G L P N M C O : Type 0} (kinds : Kinds D G L P N M C O) where
   -- what is told around the connection
@@ -42,13 +31,18 @@ module _ {D G L P N M C O : Type 0} (kinds : Kinds D G L P N M C O) where
 
   -- the gate's first connection was served over the archive, and hung up
   pub record HasServed (was is : Objects D G (N × C) O) (before after : Holdings D) (status : Status) : Type 0 where
-    pub one : ServesOne true (pipe_setting kinds.clocks.tells) (around_in was) (around_in is) (told_of kinds.disks before) (told_of kinds.disks after) status
-    pub left : LeavesJust kinds.disks (contents_of before) one.connection.rounds (disk_of after.journal)
+    pub one : ServesOne true (record { site = pipe_site; clock_tells = kinds.clocks.tells }) (around_in was) (around_in is)
+        (told_of kinds.disks before) (told_of kinds.disks after) status
+    -- where the book is told and ids differ, each book for which an image stands that a crash may leave, and so what a read gives, is one that its rounds leave of
+    -- the book that was there before
+    pub left : IsTrue before.told → HasIds before.book → HasAllIds one.connection.rounds
+        → (image : Image) (x : Book) → kinds.disks.images (disk_of after.journal) image → ImageStandsFor image x
+        → OpensAtLast (pipe_terms (contents_of before)) (λ book. SameBook book before.book) one.connection.rounds x
 
-  -- the gate gave no connection, and the archive wasn't asked
+  -- the gate gave no connection, nothing was gained, and the archive wasn't asked
   pub record HasServedNone (was is : Objects D G (N × C) O) (before after : Holdings D) (status : Status) : Type 0 where
-    pub none : ServesNone (kinds.gates.closed was.gate) (kinds.gates.faults was.gate) (kinds.gates.faults is.gate)
-        (around_in was) (around_in is) status
+    pub reason : IsReason (kinds.gates.closed was.gate) (kinds.gates.faults was.gate) (kinds.gates.faults is.gate) status
+    pub nothing_gained : around_in is ≡ around_in was
     pub same : after ≡ before
 
   -- The archive was opened by its checkpoints, those that were missing were written, the connection was served, and those that were missing then were written.
@@ -71,7 +65,7 @@ module _ {D G L P N M C O : Type 0} (kinds : Kinds D G L P N M C O) where
     pub disk_faults : kinds.disks.faults was.disk ≤ kinds.disks.faults is.disk
     pub prints_nothing : is.out ≡ was.out
 
-  -- The archive was refused, and neither gate nor crew was touched.
-  pub record Refuses {W : Type 0} (depth : Depth) (known : Option Book) (asked : Option (List ℕ)) (was is : Objects D G W O) (status : Status) : Type 0 where
-    pub refused : IsNotOpened kinds.disks kinds.sinks (opening_of was.disk depth asked known) is.disk (printed_as was.out is.out status)
+  -- The archive that was to be opened was refused, and neither gate nor crew was touched.
+  pub record Refuses {W : Type 0} (opening : Opening D) (was is : Objects D G W O) (status : Status) : Type 0 where
+    pub refused : IsNotOpened kinds.disks kinds.sinks opening is.disk (printed_as was.out is.out status)
     pub untouched : is ≡ record was { disk = is.disk; out = is.out }

@@ -17,7 +17,7 @@ use Rattle.outside.specs.declared.gate.Heard.{Heard}
 use Rattle.command.specs.Objects.{Kinds, Objects}
 use Rattle.proxy_run.specs.Complete.{HoldsAll, IsLeftSettled, IsReadied, IsSteady, NoFaults}
 use Rattle.proxy_run.specs.Runs.{Runs}
-use Rattle.proxy_run.specs.Serves.{LacksShelves, Serves, told_by}
+use Rattle.proxy_run.specs.Serves.{Duty, LacksShelves, Serves, told_by}
 use Rattle.crew.specs.Shifts.{AreShifts, Hand, IsShift, hands_of}
 use Rattle.command.specs.Texts.{captures_line}
 use Rattle.command.specs.declared.status.Status.{Status}
@@ -89,14 +89,14 @@ module _ {D G L P N M C O : Type 0} (kinds : Kinds D G L P N M C O) where
   -- the book has only grown, and how many captures it has was printed where all went well
   abbrev pub BooksOnlyGrow : Type 0
   BooksOnlyGrow =
-      (known : Option Book) (asked : Option (List ℕ)) (site : Site) (workers : ℕ) (was is : Objects D G (List (N × C)) O) (status : Status) (s : Serves kinds known asked site workers was is status)
+      (known : Option Book) (duty : Duty) (was is : Objects D G (List (N × C)) O) (status : Status) (s : Serves kinds known duty was is status)
       → Grows s.before.book s.after.book
       × (status ≡ Done → IsTrue kinds.sinks.tells → kinds.sinks.written is.out ≡ kinds.sinks.written was.out ++ captures_line (length (captures s.after.book)))
 
   -- as many connections were hung up as the gate gave, whatever the status, and as many are out as were before
   abbrev pub AllAreHungUp : Type 0
   AllAreHungUp =
-      (known : Option Book) (asked : Option (List ℕ)) (site : Site) (workers : ℕ) (was is : Objects D G (List (N × C)) O) (status : Status) (s : Serves kinds known asked site workers was is status)
+      (known : Option Book) (duty : Duty) (was is : Objects D G (List (N × C)) O) (status : Status) (s : Serves kinds known duty was is status)
       → IsTrue kinds.clients_tell → IsTrue kinds.origins_tell
       → ((kinds.gates.connections is.gate).gave + length (kinds.gates.connections was.gate).log
       ≡ (kinds.gates.connections was.gate).gave + length (kinds.gates.connections is.gate).log)
@@ -105,26 +105,26 @@ module _ {D G L P N M C O : Type 0} (kinds : Kinds D G L P N M C O) where
   -- the gate was asked until it was closed, unless it failed or memory ran out
   abbrev pub GatesAreEmptied : Type 0
   GatesAreEmptied =
-      (known : Option Book) (asked : Option (List ℕ)) (site : Site) (workers : ℕ) (was is : Objects D G (List (N × C)) O) (status : Status) (s : Serves kinds known asked site workers was is status)
+      (known : Option Book) (duty : Duty) (was is : Objects D G (List (N × C)) O) (status : Status) (s : Serves kinds known duty was is status)
       → (kinds.gates.closed is.gate ≡ true) ⊎ Rose (kinds.gates.faults was.gate) (kinds.gates.faults is.gate) ⊎ (status ≡ Memory)
 
   -- What the log gains is one list for each member that works, in the members' order; the others gain nothing.
   abbrev pub LogsAreInOrder : Type 0
   LogsAreInOrder =
-      (known : Option Book) (asked : Option (List ℕ)) (site : Site) (workers : ℕ) (was is : Objects D G (List (N × C)) O) (status : Status) (s : Serves kinds known asked site workers was is status)
-      → IsTrue kinds.clients_tell → IsTrue kinds.origins_tell → workers ≤ length was.crew
-      → ((heards : List (List Heard)) × (length heards ≡ workers)
+      (known : Option Book) (duty : Duty) (was is : Objects D G (List (N × C)) O) (status : Status) (s : Serves kinds known duty was is status)
+      → IsTrue kinds.clients_tell → IsTrue kinds.origins_tell → duty.workers ≤ length was.crew
+      → ((heards : List (List Heard)) × (length heards ≡ duty.workers)
       × ((kinds.gates.connections is.gate).log ≡ (kinds.gates.connections was.gate).log ++ all_of heards))
-      × (drop workers is.crew ≡ drop workers was.crew)
+      × (drop duty.workers is.crew ≡ drop duty.workers was.crew)
 
   -- Each capture that a round stored stands in the book that is left once, behind those that were there before, which has no other: those of
   -- one member in the order of its rounds.
   abbrev pub CapturesAreStoredOnce : Type 0
   CapturesAreStoredOnce =
-      (known : Option Book) (asked : Option (List ℕ)) (site : Site) (workers : ℕ) (was is : Objects D G (List (N × C)) O) (status : Status) (s : Serves kinds known asked site workers was is status)
-      (clients : IsTrue kinds.clients_tell) (origins : IsTrue kinds.origins_tell) → workers ≤ length was.crew → workers ≤ length is.crew
+      (known : Option Book) (duty : Duty) (was is : Objects D G (List (N × C)) O) (status : Status) (s : Serves kinds known duty was is status)
+      (clients : IsTrue kinds.clients_tell) (origins : IsTrue kinds.origins_tell) → duty.workers ≤ length was.crew → duty.workers ≤ length is.crew
       → let served = s.serves clients origins in
-      let rounds = rounds_of false told_by (record { site = site; clock_tells = kinds.clocks.tells })
+      let rounds = rounds_of false told_by (record { site = duty.site; clock_tells = kinds.clocks.tells })
       (hands_of kinds.dialers kinds.clocks s.starts was.crew) served.heards (hands_of kinds.dialers kinds.clocks s.seats is.crew) served.shifts in
       let numbers = flat_map numbers_of rounds in
       IsPermutation numbers (range_with_len (length (captures s.before.book)) (length numbers))
@@ -133,44 +133,44 @@ module _ {D G L P N M C O : Type 0} (kinds : Kinds D G L P N M C O) where
   -- What each connection begins with has grown from the book that was opened, with what is shown of it, into the book that is left.
   abbrev pub BooksLeadOn : Type 0
   BooksLeadOn =
-      (known : Option Book) (asked : Option (List ℕ)) (site : Site) (workers : ℕ) (was is : Objects D G (List (N × C)) O) (status : Status) (s : Serves kinds known asked site workers was is status)
+      (known : Option Book) (duty : Duty) (was is : Objects D G (List (N × C)) O) (status : Status) (s : Serves kinds known duty was is status)
       (clients : IsTrue kinds.clients_tell) (origins : IsTrue kinds.origins_tell)
       → let served = s.serves clients origins in
-      LeadTo false told_by (record { site = site; clock_tells = kinds.clocks.tells }) s.after.book
+      LeadTo false told_by (record { site = duty.site; clock_tells = kinds.clocks.tells }) s.after.book
       (hands_of kinds.dialers kinds.clocks s.starts was.crew) served.heards (hands_of kinds.dialers kinds.clocks s.seats is.crew) served.shifts
 
   -- The faults of the disk that rounds met are together at most the rise of its count.
   abbrev pub FaultsAreCounted : Type 0
   FaultsAreCounted =
-      (known : Option Book) (asked : Option (List ℕ)) (site : Site) (workers : ℕ) (was is : Objects D G (List (N × C)) O) (status : Status) (s : Serves kinds known asked site workers was is status)
-      (clients : IsTrue kinds.clients_tell) (origins : IsTrue kinds.origins_tell) → workers ≤ length is.crew
+      (known : Option Book) (duty : Duty) (was is : Objects D G (List (N × C)) O) (status : Status) (s : Serves kinds known duty was is status)
+      (clients : IsTrue kinds.clients_tell) (origins : IsTrue kinds.origins_tell) → duty.workers ≤ length is.crew
       → let served = s.serves clients origins in
-      RoseBy (sum_by disk_faults (rounds_of false told_by (record { site = site; clock_tells = kinds.clocks.tells })
+      RoseBy (sum_by disk_faults (rounds_of false told_by (record { site = duty.site; clock_tells = kinds.clocks.tells })
       (hands_of kinds.dialers kinds.clocks s.starts was.crew) served.heards (hands_of kinds.dialers kinds.clocks s.seats is.crew) served.shifts))
       (kinds.disks.faults was.disk) (kinds.disks.faults is.disk)
 
   -- Each connection was read to its end or to the answer that closes, unless its link failed or memory ran out.
   abbrev pub AllAreReadOut : Type 0
   AllAreReadOut =
-      (known : Option Book) (asked : Option (List ℕ)) (site : Site) (workers : ℕ) (was is : Objects D G (List (N × C)) O) (status : Status) (s : Serves kinds known asked site workers was is status)
+      (known : Option Book) (duty : Duty) (was is : Objects D G (List (N × C)) O) (status : Status) (s : Serves kinds known duty was is status)
       (clients : IsTrue kinds.clients_tell) (origins : IsTrue kinds.origins_tell)
       → let served = s.serves clients origins in
-      AreReadOut false told_by (record { site = site; clock_tells = kinds.clocks.tells })
+      AreReadOut false told_by (record { site = duty.site; clock_tells = kinds.clocks.tells })
       (hands_of kinds.dialers kinds.clocks s.starts was.crew) served.heards (hands_of kinds.dialers kinds.clocks s.seats is.crew) served.shifts
 
   -- Where neither the disk failed nor memory was wanting, each image that a crash may leave stands for the last book or one next to it, and has the finished
   -- checkpoint of each volume of the last book but the last, with the lines of just that volume's captures.
   abbrev pub ServersLeaveSettled : Type 0
   ServersLeaveSettled =
-      (known : Option Book) (asked : Option (List ℕ)) (site : Site) (workers : ℕ) (was is : Objects D G (List (N × C)) O) (status : Status)
-      (s : Serves kinds known asked site workers was is status) → IsTrue (told_at Checkpoints kinds.disks.tells known)
+      (known : Option Book) (duty : Duty) (was is : Objects D G (List (N × C)) O) (status : Status)
+      (s : Serves kinds known duty was is status) → IsTrue (told_at Checkpoints kinds.disks.tells known)
       → IsSteady (kinds.disks.faults was.disk) (kinds.disks.faults is.disk) → status ≢ Memory → Leaves (kinds.disks.images is.disk) (IsLeftSettled s.after.book)
 
   -- Where the disk didn't fail and the ids differ, each image that a crash may leave stands for the last book.
   abbrev pub ServersLeaveTheLast : Type 0
   ServersLeaveTheLast =
-      (known : Option Book) (asked : Option (List ℕ)) (site : Site) (workers : ℕ) (was is : Objects D G (List (N × C)) O) (status : Status)
-      (s : Serves kinds known asked site workers was is status) → IsTrue (told_at Checkpoints kinds.disks.tells known)
+      (known : Option Book) (duty : Duty) (was is : Objects D G (List (N × C)) O) (status : Status)
+      (s : Serves kinds known duty was is status) → IsTrue (told_at Checkpoints kinds.disks.tells known)
       → IsSteady (kinds.disks.faults was.disk) (kinds.disks.faults is.disk) → HasIds s.after.book
       → Leaves (kinds.disks.images is.disk) (λ image. ImageStandsFor image s.after.book)
 
@@ -178,15 +178,15 @@ module _ {D G L P N M C O : Type 0} (kinds : Kinds D G L P N M C O) where
   abbrev pub ServersLeaveReady : Type 0
   ServersLeaveReady =
       (known : Option Book) (namespace : List ℕ) (site : Site) (workers : ℕ) (was is : Objects D G (List (N × C)) O) (status : Status)
-      (s : Serves kinds known (Some namespace) site workers was is status) → IsTrue (told_at Checkpoints kinds.disks.tells known) → HasIds s.after.book
+      (s : Serves kinds known (record { asked = Some namespace; site = site; workers = workers }) was is status) → IsTrue (told_at Checkpoints kinds.disks.tells known) → HasIds s.after.book
       → (image : Image) → kinds.disks.images is.disk image → IsReadied (Some namespace) image
 
   -- What was stored comes back: each book for which such an image stands, as the next run may know it, holds all captures of the last book in order, and
   -- one more at most.
   abbrev pub ServersCapturesComeBack : Type 0
   ServersCapturesComeBack =
-      (known : Option Book) (asked : Option (List ℕ)) (site : Site) (workers : ℕ) (was is : Objects D G (List (N × C)) O) (status : Status)
-      (s : Serves kinds known asked site workers was is status) → IsTrue (told_at Checkpoints kinds.disks.tells known) → HasIds s.after.book
+      (known : Option Book) (duty : Duty) (was is : Objects D G (List (N × C)) O) (status : Status)
+      (s : Serves kinds known duty was is status) → IsTrue (told_at Checkpoints kinds.disks.tells known) → HasIds s.after.book
       → (image : Image) (x : Book) → kinds.disks.images is.disk image → ImageStandsFor image x → HoldsAll s.after.book x
 
   -- Each image that one may leave for whose shelves there was no memory is settled so too.

@@ -1,15 +1,16 @@
 -- What a run leaves, by what its words ask for.
 use Rattle.std.specs.Prelude.{◌≡◌, ◌⊎◌, ℕ, List, Option, Some, None}
-use Rattle.archive_shelf.specs.declared.depth.Depth.TheVariants.{Checkpoints, Whole}
+use Rattle.archive_shelf.specs.declared.depth.Depth.TheVariants.{Whole}
 use Rattle.capture.specs.declared.book.Book.{Book}
 use Rattle.capture.specs.declared.site.Site.{Site}
 use Rattle.outside.specs.declared.sink.Sink.{Ghosts as Sinks}
 use Rattle.proxy_run.specs.Checks.{IsCounted}
 use Rattle.proxy_run.specs.Follows.{Follows}
-use Rattle.importing.specs.Imports.{Imports, ends_of}
-use Rattle.command.specs.Objects.{Kinds, Objects, UsesFirst, with_one}
+use Rattle.importing.specs.Imports.{Imports}
+use Rattle.archive_core.specs.Known.{by_checkpoints, opening_of}
+use Rattle.command.specs.Objects.{Kinds, Objects, UsesFirst, objects_of, with_one}
 use Rattle.proxy_run.specs.Pipes.{Pipes, Refuses}
-use Rattle.command.specs.Printing.{LacksMemory, Prints}
+use Rattle.command.specs.Printing.{LacksMemory, Prints, printed_as}
 use Rattle.proxy_run.specs.Serves.{LacksShelves, Serves}
 use Rattle.command.specs.Texts.{usage}
 use Rattle.proxy_run.specs.Trials.{Tries}
@@ -29,11 +30,6 @@ module _ {D G L P N M C O : Type 0} (kinds : Kinds D G L P N M C O) (known : Opt
     pub printed : Prints kinds.sinks status.Words usage was.out is.out result
     pub untouched : is ≡ record was { out = is.out }
 
-  -- the archive was counted; neither gate nor crew was touched
-  pub record HasChecked (was is : Objects D G (List (N × C)) O) (result : Status) : Type 0 where
-    pub counted : IsCounted kinds.disks kinds.sinks was.disk is.disk was.out is.out result
-    pub untouched : is ≡ record was { disk = is.disk; out = is.out }
-
   -- the gate's first connection was served with the first member of the crew, and the others stay
   pub record HasPiped (namespace : List ℕ) (was is : Objects D G (List (N × C)) O) (result : Status) : Type 0 where
     pub first : UsesFirst was.crew is.crew
@@ -41,25 +37,15 @@ module _ {D G L P N M C O : Type 0} (kinds : Kinds D G L P N M C O) (known : Opt
 
   -- the archive took the gate's first connection in; the crew wasn't touched
   pub record HasTakenIn (namespace : List ℕ) (was is : Objects D G (List (N × C)) O) (result : Status) : Type 0 where
-    pub imported : Imports kinds.disks kinds.gates kinds.sinks kinds.clients_tell known (Some namespace) (ends_of was.disk was.gate was.out)
-        (ends_of is.disk is.gate is.out) result
+    pub imported : Imports kinds.disks kinds.gates kinds.sinks kinds.clients_tell known (Some namespace) (objects_of was.disk was.gate tt was.out)
+        (objects_of is.disk is.gate tt is.out) result
     pub untouched : is.crew ≡ was.crew
-
-  -- a trial was made in memory; neither disk, nor gate, nor crew was touched
-  pub record HasTried (count seed : ℕ) (was is : Objects D G (List (N × C)) O) (result : Status) : Type 0 where
-    pub tried : Tries kinds.sinks count seed was.out is.out result
-    pub untouched : is ≡ record was { out = is.out }
-
-  -- the bytes of the archive's volumes were checked; neither gate nor crew was touched
-  pub record Verifies (was is : Objects D G (List (N × C)) O) (result : Status) : Type 0 where
-    pub verified : IsVerified kinds.disks kinds.sinks known was.disk is.disk was.out is.out result
-    pub untouched : is ≡ record was { disk = is.disk; out = is.out }
 
   -- the source at the site was followed with the dialer of the crew's first member, and the others stay; the gate wasn't touched
   pub record HasReplicated (namespace : List ℕ) (site : Site) (was is : Objects D G (List (N × C)) O) (result : Status) : Type 0 where
     pub first : UsesFirst was.crew is.crew
-    pub follows : Follows kinds.disks known kinds.dialers kinds.sinks kinds.origins_tell (Some namespace) site was.disk is.disk first.before first.after was.out
-        is.out result
+    pub follows : Follows kinds.disks kinds.dialers kinds.sinks kinds.origins_tell known (Some namespace) site (objects_of was.disk tt first.before was.out)
+        (objects_of is.disk tt first.after is.out) result
     pub untouched : is.gate ≡ was.gate
 
   -- there was no memory to look at the base, and nothing was touched
@@ -67,18 +53,25 @@ module _ {D G L P N M C O : Type 0} (kinds : Kinds D G L P N M C O) (known : Opt
     pub status_is : result ≡ status.Memory
     pub untouched : is ≡ was
 
-  -- By what the words ask for, and the site of a base among them, and which book is known of the disk, if one is. Of a check of bytes it doesn't depend on how many workers made it.
+  -- By what the words ask for, and the site of a base among them, and which book is known of the disk, if one is. Where an archive is counted, or the bytes of its
+  -- volumes are checked, neither gate nor crew is touched, and a trial, which is made in memory, doesn't touch the disk either. A check of bytes doesn't depend on
+  -- how many workers made it.
   abbrev pub Runs : Option Command → Option Site → Objects D G (List (N × C)) O → Objects D G (List (N × C)) O → Status → Type 0
   Runs None site was is result = Misspells was is result
-  Runs (Some (Pipe namespace)) site was is result = HasPiped namespace was is result ⊎ Refuses kinds Checkpoints known (Some namespace) was is result
-  Runs (Some (Import namespace)) site was is result = HasTakenIn namespace was is result ⊎ Refuses kinds Checkpoints known (Some namespace) was is result
-  Runs (Some Check) site was is result = HasChecked was is result ⊎ Refuses kinds Whole None None was is result
+  Runs (Some (Pipe namespace)) site was is result = HasPiped namespace was is result ⊎ Refuses kinds (by_checkpoints was.disk (Some namespace) known) was is result
+  Runs (Some (Import namespace)) site was is result = HasTakenIn namespace was is result ⊎ Refuses kinds (by_checkpoints was.disk (Some namespace) known) was is result
+  Runs (Some Check) site was is result =
+      (IsCounted kinds.disks kinds.sinks was.disk is.disk (printed_as was.out is.out result) × (is ≡ record was { disk = is.disk; out = is.out }))
+      ⊎ Refuses kinds (opening_of was.disk Whole None None) was is result
   Runs (Some (Follow namespace)) None was is result = Misspells was is result ⊎ LacksWords was is result
   Runs (Some (Follow namespace)) (Some site) was is result =
-      HasReplicated namespace site was is result ⊎ Refuses kinds Checkpoints known (Some namespace) was is result ⊎ LacksWords was is result
+      HasReplicated namespace site was is result ⊎ Refuses kinds (by_checkpoints was.disk (Some namespace) known) was is result ⊎ LacksWords was is result
   Runs (Some (Serve namespace workers)) None was is result = Misspells was is result ⊎ LacksWords was is result
   Runs (Some (Serve namespace workers)) (Some site) was is result =
-      Serves kinds known (Some namespace) site workers was is result ⊎ LacksShelves kinds known (Some namespace) was is result
-      ⊎ Refuses kinds Checkpoints known (Some namespace) was is result ⊎ LacksWords was is result
-  Runs (Some (Trial count seed)) site was is result = HasTried count seed was is result
-  Runs (Some (Verify workers)) site was is result = Verifies was is result ⊎ Refuses kinds Checkpoints known None was is result
+      Serves kinds known (record { asked = Some namespace; site = site; workers = workers }) was is result
+      ⊎ LacksShelves kinds known (Some namespace) was is result
+      ⊎ Refuses kinds (by_checkpoints was.disk (Some namespace) known) was is result ⊎ LacksWords was is result
+  Runs (Some (Trial count seed)) site was is result = Tries kinds.sinks count seed was.out is.out result × (is ≡ record was { out = is.out })
+  Runs (Some (Verify workers)) site was is result =
+      (IsVerified kinds.disks kinds.sinks (by_checkpoints was.disk None known) is.disk (printed_as was.out is.out result) × (is ≡ record was { disk = is.disk; out = is.out }))
+      ⊎ Refuses kinds (by_checkpoints was.disk None known) was is result

@@ -21,7 +21,7 @@ use Rattle.disk_model.specs.Image.{no_files}
 use Rattle.outside.specs.declared.sink.Sink.{Ghosts as Sinks}
 use Rattle.crew.specs.Crews.{IsEnd, ServesAll}
 use Rattle.command.specs.Objects.{Kinds, Objects}
-use Rattle.command.specs.Printing.{LacksMemory, Prints}
+use Rattle.command.specs.Printing.{LacksMemory, Printed, Prints, printed_as}
 use Rattle.command.specs.Settling.{ClosesSettled, OpensSettled}
 use Rattle.crew.specs.Shifts.{hands_of}
 use Rattle.command.specs.Texts.{captures_line}
@@ -87,43 +87,49 @@ worst Outside printed = printed
 worst Memory printed = Memory
 
 -- How many captures there are was printed, or a front of that where the output failed, or there was no memory.
-pub record TellsCount {O : Type 0} (sinks : Sinks O) (count : ℕ) (said : Status) (was is : O) (status : Status) : Type 0 where
+pub record TellsCount {O : Type 0} (sinks : Sinks O) (count : ℕ) (said : Status) (output : Printed O) : Type 0 where
   pub printed : Status
-  pub prints : Prints sinks said (captures_line count) was is printed ⊎ LacksMemory sinks was is printed
-  pub status_is : status ≡ worst said printed
+  pub prints : Prints sinks said (captures_line count) output.was output.is printed ⊎ LacksMemory sinks output.was output.is printed
+  pub status_is : output.status ≡ worst said printed
+
+-- what a server is started for: the namespace that is asked for, if one is, where the clients come to, and how many members of the crew serve
+pub record Duty : Type 0 where
+  pub asked : Option (List ℕ)
+  pub site : Site
+  pub workers : ℕ
 
 module _ {D G L P N M C O : Type 0} (kinds : Kinds D G L P N M C O) (known : Option Book) where
   -- The archive was opened, and the checkpoints that were missing were written. The gate's connections were served over it by so many members
   -- of the crew, of whom each had a shelf of its own; the others stay. How many captures there are was printed, and then the checkpoints that
   -- were missing by then were written. So there are four disks: as it was given, was settled, was served over, and was settled at last. What
   -- hangs on the links is said where they tell their traffic, and what hangs on the disk where the book is told.
-  pub record Serves (asked : Option (List ℕ)) (site : Site) (workers : ℕ) (was is : Objects D G (List (N × C)) O) (status : Status) : Type 0 where
+  pub record Serves (duty : Duty) (was is : Objects D G (List (N × C)) O) (status : Status) : Type 0 where
     pub before : Holdings D
     pub after : Holdings D
     pub starts : List Seat
     pub seats : List Seat
     pub said : Status
     pub counted : Status
-    pub opened : OpensSettled kinds.disks (by_checkpoints was.disk asked known) before
+    pub opened : OpensSettled kinds.disks (by_checkpoints was.disk duty.asked known) before
     pub new : AreNewcomers (contents_of before) starts
-    pub workers_are : length starts ≡ workers
-    pub count : length seats ≡ workers
+    pub workers_are : length starts ≡ duty.workers
+    pub count : length seats ≡ duty.workers
     pub serves : IsTrue kinds.clients_tell → IsTrue kinds.origins_tell
-        → ServesAll (record { alone = false; told = told_by; setting = record { site = site; clock_tells = kinds.clocks.tells } })
+        → ServesAll (record { alone = false; told = told_by; setting = record { site = duty.site; clock_tells = kinds.clocks.tells } })
         (kinds.gates.connections was.gate) (kinds.gates.connections is.gate)
         (hands_of kinds.dialers kinds.clocks starts was.crew) (hands_of kinds.dialers kinds.clocks seats is.crew)
     pub ended : IsEnd (kinds.gates.closed is.gate) (kinds.gates.faults was.gate) (kinds.gates.faults is.gate) said
     pub shared : IsSharedOut before.book seats after.book
     pub same_told : after.told ≡ before.told
     pub disk_faults : RoseBy (all_faults seats) (kinds.disks.faults (disk_of before.journal)) (kinds.disks.faults (disk_of after.journal))
-    pub told : TellsCount kinds.sinks (length (captures after.book)) said was.out is.out counted
+    pub told : TellsCount kinds.sinks (length (captures after.book)) said (printed_as was.out is.out counted)
     pub closed : ClosesSettled kinds.disks after counted is.disk status
     -- where the members met no fault of the disk and ids differ, only the last book may be opened of what they leave
     pub only : all_faults seats ≡ 0 → HasIds after.book → IsState (told_of kinds.disks after).crash after.book None
     -- where the book is told, the finished checkpoints of each image that they leave are those of the last book
     pub right : IsTrue after.told → Leaves (kinds.disks.images (disk_of after.journal)) (λ image. HasCheckpointsOf image after.book)
     pub near : IsTrue before.told → OpensNear kinds.disks is.disk after.book
-    pub others : drop workers is.crew ≡ drop workers was.crew
+    pub others : drop duty.workers is.crew ≡ drop duty.workers was.crew
 
   -- The archive was opened and settled, but there was no memory for so many shelves: it was settled again, and nothing else was touched.
   pub record LacksShelves (asked : Option (List ℕ)) (was is : Objects D G (List (N × C)) O) (status : Status) : Type 0 where

@@ -10,17 +10,13 @@ use Rattle.command.specs.Objects.{Around}
 use Rattle.command.specs.declared.status.Status.{Status}
 use Rattle.command.specs.declared.status.Status.TheVariants.{Done, Words, Archive, Outside, Memory}
 use Rattle.session.specs.Connection.{IsConnection, Setting}
-use Rattle.session.specs.Gains.{World}
+use Rattle.session.specs.Gains.{world_of}
 use Rattle.session.specs.declared.served.Served.{Served}
 use Rattle.session.specs.declared.served.Served.TheVariants as served
 
 -- the site of an archive that is reached through `pipe`
 abbrev pub pipe_site : Site
 pipe_site = record { base = codes "http://localhost:8080"; host = codes "localhost"; port = 8080 }
-
--- where `pipe` serves, by a clock that tells its answers or doesn't
-abbrev pub pipe_setting : Bool → Setting
-pipe_setting clock_tells = record { site = pipe_site; clock_tells = clock_tells }
 
 -- the status of a program that served one connection
 abbrev pub status_of : Served → Status
@@ -38,23 +34,15 @@ IsServedStatus Archive = ⊥
 IsServedStatus Outside = ⊤
 IsServedStatus Memory = ⊤
 
--- what the objects around a connection tell, with what was heard of its client
-abbrev pub world_of : Heard → Around → Told → World
-world_of heard told shelf = record {
-  heard = heard;
-  answers = told.answers;
-  links = told.links;
-  dialer_faults = told.dialer_faults;
-  shelf = shelf;
-}
-
--- One connection was given, served and hung up, and is all that the gate gave.
-pub record ServesOne (alone : Bool) (setting : Setting) (was is : Around) (shelf_was shelf_is : Told) (status : Status) : Type 0 where
-  pub heard : Heard
-  pub served : Served
-  pub logged : is.connections ≡ one_served was.connections heard
-  pub connection : IsConnection alone setting (world_of unheard was shelf_was) (world_of heard is shelf_is) served
-  pub status_is : status ≡ status_of served
+module _ (alone : Bool) (setting : Setting) where
+  -- One connection was given, served and hung up, and is all that the gate gave.
+  pub record ServesOne (was is : Around) (shelf_was shelf_is : Told) (status : Status) : Type 0 where
+    pub heard : Heard
+    pub served : Served
+    pub logged : is.connections ≡ one_served was.connections heard
+    pub connection : IsConnection alone setting (world_of unheard was.answers was.links was.dialer_faults shelf_was)
+        (world_of heard is.answers is.links is.dialer_faults shelf_is) served
+    pub status_is : status ≡ status_of served
 
 -- why a gate gave no connection: it was closed, it failed, or there was no memory
 abbrev pub IsReason : (was_closed : Bool) → (before now : ℕ) → Status → Type 0
@@ -63,8 +51,3 @@ IsReason was_closed before now Words = ⊥
 IsReason was_closed before now Archive = ⊥
 IsReason was_closed before now Outside = Rose before now
 IsReason was_closed before now Memory = ⊤
-
--- The gate, which was closed or not and counted its faults before and now, gave no connection, and nothing was gained.
-pub record ServesNone (was_closed : Bool) (before now : ℕ) (was is : Around) (status : Status) : Type 0 where
-  pub reason : IsReason was_closed before now status
-  pub nothing_gained : is ≡ was

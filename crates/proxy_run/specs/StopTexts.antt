@@ -11,10 +11,6 @@ use Rattle.replica.specs.declared.following.Stop.TheVariants.{Source, Piece}
 unfoldable pub numbered : List ℕ → ℕ → List ℕ
 numbered words number = words ++ decimal number ++ (line_feed ∷ [])
 
--- how many captures there are behind the source's last
-abbrev pub caught_up : ℕ → List ℕ
-caught_up count = numbered (codes "captures ") count
-
 -- Why no more pieces were taken. Of want of memory nothing is printed.
 abbrev pub IsStopText : Stop → List ℕ → Type 0
 IsStopText (Source number sources.DialFault) text = text ≡ codes "dial fault\n"

@@ -20,12 +20,6 @@ trial_namespace =
 abbrev pub trial_volume : ℕ
 trial_volume = 1000000
 
--- the volumes of a book have so many bytes together
-pub record HasBytes (book : Book) (bytes : ℕ) : Type 0 where
-  pub texts : List (List ℕ)
-  pub are : AreVolumeTexts book texts
-  pub sum : bytes ≡ sum_by (λ (text : List ℕ). length text) texts
-
 -- The text tells of the book that took the first so many exchanges of a load, one after the other, each by the rule of storing:
 -- what it holds, how many bytes its volumes have, and that each capture has the payload of its exchange.
 pub record IsTried (count seed : ℕ) (text : List ℕ) : Type 0 where
@@ -33,9 +27,9 @@ pub record IsTried (count seed : ℕ) (text : List ℕ) : Type 0 where
   pub holds : HoldsFirst trial_volume trial_namespace seed count book
   pub all : length (captures book) ≡ count
   pub payloads : HavePayloads seed count book
-  pub bytes : ℕ
-  pub bytes_are : HasBytes book bytes
-  pub text_is : text ≡ trial_text (counts_of book) bytes count
+  pub volumes : List (List ℕ)
+  pub volumes_are : AreVolumeTexts book volumes
+  pub text_is : text ≡ trial_text (counts_of book) (sum_by (λ (volume : List ℕ). length volume) volumes) count
 
 -- The trial's text was printed, or there was no memory.
 abbrev pub Tries : {O : Type 0} → Sinks O → (count seed : ℕ) → O → O → Status → Type 0

@@ -1,11 +1,10 @@
 -- What the command `verify` leaves.
-use Rattle.std.specs.Prelude.{◌≡◌, ◌⊎◌, ℕ, suc, Bool, true, false, nat_eq, ◌||◌, List, [], ◌∷◌, ◌++◌, codes, decimal, length, map, All, None, Option, IsTrue}
+use Rattle.std.specs.Prelude.{◌≡◌, ◌⊎◌, ℕ, suc, Bool, true, false, nat_eq, ◌||◌, List, [], ◌∷◌, ◌++◌, codes, decimal, length, map, All, IsTrue}
 use Rattle.std.specs.List.{flat_map}
 use Rattle.archive_core.specs.Holdings.{Holdings}
 use Rattle.archive_volumes.specs.Facts.{facts_of}
 use Rattle.archive_volumes.specs.declared.volume_facts.VolumeFacts.{VolumeFacts}
 use Rattle.capture.specs.Faults.{Rose}
-use Rattle.capture.specs.declared.book.Book.{Book}
 use Rattle.disk_model.specs.Image.{Image, file_of}
 use Rattle.disk_model.specs.declared.disk.Disk.{Ghosts as Disks}
 use Rattle.disk_model.specs.declared.kind.Kind.TheVariants.{Warc}
@@ -14,9 +13,9 @@ use Rattle.fixity.specs.declared.verdict.Verdict.{Verdict}
 use Rattle.fixity.specs.declared.verdict.Verdict.TheVariants.{Sound, Damaged}
 use Rattle.httparse.specs.Ascii.{line_feed}
 use Rattle.outside.specs.declared.sink.Sink.{Ghosts as Sinks}
-use Rattle.archive_core.specs.Known.{by_checkpoints}
+use Rattle.archive_core.specs.Known.{Opening}
 use Rattle.command.specs.Opening.{IsOpened}
-use Rattle.command.specs.Printing.{LacksMemory, Prints}
+use Rattle.command.specs.Printing.{LacksMemory, Printed, Prints}
 use Rattle.command.specs.Texts.{file_name}
 use Rattle.command.specs.declared.status.Status.{Status}
 use Rattle.command.specs.declared.status.Status.TheVariants.{Archive, Done}
@@ -103,9 +102,9 @@ module _ {D O : Type 0} (disks : Disks D) (sinks : Sinks O) (namespace : List �
   abbrev pub ChecksVolumes : Type 0
   ChecksVolumes = ChecksAll ⊎ BreaksOff ⊎ LacksMemory sinks out_was out_is status
 
--- The archive was opened by its checkpoints, and its volumes were checked. What is due in them is told by bytes alone, whatever is known (`lined`), and a read gives what it gave.
-pub record IsVerified {D O : Type 0} (disks : Disks D) (sinks : Sinks O) (known : Option Book) (was is : D) (out_was out_is : O) (status : Status) : Type 0 where
+-- The archive was opened, and its volumes were checked. What is due in them is told by bytes alone, whatever is known (`lined`), and a read gives what it gave.
+pub record IsVerified {D O : Type 0} (disks : Disks D) (sinks : Sinks O) (opening : Opening D) (is : D) (output : Printed O) : Type 0 where
   pub held : Holdings D
-  pub opened : IsOpened disks (by_checkpoints was None known) held
-  pub reading : IsTrue disks.tells → disks.reading is ≡ disks.reading was
-  pub checked : ChecksVolumes disks sinks held.book.namespace (facts_of held.book) was is out_was out_is status
+  pub opened : IsOpened disks opening held
+  pub reading : IsTrue disks.tells → disks.reading is ≡ disks.reading opening.disk
+  pub checked : ChecksVolumes disks sinks held.book.namespace (facts_of held.book) opening.disk is output.was output.is output.status

@@ -15,7 +15,7 @@ use std::alloc::Global;
 
 /// Opens the archive on the disk, prints how much it holds, and closes it. Nothing is written.
 pub fn check<D: Disk, O: Sink>(alloc: Global, disk: D, out: &mut O) -> Ran<D>
-    ensures { IsCounted D.Disk O.Sink disk result.disk out.old out.new result.status
+    ensures { IsCounted D.Disk O.Sink disk result.disk (printed_as out.old out.new result.status)
         ⊎ IsNotOpened D.Disk O.Sink (opening_of disk Depth.Whole None None) result.disk (printed_as out.old out.new result.status) }
 {
     let archive = match open::<Unknown, D, O>(alloc, disk, None, Depth::Whole, out) {

@@ -1,13 +1,13 @@
 //! The command `pipe`: one connection over an archive of its own.
 ghost use Rattle.std.specs.Prelude.{◌⊎◌, IfSome};
 ghost use Rattle.archive_opening.specs.Telling.{MayBeSettled};
+ghost use Rattle.archive_core.specs.Known.{by_checkpoints};
 ghost use Rattle.command.specs.Objects.{kinds_of, objects_of};
 ghost use Rattle.proxy_run.specs.Pipes.{Pipes, Refuses};
 ghost use Rattle.command.specs.Words as spec;
 ghost use Rattle.warc_text.specs.Ids.{IsUuid};
 
 use crate::serving::serve_first;
-use archive_shelf::Depth;
 use command::{Command, Known, Ran, asked_of, open_and_settle, settle_and_close};
 use disk_model::Disk;
 use outside::{Clock, Dialer, Gate, Sink};
@@ -29,7 +29,7 @@ pub fn pipe<K: Known, D: Disk, G: Gate, N: Dialer, C: Clock, O: Sink>(
         let was = objects_of disk gate.old member.old out.old in
         let is = objects_of result.disk gate.new member.new out.new in
         Pipes kinds K.book (spec.asked_of command) was is result.status
-        ⊎ Refuses kinds Depth.Checkpoints K.book (spec.asked_of command) was is result.status }
+        ⊎ Refuses kinds (by_checkpoints disk (spec.asked_of command) K.book) was is result.status }
 {
     let mut archive = match open_and_settle::<K, D, O>(alloc, disk, asked_of(command), out) {
         Ok(archive) => archive,

@@ -2,6 +2,7 @@
 ghost use Rattle.std.specs.Prelude.{◌≡◌, ◌⊎◌, IfOk, IfSome};
 ghost use Rattle.proxy_run.specs.Follows.{Follows, FollowsTo, TellsStop};
 ghost use Rattle.archive_core.specs.Known.{by_checkpoints};
+ghost use Rattle.command.specs.Objects.{objects_of};
 ghost use Rattle.command.specs.Opening.{IsNotOpened};
 ghost use Rattle.command.specs.Printing.{LacksMemory, Prints, printed_as};
 ghost use Rattle.replica.specs.Sources.{source_of as spec_source_of};
@@ -35,8 +36,8 @@ pub fn follow<K: Known, D: Disk, N: Dialer, C: Clock, O: Sink>(
 ) -> Ran<D>
     requires uuid { IfSome (word.asked_of command) IsUuid }
     requires known { MayBeSettled D.Disk disk (word.asked_of command) K.book }
-    ensures { Follows D.Disk K.book N.Dialer O.Sink N.Link.tells (word.asked_of command) site.now disk result.disk member.old member.new out.old out.new
-        result.status
+    ensures { Follows D.Disk N.Dialer O.Sink N.Link.tells K.book (word.asked_of command) site.now (objects_of disk tt member.old out.old)
+        (objects_of result.disk tt member.new out.new) result.status
         ⊎ (IsNotOpened D.Disk O.Sink (by_checkpoints disk (word.asked_of command) K.book) result.disk (printed_as out.old out.new result.status) × (member.new ≡ member.old)) }
 {
     let mut archive = match open::<K, D, O>(
@@ -64,8 +65,8 @@ fn follow_site<D: Disk, N: Dialer, O: Sink>(
     site: &Site,
     out: &mut O,
 ) -> Status
-    ensures { FollowsTo D.Disk O.Sink (spec_source_of site.now) N.Link.tells archive.old archive.new (N.links dialer.old) (N.links dialer.new)
-        (N.faults dialer.old) (N.faults dialer.new) out.old out.new result }
+    ensures { FollowsTo D.Disk N.Dialer O.Sink N.Link.tells (spec_source_of site.now) archive.old archive.new dialer.old dialer.new
+        (printed_as out.old out.new result) }
 {
     let source = match source_of(alloc, site) {
         Ok(source) => source,

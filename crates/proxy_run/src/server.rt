@@ -2,7 +2,6 @@
 ghost use Rattle.std.specs.Prelude.{◌⊎◌, ◌≡◌, ◌<◌, ◌≤◌, ℕ, true, IfSome, IsTrue, List, Option, length};
 ghost use Rattle.archive_core.specs.Holdings.{Holdings, contents_of};
 ghost use Rattle.archive_opening.specs.Telling.{MayBeSettled};
-ghost use Rattle.archive_shelf.specs.declared.depth.Depth.TheVariants.{Checkpoints};
 ghost use Rattle.capture.specs.declared.book.Book.{Book};
 ghost use Rattle.archive_core.specs.Known.{by_checkpoints};
 ghost use Rattle.command.specs.Objects.{kinds_of, objects_of};
@@ -71,9 +70,10 @@ where
     ensures { let kinds = kinds_of D.Disk G.Gate N.Dialer C.Clock O.Sink G.Link.tells N.Link.tells in
         let was = objects_of disk gate.old crew.old.items out.old in
         let is = objects_of result.disk gate.new crew.new.items out.new in
-        Serves kinds K.book (spec.asked_of service.entry.command) service.entry.site.now service.entry.workers was is result.status
+        Serves kinds K.book (record { asked = spec.asked_of service.entry.command; site = service.entry.site.now; workers = service.entry.workers })
+        was is result.status
         ⊎ LacksShelves kinds K.book (spec.asked_of service.entry.command) was is result.status
-        ⊎ Refuses kinds Checkpoints K.book (spec.asked_of service.entry.command) was is result.status }
+        ⊎ Refuses kinds (by_checkpoints disk (spec.asked_of service.entry.command) K.book) was is result.status }
 {
     let Service {
         command,
@@ -131,7 +131,7 @@ where
     requires enough { unnamed.passes ≤ length crew.old.items }
     ensures { let kinds = kinds_of D.Disk G.Gate N.Dialer C.Clock O.Sink G.Link.tells N.Link.tells in
         (known : Option Book) (asked : Option (List ℕ)) (disk : D) (before : Holdings D) → OpensSettled D.Disk (by_checkpoints disk asked known) before
-        → IsNameOf unnamed (contents_of before) (D.faults (disk_of before.journal)) → Serves kinds known asked site.now unnamed.passes (objects_of disk gate.old crew.old.items out.old)
+        → IsNameOf unnamed (contents_of before) (D.faults (disk_of before.journal)) → Serves kinds known (record { asked = asked; site = site.now; workers = unnamed.passes }) (objects_of disk gate.old crew.old.items out.old)
         (objects_of result.disk gate.new crew.new.items out.new) result.status }
 {
     let (vault, mut passes) = unnamed.named::<J>();

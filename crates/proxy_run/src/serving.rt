@@ -5,7 +5,7 @@ ghost use Rattle.outside.specs.Gate.{Connections, one_given};
 ghost use Rattle.outside.specs.Link.{IsFresh};
 ghost use Rattle.command.specs.Objects.{told_around};
 ghost use Rattle.proxy_run.specs.Serving as spec;
-ghost use Rattle.proxy_run.specs.Serving.{ServesNone, ServesOne, IsServedStatus, pipe_setting, pipe_site};
+ghost use Rattle.proxy_run.specs.Serving.{IsReason, IsServedStatus, ServesOne, pipe_site};
 
 use archive_shelf::{Shelf, leading_books_grow};
 use capture::{Memory, Site, Text};
@@ -22,10 +22,10 @@ pub fn serve_first<S: Shelf, G: Gate, N: Dialer, C: Clock>(
     member: &mut (N, C),
 ) -> Status
     ensures serves { IsTrue G.Link.tells → IsTrue N.Link.tells
-        → ServesOne S.alone (pipe_setting C.tells) (told_around G.Gate N.Dialer C.Clock gate.old member.old)
+        → ServesOne S.alone (record { site = pipe_site; clock_tells = C.tells }) (told_around G.Gate N.Dialer C.Clock gate.old member.old)
         (told_around G.Gate N.Dialer C.Clock gate.new member.new) (S.told shelf.old) (S.told shelf.new) result
-        ⊎ (ServesNone (G.closed gate.old) (G.faults gate.old) (G.faults gate.new) (told_around G.Gate N.Dialer C.Clock gate.old member.old)
-        (told_around G.Gate N.Dialer C.Clock gate.new member.new) result × (shelf.new ≡ shelf.old)) }
+        ⊎ (IsReason (G.closed gate.old) (G.faults gate.old) (G.faults gate.new) result
+        × (told_around G.Gate N.Dialer C.Clock gate.new member.new ≡ told_around G.Gate N.Dialer C.Clock gate.old member.old) × (shelf.new ≡ shelf.old)) }
     ensures goes_on { GoesOn S.alone (S.told shelf.old) (S.told shelf.new) }
     ensures ends { IsServedStatus result }
     ensures gate_failed { (result ≡ Status.Outside) ⊎ (G.faults gate.new ≡ G.faults gate.old) }
@@ -57,7 +57,7 @@ fn serve_link<S: Shelf, G: Gate, N: Dialer, C: Clock>(
     requires fresh { IsTrue G.Link.tells → IsFresh (G.Link.traffic link) }
     requires site { site.now ≡ pipe_site }
     ensures serves { IsTrue G.Link.tells → IsTrue N.Link.tells → (before : Connections) → G.connections gate.old ≡ one_given before
-        → ServesOne S.alone (pipe_setting C.tells)
+        → ServesOne S.alone (record { site = pipe_site; clock_tells = C.tells })
         (record (told_around G.Gate N.Dialer C.Clock gate.old member.old) { connections = before })
         (told_around G.Gate N.Dialer C.Clock gate.new member.new) (S.told shelf.old) (S.told shelf.new) result }
     ensures goes_on { GoesOn S.alone (S.told shelf.old) (S.told shelf.new) }

@@ -35,7 +35,7 @@ pub fn verify<K: Known, R: Threads + Sync, D: Disk, O: Sink>(
 ) -> Ran<D>
     requires workers { (0 < workers) × (workers ≤ 16) }
     requires known { MayBeSettled D.Disk disk None K.book }
-    ensures { IsVerified D.Disk O.Sink K.book disk result.disk out.old out.new result.status
+    ensures { IsVerified D.Disk O.Sink (by_checkpoints disk None K.book) result.disk (printed_as out.old out.new result.status)
         ⊎ IsNotOpened D.Disk O.Sink (by_checkpoints disk None K.book) result.disk (printed_as out.old out.new result.status) }
 {
     let archive = match open::<K, D, O>(alloc, disk, None, Depth::Checkpoints, out) {

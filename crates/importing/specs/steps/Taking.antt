@@ -5,7 +5,7 @@ use Rattle.archive_shelf.specs.Told.{Told}
 use Rattle.archive_shelf.specs.declared.fault.StoreFault.{StoreFault}
 use Rattle.capture.specs.declared.memory.Memory.{Memory}
 use Rattle.importing.specs.Imports.{IsTellable, takens_in}
-use Rattle.importing.specs.Keeping.{Keeps}
+use Rattle.importing.specs.Keeping.{Keeps, intake_of}
 use Rattle.importing.specs.Texts.{skip_line, skips_in}
 use Rattle.importing.specs.declared.tally.Tally.{Tally}
 use Rattle.warc_reader.specs.Files.{FileReading, HasGiven}
@@ -35,7 +35,7 @@ pub record HasTaken (alone : Bool) (reading : FileReading) (tally : Tally) (was 
   pub given : HasGiven reading outcomes
   pub skips : HasSkips tally outcomes
   pub tellable : IsTellable tally.refused
-  pub keeps : Keeps alone (takens_in outcomes) tally.stored tally.refused was is
+  pub keeps : Keeps alone (intake_of (takens_in outcomes) tally.stored tally.refused) was is
 
 -- and so those of all records of the file
 pub record HasTakenAll (alone : Bool) (file : List ℕ) (tally : Tally) (was is : Told) : Type 0 where
@@ -43,7 +43,7 @@ pub record HasTakenAll (alone : Bool) (file : List ℕ) (tally : Tally) (was is 
   pub import : IsImport file outcomes
   pub skips : HasSkips tally outcomes
   pub tellable : IsTellable tally.refused
-  pub keeps : Keeps alone (takens_in outcomes) tally.stored tally.refused was is
+  pub keeps : Keeps alone (intake_of (takens_in outcomes) tally.stored tally.refused) was is
 
 -- the captures of the records up to some place were stored, up to a refusal
 pub record HasBegun (alone : Bool) (file : List ℕ) (was is : Told) : Type 0 where
@@ -52,7 +52,7 @@ pub record HasBegun (alone : Bool) (file : List ℕ) (was is : Told) : Type 0 wh
   pub given : HasGiven (record { file = file; at = at }) outcomes
   pub stored : ℕ
   pub refused : Option StoreFault
-  pub keeps : Keeps alone (takens_in outcomes) stored refused was is
+  pub keeps : Keeps alone (intake_of (takens_in outcomes) stored refused) was is
 
 -- a record more was taken, or there was none, or no memory
 abbrev pub TakesNext : Bool → FileReading → Tally → Told → Told → Result Bool Memory → Type 0

@@ -1,11 +1,11 @@
 -- The archive was refused, or the gate's first connection was imported.
 use Rattle.std.proofs.Common.{refl, inl, inr}
 use Rattle.archive_volumes.proofs.ChangeLaws.{DiskLaws}
+use Rattle.command.specs.Objects.{objects_of}
 use Rattle.command.proofs.SettlingLaws.{opened_is_of}
 use Rattle.importing.proofs.ImportLaws.{imports_by}
 use Rattle.importing.proofs.importing.import.Given.{Over}
 use Rattle.importing.proofs.importing.import.Goals as goal
-use Rattle.importing.specs.Imports.{ends_of}
 
 disk_laws : (g : Over) → DiskLaws g.D.Disk
 disk_laws g = record { earlier = g.met.D.Disk.earlier; now_counts = g.met.D.Disk.now_counts; now_only = g.met.D.Disk.now_only }
@@ -23,7 +23,7 @@ pub returns : goal.returns
 returns g c =
     let opened = rw c.asked_of.ensures at c.in-Ok.ensures.opened in
     inl (imports_by g.D.Disk g.G.Gate g.O.Sink g.G.Link.Link.tells (disk_laws g) _
-    (ends_of c.args.disk c.args.gate.now c.args.out.now) (ends_of c.close.result c.import_first-status.new.gate c.import_first-status.new.out)
+    (objects_of c.args.disk c.args.gate.now tt c.args.out.now) (objects_of c.close.result c.import_first-status.new.gate tt c.import_first-status.new.out)
     c.open.new.out c.import_first-status.result c.in-Ok.archive c.import_first-status.new.shelf g.K.Known.book
     opened (opened_is_of g.D.Disk c.args.disk _ g.K.Known.book c.requires.known c.in-Ok.archive opened.is) c.close.ensures.disk
     c.in-Ok.ensures.prints_nothing c.close.ensures.near c.import_first-status.ensures)

@@ -1,5 +1,6 @@
 -- The place at which no record stands, or want of memory.
 use Rattle.std.proofs.Common.{refl, subst, inl, inr}
+use Rattle.command.specs.Printing.{printed_as}
 use Rattle.importing.proofs.ImportLaws.{broke_off}
 use Rattle.importing.proofs.importing.tell_no_file.Goals as goal
 use Rattle.warc_reader.specs.Files.{IsFileFault}
@@ -15,7 +16,7 @@ returns-in-Ok g c file stored refused is =
 
 pub returns-in-Err : goal.returns-in-Err
 returns-in-Err g c file stored refused is =
-    broke_off g.O.Sink file stored refused c.args.out.now c.args.out.now _ (record { status_is = refl; same = refl })
+    broke_off g.O.Sink file stored refused (printed_as c.args.out.now c.args.out.now _) (record { status_is = refl; same = refl })
 
 pub returns-in-Memory : goal.returns-in-Memory
-returns-in-Memory g c file stored refused is = broke_off g.O.Sink file stored refused c.args.out.now c.args.out.now _ (record { status_is = refl; same = refl })
+returns-in-Memory g c file stored refused is = broke_off g.O.Sink file stored refused (printed_as c.args.out.now c.args.out.now _) (record { status_is = refl; same = refl })

@@ -2,6 +2,7 @@
 use Rattle.std.proofs.Common.{refl, inl}
 use Rattle.archive_volumes.proofs.ChangeLaws.{DiskLaws}
 use Rattle.command.proofs.SettlingLaws.{opened_is_of}
+use Rattle.command.specs.Objects.{objects_of}
 use Rattle.proxy_run.proofs.FollowsLaws.{follows_by}
 use Rattle.proxy_run.proofs.replicating.follow.Given.{Over}
 use Rattle.proxy_run.proofs.replicating.follow.Goals as goal
@@ -12,8 +13,8 @@ disk_laws g = record { earlier = g.met.D.Disk.earlier; now_counts = g.met.D.Disk
 pub returns : goal.returns
 returns g c =
     let opened = rw c.asked_of.ensures at c.in-Ok.ensures.opened in
-    inl (follows_by g.D.Disk g.K.Known.book g.N.Dialer g.O.Sink g.N.Link.Link.tells (disk_laws g) _ c.args.site.now c.args.disk c.close.result c.args.member.now _ c.args.out.now
-    c.open.new.out c.follow_site-status.new.out c.follow_site-status.result c.in-Ok.archive c.follow_site-status.new.archive
+    inl (follows_by g.D.Disk g.N.Dialer g.O.Sink g.N.Link.Link.tells g.K.Known.book (disk_laws g) _ c.args.site.now (objects_of c.args.disk tt c.args.member.now c.args.out.now)
+    (objects_of c.close.result tt _ c.follow_site-status.new.out) c.open.new.out c.follow_site-status.result c.in-Ok.archive c.follow_site-status.new.archive
     opened (opened_is_of g.D.Disk c.args.disk _ g.K.Known.book c.requires.known c.in-Ok.archive opened.is) c.close.ensures.disk c.in-Ok.ensures.prints_nothing
     c.close.ensures.near c.follow_site-status.ensures refl)
 

@@ -48,9 +48,9 @@ returns-in-Ok-new g c =
     } in
     let served = c.serve_named.ensures known asked c.args.disk c.in-Ok.archive
     (rw c.asked_of.ensures at c.in-Ok.ensures.opened) name in
-    inl (subst (λ n. Serves kinds known asked c.args.service.site.now n (objects_of c.args.disk c.args.gate.now c.args.crew.now.items c.args.out.now) is c.serve_named.result.status)
+    inl (subst (λ n. Serves kinds known (record { asked = asked; site = c.args.service.site.now; workers = n }) (objects_of c.args.disk c.args.gate.now c.args.crew.now.items c.args.out.now) is c.serve_named.result.status)
     c.in-Ok-new.ensures.passes
-    (subst (λ o. Serves kinds known asked c.args.service.site.now c.in-Ok-new.unnamed.passes (objects_of c.args.disk c.args.gate.now c.args.crew.now.items o) is c.serve_named.result.status)
+    (subst (λ o. Serves kinds known (record { asked = asked; site = c.args.service.site.now; workers = c.in-Ok-new.unnamed.passes }) (objects_of c.args.disk c.args.gate.now c.args.crew.now.items o) is c.serve_named.result.status)
     c.in-Ok.ensures.prints_nothing served))
 
 pub returns-in-Err-new : goal.returns-in-Err-new

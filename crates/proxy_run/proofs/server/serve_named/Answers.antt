@@ -2,6 +2,7 @@
 use Rattle.std.proofs.Common.{◌≡◌, drop, vec_len, sym, ap, subst, arith}
 use Rattle.archive_core.specs.Holdings.{contents_of}
 use Rattle.command.specs.Objects.{kinds_of, objects_of}
+use Rattle.command.specs.Printing.{printed_as}
 use Rattle.proxy_run.specs.Serves.{Serves, TellsCount}
 use Rattle.proxy_run.specs.steps.Seating.{IsNameOf}
 use Rattle.proxy_run.proofs.VaultSeats.{serves_over}
@@ -16,11 +17,11 @@ returns g c = λ known asked disk before opened name.
     let starts = c.named-vault.result.1 in
     let many : vec_len starts ≡ g.J.Naming.vault.passes = omega (arith, starts.ok.0, c.named-vault.ensures.passes.count) in
     let left = c.close_all-archive.result in
-    subst (λ v. Serves kinds known asked c.args.site.now v.passes was is c.settle_and_close.result.status) (sym c.requires.name)
+    subst (λ v. Serves kinds known (record { asked = asked; site = c.args.site.now; workers = v.passes }) was is c.settle_and_close.result.status) (sym c.requires.name)
     (serves_over kinds known asked c.args.site.now was is g.J.Naming.vault starts.items c.serve_by-said.new.passes.items before left opened
     (subst (λ v. IsNameOf v (contents_of before) (g.D.Disk.faults (disk_of before.journal))) c.requires.name name) c.named-vault.ensures.passes c.serve_by-said.ensures.members
     c.serve_by-said.result (λ t u. c.serve_by-said.ensures.serves t u) c.serve_by-said.ensures.ended c.close_all-archive.ensures c.tell_count-counted.result
-    (subst (λ n. TellsCount g.O.Sink n c.serve_by-said.result c.args.out.now c.tell_count-counted.new.out c.tell_count-counted.result)
+    (subst (λ n. TellsCount g.O.Sink n c.serve_by-said.result (printed_as c.args.out.now c.tell_count-counted.new.out c.tell_count-counted.result))
     (ap (λ k. k.captures) c.counts.ensures) c.tell_count-counted.ensures)
     c.settle_and_close.result.status c.settle_and_close.ensures.closed c.settle_and_close.ensures.near
     (subst (λ n. drop n c.serve_by-said.new.crew.items ≡ drop n c.args.crew.now.items) many c.serve_by-said.ensures.same_others))

@@ -6,19 +6,19 @@ use Rattle.proxy_run.proofs.serving.serve_first.Goals as goal
 
 pub returns-in-Err-clause-serves : goal.returns-in-Err-clause-serves
 returns-in-Err-clause-serves g c t u =
-    inr (none_gained (told_around g.G.Gate g.N.Dialer g.C.Clock c.args.gate.now c.args.member.now) _ _ _ _ _ tt refl, refl)
+    inr (tt, none_gained (told_around g.G.Gate g.N.Dialer g.C.Clock c.args.gate.now c.args.member.now) _ refl, refl)
 
 pub returns-in-Connection-clause-serves : goal.returns-in-Connection-clause-serves
 returns-in-Connection-clause-serves g c t u = inl (c.serve_link.ensures.serves t u (g.G.Gate.connections c.args.gate.now) (c.in-Connection.ensures.gives t))
 
 pub returns-in-Closed-clause-serves : goal.returns-in-Closed-clause-serves
 returns-in-Closed-clause-serves g c t u =
-    inr (none_gained (told_around g.G.Gate g.N.Dialer g.C.Clock c.args.gate.now c.args.member.now) _ _ _ _ _ (c.in-Closed.ensures.was_closed t) (c.in-Closed.ensures.gives t), refl)
+    inr (c.in-Closed.ensures.was_closed t, none_gained (told_around g.G.Gate g.N.Dialer g.C.Clock c.args.gate.now c.args.member.now) _ (c.in-Closed.ensures.gives t), refl)
 
 pub returns-in-Failed-clause-serves : goal.returns-in-Failed-clause-serves
 returns-in-Failed-clause-serves g c t u =
-    inr (none_gained (told_around g.G.Gate g.N.Dialer g.C.Clock c.args.gate.now c.args.member.now) _ _ _ _ _ c.in-Failed.ensures.counts.1 (c.in-Failed.ensures.gives t), refl)
+    inr (c.in-Failed.ensures.counts.1, none_gained (told_around g.G.Gate g.N.Dialer g.C.Clock c.args.gate.now c.args.member.now) _ (c.in-Failed.ensures.gives t), refl)
 
 pub returns-clause-serves : goal.returns-clause-serves
 returns-clause-serves g c t u =
-    inr (none_gained (told_around g.G.Gate g.N.Dialer g.C.Clock c.args.gate.now c.args.member.now) _ _ _ _ _ tt (c.in-Memory.ensures.gives t), refl)
+    inr (tt, none_gained (told_around g.G.Gate g.N.Dialer g.C.Clock c.args.gate.now c.args.member.now) _ (c.in-Memory.ensures.gives t), refl)
