@@ -7,12 +7,12 @@ use Rattle.http_head.specs.Heads.{HoldsResponse, HoldsResponseParts, named_value
 use Rattle.http_head.specs.declared.head.Field.{Field}
 use Rattle.http_head.specs.declared.head.ResponseHead.{ResponseHead}
 use Rattle.replay_answer.specs.Bodies.{IsBody}
-use Rattle.replay_answer.specs.Mementos.{IsMemento, Parts, answer_rest, capture_lines, parts_in, parts_of}
+use Rattle.replay_answer.specs.Mementos.{IsMemento, Parts, answer_rest, capture_lines, delivery_of, parts_in, parts_of}
 
 same_parts : (text : List ℕ) (h : grammar.ResponseHead) (head : ResponseHead) → HoldsResponseParts text h head → parts_in head ≡ parts_of h
 same_parts text h head is = λ i. record { status = is.status i; reason = is.reason i; fields = is.fields i }
 
-pub is_memento : (base : List ℕ) (capture : Brought) (raw answers_head closes : Bool) (head : ResponseHead) (fields : List Field) (body shown o0 o1 o2 text : List ℕ) → HoldsResponse capture.head head → fields ≡ head.fields → IsBody base capture raw (map named_value fields) shown → body ≡ shown → o0 ≡ [] → o1 ≡ o0 ++ capture_lines base capture raw (parts_in head) → o2 ≡ o1 ++ answer_rest head.status answers_head closes body → text ≡ o2 → IsMemento base capture raw answers_head closes text
+pub is_memento : (base : List ℕ) (capture : Brought) (raw answers_head closes : Bool) (head : ResponseHead) (fields : List Field) (body shown o0 o1 o2 text : List ℕ) → HoldsResponse capture.head head → fields ≡ head.fields → IsBody base capture raw (map named_value fields) shown → body ≡ shown → o0 ≡ [] → o1 ≡ o0 ++ capture_lines base capture raw (parts_in head) → o2 ≡ o1 ++ answer_rest head.status answers_head closes body → text ≡ o2 → IsMemento base capture (delivery_of raw answers_head closes) text
 is_memento base capture raw answers_head closes head fields body shown o0 o1 o2 text holds of_head given is_shown h0 h1 h2 h3 =
     let h = holds.0 in
     let is = holds.1 in

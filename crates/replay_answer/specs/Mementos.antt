@@ -54,11 +54,20 @@ answer_rest status answers_head closes body =
 abbrev pub IsHead : List ℕ → Type 0
 IsHead text = (head : grammar.ResponseHead) × IsResponseHeadText text head
 
--- the memento of a capture, by the base of the site: whether the capture is given as it was received, whether HEAD is
--- answered, and whether the connection closes
-pub record IsMemento (base : List ℕ) (capture : Brought) (raw answers_head closes : Bool) (text : List ℕ) : Type 0 where
+-- how a capture is delivered: whether it is given as it was received, whether HEAD is answered, and whether the connection closes
+pub record Delivery : Type 0 where
+  pub raw : Bool
+  pub answers_head : Bool
+  pub closes : Bool
+
+abbrev pub delivery_of : (raw answers_head closes : Bool) → Delivery
+delivery_of raw answers_head closes = record { raw = raw; answers_head = answers_head; closes = closes }
+
+-- the memento of a capture, by the base of the site
+pub record IsMemento (base : List ℕ) (capture : Brought) (delivery : Delivery) (text : List ℕ) : Type 0 where
   pub head : grammar.ResponseHead
   pub read : IsResponseHeadText capture.head head
   pub body : List ℕ
-  pub given : IsBody base capture raw (named_values head.fields) body
-  pub whole : text ≡ capture_lines base capture raw (parts_of head) ++ answer_rest (grammar.status_code head) answers_head closes body
+  pub given : IsBody base capture delivery.raw (named_values head.fields) body
+  pub whole : text ≡ capture_lines base capture delivery.raw (parts_of head)
+      ++ answer_rest (grammar.status_code head) delivery.answers_head delivery.closes body

@@ -2,7 +2,7 @@
 ghost use Rattle.std.specs.Prelude.{◌≡◌, ◌++◌, IfOk, OnOk, unwrap_or};
 ghost use Rattle.time_text.specs.Texts.{InRange};
 ghost use Rattle.http_head.specs.Heads.{HoldsResponse};
-ghost use Rattle.replay_answer.specs.Mementos.{IsHead, IsMemento, answer_rest, capture_lines, parts_in, sent_body};
+ghost use Rattle.replay_answer.specs.Mementos.{IsHead, IsMemento, answer_rest, capture_lines, delivery_of, parts_in, sent_body};
 
 use crate::body::page_of;
 use crate::fields::put_fields;
@@ -37,7 +37,7 @@ pub fn memento(
 ) -> Result<Bytes, Memory>
     requires head { IsHead brought.now.head }
     requires in_range { InRange brought.now.date }
-    ensures { IfOk result (IsMemento site.now.base brought.now raw answers_head closes) }
+    ensures { IfOk result (IsMemento site.now.base brought.now (delivery_of raw answers_head closes)) }
 {
     let head = head_of(alloc, brought)?;
     let replay = Replay {

@@ -41,7 +41,7 @@ use Rattle.html_rewrite.specs.Links.{archive_prefix, link, page_url}
 use Rattle.html_rewrite.specs.declared.page.TheConstants.{PAGE_LIMIT}
 use Rattle.http_wire.proofs.OneHead.{one_parse}
 use Rattle.replay_answer.specs.Bodies.{IsBody, IsPageBody, is_rewritten}
-use Rattle.replay_answer.specs.Mementos.{IsMemento, answer_rest, capture_lines, parts_of}
+use Rattle.replay_answer.specs.Mementos.{Delivery, IsMemento, answer_rest, capture_lines, parts_of}
 use Rattle.replay_url.proofs.OneForm.{one_form}
 use Rattle.replay_url.specs.Address.{Parts, Numbered, Shipped, Mapped, Queried, Timed, Modified, Open, Outside, parts_at}
 use Rattle.replay_url.specs.Forms.{BadTimeAt, IsForm, NoFormAt}
@@ -466,23 +466,23 @@ body_by : OneSplit → (base : List ℕ) (capture : Brought) (rewritten : Bool) 
 body_by one base capture true a b h k = page_once one base capture a b h k
 body_by one base capture false a b h k = h ∙ sym k
 
-memento_once : OneSplit → (base : List ℕ) (capture : Brought) (raw answers closes : Bool) (a b : List ℕ) → IsMemento base capture raw answers closes a
-    → IsMemento base capture raw answers closes b → a ≡ b
-memento_once one base capture raw answers closes a b h k =
+memento_once : OneSplit → (base : List ℕ) (capture : Brought) (delivery : Delivery) (a b : List ℕ) → IsMemento base capture delivery a
+    → IsMemento base capture delivery b → a ≡ b
+memento_once one base capture delivery a b h k =
     let head : h.head ≡ k.head = one_parse capture.head h.head k.head h.read k.read in
-    let given : IsBody base capture raw (named_values k.head.fields) h.body =
-    subst (λ (g : grammar.ResponseHead). IsBody base capture raw (named_values g.fields) h.body) head h.given in
-    let body : h.body ≡ k.body = body_by one base capture (is_rewritten raw (named_values k.head.fields)) h.body k.body given k.given in
+    let given : IsBody base capture delivery.raw (named_values k.head.fields) h.body =
+    subst (λ (g : grammar.ResponseHead). IsBody base capture delivery.raw (named_values g.fields) h.body) head h.given in
+    let body : h.body ≡ k.body = body_by one base capture (is_rewritten delivery.raw (named_values k.head.fields)) h.body k.body given k.given in
     h.whole
-    ∙ ap (λ (g : grammar.ResponseHead). capture_lines base capture raw (parts_of g) ++ answer_rest (grammar.status_code g) answers closes h.body) head
-    ∙ ap (λ (t : List ℕ). capture_lines base capture raw (parts_of k.head) ++ answer_rest (grammar.status_code k.head) answers closes t) body
+    ∙ ap (λ (g : grammar.ResponseHead). capture_lines base capture delivery.raw (parts_of g) ++ answer_rest (grammar.status_code g) delivery.answers_head delivery.closes h.body) head
+    ∙ ap (λ (t : List ℕ). capture_lines base capture delivery.raw (parts_of k.head) ++ answer_rest (grammar.status_code k.head) delivery.answers_head delivery.closes t) body
     ∙ sym k.whole
 
 pub text_once : OneSplit → (terms : Terms) (q : SiteRequest) (reply : SiteReply) (closes : Bool) (a b : List ℕ) → IsSiteText terms q reply closes a
     → IsSiteText terms q reply closes b → a ≡ b
 text_once one terms q (Refuses refusal) closes a b h k = h ∙ sym k
 text_once one terms q (Redirects sought entry) closes a b h k = h ∙ sym k
-text_once one terms q (Replays question brought) closes a b h k = memento_once one terms.site.base brought _ _ closes a b h k
+text_once one terms q (Replays question brought) closes a b h k = memento_once one terms.site.base brought _ a b h k
 text_once one terms q (Lists url entries) closes a b h k = h ∙ sym k
 text_once one terms q (Finds query found) closes a b h k = h ∙ sym k
 text_once one terms q (Ships number piece) closes a b h k = h ∙ sym k

@@ -22,7 +22,7 @@ use Rattle.head_lines.specs.declared.status.Status.TheVariants as status
 use Rattle.httparse.specs.Ascii.{crlf_bytes}
 use Rattle.http_head.specs.Heads.{named_value}
 use Rattle.http_head.specs.declared.head.RequestMessage.{RequestMessage}
-use Rattle.replay_answer.specs.Mementos.{IsMemento}
+use Rattle.replay_answer.specs.Mementos.{IsMemento, delivery_of}
 use Rattle.replay_url.specs.Forms.{IsForm, IsFault}
 use Rattle.replay_url.specs.Questions.{NamedTime, Nearest, Question, ForNearest, ForAll, ForQuery, ForNumber, ForPiece, asked_url, is_as_received, is_by_gate, names_date, question_of}
 use Rattle.replay_url.specs.declared.fault.FormFault.TheVariants as form_fault
@@ -280,7 +280,7 @@ IsSiteText terms q (Refuses refusal) closes text = text ≡ refusal_text refusal
 IsSiteText terms q (Redirects sought entry) closes text =
     text ≡ redirect_text terms.site.base sought.url entry sought.raw (is_by_gate sought) closes
 IsSiteText terms q (Replays question brought) closes text =
-    IsMemento terms.site.base brought (is_as_received question) (answers_head q) closes text
+    IsMemento terms.site.base brought (delivery_of (is_as_received question) (answers_head q) closes) text
 IsSiteText terms q (Lists url entries) closes text =
     text ≡ found_text link_format (timemap_text terms.site.base url entries) (answers_head q) closes
 IsSiteText terms q (Finds query found) closes text = text ≡ found_text (media_type_of query.json) found (answers_head q) closes

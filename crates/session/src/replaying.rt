@@ -3,7 +3,7 @@ ghost use Rattle.std.specs.Prelude.{◌≡◌, Bool, IfOk};
 ghost use Rattle.archive_shelf.specs.Told.{GoesOn, LooksOn};
 ghost use Rattle.archive_shelf.specs.Answers.{IsReplayable};
 ghost use Rattle.capture.specs.Methods.{asks_for_head as is_head};
-ghost use Rattle.replay_answer.specs.Mementos.{IsMemento};
+ghost use Rattle.replay_answer.specs.Mementos.{IsMemento, delivery_of};
 ghost use Rattle.replay_url.specs.Questions.{by_memento};
 ghost use Rattle.replay_url.specs.declared.form.Form.TheVariants.{Number as TheNumber};
 ghost use Rattle.session.specs.steps.Answering.{AnswersVisit};
@@ -76,8 +76,8 @@ pub fn replay_found<S: Shelf>(
 /// The answer that replays a capture, as it was received or for a reader of the archive.
 fn replay(alloc: Global, visit: Visit, brought: &Brought, raw: bool) -> Result<Answer, Memory>
     requires { IsReplayable brought.now }
-    ensures text { IfOk result (λ answer. IsMemento visit.entry.site.now.base brought.now raw
-        (is_head visit.entry.message.now.head.method) visit.entry.closes answer.text) }
+    ensures text { IfOk result (λ answer. IsMemento visit.entry.site.now.base brought.now
+        (delivery_of raw (is_head visit.entry.message.now.head.method) visit.entry.closes) answer.text) }
     ensures closes { IfOk result (λ answer. answer.closes ≡ visit.entry.closes) }
 {
     let text = memento(
