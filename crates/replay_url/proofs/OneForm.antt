@@ -3,7 +3,7 @@ use Rattle.std.proofs.Common.{◌≡◌, ℕ, Bool, List, sym, ◌∙◌, arith}
 use Rattle.std.proofs.lemmas.Fmt.{decimal_injective}
 use Rattle.time_text.specs.Reading.{IsEarliest}
 use Rattle.replay_url.specs.Address.{Parts, Numbered, Shipped, Mapped, Queried, Timed, Modified, Open, Outside}
-use Rattle.replay_url.specs.Forms.{FormAt, IsNumber, IsMemento}
+use Rattle.replay_url.specs.Forms.{FormAt, IsNumber}
 use Rattle.replay_url.specs.ReadBack.{AddressesHaveOneForm}
 use Rattle.replay_url.specs.declared.form.Form.{Form}
 use Rattle.replay_url.specs.declared.form.Form.TheVariants.{Memento, Gate, Map, Query, Number, Ship}
@@ -22,12 +22,13 @@ one_time : (digits : List ℕ) (a b : ℕ) → IsEarliest digits a → IsEarlies
 one_time digits a b h k = omega (arith, h.earliest b k.named, k.earliest a h.named)
 
 one_memento : (digits : List ℕ) (is_raw : Bool) (text : List ℕ) (time count t c : ℕ) (raw r : Bool) (url other : List ℕ)
-    → IsMemento digits is_raw text time count raw url → IsMemento digits is_raw text t c r other → Memento time count raw url ≡ Memento t c r other
+    → FormAt (Timed digits is_raw text) (Memento time count raw url) → FormAt (Timed digits is_raw text) (Memento t c r other)
+    → Memento time count raw url ≡ Memento t c r other
 one_memento digits is_raw text time count t c raw r url other h k =
-    let times : time ≡ t = one_time digits time t h.timed k.timed in
-    let counts : count ≡ c = h.counted ∙ sym k.counted in
-    let raws : raw ≡ r = h.rawness ∙ sym k.rawness in
-    let urls : url ≡ other = h.of_url.value ∙ sym k.of_url.value in
+    let times : time ≡ t = one_time digits time t h.0 k.0 in
+    let counts : count ≡ c = h.1 ∙ sym k.1 in
+    let raws : raw ≡ r = h.2 ∙ sym k.2 in
+    let urls : url ≡ other = h.3.value ∙ sym k.3.value in
     cc
 
 one_map : (url other : List ℕ) → url ≡ other → Map url ≡ Map other

@@ -21,7 +21,7 @@ read_back digits (Memento time count raw url) can told =
     let counted = digits_counted time count can.1 in
     let some : 1 ≤ length text = omega (arith, counted, digits_some count can.1) in
     let parts = memento_parts text url raw (are_digits text (digits time count can.0)) some in
-    subst (λ (p : Parts). FormAt p (Memento time count raw url)) (sym parts) (record { timed = told.earliest; counted = counted; rawness = refl; of_url = its_url url told.alone })
+    subst (λ (p : Parts). FormAt p (Memento time count raw url)) (sym parts) (told.earliest, counted, refl, its_url url told.alone)
 read_back digits (Gate url) can told =
     subst (λ (p : Parts). FormAt p (Gate url)) (sym (gate_parts url told.schemed)) (its_url url told)
 read_back digits (Map url) can told =

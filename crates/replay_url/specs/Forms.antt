@@ -19,25 +19,19 @@ pub record IsUrl (text url : List ℕ) : Type 0 where
 abbrev pub IsNoUrl : List ℕ → Type 0
 IsNoUrl text = key_of (url_of text) ≡ None
 
--- a memento, by its time in digits, whether it is raw, and its URL
-pub record IsMemento (digits : List ℕ) (is_raw : Bool) (text : List ℕ) (time count : ℕ) (raw : Bool) (url : List ℕ) : Type 0 where
-  pub timed : IsEarliest digits time
-  pub counted : count ≡ length digits
-  pub rawness : raw ≡ is_raw
-  pub of_url : IsUrl text url
-
 -- a number in decimal, without a sign or leading zeros
 pub record IsNumber (text : List ℕ) (number : ℕ) : Type 0 where
   pub fits : number < 2 ^ 32
   pub digits : text ≡ decimal number
 
--- the form of an address
+-- the form of an address; that of a memento has the time that its digits name, how many these are, and whether it is raw
 abbrev pub FormAt : Parts → Form → Type 0
 FormAt (Numbered text) (Number number) = IsNumber text number
 FormAt (Shipped text) (Ship number) = IsNumber text number
 FormAt (Mapped text) (Map url) = IsUrl text url
 FormAt (Queried text) (Query asked) = asked ≡ text
-FormAt (Timed digits is_raw text) (Memento time count raw url) = IsMemento digits is_raw text time count raw url
+FormAt (Timed digits is_raw text) (Memento time count raw url) =
+    IsEarliest digits time × (count ≡ length digits) × (raw ≡ is_raw) × IsUrl text url
 FormAt (Open text) (Gate url) = IsUrl text url
 FormAt (Numbered text) _ = ⊥
 FormAt (Shipped text) _ = ⊥

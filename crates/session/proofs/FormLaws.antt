@@ -32,7 +32,7 @@ formed (Numbered text) (Number n) h none = absurd (none n h)
 formed (Shipped text) (Ship n) h none = absurd (none n h)
 formed (Mapped text) (Map url) h none = has_key text url h none
 formed (Queried text) (Query asked) h none = absurd none
-formed (Timed digits is_raw text) (Memento time count raw url) h none = has_key text url h.of_url none.2
+formed (Timed digits is_raw text) (Memento time count raw url) h none = has_key text url h.3 none.2
 formed (Open text) (Gate url) h none = has_key text url h none
 formed (Numbered text) (Ship n) h none = absurd h
 formed (Numbered text) (Map url) h none = absurd h
@@ -68,7 +68,7 @@ formed Modified form h none = absurd h
 formed Outside form h none = absurd h
 
 pub timed : {P : Type 0} (parts : Parts) (form : Form) → FormAt parts form → BadTimeAt parts → P
-timed (Timed digits is_raw text) (Memento time count raw url) h bad = absurd (bad time h.timed.named)
+timed (Timed digits is_raw text) (Memento time count raw url) h bad = absurd (bad time h.0.named)
 timed (Timed digits is_raw text) (Number n) h bad = absurd h
 timed (Timed digits is_raw text) (Ship n) h bad = absurd h
 timed (Timed digits is_raw text) (Map url) h bad = absurd h
