@@ -157,9 +157,9 @@ pipes_one_way kinds entries one ends known namespace was is other status end pip
       served = refl;
       bytes = sym mine.given ∙ same.bytes ∙ its.given;
       times = append_cancel_left (kinds.clocks.answers was.crew.1) (gains_of mine.rounds).times (gains_of its.rounds).times
-          (sym (mine.gained.around.asked clock_tells a.clock) ∙ same.times ∙ its.gained.around.asked clock_tells b.clock);
+          (sym (mine.gained.asked clock_tells a.clock) ∙ same.times ∙ its.gained.asked clock_tells b.clock);
       transcripts = append_cancel_left (kinds.dialers.links was.crew.0).log (gains_of mine.rounds).transcripts (gains_of its.rounds).transcripts
-          (sym (ap (λ (l : Links Transcript). l.log) mine.gained.around.logged) ∙ same.transcripts ∙ ap (λ (l : Links Transcript). l.log) its.gained.around.logged);
+          (sym (ap (λ (l : Links Transcript). l.log) mine.gained.logged) ∙ same.transcripts ∙ ap (λ (l : Links Transcript). l.log) its.gained.logged);
     }) in
     let alike = ends pipe_site first second (seen_by kinds (record is { disk = was.disk }) (contents_of piped.after))
     (seen_by kinds (record other { disk = was.disk }) (contents_of also.after))

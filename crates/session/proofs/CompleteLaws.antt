@@ -5,6 +5,7 @@ use Rattle.std.specs.Prelude.{MatchBool}
 use Rattle.capture.specs.Faults.{RoseBy}
 use Rattle.capture.specs.Final.{Arrival, Arrived, IsArrival}
 use Rattle.capture.specs.Final as final
+use Rattle.capture.specs.Methods.{asks_for_head}
 use Rattle.capture.specs.First.{First, Message, Refused as RefusedFirst, HeadNeeded, BodyNeeded}
 use Rattle.capture.specs.declared.framing.MessageFault.{MessageFault}
 use Rattle.capture.specs.declared.framing.MessageFault.TheVariants as message_fault
@@ -16,8 +17,8 @@ use Rattle.http_head.specs.declared.head.Received.{Received}
 use Rattle.outside.specs.declared.dialer.Transcript.{Transcript}
 use Rattle.http_wire.specs.Decisions.{ArrivalsAreOne}
 use Rattle.session.specs.Complete.{IsFaultless, GaveResponse, CanBePassedOn, GetsResponse, ResponsesArePassedOn}
-use Rattle.session.specs.Exchanges.{Exchange, Reply, Fails, Passes, IsFailure, IsReply, answers_head, reply_text}
-use Rattle.session.specs.Rounds.{Round, Outcome, Exchanged, IsRound, IsDecided, IsTextOf, closes_exchange, is_origin_fault, is_disk_fault, origin_fault, disk_fault, numbers_by}
+use Rattle.session.specs.Exchanges.{Exchange, Reply, Fails, Passes, IsFailure, IsReply}
+use Rattle.session.specs.Rounds.{Round, Outcome, Exchanged, IsRound, IsDecided, IsTextOf, is_disk_fault, origin_fault, disk_fault, numbers_by}
 use Rattle.session.specs.Traces.{Terms, Traces, CountsMet}
 
 -- ---- faults
@@ -44,7 +45,7 @@ came_cut final.TooManyInterim = None
 -- what such a stream came to
 record Came (e : Exchange) (cut : Bool) (t : Transcript) : Type 0 where
   pub arrival : Arrival
-  pub is : IsArrival (answers_head e) t.ended t.given arrival
+  pub is : IsArrival (asks_for_head e.message.head.method) t.ended t.given arrival
   pub cut_is : came_cut arrival ≡ Some cut
 
 came : (e : Exchange) (cut : Bool) (t : Transcript) → GaveResponse e cut t → Came e cut t
@@ -53,10 +54,10 @@ came e true t (behind, is, met) = record { arrival = Arrived behind BodyNeeded; 
 
 -- it came to nothing else
 came_once : (e : Exchange) (cut : Bool) (t : Transcript) (other : Arrival) → ArrivalsAreOne → GaveResponse e cut t
-    → IsArrival (answers_head e) t.ended t.given other → came_cut other ≡ Some cut
+    → IsArrival (asks_for_head e.message.head.method) t.ended t.given other → came_cut other ≡ Some cut
 came_once e cut t other once gave is =
     let h : Came e cut t = came e cut t gave in
-    subst (λ (a : Arrival). came_cut a ≡ Some cut) (once (answers_head e) t.ended t.given h.arrival other h.is is) h.cut_is
+    subst (λ (a : Arrival). came_cut a ≡ Some cut) (once (asks_for_head e.message.head.method) t.ended t.given h.arrival other h.is is) h.cut_is
 
 came_not : {P : Type 0} (cut : Bool) → None ≡ Some cut → P
 came_not cut e = let bad : ⊥ = cc in absurd bad
@@ -65,20 +66,20 @@ just_cut : (b cut : Bool) → Some b ≡ Some cut → b ≡ cut
 just_cut b cut e = cc
 
 head_needed_not : {P : Type 0} (e : Exchange) (cut : Bool) (t : Transcript) → ArrivalsAreOne → GaveResponse e cut t
-    → ComesTo (answers_head e) t.ended t.given HeadNeeded → P
+    → ComesTo (asks_for_head e.message.head.method) t.ended t.given HeadNeeded → P
 head_needed_not e cut t once gave (at, other) = came_not cut (came_once e cut t (Arrived at HeadNeeded) once gave other)
 
 refusal_not : {P : Type 0} (e : Exchange) (cut : Bool) (t : Transcript) (fault : MessageFault) → ArrivalsAreOne → GaveResponse e cut t
-    → ComesTo (answers_head e) t.ended t.given (RefusedFirst fault) → P
+    → ComesTo (asks_for_head e.message.head.method) t.ended t.given (RefusedFirst fault) → P
 refusal_not e cut t fault once gave (at, other) = came_not cut (came_once e cut t (Arrived at (RefusedFirst fault)) once gave other)
 
 interims_not : {P : Type 0} (e : Exchange) (cut : Bool) (t : Transcript) → ArrivalsAreOne → GaveResponse e cut t
-    → IsArrival (answers_head e) t.ended t.given final.TooManyInterim → P
+    → IsArrival (asks_for_head e.message.head.method) t.ended t.given final.TooManyInterim → P
 interims_not e cut t once gave other = came_not cut (came_once e cut t final.TooManyInterim once gave other)
 
 -- the response that was received is whole or cut as it came
 received_so : (e : Exchange) (cut : Bool) (t : Transcript) (received : Received) → ArrivalsAreOne → GaveResponse e cut t
-    → ArrivesWhole (answers_head e) t.ended t.given received ⊎ ArrivesCut (answers_head e) t.ended t.given received → received.cut ≡ cut
+    → ArrivesWhole (asks_for_head e.message.head.method) t.ended t.given received ⊎ ArrivesCut (asks_for_head e.message.head.method) t.ended t.given received → received.cut ≡ cut
 received_so e cut t received once gave (inl all) =
     all.whole ∙ just_cut false cut (came_once e cut t (Arrived all.behind (Message all.used)) once gave all.arrival)
 received_so e cut t received once gave (inr part) =
@@ -98,7 +99,7 @@ gave_of terms e cut traces t can only = can.gave t (only_one traces.transcripts 
 -- ---- no refusal is lawful
 
 no_failure : {P : Type 0} (terms : Terms) (e : Exchange) (cut : Bool) (refusal : Refusal) (traces : Traces) → ArrivalsAreOne → IsTrue terms.tells → IsFaultless traces
-    → CountsMet (is_origin_fault refusal) traces.before.dialer_faults traces.after.dialer_faults
+    → CountsMet (origin_fault (Exchanged e (Fails refusal))) traces.before.dialer_faults traces.after.dialer_faults
     → CountsMet (is_disk_fault refusal) traces.before.disk_faults traces.after.disk_faults
     → CanBePassedOn terms e cut traces → IsFailure terms e refusal traces → P
 no_failure terms e cut (ClockRange now) traces once tells whole origin disk can h =
@@ -144,7 +145,7 @@ pub record OfExchange (terms : Terms) (served : ℕ) (r : Round) (e : Exchange) 
   pub kept : IsTrue r.lacked → numbers_by (Exchanged e reply) r.traces.before ≡ []
   pub origin : CountsMet (origin_fault (Exchanged e reply)) r.traces.before.dialer_faults r.traces.after.dialer_faults
   pub disk : CountsMet (disk_fault (Exchanged e reply)) r.traces.before.disk_faults r.traces.after.disk_faults
-  pub text_is : IsTrue r.lacked ⊎ (r.text ≡ reply_text e reply (closes_exchange served e reply))
+  pub text_is : IsTrue r.lacked ⊎ IsTextOf terms served (Exchanged e reply) r.text
 
 by_lacked : (b : Bool) (P Q : Type 0) → MatchBool b P Q → IsTrue b ⊎ Q
 by_lacked true P Q h = inl refl

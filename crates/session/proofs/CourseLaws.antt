@@ -8,9 +8,9 @@ use Rattle.exchange.specs.Receiving.{StaysAccounted}
 use Rattle.exchange.specs.Writing.{GrowsByProperFront}
 use Rattle.outside.specs.Calls.{one_more}
 use Rattle.outside.specs.declared.gate.Heard.{Heard}
-use Rattle.session.specs.Connection.{IsConnection, Setting, terms_at}
+use Rattle.session.specs.Connection.{IsConnection, Setting}
 use Rattle.session.specs.steps.Wire.{Says}
-use Rattle.session.specs.steps.Stages.{Stage, IsRemainder, IsStep}
+use Rattle.session.specs.steps.Stages.{Stage, IsRemainder, IsStep, terms_at}
 use Rattle.session.specs.Gains.{World, gains_of}
 use Rattle.session.specs.steps.Gaining.{gains_by}
 use Rattle.session.specs.Rounds.{Round, Outcome, Undecided, Refused, Exchanged, Visited, closes, closes_outcome, course_text, course_wire, is_closed, lacks, refusal_in, refusals}

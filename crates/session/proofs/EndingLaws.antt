@@ -6,8 +6,8 @@ use Rattle.archive_shelf.specs.Laws.{BooksLeadToThemselves}
 use Rattle.capture.specs.declared.site.Site.{Site}
 use Rattle.outside.specs.Calls.{one_more}
 use Rattle.outside.specs.declared.gate.Heard.{Heard}
-use Rattle.session.specs.Connection.{Setting, Gained, terms_at, view_at}
-use Rattle.session.specs.steps.Stages.{Stage, IsRemainder}
+use Rattle.session.specs.Connection.{Setting, Gained}
+use Rattle.session.specs.steps.Stages.{Stage, IsRemainder, terms_at, view_at}
 use Rattle.session.specs.steps.Endings.{LastIsWhole, LastIsInPart, client_at, heard_now}
 use Rattle.session.specs.Gains.{World, gains_of}
 use Rattle.session.specs.steps.Gaining.{no_gains, gains_by}
@@ -84,7 +84,7 @@ no_round alone setting from now end itself h = record {
   rounds = [];
   rest = h.rest;
   accounts = λ done e. h.taken.accounts done e ∙ ap (λ x. done ++ x) (append-nil h.rest);
-  lawful = view_itself (terms_at alone setting from.world.shelf) (view_at alone setting from.world) itself;
+  lawful = view_itself (terms_at alone setting from.world.shelf) (view_at from.world) itself;
   ends = meets_end end setting.site from.served h.rest from.world.heard now h.meets (record {
     not_closed = refl;
     undecided = h.undecided;
@@ -104,7 +104,7 @@ broke_inside alone setting from now end itself h = record {
   rounds = [];
   rest = h.begun ++ h.to.pending;
   accounts = λ done e. h.broke.same_given ∙ h.taken.accounts done e;
-  lawful = view_itself (terms_at alone setting from.world.shelf) (view_at alone setting from.world) itself;
+  lawful = view_itself (terms_at alone setting from.world.shelf) (view_at from.world) itself;
   ends = (
     h.broke.broke,
     refl,

@@ -6,6 +6,7 @@ use Rattle.archive_shelf.proofs.CallLaws.{shown_itself, stays_itself, writes_not
 use Rattle.archive_shelf.specs.Contents.{Contents, Stays}
 use Rattle.archive_shelf.specs.Openings.{IsEarlier}
 use Rattle.archive_shelf.specs.Told.{Told, WritesNothing}
+use Rattle.capture.specs.Methods.{asks_for_head}
 use Rattle.capture.specs.declared.memory.Memory.{Memory}
 use Rattle.capture.specs.declared.refusal.Refusal.{Refusal}
 use Rattle.capture.specs.declared.refusal.Refusal.TheVariants.{ClockRange}
@@ -14,15 +15,16 @@ use Rattle.exchange.specs.Refusals.{refusal_text, memory_text}
 use Rattle.exchange.specs.declared.aim.Aim.TheVariants.{Origin}
 use Rattle.outside.specs.declared.dialer.Transcript.{Transcript}
 use Rattle.time_text.specs.Texts.{InRange}
+use Rattle.session.specs.steps.Stages.{terms_at}
 use Rattle.session.specs.steps.Answering.{Incoming, MakesRound}
-use Rattle.session.specs.Connection.{Setting, terms_at}
-use Rattle.session.specs.Exchanges.{Exchange, Reply, Fails, answers_head, reply_text}
+use Rattle.session.specs.Connection.{Setting}
+use Rattle.session.specs.Exchanges.{Exchange, Reply, Fails, Passes}
 use Rattle.session.specs.steps.Declining.{Refuses}
-use Rattle.session.specs.steps.Exchanging.{AnswersProxied, Around, Comes, Replies, round_of, terms_in, traces_of, view_before, IsLeft, outcome_of}
+use Rattle.session.specs.steps.Exchanging.{AnswersProxied, Around, Comes, Replies, is_cut_off, reply_text, round_of, terms_in, traces_of, view_before, IsLeft, outcome_of}
 use Rattle.session.specs.Gains.{World}
 use Rattle.session.specs.Images.{NoDeed, deed_of}
-use Rattle.session.specs.Requests.{IsAsked, IsInterim}
-use Rattle.session.specs.Rounds.{disk_fault, is_cut_off, numbers_by, origin_fault, Round, IsDecided, IsTextOf, is_from_shown, refusal_in}
+use Rattle.session.specs.Requests.{IsAsked, IsInterim, closes_after}
+use Rattle.session.specs.Rounds.{Exchanged, disk_fault, numbers_by, origin_fault, Round, IsDecided, IsTextOf, closes_outcome, is_from_shown, refusal_in}
 use Rattle.session.specs.Traces.{CountsMet, Terms}
 use Rattle.session.specs.steps.Givens.{Given}
 use Rattle.session.proofs.GainLaws.{none_met}
@@ -44,6 +46,22 @@ decided_so : (terms : Terms) (e : Exchange) (r : Round) (reply : Option Reply) �
     → IsLeft terms e r.lacked reply r.traces → IsDecided terms r (outcome_of e reply)
 decided_so terms e r None asked (lacking, out) = (lacking, inr (e, asked, out))
 decided_so terms e r (Some reply) asked by = (asked, by)
+
+-- the text of a reply, and whether the connection closes with it
+pub is_text_of : (terms : Terms) (served : ℕ) (e : Exchange) (reply : Reply) (text : List ℕ)
+    → text ≡ reply_text e reply (is_cut_off reply || closes_after served e.message.head) → IsTextOf terms served (Exchanged e reply) text
+is_text_of terms served e (Fails refusal) text h = h
+is_text_of terms served e (Passes received payload) text h = h
+
+pub text_is_of : (terms : Terms) (served : ℕ) (e : Exchange) (reply : Reply) (text : List ℕ) → IsTextOf terms served (Exchanged e reply) text
+    → text ≡ reply_text e reply (is_cut_off reply || closes_after served e.message.head)
+text_is_of terms served e (Fails refusal) text h = h
+text_is_of terms served e (Passes received payload) text h = h
+
+closes_with : (served : ℕ) (e : Exchange) (reply : Reply)
+    → (is_cut_off reply || closes_after served e.message.head) ≡ closes_outcome served (Exchanged e reply)
+closes_with served e (Fails refusal) = refl
+closes_with served e (Passes received payload) = refl
 
 unshown : (e : Exchange) (reply : Option Reply) → is_from_shown (outcome_of e reply) ≡ false
 unshown e None = refl
@@ -83,7 +101,7 @@ made alone setting e incoming lacked reply times transcripts text was is asked k
     };
     knows = λ tells from. let bad : ⊥ = cc (unshown e reply, from) in absurd bad;
     left = refl;
-    gained = record { around = record { asked = answers; logged = logged }; stored = h.stored };
+    gained = record { asked = answers; logged = logged; stored = h.stored };
     images = h.images incoming text;
   };
   unrefused = unrefused e reply;
@@ -99,8 +117,9 @@ pub comes_answers : (alone : Bool) (setting : Setting) (e : Exchange) (closes : 
 unfolding made
 comes_answers alone setting e closes (Ok answer) times transcripts was is answers logged h incoming closing asked known = record {
   makes = made alone setting e incoming false (Some h.reply) times transcripts answer.text was is asked known answers logged h.replies
-      (h.text_is ∙ ap (λ (b : Bool). reply_text e h.reply (is_cut_off h.reply || b)) closing);
-  closes_is = sym (h.closes_is ∙ ap (λ (b : Bool). is_cut_off h.reply || b) closing);
+      (is_text_of (terms_at alone setting was.shelf) incoming.served e h.reply answer.text
+      (h.text_is ∙ ap (λ (b : Bool). reply_text e h.reply (is_cut_off h.reply || b)) closing));
+  closes_is = sym (h.closes_is ∙ ap (λ (b : Bool). is_cut_off h.reply || b) closing ∙ closes_with incoming.served e h.reply);
 }
 comes_answers alone setting e closes (Err memory) times transcripts was is answers logged h incoming closing asked known =
     made alone setting e incoming true h.0 times transcripts memory_text was is asked known answers logged h.1 refl
@@ -109,7 +128,7 @@ comes_answers alone setting e closes (Err memory) times transcripts was is answe
 
 -- a refusal, whether or not there was memory for it
 pub refused_comes : (alone : Bool) (site : Site) (e : Exchange) (refusal : Refusal) (asks closes : Bool) (around : Around)
-    (result : Result Given Memory) (was is : Told) → asks ≡ answers_head e
+    (result : Result Given Memory) (was is : Told) → asks ≡ asks_for_head e.message.head.method
     → ((lacked : Bool) → Replies alone site e lacked (Some (Fails refusal)) around was is) → Refuses refusal asks closes result
     → Comes alone site e around closes result was is
 refused_comes alone site e refusal asks closes around (Ok answer) was is same h r = record {

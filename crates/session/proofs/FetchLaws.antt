@@ -4,10 +4,12 @@ use Rattle.std.proofs.lemmas.List.{append-nil}
 use Rattle.archive_shelf.proofs.CallLaws.{shown_itself}
 use Rattle.archive_shelf.specs.Openings.{IsEarlier}
 use Rattle.archive_shelf.specs.Told.{Told}
+use Rattle.capture.specs.Methods.{asks_for_head}
 use Rattle.capture.specs.declared.memory.Memory.{Memory}
 use Rattle.capture.specs.declared.refusal.Refusal.{Refusal}
 use Rattle.capture.specs.declared.refusal.Refusal.TheVariants.{DialFault, OriginFault, OriginEnded, OriginMalformed, OriginTooLong, TooManyInterim}
 use Rattle.capture.specs.declared.site.Site.{Site}
+use Rattle.exchange.specs.Texts.{forwarded}
 use Rattle.exchange.specs.Fetches.{Asking, CountsFetch, LogsFetch, LogsFetched}
 use Rattle.exchange.specs.declared.fetching.FetchFault.{FetchFault}
 use Rattle.exchange.specs.declared.fetching.FetchFault.TheVariants as fetch_fault
@@ -15,11 +17,11 @@ use Rattle.http_head.specs.declared.head.Received.{Received}
 use Rattle.outside.specs.Records.{Links}
 use Rattle.outside.specs.declared.dialer.Transcript.{Transcript}
 use Rattle.time_text.specs.Texts.{InRange}
-use Rattle.session.specs.Exchanges.{Exchange, Fails, IsFailure, WentInVain, answers_head, asking_of, sent_of}
+use Rattle.session.specs.Exchanges.{Exchange, Fails, IsFailure, WentInVain, asking_of}
 use Rattle.session.specs.steps.Declining.{Declines, Refuses, refusal_by_fetch}
 use Rattle.session.specs.steps.Exchanging.{Around, Asks, terms_in, traces_of}
 use Rattle.session.specs.Images.{NoDeed, deed_of_failure}
-use Rattle.session.specs.Rounds.{is_disk_fault, is_origin_fault}
+use Rattle.session.specs.Rounds.{Exchanged, is_disk_fault, origin_fault}
 use Rattle.session.specs.Traces.{CountsMet}
 use Rattle.session.specs.steps.Givens.{Given}
 use Rattle.session.proofs.ExchangeLaws.{lacking_comes, refused_comes, untouched}
@@ -35,12 +37,12 @@ pub same_log : (old new : Links Transcript) → new ≡ old → new ≡ record o
 same_log old new e = e ∙ ap (λ (l : List Transcript). record old { log = l }) (sym (append-nil old.log))
 
 -- what was asked of the origin, by its parts
-asking_is : (e : Exchange) (request : List ℕ) (asks : Bool) → request ≡ sent_of e → asks ≡ answers_head e
+asking_is : (e : Exchange) (request : List ℕ) (asks : Bool) → request ≡ forwarded e.message e.target → asks ≡ asks_for_head e.message.head.method
     → record { target = e.target; request = request; answers_head = asks } ≡ asking_of e
 asking_is e request asks sent same = λ i. record { target = e.target; request = sent i; answers_head = same i }
 
 pub as_asked : (e : Exchange) (request : List ℕ) (asks : Bool) (outcome : Result Received FetchFault) (old new : Links Transcript)
-    → request ≡ sent_of e → asks ≡ answers_head e
+    → request ≡ forwarded e.message e.target → asks ≡ asks_for_head e.message.head.method
     → LogsFetch (record { target = e.target; request = request; answers_head = asks }) outcome old new → LogsFetch (asking_of e) outcome old new
 as_asked e request asks outcome old new sent same h =
     subst (λ (a : Asking). LogsFetch a outcome old new) (asking_is e request asks sent same) h
@@ -59,14 +61,14 @@ fetch_later before now (Err fetch_fault.Memory) h = omega (arith, h)
 -- ---- no response came
 
 module _ (alone : Bool) (site : Site) (e : Exchange) (closes : Bool) (date : ℕ) (result : Result Given Memory)
-    (old new : Links Transcript) (before now : ℕ) (shelf : Told) (earlier : IsEarlier shelf.crash) (in_range : InRange date) (asks : Bool) (same : asks ≡ answers_head e) where
+    (old new : Links Transcript) (before now : ℕ) (shelf : Told) (earlier : IsEarlier shelf.crash) (in_range : InRange date) (asks : Bool) (same : asks ≡ asks_for_head e.message.head.method) where
   -- what holds of the one link, by how it ended
   abbrev Vain : FetchFault → Transcript → Type 0
   Vain fault t = WentInVain (terms_in alone site e shelf) e fault (traces_of alone site e (dialed date (t ∷ []) before now) shelf.contents.seen shelf shelf)
 
   -- the link was hung up, and the request refused
   vain : (fault : FetchFault) (refusal : Refusal) → LogsFetched (asking_of e) (Err fault) old new → deed_of_failure e refusal ≡ NoDeed
-      → CountsMet (is_origin_fault refusal) before now → is_disk_fault refusal ≡ 0
+      → CountsMet (origin_fault (Exchanged e (Fails refusal))) before now → is_disk_fault refusal ≡ 0
       → ((t : Transcript) → Vain fault t
       → IsFailure (terms_in alone site e shelf) e refusal (traces_of alone site e (dialed date (t ∷ []) before now) shelf.contents.seen shelf shelf))
       → Refuses refusal asks closes result
@@ -117,7 +119,7 @@ module _ (alone : Bool) (site : Site) (e : Exchange) (closes : Bool) (date : ℕ
         (stayed_met before now counts) (none_met shelf.faults) (
           refl,
           record {
-            begun = inr (inr (record { timed = record { date = date; only = refl; in_range = in_range }; linked = inl refl }));
+            begun = inr (inr (record { date = date; only = refl; in_range = in_range }, inl refl));
             untouched = record { book = refl; shown = shown_itself alone shelf.contents.shown };
           },
         )) fails;
@@ -130,10 +132,10 @@ module _ (alone : Bool) (site : Site) (e : Exchange) (closes : Bool) (date : ℕ
         (stayed_met before now counts) (none_met shelf.faults) (
           refl,
           record {
-            begun = inr (inr (record {
-              timed = record { date = date; only = refl; in_range = in_range };
-              linked = inr (record { t = logs.t; only = refl; fetched = logs.fetched });
-            }));
+            begun = inr (inr (
+              record { date = date; only = refl; in_range = in_range },
+              inr (record { t = logs.t; only = refl; fetched = logs.fetched }),
+            ));
             untouched = record { book = refl; shown = shown_itself alone shelf.contents.shown };
           },
         )) fails;

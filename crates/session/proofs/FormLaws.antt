@@ -16,7 +16,7 @@ use Rattle.surt_key.specs.Key.{key_of}
 use Rattle.replay_url.proofs.OneForm.{one_form}
 use Rattle.session.specs.Complete.{IsFaultless, HasShown, HasWanted, IsAnswer, CapturesThatAreThereAreReplayed}
 use Rattle.session.specs.Rounds.{Outcome, Visited, IsDecided, IsTextOf, is_disk_fault, disk_fault}
-use Rattle.session.specs.SiteAnswers.{SiteRequest, SiteReply, Refuses, Redirects, Replays, Lists, Finds, Ships, HasNoMore, Asks, FindsNone, IsGateTime, NamesNoTime, IsDated, IsPast, IsRejected, IsSiteReply, date_field, serves_method}
+use Rattle.session.specs.SiteAnswers.{SiteRequest, SiteReply, Refuses, Redirects, Replays, Lists, Finds, Ships, HasNoMore, Asks, FindsNone, IsSoughtTime, NamesNoTime, IsDated, IsPast, IsRejected, IsSiteReply, date_field, serves_method}
 use Rattle.session.specs.Traces.{Terms, View, Traces, CountsMet}
 use Rattle.session.proofs.CompleteLaws.{rose_not, text_by, told_not_untold}
 
@@ -88,7 +88,7 @@ pub unserved : {P : Type 0} (b : Bool) → b ≡ true → b ≡ false → P
 unserved b t f = let bad : ⊥ = cc in absurd bad
 
 -- a gate whose field names a time
-gate_dated : {P : Type 0} (field : Option (List ℕ)) (time : ℕ) → IsGateTime field time → NamesNoTime field → P
+gate_dated : {P : Type 0} (field : Option (List ℕ)) (time : ℕ) → IsSoughtTime None field time → NamesNoTime field → P
 gate_dated (Some value) time h none = absurd (none time h)
 gate_dated None time h none = absurd none
 

@@ -7,6 +7,7 @@ use Rattle.archive_shelf.specs.Openings.{IsEarlier}
 use Rattle.archive_shelf.specs.Told.{LooksOn, ReadsOn, Told}
 use Rattle.archive_shelf.specs.declared.fault.BringFault.{BringFault}
 use Rattle.archive_shelf.specs.declared.fault.BringFault.TheVariants as brings
+use Rattle.capture.specs.Methods.{asks_for_head}
 use Rattle.capture.specs.declared.captured.Brought.{Brought}
 use Rattle.capture.specs.declared.memory.Memory.{Memory}
 use Rattle.capture.specs.declared.refusal.Refusal.TheVariants.{DiskFault, Damaged}
@@ -16,7 +17,7 @@ use Rattle.session.specs.Connection.{Setting}
 use Rattle.session.specs.steps.Declining.{Declines, refusal_by_bring}
 use Rattle.session.specs.steps.Givens.{Given}
 use Rattle.session.specs.steps.Looking.{FindsJust}
-use Rattle.session.specs.SiteAnswers.{SiteRequest, Refuses, ReachesJust, IsReplayed, answers_head}
+use Rattle.session.specs.SiteAnswers.{SiteRequest, Refuses, ReachesJust, IsReplayed}
 use Rattle.session.specs.Traces.{Terms}
 use Rattle.session.proofs.LookLaws.{found_answers, found_lacking_by, shown_on}
 use Rattle.session.proofs.VisitLaws.{refusal_is, told_damaged}
@@ -53,14 +54,14 @@ found_replayed terms alone q sought number faults disk brought mid is h later (t
 -- or it wasn't brought
 pub found_unbrought : (alone : Bool) (setting : Setting) (q : SiteRequest) (sought : Nearest) (number : ℕ) (fault : BringFault) (asks closes : Bool)
     (result : Result Given Memory) (was mid is : Told) → IsEarlier is.crash → LooksOn alone was mid → FindsJust alone mid.contents q sought number
-    → asks ≡ answers_head q → Brings is.contents number (Err fault) → ReadsOn alone (is_bring_fault {T = Brought} (Err fault)) mid is
+    → asks ≡ asks_for_head q.message.head.method → Brings is.contents number (Err fault) → ReadsOn alone (is_bring_fault {T = Brought} (Err fault)) mid is
     → Declines (refusal_by_bring number fault) asks closes result → AnswersVisit alone setting q closes result was is
 found_unbrought alone setting q sought number (brings.NoSuch count) asks closes result was mid is earlier looks h same b reads declines =
     found_there alone mid.contents is.contents q sought number count h.reaches reads.stays.shown b
 found_unbrought alone setting q sought number brings.DiskFault asks closes result was mid is earlier looks h same b reads declines =
     found_answers alone setting q (Refuses DiskFault) closes true result was mid is earlier looks h.knows reads refl
     (λ faults. (ForNearest sought, number, record { wanted = h.reaches; there = b }))
-    (refusal_is result DiskFault asks (answers_head q) closes same declines.text_is) declines.closes_is
+    (refusal_is result DiskFault asks (asks_for_head q.message.head.method) closes same declines.text_is) declines.closes_is
 found_unbrought alone setting q sought number (brings.Damaged at kept found) asks closes result was mid is earlier looks h same b reads declines =
     found_answers alone setting q (Refuses (Damaged at kept found)) closes false result was mid is earlier looks h.knows reads refl
     (λ faults. (
@@ -71,6 +72,6 @@ found_unbrought alone setting q sought number (brings.Damaged at kept found) ask
       told_damaged _ _ kept found
           (stays_tells alone mid.contents is.contents reads.stays ∙ same_tells was.contents mid.contents looks.looks.others) b.3,
     ))
-    (refusal_is result (Damaged at kept found) asks (answers_head q) closes same declines.text_is) declines.closes_is
+    (refusal_is result (Damaged at kept found) asks (asks_for_head q.message.head.method) closes same declines.text_is) declines.closes_is
 found_unbrought alone setting q sought number brings.Memory asks closes result was mid is earlier looks h same b reads declines =
     found_lacking_by alone setting q closes result was mid is earlier looks h.knows reads declines

@@ -8,7 +8,7 @@ use Rattle.outside.specs.declared.dialer.Transcript.{Transcript}
 use Rattle.outside.specs.declared.gate.Heard.{Heard}
 use Rattle.session.specs.steps.Endings.{heard_now}
 use Rattle.session.specs.Connection.{Setting, Gained}
-use Rattle.session.specs.Gains.{World, Gains, GainsOutside}
+use Rattle.session.specs.Gains.{World, Gains}
 use Rattle.session.specs.steps.Gaining.{no_gains, both_gains}
 use Rattle.session.specs.Traces.{CountsMet}
 
@@ -60,27 +60,19 @@ stored_on a b c m n e f =
 stored_none : (a : Contents) → a ≡ record a { seen = a.seen; shown = a.shown; mine = a.mine ++ [] }
 stored_none a = ap (λ (l : List ℕ). record a { mine = l }) (sym (append-nil a.mine))
 
-outside_both : (clock_tells : Bool) (was mid is : World) (first second : Gains) → GainsOutside clock_tells was mid first
-    → GainsOutside clock_tells mid is second → GainsOutside clock_tells was is (both_gains first second)
-outside_both clock_tells was mid is first second h k = record {
-  asked = λ told. asked_on was.answers mid.answers is.answers first.times second.times (h.asked told) (k.asked told);
-  logged = logged_on was.links mid.links is.links first.transcripts second.transcripts h.logged k.logged;
-}
-
 -- what was gained in one step, and then in others
 pub gained_both : (alone : Bool) (setting : Setting) (was mid is : World) (first second : Gains)
     → Gained alone setting was mid first → Gained alone setting mid is second → Gained alone setting was is (both_gains first second)
 gained_both alone setting was mid is first second h k = record {
-  around = outside_both setting.clock_tells was mid is first second h.around k.around;
+  asked = λ told. asked_on was.answers mid.answers is.answers first.times second.times (h.asked told) (k.asked told);
+  logged = logged_on was.links mid.links is.links first.transcripts second.transcripts h.logged k.logged;
   stored = stored_on was.shelf.contents mid.shelf.contents is.shelf.contents first.numbers second.numbers h.stored k.stored;
 }
 
 -- where nothing but the client was heard, nothing was gained
 pub gained_none : (alone : Bool) (setting : Setting) (was : World) (now : Heard) → Gained alone setting was (heard_now was now) no_gains
 gained_none alone setting was now = record {
-  around = record {
-    asked = λ _ _. sym (append-nil was.answers);
-    logged = ap (λ (l : List Transcript). record was.links { log = l }) (sym (append-nil was.links.log));
-  };
+  asked = λ _ _. sym (append-nil was.answers);
+  logged = ap (λ (l : List Transcript). record was.links { log = l }) (sym (append-nil was.links.log));
   stored = stored_none was.shelf.contents;
 }

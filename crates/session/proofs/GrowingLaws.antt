@@ -87,7 +87,7 @@ refused_grows laws terms e traces h =
       led = laws.leads terms.alone traces.before.book;
       not_full = h.room.room;
       left = h.left;
-      shown = h.shown.shown;
+      shown = h.shown;
       others = refl;
     })
 
@@ -133,8 +133,8 @@ ids_differ laws terms served was (r ∷ rounds) is (lawful, leads, knows, last, 
 
 pub leaves_shows : (terms : Terms) (traces : Traces) → Leaves terms traces → Begins traces.before.shown traces.after.shown
 leaves_shows terms traces (Stayed h) = leads_begins terms.alone traces.before.shown traces.after.shown h.shown
-leaves_shows terms traces (Denied e h) = leads_begins terms.alone traces.before.shown traces.after.shown h.shown.shown
-leaves_shows terms traces (Stored_it e received payload h) = past_begins terms.alone h.receipt.number traces.before.shown traces.after.shown h.shown.shown
+leaves_shows terms traces (Denied e h) = leads_begins terms.alone traces.before.shown traces.after.shown h.shown
+leaves_shows terms traces (Stored_it e received payload h) = past_begins terms.alone h.receipt.number traces.before.shown traces.after.shown h.shown
 
 pub courses_show_on : CoursesShowOn
 courses_show_on terms served was [] is h = leads_begins terms.alone was.shown is.shown h.shown
@@ -177,8 +177,8 @@ pub leaves_consistent : (terms : Terms) (traces : Traces) → IsTrue terms.alone
     → IsConsistentView terms traces.after
 leaves_consistent terms traces alone (Stayed stays) h =
     same_consistent terms traces.before traces.after stays.book (shown_same terms.alone traces.before.shown traces.after.shown alone stays.shown) h
-leaves_consistent terms traces alone (Denied e refused) h = refused.shown.consistent
-leaves_consistent terms traces alone (Stored_it e received payload passed) h = passed.shown.consistent
+leaves_consistent terms traces alone (Denied e refused) h = refused.consistent
+leaves_consistent terms traces alone (Stored_it e received payload passed) h = passed.consistent
 
 pub courses_stay_consistent : CoursesStayConsistent
 courses_stay_consistent terms served was [] is alone leads h = (tt, leads_consistent terms was is alone leads h)

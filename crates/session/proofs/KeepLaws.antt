@@ -27,7 +27,7 @@ use Rattle.http_head.specs.declared.head.Received.{Received}
 use Rattle.outside.specs.declared.dialer.Transcript.{Transcript}
 use Rattle.time_text.specs.Texts.{InRange}
 use Rattle.warc_text.specs.Fits.{Fits}
-use Rattle.session.specs.Exchanges.{Exchange, Fails, Fetched, HasRoom, Passes, answers_head, asking_of, taken_of}
+use Rattle.session.specs.Exchanges.{Exchange, Fails, Fetched, HasRoom, Passes, asking_of, taken_of}
 use Rattle.session.specs.steps.Exchanging.{Around, Comes, FollowsStore, HasCome, Keeps, PassesOn, Replies, round_of, terms_in, traces_of}
 use Rattle.session.specs.Laws.{StoredCapturesHaveTheirPayload}
 use Rattle.session.specs.Traces.{IsConsistentView, view_of}
@@ -128,10 +128,10 @@ module _ (alone : Bool) (site : Site) (e : Exchange) (closes : Bool) (date : ℕ
       (stayed_met around.faults_before around.faults_now come.steady) (none_met shelf.faults) (
         refl,
         record {
-          begun = inr (inr (record {
-            timed = record { date = date; only = come.timed; in_range = in_range };
-            linked = inr (record { t = come.t; only = come.linked; fetched = lost e received come.t come.fetched });
-          }));
+          begun = inr (inr (
+            record { date = date; only = come.timed; in_range = in_range },
+            inr (record { t = come.t; only = come.linked; fetched = lost e received come.t come.fetched }),
+          ));
           untouched = record { book = refl; shown = shown_itself alone shelf.contents.shown };
         },
       )
@@ -187,10 +187,10 @@ module _ (alone : Bool) (site : Site) (e : Exchange) (closes : Bool) (date : ℕ
       (stayed_met around.faults_before around.faults_now come.steady) (stayed_met was.faults is.faults h.faults) (
         refl,
         record {
-          begun = inr (inr (record {
-            timed = record { date = date; only = come.timed; in_range = in_range };
-            linked = inr (record { t = come.t; only = come.linked; fetched = lost e received come.t come.fetched });
-          }));
+          begun = inr (inr (
+            record { date = date; only = come.timed; in_range = in_range },
+            inr (record { t = come.t; only = come.linked; fetched = lost e received come.t come.fetched }),
+          ));
           untouched = record { book = refl; shown = h.leaves.shown };
         },
       )
@@ -207,10 +207,8 @@ module _ (alone : Bool) (site : Site) (e : Exchange) (closes : Bool) (date : ℕ
     by = record {
       room = room_in h.leaves.found was is h.leaves.not_full;
       left = h.leaves.left;
-      shown = record {
-        shown = h.leaves.shown;
-        consistent = stays_consistent alone site e was is around.faults_now (ap (λ (x : Contents). x.tells) h.leaves.others) consistent;
-      };
+      shown = h.leaves.shown;
+      consistent = stays_consistent alone site e was is around.faults_now (ap (λ (x : Contents). x.tells) h.leaves.others) consistent;
     };
     kept = λ lacking. refl;
     dialer = stayed_met around.faults_before around.faults_now come.steady;
@@ -258,10 +256,8 @@ module _ (alone : Bool) (site : Site) (e : Exchange) (closes : Bool) (date : ℕ
       gained = h.leaves.gained;
       by_rule = h.leaves.by_rule;
       there = there_is payload receipt was is law has consistent h;
-      shown = record {
-        shown = h.leaves.shown;
-        consistent = stays_consistent alone site e was is around.faults_now (ap (λ (x : Contents). x.tells) h.leaves.others) consistent;
-      };
+      shown = h.leaves.shown;
+      consistent = stays_consistent alone site e was is around.faults_now (ap (λ (x : Contents). x.tells) h.leaves.others) consistent;
     };
     kept = λ lacking. absurd (false≢true lacking);
     dialer = stayed_met around.faults_before around.faults_now come.steady;
@@ -282,7 +278,7 @@ module _ (alone : Bool) (site : Site) (e : Exchange) (closes : Bool) (date : ℕ
   -- ---- by what the store said
 
   by_said : (ready : Given) (asks : Bool) (said : Result Receipt StoreFault) (result : Result Given Memory) (was is : Told)
-      → StoredCapturesHaveTheirPayload → IsEarlier is.crash → asks ≡ answers_head e
+      → StoredCapturesHaveTheirPayload → IsEarlier is.crash → asks ≡ asks_for_head e.message.head.method
       → IsOneResponse (asks_for_head e.message.head.method) received → PassesOn received asks closes ready
       → IsConsistent alone is.contents → StoresOn alone (taken_of e date received) was is said → FollowsStore ready asks closes said result
       → Comes alone site e around closes result was is
@@ -308,7 +304,7 @@ module _ (alone : Bool) (site : Site) (e : Exchange) (closes : Bool) (date : ℕ
 
   -- a response that was to be stored answers the request
   pub kept_comes : (ready : Given) (asks : Bool) (result : Result Given Memory) (was is : Told) → StoredCapturesHaveTheirPayload
-      → IsEarlier is.crash → asks ≡ answers_head e → IsOneResponse (asks_for_head e.message.head.method) received
+      → IsEarlier is.crash → asks ≡ asks_for_head e.message.head.method → IsOneResponse (asks_for_head e.message.head.method) received
       → PassesOn received asks closes ready → Keeps alone (taken_of e date received) ready asks closes result was is
       → Comes alone site e around closes result was is
   kept_comes ready asks result was is law earlier same response passes k =

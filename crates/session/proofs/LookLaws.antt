@@ -18,8 +18,9 @@ use Rattle.cdx_query.specs.declared.query.Query.{Query}
 use Rattle.cdxj_index.specs.Facts.{Facts}
 use Rattle.cdxj_index.specs.Queries.{HasNone}
 use Rattle.surt_key.specs.Key.{key_of}
+use Rattle.session.specs.steps.Stages.{terms_at}
 use Rattle.session.specs.steps.Answering.{AnswersVisit}
-use Rattle.session.specs.Connection.{Setting, terms_at}
+use Rattle.session.specs.Connection.{Setting}
 use Rattle.session.specs.steps.Looking.{FindsNearest, FindsAll, FindsAnswer}
 use Rattle.session.specs.Rounds.{Visited, disk_fault}
 use Rattle.session.specs.SiteAnswers.{SiteRequest, SiteReply, IsSiteReply, IsSiteText}

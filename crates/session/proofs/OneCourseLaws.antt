@@ -21,18 +21,20 @@ use Rattle.http_wire.proofs.OneHead.{no_head_is_none}
 use Rattle.http_wire.specs.Messages.{IsRequest}
 use Rattle.outside.specs.declared.dialer.Transcript.{Transcript}
 use Rattle.outside.specs.declared.gate.Heard.{Heard}
-use Rattle.session.specs.Exchanges.{Exchange, Reply, Fails, IsReply, reply_text}
+use Rattle.session.specs.Exchanges.{Exchange, Reply, Fails, IsReply}
 use Rattle.session.specs.Gains.{gains_of}
 use Rattle.session.specs.OneCourse.{AreOneCourse, AreSameRounds, CoursesEndOneWay, CoursesLeaveNoChoice, IsSameRound, RoundWentWell, RoundsLeaveNoChoice, WentWell}
 use Rattle.session.specs.Requests.{IsAsked, IsBetween, IsInside, IsInterim, IsUndecided, aim_of_head, closes_after, interim_of}
 use Rattle.session.specs.Requests as requests
-use Rattle.session.specs.Rounds.{Round, Outcome, Undecided, Refused, Exchanged, Visited, IsCourse, IsDecided, IsRound, IsTextOf, closes, closes_exchange, closes_outcome, course_text, course_wire, disk_fault, disk_faults, is_closed, lacks, origin_fault, origin_faults, refusal_in, refusals}
+use Rattle.session.specs.Rounds.{Round, Outcome, Undecided, Refused, Exchanged, Visited, IsCourse, IsDecided, IsRound, IsTextOf, closes, closes_outcome, course_text, course_wire, disk_fault, disk_faults, is_closed, lacks, origin_fault, origin_faults, refusal_in, refusals}
 use Rattle.session.specs.SiteAnswers.{SiteRequest, SiteReply, IsSiteReply}
 use Rattle.session.specs.Stopping.{Course, Ends, IsClosed, IsLeftOver, closes_course}
 use Rattle.session.specs.Traces.{CountsMet, IsConsistentView, IsIdle, LeadsView, Terms, View}
+use Rattle.session.specs.steps.Exchanging.{is_cut_off, reply_text}
 use Rattle.session.specs.declared.served.Served.{Served}
 use Rattle.session.specs.declared.served.Served.TheVariants.{Done, ClientBroke, ClientEndedEarly, ClientRefused, WantOfMemory}
 use Rattle.session.proofs.CompleteLaws.{text_by}
+use Rattle.session.proofs.ExchangeLaws.{text_is_of}
 use Rattle.session.proofs.GrowingLaws.{courses_count, decided_leaves, leads_consistent, leaves_consistent}
 use Rattle.session.proofs.OneRequest.{Cutting, SameAsked, SameRefused, asked_is_decided, asked_isnt_refused, interim_asked, interim_refused, one_asked, one_head, one_refused, refused_is_decided, told_interim}
 use Rattle.session.proofs.OneReply.{Answering, DialedAlike, SameReply, dialed_alike, none_is, one_reply}
@@ -196,8 +198,8 @@ module _ (laws : Choosing) (terms : Terms) (served : ℕ) (tells : IsTrue terms.
         same = record {
           outcome = is ∙ outcomes ∙ sym also;
           interim = interim_as e.message d.message asked.message h.0.is k.0.is;
-          text = text ∙ ap (λ (x : Exchange). reply_text x a (closes_exchange served x a)) exchange
-              ∙ ap (λ (x : Reply). reply_text d x (closes_exchange served d x)) same.reply_is ∙ sym too;
+          text = text_is_of terms served e a _ text ∙ ap (λ (x : Exchange). reply_text x a (is_cut_off a || closes_after served x.message.head)) exchange
+              ∙ ap (λ (x : Reply). reply_text d x (is_cut_off x || closes_after served d.message.head)) same.reply_is ∙ sym (text_is_of terms served d b _ too);
           book = same.book;
         };
         shown = same.shown;
@@ -500,7 +502,7 @@ between_isnt_inside : {P : Type 0} (site : Site) (stream : List ℕ) → IsBetwe
 between_isnt_inside site stream between (inl (inl (nothing, other))) = absurd (other refl)
 between_isnt_inside site stream between (inl (inr more)) = nothing_isnt_more stream between.0 more
 between_isnt_inside site stream between (inr awaits) =
-    absurd (no_head_is_none awaits.begins.skipped awaits.head.text (sym between.0 ∙ awaits.begins.front))
+    absurd (no_head_is_none awaits.1.skipped awaits.0.text (sym between.0 ∙ awaits.1.front))
 
 interim_once : (site : Site) (stream a b : List ℕ) → IsInterim site stream a → IsInterim site stream b → a ≡ b
 interim_once site stream a b (inl has) (inl also) =

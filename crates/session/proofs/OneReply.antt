@@ -12,6 +12,7 @@ use Rattle.capture.specs.Final.{Arrival, Arrived, IsArrival}
 use Rattle.capture.specs.Final as final
 use Rattle.capture.specs.First.{First, Message, Refused as RefusedFirst, NothingBegun, HeadNeeded, BodyNeeded, Responses, HeadTells}
 use Rattle.capture.specs.Message.{IsResponseHeadText}
+use Rattle.capture.specs.Methods.{asks_for_head}
 use Rattle.capture.specs.Payload.{IsPayload}
 use Rattle.capture.specs.declared.book.Book.{Book}
 use Rattle.capture.specs.declared.captured.Taken.{Taken}
@@ -28,7 +29,7 @@ use Rattle.http_wire.proofs.OneHead.{one_head as one_text, one_parse, one_skippe
 use Rattle.http_wire.specs.Decisions.{ArrivalsAreOne}
 use Rattle.http_wire.specs.Messages.{IsResponse}
 use Rattle.outside.specs.declared.dialer.Transcript.{Transcript}
-use Rattle.session.specs.Exchanges.{Exchange, Reply, Fails, Passes, Fetched, WasNotDialed, WentInVain, IsFailure, IsFull, IsPassedOn, IsPastTheClock, IsReply, answers_head, taken_of}
+use Rattle.session.specs.Exchanges.{Exchange, Reply, Fails, Passes, Fetched, WasNotDialed, WentInVain, IsFailure, IsFull, IsPassedOn, IsPastTheClock, IsReply, taken_of}
 use Rattle.session.specs.Rounds.{is_disk_fault, disk_fault, Exchanged}
 use Rattle.session.specs.Traces.{StaysView, Terms, Traces}
 use Rattle.session.proofs.CompleteLaws.{told_not_untold}
@@ -150,7 +151,7 @@ record InVain (terms : Terms) (e : Exchange) (refusal : Refusal) (traces : Trace
   pub dated : Dated traces.times
   pub t : Transcript
   pub linked : traces.transcripts ≡ t ∷ []
-  pub came : Came (answers_head e) t (Some refusal)
+  pub came : Came (asks_for_head e.message.head.method) t (Some refusal)
   pub unfailed : t.faults ≡ 0
   pub untouched : StaysView terms traces.before traces.after
 
@@ -173,7 +174,7 @@ data Went (terms : Terms) (e : Exchange) (reply : Reply) (traces : Traces) : Typ
       → Went terms e reply traces
 
 vain : (terms : Terms) (e : Exchange) (fault : FetchFault) (refusal : Refusal) (traces : Traces) (h : WentInVain terms e fault traces)
-    → Came (answers_head e) h.linked.t (Some refusal) → h.linked.t.faults ≡ 0 → InVain terms e refusal traces
+    → Came (asks_for_head e.message.head.method) h.linked.t (Some refusal) → h.linked.t.faults ≡ 0 → InVain terms e refusal traces
 vain terms e fault refusal traces h came unfailed = record {
   dated = record { date = h.timed.date; only = h.timed.only; in_range = h.timed.in_range };
   t = h.linked.t;
@@ -401,9 +402,9 @@ module _ (laws : Answering) (terms : Terms) (e : Exchange) (u v : Traces) (times
   fetched_dated received traces h = record { date = h.date; only = h.timed; in_range = h.in_range }
 
   -- a response came of one, and none of the other
-  came_both : {P : Type 0} (refusal : Refusal) (t s : Transcript) → t ≡ s → Came (answers_head e) t (Some refusal) → Came (answers_head e) s None → P
+  came_both : {P : Type 0} (refusal : Refusal) (t s : Transcript) → t ≡ s → Came (asks_for_head e.message.head.method) t (Some refusal) → Came (asks_for_head e.message.head.method) s None → P
   came_both refusal t s same a b =
-      some_isnt_none refusal (came_once laws.arrivals (answers_head e) s (Some refusal) None (subst (λ (x : Transcript). Came (answers_head e) x (Some refusal)) same a) b)
+      some_isnt_none refusal (came_once laws.arrivals (asks_for_head e.message.head.method) s (Some refusal) None (subst (λ (x : Transcript). Came (asks_for_head e.message.head.method) x (Some refusal)) same a) b)
 
   link_same : (t s : Transcript) → u.transcripts ≡ t ∷ [] → v.transcripts ≡ s ∷ [] → t ≡ s
   link_same t s a b = first_is u.transcripts v.transcripts transcripts further t s a b linked
@@ -435,9 +436,9 @@ module _ (laws : Answering) (terms : Terms) (e : Exchange) (u v : Traces) (times
       let link : a.fetched.t ≡ b.fetched.t = link_same a.fetched.t b.fetched.t a.fetched.linked b.fetched.linked in
       let date : a.fetched.date ≡ b.fetched.date = first_is u.times v.times times later a.fetched.date b.fetched.date a.fetched.timed b.fetched.timed timed in
       let t = b.fetched.t in
-      let came_here = subst (λ (x : Transcript). ArrivesWhole (answers_head e) x.ended x.given received ⊎ ArrivesCut (answers_head e) x.ended x.given received)
+      let came_here = subst (λ (x : Transcript). ArrivesWhole (asks_for_head e.message.head.method) x.ended x.given received ⊎ ArrivesCut (asks_for_head e.message.head.method) x.ended x.given received)
       link a.fetched.fetched.received in
-      let same : received ≡ came = one_received laws.arrivals (answers_head e) t.ended t.given received came came_here b.fetched.fetched.received in
+      let same : received ≡ came = one_received laws.arrivals (asks_for_head e.message.head.method) t.ended t.given received came came_here b.fetched.fetched.received in
       let paid_here : IsPayload came.cut came.framing came.wire payload =
       subst (λ (x : Received). IsPayload x.cut x.framing x.wire payload) same a.payload_is in
       let payloads : payload ≡ paid = laws.payloads came.cut came.framing came.wire payload paid paid_here b.payload_is in
@@ -451,7 +452,7 @@ module _ (laws : Answering) (terms : Terms) (e : Exchange) (u v : Traces) (times
         times_are = time_rest (fetched_dated received u a.fetched) (fetched_dated came v b.fetched);
         transcripts_are = link_rest a.fetched.t b.fetched.t a.fetched.linked b.fetched.linked;
         book = after;
-        shown = λ alone. entries_once laws.entries u.after.book v.after.book u.after.shown v.after.shown after (a.shown.consistent alone tells) (b.shown.consistent alone tells);
+        shown = λ alone. entries_once laws.entries u.after.book v.after.book u.after.shown v.after.shown after (a.consistent alone tells) (b.consistent alone tells);
       }
 
   -- nobody could be dialed, by both
@@ -474,20 +475,20 @@ module _ (laws : Answering) (terms : Terms) (e : Exchange) (u v : Traces) (times
   both_went reply other dials (AskedInVain refusal is h) (PastTheClock now also past) = apart_too now past h.dated
   both_went reply other dials (AskedInVain refusal is h) (AskedInVain why also k) =
       let link : h.t ≡ k.t = link_same h.t k.t h.linked k.linked in
-      let same : refusal ≡ why = some_same refusal why (came_once laws.arrivals (answers_head e) k.t (Some refusal) (Some why)
-      (subst (λ (x : Transcript). Came (answers_head e) x (Some refusal)) link h.came) k.came) in
+      let same : refusal ≡ why = some_same refusal why (came_once laws.arrivals (asks_for_head e.message.head.method) k.t (Some refusal) (Some why)
+      (subst (λ (x : Transcript). Came (asks_for_head e.message.head.method) x (Some refusal)) link h.came) k.came) in
       same_stays reply other (is ∙ ap (λ (x : Refusal). Fails x) same ∙ sym also) (time_rest h.dated k.dated) (link_rest h.t k.t h.linked k.linked)
       h.untouched k.untouched
   both_went reply other dials (AskedInVain refusal is h) (WasFull count limit also full) =
       came_both refusal h.t full.fetched.t (link_same h.t full.fetched.t h.linked full.fetched.linked) h.came
-      (came_response (answers_head e) full.fetched.t full.received full.fetched.fetched.received)
+      (came_response (asks_for_head e.message.head.method) full.fetched.t full.received full.fetched.fetched.received)
   both_went reply other dials (AskedInVain refusal is h) (WasPassed received payload also k) =
       came_both refusal h.t k.fetched.t (link_same h.t k.fetched.t h.linked k.fetched.linked) h.came
-      (came_response (answers_head e) k.fetched.t received k.fetched.fetched.received)
+      (came_response (asks_for_head e.message.head.method) k.fetched.t received k.fetched.fetched.received)
   both_went reply other dials (WasFull count limit is full) (PastTheClock now also past) = apart_too now past (fetched_dated full.received u full.fetched)
   both_went reply other dials (WasFull count limit is full) (AskedInVain refusal also h) =
       came_both refusal h.t full.fetched.t (sym (link_same full.fetched.t h.t full.fetched.linked h.linked)) h.came
-      (came_response (answers_head e) full.fetched.t full.received full.fetched.fetched.received)
+      (came_response (asks_for_head e.message.head.method) full.fetched.t full.received full.fetched.fetched.received)
   both_went reply other dials (WasFull count limit is full) (WasFull counted most also filled) =
       same_stays reply other (full_same reply other count limit counted most is also full filled)
       (time_rest (fetched_dated full.received u full.fetched) (fetched_dated filled.received v filled.fetched))
@@ -496,7 +497,7 @@ module _ (laws : Answering) (terms : Terms) (e : Exchange) (u v : Traces) (times
   both_went reply other dials (WasPassed received payload is h) (PastTheClock now also past) = apart_too now past (fetched_dated received u h.fetched)
   both_went reply other dials (WasPassed received payload is h) (AskedInVain refusal also k) =
       came_both refusal k.t h.fetched.t (sym (link_same h.fetched.t k.t h.fetched.linked k.linked)) k.came
-      (came_response (answers_head e) h.fetched.t received h.fetched.fetched.received)
+      (came_response (asks_for_head e.message.head.method) h.fetched.t received h.fetched.fetched.received)
   both_went reply other dials (WasPassed received payload is h) (WasFull count limit also full) = room_for_too count limit full h.room
   both_went reply other dials (WasPassed received payload is h) (WasPassed came paid also k) = passed_same reply other received came payload paid is also h k
   both_went reply other dials (NotDialed is none) way =

@@ -36,7 +36,7 @@ use Rattle.http_wire.proofs.OneHead.{no_head_is_none, no_head_in_more, one_skipp
 use Rattle.http_wire.specs.Decisions.{FirstsAreOne, MessagesStay, RefusalsStay}
 use Rattle.http_wire.specs.Heads.{BeginsWithRequest}
 use Rattle.http_wire.specs.Messages.{IsRequest}
-use Rattle.session.specs.Requests.{IsAimRefusal, IsAimedNowhere, IsAsked, IsInterim, IsNoMessage, IsRefused, IsUndecided, LacksHead, aim_of_head, interim_of, refusal_of}
+use Rattle.session.specs.Requests.{IsAimRefusal, IsAimedNowhere, IsAsked, IsInterim, IsNoMessage, IsRefused, IsUndecided, aim_of_head, interim_of, refusal_of}
 use Rattle.session.proofs.AskedLaws.{refused_first, somewhere, stands_first}
 use Rattle.session.proofs.ReadLaws.{long_isnt_head, one_text}
 
@@ -330,7 +330,7 @@ asked_is_decided laws site w x m is (inr (inl needs)) =
     let begins = begins_stays laws.heads w x m.head (begins_of w m is) in
     needs_no_head (w ++ x) m.head.text begins.skipped needs begins.front
 asked_is_decided laws site w x m is (inr (inr awaits)) =
-    needed_isnt (length w) (laws.firsts Requests false (w ++ x) (Message (length w)) BodyNeeded (asked_first laws w x m false is) awaits.needed)
+    needed_isnt (length w) (laws.firsts Requests false (w ++ x) (Message (length w)) BodyNeeded (asked_first laws w x m false is) awaits.3)
 
 long_isnt_nothing : {P : Type 0} (stream : List ℕ) → front_of stream ≡ head_front.TooLong → front_of stream ≡ head_front.Nothing → P
 long_isnt_nothing stream e d = let bad : ⊥ = cc in absurd bad
@@ -347,18 +347,18 @@ decided_on : {P : Type 0} → FirstsAreOne → (site : Site) (stream : List ℕ)
 decided_on one site stream None b (inl (long, e)) (inl between) = long_isnt_nothing stream long between.0
 decided_on one site stream None b (inl (long, e)) (inr (inl needs)) = long_needs stream long needs
 decided_on one site stream None b (inl (long, e)) (inr (inr awaits)) =
-    long_isnt_head stream awaits.head.text awaits.begins.skipped long awaits.begins.front
+    long_isnt_head stream awaits.0.text awaits.1.skipped long awaits.1.front
 decided_on one site stream None b (inr (none, e)) (inl between) = absurd (no_head_is_none none.skipped none.text (sym between.0 ∙ none.front))
 decided_on one site stream None b (inr (none, e)) (inr (inl needs)) = needs_no_head stream none.text none.skipped needs none.front
-decided_on one site stream None b (inr (none, e)) (inr (inr awaits)) = none_told stream awaits.head awaits.begins none
+decided_on one site stream None b (inr (none, e)) (inr (inr awaits)) = none_told stream awaits.0 awaits.1 none
 decided_on one site stream (Some head) b (begins, why) (inl between) =
     absurd (no_head_is_none begins.skipped head.text (sym between.0 ∙ begins.front))
 decided_on one site stream (Some head) b (begins, why) (inr (inl needs)) = needs_no_head stream head.text begins.skipped needs begins.front
 decided_on one site stream (Some head) b (begins, inl nowhere) (inr (inr awaits)) =
-    somewhere (aim_of_head site awaits.head) (aim_of_head site head) awaits.aimed.0 nowhere.fault awaits.aimed.1 nowhere.aimed
-    (ap (aim_of_head site) (one_head stream awaits.head head awaits.begins begins))
+    somewhere (aim_of_head site awaits.0) (aim_of_head site head) awaits.2.0 nowhere.fault awaits.2.1 nowhere.aimed
+    (ap (aim_of_head site) (one_head stream awaits.0 head awaits.1 begins))
 decided_on one site stream (Some head) b (begins, inr wrong) (inr (inr awaits)) =
-    fault_isnt wrong.fault (one Requests false stream (RefusedFirst wrong.fault) BodyNeeded (refused_first stream wrong.fault wrong.refused) awaits.needed)
+    fault_isnt wrong.fault (one Requests false stream (RefusedFirst wrong.fault) BodyNeeded (refused_first stream wrong.fault wrong.refused) awaits.3)
 
 pub refused_is_decided : {P : Type 0} → Cutting → (site : Site) (w x : List ℕ) (head : Option RequestHead) (b : Refusal) → IsRefused site w head b
     → IsUndecided site (w ++ x) → P
@@ -372,7 +372,7 @@ interim_behind : (site : Site) (stream : List ℕ) (head : RequestHead) (text : 
 interim_behind site stream head text begins (inl has) = has.text_is ∙ ap (interim_of site) (one_head stream has.head head has.begins begins)
 interim_behind site stream head text begins (inr (none, e)) = absurd (none head begins)
 
-no_interim : (site : Site) (stream text : List ℕ) → LacksHead stream → IsInterim site stream text → text ≡ []
+no_interim : (site : Site) (stream text : List ℕ) → ((head : RequestHead) → ¬ (BeginsWithRequest stream head)) → IsInterim site stream text → text ≡ []
 no_interim site stream text none (inl has) = absurd (none has.head has.begins)
 no_interim site stream text none (inr (also, e)) = e
 

@@ -54,7 +54,7 @@ use Rattle.time_text.specs.Reading.{IsHttpDate}
 use Rattle.warc_text.specs.Growth.{NumbersHaveOneGroup}
 use Rattle.warc_text.specs.Records.{info_text}
 use Rattle.session.specs.Rounds.{Visited, is_disk_fault, disk_fault}
-use Rattle.session.specs.SiteAnswers.{SiteRequest, SiteReply, Refuses, Redirects, Replays, Lists, Finds, Ships, HasNoMore, Asks, FindsNone, IsGateTime, IsRejected, IsSiteReply, IsSiteText, IsSoughtTime, IsWanted, NamesNoTime, Reaches, asks_for_capture, date_field, serves_method}
+use Rattle.session.specs.SiteAnswers.{SiteRequest, SiteReply, Refuses, Redirects, Replays, Lists, Finds, Ships, HasNoMore, Asks, FindsNone, IsRejected, IsSiteReply, IsSiteText, IsSoughtTime, IsWanted, NamesNoTime, Reaches, asks_for_capture, date_field, serves_method}
 use Rattle.session.specs.Traces.{Terms, View}
 use Rattle.session.proofs.CompleteLaws.{told_not_untold}
 use Rattle.session.proofs.FormLaws.{dated, formed, timed, unserved}
@@ -73,7 +73,7 @@ time_once : (value : List ℕ) (a b : ℕ) → IsHttpDate value a → IsHttpDate
 time_once value a b (d, shows, is) (c, also, too) =
     sym is ∙ ap (λ (p : DateParts). parts_secs p * 1000) (IsDateText_unique value d c shows also) ∙ too
 
-gate_time_once : (field : Option (List ℕ)) (a b : ℕ) → IsGateTime field a → IsGateTime field b → a ≡ b
+gate_time_once : (field : Option (List ℕ)) (a b : ℕ) → IsSoughtTime None field a → IsSoughtTime None field b → a ≡ b
 gate_time_once (Some value) a b h k = time_once (trim_blanks value) a b h k
 gate_time_once None a b h k = h ∙ sym k
 
@@ -304,7 +304,7 @@ answered terms q (Redirects sought entry) view tells disk h =
 answered terms q (Replays question brought) view tells disk h =
     replays terms q view question brought tells h.number h.wants.wanted h.wants.there h.capture (h.brought_is tells)
 answered terms q (Lists url entries) view tells disk h = Asking (Map url) h.asks (SomeListed entries refl h.key h.keyed h.picked h.some)
-answered terms q (Finds query found) view tells disk h = Asking (Query h.asks.text) h.asks.asks (Found_by query found refl h.asks.is h.answers)
+answered terms q (Finds query found) view tells disk h = Asking (Query h.text) h.asks (Found_by query found refl h.is h.answers)
 answered terms q (Ships number piece) view tells disk h =
     Asking (Ship number) h.wants.wanted.0 (Shipped_it piece refl h.wants.there (h.piece_is tells))
 answered terms q (HasNoMore number) view tells disk h = Asking (Ship number) h.asks (NothingYet refl h.next)

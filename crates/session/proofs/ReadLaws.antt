@@ -3,7 +3,7 @@ use Rattle.std.proofs.Common.{◌≡◌, ◌≢◌, inl, inr, ℕ, ◌+◌, ◌-
 use Rattle.std.proofs.Math.Seq.{drop-append_seam}
 use Rattle.httparse.proofs.GrammarLemmas.{request_unique}
 use Rattle.httparse.specs.Grammar.{RequestHead as GrammarHead, ReadsRequest}
-use Rattle.std.specs.Prelude.{IsSome, IfOk, OnOk, IfErr, is_ok, ◌&&◌}
+use Rattle.std.specs.Prelude.{IsSome, IfOk, OnOk, IfErr, is_ok, ◌&&◌, if◌then◌else◌}
 use Rattle.capture.specs.Faults.{Rose}
 use Rattle.capture.specs.First.{Requests, Refused, NothingBegun, HeadNeeded, IsFirst, BehindHead, IsNoHead, BeginsBody}
 use Rattle.capture.specs.Head.{front_of}
@@ -32,7 +32,7 @@ use Rattle.http_wire.specs.Reading.{Standing, Open, Failed, EndsInside}
 use Rattle.http_wire.specs.Reading.{IsUndecided as WireUndecided, LacksHead as WireLacksHead}
 use Rattle.outside.specs.declared.gate.Heard.{Heard}
 use Rattle.session.specs.steps.Reads.{Client, HasTaken, HasRead, AwaitsRest, ReadsNone, NoMore, Breaking, Refusing, GivingUp, Owes, ComesFaulty, IsBehind, IsWellAsked, LooksAt, ReadsBody, RefusesAim}
-use Rattle.session.specs.Requests.{IsAimed, IsAimedNowhere, IsInside, IsInterim, IsRefused, IsUndecided, LacksHead, aim_of_head, answers_head, interim_of, interim_where, refusal_of, waits_for_answer}
+use Rattle.session.specs.Requests.{IsAimed, IsAimedNowhere, IsInside, IsInterim, IsRefused, IsUndecided, aim_of_head, answers_head, continue_text, interim_of, refusal_of, waits_for_answer}
 use Rattle.session.specs.steps.Wire.{EndsRefusal, Says, Tries, Writes}
 use Rattle.session.specs.declared.reading.Asked.{Asked}
 use Rattle.session.specs.declared.served.Served.{Served}
@@ -54,11 +54,11 @@ pub one_text : (stream text other : List ℕ) (k j : ℕ) → front_of stream �
 one_text stream text other k j e f = cc
 
 -- a stream in which nothing has begun has no head
-pub between_lacks : (stream : List ℕ) → front_of stream ≡ head_front.Nothing → LacksHead stream
+pub between_lacks : (stream : List ℕ) → front_of stream ≡ head_front.Nothing → (head : RequestHead) → ¬ (BeginsWithRequest stream head)
 between_lacks stream e head begins = nothing_isnt_head stream head.text begins.skipped e begins.front
 
 -- nor has one of which no head is a request's
-no_head_lacks : (stream : List ℕ) → ((skipped : ℕ) (text : List ℕ) → front_of stream ≡ head_front.Head skipped text → IsNoHead Requests text) → LacksHead stream
+no_head_lacks : (stream : List ℕ) → ((skipped : ℕ) (text : List ℕ) → front_of stream ≡ head_front.Head skipped text → IsNoHead Requests text) → (head : RequestHead) → ¬ (BeginsWithRequest stream head)
 no_head_lacks stream none head begins = none begins.skipped head.text begins.front begins.holds.0 begins.holds.1.reads
 
 wire_lacks : (stream : List ℕ) (standing : Standing) → standing ≢ Failed Memory → WireLacksHead Requests stream standing
@@ -117,7 +117,7 @@ undecided_behind : (site : Site) (stream : List ℕ) (head : RequestHead) → Be
     → WireUndecided Requests false stream → IsUndecided site stream
 undecided_behind site stream head begins aimed (inl between) = nothing_isnt_head stream head.text begins.skipped between.0 begins.front
 undecided_behind site stream head begins aimed (inr (inl needed)) = needs_not stream head begins needed
-undecided_behind site stream head begins aimed (inr (inr body)) = inr (inr (record { head = head; begins = begins; aimed = aimed; needed = body }))
+undecided_behind site stream head begins aimed (inr (inr body)) = inr (inr (head, begins, aimed, body))
 
 -- the link failed before a head had come
 pub broke_without : (site : Site) (from : Client) (stream window : List ℕ) (now : Heard)
@@ -166,18 +166,18 @@ inside : (site : Site) (stream : List ℕ) (standing : Standing) (head : Option 
 inside site stream standing None interim n holds owed (inl needed) = inl needed
 inside site stream standing None interim n holds owed (inr body) = told_isnt_none stream _ _ _ body.head (wire_lacks stream standing n holds)
 inside site stream standing (Some head) interim n holds owed (inl needed) = needs_not stream head holds needed
-inside site stream standing (Some head) interim n holds owed (inr body) = inr (record {
-  head = head;
-  begins = holds;
-  aimed = owed.0;
-  needed = record {
+inside site stream standing (Some head) interim n holds owed (inr body) = inr (
+  head,
+  holds,
+  owed.0,
+  record {
     framing = body.framing;
     end = body.end;
     rest = body.rest;
     head = body.head;
     body = goes_on_false body.framing body.rest body.body;
-  };
-})
+  },
+)
 
 pub not_memory : (fault : WireFault) (standing : Standing) → standing ≡ Failed fault → fault ≢ Memory → standing ≢ Failed Memory
 not_memory fault standing e n f = n cc
@@ -250,7 +250,7 @@ out_of_memory site from stream interim standing (Some head) to now holds owed h 
     GivingUp (record {
       wire = stream;
       interim = interim;
-      begun = inr (inl (record { head = head; begins = holds; aimed = owed.0 }));
+      begun = inr (inl (head, holds, owed.0));
       interim_is = inl (inl (record { head = head; begins = holds; text_is = owed.1 }));
       to = record { heard = to; pending = parts.0 };
       taken = record { accounts = parts.1; said = h.said };
@@ -302,67 +302,67 @@ turned_away site from stream interim standing head fault refusal asks to now end
 -- ---- a head that is looked at
 
 -- a head that goes nowhere, or for which there was no memory
-pub aim_ends : (site : Site) (head : RequestHead) (fault : AimFault) (asks : Bool) (then now : Heard) (end : Served)
-    → IsAim (aim_of_head site head) (Err fault) → asks ≡ asks_for_head head.method → RefusesAim fault asks then now end
-    → LooksAt site head then now (Err end)
-aim_ends site head aim_fault.ConnectRefused asks then now end is asked h =
+pub aim_ends : (site : Site) (head : RequestHead) (fault : AimFault) (asks : Bool) (before now : Heard) (end : Served)
+    → IsAim (aim_of_head site head) (Err fault) → asks ≡ asks_for_head head.method → RefusesAim fault asks before now end
+    → LooksAt site head before now (Err end)
+aim_ends site head aim_fault.ConnectRefused asks before now end is asked h =
     inl (
       refusals.ConnectRefused,
       record { fault = aim_fault.ConnectRefused; aimed = is; refusal_is = refl },
-      subst (λ (b : Bool). EndsRefusal refusals.ConnectRefused (refusal_text refusals.ConnectRefused b true) then now end) asked h,
+      subst (λ (b : Bool). EndsRefusal refusals.ConnectRefused (refusal_text refusals.ConnectRefused b true) before now end) asked h,
     )
-aim_ends site head aim_fault.SecureRefused asks then now end is asked h =
+aim_ends site head aim_fault.SecureRefused asks before now end is asked h =
     inl (
       refusals.SecureRefused,
       record { fault = aim_fault.SecureRefused; aimed = is; refusal_is = refl },
-      subst (λ (b : Bool). EndsRefusal refusals.SecureRefused (refusal_text refusals.SecureRefused b true) then now end) asked h,
+      subst (λ (b : Bool). EndsRefusal refusals.SecureRefused (refusal_text refusals.SecureRefused b true) before now end) asked h,
     )
-aim_ends site head aim_fault.TargetRefused asks then now end is asked h =
+aim_ends site head aim_fault.TargetRefused asks before now end is asked h =
     inl (
       refusals.TargetRefused,
       record { fault = aim_fault.TargetRefused; aimed = is; refusal_is = refl },
-      subst (λ (b : Bool). EndsRefusal refusals.TargetRefused (refusal_text refusals.TargetRefused b true) then now end) asked h,
+      subst (λ (b : Bool). EndsRefusal refusals.TargetRefused (refusal_text refusals.TargetRefused b true) before now end) asked h,
     )
-aim_ends site head aim_fault.Memory asks then now end is asked h = inr (inl h)
+aim_ends site head aim_fault.Memory asks before now end is asked h = inr (inl h)
 
 -- a head that goes nowhere asks for nothing
 nowhere_asks : (site : Site) (head : RequestHead) (refusal : Refusal) → IsAimedNowhere site head refusal → interim_of site head ≡ []
 nowhere_asks site head refusal h = by_aim (aim_of_head site head) (waits_for_answer head) h.fault h.aimed where
-  by_aim : (aim : Result Aim AimFault) (waits : Bool) (fault : AimFault) → aim ≡ Err fault → interim_where (is_ok aim && waits) ≡ []
+  by_aim : (aim : Result Aim AimFault) (waits : Bool) (fault : AimFault) → aim ≡ Err fault → (if is_ok aim && waits then continue_text else []) ≡ []
   by_aim (Err fault) waits f e = refl
   by_aim (Ok aim) waits f e = absurd (cc)
 
 -- a head that goes nowhere is refused with the bytes that begin with it, or there was no memory, or the link failed in what it
 -- asks for
-pub looked_ends : (site : Site) (from : Client) (stream pending : List ℕ) (head : RequestHead) (then now : Heard) (end : Served)
-    → BeginsWithRequest stream head → HasTaken from stream [] (record { heard = then; pending = pending })
-    → LooksAt site head then now (Err end) → ReadsNone site from now end
-looked_ends site from stream pending head then now end begins taken (inl (refusal, nowhere, ends)) = Refusing (record {
+pub looked_ends : (site : Site) (from : Client) (stream pending : List ℕ) (head : RequestHead) (before now : Heard) (end : Served)
+    → BeginsWithRequest stream head → HasTaken from stream [] (record { heard = before; pending = pending })
+    → LooksAt site head before now (Err end) → ReadsNone site from now end
+looked_ends site from stream pending head before now end begins taken (inl (refusal, nowhere, ends)) = Refusing (record {
   head = Some head;
   refusal = refusal;
   wire = stream;
   interim = [];
   refused = (begins, inl nowhere);
   interim_is = inl (record { head = head; begins = begins; text_is = sym (nowhere_asks site head refusal nowhere) });
-  to = record { heard = then; pending = pending };
+  to = record { heard = before; pending = pending };
   taken = taken;
   ends = ends;
 })
-looked_ends site from stream pending head then now end begins taken (inr (inl (tries, e))) = GivingUp (record {
+looked_ends site from stream pending head before now end begins taken (inr (inl (tries, e))) = GivingUp (record {
   wire = [];
   interim = [];
   begun = inl (inl (refl, refl));
   interim_is = inr refl;
-  to = record { heard = then; pending = stream ++ pending };
+  to = record { heard = before; pending = stream ++ pending };
   taken = record { accounts = taken.accounts; said = taken.said };
   tries = tries;
   ends = e;
 })
-looked_ends site from stream pending head then now end begins taken (inr (inr (aimed, broke, e))) = Breaking (record {
+looked_ends site from stream pending head before now end begins taken (inr (inr (aimed, broke, e))) = Breaking (record {
   begun = stream;
   interim = interim_of site head;
   asked = record { head = head; begins = begins; text_is = refl };
-  to = record { heard = then; pending = pending };
+  to = record { heard = before; pending = pending };
   taken = taken;
   broke = broke;
   ends = e;
@@ -376,11 +376,11 @@ faulty_taken from stream to h =
     (parts.0, record { accounts = parts.1; said = h.said })
 
 -- and then what the head asks for was written
-pub faulty_written : (from : Client) (stream text : List ℕ) (then now : Heard) → ComesFaulty from stream [] then
-    → Writes text then now → ComesFaulty from stream text now
-faulty_written from stream text then now h w = record {
+pub faulty_written : (from : Client) (stream text : List ℕ) (before now : Heard) → ComesFaulty from stream [] before
+    → Writes text before now → ComesFaulty from stream text now
+faulty_written from stream text before now h w = record {
   accounts = rw (sym w.same_given) at h.accounts;
-  said = says_first text from.heard then now h.said w;
+  said = says_first text from.heard before now h.said w;
 }
 
 -- a fault in the body, behind a head that was looked at
@@ -427,7 +427,7 @@ pub read_without_memory : (site : Site) (from mid : Client) (stream grown : List
 read_without_memory site from mid stream grown head aim to now h begins accounts same tries = GivingUp (record {
   wire = grown;
   interim = interim_of site head;
-  begun = inr (inl (record { head = head; begins = begins; aimed = (aim, h.aimed) }));
+  begun = inr (inl (head, begins, (aim, h.aimed)));
   interim_is = inl (inl (record { head = head; begins = begins; text_is = refl }));
   to = to;
   taken = record { accounts = λ done e. accounts done (h.taken.accounts done e); said = says_same _ _ _ _ h.taken.said same };
@@ -445,15 +445,15 @@ body_broke site from mid stream grown window head aim now h begins undecided non
     (λ done e. accounts done (h.taken.accounts done e)) (says_same _ _ _ _ h.taken.said same) broke
 
 -- a head that was looked at
-pub looked : (site : Site) (from : Client) (stream pending : List ℕ) (head : RequestHead) (aim : Aim) (then now : Heard)
-    → BeginsWithRequest stream head → HasTaken from stream [] (record { heard = then; pending = pending }) → aim_of_head site head ≡ Ok aim
-    → Writes (interim_of site head) then now → AwaitsRest site from stream head aim (record { heard = now; pending = pending })
-looked site from stream pending head aim then now begins taken aimed w = record {
+pub looked : (site : Site) (from : Client) (stream pending : List ℕ) (head : RequestHead) (aim : Aim) (before now : Heard)
+    → BeginsWithRequest stream head → HasTaken from stream [] (record { heard = before; pending = pending }) → aim_of_head site head ≡ Ok aim
+    → Writes (interim_of site head) before now → AwaitsRest site from stream head aim (record { heard = now; pending = pending })
+looked site from stream pending head aim before now begins taken aimed w = record {
   begins = begins;
   aimed = aimed;
   taken = record {
     accounts = λ done e. w.same_given ∙ taken.accounts done e;
-    said = says_first (interim_of site head) from.heard then now taken.said w;
+    said = says_first (interim_of site head) from.heard before now taken.said w;
   };
 }
 

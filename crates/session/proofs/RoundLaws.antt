@@ -4,8 +4,8 @@ use Rattle.archive_shelf.proofs.CallLaws.{shown_itself}
 use Rattle.archive_shelf.specs.Laws.{BooksLeadToThemselves}
 use Rattle.archive_shelf.specs.Told.{Told}
 use Rattle.capture.specs.declared.book.Book.{Book}
-use Rattle.session.specs.Connection.{Setting, Gained, terms_at, view_at}
-use Rattle.session.specs.steps.Stages.{Stage, IsRemainder, IsMade}
+use Rattle.session.specs.Connection.{Setting, Gained}
+use Rattle.session.specs.steps.Stages.{Stage, IsRemainder, IsMade, terms_at, view_at}
 use Rattle.session.specs.steps.Endings.{client_at, heard_now}
 use Rattle.session.specs.Gains.{World, Gains}
 use Rattle.session.specs.steps.Gaining.{no_gains, gains_by}
@@ -57,11 +57,11 @@ pub record AsksNothing (r : Round) (view : View) : Type 0 where
 
 -- a lawful round that asks nothing was made where nothing but the client was heard
 pub made_idle : (alone : Bool) (setting : Setting) (served : ℕ) (r : Round) (was : World) (now : Heard) → BooksLeadToThemselves
-    → IsRound (terms_at alone setting was.shelf) served r → AsksNothing r (view_at alone setting was)
+    → IsRound (terms_at alone setting was.shelf) served r → AsksNothing r (view_at was)
     → IsMade alone setting served r was (heard_now was now)
 made_idle alone setting served r was now itself lawful h = record {
   lawful = lawful;
-  leads = rw h.traces (view_itself (terms_at alone setting was.shelf) (view_at alone setting was) itself);
+  leads = rw h.traces (view_itself (terms_at alone setting was.shelf) (view_at was) itself);
   knows = λ tells from. let bad : ⊥ = cc (h.shown, from) in absurd bad;
   left = rw h.traces refl;
   gained = subst (λ (g : Gains). Gained alone setting was (heard_now was now) g) (sym h.gains) (gained_none alone setting was now);
@@ -99,11 +99,11 @@ pub gave_up : (alone : Bool) (setting : Setting) (wire interim : List ℕ) (from
     → IsRemainder alone setting from (heard_now from.world now) WantOfMemory
 gave_up alone setting wire interim from to now itself begun known taken tries = by_trying tries where
   r : Round
-  r = lacking_round wire interim (view_at alone setting from.world)
+  r = lacking_round wire interim (view_at from.world)
 
   made : IsMade alone setting from.served r from.world (heard_now from.world now)
   made = made_idle alone setting from.served r from.world now itself
-      (lacking_lawful (terms_at alone setting from.world.shelf) from.served wire interim (view_at alone setting from.world) begun known)
+      (lacking_lawful (terms_at alone setting from.world.shelf) from.served wire interim (view_at from.world) begun known)
       (record { traces = refl; gains = refl; deed = refl; shown = refl })
 
   by_trying : Tries memory_text to.heard now → IsRemainder alone setting from (heard_now from.world now) WantOfMemory
@@ -160,11 +160,11 @@ pub refused_bytes : (alone : Bool) (setting : Setting) (head : Option RequestHea
     → IsRemainder alone setting from (heard_now from.world now) result
 refused_bytes alone setting head refusal wire interim from to now result itself refused known taken ends = by_result result ends where
   r : Round
-  r = refusal_round head refusal wire interim (view_at alone setting from.world)
+  r = refusal_round head refusal wire interim (view_at from.world)
 
   made : IsMade alone setting from.served r from.world (heard_now from.world now)
   made = made_idle alone setting from.served r from.world now itself
-      (refusal_lawful (terms_at alone setting from.world.shelf) from.served head refusal wire interim (view_at alone setting from.world) refused known)
+      (refusal_lawful (terms_at alone setting from.world.shelf) from.served head refusal wire interim (view_at from.world) refused known)
       (record { traces = refl; gains = refl; deed = refl; shown = refl })
 
   by_result : (result : Served) → EndsRefusal refusal (refusal_text refusal (answers_head head) true) to.heard now result

@@ -111,7 +111,7 @@ module _ (site : Site) (r : Round) (t : Transcript) (there : Contains r.traces.t
     | inl (untimed, none) ↦ nobody r.traces.transcripts t none there
     | inr more ↦ elim more [
       | inl (timed, none) ↦ nobody r.traces.transcripts t none there
-      | inr begun ↦ elim begun.linked [
+      | inr begun ↦ elim begun.1 [
         | inl none ↦ nobody r.traces.transcripts t none there
         | inr one ↦ one_dialed e one.t asked one.only one.fetched.host one.fetched.port
       ]

@@ -10,8 +10,8 @@ use Rattle.capture.specs.declared.captured.Taken.{Taken}
 use Rattle.capture.specs.declared.site.Site.{Site}
 use Rattle.http_head.specs.declared.head.Received.{Received}
 use Rattle.warc_journal.specs.Extents.{cdxj_files}
-use Rattle.session.specs.Exchanges.{Exchange, HasRoom, taken_of, taken_in}
-use Rattle.session.specs.Images.{Deed, NoDeed, Stores, IsDenied, deed_of, MayBeLeft, OpensBehind, IsOfDenied, KeepsImages, NeedsIds}
+use Rattle.session.specs.Exchanges.{Exchange, HasRoom, taken_of}
+use Rattle.session.specs.Images.{Deed, NoDeed, Stores, IsDenied, deed_of, MayBeLeft, OpensBehind, KeepsImages, NeedsIds}
 use Rattle.session.specs.Rounds.{Round}
 use Rattle.session.specs.steps.Shelving.{HasKept, WasDenied}
 use Rattle.session.specs.Traces.{Terms, Traces, terms_of}
@@ -78,11 +78,13 @@ images_stored alone site r e received was is h =
 -- ---- the disk refused the store
 
 denied_of : (terms : Terms) (e : Exchange) (traces : Traces) (room : HasRoom terms e traces) (x a : Book) → traces.before.book ≡ a
-    → (storing : Storing terms.limits.volume_bytes a (taken_in room)) → (x ≡ storing.unfilled) ⊎ (x ≡ stored_by storing)
-    → IsOfDenied terms e traces x
+    → (storing : Storing terms.limits.volume_bytes a (taken_of e room.fetched.date room.received)) → (x ≡ storing.unfilled) ⊎ (x ≡ stored_by storing)
+    → (its_room : HasRoom terms e traces)
+    × (s : Storing terms.limits.volume_bytes traces.before.book (taken_of e its_room.fetched.date its_room.received))
+    × ((x ≡ s.unfilled) ⊎ (x ≡ stored_by s))
 denied_of terms e traces room x a same storing is =
-    let told : (s : Storing terms.limits.volume_bytes traces.before.book (taken_in room)) × ((x ≡ s.unfilled) ⊎ (x ≡ stored_by s)) =
-    subst (λ (book : Book). (s : Storing terms.limits.volume_bytes book (taken_in room)) × ((x ≡ s.unfilled) ⊎ (x ≡ stored_by s))) (sym same) (storing, is) in
+    let told : (s : Storing terms.limits.volume_bytes traces.before.book (taken_of e room.fetched.date room.received)) × ((x ≡ s.unfilled) ⊎ (x ≡ stored_by s)) =
+    subst (λ (book : Book). (s : Storing terms.limits.volume_bytes book (taken_of e room.fetched.date room.received)) × ((x ≡ s.unfilled) ⊎ (x ≡ stored_by s))) (sym same) (storing, is) in
     (room, told.0, told.1)
 
 just_this : (x y : Book) → Some y ≡ Some x → x ≡ y
@@ -109,7 +111,7 @@ images_denied alone site r e was is h =
         | inl p ↦ inl p
         | inr m ↦ inr (inl (subst (λ (d : Deed). MayBeLeft terms r.traces d x) (sym h.deed) (
           h.room,
-          leaves_of was.contents.limits.volume_bytes (taken_in h.room) x was.contents.seen r.traces.before.book (h.found is_alone) m,
+          leaves_of was.contents.limits.volume_bytes (taken_of e h.room.fetched.date h.room.received) x was.contents.seen r.traces.before.book (h.found is_alone) m,
         )))
       ];
       left = λ is_alone tells ids x o. subst (λ (d : Deed). OpensBehind terms r.traces d (λ b. was.crash.openings was.crash.moment b) x) (sym h.deed)

@@ -1,6 +1,7 @@
 -- What deciding a request to the site makes of a round.
 use Rattle.http_head.specs.declared.head.RequestMessage.{RequestMessage}
 use Rattle.exchange.specs.declared.aim.Aim.{Aim}
+use Rattle.capture.specs.Methods.{asks_for_head}
 use Rattle.capture.specs.declared.site.Site.{Site}
 use Rattle.std.proofs.Common.{◌≡◌, ◌≢◌, ◌==◌, inl, inr, ℕ, ◌≤◌, Bool, true, false, IsTrue, IsErr, List, [], ◌++◌, Some, Result, Ok, Err, refl, sym, ◌∙◌, ap, subst, arith}
 use Rattle.std.proofs.lemmas.Bool.{eqb-true, eqb-false, false≢true}
@@ -25,12 +26,13 @@ use Rattle.outside.specs.declared.dialer.Transcript.{Transcript}
 use Rattle.outside.specs.declared.gate.Heard.{Heard}
 use Rattle.replay_url.specs.Questions.{ForNumber, ForPiece}
 use Rattle.replay_url.specs.declared.form.Form.TheVariants.{Number, Ship}
+use Rattle.session.specs.steps.Stages.{terms_at}
 use Rattle.session.specs.steps.Answering.{Incoming, MakesRound, IsAnswered, Answers, AnswersVisit}
-use Rattle.session.specs.Connection.{Setting, terms_at}
+use Rattle.session.specs.Connection.{Setting}
 use Rattle.session.specs.steps.Declining.{Declines, DeclinesPiece, refusal_by_bring}
 use Rattle.session.specs.Requests.{IsAsked, IsInterim, closes_after, IsBegun}
-use Rattle.session.specs.Rounds.{Round, Visited, IsRound, disk_fault, Undecided}
-use Rattle.session.specs.SiteAnswers.{SiteRequest, SiteReply, Refuses, HasNoMore, Asks, IsReplayed, IsShipped, IsSiteReply, IsSiteText, answers_head, is_of_shown, nothing_text}
+use Rattle.session.specs.Rounds.{Round, Visited, IsRound, disk_fault, Undecided, is_from_shown}
+use Rattle.session.specs.SiteAnswers.{SiteRequest, SiteReply, Refuses, HasNoMore, Asks, IsReplayed, IsShipped, IsSiteReply, IsSiteText, nothing_text}
 use Rattle.session.specs.Traces.{Terms, View, CountsMet}
 use Rattle.capture.specs.declared.captured.Brought.{Brought}
 use Rattle.capture.specs.declared.memory.Memory.{Memory}
@@ -60,7 +62,7 @@ pub record Visits (alone : Bool) (setting : Setting) (q : SiteRequest) (reply : 
   pub met : disk_fault (Visited q reply) ≡ one_if fault
   pub shows : LeadsShown alone was.contents.shown shown
   pub later : LeadsShown alone shown is.contents.shown
-  pub knows : IsTrue was.contents.tells → IsTrue (is_of_shown reply) → Shows alone was.contents.seen shown
+  pub knows : IsTrue was.contents.tells → IsTrue (is_from_shown (Visited q reply)) → Shows alone was.contents.seen shown
   pub by : (faults : ℕ) → IsSiteReply (terms_at alone setting was) q reply (seen_at shown faults was is)
 
 -- a count that stayed
@@ -123,10 +125,8 @@ visited alone setting incoming q lacked reply shown text was is then now answers
     knows = h.knows;
     left = refl;
     gained = record {
-      around = record {
-        asked = λ _ _. sym (append-nil answers);
-        logged = ap (λ (l : List Transcript). record links { log = l }) (sym (append-nil links.log));
-      };
+      asked = λ _ _. sym (append-nil answers);
+      logged = ap (λ (l : List Transcript). record links { log = l }) (sym (append-nil links.log));
       stored = stored_none was.contents is.contents h.reads.stays.others;
     };
     images = images_unwritten alone setting.site (visit_round incoming q lacked reply shown text faults was is) was is refl earlier h.reads.unwritten;
@@ -177,11 +177,11 @@ visit_lacked alone setting incoming q reply shown was is then now answers links 
 
 -- a request that was read begins with its head
 asked_begun : (site : Site) (wire : List ℕ) (message : RequestMessage) (aim : Aim) → IsAsked site wire message aim → IsBegun site wire
-asked_begun site wire message aim asked = inr (inl (record {
-  head = message.head;
-  begins = record { skipped = asked.is.skipped; front = asked.is.front; holds = asked.is.holds };
-  aimed = (aim, asked.aimed);
-}))
+asked_begun site wire message aim asked = inr (inl (
+  message.head,
+  record { skipped = asked.is.skipped; front = asked.is.front; holds = asked.is.holds },
+  (aim, asked.aimed),
+))
 
 -- there was no memory to decide on a reply
 abbrev undecided_round : Incoming → List Facts → ℕ → Told → Told → Round
@@ -233,10 +233,8 @@ undecided alone setting incoming q shown was is then now answers links faults ea
     knows = λ tells from. absurd (false≢true from);
     left = refl;
     gained = record {
-      around = record {
-        asked = λ _ _. sym (append-nil answers);
-        logged = ap (λ (l : List Transcript). record links { log = l }) (sym (append-nil links.log));
-      };
+      asked = λ _ _. sym (append-nil answers);
+      logged = ap (λ (l : List Transcript). record links { log = l }) (sym (append-nil links.log));
       stored = stored_none was.contents is.contents reads.stays.others;
     };
     images = images_unwritten alone setting.site (undecided_round incoming shown faults was is) was is refl earlier reads.unwritten;
@@ -263,7 +261,7 @@ visit_answers alone setting q reply shown closes (Err memory) was is incoming th
 
 -- a reply that is no answer from what is shown, and no fault
 at_once : (alone : Bool) (setting : Setting) (q : SiteRequest) (reply : SiteReply) (shelf : Told)
-    → disk_fault (Visited q reply) ≡ 0 → is_of_shown reply ≡ false
+    → disk_fault (Visited q reply) ≡ 0 → is_from_shown (Visited q reply) ≡ false
     → ((faults : ℕ) → IsSiteReply (terms_at alone setting shelf) q reply (seen_at shelf.contents.shown faults shelf shelf))
     → Visits alone setting q reply shelf.contents.shown shelf shelf
 at_once alone setting q reply shelf none unshown by = record {
@@ -297,7 +295,7 @@ lacks_visit alone setting q shelf incoming then now answers links faults earlier
 
 -- a reply that is decided by what was brought
 brought_visits : (alone : Bool) (setting : Setting) (q : SiteRequest) (reply : SiteReply) (fault : Bool) (was is : Told)
-    → ReadsOn alone fault was is → disk_fault (Visited q reply) ≡ one_if fault → is_of_shown reply ≡ false
+    → ReadsOn alone fault was is → disk_fault (Visited q reply) ≡ one_if fault → is_from_shown (Visited q reply) ≡ false
     → ((faults : ℕ) → IsSiteReply (terms_at alone setting was) q reply (seen_at is.contents.shown faults was is))
     → Visits alone setting q reply is.contents.shown was is
 brought_visits alone setting q reply fault was is h met unshown by = record {
@@ -338,7 +336,7 @@ piece_shipped terms q number piece is faults disk asks (there, some, known) same
 -- a request that is answered by what was brought
 pub bring_answers : (alone : Bool) (setting : Setting) (q : SiteRequest) (reply : SiteReply) (closes fault : Bool)
     (result : Result Given Memory) (was is : Told) → IsEarlier is.crash → ReadsOn alone fault was is
-    → disk_fault (Visited q reply) ≡ one_if fault → is_of_shown reply ≡ false
+    → disk_fault (Visited q reply) ≡ one_if fault → is_from_shown (Visited q reply) ≡ false
     → ((faults : ℕ) → IsSiteReply (terms_at alone setting was) q reply (seen_at is.contents.shown faults was is))
     → IfOk result (λ answer. IsSiteText (terms_at alone setting was) q reply closes answer.text) → IfOk result (λ answer. answer.closes ≡ closes)
     → AnswersVisit alone setting q closes result was is
@@ -364,17 +362,17 @@ lacking_bring alone setting q closes (Err memory) was is earlier h err = bring_l
 
 -- a capture with this number, which wasn't brought
 pub unbrought_answers : (alone : Bool) (setting : Setting) (q : SiteRequest) (number : ℕ) (fault : BringFault) (asks closes : Bool)
-    (result : Result Given Memory) (was is : Told) → IsEarlier is.crash → Asks q (Number number) → asks ≡ answers_head q
+    (result : Result Given Memory) (was is : Told) → IsEarlier is.crash → Asks q (Number number) → asks ≡ asks_for_head q.message.head.method
     → Brings is.contents number (Err fault) → ReadsOn alone (is_bring_fault {T = Brought} (Err fault)) was is
     → Declines (refusal_by_bring number fault) asks closes result → AnswersVisit alone setting q closes result was is
 unbrought_answers alone setting q number (brings.NoSuch count) asks closes result was is earlier asked same h reads declines =
     bring_answers alone setting q (Refuses (NoSuch number count)) closes false result was is earlier reads refl refl
     (λ faults. (inl (asked, subst (λ (n : ℕ). n ≤ number) h.0 h.1, h.2), h.0))
-    (refusal_is result (NoSuch number count) asks (answers_head q) closes same declines.text_is) declines.closes_is
+    (refusal_is result (NoSuch number count) asks (asks_for_head q.message.head.method) closes same declines.text_is) declines.closes_is
 unbrought_answers alone setting q number brings.DiskFault asks closes result was is earlier asked same h reads declines =
     bring_answers alone setting q (Refuses DiskFault) closes true result was is earlier reads refl refl
     (λ faults. (ForNumber number, number, record { wanted = (asked, refl); there = h }))
-    (refusal_is result DiskFault asks (answers_head q) closes same declines.text_is) declines.closes_is
+    (refusal_is result DiskFault asks (asks_for_head q.message.head.method) closes same declines.text_is) declines.closes_is
 unbrought_answers alone setting q number (brings.Damaged at kept found) asks closes result was is earlier asked same h reads declines =
     bring_answers alone setting q (Refuses (Damaged at kept found)) closes false result was is earlier reads refl refl
     (λ faults. (
@@ -384,13 +382,13 @@ unbrought_answers alone setting q number (brings.Damaged at kept found) asks clo
       h.2,
       told_damaged _ _ kept found (stays_tells alone was.contents is.contents reads.stays) h.3,
     ))
-    (refusal_is result (Damaged at kept found) asks (answers_head q) closes same declines.text_is) declines.closes_is
+    (refusal_is result (Damaged at kept found) asks (asks_for_head q.message.head.method) closes same declines.text_is) declines.closes_is
 unbrought_answers alone setting q number brings.Memory asks closes result was is earlier asked same h reads declines =
     lacking_bring alone setting q closes result was is earlier reads declines
 
 -- or its piece
 pub unshipped_answers : (alone : Bool) (setting : Setting) (q : SiteRequest) (number : ℕ) (fault : BringFault) (asks closes : Bool)
-    (result : Result Given Memory) (was is : Told) → IsEarlier is.crash → Asks q (Ship number) → asks ≡ answers_head q
+    (result : Result Given Memory) (was is : Told) → IsEarlier is.crash → Asks q (Ship number) → asks ≡ asks_for_head q.message.head.method
     → GivesPiece is.contents number (Err fault) → ReadsOn alone (is_bring_fault {T = List ℕ} (Err fault)) was is
     → DeclinesPiece number fault asks closes result → IfOk result (λ answer. answer.closes ≡ closes)
     → AnswersVisit alone setting q closes result was is
@@ -407,11 +405,11 @@ unshipped_answers alone setting q number (brings.NoSuch count) asks closes resul
           let other : number ≢ count = eqb-false number count e in
           bring_answers alone setting q (Refuses (NoSuch number count)) closes false result was is earlier reads refl refl
           (λ faults. (inr (asked, omega (arith, h.0, h.1, other), h.2), h.0))
-          (refusal_is result (NoSuch number count) asks (answers_head q) closes same refuses.text_is) closed
+          (refusal_is result (NoSuch number count) asks (asks_for_head q.message.head.method) closes same refuses.text_is) closed
 unshipped_answers alone setting q number brings.DiskFault asks closes result was is earlier asked same h reads declines closed =
     bring_answers alone setting q (Refuses DiskFault) closes true result was is earlier reads refl refl
     (λ faults. (ForPiece number, number, record { wanted = (asked, refl); there = h }))
-    (refusal_is result DiskFault asks (answers_head q) closes same declines.text_is) closed
+    (refusal_is result DiskFault asks (asks_for_head q.message.head.method) closes same declines.text_is) closed
 unshipped_answers alone setting q number (brings.Damaged at kept found) asks closes result was is earlier asked same h reads declines closed =
     bring_answers alone setting q (Refuses (Damaged at kept found)) closes false result was is earlier reads refl refl
     (λ faults. (
@@ -421,7 +419,7 @@ unshipped_answers alone setting q number (brings.Damaged at kept found) asks clo
       h.1,
       told_damaged _ _ kept found (stays_tells alone was.contents is.contents reads.stays) h.2,
     ))
-    (refusal_is result (Damaged at kept found) asks (answers_head q) closes same declines.text_is) closed
+    (refusal_is result (Damaged at kept found) asks (asks_for_head q.message.head.method) closes same declines.text_is) closed
 unshipped_answers alone setting q number brings.Memory asks closes result was is earlier asked same h reads declines closed =
     lacking_bring alone setting q closes result was is earlier reads declines
 
@@ -436,8 +434,8 @@ match_false P Q told true e f q = let bad : ⊥ = cc in absurd bad
 
 -- a request that is refused, or lacks memory, where the shelf wasn't called
 pub refusal_answers : (alone : Bool) (setting : Setting) (q : SiteRequest) (refusal : Refusal) (asks closes : Bool)
-    (result : Result Given Memory) (shelf : Told) → IsEarlier shelf.crash → asks ≡ answers_head q
-    → disk_fault (Visited q (Refuses refusal)) ≡ 0 → is_of_shown (Refuses refusal) ≡ false
+    (result : Result Given Memory) (shelf : Told) → IsEarlier shelf.crash → asks ≡ asks_for_head q.message.head.method
+    → disk_fault (Visited q (Refuses refusal)) ≡ 0 → is_from_shown (Visited q (Refuses refusal)) ≡ false
     → ((faults : ℕ)
     → IsSiteReply (terms_at alone setting shelf) q (Refuses refusal) (seen_at shelf.contents.shown faults shelf shelf))
     → IfOk result (λ answer. answer.text ≡ refusal_text refusal asks closes) → IfOk result (λ answer. answer.closes ≡ closes)
@@ -445,7 +443,7 @@ pub refusal_answers : (alone : Bool) (setting : Setting) (q : SiteRequest) (refu
 refusal_answers alone setting q refusal asks closes result shelf earlier asks_is none unshown by text closed incoming then now answers links faults closing asked known =
     visit_answers alone setting q (Refuses refusal) shelf.contents.shown closes result shelf shelf incoming then now answers links faults earlier
     (at_once alone setting q (Refuses refusal) shelf none unshown by)
-    (refusal_is result refusal asks (answers_head q) closes asks_is text) closed closing asked known
+    (refusal_is result refusal asks (asks_for_head q.message.head.method) closes asks_is text) closed closing asked known
 
 pub lacking_answers : (alone : Bool) (setting : Setting) (q : SiteRequest) (closes : Bool) (memory : Memory) (shelf : Told) → IsEarlier shelf.crash
     → AnswersVisit alone setting q closes (Err memory) shelf shelf

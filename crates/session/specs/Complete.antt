@@ -1,8 +1,9 @@
 -- Which requests are answered. Where no object failed, a lawful round that decided such a request has its answer.
-use Rattle.std.specs.Prelude.{◌≡◌, ℕ, ◌-◌, ◌^◌, ◌<◌, ◌≤◌, Bool, true, false, IsTrue, List, length, Contains, Option, Some, ⊤}
+use Rattle.std.specs.Prelude.{◌≡◌, ℕ, ◌-◌, ◌^◌, ◌<◌, ◌≤◌, Bool, true, false, ◌||◌, IsTrue, List, length, Contains, Option, Some, ⊤}
 use Rattle.capture.specs.Captures.{captures}
 use Rattle.capture.specs.Final.{Arrived, IsArrival}
 use Rattle.capture.specs.First.{Message, BodyNeeded}
+use Rattle.capture.specs.Methods.{asks_for_head}
 use Rattle.capture.specs.declared.refusal.Refusal.{Refusal}
 use Rattle.capture.specs.declared.site.Site.{Site}
 use Rattle.cdx_query.specs.Reading.{IsQuery}
@@ -16,9 +17,9 @@ use Rattle.http_head.specs.declared.head.RequestMessage.{RequestMessage}
 use Rattle.outside.specs.declared.dialer.Transcript.{Transcript}
 use Rattle.replay_url.specs.Questions.{Question, ForNearest, ForAll, ForQuery, ForNumber, ForPiece, question_of}
 use Rattle.replay_url.specs.declared.form.Form.{Form}
-use Rattle.session.specs.Exchanges.{Exchange, Reply, Passes, IsPassedOn, answers_head}
+use Rattle.session.specs.Exchanges.{Exchange, Reply, Passes, IsPassedOn}
 use Rattle.session.specs.Requests.{IsAsked, IsRefused, closes_after}
-use Rattle.session.specs.Rounds.{Round, Exchanged, Visited, IsRound, closes_exchange}
+use Rattle.session.specs.Rounds.{Round, Exchanged, Visited, IsRound}
 use Rattle.session.specs.SiteAnswers.{SiteRequest, SiteReply, Refuses, Redirects, Replays, Lists, Finds, Ships, HasNoMore, Asks, IsSiteText}
 use Rattle.session.specs.Traces.{Terms, View, Traces}
 use Rattle.surt_key.specs.Key.{key_of}
@@ -36,8 +37,9 @@ pub record IsFaultless (traces : Traces) : Type 0 where
 -- The origin gave a final response within the limits, behind no more interim ones than are dropped: a whole one, or one that the
 -- link's end cut inside its body.
 abbrev pub GaveResponse : Exchange → Bool → Transcript → Type 0
-GaveResponse e false t = (behind : ℕ) × (used : ℕ) × IsArrival (answers_head e) t.ended t.given (Arrived behind (Message used))
-GaveResponse e true t = (behind : ℕ) × IsArrival (answers_head e) t.ended t.given (Arrived behind BodyNeeded) × (t.ended ≡ true)
+GaveResponse e false t = (behind : ℕ) × (used : ℕ) × IsArrival (asks_for_head e.message.head.method) t.ended t.given (Arrived behind (Message used))
+GaveResponse e true t =
+    (behind : ℕ) × IsArrival (asks_for_head e.message.head.method) t.ended t.given (Arrived behind BodyNeeded) × (t.ended ≡ true)
 
 -- the clock's answer has a text, the origin gave a response, and there is room for its capture
 pub record CanBePassedOn (terms : Terms) (e : Exchange) (cut : Bool) (traces : Traces) : Type 0 where
@@ -52,7 +54,7 @@ pub record GetsResponse (terms : Terms) (served : ℕ) (r : Round) (e : Exchange
   pub outcome_is : r.outcome ≡ Exchanged e (Passes received payload)
   pub passed : IsPassedOn terms e received payload r.traces
   pub cut_is : received.cut ≡ cut
-  pub text_is : r.text ≡ answered received payload (answers_head e) (closes_exchange served e (Passes received payload))
+  pub text_is : r.text ≡ answered received payload (asks_for_head e.message.head.method) (received.cut || closes_after served e.message.head)
 
 abbrev pub ResponsesArePassedOn : Type 0
 ResponsesArePassedOn =

@@ -1,12 +1,11 @@
 -- What one connection was.
-use Rattle.std.specs.Prelude.{◌≡◌, Bool, List, ℕ, ◌++◌}
-use Rattle.archive_shelf.specs.Told.{Told}
+use Rattle.std.specs.Prelude.{◌≡◌, ℕ, ◌-◌, ◌^◌, ◌<◌, Bool, List, ◌++◌, length, IsTrue}
 use Rattle.capture.specs.declared.site.Site.{Site}
-use Rattle.session.specs.Gains.{World, Gains, gains_of, GainsOutside}
+use Rattle.session.specs.Gains.{World, Gains, gains_of}
 use Rattle.session.specs.Images.{KeepsImages}
 use Rattle.session.specs.Rounds.{Round, IsCourse, course_wire}
 use Rattle.session.specs.Stopping.{Ends}
-use Rattle.session.specs.Traces.{Terms, View, terms_of, view_of}
+use Rattle.session.specs.Traces.{terms_of, view_of}
 use Rattle.session.specs.declared.served.Served.{Served}
 
 -- the archive's site, and whether the clock tells its answers
@@ -15,17 +14,11 @@ pub record Setting : Type 0 where
   pub clock_tells : Bool
 
 module _ (alone : Bool) (setting : Setting) where
-  -- what holds for as long as the connection lasts
-  abbrev pub terms_at : Told → Terms
-  terms_at shelf = terms_of setting.site alone shelf.contents
-
-  -- what is seen
-  abbrev pub view_at : World → View
-  view_at world = view_of world.shelf.contents world.dialer_faults world.shelf.faults
-
-  -- What the objects tell has changed by what rounds gained, and nothing else of the shelf's contents changed.
+  -- What the objects tell has changed by what rounds gained: clock and dialer tell it, and no link is left out; and nothing else of the
+  -- shelf's contents changed. A clock that tells does so while its answers are fewer than 2^64 - 1.
   pub record Gained (was is : World) (gains : Gains) : Type 0 where
-    pub around : GainsOutside setting.clock_tells was is gains
+    pub asked : IsTrue setting.clock_tells → length is.answers < 2 ^ 64 - 1 → is.answers ≡ was.answers ++ gains.times
+    pub logged : is.links ≡ record was.links { log = was.links.log ++ gains.transcripts }
     pub stored : is.shelf.contents ≡ record was.shelf.contents {
       seen = is.shelf.contents.seen;
       shown = is.shelf.contents.shown;
@@ -38,7 +31,9 @@ module _ (alone : Bool) (setting : Setting) where
     pub rounds : List Round
     pub rest : List ℕ
     pub given : is.heard.given ≡ was.heard.given ++ (course_wire rounds ++ rest)
-    pub lawful : IsCourse (terms_at was.shelf) 0 (view_at was) rounds (view_at is)
+    pub lawful : IsCourse (terms_of setting.site alone was.shelf.contents) 0
+        (view_of was.shelf.contents was.dialer_faults was.shelf.faults) rounds
+        (view_of is.shelf.contents is.dialer_faults is.shelf.faults)
     pub ends : Ends result setting.site (record { served = 0; rounds = rounds; rest = rest }) was.heard is.heard
     pub gained : Gained was is (gains_of rounds)
-    pub images : KeepsImages (terms_at was.shelf) rounds was.shelf is.shelf
+    pub images : KeepsImages (terms_of setting.site alone was.shelf.contents) rounds was.shelf is.shelf

@@ -1,8 +1,9 @@
 -- A request that goes to an origin, and how it is answered (RFC 9110, sections 3.7 and 7.6). Refusals come in this order: for the
 -- clock, for the dialer, for what the origin sent, for want of room, for the disk.
-use Rattle.std.specs.Prelude.{◌≡◌, ◌⊎◌, ℕ, ◌<◌, ◌≤◌, Bool, List, [], ◌∷◌, length, IsTrue, Ok, Err}
+use Rattle.std.specs.Prelude.{◌≡◌, ◌⊎◌, ℕ, ◌<◌, ◌≤◌, List, [], ◌∷◌, length, IsTrue, Ok, Err}
 use Rattle.archive_shelf.specs.Answers.{IsByRule, IsDamaged, HasVolumeAlone}
 use Rattle.archive_shelf.specs.Comparing.{CanRefer}
+use Rattle.archive_shelf.specs.Contents.{LeadsShown, LeadsShownPast}
 use Rattle.archive_shelf.specs.Storing.{Gains, as_stored}
 use Rattle.archive_shelf.specs.declared.receipt.Receipt.{Receipt}
 use Rattle.capture.specs.Captures.{captures, IsPayloadOf}
@@ -12,8 +13,7 @@ use Rattle.capture.specs.declared.captured.Taken.{Taken}
 use Rattle.capture.specs.declared.refusal.Refusal.{Refusal}
 use Rattle.capture.specs.declared.refusal.Refusal.TheVariants.{ClockRange, DialFault, OriginFault, OriginEnded, OriginMalformed, OriginTooLong, TooManyInterim, Full, DiskFault, Damaged}
 use Rattle.exchange.specs.Fetches.{Asking, IsFetched}
-use Rattle.exchange.specs.Refusals.{refusal_text}
-use Rattle.exchange.specs.Texts.{forwarded, answered}
+use Rattle.exchange.specs.Texts.{forwarded}
 use Rattle.exchange.specs.declared.aim.Target.{Target}
 use Rattle.exchange.specs.declared.fetching.FetchFault.{FetchFault}
 use Rattle.exchange.specs.declared.fetching.FetchFault.TheVariants as fetch_fault
@@ -21,24 +21,20 @@ use Rattle.http_head.specs.declared.head.Received.{Received}
 use Rattle.http_head.specs.declared.head.RequestMessage.{RequestMessage}
 use Rattle.outside.specs.declared.dialer.Transcript.{Transcript}
 use Rattle.time_text.specs.Texts.{InRange}
-use Rattle.session.specs.Traces.{Terms, Traces, StaysShown, StaysView, GainsView}
+use Rattle.session.specs.Traces.{Terms, Traces, StaysView, IsConsistentView}
 
 -- a request, and the origin that it goes to
 pub record Exchange : Type 0 where
   pub message : RequestMessage
   pub target : Target
 
--- what goes to the origin
-abbrev pub sent_of : Exchange → List ℕ
-sent_of e = forwarded e.message e.target
-
--- whether the response answers HEAD
-abbrev pub answers_head : Exchange → Bool
-answers_head e = asks_for_head e.message.head.method
-
 -- what is asked of the origin
 abbrev pub asking_of : Exchange → Asking
-asking_of e = record { target = e.target; request = sent_of e; answers_head = answers_head e }
+asking_of e = record {
+  target = e.target;
+  request = forwarded e.message e.target;
+  answers_head = asks_for_head e.message.head.method;
+}
 
 -- How the request is answered: by a refusal, or by the origin's response, with this payload.
 pub data Reply : Type 0 where
@@ -78,7 +74,7 @@ taken_of e date received = record {
   method = e.message.head.method;
   uri = e.target.uri;
   date = date;
-  request = sent_of e;
+  request = forwarded e.message e.target;
   head = received.head.text;
   wire = received.wire;
   cut = received.cut;
@@ -114,16 +110,14 @@ pub record HasRoom (terms : Terms) (e : Exchange) (traces : Traces) : Type 0 whe
   pub fetched : Fetched e received traces
   pub room : length (captures traces.before.book) < terms.limits.captures
 
--- the capture that there is room for
-abbrev pub taken_in : {terms : Terms} {e : Exchange} {traces : Traces} → HasRoom terms e traces → Taken
-taken_in {terms} {e} room = taken_of e room.fetched.date room.received
-
--- the disk failed: nothing was stored, but a volume that the capture needs may be there
+-- The disk failed: nothing was stored, but a volume that the capture needs may be there. What is shown stays, and alone it is still
+-- the entries of the book.
 pub record IsRefusedByDisk (terms : Terms) (e : Exchange) (traces : Traces) : Type 0 where
   pub room : HasRoom terms e traces
   pub left : (traces.after.book ≡ traces.before.book)
-      ⊎ HasVolumeAlone terms.tells terms.limits.volume_bytes traces.before.book (taken_in room) traces.after.book
-  pub shown : StaysShown terms traces.before traces.after
+      ⊎ HasVolumeAlone terms.tells terms.limits.volume_bytes traces.before.book (taken_of e room.fetched.date room.received) traces.after.book
+  pub shown : LeadsShown terms.alone traces.before.shown traces.after.shown
+  pub consistent : IsConsistentView terms traces.after
 
 -- what was read of an earlier capture, to be compared, is damaged
 pub record IsRefusedForDamage (terms : Terms) (e : Exchange) (number : ℕ) (traces : Traces) : Type 0 where
@@ -148,7 +142,8 @@ IsFailure terms e other traces = ⊥
 -- ---- the response
 
 -- The origin's response was passed on, and it is the archive's last capture: there was room, it alone was gained, by the rule of
--- storing, and its payload there is that of the bytes that the link gave.
+-- storing, with its entry if it has one, and its payload there is that of the bytes that the link gave. Alone what is shown are the
+-- entries of the book.
 pub record IsPassedOn (terms : Terms) (e : Exchange) (received : Received) (payload : List ℕ) (traces : Traces) : Type 0 where
   pub fetched : Fetched e received traces
   pub payload_is : IsPayload received.cut received.framing received.wire payload
@@ -160,30 +155,22 @@ pub record IsPassedOn (terms : Terms) (e : Exchange) (received : Received) (payl
   pub by_rule : IsTrue terms.tells
       → IsByRule terms.limits.volume_bytes traces.before.book (taken_of e fetched.date received) receipt traces.after.book
   pub there : IsTrue terms.tells → IsPayloadOf traces.after.book receipt.number payload
-  pub shown : GainsView terms receipt.number traces.before traces.after
+  pub shown : LeadsShownPast terms.alone receipt.number traces.before.shown traces.after.shown
+  pub consistent : IsConsistentView terms traces.after
 
 -- ---- want of memory
 
--- the clock was asked, and an origin perhaps, which got the whole request
-pub record WasBegun (e : Exchange) (traces : Traces) : Type 0 where
-  pub timed : WasTimed traces.times
-  pub linked : (traces.transcripts ≡ []) ⊎ OneLink e fetch_fault.Memory traces.transcripts
-
--- memory ran out before a reply was decided: nothing was stored
+-- Memory ran out before a reply was decided: nothing was stored. Nobody was asked, or the clock, or the clock and an origin perhaps,
+-- which got the whole request.
 pub record RanOut (terms : Terms) (e : Exchange) (traces : Traces) : Type 0 where
   pub begun : ((traces.times ≡ []) × (traces.transcripts ≡ []))
       ⊎ (((now : ℕ) × (traces.times ≡ now ∷ [])) × (traces.transcripts ≡ []))
-      ⊎ WasBegun e traces
+      ⊎ (WasTimed traces.times × ((traces.transcripts ≡ []) ⊎ OneLink e fetch_fault.Memory traces.transcripts))
   pub untouched : StaysView terms traces.before traces.after
 
--- ---- the answer
+-- ---- the reply
 
 -- the reply follows from what the exchange left
 abbrev pub IsReply : Terms → Exchange → Reply → Traces → Type 0
 IsReply terms e (Fails refusal) traces = IsFailure terms e refusal traces
 IsReply terms e (Passes received payload) traces = IsPassedOn terms e received payload traces
-
--- the text of a reply
-abbrev pub reply_text : Exchange → Reply → Bool → List ℕ
-reply_text e (Fails refusal) closes = refusal_text refusal (answers_head e) closes
-reply_text e (Passes received payload) closes = answered received payload (answers_head e) closes

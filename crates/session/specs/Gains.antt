@@ -1,5 +1,5 @@
 -- What rounds gain of the outside, and what its objects tell of that.
-use Rattle.std.specs.Prelude.{◌≡◌, ℕ, ◌-◌, ◌^◌, ◌<◌, Bool, List, ◌++◌, length, IsTrue}
+use Rattle.std.specs.Prelude.{ℕ, List}
 use Rattle.std.specs.List.{flat_map}
 use Rattle.archive_shelf.specs.Told.{Told}
 use Rattle.outside.specs.Records.{Links}
@@ -39,8 +39,3 @@ world_of heard answers links dialer_faults shelf = record {
   dialer_faults = dialer_faults;
   shelf = shelf;
 }
-
--- Clock and dialer tell these gains, and no link is left out. A clock that tells does so while its answers are fewer than 2^64 - 1.
-pub record GainsOutside (clock_tells : Bool) (was is : World) (gains : Gains) : Type 0 where
-  pub asked : IsTrue clock_tells → length is.answers < 2 ^ 64 - 1 → is.answers ≡ was.answers ++ gains.times
-  pub logged : is.links ≡ record was.links { log = was.links.log ++ gains.transcripts }

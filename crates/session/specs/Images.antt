@@ -9,7 +9,7 @@ use Rattle.capture.specs.declared.refusal.Refusal.{Refusal}
 use Rattle.capture.specs.declared.refusal.Refusal.TheVariants.{DiskFault}
 use Rattle.http_head.specs.declared.head.Received.{Received}
 use Rattle.warc_journal.specs.Extents.{cdxj_files}
-use Rattle.session.specs.Exchanges.{Exchange, Fails, Passes, Fetched, HasRoom, taken_of, taken_in}
+use Rattle.session.specs.Exchanges.{Exchange, Fails, Passes, Fetched, HasRoom, taken_of}
 use Rattle.session.specs.Rounds.{Outcome, Undecided, Refused, Exchanged, Visited, Round}
 use Rattle.session.specs.Traces.{Terms, View, Traces}
 
@@ -41,27 +41,25 @@ MayBeLeft terms traces NoDeed x = ⊥
 MayBeLeft terms traces (Stores e received) x =
     (fetched : Fetched e received traces) × MayLeave (contents_at terms traces.before) (taken_of e fetched.date received) x
 MayBeLeft terms traces (IsDenied e) x =
-    (room : HasRoom terms e traces) × MayLeave (contents_at terms traces.before) (taken_in room) x
+    (room : HasRoom terms e traces) × MayLeave (contents_at terms traces.before) (taken_of e room.fetched.date room.received) x
 
 -- one of the rounds may leave the book
 abbrev pub IsPassed : Terms → List Round → Book → Type 0
 IsPassed terms [] x = ⊥
 IsPassed terms (r ∷ rounds) x = MayBeLeft terms r.traces (deed_of r.outcome) x ⊎ IsPassed terms rounds x
 
--- the capture that the disk refused may be there, or the volume that it needs
-abbrev pub IsOfDenied : Terms → Exchange → Traces → Book → Type 0
-IsOfDenied terms e traces x =
-    (room : HasRoom terms e traces)
-    × (storing : Storing terms.limits.volume_bytes traces.before.book (taken_in room))
-    × ((x ≡ storing.unfilled) ⊎ (x ≡ stored_by storing))
-
 -- Which books may be opened behind a round, by those that might be before: behind a store that one alone. Behind a store that the
--- disk refused also what that may have left, and what might be opened before it where the book stayed.
+-- disk refused also what might be opened before it, where the book stayed, and what it may have left: the capture may be there, or
+-- the volume that it needs.
 abbrev pub OpensBehind : Terms → Traces → Deed → (Book → Type 0) → Book → Type 0
 OpensBehind terms traces NoDeed Before x = Before x
 OpensBehind terms traces (Stores e received) Before x = SameBook x traces.after.book
 OpensBehind terms traces (IsDenied e) Before x =
-    ((traces.after.book ≡ traces.before.book) × Before x) ⊎ SameBook x traces.after.book ⊎ IsOfDenied terms e traces x
+    ((traces.after.book ≡ traces.before.book) × Before x)
+    ⊎ SameBook x traces.after.book
+    ⊎ ((room : HasRoom terms e traces)
+    × (storing : Storing terms.limits.volume_bytes traces.before.book (taken_of e room.fetched.date room.received))
+    × ((x ≡ storing.unfilled) ⊎ (x ≡ stored_by storing)))
 
 -- and behind rounds
 abbrev pub OpensAtLast : Terms → (Book → Type 0) → List Round → Book → Type 0

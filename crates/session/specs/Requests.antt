@@ -59,27 +59,18 @@ is_persistent Http11 = true
 abbrev pub is_expectation : NamedValue → Bool
 is_expectation field = is_named (codes "expect") field && bytes_eq (lowered field.1) (codes "100-continue")
 
-abbrev pub expects_answer : RequestHead → Bool
-expects_answer head = list_any is_expectation (map named_value head.fields)
-
 -- a head asks to be told that its body is awaited
 abbrev pub waits_for_answer : RequestHead → Bool
-waits_for_answer head = tells_body (told_by_request head) && is_persistent head.version && expects_answer head
-
--- and goes somewhere
-abbrev pub asks_to_go_on : Site → RequestHead → Bool
-asks_to_go_on site head = is_ok (aim_of_head site head) && waits_for_answer head
+waits_for_answer head =
+    tells_body (told_by_request head) && is_persistent head.version && list_any is_expectation (map named_value head.fields)
 
 -- the answer that asks for the body (RFC 9110, section 15.2.1)
 unfoldable pub continue_text : List ℕ
 continue_text = codes "HTTP/1.1 100 Continue\r\n\r\n"
 
-abbrev pub interim_where : Bool → List ℕ
-interim_where asks = if asks then continue_text else []
-
--- what is written before the body of a request with this head is read
+-- what is written before the body of a request with this head is read: that answer, where the head goes somewhere and asks for it
 abbrev pub interim_of : Site → RequestHead → List ℕ
-interim_of site head = interim_where (asks_to_go_on site head)
+interim_of site head = if is_ok (aim_of_head site head) && waits_for_answer head then continue_text else []
 
 -- the member of a list is `close`, in whatever case
 abbrev pub is_close : List ℕ → Bool
@@ -89,17 +80,14 @@ is_close member = bytes_eq (lowered member) (codes "close")
 abbrev pub lists_close : NamedValue → Bool
 lists_close field = is_named connection field && list_any is_close (members field.1)
 
--- the request is the last, by its version or by what it says
-abbrev pub is_last_by : Version → List NamedValue → Bool
-is_last_by Http10 fields = true
-is_last_by Http11 fields = list_any lists_close fields
-
-abbrev pub is_last : RequestHead → Bool
-is_last head = is_last_by head.version (map named_value head.fields)
+-- the request is the last, by its version or by what its fields say
+abbrev pub is_last : Version → List NamedValue → Bool
+is_last Http10 fields = true
+is_last Http11 fields = list_any lists_close fields
 
 -- the connection closes after a request with this head, behind so many others
 abbrev pub closes_after : ℕ → RequestHead → Bool
-closes_after served head = is_last head || (served + 1 == REQUEST_LIMIT)
+closes_after served head = is_last head.version (map named_value head.fields) || (served + 1 == REQUEST_LIMIT)
 
 -- whether a request asks for a head alone; without a head it doesn't
 abbrev pub answers_head : Option RequestHead → Bool
@@ -108,34 +96,26 @@ answers_head None = false
 
 -- ---- streams
 
--- no head stands first in the stream
-abbrev pub LacksHead : List ℕ → Type 0
-LacksHead stream = (head : RequestHead) → ¬ (BeginsWithRequest stream head)
-
 -- what the head of the stream asks for, before its body is read
 pub record HasInterim (site : Site) (stream text : List ℕ) : Type 0 where
   pub head : RequestHead
   pub begins : BeginsWithRequest stream head
   pub text_is : text ≡ interim_of site head
 
--- what is written in the middle of the stream
+-- what is written in the middle of the stream: nothing, where no head stands first in it
 abbrev pub IsInterim : Site → List ℕ → List ℕ → Type 0
-IsInterim site stream text = HasInterim site stream text ⊎ (LacksHead stream × (text ≡ []))
-
--- a head that asks to go somewhere has come, and more of its body is needed
-pub record AwaitsBody (site : Site) (stream : List ℕ) : Type 0 where
-  pub head : RequestHead
-  pub begins : BeginsWithRequest stream head
-  pub aimed : IsAimed site head
-  pub needed : IsFirst Requests false stream BodyNeeded
+IsInterim site stream text =
+    HasInterim site stream text ⊎ (((head : RequestHead) → ¬ (BeginsWithRequest stream head)) × (text ≡ []))
 
 -- nothing has begun but line ends that are skipped
 abbrev pub IsBetween : List ℕ → Type 0
 IsBetween stream = IsFirst Requests true stream NothingBegun
 
--- a request has begun, and more of it is needed
+-- a request has begun, and more of it is needed: of its head, or of the body behind a head that asks to go somewhere
 abbrev pub IsInside : Site → List ℕ → Type 0
-IsInside site stream = IsFirst Requests true stream HeadNeeded ⊎ AwaitsBody site stream
+IsInside site stream =
+    IsFirst Requests true stream HeadNeeded
+    ⊎ ((head : RequestHead) × BeginsWithRequest stream head × IsAimed site head × IsFirst Requests false stream BodyNeeded)
 
 -- no request as yet, and no refusal
 abbrev pub IsUndecided : Site → List ℕ → Type 0
@@ -182,14 +162,9 @@ IsRefused site wire None refusal =
 IsRefused site wire (Some head) refusal =
     BeginsWithRequest wire head × (IsAimedNowhere site head refusal ⊎ IsNoMessage site wire head refusal)
 
--- a head that asks to go somewhere has come; what stands behind it isn't looked at
-pub record BeginsAimed (site : Site) (wire : List ℕ) : Type 0 where
-  pub head : RequestHead
-  pub begins : BeginsWithRequest wire head
-  pub aimed : IsAimed site head
-
--- the bytes aren't decided, or begin with a head that asks to go somewhere, or are refused for themselves
+-- the bytes aren't decided, or begin with a head that asks to go somewhere, behind which nothing is looked at, or are refused for themselves
 abbrev pub IsBegun : Site → List ℕ → Type 0
 IsBegun site wire =
-    IsUndecided site wire ⊎ BeginsAimed site wire
+    IsUndecided site wire
+    ⊎ ((head : RequestHead) × BeginsWithRequest wire head × IsAimed site head)
     ⊎ ((head : Option RequestHead) × (refusal : Refusal) × IsRefused site wire head refusal)

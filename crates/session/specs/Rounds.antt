@@ -3,15 +3,18 @@ use Rattle.std.specs.Prelude.{◌≡◌, ◌⊎◌, ℕ, ◌+◌, Bool, true, fa
 use Rattle.std.specs.List.{flat_map}
 use Rattle.archive_shelf.specs.Contents.{Shows}
 use Rattle.capture.specs.Captures.{captures}
+use Rattle.capture.specs.Methods.{asks_for_head}
 use Rattle.capture.specs.declared.refusal.Refusal.{Refusal}
-use Rattle.capture.specs.declared.refusal.Refusal.TheVariants.{DialFault, OriginFault, DiskFault}
+use Rattle.capture.specs.declared.refusal.Refusal.TheVariants.{DialFault, OriginFault, NoCapture, DiskFault}
 use Rattle.exchange.specs.declared.aim.Aim.TheVariants.{Origin}
 use Rattle.exchange.specs.declared.aim.Aim.TheVariants.{Site as ToSite}
 use Rattle.exchange.specs.Refusals.{refusal_text, memory_text}
+use Rattle.exchange.specs.Texts.{answered}
 use Rattle.http_head.specs.declared.head.RequestHead.{RequestHead}
-use Rattle.session.specs.Exchanges.{Exchange, Reply, Fails, Passes, RanOut, IsReply, reply_text}
+use Rattle.replay_url.specs.Questions.{ForNearest}
+use Rattle.session.specs.Exchanges.{Exchange, Reply, Fails, Passes, RanOut, IsReply}
 use Rattle.session.specs.Requests.{IsAsked, IsRefused, IsBegun, IsInterim, answers_head, closes_after}
-use Rattle.session.specs.SiteAnswers.{SiteRequest, SiteReply, Refuses, IsSiteReply, IsSiteText, is_of_shown}
+use Rattle.session.specs.SiteAnswers.{SiteRequest, SiteReply, Refuses, Redirects, Replays, Lists, Finds, IsSiteReply, IsSiteText}
 use Rattle.session.specs.Traces.{Terms, View, Traces, IsIdle, LeadsView, CountsMet}
 
 -- What was decided of a client's bytes: nothing; they were refused for themselves, with a head or without one; they are a request
@@ -34,19 +37,12 @@ pub record Round : Type 0 where
 
 -- ---- closing
 
--- whether a response was passed on that was cut
-abbrev pub is_cut_off : Reply → Bool
-is_cut_off (Fails refusal) = false
-is_cut_off (Passes received payload) = received.cut
-
-abbrev pub closes_exchange : ℕ → Exchange → Reply → Bool
-closes_exchange served e reply = is_cut_off reply || closes_after served e.message.head
-
--- whether the connection closes with an outcome, behind so many requests
+-- whether the connection closes with an outcome, behind so many requests: also with a response that was cut
 abbrev pub closes_outcome : ℕ → Outcome → Bool
 closes_outcome served Undecided = true
 closes_outcome served (Refused head refusal) = true
-closes_outcome served (Exchanged e reply) = closes_exchange served e reply
+closes_outcome served (Exchanged e (Fails refusal)) = closes_after served e.message.head
+closes_outcome served (Exchanged e (Passes received payload)) = received.cut || closes_after served e.message.head
 closes_outcome served (Visited q reply) = closes_after served q.message.head
 
 -- want of memory closes as well
@@ -56,17 +52,10 @@ closes served r = r.lacked || closes_outcome served r.outcome
 -- ---- faults
 
 -- a fault of the dialer or of one of its links was met
-abbrev pub is_origin_fault : Refusal → ℕ
-is_origin_fault DialFault = 1
-is_origin_fault OriginFault = 1
-is_origin_fault other = 0
-
 abbrev pub origin_fault : Outcome → ℕ
-origin_fault Undecided = 0
-origin_fault (Refused head refusal) = 0
-origin_fault (Exchanged e (Fails refusal)) = is_origin_fault refusal
-origin_fault (Exchanged e (Passes received payload)) = 0
-origin_fault (Visited q reply) = 0
+origin_fault (Exchanged e (Fails DialFault)) = 1
+origin_fault (Exchanged e (Fails OriginFault)) = 1
+origin_fault other = 0
 
 -- a fault of the disk was met
 abbrev pub is_disk_fault : Refusal → ℕ
@@ -99,7 +88,10 @@ IsDecided terms r (Visited q reply) =
 abbrev pub IsTextOf : Terms → ℕ → Outcome → List ℕ → Type 0
 IsTextOf terms served Undecided text = text ≡ memory_text
 IsTextOf terms served (Refused head refusal) text = text ≡ refusal_text refusal (answers_head head) true
-IsTextOf terms served (Exchanged e reply) text = text ≡ reply_text e reply (closes_exchange served e reply)
+IsTextOf terms served (Exchanged e (Fails refusal)) text =
+    text ≡ refusal_text refusal (asks_for_head e.message.head.method) (closes_after served e.message.head)
+IsTextOf terms served (Exchanged e (Passes received payload)) text =
+    text ≡ answered received payload (asks_for_head e.message.head.method) (received.cut || closes_after served e.message.head)
 IsTextOf terms served (Visited q reply) text = IsSiteText terms q reply (closes_after served q.message.head) text
 
 -- the number of the capture that was stored
@@ -124,10 +116,12 @@ pub record IsRound (terms : Terms) (served : ℕ) (r : Round) : Type 0 where
 
 -- the answer is taken from the entries that are shown
 abbrev pub is_from_shown : Outcome → Bool
-is_from_shown Undecided = false
-is_from_shown (Refused head refusal) = false
-is_from_shown (Exchanged e reply) = false
-is_from_shown (Visited q reply) = is_of_shown reply
+is_from_shown (Visited q (Refuses NoCapture)) = true
+is_from_shown (Visited q (Redirects sought entry)) = true
+is_from_shown (Visited q (Replays (ForNearest sought) brought)) = true
+is_from_shown (Visited q (Lists url entries)) = true
+is_from_shown (Visited q (Finds query found)) = true
+is_from_shown other = false
 
 -- such an answer knows the captures of the book that was left before it
 abbrev pub KnowsBefore : Terms → View → Round → Type 0

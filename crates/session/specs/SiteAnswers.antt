@@ -53,10 +53,6 @@ pub data SiteReply : Type 0 where
   Ships : (number : ℕ) (piece : List ℕ) → SiteReply
   HasNoMore : (number : ℕ) → SiteReply
 
--- whether the answer is one to HEAD
-abbrev pub answers_head : SiteRequest → Bool
-answers_head q = asks_for_head q.message.head.method
-
 -- the site answers GET and HEAD
 abbrev pub serves_method : List ℕ → Bool
 serves_method method = bytes_eq method (codes "GET") || asks_for_head method
@@ -67,20 +63,17 @@ serves_method method = bytes_eq method (codes "GET") || asks_for_head method
 abbrev pub date_field : SiteRequest → Option (List ℕ)
 date_field q = slice_get (values_of (codes "accept-datetime") (map named_value q.message.head.fields)) 0
 
--- a gate is asked for this time: the latest, where no field names one
-abbrev pub IsGateTime : Option (List ℕ) → ℕ → Type 0
-IsGateTime (Some value) time = IsHttpDate (trim_blanks value) time
-IsGateTime None time = time ≡ LATEST
-
 -- the field names no time
 abbrev pub NamesNoTime : Option (List ℕ) → Type 0
 NamesNoTime (Some value) = (time : ℕ) → ¬ (IsHttpDate (trim_blanks value) time)
 NamesNoTime None = ⊥
 
--- the time that a capture is to be nearest to: the one that the address names, or the one that a gate is asked for
+-- The time that a capture is to be nearest to: the one that the address names, or the one that a gate is asked for, by its field, or
+-- the latest, where there is none.
 abbrev pub IsSoughtTime : Option NamedTime → Option (List ℕ) → ℕ → Type 0
 IsSoughtTime (Some named) field time = time ≡ named.time
-IsSoughtTime None field time = IsGateTime field time
+IsSoughtTime None (Some value) time = IsHttpDate (trim_blanks value) time
+IsSoughtTime None None time = time ≡ LATEST
 
 -- there is such a time; the field is looked at by a gate alone
 abbrev pub IsDated : Question → Option (List ℕ) → Type 0
@@ -95,12 +88,6 @@ pub record Asks (q : SiteRequest) (form : Form) : Type 0 where
   pub served : serves_method q.message.head.method ≡ true
   pub is : IsForm q.address form
   pub dated : IsDated (question_of form) (date_field q)
-
--- the request asks this query
-pub record AsksQuery (q : SiteRequest) (query : Query) : Type 0 where
-  pub text : List ℕ
-  pub asks : Asks q (Queried text)
-  pub is : IsQuery text query
 
 -- the capture nearest to the time that is asked for, by what is shown
 pub record Reaches (q : SiteRequest) (shown : List Facts) (sought : Nearest) (entry : Facts) : Type 0 where
@@ -176,10 +163,6 @@ IsRejected terms q (Damaged at kept found) view =
     (question : Question) × (number : ℕ) × Wants q view question number × IsDamagedIn view question number at × IsDamaged terms.tells kept found
 IsRejected terms q other view = ⊥
 
--- Whatever entry is shown under this number is that of the book's capture: so is the one that was found by date.
-abbrev pub AgreesAt : View → ℕ → Type 0
-AgreesAt view number = (entry : Facts) → Contains view.shown entry → entry.number ≡ number → IsEntryOf view.book number entry
-
 -- a capture is asked for, and no piece of one
 abbrev pub asks_for_capture : Question → Bool
 asks_for_capture (ForNearest sought) = true
@@ -187,7 +170,7 @@ asks_for_capture (ForNumber number) = true
 asks_for_capture other = false
 
 -- The capture that was wanted is replayed. Whatever is told, it is what each entry tells that is shown under its number: its target, its date
--- and the digest of its payload.
+-- and the digest of its payload. Where the disk is told, each such entry is that of the book's capture: so is the one that was found by date.
 pub record IsReplayed (terms : Terms) (q : SiteRequest) (view : View) (question : Question) (brought : Brought) : Type 0 where
   pub number : ℕ
   pub wants : Wants q view question number
@@ -196,7 +179,8 @@ pub record IsReplayed (terms : Terms) (q : SiteRequest) (view : View) (question 
   pub named : IsNamed view.book number brought
   pub as_shown : BringsAsShown view.shown number brought
   pub brought_is : IsTrue terms.tells → IsBrought view.book number brought
-  pub agrees : IsTrue terms.tells → AgreesAt view number
+  pub agrees : IsTrue terms.tells
+      → (entry : Facts) → Contains view.shown entry → entry.number ≡ number → IsEntryOf view.book number entry
 
 -- all captures of the URL that are shown are listed, of which there are some
 pub record AreListed (q : SiteRequest) (view : View) (url : List ℕ) (entries : List Facts) : Type 0 where
@@ -208,7 +192,9 @@ pub record AreListed (q : SiteRequest) (view : View) (url : List ℕ) (entries :
 
 -- the query is answered from all entries that are shown
 pub record IsFoundBy (q : SiteRequest) (view : View) (query : Query) (found : List ℕ) : Type 0 where
-  pub asks : AsksQuery q query
+  pub text : List ℕ
+  pub asks : Asks q (Queried text)
+  pub is : IsQuery text query
   pub answers : IsAnswer query view.shown found
 
 -- The piece of the capture with this number is shipped. Whatever is told, its group tells the digest of each entry that is shown under the number.
@@ -238,18 +224,6 @@ IsSiteReply terms q (Finds query found) view = IsFoundBy q view query found
 IsSiteReply terms q (Ships number piece) view = IsShipped terms q view number piece
 IsSiteReply terms q (HasNoMore number) view = IsNext q view number
 
--- the answer is taken from the entries that are shown
-abbrev pub is_of_shown : SiteReply → Bool
-is_of_shown (Refuses NoCapture) = true
-is_of_shown (Refuses other) = false
-is_of_shown (Redirects sought entry) = true
-is_of_shown (Replays (ForNearest sought) brought) = true
-is_of_shown (Replays other brought) = false
-is_of_shown (Lists url entries) = true
-is_of_shown (Finds query found) = true
-is_of_shown (Ships number piece) = false
-is_of_shown (HasNoMore number) = false
-
 -- ---- the texts
 
 -- the status line of what is found, and its type
@@ -263,26 +237,21 @@ found_text media_type body answers_head closes =
     ++ head_end (length body) closes
     ++ body_unless answers_head body
 
--- the type of a list of links (RFC 6690, section 7.3), and of pieces
-abbrev pub link_format : List ℕ
-link_format = codes "application/link-format"
-
-abbrev pub warc_format : List ℕ
-warc_format = codes "application/warc"
-
 -- the answer that there is nothing as yet (RFC 9110, section 15.3.5)
 unfoldable pub nothing_text : Bool → List ℕ
 nothing_text closes = status_line 204 (codes "No Content") ++ close_line_where closes ++ crlf_bytes
 
--- the text of a reply
+-- the text of a reply; the type of a list of links is that of RFC 6690, section 7.3
 abbrev pub IsSiteText : Terms → SiteRequest → SiteReply → Bool → List ℕ → Type 0
-IsSiteText terms q (Refuses refusal) closes text = text ≡ refusal_text refusal (answers_head q) closes
+IsSiteText terms q (Refuses refusal) closes text = text ≡ refusal_text refusal (asks_for_head q.message.head.method) closes
 IsSiteText terms q (Redirects sought entry) closes text =
     text ≡ redirect_text terms.site.base sought.url entry sought.raw (is_by_gate sought) closes
 IsSiteText terms q (Replays question brought) closes text =
-    IsMemento terms.site.base brought (delivery_of (is_as_received question) (answers_head q) closes) text
+    IsMemento terms.site.base brought (delivery_of (is_as_received question) (asks_for_head q.message.head.method) closes) text
 IsSiteText terms q (Lists url entries) closes text =
-    text ≡ found_text link_format (timemap_text terms.site.base url entries) (answers_head q) closes
-IsSiteText terms q (Finds query found) closes text = text ≡ found_text (media_type_of query.json) found (answers_head q) closes
-IsSiteText terms q (Ships number piece) closes text = text ≡ found_text warc_format piece (answers_head q) closes
+    text ≡ found_text (codes "application/link-format") (timemap_text terms.site.base url entries) (asks_for_head q.message.head.method) closes
+IsSiteText terms q (Finds query found) closes text =
+    text ≡ found_text (media_type_of query.json) found (asks_for_head q.message.head.method) closes
+IsSiteText terms q (Ships number piece) closes text =
+    text ≡ found_text (codes "application/warc") piece (asks_for_head q.message.head.method) closes
 IsSiteText terms q (HasNoMore number) closes text = text ≡ nothing_text closes

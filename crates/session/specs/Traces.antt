@@ -1,6 +1,6 @@
 -- What a request leaves outside of its connection.
 use Rattle.std.specs.Prelude.{◌≡◌, ℕ, Bool, List, [], IsTrue}
-use Rattle.archive_shelf.specs.Contents.{Contents, Leads, LeadsShown, LeadsShownPast}
+use Rattle.archive_shelf.specs.Contents.{Contents, Leads, LeadsShown}
 use Rattle.capture.specs.Faults.{RoseBy}
 use Rattle.capture.specs.declared.book.Book.{Book}
 use Rattle.capture.specs.declared.limits.Limits.{Limits}
@@ -61,11 +61,6 @@ pub record CountsMet (met before now : ℕ) : Type 0 where
 abbrev pub IsConsistentView : Terms → View → Type 0
 IsConsistentView terms view = IsTrue terms.alone → IsTrue terms.tells → AreEntries view.book view.shown
 
--- the book changed, and the entries that are shown did not; alone they are still those of the book
-pub record StaysShown (terms : Terms) (old new : View) : Type 0 where
-  pub shown : LeadsShown terms.alone old.shown new.shown
-  pub consistent : IsConsistentView terms new
-
 -- the book is the same, and so are the entries that are shown; in company there may be more of these
 pub record StaysView (terms : Terms) (old new : View) : Type 0 where
   pub book : new.book ≡ old.book
@@ -76,8 +71,3 @@ pub record IsIdle (terms : Terms) (traces : Traces) : Type 0 where
   pub times : traces.times ≡ []
   pub transcripts : traces.transcripts ≡ []
   pub untouched : StaysView terms traces.before traces.after
-
--- a capture with this number was gained, with its entry if it has one; alone what is shown are the entries of the book
-pub record GainsView (terms : Terms) (number : ℕ) (old new : View) : Type 0 where
-  pub shown : LeadsShownPast terms.alone number old.shown new.shown
-  pub consistent : IsConsistentView terms new

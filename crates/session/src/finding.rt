@@ -1,11 +1,12 @@
 //! The entries of the index that meet a query, as an answer.
-ghost use Rattle.std.specs.Prelude.{◌≡◌, Bool, IfOk};
+ghost use Rattle.std.specs.Prelude.{◌≡◌, ℕ, Bool, List, IfOk};
 ghost use Rattle.archive_shelf.specs.Told.{GoesOn, LooksOn};
 ghost use Rattle.cdx_query.specs.Picking.{start_of};
+ghost use Rattle.cdx_query.specs.Reading.{IsQuery};
 ghost use Rattle.replay_url.specs.declared.form.Form.TheVariants.{Query as TheQuery};
 ghost use Rattle.session.specs.steps.Answering.{AnswersVisit};
 ghost use Rattle.session.specs.steps.Looking.{FindsAnswer};
-ghost use Rattle.session.specs.SiteAnswers.{Asks, AsksQuery};
+ghost use Rattle.session.specs.SiteAnswers.{Asks};
 
 use crate::answer::Answer;
 use crate::found::found;
@@ -45,7 +46,8 @@ fn answer_query<S: Shelf>(
     visit: Visit,
     query: &Query,
 ) -> Result<Answer, Memory>
-    requires asks { AsksQuery (record { message = visit.message.now; address = visit.address.now }) query.now }
+    requires asks { (text : List ℕ) × Asks (record { message = visit.message.now; address = visit.address.now }) (TheQuery text)
+        × IsQuery text query.now }
     ensures answers { (clock_tells : Bool) → AnswersVisit S.alone (record { site = visit.entry.site.now; clock_tells = clock_tells })
         (record { message = visit.entry.message.now; address = visit.entry.address.now }) visit.entry.closes result (S.told shelf.old) (S.told shelf.new) }
     ensures closes { IfOk result (λ answer. answer.closes ≡ visit.entry.closes) }

@@ -23,7 +23,7 @@ pub fn closes_after(served: usize, head: &RequestHead) -> bool
 
 /// Whether a head says that its request is the last.
 fn is_last(head: &RequestHead) -> bool
-    ensures { result ≡ spec.is_last head.now }
+    ensures { result ≡ spec.is_last head.now.version (map named_value head.now.fields) }
 {
     match head.version {
         Version::Http10 => true,
@@ -72,7 +72,7 @@ fn is_close(member: &[u8]) -> bool
 
 /// Whether the client waits for an answer before it sends the body (RFC 9110, section 10.1.1).
 fn expects_answer(head: &RequestHead) -> bool
-    ensures { result ≡ spec.expects_answer head.now }
+    ensures { result ≡ list_any spec.is_expectation (map named_value head.now.fields) }
 {
     has_expectation(head.fields.as_slice())
 }

@@ -1,5 +1,5 @@
 //! The list of a URL's captures, as an answer.
-ghost use Rattle.std.specs.Prelude.{◌≡◌, ◌<◌, Bool, length, IfOk};
+ghost use Rattle.std.specs.Prelude.{◌≡◌, ◌<◌, Bool, codes, length, IfOk};
 ghost use Rattle.std.specs.List.Sorted.{IsNonDecreasingBy};
 ghost use Rattle.archive_shelf.specs.Told.{GoesOn, LooksOn};
 ghost use Rattle.capture.specs.Methods.{asks_for_head as is_head};
@@ -62,7 +62,7 @@ fn all_of<S: Shelf>(alloc: Global, shelf: &mut S, of: &KeyedUrl) -> Result<Vec<E
 fn list(alloc: Global, visit: Visit, url: &[u8], entries: &[Entry]) -> Result<Answer, Memory>
     requires some { 0 < length entries.now }
     requires in_order { IsNonDecreasingBy (λ e. e.date) entries.now }
-    ensures text { IfOk result (λ answer. answer.text ≡ spec.found_text spec.link_format (timemap_text visit.entry.site.now.base url.now entries.now)
+    ensures text { IfOk result (λ answer. answer.text ≡ spec.found_text (codes "application/link-format") (timemap_text visit.entry.site.now.base url.now entries.now)
         (is_head visit.entry.message.now.head.method) visit.entry.closes) }
     ensures closes { IfOk result (λ answer. answer.closes ≡ visit.entry.closes) }
 {

@@ -1,5 +1,5 @@
 //! Reads a client's requests.
-ghost use Rattle.std.specs.Prelude.{◌≡◌, ◌≤◌, ℕ, [], List, true, Some, Ok, Err, IsSome, IsTrue, OnOk, IfOk, IfErr, MatchResult};
+ghost use Rattle.std.specs.Prelude.{◌≡◌, ◌≤◌, ℕ, [], List, true, Some, Ok, Err, IsSome, IsTrue, OnOk, IfOk, IfErr, MatchResult, if◌then◌else◌};
 ghost use Rattle.capture.specs.Faults.{CountsFaults, Rose};
 ghost use Rattle.capture.specs.First.{Requests};
 ghost use Rattle.capture.specs.declared.site.Site.{Site as TheSite};
@@ -303,8 +303,8 @@ fn look_at<L: Link>(
 fn go_ahead<L: Link>(client: &mut L, waits: bool) -> Result<(), Failed>
     requires { L.faults client.old ≡ 0 }
     ensures says { IsTrue L.tells → MatchResult result
-        (λ _. Writes (spec.interim_where waits) (heard_of (L.traffic client.old) (L.faults client.old)) (heard_of (L.traffic client.new) (L.faults client.new)))
-        (λ _. Breaks (spec.interim_where waits) (heard_of (L.traffic client.old) (L.faults client.old)) (heard_of (L.traffic client.new) (L.faults client.new))) }
+        (λ _. Writes (if waits then spec.continue_text else []) (heard_of (L.traffic client.old) (L.faults client.old)) (heard_of (L.traffic client.new) (L.faults client.new)))
+        (λ _. Breaks (if waits then spec.continue_text else []) (heard_of (L.traffic client.old) (L.faults client.old)) (heard_of (L.traffic client.new) (L.faults client.new))) }
     ensures whole { OnOk result (L.faults client.new ≡ 0) }
     ensures counts { CountsFaults (L.faults client.old) (L.faults client.new) result }
 {

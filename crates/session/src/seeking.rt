@@ -1,5 +1,5 @@
 //! Answers requests to the site for a capture by its date (RFC 7089, sections 4 and 4.1.1).
-ghost use Rattle.std.specs.Prelude.{◌≡◌, Bool, true, Some, IfOk, MatchResult, codes, map, slice_get};
+ghost use Rattle.std.specs.Prelude.{◌≡◌, Bool, true, Some, None, IfOk, MatchResult, codes, map, slice_get};
 ghost use Rattle.archive_shelf.specs.Told.{GoesOn, LooksOn};
 ghost use Rattle.capture.specs.Fields.{values_of};
 ghost use Rattle.http_head.specs.Heads.{named_value};
@@ -10,7 +10,7 @@ ghost use Rattle.replay_url.specs.declared.form.Form.TheVariants.{Gate as TheGat
 ghost use Rattle.session.specs.steps.Answering.{AnswersVisit};
 ghost use Rattle.session.specs.steps.Looking.{FindsNearest};
 ghost use Rattle.session.specs.SiteAnswers as spec;
-ghost use Rattle.session.specs.SiteAnswers.{Asks, IsGateTime, NamesNoTime};
+ghost use Rattle.session.specs.SiteAnswers.{Asks, IsSoughtTime, NamesNoTime};
 ghost use Rattle.timegate.specs.Redirect.{redirect_text};
 
 use crate::answer::Answer;
@@ -64,7 +64,7 @@ fn redirect_to_nearest<S: Shelf>(
 ) -> Result<Answer, Memory>
     requires asks { Asks (record { message = visit.message.now; address = visit.address.now }) (TheGate of.now.url) }
     requires keyed { HasKey of.now }
-    requires timed { IsGateTime (spec.date_field (record { message = visit.message.now; address = visit.address.now })) time }
+    requires timed { IsSoughtTime None (spec.date_field (record { message = visit.message.now; address = visit.address.now })) time }
     ensures answers { (clock_tells : Bool) → AnswersVisit S.alone (record { site = visit.entry.site.now; clock_tells = clock_tells })
         (record { message = visit.entry.message.now; address = visit.entry.address.now }) visit.entry.closes result (S.told shelf.old) (S.told shelf.new) }
     ensures closes { IfOk result (λ answer. answer.closes ≡ visit.entry.closes) }
@@ -160,7 +160,7 @@ fn lead_to(
 /// The time that a gate is asked for, by the first field Accept-Datetime (RFC 7089, section 2.1.1).
 fn gate_time(fields: &[Field]) -> Result<u64, NotATime>
     ensures { MatchResult result
-        (λ time. IsGateTime (slice_get (values_of (codes "accept-datetime") (map named_value fields.now)) 0) time)
+        (λ time. IsSoughtTime None (slice_get (values_of (codes "accept-datetime") (map named_value fields.now)) 0) time)
         (λ _. NamesNoTime (slice_get (values_of (codes "accept-datetime") (map named_value fields.now)) 0)) }
 {
     match first_value(fields, b"accept-datetime") {

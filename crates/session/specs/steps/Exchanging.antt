@@ -4,12 +4,14 @@ use Rattle.archive_shelf.specs.Contents.{Leads}
 use Rattle.archive_shelf.specs.declared.fault.StoreFault.{StoreFault}
 use Rattle.archive_shelf.specs.Told.{ShowsItsBook, StoresOn, Told}
 use Rattle.archive_shelf.specs.declared.receipt.Receipt.{Receipt}
+use Rattle.capture.specs.Methods.{asks_for_head}
 use Rattle.capture.specs.Payload.{IsPayload}
 use Rattle.capture.specs.declared.book.Book.{Book}
 use Rattle.capture.specs.declared.captured.Taken.{Taken}
 use Rattle.capture.specs.declared.memory.Memory.{Memory}
 use Rattle.capture.specs.declared.site.Site.{Site}
 use Rattle.exchange.specs.Fetches.{IsFetched}
+use Rattle.exchange.specs.Refusals.{refusal_text}
 use Rattle.exchange.specs.Texts.{answered}
 use Rattle.exchange.specs.declared.aim.Aim.TheVariants.{Origin}
 use Rattle.http_head.specs.declared.head.Received.{Received}
@@ -18,11 +20,11 @@ use Rattle.outside.specs.declared.dialer.Transcript.{Transcript}
 use Rattle.session.specs.steps.Answering.{Answers, Incoming}
 use Rattle.session.specs.Connection.{Setting}
 use Rattle.session.specs.steps.Declining.{Declines, refusal_by_store}
-use Rattle.session.specs.Exchanges.{Exchange, Reply, RanOut, IsReply, asking_of, reply_text}
+use Rattle.session.specs.Exchanges.{Exchange, Reply, Fails, Passes, RanOut, IsReply, asking_of}
 use Rattle.session.specs.Gains.{World}
 use Rattle.session.specs.Images.{KeepsImages}
 use Rattle.session.specs.Requests.{IsAsked, IsInterim, closes_after}
-use Rattle.session.specs.Rounds.{Round, Exchanged, disk_fault, is_cut_off, numbers_by, origin_fault, Outcome, Undecided}
+use Rattle.session.specs.Rounds.{Round, Exchanged, disk_fault, numbers_by, origin_fault, Outcome, Undecided}
 use Rattle.session.specs.Traces.{Terms, Traces, View, CountsMet, terms_of, view_of}
 use Rattle.session.specs.steps.Givens.{Given, with_body}
 use Rattle.session.specs.declared.exchanging.Proxied.{Proxied}
@@ -87,6 +89,16 @@ pub record Keeps (alone : Bool) (taken : Taken) (ready : Given) (answers_head cl
   pub stores : StoresOn alone taken was is said
   pub shows : ShowsItsBook alone is
   pub follows : FollowsStore ready answers_head closes said result
+
+-- whether a response was passed on that was cut
+abbrev pub is_cut_off : Reply → Bool
+is_cut_off (Fails refusal) = false
+is_cut_off (Passes received payload) = received.cut
+
+-- the text of a reply
+abbrev pub reply_text : Exchange → Reply → Bool → List ℕ
+reply_text e (Fails refusal) closes = refusal_text refusal (asks_for_head e.message.head.method) closes
+reply_text e (Passes received payload) closes = answered received payload (asks_for_head e.message.head.method) closes
 
 -- what was decided: a reply, or nothing
 abbrev pub outcome_of : Exchange → Option Reply → Outcome

@@ -5,7 +5,7 @@ use Rattle.archive_shelf.specs.declared.fault.StoreFault.TheVariants.{DiskFault}
 use Rattle.archive_shelf.specs.declared.receipt.Receipt.{Receipt}
 use Rattle.capture.specs.declared.site.Site.{Site}
 use Rattle.http_head.specs.declared.head.Received.{Received}
-use Rattle.session.specs.Exchanges.{Exchange, Fetched, HasRoom, taken_of, taken_in}
+use Rattle.session.specs.Exchanges.{Exchange, Fetched, HasRoom, taken_of}
 use Rattle.session.specs.Images.{Stores, IsDenied, deed_of}
 use Rattle.session.specs.Rounds.{Round}
 use Rattle.session.specs.Traces.{terms_of}
@@ -26,4 +26,4 @@ module _ (alone : Bool) (site : Site) (r : Round) (e : Exchange) where
     pub room : HasRoom (terms_of site alone was.contents) e r.traces
     pub found : IsTrue alone → r.traces.before.book ≡ was.contents.seen
     pub after : r.traces.after.book ≡ is.contents.seen
-    pub stores : StoresOn alone (taken_in room) was is (Err DiskFault)
+    pub stores : StoresOn alone (taken_of e room.fetched.date room.received) was is (Err DiskFault)

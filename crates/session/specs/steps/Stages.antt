@@ -1,13 +1,14 @@
 -- A connection from a stage on, and a step from one stage to the next.
 use Rattle.std.specs.Prelude.{◌≡◌, ◌+◌, ℕ, Bool, false, List, [], ◌∷◌, ◌++◌}
+use Rattle.archive_shelf.specs.Told.{Told}
 use Rattle.exchange.specs.Receiving.{StaysAccounted}
-use Rattle.session.specs.Connection.{Setting, Gained, terms_at, view_at}
+use Rattle.session.specs.Connection.{Setting, Gained}
 use Rattle.session.specs.Gains.{World, gains_of}
 use Rattle.session.specs.steps.Gaining.{gains_by}
 use Rattle.session.specs.Images.{KeepsImages}
 use Rattle.session.specs.Rounds.{Round, IsRound, IsCourse, KnowsBefore, closes, course_wire}
 use Rattle.session.specs.Stopping.{Ends}
-use Rattle.session.specs.Traces.{LeadsView}
+use Rattle.session.specs.Traces.{LeadsView, Terms, View, terms_of, view_of}
 use Rattle.session.specs.steps.Wire.{Says}
 use Rattle.session.specs.declared.served.Served.{Served}
 
@@ -17,13 +18,21 @@ pub record Stage : Type 1 where
   pub pending : List ℕ
   pub world : World
 
+-- what holds for as long as the connection lasts
+abbrev pub terms_at : Bool → Setting → Told → Terms
+terms_at alone setting shelf = terms_of setting.site alone shelf.contents
+
+-- what is seen
+abbrev pub view_at : World → View
+view_at world = view_of world.shelf.contents world.dialer_faults world.shelf.faults
+
 module _ (alone : Bool) (setting : Setting) where
   -- what is left of a connection, from a stage on
   pub record IsRemainder (from : Stage) (is : World) (result : Served) : Type 0 where
     pub rounds : List Round
     pub rest : List ℕ
     pub accounts : StaysAccounted from.world.heard.given from.pending is.heard.given (course_wire rounds ++ rest)
-    pub lawful : IsCourse (terms_at alone setting from.world.shelf) from.served (view_at alone setting from.world) rounds (view_at alone setting is)
+    pub lawful : IsCourse (terms_at alone setting from.world.shelf) from.served (view_at from.world) rounds (view_at is)
     pub ends : Ends result setting.site (record { served = from.served; rounds = rounds; rest = rest }) from.world.heard is.heard
     pub gained : Gained alone setting from.world is (gains_of rounds)
     pub images : KeepsImages (terms_at alone setting from.world.shelf) rounds from.world.shelf is.shelf
@@ -31,9 +40,9 @@ module _ (alone : Bool) (setting : Setting) where
   -- A lawful round was made between two stages. Only its text may not be written.
   pub record IsMade (served : ℕ) (r : Round) (was is : World) : Type 0 where
     pub lawful : IsRound (terms_at alone setting was.shelf) served r
-    pub leads : LeadsView (terms_at alone setting was.shelf) (view_at alone setting was) r.traces.before
-    pub knows : KnowsBefore (terms_at alone setting was.shelf) (view_at alone setting was) r
-    pub left : view_at alone setting is ≡ r.traces.after
+    pub leads : LeadsView (terms_at alone setting was.shelf) (view_at was) r.traces.before
+    pub knows : KnowsBefore (terms_at alone setting was.shelf) (view_at was) r
+    pub left : view_at is ≡ r.traces.after
     pub gained : Gained alone setting was is (gains_by r)
     pub images : KeepsImages (terms_at alone setting was.shelf) (r ∷ []) was.shelf is.shelf
 

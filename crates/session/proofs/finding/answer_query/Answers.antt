@@ -6,7 +6,7 @@ use Rattle.session.proofs.LookLaws.{look_lacking, looked_answers}
 use Rattle.session.proofs.finding.answer_query.Goals as goal
 
 pub look_up-requires : goal.look_up-requires
-look_up-requires g c = record { start = c.requires.asks.is.start }
+look_up-requires g c = record { start = c.requires.asks.2.start }
 
 pub returns-in-Ok-clause-answers : goal.returns-in-Ok-clause-answers
 returns-in-Ok-clause-answers g c clock_tells =
@@ -15,7 +15,12 @@ returns-in-Ok-clause-answers g c clock_tells =
     (record { message = c.args.visit.message.now; address = c.args.visit.address.now })
     (Finds c.args.query.now c.in-Ok.text) c.args.visit.closes c.found.result (g.S.Finder.told c.args.shelf.now) (g.S.Finder.told c.look_up.new.shelf)
     (g.met.S.Finder.earlier c.look_up.new.shelf) c.look_up.ensures.looks there.knows refl
-    (λ faults. record { asks = c.requires.asks; answers = there.answers })
+    (λ faults. record {
+      text = c.requires.asks.0;
+      asks = c.requires.asks.1;
+      is = c.requires.asks.2;
+      answers = there.answers;
+    })
     (rw c.media_type.ensures at c.found.ensures.text) c.found.ensures.closes
 
 pub returns-in-Err-clause-answers : goal.returns-in-Err-clause-answers

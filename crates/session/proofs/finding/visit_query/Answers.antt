@@ -6,7 +6,7 @@ use Rattle.session.proofs.VisitLaws.{lacking_answers, refusal_answers}
 use Rattle.session.proofs.finding.visit_query.Goals as goal
 
 pub answer_query-requires : goal.answer_query-requires
-answer_query-requires g c = record { asks = record { text = c.args.text.now; asks = c.requires.asks; is = c.in-Ok.ensures.query } }
+answer_query-requires g c = record { asks = (c.args.text.now, c.requires.asks, c.in-Ok.ensures.query) }
 
 pub returns-in-Err-BadQuery-clause-answers : goal.returns-in-Err-BadQuery-clause-answers
 returns-in-Err-BadQuery-clause-answers g c clock_tells =
