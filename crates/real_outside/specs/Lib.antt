@@ -1,4 +1,3 @@
-pub mod Brackets
 pub mod Dialers
 pub mod Disks
 pub mod Ends

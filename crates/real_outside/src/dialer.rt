@@ -4,15 +4,13 @@ ghost use Rattle.real_outside.specs.Dialers.{dialer_faults, CountsDialError};
 ghost use Rattle.real_outside.specs.Links.{link_faults};
 ghost use Rattle.outside.specs.Records.{nothing_out};
 
-use crate::accept_faults::is_memory;
 use crate::link::RealLink;
-use crate::network::Network;
 use crate::standard_streams::StandardStreams;
-use crate::tcp::dial::TcpDialer;
 use outside::{DialError, Dialer, EchoDialer};
 use std::alloc::Global;
 use std::io;
 use std::io::Print;
+use tcp_links::{Network, TcpDialer, is_memory};
 
 /// Makes connections to origins, with a count of faults.
 #[derive(Drop)]

@@ -2,11 +2,11 @@
 ghost use Rattle.std.specs.Prelude.{◌≡◌, MatchResult, IsErr};
 ghost use Rattle.capture.specs.Faults.{CountsFaults};
 
-use crate::causes::Causes;
 use folder_disk::counted;
 use outside::Failed;
 use std::fmt::Display;
 use std::io;
+use tcp_links::Causes;
 
 /// Passes an answer of the system on. The cause of a failure is told, and the failure is counted.
 pub(crate) fn told<T, C: Causes, D: Display + Drop>(

@@ -3,15 +3,12 @@ ghost use Rattle.std.specs.Prelude.{◌≡◌, IsTrue};
 ghost use Rattle.real_outside.specs.Gates.{gate_faults, is_closed, nothing_heard};
 ghost use Rattle.outside.specs.Gate.{no_connections};
 
-use crate::accept_faults::is_memory;
 use crate::link::RealLink;
-use crate::network::Network;
 use crate::standard_streams::StandardStreams;
-use crate::streams::EndingInput;
-use crate::tcp::gate::TcpGate;
 use outside::{Accepted, Gate};
 use std::io::Print;
 use std::net::SocketAddr;
+use tcp_links::{EndingInput, Network, TcpGate, is_memory};
 
 /// Gives connections of the system. It keeps nothing of those that have ended.
 #[derive(Drop)]

@@ -4,13 +4,11 @@ ghost use Rattle.real_outside.specs.Links.{link_faults};
 ghost use Rattle.outside.specs.Link.{no_traffic};
 
 use crate::faults::told;
-use crate::network::Network;
 use crate::standard_streams::StandardStreams;
-use crate::streams::{EndingInput, print_when_taken};
-use crate::tcp::link::TcpLink;
 use folder_disk::counted;
 use outside::{EchoLink, Failed, Link};
 use std::io::Print;
+use tcp_links::{EndingInput, Network, TcpLink, print_when_taken};
 
 /// One end of a connection, with its count of faults. It doesn't tell what it gives and takes.
 #[derive(Drop)]

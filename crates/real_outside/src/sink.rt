@@ -2,14 +2,13 @@
 ghost use Rattle.std.specs.Prelude.{false, []};
 ghost use Rattle.real_outside.specs.Sinks.{sink_faults};
 
-use crate::causes::Causes;
 use crate::faults::told;
 use crate::standard_streams::StandardStreams;
-use crate::streams::write_some;
 use folder_disk::counted;
 use outside::{Failed, Sink};
 use std::io;
 use std::io::Print;
+use tcp_links::{Causes, write_some};
 
 /// A standard stream to print on, with its count of faults. It doesn't tell what was written.
 #[derive(Drop)]
@@ -45,26 +44,5 @@ impl<R: Print + StandardStreams + Causes> Sink for RealSink<R> {
             }
             RealSink::Error { stream, faults } => counted(faults, write_some(stream, piece)),
         }
-    }
-}
-
-#[cfg(test)]
-mod tests {
-    use super::*;
-    use crate::tests::written::{answered, check, then};
-
-    // No case can say it: what a case prints is kept in memory, and goes to no standard stream.
-    #[test]
-    fn prints(rt: HostRuntime) {
-        let mut out = RealSink::Output {
-            system: rt,
-            faults: 0,
-        };
-        let mut error: RealSink<HostRuntime> = RealSink::Error {
-            stream: rt.standard_error(),
-            faults: 0,
-        };
-        let told = then(answered(out.write(b"output\n")), error.write(b"error\n"));
-        check(&rt, told, "7;6;");
     }
 }

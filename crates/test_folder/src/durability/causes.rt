@@ -1,0 +1,123 @@
+//! How the cause of each fault is told.
+use super::rows::{CREATE, CUT_0, FILES, LEN_0, READ_0, Row, SYNC_0, WRITE_0, check_rows};
+use crate::recorded_folders::{NEVER, Plan, TWO_VOLUMES};
+use folder_model::Lock;
+use std::io::ErrorKind;
+
+/// A folder of two volumes, of whose calls none is written down, and the causes of faults are.
+const TELLING: Plan = Plan {
+    from: usize::MAX,
+    tells: true,
+    ..TWO_VOLUMES
+};
+
+/// The cause of each fault is told.
+static TOLD: [Row; 11] = [
+    (
+        Plan {
+            fails: [(0, ErrorKind::WouldBlock), NEVER],
+            ..TELLING
+        },
+        Lock::Alone,
+        &[FILES],
+        &[
+            "archive: count files: another process has the archive;",
+            "1",
+        ],
+    ),
+    (
+        Plan {
+            fails: [(2, ErrorKind::StorageFull), NEVER],
+            ..TELLING
+        },
+        Lock::Shared,
+        &[FILES],
+        &["archive: count files: no storage space;", "1"],
+    ),
+    (
+        Plan {
+            fails: [(15, ErrorKind::StorageFull), NEVER],
+            ..TELLING
+        },
+        Lock::Alone,
+        &[FILES, CREATE],
+        &["archive: make a file: no storage space;", "1"],
+    ),
+    (
+        Plan {
+            fails: [(15, ErrorKind::AlreadyExists), NEVER],
+            ..TELLING
+        },
+        Lock::Alone,
+        &[FILES, CREATE, FILES],
+        &[
+            "archive: make a file: files of another process are in it, of which this one doesn't know;",
+            "archive: count files: an earlier call failed, and what it left on the disk isn't known;",
+            "2",
+        ],
+    ),
+    (
+        Plan {
+            fails: [(16, ErrorKind::StorageFull), NEVER],
+            ..TELLING
+        },
+        Lock::Alone,
+        &[FILES, LEN_0],
+        &[
+            "archive/vol-000000.warc: ask for its length: no storage space;",
+            "1",
+        ],
+    ),
+    (
+        Plan {
+            fails: [(17, ErrorKind::StorageFull), NEVER],
+            ..TELLING
+        },
+        Lock::Alone,
+        &[FILES, READ_0],
+        &["archive/vol-000000.warc: read: no storage space;", "1"],
+    ),
+    (
+        Plan {
+            fails: [(17, ErrorKind::StorageFull), NEVER],
+            ..TELLING
+        },
+        Lock::Alone,
+        &[FILES, WRITE_0],
+        &["archive/vol-000000.warc: write: no storage space;", "1"],
+    ),
+    (
+        Plan {
+            fails: [(17, ErrorKind::StorageFull), NEVER],
+            ..TELLING
+        },
+        Lock::Alone,
+        &[FILES, CUT_0],
+        &["archive/vol-000000.warc: cut: no storage space;", "1"],
+    ),
+    (
+        Plan {
+            fails: [(17, ErrorKind::StorageFull), NEVER],
+            ..TELLING
+        },
+        Lock::Alone,
+        &[FILES, SYNC_0],
+        &["archive/vol-000000.warc: sync: no storage space;", "1"],
+    ),
+    (
+        TELLING,
+        Lock::Shared,
+        &[FILES, CREATE, WRITE_0],
+        &[
+            "archive: make a file: it was opened to be read;",
+            "archive/vol-000000.warc: write: it was opened to be read;",
+            "2",
+        ],
+    ),
+    (TELLING, Lock::Alone, &[FILES, WRITE_0, SYNC_0], &["0"]),
+];
+
+#[test]
+fn the_cause_of_each_fault_is_told(rt: HostRuntime) {
+    check_rows(&rt, rt.alloc(), &TOLD);
+}
