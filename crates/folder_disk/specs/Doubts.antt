@@ -2,8 +2,10 @@
 use Rattle.std.specs.Prelude.{◌^◌, ◌≡◌, ◌≢◌, ◌⊎◌, ◌<◌, ◌≤◌, ◌+◌, ℕ, true, false, if◌then◌else◌, IsTrue, Option, Some, None, is_some, IfSome, List, ⊤}
 use Rattle.disk_model.specs.declared.kind.Kind.{Kind}
 use Rattle.disk_model.specs.declared.kind.Kind.TheVariants.{Warc, Cdxj}
-use Rattle.folder_model.specs.Folder.{FolderPast}
+use Rattle.folder_model.specs.Folder.{FolderPast, contents_of, IsNameSureAt, AreBytesLeftAt}
 use Rattle.folder_model.specs.Ranges.{IsTornAt}
+use Rattle.folder_disk.specs.declared.trust.Further.{Further}
+use Rattle.folder_disk.specs.declared.trust.Further.TheVariants.{Absent, Unsettled, Unlisted}
 use Rattle.folder_disk.specs.declared.trust.Trust.{Trust}
 use Rattle.folder_disk.specs.declared.trust.Written.{Written}
 
@@ -15,6 +17,31 @@ range_of trust Cdxj = trust.cdxj
 abbrev pub with_range : Kind → Option Written → Trust → Trust
 with_range Warc range trust = record trust { warc = range }
 with_range Cdxj range trust = record trust { cdxj = range }
+
+-- what is known of a file behind those of a kind that are known
+abbrev pub further_of : Trust → Kind → Further
+further_of trust Warc = trust.further_warc
+further_of trust Cdxj = trust.further_cdxj
+
+abbrev pub with_further : Kind → Further → Trust → Trust
+with_further Warc further trust = record trust { further_warc = further }
+with_further Cdxj further trust = record trust { further_cdxj = further }
+
+-- after a sync of the folder that failed
+abbrev pub unlisted : Further → Further
+unlisted Absent = Absent
+unlisted Unsettled = Unlisted
+unlisted Unlisted = Unlisted
+
+abbrev pub unlisted_all : Trust → Trust
+unlisted_all trust = record trust { further_warc = unlisted trust.further_warc; further_cdxj = unlisted trust.further_cdxj }
+
+-- What is known of a file of this name that was to be made is so: it isn't there; or a crash leaves of it what reads find, and a sync of the folder answers for its
+-- name; or nothing is known.
+abbrev pub IsFurther : Further → FolderPast → List ℕ → Type 0
+IsFurther Absent past name = contents_of past name ≡ None
+IsFurther Unsettled past name = IsNameSureAt past name × AreBytesLeftAt past name
+IsFurther Unlisted past name = ⊤
 
 -- the number of the file, where it is in doubt
 abbrev pub doubt_in : Option Written → Option ℕ
@@ -87,5 +114,5 @@ pub record SyncedTo (kind : Kind) (number : ℕ) (old new : Trust) : Type 0 wher
 -- after one that failed: the file is in doubt, or the disk gives up
 abbrev pub AfterFailure : Kind → ℕ → Trust → Trust → Type 0
 AfterFailure kind number old new =
-    (new.gave_up ≡ true)
+    (new ≡ record old { gave_up = true })
     ⊎ ((range : Written) × (range_of old kind ≡ Some range) × (range.number ≡ number) × (new ≡ with_range kind (Some (record range { in_doubt = true })) old))

@@ -7,8 +7,9 @@ use Rattle.folder_model.specs.Folder.{FolderPast, contents_of, IsUnfailed}
 use Rattle.folder_model.specs.Seen.{IsSeen, images_of}
 use Rattle.folder_model.specs.Times.{Times, moment_of, goes_on, images_since_of}
 use Rattle.folder_model.specs.Known.{Knows, reading_of}
-use Rattle.folder_disk.specs.Doubts.{doubts_of, AreTorn}
+use Rattle.folder_disk.specs.Doubts.{doubts_of, AreTorn, further_of, IsFurther}
 use Rattle.folder_disk.specs.Gaps.{IsSeenFilled}
+use Rattle.folder_disk.specs.declared.trust.Further.TheVariants.{Absent}
 use Rattle.folder_disk.specs.declared.trust.Trust.{Trust}
 
 -- what was done in the folder, how many files of each kind the disk knows of, how far it is trusted, and its clock
@@ -25,7 +26,7 @@ no_folder = record {
   past = record { first = λ name. None; there = true; deeds = [] };
   warc = 0;
   cdxj = 0;
-  trust = record { gave_up = false; warc = None; cdxj = None };
+  trust = record { gave_up = false; warc = None; cdxj = None; further_warc = Absent; further_cdxj = Absent };
   times = record { made = 0; begun = [] };
 }
 
@@ -42,6 +43,7 @@ reading name s = reading_of name s.past (known_of s.warc s.cdxj)
 pub record IsKnown (name : Kind → ℕ → List ℕ) (s : State) : Type 0 where
   pub knows : Knows name s.past (known_of s.warc s.cdxj) s.trust.gave_up (doubts_of s.trust) s.times (reading name s)
   pub torn : s.trust.gave_up ≡ false → AreTorn name s.past s.trust
+  pub further : (kind : Kind) → IsFurther (further_of s.trust kind) s.past (name kind (known_of s.warc s.cdxj kind))
 
 -- the images that a crash now may leave, where the folder tells: what a read gives, and those of the folder
 abbrev pub images : Bool → (Kind → ℕ → List ℕ) → State → Image → Type 0
@@ -82,5 +84,5 @@ IsAsFound name (Some past) image = IsSeenFilled name (contents_of past) image
 pub record IsNew (warc cdxj : ℕ) (s : State) : Type 0 where
   pub warc_is : s.warc ≡ warc
   pub cdxj_is : s.cdxj ≡ cdxj
-  pub fresh : s.trust ≡ record { gave_up = false; warc = None; cdxj = None }
+  pub fresh : s.trust ≡ record { gave_up = false; warc = None; cdxj = None; further_warc = Absent; further_cdxj = Absent }
   pub first : moment_of s.times ≡ 0

@@ -2,9 +2,11 @@
 pub mod BegunLaws
 pub mod CountLaws
 pub mod FoundLaws
+pub mod FurtherLaws
 pub mod GapLaws
 pub mod NameLaws
 pub mod OpenLaws
+pub mod SettleLaws
 pub mod StateLaws
 pub mod SureLaws
 pub mod TrustLaws

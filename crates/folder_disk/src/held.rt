@@ -12,18 +12,18 @@ use crate::counting::Counts;
 use crate::mending::sync_anew;
 use crate::names::FileNames;
 use crate::open_files::{OpenFiles, OpenOne};
-use crate::reasons::{check_in_place, end_of, inside, is_there_already, stopped};
+use crate::reasons::{check_in_place, end_of, inside, is_there_already, stopped, unknown};
 use crate::trust::Trust;
 use crate::unopened::Unheld;
 use disk_model::Kind;
-use folder_model::{Folder, Timed, WriteFault, make_durably, read_whole, write_whole};
+use folder_model::{Folder, MakeFault, Timed, WriteFault, make_durably, read_whole, write_whole};
 use std::alloc::Global;
 use std::io;
 use std::io::ErrorKind;
 use std::marker::PhantomData;
 
-/// A folder that is held, with how many files of each kind are known. Once a file that it was to make may be there or not, or
-/// a sync failed, it has given up, and makes and syncs nothing more.
+/// A folder that is held, with how many files of each kind are known. Once a sync failed that can't be mended it has given up,
+/// and makes and syncs nothing more.
 #[derive(Drop)]
 pub(crate) struct Held<F: Folder, N: FileNames> {
     pub(crate) timed: Timed<F>,
@@ -73,7 +73,8 @@ impl<F: Folder + Drop, N: FileNames> Held<F, N> {
 }
 
 impl<F: Folder, N: FileNames> Held<F, N> {
-    /// Makes the next file of a kind so that it outlasts a crash. Where nothing was made it may be tried again.
+    /// Makes the next file of a kind so that it outlasts a crash. Where one that was to be made may be there the files are to be
+    /// counted first.
     pub(crate) fn create(&mut self, kind: Kind) -> io::Result<u32>
         requires known { IsTrue F.tells → IsKnown N.name (state_of F.past self.old) }
         requires open { IsTrue F.tells → AreHeld N.name F.name_of F.past self.old }
@@ -81,6 +82,9 @@ impl<F: Folder, N: FileNames> Held<F, N> {
         ensures open { IsTrue F.tells → AreHeld N.name F.name_of F.past self.new }
     {
         if self.trust.gave_up {
+            return Err(stopped());
+        }
+        if self.trust.has_further(kind) {
             return Err(stopped());
         }
         let number = self.known(kind);
@@ -104,12 +108,18 @@ impl<F: Folder, N: FileNames> Held<F, N> {
                 })?;
                 Ok(number)
             }
-            Err(error) => {
+            Err(MakeFault::Unlisted(error)) => {
+                self.timed.go_on();
+                self.trust.missed_list(kind);
+                Err(error)
+            }
+            Err(MakeFault::Unsettled(error)) => {
                 if self.lacks(kind, number) {
                     return Err(error);
                 }
                 self.timed.go_on();
-                self.trust.gave_up = true;
+                self.trust
+                    .missed(kind, error.kind() == ErrorKind::AlreadyExists);
                 Err(is_there_already(error))
             }
         }
@@ -130,6 +140,9 @@ impl<F: Folder, N: FileNames> Held<F, N> {
         ensures writes { WritesAt F.tells N.name kind file at bytes.now (state_of F.past self.old) (state_of F.past self.new) result }
         ensures open { IsTrue F.tells → AreHeld N.name F.name_of F.past self.new }
     {
+        if self.is_unknown(kind, file) {
+            return Err(unknown());
+        }
         let mut one = self.to_write(kind, file)?;
         let end = end_of(at, bytes.len(), one.len)?;
         match write_whole(&mut self.timed.folder, &one.file, at, bytes) {
@@ -164,6 +177,9 @@ impl<F: Folder, N: FileNames> Held<F, N> {
         ensures cuts { Cuts F.tells N.name kind file len (state_of F.past self.old) (state_of F.past self.new) result }
         ensures open { IsTrue F.tells → AreHeld N.name F.name_of F.past self.new }
     {
+        if self.is_unknown(kind, file) {
+            return Err(unknown());
+        }
         let mut one = self.to_write(kind, file)?;
         inside(len, 0, one.len)?;
         match self.timed.folder.set_len(&one.file, len) {
@@ -194,6 +210,7 @@ impl<F: Folder, N: FileNames> Held<F, N> {
         if self.trust.gave_up {
             return Err(stopped());
         }
+        self.settle(kind)?;
         check_in_place(&mut self.timed.folder)?;
         Ok(self.known(kind))
     }
@@ -241,6 +258,9 @@ impl<F: Folder, N: FileNames> Held<F, N> {
         if self.trust.gave_up {
             return Err(stopped());
         }
+        if self.is_unknown(kind, file) {
+            return Err(unknown());
+        }
         match self.trust.doubt(kind, file) {
             Some(range) => self.sync_again(kind, file, range.at, range.len),
             None => self.sync_once(kind, file),
@@ -266,6 +286,7 @@ impl<F: Folder, N: FileNames> Held<F, N> {
         requires known { IsTrue F.tells → IsKnown N.name (state_of F.past self.old) }
         requires open { IsTrue F.tells → AreHeld N.name F.name_of F.past self.old }
         requires there { IsTrue F.tells → file < file_count (reading N.name (state_of F.past self.old)) kind }
+        requires ours { file < known_of self.old.warc self.old.cdxj kind }
         requires going { self.old.trust.gave_up ≡ false }
         requires sure { doubt_in (range_of self.old.trust kind) ≢ Some file }
         ensures syncs { Syncs F.tells N.name kind file (state_of F.past self.old) (state_of F.past self.new) result }
@@ -292,6 +313,7 @@ impl<F: Folder, N: FileNames> Held<F, N> {
         requires known { IsTrue F.tells → IsKnown N.name (state_of F.past self.old) }
         requires open { IsTrue F.tells → AreHeld N.name F.name_of F.past self.old }
         requires there { IsTrue F.tells → file < file_count (reading N.name (state_of F.past self.old)) kind }
+        requires ours { file < known_of self.old.warc self.old.cdxj kind }
         requires going { self.old.trust.gave_up ≡ false }
         requires doubt { range_of self.old.trust kind ≡ Some (record { number = file; at = at; len = len; in_doubt = true }) }
         ensures syncs { Syncs F.tells N.name kind file (state_of F.past self.old) (state_of F.past self.new) result }
@@ -322,8 +344,15 @@ impl<F: Folder, N: FileNames> Held<F, N> {
         }
     }
 
+    /// Whether a file isn't one of those that are known.
+    fn is_unknown(&self, kind: Kind, file: u32) -> bool
+        ensures { result ≡ false → file < known_of self.now.warc self.now.cdxj kind }
+    {
+        self.known(kind) <= file
+    }
+
     /// Notes how many files of a kind there are.
-    fn set_known(&mut self, kind: Kind, count: u32)
+    pub(crate) fn set_known(&mut self, kind: Kind, count: u32)
         requires { count ≡ known_of self.old.warc self.old.cdxj kind + 1 }
         ensures state { state_of F.past self.new ≡ grown kind (state_of F.past self.old) }
         ensures same { self.new.timed ≡ self.old.timed }

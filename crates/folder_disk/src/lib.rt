@@ -16,6 +16,7 @@ mod open_files;
 mod reader;
 mod reading;
 mod reasons;
+mod settling;
 mod standing;
 mod trust;
 mod unopened;

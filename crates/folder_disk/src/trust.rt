@@ -1,7 +1,8 @@
 //! How far a disk's syncs answer for its files.
 ghost use Rattle.std.specs.Prelude.{◌≡◌, ◌≢◌, ◌≤◌, ◌+◌, true, false, None, Some, IsTrue, IfSome};
+ghost use Rattle.folder_disk.specs.declared.trust.Further.TheVariants.{Absent, Unsettled};
 ghost use Rattle.folder_disk.specs.declared.trust.Written.{Written};
-ghost use Rattle.folder_disk.specs.Doubts.{range_of, doubt_in, with_range, AfterWhole, AfterPart, AfterCut, AfterSync, AfterFailure, KeepsDoubt, GoesOn, SyncedTo};
+ghost use Rattle.folder_disk.specs.Doubts.{range_of, doubt_in, with_range, AfterWhole, AfterPart, AfterCut, AfterSync, AfterFailure, KeepsDoubt, GoesOn, SyncedTo, further_of, with_further, unlisted, unlisted_all};
 
 use disk_model::Kind;
 
@@ -16,25 +17,106 @@ pub(crate) struct Written {
     pub(crate) in_doubt: bool,
 }
 
-/// Whether syncs are still trusted, and what is known of the file of each kind that was synced or written last.
+/// Whether a file that a disk doesn't know of yet may stand behind those of a kind that it knows.
+#[derive(Clone, Copy, Debug, PartialEq, Eq)]
+pub(crate) enum Further {
+    /// There is none.
+    Absent,
+    /// One was to be made and may be there. It is the disk's once it and the folder are synced.
+    Unsettled,
+    /// One was to be made and may be there, and then a sync of the folder failed, so that no later one answers for its name.
+    Unlisted,
+}
+
+/// Whether syncs are still trusted, and what is known of the file of each kind that was synced or written last, and of one that
+/// was to be made.
 #[derive(Clone, Copy, Debug, PartialEq, Eq)]
 pub(crate) struct Trust {
-    /// A file that was to be made may be there or not, or a sync failed and can't be mended.
+    /// A sync failed and can't be mended, or a file of others has the name of one that was to be made.
     pub(crate) gave_up: bool,
     pub(crate) warc: Option<Written>,
     pub(crate) cdxj: Option<Written>,
+    pub(crate) further_warc: Further,
+    pub(crate) further_cdxj: Further,
 }
 
 impl Trust {
     /// Nothing is in doubt, and of no file it is known what was written.
     pub(crate) fn new() -> Trust
-        ensures { result ≡ record { gave_up = false; warc = None; cdxj = None } }
+        ensures { result ≡ record { gave_up = false; warc = None; cdxj = None; further_warc = Absent; further_cdxj = Absent } }
     {
         Trust {
             gave_up: false,
             warc: None,
             cdxj: None,
+            further_warc: Further::Absent,
+            further_cdxj: Further::Absent,
         }
+    }
+
+    /// What is known of a file behind those of a kind that are known.
+    pub(crate) fn further(&self, kind: Kind) -> Further
+        ensures { result ≡ further_of self.now kind }
+    {
+        match kind {
+            Kind::Warc => self.further_warc,
+            Kind::Cdxj => self.further_cdxj,
+        }
+    }
+
+    /// Whether such a file may be there.
+    pub(crate) fn has_further(&self, kind: Kind) -> bool
+        ensures { result ≡ false → further_of self.now kind ≡ Absent }
+    {
+        match self.further(kind) {
+            Further::Absent => false,
+            Further::Unsettled => true,
+            Further::Unlisted => true,
+        }
+    }
+
+    /// Notes what is known of it.
+    fn set_further(&mut self, kind: Kind, further: Further)
+        ensures { self.new ≡ with_further kind further self.old }
+    {
+        match kind {
+            Kind::Warc => self.further_warc = further,
+            Kind::Cdxj => self.further_cdxj = further,
+        }
+    }
+
+    /// There is no such file.
+    pub(crate) fn settled(&mut self, kind: Kind)
+        ensures { self.new ≡ with_further kind Absent self.old }
+    {
+        self.set_further(kind, Further::Absent);
+    }
+
+    /// After one that was to be made and may be there. Where it has a name that a file of others has, the disk gives up.
+    pub(crate) fn missed(&mut self, kind: Kind, is_others: bool)
+        ensures only { self.new ≡ record (with_further kind Unsettled self.old) { gave_up = self.new.gave_up } }
+        ensures going { self.new.gave_up ≡ false → self.old.gave_up ≡ false }
+    {
+        self.set_further(kind, Further::Unsettled);
+        if is_others {
+            self.gave_up = true;
+        }
+    }
+
+    /// After a sync of the folder that failed behind one that was to be made.
+    pub(crate) fn missed_list(&mut self, kind: Kind)
+        ensures { self.new ≡ unlisted_all (with_further kind Unsettled self.old) }
+    {
+        self.set_further(kind, Further::Unsettled);
+        self.unlist();
+    }
+
+    /// After a sync of the folder that failed.
+    pub(crate) fn unlist(&mut self)
+        ensures { self.new ≡ unlisted_all self.old }
+    {
+        self.further_warc = unlisted(self.further_warc);
+        self.further_cdxj = unlisted(self.further_cdxj);
     }
 
     /// What is known of a file of a kind.
@@ -125,6 +207,17 @@ impl Trust {
             return Some(range);
         }
         None
+    }
+}
+
+/// What is known of a file that was to be made, after a sync of the folder that failed.
+fn unlisted(further: Further) -> Further
+    ensures { result ≡ unlisted further }
+{
+    match further {
+        Further::Absent => Further::Absent,
+        Further::Unsettled => Further::Unlisted,
+        Further::Unlisted => Further::Unlisted,
     }
 }
 

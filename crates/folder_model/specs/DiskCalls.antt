@@ -1,6 +1,6 @@
 -- What the calls of a disk over a folder leave, in the words of `Disk`. Each is about the folder's past before and after, and what the disk
 -- knew and read of it before.
-use Rattle.std.specs.Prelude.{ℕ, ◌+◌, Bool, true, false, Option, List, [], take}
+use Rattle.std.specs.Prelude.{ℕ, ◌+◌, Bool, false, Option, List, [], take}
 use Rattle.disk_model.specs.Image.{Image, file_count, file_of, with_file, with_new}
 use Rattle.disk_model.specs.Crash.{Torn, Cut, OnFile, MayCreate, HasFile, Within, Follows, Stepped, Leaves, Elapses}
 use Rattle.disk_model.specs.declared.kind.Kind.{Kind}
@@ -31,8 +31,8 @@ pub record SyncDone (name : Kind → ℕ → List ℕ) (kind : Kind) (file : ℕ
   pub within : Within (images_of name old) (images_of name new)
   pub time : Elapses (moment_of times) (moment_of (goes_on times new)) (images_since_of name old times) (images_since_of name new (goes_on times new)) (images_of name new)
 
--- What a sync that failed leaves: what is read stays.
-pub record SyncFailed (name : Kind → ℕ → List ℕ) (old new : FolderPast) (known : Kind → ℕ) (gave_up : Bool) (doubts : Kind → Option ℕ) (times : Times) (reading : Image) : Type 0 where
+-- What syncs leave that aren't told as one of the disk's that was done: what is read stays.
+pub record SyncsLeave (name : Kind → ℕ → List ℕ) (old new : FolderPast) (known : Kind → ℕ) (gave_up : Bool) (doubts : Kind → Option ℕ) (times : Times) (reading : Image) : Type 0 where
   pub knows : Knows name new known gave_up doubts (goes_on times new) reading
   pub within : Within (images_of name old) (images_of name new)
   pub time : Elapses (moment_of times) (moment_of (goes_on times new)) (images_since_of name old times) (images_since_of name new (goes_on times new)) (images_of name new)
@@ -45,10 +45,10 @@ pub record CreateDone (name : Kind → ℕ → List ℕ) (kind : Kind) (old new 
   pub time : Elapses (moment_of times) (moment_of (goes_on times new)) (images_since_of name old times) (images_since_of name new (goes_on times new))
       (Stepped (MayCreate kind (file_count reading kind)) (images_of name old))
 
--- What a `create` that failed leaves: the disk has given up.
+-- What a `create` that failed leaves: there may be a file that the disk doesn't know of.
 pub record CreateFailed (name : Kind → ℕ → List ℕ) (kind : Kind) (old new : FolderPast) (known : Kind → ℕ) (doubts : Kind → Option ℕ) (times : Times) (reading : Image) : Type 0 where
   pub image : Image
-  pub knows : Knows name new known true doubts (goes_on times new) image
+  pub knows : Knows name new known false doubts (goes_on times new) image
   pub partial : MayCreate kind (file_count reading kind) reading image
   pub follows : Follows (MayCreate kind (file_count reading kind)) (images_of name old) (images_of name new)
   pub time : Elapses (moment_of times) (moment_of (goes_on times new)) (images_since_of name old times) (images_since_of name new (goes_on times new))

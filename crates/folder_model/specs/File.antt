@@ -66,6 +66,10 @@ IsLeft first deeds (Some bytes) = MayHold first deeds Crash bytes
 abbrev pub AreBytesSure : Option (List ℕ) → List FileDeed → Type 0
 AreBytesSure first deeds = (bytes : List ℕ) → MayHold first deeds Sync bytes → read_of first deeds ≡ Some bytes
 
+-- What a crash now leaves of the file's bytes, where it leaves the file, is what reads find.
+abbrev pub AreBytesLeft : Option (List ℕ) → List FileDeed → Type 0
+AreBytesLeft first deeds = (bytes : List ℕ) → MayHold first deeds Crash bytes → read_of first deeds ≡ Some bytes
+
 -- After a sync of the folder now, if it answers `Ok`, it has the name of a file that reads find: none failed since it was made.
 abbrev pub IsNameSure : Option (List ℕ) → List FileDeed → Type 0
 IsNameSure first deeds = IsTrue (may_lack first deeds Sync) → read_of first deeds ≡ None

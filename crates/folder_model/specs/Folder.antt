@@ -3,7 +3,7 @@ use Rattle.std.specs.Prelude.{◌≡◌, ◌⊎◌, ℕ, Bool, true, false, not,
 use Rattle.std.specs.List.{list_all}
 use Rattle.std.specs.Option.{unwrap_or}
 use Rattle.std.specs.Str.{bytes_eq}
-use Rattle.folder_model.specs.File.{FileDeed, Synced, Listed, After, Sync, Crash, read_of, IsLeft}
+use Rattle.folder_model.specs.File.{FileDeed, Synced, Listed, After, Sync, Crash, read_of, IsLeft, AreBytesLeft, IsNameSure}
 
 -- what a folder has under each name: nothing, or a file's bytes
 abbrev pub Contents : Type 0
@@ -63,6 +63,14 @@ abbrev pub MayLeave : FolderPast → Contents → Type 0
 MayLeave past contents =
     (IsTrue (may_miss past.there past.deeds Crash) × ((name : List ℕ) → contents name ≡ None))
     ⊎ ((name : List ℕ) → IsLeft (past.first name) (deeds_of name past.deeds) (contents name))
+
+-- a sync of the folder now, if it answers `Ok`, answers for the name
+abbrev pub IsNameSureAt : FolderPast → List ℕ → Type 0
+IsNameSureAt past name = IsNameSure (past.first name) (deeds_of name past.deeds)
+
+-- a crash leaves of the file's bytes what reads find
+abbrev pub AreBytesLeftAt : FolderPast → List ℕ → Type 0
+AreBytesLeftAt past name = AreBytesLeft (past.first name) (deeds_of name past.deeds)
 
 -- whether a deed is no sync that failed
 abbrev pub is_no_failed_sync : Deed → Bool

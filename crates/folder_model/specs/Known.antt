@@ -35,15 +35,14 @@ reading_of name past known =
 abbrev pub IsInDoubt : (Kind → ℕ → List ℕ) → (Kind → Option ℕ) → List ℕ → Type 0
 IsInDoubt name doubts n = (kind : Kind) × (file : ℕ) × (doubts kind ≡ Some file) × (n ≡ name kind file)
 
--- A disk that knows of so many files of each kind, fewer than 2 ^ 32, and what it reads. It has given up where a file that it was to make may be there or
--- not, or where a sync failed and can't be mended: from then on it makes and syncs nothing. Before that all names are on the disk, and syncs answer for all
--- bytes but for those of files in doubt, of which a sync failed.
+-- A disk that knows of so many files of each kind, fewer than 2 ^ 32, and what it reads, which may have one file more of a kind: one that it was to make. The
+-- names of those that it knows of are on the disk. It has given up where a sync failed and can't be mended: from then on it makes and syncs nothing. Before that
+-- syncs answer for all bytes but for those of files in doubt, of which a sync failed.
 pub record Knows (name : Kind → ℕ → List ℕ) (past : FolderPast) (known : Kind → ℕ) (gave_up : Bool) (doubts : Kind → Option ℕ) (times : Times) (reading : Image) : Type 0 where
   pub is : FolderIs name past reading
   pub timed : IsTimed times past
   pub numbers : (kind : Kind) → known kind < 2 ^ 32
   pub no_fewer : (kind : Kind) → known kind ≤ file_count reading kind
   pub one_more : (kind : Kind) → file_count reading kind ≤ known kind + 1
-  pub all : gave_up ≡ false → (kind : Kind) → file_count reading kind ≡ known kind
-  pub named : gave_up ≡ false → (kind : Kind) (file : ℕ) → file < file_count reading kind → IsNamed past (name kind file)
+  pub named : (kind : Kind) (file : ℕ) → file < known kind → IsNamed past (name kind file)
   pub sure : gave_up ≡ false → (n : List ℕ) → IsInDoubt name doubts n ⊎ AreBytesSure (past.first n) (deeds_of n past.deeds)

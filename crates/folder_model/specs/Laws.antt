@@ -4,13 +4,13 @@ use Rattle.disk_model.specs.Crash.{Torn, Cut, OnFile, MayCreate, HasFile, Within
 use Rattle.disk_model.specs.Image.{Image, file_count, file_of}
 use Rattle.disk_model.specs.declared.kind.Kind.{Kind}
 use Rattle.folder_model.specs.File.{Made, Wrote, Shortened, Synced, AreBytesSure, FileDeed, Sync, MayHold, read_of}
-use Rattle.folder_model.specs.Folder.{Contents, FolderPast, SyncedFolder, SyncedAround, did, did_to, deeds_of, contents_of, MayLeave, IsUnfailed}
+use Rattle.folder_model.specs.Folder.{Contents, FolderPast, SyncedFolder, SyncedAround, did, did_to, deeds_of, contents_of, MayLeave, IsUnfailed, IsNameSureAt, AreBytesLeftAt}
 use Rattle.folder_model.specs.Seen.{NamesApart, IsSeen, images_of, IsNamed, IsPlaced, FolderIs}
 use Rattle.folder_model.specs.Times.{Times, IsTimed, moment_of, images_since_of}
 use Rattle.folder_model.specs.Known.{IsInDoubt, Knows}
 use Rattle.folder_model.specs.Ranges.{IsTornIn, IsTornAt, MendsIn}
-use Rattle.folder_model.specs.Whole.{WritesWithin, MakesInPart, made_durably}
-use Rattle.folder_model.specs.DiskCalls.{WriteLeaves, CutLeaves, SyncDone, SyncFailed, CreateDone, CreateFailed}
+use Rattle.folder_model.specs.Whole.{WritesWithin, OnlySyncs, MakesInPart, settled_durably, made_durably}
+use Rattle.folder_model.specs.DiskCalls.{WriteLeaves, CutLeaves, SyncDone, SyncsLeave, CreateDone, CreateFailed}
 
 -- what reads find is an image that a crash may leave, and none has more files of a kind
 abbrev pub ReadingIsLeft : Type 0
@@ -127,7 +127,7 @@ CutsAreTheDisks =
 abbrev pub SyncsAreTheDisks : Type 0
 SyncsAreTheDisks =
     (name : Kind → ℕ → List ℕ) (kind : Kind) (file : ℕ) (old new : FolderPast) (known : Kind → ℕ) (doubts left : Kind → Option ℕ) (times : Times) (reading : Image)
-    → Knows name old known false doubts times reading → file < file_count reading kind
+    → Knows name old known false doubts times reading → file < known kind
     → AreBytesSure (old.first (name kind file)) (deeds_of (name kind file) old.deeds)
     → ((m : List ℕ) → IsInDoubt name doubts m → (m ≡ name kind file) ⊎ IsInDoubt name left m)
     → new ≡ did_to old (name kind file) (Synced true)
@@ -137,13 +137,13 @@ SyncsAreTheDisks =
 abbrev pub FailedSyncsAreTheDisks : Type 0
 FailedSyncsAreTheDisks =
     (name : Kind → ℕ → List ℕ) (n : List ℕ) (old new : FolderPast) (known : Kind → ℕ) (gave_up : Bool) (doubts left : Kind → Option ℕ) (times : Times) (reading : Image)
-    → Knows name old known gave_up doubts times reading → new ≡ did_to old n (Synced false) → SyncFailed name old new known true left times reading
+    → Knows name old known gave_up doubts times reading → new ≡ did_to old n (Synced false) → SyncsLeave name old new known true left times reading
 
 abbrev pub DoubtsAreTheDisks : Type 0
 DoubtsAreTheDisks =
     (name : Kind → ℕ → List ℕ) (n : List ℕ) (old new : FolderPast) (known : Kind → ℕ) (gave_up : Bool) (doubts left : Kind → Option ℕ) (times : Times) (reading : Image)
     → Knows name old known gave_up doubts times reading → ((m : List ℕ) → IsInDoubt name doubts m → IsInDoubt name left m) → IsInDoubt name left n → new ≡ did_to old n (Synced false)
-    → SyncFailed name old new known gave_up left times reading
+    → SyncsLeave name old new known gave_up left times reading
 
 -- writing anew the range of a file that is in doubt, done or not, changes nothing either; where all of it and the sync behind it is done, it is a sync of the disk
 abbrev pub MendingsAreTheDisks : Type 0
@@ -152,23 +152,24 @@ MendingsAreTheDisks =
     → (kind : Kind) (file at many : ℕ) (old new : FolderPast) (known : Kind → ℕ) (gave_up : Bool) (doubts : Kind → Option ℕ) (times : Times) (reading : Image)
     → Knows name old known gave_up doubts times reading → file < file_count reading kind → IsTornAt old (name kind file) at many → IsInDoubt name doubts (name kind file)
     → MendsIn (name kind file) at many (file_of reading kind file) old new
-    → SyncFailed name old new known gave_up doubts times reading
+    → SyncsLeave name old new known gave_up doubts times reading
 
 abbrev pub MendedSyncsAreTheDisks : Type 0
 MendedSyncsAreTheDisks =
     (name : Kind → ℕ → List ℕ) → NamesApart name
     → (kind : Kind) (file at many : ℕ) (old mid new : FolderPast) (known : Kind → ℕ) (doubts left : Kind → Option ℕ) (times : Times) (reading : Image)
-    → Knows name old known false doubts times reading → file < file_count reading kind → IsTornAt old (name kind file) at many
+    → Knows name old known false doubts times reading → file < known kind → IsTornAt old (name kind file) at many
     → ((m : List ℕ) → IsInDoubt name doubts m → (m ≡ name kind file) ⊎ IsInDoubt name left m)
     → mid ≡ did_to (did_to old (name kind file) (Wrote at (take many (drop at (file_of reading kind file))) 0)) (name kind file) (Shortened (length (file_of reading kind file)) 0)
     → new ≡ did_to mid (name kind file) (Synced true)
     → SyncDone name kind file old new known left times reading
 
--- a file that is made so that it outlasts a crash, by a disk that hasn't given up, is made by the disk; where that fails, the disk gives up
+-- a file that is made so that it outlasts a crash, by a disk that hasn't given up and knows of all files of the kind, is made by the disk; where that fails, there
+-- may be a file that the disk doesn't know of
 abbrev pub CreatesAreTheDisks : Type 0
 CreatesAreTheDisks =
     (name : Kind → ℕ → List ℕ) → NamesApart name
-    → (kind : Kind) (old : FolderPast) (known : Kind → ℕ) (doubts : Kind → Option ℕ) (times : Times) (reading : Image) → Knows name old known false doubts times reading
+    → (kind : Kind) (old : FolderPast) (known : Kind → ℕ) (doubts : Kind → Option ℕ) (times : Times) (reading : Image) → Knows name old known false doubts times reading → file_count reading kind ≡ known kind
     → (new : FolderPast) (more : Kind → ℕ) → new ≡ made_durably (name kind (file_count reading kind)) old
     → ((k : Kind) → more k < 2 ^ 32) → more kind ≡ known kind + 1 → ((k : Kind) → k ≢ kind → more k ≡ known k)
     → CreateDone name kind old new more doubts times reading
@@ -176,8 +177,26 @@ CreatesAreTheDisks =
 abbrev pub FailedCreatesAreTheDisks : Type 0
 FailedCreatesAreTheDisks =
     (name : Kind → ℕ → List ℕ) → NamesApart name
-    → (kind : Kind) (old : FolderPast) (known : Kind → ℕ) (doubts : Kind → Option ℕ) (times : Times) (reading : Image) → Knows name old known false doubts times reading
+    → (kind : Kind) (old : FolderPast) (known : Kind → ℕ) (doubts : Kind → Option ℕ) (times : Times) (reading : Image) → Knows name old known false doubts times reading → file_count reading kind ≡ known kind
     → (new : FolderPast) → MakesInPart (name kind (file_count reading kind)) old new → CreateFailed name kind old new known doubts times reading
+
+-- Syncs of such a file and of the folders, done or failed, change nothing where a crash leaves of its bytes what reads find; once all of them are done the disk knows of
+-- it, where the folder's sync answers for its name.
+abbrev pub SettlingsAreTheDisks : Type 0
+SettlingsAreTheDisks =
+    (name : Kind → ℕ → List ℕ) (kind : Kind) (old : FolderPast) (known : Kind → ℕ) (gave_up : Bool) (doubts : Kind → Option ℕ) (times : Times) (reading : Image)
+    → Knows name old known gave_up doubts times reading → AreBytesLeftAt old (name kind (known kind))
+    → (new : FolderPast) → OnlySyncs (name kind (known kind)) old new → SyncsLeave name old new known gave_up doubts times reading
+
+abbrev pub SettledFilesAreTheDisks : Type 0
+SettledFilesAreTheDisks =
+    (name : Kind → ℕ → List ℕ) (kind : Kind) (old : FolderPast) (known : Kind → ℕ) (gave_up : Bool) (doubts : Kind → Option ℕ) (times : Times) (reading : Image)
+    → Knows name old known gave_up doubts times reading → AreBytesLeftAt old (name kind (known kind))
+    → (new : FolderPast) (more : Kind → ℕ) (remaining : Kind → Option ℕ) → new ≡ settled_durably (name kind (known kind)) old
+    → known kind < file_count reading kind → IsNameSureAt old (name kind (known kind))
+    → ((m : List ℕ) → IsInDoubt name doubts m → (m ≡ name kind (known kind)) ⊎ IsInDoubt name remaining m)
+    → ((k : Kind) → more k < 2 ^ 32) → more kind ≡ known kind + 1 → ((k : Kind) → k ≢ kind → more k ≡ known k)
+    → SyncsLeave name old new more gave_up remaining times reading
 
 -- a disk that counted the files of a folder, and then synced it and the one around it, knows of them
 abbrev pub OpenedDiskKnows : Type 0

@@ -3,6 +3,8 @@ use Rattle.std.specs.Prelude.{◌≡◌, ◌≤◌, ◌⊎◌, ℕ, ◌+◌, tru
 use Rattle.disk_model.specs.Crash.{Torn}
 use Rattle.folder_model.specs.File.{FileDeed, Made, Wrote, Shortened, Synced, Listed, Crash, MayHold}
 use Rattle.folder_model.specs.Folder.{Deed, Did, SyncedFolder, SyncedAround, FolderPast, did, did_to, deeds_of, contents_of}
+use Rattle.folder_model.specs.declared.durable.MakeFault.{MakeFault}
+use Rattle.folder_model.specs.declared.durable.MakeFault.TheVariants.{Unlisted, Unsettled}
 use Rattle.folder_model.specs.declared.whole.WriteFault.{WriteFault}
 use Rattle.folder_model.specs.declared.whole.WriteFault.TheVariants.{Torn as TornFault, Stuck}
 
@@ -56,28 +58,38 @@ pub record IsWriting (name : List ℕ) (at : ℕ) (bytes : List ℕ) (done : ℕ
   pub reach : at + done ≤ length now
   pub covers : Covers name at done old new
 
--- each is a sync, done or failed
-abbrev pub AreSyncs : List Deed → Type 0
-AreSyncs [] = ⊤
-AreSyncs (Did name (Synced done) ∷ earlier) = AreSyncs earlier
-AreSyncs (Did name deed ∷ earlier) = ⊥
-AreSyncs (SyncedFolder done ∷ earlier) = AreSyncs earlier
-AreSyncs (SyncedAround done ∷ earlier) = AreSyncs earlier
+-- each is a sync of one file, of the folder or of the one around it, done or failed
+abbrev pub AreSyncs : List ℕ → List Deed → Type 0
+AreSyncs name [] = ⊤
+AreSyncs name (Did other (Synced done) ∷ earlier) = (other ≡ name) × AreSyncs name earlier
+AreSyncs name (Did other deed ∷ earlier) = ⊥
+AreSyncs name (SyncedFolder done ∷ earlier) = AreSyncs name earlier
+AreSyncs name (SyncedAround done ∷ earlier) = AreSyncs name earlier
 
--- Nothing was done but syncs, done or failed.
-pub record OnlySyncs (old new : FolderPast) : Type 0 where
+-- Nothing was done but such syncs.
+pub record OnlySyncs (name : List ℕ) (old new : FolderPast) : Type 0 where
   pub deeds : List Deed
-  pub syncs : AreSyncs deeds
+  pub syncs : AreSyncs name deeds
   pub whole : new ≡ record old { deeds = deeds ++ old.deeds }
+
+-- A file, the folder and the folder around were synced.
+abbrev pub settled_durably : List ℕ → FolderPast → FolderPast
+settled_durably name past = did (did (did_to past name (Synced true)) (SyncedFolder true)) (SyncedAround true)
 
 -- A file was made, and it, the folder and the folder around were synced.
 abbrev pub made_durably : List ℕ → FolderPast → FolderPast
-made_durably name past = did (did (did_to (did_to past name Made) name (Synced true)) (SyncedFolder true)) (SyncedAround true)
+made_durably name past = settled_durably name (did_to past name Made)
 
--- A file was made that wasn't there, and then nothing but syncs was done.
+-- but where the folder's sync failed
+abbrev pub OnListed : {T : Type 0} → Result T MakeFault → Type 0 → Type 0
+OnListed (Ok done) P = P
+OnListed (Err (Unlisted error)) P = ⊤
+OnListed (Err (Unsettled error)) P = P
+
+-- A file was made that wasn't there, and then nothing was done but syncs of it, of the folder and of the one around.
 pub record IsMadeSince (name : List ℕ) (old new : FolderPast) : Type 0 where
   pub none : contents_of old name ≡ None
-  pub synced : OnlySyncs (did_to old name Made) new
+  pub synced : OnlySyncs name (did_to old name Made) new
 
 -- A file was made, with nothing but syncs behind it, or nothing was done.
 abbrev pub MakesInPart : List ℕ → FolderPast → FolderPast → Type 0

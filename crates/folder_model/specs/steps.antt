@@ -7,6 +7,7 @@ pub mod MendLaws
 pub mod RangeLaws
 pub mod ReadingLaws
 pub mod SeenLaws
+pub mod SettleLaws
 pub mod SureLaws
 pub mod SyncLaws
 pub mod TimeLaws

@@ -1,5 +1,5 @@
 //! What the model promises to those who reason about a disk in a folder.
-ghost use Rattle.folder_model.specs.Laws.{ReadingIsLeft, NoMoreFilesAreLeft, WriteIsTorn, CutIsCut, MakingMayCreate, SyncAddsNothing, SyncedFileIsDurable, NewFileIsDurable, WrittenAnewIsSure, RangeAnewIsSure, RangeAnewAddsNothing, OpenedFolderIsDisk, EachLeftIsDisk, ImagesNowCount, SinceNowIsNow, LaterIsSinceEarlier, WritesAreTheDisks, CutsAreTheDisks, SyncsAreTheDisks, FailedSyncsAreTheDisks, DoubtsAreTheDisks, MendingsAreTheDisks, MendedSyncsAreTheDisks, CreatesAreTheDisks, FailedCreatesAreTheDisks, OpenedDiskKnows};
+ghost use Rattle.folder_model.specs.Laws.{ReadingIsLeft, NoMoreFilesAreLeft, WriteIsTorn, CutIsCut, MakingMayCreate, SyncAddsNothing, SyncedFileIsDurable, NewFileIsDurable, WrittenAnewIsSure, RangeAnewIsSure, RangeAnewAddsNothing, OpenedFolderIsDisk, EachLeftIsDisk, ImagesNowCount, SinceNowIsNow, LaterIsSinceEarlier, WritesAreTheDisks, CutsAreTheDisks, SyncsAreTheDisks, FailedSyncsAreTheDisks, DoubtsAreTheDisks, MendingsAreTheDisks, MendedSyncsAreTheDisks, CreatesAreTheDisks, FailedCreatesAreTheDisks, SettlingsAreTheDisks, SettledFilesAreTheDisks, OpenedDiskKnows};
 
 /// Each deed in a folder is a step of the disk that is seen in it, however files are named.
 pub fn each_deed_is_a_step_of_the_disk()
@@ -49,4 +49,6 @@ pub fn each_call_is_the_disks()
     ensures mended { MendedSyncsAreTheDisks }
     ensures create { CreatesAreTheDisks }
     ensures create_failed { FailedCreatesAreTheDisks }
+    ensures settling { SettlingsAreTheDisks }
+    ensures settled { SettledFilesAreTheDisks }
 {}

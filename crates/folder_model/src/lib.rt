@@ -11,7 +11,7 @@ mod timed;
 mod whole;
 
 pub use access::Access;
-pub use durable::make_durably;
+pub use durable::{MakeFault, make_durably, settle_durably};
 pub use folder::Folder;
 pub use folders::{Folders, Lock};
 pub use laws::{

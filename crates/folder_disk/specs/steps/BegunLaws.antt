@@ -1,5 +1,5 @@
 -- Laws of a disk without a folder, and of one whose folder was just made.
-use Rattle.std.proofs.Common.{◌≡◌, ◌<◌, ◌≤◌, ◌^◌, ℕ, Bool, IsTrue, List, [], ◌∷◌, length, refl, sym, ap, ◌∙◌, subst, inl, inr, ⊎_elim, arith}
+use Rattle.std.proofs.Common.{◌≡◌, ◌<◌, ◌≤◌, ◌^◌, ℕ, Bool, false, IsTrue, List, [], ◌∷◌, length, refl, sym, ap, ◌∙◌, subst, inl, inr, ⊎_elim, arith}
 use Rattle.std.specs.Prelude.{Option, None, Result, Ok, Err, OnOk, OnErr, IfOk}
 use Rattle.disk_model.specs.Crash.{MayCreate, Stepped}
 use Rattle.disk_model.specs.Image.{Image, no_files, files_of, file_count, with_new}
@@ -9,10 +9,11 @@ use Rattle.folder_model.specs.Folder.{FolderPast}
 use Rattle.folder_model.specs.Times.{moment_of}
 use Rattle.folder_model.specs.Known.{image_of}
 use Rattle.folder_disk.specs.Calls.{Creates}
-use Rattle.folder_disk.specs.Doubts.{AreTorn}
+use Rattle.folder_disk.specs.Doubts.{AreTorn, further_of, IsFurther}
+use Rattle.folder_disk.specs.declared.trust.Further.TheVariants.{Absent}
 use Rattle.folder_disk.specs.declared.trust.Trust.{Trust}
 use Rattle.folder_disk.specs.State.{State, no_folder, known_of, reading, IsAsFound, IsKnown, images, images_since, IsNew}
-use Rattle.folder_disk.specs.steps.StateLaws.{no_more, now_counts, now_only}
+use Rattle.folder_disk.specs.steps.StateLaws.{counted, no_more, now_counts, now_only}
 
 -- ---- no folder
 
@@ -38,11 +39,11 @@ no_folder_known name = record {
     numbers = numbers;
     no_fewer = λ kind. omega (arith, known_none kind);
     one_more = λ kind. omega (arith, counts kind);
-    all = λ goes kind. counts kind ∙ sym (known_none kind);
-    named = λ goes kind file inside. absurd (omega (arith, inside, counts kind));
+    named = λ kind file inside. absurd (omega (arith, inside, known_none kind));
     sure = λ goes n. inr (λ bytes holds. holds);
   };
   torn = λ goes kind. none_torn kind;
+  further = λ kind. none_further kind;
 }
   where
     counts : (kind : Kind) → file_count (reading name no_folder) kind ≡ 0
@@ -62,6 +63,10 @@ no_folder_known name = record {
     none_torn : AreTorn name no_folder.past no_folder.trust
     none_torn Warc = tt
     none_torn Cdxj = tt
+
+    none_further : (kind : Kind) → IsFurther (further_of no_folder.trust kind) no_folder.past (name kind (known_of no_folder.warc no_folder.cdxj kind))
+    none_further Warc = refl
+    none_further Cdxj = refl
 
 -- a disk without files is as was found, where the cause that no folder was held is one that comes only where none is there
 pub none_found : {S E : Type 0} (name : Kind → ℕ → List ℕ) (read : S → Image) (Missing : Type 0) (there : Option FolderPast) (result : Result S E)
@@ -95,11 +100,15 @@ none_counted name kind = omega (arith, ap (λ (i : Image). file_count i kind) (n
 -- a disk that was just begun without files
 module _ (tells : Bool) (name : Kind → ℕ → List ℕ) (held : State) (is_new : IsNew 0 0 held) (known : IsTrue tells → IsKnown name held) where
   counts_none : IsTrue tells → (kind : Kind) → file_count (reading name held) kind ≡ 0
-  counts_none told kind = (known told).knows.all (ap (λ (t : Trust). t.gave_up) is_new.fresh) kind ∙ none kind
+  counts_none told kind = counted name held kind (known told) (ap (λ (t : Trust). further_of t kind) is_new.fresh ∙ none_absent kind) ∙ none kind
     where
       none : (kind : Kind) → known_of held.warc held.cdxj kind ≡ 0
       none Warc = is_new.warc_is
       none Cdxj = is_new.cdxj_is
+
+      none_absent : (kind : Kind) → further_of (record { gave_up = false; warc = None; cdxj = None; further_warc = Absent; further_cdxj = Absent }) kind ≡ Absent
+      none_absent Warc = refl
+      none_absent Cdxj = refl
 
   same_reading : IsTrue tells → reading name held ≡ reading name no_folder
   same_reading told = no_files_is (reading name held) (counts_none told Warc) (counts_none told Cdxj) ∙ sym (nothing_read name)

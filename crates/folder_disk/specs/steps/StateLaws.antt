@@ -1,30 +1,34 @@
 -- Laws of a disk over a folder.
 use Rattle.std.proofs.Common.{◌≡◌, ◌≢◌, ◌<◌, ◌≤◌, ◌^◌, ◌+◌, ℕ, Bool, true, false, IsTrue, List, [], length, take, refl, sym, ap, ◌∙◌, subst, inl, inr, ⊎_elim, true≢false, arith}
+use Rattle.std.proofs.lemmas.Bool.{cases_lt}
 use Rattle.std.proofs.lemmas.Option.{none-some}
 use Rattle.std.specs.Prelude.{Result, Ok, Err, OnOk, OnErr, IsErr, ⊤}
 use Rattle.disk_model.specs.Crash.{Torn, Cut, OnFile, MayCreate, HasFile, Within, Follows, Stepped, Leaves, Elapses}
-use Rattle.disk_model.specs.Image.{Image, file_count, file_of, with_file, with_new}
+use Rattle.disk_model.specs.Image.{Image, IsApart, file_count, file_of, with_file, with_new}
 use Rattle.disk_model.specs.steps.CrashLaws.{torn_none, cut_none, on_file_none}
+use Rattle.disk_model.specs.steps.ImageLaws.{same_kind_or_other}
 use Rattle.disk_model.specs.declared.kind.Kind.{Kind}
 use Rattle.disk_model.specs.declared.kind.Kind.TheVariants.{Warc, Cdxj}
-use Rattle.std.proofs.Common.{◌∷◌, ◌++◌}
+use Rattle.std.proofs.Common.{◌∷◌}
 use Rattle.std.specs.Prelude.{None, IfOk}
-use Rattle.folder_model.specs.File.{Made, Wrote, Synced, Shortened, Listed}
+use Rattle.folder_model.specs.File.{FileDeed, Made, Shortened}
 use Rattle.std.specs.Prelude.{Option}
 use Rattle.std.specs.Option.{unwrap_or}
-use Rattle.folder_model.specs.Folder.{Deed, Did, FolderPast, SyncedFolder, SyncedAround, did, did_to, contents_of, bytes_of}
+use Rattle.folder_model.specs.Folder.{FolderPast, SyncedFolder, SyncedAround, did, did_to, contents_of, bytes_of}
 use Rattle.folder_model.specs.Seen.{NamesApart, IsSeen, images_of}
 use Rattle.folder_model.specs.Times.{Times, moment_of, goes_on, images_since_of}
 use Rattle.folder_model.specs.Known.{IsInDoubt, Knows}
-use Rattle.folder_model.specs.Whole.{AreSyncs, WritesWithin, IsWriting, MakesInPart, made_durably}
+use Rattle.folder_model.specs.Whole.{done_to, WritesWithin, IsWriting, MakesInPart, made_durably}
 use Rattle.folder_model.specs.steps.ReadingLaws.{contents_of-same}
-use Rattle.folder_disk.specs.steps.OpenLaws.{sync_all_same}
-use Rattle.folder_model.specs.DiskCalls.{WriteLeaves, CutLeaves, SyncDone, SyncFailed, CreateDone, CreateFailed}
+use Rattle.folder_disk.specs.steps.FurtherLaws.{same_doubts, same_torn, further_done, missed_are_torn, only_syncs_same}
+use Rattle.folder_model.specs.DiskCalls.{WriteLeaves, CutLeaves, SyncDone, SyncsLeave, CreateDone, CreateFailed}
 use Rattle.folder_model.specs.steps.KnownLaws.{reading_is, write_leaves, cut_leaves, create_done, create_failed, written_is_read, opened_knows}
 use Rattle.folder_model.specs.steps.SeenLaws.{reading_is_left, no_more_left}
 use Rattle.folder_model.specs.steps.TimeLaws.{image_now, image_only_now, image_earlier}
 use Rattle.folder_disk.specs.State.{State, known_of, reading, IsKnown, images, images_since, IsCounted, next, grown, trusted}
-use Rattle.folder_disk.specs.Doubts.{doubts_of, AreTorn}
+use Rattle.folder_disk.specs.Doubts.{doubts_of, range_of, AreTorn, further_of, IsFurther}
+use Rattle.folder_disk.specs.declared.trust.Further.{Further}
+use Rattle.folder_disk.specs.declared.trust.Further.TheVariants.{Absent}
 use Rattle.folder_disk.specs.declared.trust.Trust.{Trust}
 use Rattle.folder_disk.specs.Calls.{Creates, WritesAt, Cuts, Syncs, Looks}
 
@@ -70,7 +74,7 @@ module _ (tells : Bool) (name : Kind → ℕ → List ℕ) (old new : State) whe
       let was = l.2 image (to_folder name new tells image l.1 left) in
       (was.0, (left.0, inr (l.0, was.1)), was.2)
 
-  as_within : (IsTrue tells → IsKnown name old × IsKnown name new × Within (images_of name old.past) (images_of name new.past))
+  pub as_within : (IsTrue tells → IsKnown name old × IsKnown name new × Within (images_of name old.past) (images_of name new.past))
       → Within (images tells name old) (images tells name new)
   as_within law image left =
       let l = law left.0 in
@@ -79,7 +83,7 @@ module _ (tells : Bool) (name : Kind → ℕ → List ℕ) (old new : State) whe
   as_leaves : (P : Image → Type 0) → (IsTrue tells → IsKnown name new × Leaves (images_of name new.past) P) → Leaves (images tells name new) P
   as_leaves P law image left = let l = law left.0 in l.1 image (to_folder name new tells image l.0 left)
 
-  as_elapses : (target told_target : Image → Type 0) → moment_of old.times ≤ moment_of new.times → moment_of new.times ≤ moment_of old.times + 1
+  pub as_elapses : (target told_target : Image → Type 0) → moment_of old.times ≤ moment_of new.times → moment_of new.times ≤ moment_of old.times + 1
       → ((image : Image) → IsTrue tells → target image → told_target image)
       → (IsTrue tells → IsKnown name old × IsKnown name new
       × Elapses (moment_of old.times) (moment_of new.times) (images_since_of name old.past old.times) (images_since_of name new.past new.times) target)
@@ -121,23 +125,59 @@ module _ (tells : Bool) (name : Kind → ℕ → List ℕ) (s : State) (past : F
 -- ---- calls
 
 -- what is known of an image is known of the reading
-known_reading : (name : Kind → ℕ → List ℕ) (s : State) (image : Image) (gave_up : Bool) (doubts : Kind → Option ℕ)
+pub known_reading : (name : Kind → ℕ → List ℕ) (s : State) (image : Image) (gave_up : Bool) (doubts : Kind → Option ℕ)
     → Knows name s.past (known_of s.warc s.cdxj) gave_up doubts s.times image → reading name s ≡ image
 unfolding reading
 known_reading name s image gave_up doubts knows = reading_is name s.past (known_of s.warc s.cdxj) image knows.is.seen knows.numbers knows.no_fewer knows.one_more
 
-is_known : (name : Kind → ℕ → List ℕ) (s : State) (image : Image) → Knows name s.past (known_of s.warc s.cdxj) s.trust.gave_up (doubts_of s.trust) s.times image
-    → (s.trust.gave_up ≡ false → AreTorn name s.past s.trust) → IsKnown name s
-is_known name s image knows torn = record {
+pub is_known : (name : Kind → ℕ → List ℕ) (s : State) (image : Image) → Knows name s.past (known_of s.warc s.cdxj) s.trust.gave_up (doubts_of s.trust) s.times image
+    → (s.trust.gave_up ≡ false → AreTorn name s.past s.trust)
+    → ((kind : Kind) → IsFurther (further_of s.trust kind) s.past (name kind (known_of s.warc s.cdxj kind))) → IsKnown name s
+is_known name s image knows torn further = record {
   knows = subst (λ (i : Image). Knows name s.past (known_of s.warc s.cdxj) s.trust.gave_up (doubts_of s.trust) s.times i)
       (sym (known_reading name s image s.trust.gave_up (doubts_of s.trust) knows)) knows;
   torn = torn;
+  further = further;
 }
 
--- the trust that is left: it wasn't given up before, nothing that was in doubt was forgotten, and what is known of files is so
-abbrev pub TrustStays : (Kind → ℕ → List ℕ) → Trust → FolderPast → Trust → Type 0
-TrustStays name old past new =
-    new.gave_up ≡ false → (old.gave_up ≡ false) × ((m : List ℕ) → IsInDoubt name (doubts_of old) m → IsInDoubt name (doubts_of new) m) × AreTorn name past new
+-- where there is no file that was to be made, the folder has none of the next number, and all are known
+pub absent_is_none : (name : Kind → ℕ → List ℕ) (s : State) (kind : Kind) → IsKnown name s → further_of s.trust kind ≡ Absent
+    → contents_of s.past (name kind (known_of s.warc s.cdxj kind)) ≡ None
+absent_is_none name s kind known absent = subst (λ (f : Further). IsFurther f s.past (name kind (known_of s.warc s.cdxj kind))) absent (known.further kind)
+
+pub counted : (name : Kind → ℕ → List ℕ) (s : State) (kind : Kind) → IsKnown name s → further_of s.trust kind ≡ Absent
+    → file_count (reading name s) kind ≡ known_of s.warc s.cdxj kind
+counted name s kind known absent =
+    let number : ℕ = known_of s.warc s.cdxj kind in
+    let none : contents_of s.past (name kind number) ≡ None = absent_is_none name s kind known absent in
+    ⊎_elim
+    (λ more. absurd (none-some (file_of (reading name s) kind number) (sym none ∙ known.knows.is.seen.there kind number more)))
+    (λ all. omega (arith, all, known.knows.no_fewer kind))
+    (cases_lt number (file_count (reading name s) kind))
+
+-- the trust that is left: nothing else is known of files that were to be made; it wasn't given up before, nothing that was in doubt was forgotten, and what is
+-- known of files is so
+pub record TrustStays (name : Kind → ℕ → List ℕ) (old : Trust) (past : FolderPast) (new : Trust) : Type 0 where
+  pub same : (k : Kind) → further_of new k ≡ further_of old k
+  pub going : new.gave_up ≡ false → (old.gave_up ≡ false) × ((m : List ℕ) → IsInDoubt name (doubts_of old) m → IsInDoubt name (doubts_of new) m) × AreTorn name past new
+
+-- what is known of a file that was to be made, after deeds on one that the disk knows of
+pub further_stays : (name : Kind → ℕ → List ℕ) → NamesApart name → (kind : Kind) (file : ℕ) (s : State) (trust : Trust) (deeds : List FileDeed) → IsKnown name s
+    → file < known_of s.warc s.cdxj kind → ((k : Kind) → further_of trust k ≡ further_of s.trust k)
+    → (k : Kind) → IsFurther (further_of trust k) (done_to s.past (name kind file) deeds) (name k (known_of s.warc s.cdxj k))
+further_stays name apart kind file s trust deeds known ours same k =
+    let number : ℕ = known_of s.warc s.cdxj k in
+    subst (λ (f : Further). IsFurther f (done_to s.past (name kind file) deeds) (name k number)) (sym (same k))
+    (further_done (further_of s.trust k) s.past (name kind file) (name k number) deeds
+    (apart kind file k number (omega (arith, ours, known.knows.numbers kind)) (known.knows.numbers k) (is_apart k))
+    (known.further k))
+  where
+    is_apart : (k : Kind) → IsApart kind file k (known_of s.warc s.cdxj k)
+    is_apart k =
+        ⊎_elim
+        (λ one. inr (λ e. omega (arith, e, ours, ap (known_of s.warc s.cdxj) one)))
+        (λ differs. inl differs)
+        (same_kind_or_other k kind)
 
 -- what is known with less trust
 knows_still : (name : Kind → ℕ → List ℕ) (past : FolderPast) (known : Kind → ℕ) (old new : Trust) (times : Times) (image : Image)
@@ -148,19 +188,21 @@ knows_still name past known old new times image knows stays = record {
   numbers = knows.numbers;
   no_fewer = knows.no_fewer;
   one_more = knows.one_more;
-  all = λ goes. knows.all (stays goes).0;
-  named = λ goes. knows.named (stays goes).0;
-  sure = λ goes n. ⊎_elim (λ doubt. inl ((stays goes).1 n doubt)) (λ sure. inr sure) (knows.sure (stays goes).0 n);
+  named = knows.named;
+  sure = λ goes n. ⊎_elim (λ doubt. inl ((stays.going goes).1 n doubt)) (λ sure. inr sure) (knows.sure (stays.going goes).0 n);
 }
 
 -- a write, however it ended
 module _ (tells : Bool) (name : Kind → ℕ → List ℕ) (apart : NamesApart name) (kind : Kind) (file at : ℕ) (bytes : List ℕ) (old : State) (past : FolderPast) (trust : Trust)
-    (law : IsTrue tells → IsKnown name old × (file < file_count (reading name old) kind) × WritesWithin (name kind file) at (length bytes) old.past past)
+    (law : IsTrue tells → IsKnown name old × (file < known_of old.warc old.cdxj kind) × WritesWithin (name kind file) at (length bytes) old.past past)
     (stays : IsTrue tells → TrustStays name old.trust past trust) where
+  there : (told : IsTrue tells) → file < file_count (reading name old) kind
+  there told = omega (arith, (law told).1, (law told).0.knows.no_fewer kind)
+
   left : IsTrue tells → WriteLeaves name kind file at (length bytes) old.past past (known_of old.warc old.cdxj) old.trust.gave_up (doubts_of old.trust) old.times (reading name old)
   left told =
       write_leaves name apart kind file at (length bytes) old.past past (known_of old.warc old.cdxj) old.trust.gave_up (doubts_of old.trust) old.times (reading name old)
-      (law told).0.knows (law told).1 (law told).2
+      (law told).0.knows (there told) (law told).2
 
   read_now : (told : IsTrue tells) → reading name (trusted trust (next old past)) ≡ with_file (reading name old) kind file (left told).bytes
   read_now told =
@@ -170,7 +212,9 @@ module _ (tells : Bool) (name : Kind → ℕ → List ℕ) (apart : NamesApart n
   known_now told =
       is_known name (trusted trust (next old past)) (with_file (reading name old) kind file (left told).bytes)
       (knows_still name past (known_of old.warc old.cdxj) old.trust trust (goes_on old.times past) (with_file (reading name old) kind file (left told).bytes) (left told).knows (stays told))
-      (λ goes. (stays told goes).2)
+      (λ goes. ((stays told).going goes).2)
+      (subst (λ (p : FolderPast). (k : Kind) → IsFurther (further_of trust k) p (name k (known_of old.warc old.cdxj k))) (sym (law told).2.whole)
+      (further_stays name apart kind file old trust (law told).2.deeds (law told).0 (law told).1 (stays told).same))
 
   pub wrote : {E : Type 0} (result : Result ⊤ E)
       → (IsTrue tells → OnOk result (IsWriting (name kind file) at bytes (length bytes) old.past past))
@@ -179,7 +223,7 @@ module _ (tells : Bool) (name : Kind → ℕ → List ℕ) (apart : NamesApart n
     known = λ told. known_now told;
     written = λ told. on_ok result (done told) (λ writing.
         read_now told ∙ ap (λ (b : List ℕ). with_file (reading name old) kind file b)
-        (written_is_read name kind file at bytes (left told).bytes old.past past (reading name old) (law told).0.knows.is (law told).1 (left told).knows.is writing));
+        (written_is_read name kind file at bytes (left told).bytes old.past past (reading name old) (law told).0.knows.is (there told) (left told).knows.is writing));
     partial = λ told. on_err result (record { bytes = (left told).bytes; step = (left told).torn; whole = read_now told });
     crash = as_follows tells name old (trusted trust (next old past)) (OnFile kind file (Torn at (length bytes))) (λ told. ((law told).0, known_now told, (left told).follows));
     time = as_elapses tells name old (trusted trust (next old past)) (images_of name past) (images tells name (trusted trust (next old past))) (omega arith) (omega arith)
@@ -199,12 +243,13 @@ module _ (tells : Bool) (name : Kind → ℕ → List ℕ) (apart : NamesApart n
 module _ (tells : Bool) (name : Kind → ℕ → List ℕ) (kind : Kind) (file : ℕ) (old : State) (past : FolderPast) (trust : Trust)
     (known : IsTrue tells → IsKnown name old)
     (done : IsTrue tells → SyncDone name kind file old.past past (known_of old.warc old.cdxj) (doubts_of trust) old.times (reading name old))
-    (goes : trust.gave_up ≡ false) (torn : IsTrue tells → AreTorn name past trust) where
+    (goes : trust.gave_up ≡ false) (torn : IsTrue tells → AreTorn name past trust)
+    (further : IsTrue tells → (k : Kind) → IsFurther (further_of trust k) past (name k (known_of old.warc old.cdxj k))) where
   synced_known : IsTrue tells → IsKnown name (trusted trust (next old past))
   synced_known told =
       is_known name (trusted trust (next old past)) (reading name old)
       (subst (λ (b : Bool). Knows name past (known_of old.warc old.cdxj) b (doubts_of trust) (goes_on old.times past) (reading name old)) (sym goes) (done told).knows)
-      (λ g. torn told)
+      (λ g. torn told) (further told)
 
   pub synced : {E : Type 0} → Syncs {E = E} tells name kind file old (trusted trust (next old past)) (Ok tt)
   synced {E} = record {
@@ -220,10 +265,11 @@ module _ (tells : Bool) (name : Kind → ℕ → List ℕ) (kind : Kind) (file :
 -- a sync that failed
 module _ (tells : Bool) (name : Kind → ℕ → List ℕ) (kind : Kind) (file : ℕ) (old : State) (past : FolderPast) (trust : Trust)
     (known : IsTrue tells → IsKnown name old)
-    (missed : IsTrue tells → SyncFailed name old.past past (known_of old.warc old.cdxj) trust.gave_up (doubts_of trust) old.times (reading name old))
-    (torn : IsTrue tells → trust.gave_up ≡ false → AreTorn name past trust) where
+    (missed : IsTrue tells → SyncsLeave name old.past past (known_of old.warc old.cdxj) trust.gave_up (doubts_of trust) old.times (reading name old))
+    (torn : IsTrue tells → trust.gave_up ≡ false → AreTorn name past trust)
+    (further : IsTrue tells → (k : Kind) → IsFurther (further_of trust k) past (name k (known_of old.warc old.cdxj k))) where
   missed_known : IsTrue tells → IsKnown name (trusted trust (next old past))
-  missed_known told = is_known name (trusted trust (next old past)) (reading name old) (missed told).knows (torn told)
+  missed_known told = is_known name (trusted trust (next old past)) (reading name old) (missed told).knows (torn told) (further told)
 
   pub sync_missed : {E : Type 0} (e : E) → Syncs tells name kind file old (trusted trust (next old past)) (Err e)
   sync_missed e = record {
@@ -238,53 +284,66 @@ module _ (tells : Bool) (name : Kind → ℕ → List ℕ) (kind : Kind) (file :
 
 -- ---- a file that is made
 
--- a call that failed, and the disk gives up
-pub create_missed : {E : Type 0} (tells : Bool) (name : Kind → ℕ → List ℕ) (apart : NamesApart name) (kind : Kind) (old : State) (past : FolderPast) (e : E)
-    → (IsTrue tells → IsKnown name old × MakesInPart (name kind (known_of old.warc old.cdxj kind)) old.past past)
-    → old.trust.gave_up ≡ false
-    → Creates tells name kind old (trusted (record old.trust { gave_up = true }) (next old past)) (Err e)
-create_missed tells name apart kind old past e law goes = record {
-  known = λ told. known_now told;
-  number = λ told. tt;
-  created = λ told. tt;
-  partial = λ told.
-      subst (MayCreate kind (file_count (reading name old) kind) (reading name old)) (sym (known_reading name new (missed told).image true (doubts_of old.trust) (missed told).knows)) (missed told).partial;
-  crash = as_follows tells name old new (MayCreate kind (file_count (reading name old) kind)) (λ told. ((law told).0, known_now told, (missed told).follows));
-  durable = tt;
-  time = as_elapses tells name old new (Stepped (MayCreate kind (file_count (reading name old) kind)) (images_of name old.past))
-      (Stepped (MayCreate kind (file_count (reading name old) kind)) (images tells name old)) (omega arith) (omega arith)
-      (λ image told is. (is.0, (told, inr ((law told).0, is.1)), is.2))
-      (λ told. ((law told).0, known_now told, (missed told).time));
-}
-  where
-    new : State
-    new = trusted (record old.trust { gave_up = true }) (next old past)
+-- a call that failed, and may have made a file
+module _ (tells : Bool) (name : Kind → ℕ → List ℕ) (apart : NamesApart name) (kind : Kind) (old : State) (past : FolderPast) (trust : Trust)
+    (law : IsTrue tells → IsKnown name old × MakesInPart (name kind (known_of old.warc old.cdxj kind)) old.past past)
+    (goes : old.trust.gave_up ≡ false) (absent : further_of old.trust kind ≡ Absent) (ranges : (k : Kind) → range_of trust k ≡ range_of old.trust k)
+    (further : IsTrue tells → (k : Kind) → IsFurther (further_of trust k) past (name k (known_of old.warc old.cdxj k))) where
+  unmade : IsTrue tells → CreateFailed name kind old.past past (known_of old.warc old.cdxj) (doubts_of old.trust) old.times (reading name old)
+  unmade told =
+      let known = subst (λ (b : Bool). Knows name old.past (known_of old.warc old.cdxj) b (doubts_of old.trust) old.times (reading name old)) goes (law told).0.knows in
+      let all = counted name old kind (law told).0 absent in
+      create_failed name apart kind old.past (known_of old.warc old.cdxj) (doubts_of old.trust) old.times (reading name old) known all past
+      (subst (λ (n : ℕ). MakesInPart (name kind n) old.past past) (sym all) (law told).1)
 
-    missed : IsTrue tells → CreateFailed name kind old.past past (known_of old.warc old.cdxj) (doubts_of old.trust) old.times (reading name old)
-    missed told =
-        let known = subst (λ (b : Bool). Knows name old.past (known_of old.warc old.cdxj) b (doubts_of old.trust) old.times (reading name old)) goes (law told).0.knows in
-        create_failed name apart kind old.past (known_of old.warc old.cdxj) (doubts_of old.trust) old.times (reading name old) known past
-        (subst (λ (n : ℕ). MakesInPart (name kind n) old.past past) (sym (known.all refl kind)) (law told).1)
+  unmade_torn : (told : IsTrue tells) → AreTorn name past trust
+  unmade_torn told =
+      same_torn name past old.trust trust ranges
+      (missed_are_torn name (name kind (known_of old.warc old.cdxj kind)) old.past past old.trust (law told).1
+      (absent_is_none name old kind (law told).0 absent) ((law told).0.torn goes))
 
-    known_now : IsTrue tells → IsKnown name (trusted (record old.trust { gave_up = true }) (next old past))
-    known_now told =
-        let known = subst (λ (b : Bool). Knows name old.past (known_of old.warc old.cdxj) b (doubts_of old.trust) old.times (reading name old)) goes (law told).0.knows in
-        let left = create_failed name apart kind old.past (known_of old.warc old.cdxj) (doubts_of old.trust) old.times (reading name old) known past
-        (subst (λ (n : ℕ). MakesInPart (name kind n) old.past past) (sym (known.all refl kind)) (law told).1) in
-        is_known name (trusted (record old.trust { gave_up = true }) (next old past)) left.image left.knows (λ gone. absurd (true≢false gone))
+  unmade_known : IsTrue tells → IsKnown name (trusted trust (next old past))
+  unmade_known told =
+      is_known name (trusted trust (next old past)) (unmade told).image
+      (record {
+        is = (unmade told).knows.is;
+        timed = (unmade told).knows.timed;
+        numbers = (unmade told).knows.numbers;
+        no_fewer = (unmade told).knows.no_fewer;
+        one_more = (unmade told).knows.one_more;
+        named = (unmade told).knows.named;
+        sure = λ still n. ⊎_elim (λ doubt. inl (same_doubts name old.trust trust ranges n doubt)) (λ sure. inr sure) ((unmade told).knows.sure refl n);
+      })
+      (λ still. unmade_torn told) (further told)
+
+  pub create_missed : {E : Type 0} (e : E) → Creates tells name kind old (trusted trust (next old past)) (Err e)
+  create_missed e = record {
+    known = λ told. unmade_known told;
+    number = λ told. tt;
+    created = λ told. tt;
+    partial = λ told.
+        subst (MayCreate kind (file_count (reading name old) kind) (reading name old))
+        (sym (known_reading name (trusted trust (next old past)) (unmade told).image false (doubts_of old.trust) (unmade told).knows)) (unmade told).partial;
+    crash = as_follows tells name old (trusted trust (next old past)) (MayCreate kind (file_count (reading name old) kind)) (λ told. ((law told).0, unmade_known told, (unmade told).follows));
+    durable = tt;
+    time = as_elapses tells name old (trusted trust (next old past)) (Stepped (MayCreate kind (file_count (reading name old) kind)) (images_of name old.past))
+        (Stepped (MayCreate kind (file_count (reading name old) kind)) (images tells name old)) (omega arith) (omega arith)
+        (λ image told is. (is.0, (told, inr ((law told).0, is.1)), is.2))
+        (λ told. ((law told).0, unmade_known told, (unmade told).time));
+  }
 
 -- counts with one file more
-grown_kind : (kind : Kind) (s : State) → known_of (grown kind s).warc (grown kind s).cdxj kind ≡ known_of s.warc s.cdxj kind + 1
+pub grown_kind : (kind : Kind) (s : State) → known_of (grown kind s).warc (grown kind s).cdxj kind ≡ known_of s.warc s.cdxj kind + 1
 grown_kind Warc s = refl
 grown_kind Cdxj s = refl
 
-grown_other : (kind : Kind) (s : State) (k : Kind) → k ≢ kind → known_of (grown kind s).warc (grown kind s).cdxj k ≡ known_of s.warc s.cdxj k
+pub grown_other : (kind : Kind) (s : State) (k : Kind) → k ≢ kind → known_of (grown kind s).warc (grown kind s).cdxj k ≡ known_of s.warc s.cdxj k
 grown_other Warc s Warc differs = absurd (differs refl)
 grown_other Warc s Cdxj differs = refl
 grown_other Cdxj s Warc differs = refl
 grown_other Cdxj s Cdxj differs = absurd (differs refl)
 
-grown_numbers : (kind : Kind) (s : State) → known_of s.warc s.cdxj kind + 1 < 2 ^ 32 → ((k : Kind) → known_of s.warc s.cdxj k < 2 ^ 32)
+pub grown_numbers : (kind : Kind) (s : State) → known_of s.warc s.cdxj kind + 1 < 2 ^ 32 → ((k : Kind) → known_of s.warc s.cdxj k < 2 ^ 32)
     → (k : Kind) → known_of (grown kind s).warc (grown kind s).cdxj k < 2 ^ 32
 grown_numbers Warc s room numbers Warc = room
 grown_numbers Warc s room numbers Cdxj = numbers Cdxj
@@ -296,35 +355,48 @@ pub grown_trusted : (kind : Kind) (s : State) (past : FolderPast) (trust : Trust
 grown_trusted Warc s past trust = refl
 grown_trusted Cdxj s past trust = refl
 
-grown_times : (kind : Kind) (s : State) → (grown kind s).times ≡ s.times
+pub grown_times : (kind : Kind) (s : State) → (grown kind s).times ≡ s.times
 grown_times Warc s = refl
 grown_times Cdxj s = refl
 
 -- a call that was done
 module _ (tells : Bool) (name : Kind → ℕ → List ℕ) (apart : NamesApart name) (kind : Kind) (old : State) (past : FolderPast) (trust : Trust)
     (law : IsTrue tells → IsKnown name old × (past ≡ made_durably (name kind (known_of old.warc old.cdxj kind)) old.past))
-    (goes : old.trust.gave_up ≡ false) (room : known_of old.warc old.cdxj kind + 1 < 2 ^ 32)
-    (stays : IsTrue tells → ((m : List ℕ) → IsInDoubt name (doubts_of old.trust) m → IsInDoubt name (doubts_of trust) m) × AreTorn name past trust) where
+    (goes : old.trust.gave_up ≡ false) (absent : further_of old.trust kind ≡ Absent) (room : known_of old.warc old.cdxj kind + 1 < 2 ^ 32)
+    (stays : IsTrue tells → ((m : List ℕ) → IsInDoubt name (doubts_of old.trust) m → IsInDoubt name (doubts_of trust) m) × AreTorn name past trust
+    × ((k : Kind) → IsFurther (further_of trust k) past (name k (known_of (grown kind old).warc (grown kind old).cdxj k)))) where
+  made_all : (told : IsTrue tells) → file_count (reading name old) kind ≡ known_of old.warc old.cdxj kind
+  made_all told = counted name old kind (law told).0 absent
+
   made_then : IsTrue tells → Knows name old.past (known_of old.warc old.cdxj) false (doubts_of old.trust) old.times (reading name old)
   made_then told = subst (λ (b : Bool). Knows name old.past (known_of old.warc old.cdxj) b (doubts_of old.trust) old.times (reading name old)) goes (law told).0.knows
 
   made_done : IsTrue tells → CreateDone name kind old.past past (known_of (grown kind old).warc (grown kind old).cdxj) (doubts_of old.trust) old.times (reading name old)
   made_done told =
-      create_done name apart kind old.past (known_of old.warc old.cdxj) (doubts_of old.trust) old.times (reading name old) (made_then told) past (known_of (grown kind old).warc (grown kind old).cdxj)
-      (subst (λ (n : ℕ). past ≡ made_durably (name kind n) old.past) (sym ((made_then told).all refl kind)) (law told).1)
+      create_done name apart kind old.past (known_of old.warc old.cdxj) (doubts_of old.trust) old.times (reading name old) (made_then told) (made_all told) past (known_of (grown kind old).warc (grown kind old).cdxj)
+      (subst (λ (n : ℕ). past ≡ made_durably (name kind n) old.past) (sym (made_all told)) (law told).1)
       (grown_numbers kind old room (made_then told).numbers) (grown_kind kind old) (grown_other kind old)
 
   made_knows : IsTrue tells
       → Knows name past (known_of (grown kind old).warc (grown kind old).cdxj) trust.gave_up (doubts_of trust) (goes_on (grown kind old).times past) (with_new (reading name old) kind)
   made_knows told =
-      knows_still name past (known_of (grown kind old).warc (grown kind old).cdxj) old.trust trust (goes_on (grown kind old).times past) (with_new (reading name old) kind)
-      (subst (λ (b : Bool). Knows name past (known_of (grown kind old).warc (grown kind old).cdxj) b (doubts_of old.trust) (goes_on (grown kind old).times past) (with_new (reading name old) kind)) (sym goes)
-      (subst (λ (t : Times). Knows name past (known_of (grown kind old).warc (grown kind old).cdxj) false (doubts_of old.trust) (goes_on t past) (with_new (reading name old) kind))
-      (sym (grown_times kind old)) (made_done told).knows))
-      (λ g. (goes, (stays told).0, (stays told).1))
+      let done = subst (λ (t : Times). Knows name past (known_of (grown kind old).warc (grown kind old).cdxj) false (doubts_of old.trust) (goes_on t past) (with_new (reading name old) kind))
+      (sym (grown_times kind old)) (made_done told).knows in
+      record {
+        is = done.is;
+        timed = done.timed;
+        numbers = done.numbers;
+        no_fewer = done.no_fewer;
+        one_more = done.one_more;
+        named = done.named;
+        sure = λ still n. ⊎_elim (λ doubt. inl ((stays told).0 n doubt)) (λ sure. inr sure) (done.sure refl n);
+      }
+
+  further_grown : (told : IsTrue tells) → (k : Kind) → IsFurther (further_of trust k) past (name k (known_of (grown kind old).warc (grown kind old).cdxj k))
+  further_grown told = (stays told).2
 
   made_known : IsTrue tells → IsKnown name (trusted trust (next (grown kind old) past))
-  made_known told = is_known name (trusted trust (next (grown kind old) past)) (with_new (reading name old) kind) (made_knows told) (λ g. (stays told).1)
+  made_known told = is_known name (trusted trust (next (grown kind old) past)) (with_new (reading name old) kind) (made_knows told) (λ g. (stays told).1) (further_grown told)
 
   made_moments : moment_of (goes_on (grown kind old).times past) ≡ moment_of old.times + 1
   made_moments = omega (arith, ap (λ (t : Times). moment_of t) (grown_times kind old))
@@ -338,13 +410,13 @@ module _ (tells : Bool) (name : Kind → ℕ → List ℕ) (apart : NamesApart n
   pub create_made : {E : Type 0} → Creates {E = E} tells name kind old (trusted trust (next (grown kind old) past)) (Ok (known_of old.warc old.cdxj kind))
   create_made {E} = record {
     known = λ told. made_known told;
-    number = λ told. sym ((made_then told).all refl kind);
+    number = λ told. sym (made_all told);
     created = λ told. known_reading name (trusted trust (next (grown kind old) past)) (with_new (reading name old) kind) trust.gave_up (doubts_of trust) (made_knows told);
     partial = λ told. tt;
     crash = as_follows tells name old (trusted trust (next (grown kind old) past)) (MayCreate kind (file_count (reading name old) kind)) (λ told. ((law told).0, made_known told, (made_done told).follows));
     durable = as_leaves tells name old (trusted trust (next (grown kind old) past)) (HasFile kind (known_of old.warc old.cdxj kind) []) (λ told. (
       made_known told,
-      subst (λ (n : ℕ). Leaves (images_of name past) (HasFile kind n [])) ((made_then told).all refl kind) (made_done told).durable,
+      subst (λ (n : ℕ). Leaves (images_of name past) (HasFile kind n [])) (made_all told) (made_done told).durable,
     ));
     time = as_elapses tells name old (trusted trust (next (grown kind old) past)) (Stepped (MayCreate kind (file_count (reading name old) kind)) (images_of name old.past))
         (Stepped (MayCreate kind (file_count (reading name old) kind)) (images tells name old)) (omega (arith, made_moments)) (omega (arith, made_moments))
@@ -356,7 +428,7 @@ module _ (tells : Bool) (name : Kind → ℕ → List ℕ) (apart : NamesApart n
 
 -- a cut that was done or failed, of which some bytes weren't taken
 module _ (tells : Bool) (name : Kind → ℕ → List ℕ) (apart : NamesApart name) (kind : Kind) (file len : ℕ) (old : State) (past : FolderPast) (trust : Trust)
-    (law : IsTrue tells → IsKnown name old × (file < file_count (reading name old) kind))
+    (law : IsTrue tells → IsKnown name old × (file < known_of old.warc old.cdxj kind))
     (stays : IsTrue tells → TrustStays name old.trust past trust) where
   pub cut_ended : {E : Type 0} (result : Result ⊤ E)
       → (IsTrue tells → (rest : ℕ) × (past ≡ did_to old.past (name kind file) (Shortened (len + rest) rest)) × OnOk result (rest ≡ 0))
@@ -377,22 +449,27 @@ module _ (tells : Bool) (name : Kind → ℕ → List ℕ) (apart : NamesApart n
         (λ told. ((law told).0, known_now told, (left told).time));
   }
     where
+      there : (told : IsTrue tells) → file < file_count (reading name old) kind
+      there told = omega (arith, (law told).1, (law told).0.knows.no_fewer kind)
+
       left : (told : IsTrue tells) → CutLeaves name kind file len (part told).0 old.past past (known_of old.warc old.cdxj) old.trust.gave_up (doubts_of old.trust) old.times (reading name old)
       left told = cut_leaves name apart kind file len (part told).0 old.past past (known_of old.warc old.cdxj) old.trust.gave_up (doubts_of old.trust) old.times (reading name old)
-          (law told).0.knows (law told).1 (part told).1
+          (law told).0.knows (there told) (part told).1
 
       read_now : (told : IsTrue tells) → reading name (trusted trust (next old past)) ≡ with_file (reading name old) kind file (take (len + (part told).0) (file_of (reading name old) kind file))
       read_now told = known_reading name (trusted trust (next old past)) (with_file (reading name old) kind file (take (len + (part told).0) (file_of (reading name old) kind file)))
           old.trust.gave_up (doubts_of old.trust)
           (cut_leaves name apart kind file len (part told).0 old.past past (known_of old.warc old.cdxj) old.trust.gave_up (doubts_of old.trust) old.times (reading name old)
-          (law told).0.knows (law told).1 (part told).1).knows
+          (law told).0.knows (there told) (part told).1).knows
 
       known_now : IsTrue tells → IsKnown name (trusted trust (next old past))
       known_now told = is_known name (trusted trust (next old past)) (with_file (reading name old) kind file (take (len + (part told).0) (file_of (reading name old) kind file)))
           (knows_still name past (known_of old.warc old.cdxj) old.trust trust (goes_on old.times past) (with_file (reading name old) kind file (take (len + (part told).0) (file_of (reading name old) kind file)))
           (cut_leaves name apart kind file len (part told).0 old.past past (known_of old.warc old.cdxj) old.trust.gave_up (doubts_of old.trust) old.times (reading name old)
-          (law told).0.knows (law told).1 (part told).1).knows (stays told))
-          (λ goes. (stays told goes).2)
+          (law told).0.knows (there told) (part told).1).knows (stays told))
+          (λ goes. ((stays told).going goes).2)
+          (subst (λ (p : FolderPast). (k : Kind) → IsFurther (further_of trust k) p (name k (known_of old.warc old.cdxj k))) (sym (part told).1)
+          (further_stays name apart kind file old trust (Shortened (len + (part told).0) (part told).0 ∷ []) (law told).0 (law told).1 (stays told).same))
 
       on_ok : {P Q : Type 0} (r : Result ⊤ E) → OnOk r P → (P → Q) → OnOk r Q
       on_ok (Ok x) holds gives = gives holds
@@ -472,7 +549,7 @@ bytes_read name s kind file known there = ap (λ (o : Option (List ℕ)). unwrap
 pub opened : (name : Kind → ℕ → List ℕ) (warc cdxj : ℕ) (old new : FolderPast) (trust : Trust) (times : Times)
     → IsCounted name old warc cdxj
     → new ≡ did (did old (SyncedFolder true)) (SyncedAround true)
-    → trust ≡ record { gave_up = false; warc = None; cdxj = None }
+    → trust ≡ record { gave_up = false; warc = None; cdxj = None; further_warc = Absent; further_cdxj = Absent }
     → times ≡ record { made = length new.deeds; begun = [] }
     → IsKnown name (record { past = new; warc = warc; cdxj = cdxj; trust = trust; times = times })
 opened name warc cdxj old new trust times counted whole fresh began =
@@ -482,8 +559,16 @@ opened name warc cdxj old new trust times counted whole fresh began =
     (subst (λ (t : Times). Knows name new (known_of warc cdxj) false (doubts_of trust) t counted.image) (sym began)
     (subst (λ (p : FolderPast). Knows name p (known_of warc cdxj) false (doubts_of trust) (record { made = length p.deeds; begun = [] }) counted.image) (sym whole) known)))
     (λ goes. subst (AreTorn name new) (sym fresh) none_torn)
+    (λ kind. subst (λ (t : Trust). IsFurther (further_of t kind) new (name kind (known_of warc cdxj kind))) (sym fresh)
+    (absent kind (ap (λ (p : FolderPast). contents_of p (name kind (known_of warc cdxj kind))) whole
+    ∙ counted.seen.no_more kind (known_of warc cdxj kind) (omega (arith, counted.counts kind)) (counted.numbers kind))))
   where
-    none_torn : AreTorn name new (record { gave_up = false; warc = None; cdxj = None })
+    absent : (kind : Kind) → contents_of new (name kind (known_of warc cdxj kind)) ≡ None
+        → IsFurther (further_of (record { gave_up = false; warc = None; cdxj = None; further_warc = Absent; further_cdxj = Absent }) kind) new (name kind (known_of warc cdxj kind))
+    absent Warc none = none
+    absent Cdxj none = none
+
+    none_torn : AreTorn name new (record { gave_up = false; warc = None; cdxj = None; further_warc = Absent; further_cdxj = Absent })
     none_torn Warc = tt
     none_torn Cdxj = tt
 
@@ -576,6 +661,58 @@ sync_behind {E} tells name kind file old new past result same was_synced = recor
       keeps = time.keeps;
     }
 
+-- syncs by a call that only looks
+pub looked_by : (tells : Bool) (name : Kind → ℕ → List ℕ) (old new : State) → (IsTrue tells → IsKnown name old × IsKnown name new) → (IsTrue tells → reading name new ≡ reading name old)
+    → (IsTrue tells → Within (images_of name old.past) (images_of name new.past)) → moment_of new.times ≡ moment_of old.times + 1
+    → (IsTrue tells → Elapses (moment_of old.times) (moment_of new.times) (images_since_of name old.past old.times) (images_since_of name new.past new.times) (images_of name new.past))
+    → Looks tells name old new
+looked_by tells name old new known same within moment time = record {
+  known = λ told. (known told).1;
+  same = same;
+  crash = as_within tells name old new (λ told. ((known told).0, (known told).1, within told));
+  time = as_elapses tells name old new (images_of name new.past) (images tells name new) (omega (arith, moment)) (omega (arith, moment))
+      (λ image told is. (told, inr ((known told).1, is)))
+      (λ told. ((known told).0, (known told).1, time told));
+}
+
+-- a look behind which the folder was only looked at, and one before which it was
+pub looks_behind : (tells : Bool) (name : Kind → ℕ → List ℕ) (old new : State) (past : FolderPast) → (IsTrue tells → past ≡ new.past) → Looks tells name old new
+    → Looks tells name old (record new { past = past })
+looks_behind tells name old new past same looks = record {
+  known = known_same tells name new past same looks.known;
+  same = λ told. reading_same tells name new past same told ∙ looks.same told;
+  crash = λ image left. looks.crash image (images_same tells name new past same image left);
+  time = time_behind tells name old new past (images tells name (record new { past = past })) same (record {
+    later = looks.time.later;
+    by_one = looks.time.by_one;
+    nothing_else = λ t image le left.
+        ⊎_elim
+        (λ was. inl was)
+        (λ is. inr (subst (λ (p : FolderPast). images tells name (record new { past = p }) image) (sym (same is.0)) is))
+        (looks.time.nothing_else t image le left);
+    keeps = looks.time.keeps;
+  });
+}
+
+pub looks_before : (tells : Bool) (name : Kind → ℕ → List ℕ) (old new : State) (past : FolderPast) → (IsTrue tells → past ≡ old.past) → Looks tells name (record old { past = past }) new
+    → Looks tells name old new
+looks_before tells name old new past same looks = record {
+  known = looks.known;
+  same = λ told. looks.same told ∙ reading_same tells name old past same told;
+  crash = λ image left. images_same tells name old past same image (looks.crash image left);
+  time = record {
+    later = looks.time.later;
+    by_one = looks.time.by_one;
+    nothing_else = λ t image le left.
+        ⊎_elim
+        (λ was. inl (subst (λ (p : FolderPast). images_since tells name (record old { past = p }) t image) (same was.0) was))
+        (λ is. inr is)
+        (looks.time.nothing_else t image le left);
+    keeps = λ t image le left.
+        looks.time.keeps t image le (subst (λ (p : FolderPast). images_since tells name (record old { past = p }) t image) (sym (same left.0)) left);
+  };
+}
+
 -- nothing was made, by a disk of which the folder has the same past
 pub create_not_begun : {E : Type 0} (tells : Bool) (name : Kind → ℕ → List ℕ) (kind : Kind) (s : State) (past : FolderPast) (e : E)
     → (IsTrue tells → past ≡ s.past) → (IsTrue tells → IsKnown name s) → Creates tells name kind s (record s { past = past }) (Err e)
@@ -592,20 +729,8 @@ create_not_begun tells name kind s past e same known = record {
 -- where a file that was to be made isn't there nothing was done
 pub nothing_made : (name : List ℕ) (old new : FolderPast) → contents_of new name ≡ None → MakesInPart name old new → new ≡ old
 nothing_made name old new none (inl same) = same
-nothing_made name old new none (inr made) = absurd (is_there (made.synced.deeds) made.synced.syncs (ap (λ (p : FolderPast). contents_of p name) (sym made.synced.whole) ∙ none))
-  where
-    is_there : (deeds : List Deed) → AreSyncs deeds → contents_of (record (did_to old name Made) { deeds = deeds ++ (did_to old name Made).deeds }) name ≡ None → ⊥
-    is_there [] syncs lacks = none-some [] (sym (sym (contents_of-same old name Made) ∙ lacks))
-    is_there (Did n (Synced done) ∷ earlier) syncs lacks =
-        is_there earlier syncs
-        (sym (sync_all_same n done (record (did_to old name Made) { deeds = earlier ++ (did_to old name Made).deeds })
-        (record (did_to old name Made) { deeds = (Did n (Synced done) ∷ earlier) ++ (did_to old name Made).deeds }) refl name) ∙ lacks)
-    is_there (Did n Made ∷ earlier) syncs lacks = absurd syncs
-    is_there (Did n (Wrote at bytes rest) ∷ earlier) syncs lacks = absurd syncs
-    is_there (Did n (Shortened len rest) ∷ earlier) syncs lacks = absurd syncs
-    is_there (Did n (Listed done) ∷ earlier) syncs lacks = absurd syncs
-    is_there (SyncedFolder done ∷ earlier) syncs lacks = is_there earlier syncs lacks
-    is_there (SyncedAround done ∷ earlier) syncs lacks = is_there earlier syncs lacks
+nothing_made name old new none (inr is_made) =
+    absurd (none-some [] (sym none ∙ only_syncs_same name (did_to old name Made) new is_made.synced name ∙ contents_of-same old name Made))
 
 -- a file was synced, whatever is answered
 pub sync_answered : {E : Type 0} (tells : Bool) (name : Kind → ℕ → List ℕ) (kind : Kind) (file : ℕ) (old new : State) (result : Result ⊤ E)

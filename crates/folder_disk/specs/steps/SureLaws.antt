@@ -13,22 +13,27 @@ use Rattle.std.proofs.lemmas.Option.{none-some, same_Some}
 use Rattle.disk_model.specs.Image.{file_count, file_of, written}
 use Rattle.disk_model.specs.declared.kind.Kind.{Kind}
 use Rattle.disk_model.specs.declared.kind.Kind.TheVariants.{Warc, Cdxj}
-use Rattle.folder_model.specs.DiskCalls.{SyncFailed}
+use Rattle.disk_model.specs.steps.ImageLaws.{same_kind_or_other}
+use Rattle.folder_model.specs.DiskCalls.{SyncsLeave}
 use Rattle.folder_model.specs.File.{FileDeed, Made, Wrote, Synced, Listed, AreBytesSure, Shortened}
-use Rattle.folder_model.specs.Folder.{FolderPast, did_to, deeds_of, contents_of, bytes_of}
+use Rattle.folder_model.specs.Folder.{Did, FolderPast, SyncedFolder, SyncedAround, did, did_to, deeds_of, contents_of, bytes_of, IsNameSureAt}
 use Rattle.folder_model.specs.Known.{IsInDoubt, Knows}
 use Rattle.folder_model.specs.Ranges.{IsTornIn, IsTornAt, MendsIn}
 use Rattle.folder_model.specs.Seen.{NamesApart}
-use Rattle.folder_model.specs.Whole.{WritesWithin, made_durably, Covers}
+use Rattle.folder_model.specs.Whole.{done_to, WritesWithin, MakesInPart, made_durably, Covers}
 use Rattle.folder_model.specs.steps.FolderLaws.{deeds_of-same, names_cases}
 use Rattle.folder_model.specs.steps.KnownLaws.{sync_done, sync_failed, sync_doubted}
 use Rattle.folder_model.specs.steps.MendLaws.{written_again, torn_clean, torn_failed, torn_listed, torn_made, torn_did, torn_other, mending, mended_sync, range_anew_is_sure, front_of_range, torn_written, mended}
+use Rattle.folder_model.specs.steps.SyncLaws.{names_made, names_synced, names_listed, names_around}
 use Rattle.folder_disk.specs.Calls.{Syncs}
-use Rattle.folder_disk.specs.Doubts.{range_of, with_range, doubt_in, doubts_of, IsTornTo, AreTorn, AfterWhole, AfterPart, AfterCut, AfterFailure, GoesOn, SyncedTo}
+use Rattle.folder_disk.specs.Doubts.{range_of, with_range, doubt_in, doubts_of, IsTornTo, AreTorn, AfterWhole, AfterPart, AfterCut, AfterFailure, GoesOn, SyncedTo, further_of, IsFurther}
 use Rattle.folder_disk.specs.Mending.{range_in, written_anew}
-use Rattle.folder_disk.specs.State.{State, known_of, reading, IsKnown, next, trusted}
-use Rattle.folder_disk.specs.steps.StateLaws.{TrustStays, synced, sync_missed, bytes_read}
+use Rattle.folder_disk.specs.State.{State, known_of, reading, IsKnown, next, grown, trusted}
+use Rattle.folder_disk.specs.steps.FurtherLaws.{further_gave, further_range, missed_same, missed_other}
+use Rattle.folder_disk.specs.steps.StateLaws.{TrustStays, further_stays, grown_kind, grown_other, synced, sync_missed, bytes_read}
 use Rattle.folder_disk.specs.steps.TrustLaws.{torn_done, torn_goes_on, torn_kept, after_part, after_whole, after_cut, after_sync, whole_stays, part_stays, cut_stays, doubts_go_on, doubts_after_sync, doubts_after_failure, not_in_doubt}
+use Rattle.folder_disk.specs.declared.trust.Further.{Further}
+use Rattle.folder_disk.specs.declared.trust.Further.TheVariants.{Absent}
 use Rattle.folder_disk.specs.declared.trust.Trust.{Trust}
 use Rattle.folder_disk.specs.declared.trust.Written.{Written}
 
@@ -38,6 +43,14 @@ with_range_gave Cdxj range trust = refl
 
 pub synced_gave : (kind : Kind) (number : ℕ) (old new : Trust) → SyncedTo kind number old new → old.gave_up ≡ false → new.gave_up ≡ false
 synced_gave kind number old new on goes = ap (λ (t : Trust). t.gave_up) on.only ∙ with_range_gave kind on.range old ∙ goes
+
+-- nothing else is known of files that were to be made
+pub synced_further : (kind : Kind) (number : ℕ) (old new : Trust) → SyncedTo kind number old new → (k : Kind) → further_of new k ≡ further_of old k
+synced_further kind number old new on k = ap (λ (t : Trust). further_of t k) on.only ∙ further_range kind on.range old k
+
+goes_on_further : (kind : Kind) (After : Option Written → Option Written → Type 0) (old new : Trust) → GoesOn kind After old new → (k : Kind) → further_of new k ≡ further_of old k
+goes_on_further kind After old new on k =
+    ap (λ (t : Trust). further_of t k) on.only ∙ further_range kind on.range (record old { gave_up = new.gave_up }) k ∙ further_gave new.gave_up old k
 
 -- one deed on a file leaves what is known of the others
 pub deed_elsewhere : (old new : FolderPast) (n : List ℕ) (deed : FileDeed) → new ≡ did_to old n deed
@@ -169,6 +182,14 @@ made_elsewhere old new n whole other at many apart torn =
     (torn_listed (old.first other) (deeds_of other (did_to (did_to old n Made) n (Synced true)).deeds) at many true
     (torn_other (did_to old n Made) n other (Synced true) at many apart (torn_other old n other Made at many apart torn)))
 
+-- a sync of the folder answers for each name that one answered for before
+names_durably : (old new : FolderPast) (n m : List ℕ) → new ≡ made_durably n old → IsNameSureAt old m → IsNameSureAt new m
+names_durably old new n m whole sure =
+    let made : FolderPast = did_to old n Made in
+    let synced : FolderPast = did_to made n (Synced true) in
+    let listed : FolderPast = did synced (SyncedFolder true) in
+    names_around listed new m true whole (names_listed synced listed m refl (names_synced made synced n m true refl (names_made old made n m refl sure)))
+
 -- a file that isn't there isn't in doubt
 pub none_in_doubt : (name : Kind → ℕ → List ℕ) (past : FolderPast) (trust : Trust) (n : List ℕ) → AreTorn name past trust → contents_of past n ≡ None
     → IsInDoubt name (doubts_of trust) n → ⊥
@@ -185,7 +206,17 @@ none_in_doubt name past trust n torn none (k, f, is, named) = by (range_of trust
         by_doubt false e its = none-some f e
 
 module _ (tells : Bool) (name : Kind → ℕ → List ℕ) (apart : NamesApart name) (kind : Kind) (file : ℕ) (small : file < 2 ^ 32) (old : State) (past : FolderPast)
-    (known : IsTrue tells → IsKnown name old) (there : IsTrue tells → file < file_count (reading name old) kind) (goes : old.trust.gave_up ≡ false) where
+    (known : IsTrue tells → IsKnown name old) (ours : file < known_of old.warc old.cdxj kind) (goes : old.trust.gave_up ≡ false) where
+  there : (told : IsTrue tells) → file < file_count (reading name old) kind
+  there told = omega (arith, ours, (known told).knows.no_fewer kind)
+
+  -- what is known of files that were to be made
+  further_now : (told : IsTrue tells) (trust : Trust) (deeds : List FileDeed) → past ≡ done_to old.past (name kind file) deeds
+      → ((k : Kind) → further_of trust k ≡ further_of old.trust k) → (k : Kind) → IsFurther (further_of trust k) past (name k (known_of old.warc old.cdxj k))
+  further_now told trust deeds whole same =
+      subst (λ (p : FolderPast). (k : Kind) → IsFurther (further_of trust k) p (name k (known_of old.warc old.cdxj k))) (sym whole)
+      (further_stays name apart kind file old trust deeds (known told) ours same)
+
   going : (told : IsTrue tells) → Knows name old.past (known_of old.warc old.cdxj) false (doubts_of old.trust) old.times (reading name old)
   going told = subst (λ (b : Bool). Knows name old.past (known_of old.warc old.cdxj) b (doubts_of old.trust) old.times (reading name old)) goes (known told).knows
 
@@ -195,7 +226,7 @@ module _ (tells : Bool) (name : Kind → ℕ → List ℕ) (apart : NamesApart n
       → Syncs {E = E} tells name kind file old (trusted trust (next old past)) (Ok tt)
   sure_done {E} trust sure on whole =
       synced tells name kind file old past trust known
-      (λ told. sync_done name kind file old.past past (known_of old.warc old.cdxj) (doubts_of old.trust) (doubts_of trust) old.times (reading name old) (going told) (there told)
+      (λ told. sync_done name kind file old.past past (known_of old.warc old.cdxj) (doubts_of old.trust) (doubts_of trust) old.times (reading name old) (going told) ours
       (is_sure told) (doubts_after_sync name kind old.trust trust file on) (whole told))
       (synced_gave kind file old.trust trust on goes)
       (λ told. torn_goes_on name apart kind file small old.past past (deed_elsewhere old.past past (name kind file) (Synced true) (whole told))
@@ -207,6 +238,7 @@ module _ (tells : Bool) (name : Kind → ℕ → List ℕ) (apart : NamesApart n
       ((known told).knows.is.seen.there kind file (there told)))))
       (range_of old.trust kind) on.range on.after)
       ((known told).torn goes))
+      (λ told. further_now told trust (Synced true ∷ []) (whole told) (synced_further kind file old.trust trust on))
     where
       is_sure : (told : IsTrue tells) → AreBytesSure (old.past.first (name kind file)) (deeds_of (name kind file) old.past.deeds)
       is_sure told =
@@ -219,21 +251,25 @@ module _ (tells : Bool) (name : Kind → ℕ → List ℕ) (apart : NamesApart n
   pub sure_missed : {E : Type 0} (trust : Trust) (e : E) → AfterFailure kind file old.trust trust
       → (IsTrue tells → past ≡ did_to old.past (name kind file) (Synced false))
       → Syncs {E = E} tells name kind file old (trusted trust (next old past)) (Err e)
-  sure_missed {E} trust e (inl gone) whole =
+  sure_missed {E} trust e (inl is) whole =
+      let gone : trust.gave_up ≡ true = ap (λ (t : Trust). t.gave_up) is in
       sync_missed tells name kind file old past trust known
-      (λ told. subst (λ (b : Bool). SyncFailed name old.past past (known_of old.warc old.cdxj) b (doubts_of trust) old.times (reading name old)) (sym gone)
+      (λ told. subst (λ (b : Bool). SyncsLeave name old.past past (known_of old.warc old.cdxj) b (doubts_of trust) old.times (reading name old)) (sym gone)
       (sync_failed name (name kind file) old.past past (known_of old.warc old.cdxj) false (doubts_of old.trust) (doubts_of trust) old.times (reading name old) (going told) (whole told)))
       (λ told still. absurd (true≢false (sym gone ∙ still)))
+      (λ told. further_now told trust (Synced false ∷ []) (whole told) (λ k. ap (λ (t : Trust). further_of t k) is ∙ further_gave true old.trust k))
       e
   sure_missed {E} trust e (inr (range, had, its, only)) whole =
       sync_missed tells name kind file old past trust known
-      (λ told. subst (λ (b : Bool). SyncFailed name old.past past (known_of old.warc old.cdxj) b (doubts_of trust) old.times (reading name old)) (sym stays)
+      (λ told. subst (λ (b : Bool). SyncsLeave name old.past past (known_of old.warc old.cdxj) b (doubts_of trust) old.times (reading name old)) (sym stays)
       (sync_doubted name (name kind file) old.past past (known_of old.warc old.cdxj) false (doubts_of old.trust) (doubts_of trust) old.times (reading name old) (going told)
       (doubts_after_failure name kind old.trust trust file range had its only).0 (doubts_after_failure name kind old.trust trust file range had its only).1 (whole told)))
       (λ told still. torn_goes_on name apart kind file small old.past past (deed_elsewhere old.past past (name kind file) (Synced false) (whole told))
       old.trust trust (Some (record range { in_doubt = true })) old.trust.gave_up only
       (λ torn. in_doubt told (subst (λ (r : Option Written). IfSome r (IsTornTo name old.past kind)) had torn))
       ((known told).torn goes))
+      (λ told. further_now told trust (Synced false ∷ []) (whole told)
+      (λ k. ap (λ (t : Trust). further_of t k) only ∙ further_range kind (Some (record range { in_doubt = true })) old.trust k))
       e
     where
       stays : trust.gave_up ≡ false
@@ -264,7 +300,7 @@ module _ (tells : Bool) (name : Kind → ℕ → List ℕ) (apart : NamesApart n
         synced tells name kind file old past trust known
         (λ told. mended_sync name apart kind file at len old.past (written_anew old.past (name kind file) at len) past
         (known_of old.warc old.cdxj) (doubts_of old.trust) (doubts_of trust) old.times (reading name old)
-        (subst (λ (b : Bool). Knows name old.past (known_of old.warc old.cdxj) b (doubts_of old.trust) old.times (reading name old)) goes (known told).knows) (there told)
+        (subst (λ (b : Bool). Knows name old.past (known_of old.warc old.cdxj) b (doubts_of old.trust) old.times (reading name old)) goes (known told).knows) ours
         (is_torn told) (doubts_after_sync name kind old.trust trust file on)
         (λ i. did_to (did_to old.past (name kind file) (Wrote at (take len (drop at (mends_read told i))) 0)) (name kind file) (Shortened (length (mends_read told i)) 0)) (whole told))
         (synced_gave kind file old.trust trust on goes)
@@ -274,6 +310,8 @@ module _ (tells : Bool) (name : Kind → ℕ → List ℕ) (apart : NamesApart n
         (subst (λ (p : FolderPast). IsTornAt p (name kind file) 0 0) (sym (whole told)) (is_clean told))
         (range_of old.trust kind) on.range on.after)
         ((known told).torn goes))
+        (λ told. further_now told trust (Synced true ∷ Shortened (length (bytes_of old.past (name kind file))) 0 ∷ Wrote at (range_in old.past (name kind file) at len) 0 ∷ []) (whole told)
+        (synced_further kind file old.trust trust on))
       where
         elsewhere : (told : IsTrue tells) (n : List ℕ) (a many : ℕ) → (n ≡ name kind file → ⊥) → IsTornAt old.past n a many → IsTornAt past n a many
         elsewhere told n a many differs torn =
@@ -306,6 +344,7 @@ module _ (tells : Bool) (name : Kind → ℕ → List ℕ) (apart : NamesApart n
         (λ told. mending name apart kind file at len old.past past (known_of old.warc old.cdxj) old.trust.gave_up (doubts_of old.trust) old.times (reading name old)
         (known told).knows (there told) (is_torn told) (kind, file, ap doubt_in doubt, refl) (mends told))
         (λ told still. torn_kept name apart kind file small old.past past (elsewhere told) old.trust (still_torn told) ((known told).torn goes))
+        (λ told. further_now told old.trust (part told).deeds (part told).whole (λ k. refl))
         e
       where
         mends : (told : IsTrue tells) → MendsIn (name kind file) at len (file_of (reading name old) kind file) old.past past
@@ -330,50 +369,61 @@ module _ (tells : Bool) (name : Kind → ℕ → List ℕ) (apart : NamesApart n
 module _ (name : Kind → ℕ → List ℕ) (apart : NamesApart name) (kind : Kind) (file : ℕ) (small : file < 2 ^ 32) (old : State) (past : FolderPast) (now : Trust) (known : IsKnown name old) where
   -- writes within some bytes
   pub part_goes : (at len : ℕ) → WritesWithin (name kind file) at len old.past past → GoesOn kind (AfterPart file at len) old.trust now → TrustStays name old.trust past now
-  part_goes at len within on goes =
+  part_goes at len within on =
       let elsewhere : (n : List ℕ) (a many : ℕ) → (n ≡ name kind file → ⊥) → IsTornAt old.past n a many → IsTornAt past n a many =
-      λ n a many differs torn. subst (λ (p : FolderPast). IsTornAt p n a many) (sym within.whole) (torn_done old.past (name kind file) n within.deeds a many differs torn) in (
-        on.going goes,
-        doubts_go_on name kind old.trust now (AfterPart file at len) (part_stays file at len) on goes,
-        torn_goes_on name apart kind file small old.past past elsewhere old.trust now on.range now.gave_up on.only
-            (after_part name apart kind file small old.past past elsewhere at len within.deeds within.writes within.whole (range_of old.trust kind) on.range on.after)
-            (known.torn (on.going goes)),
-      )
+      λ n a many differs torn. subst (λ (p : FolderPast). IsTornAt p n a many) (sym within.whole) (torn_done old.past (name kind file) n within.deeds a many differs torn) in record {
+        same = goes_on_further kind (AfterPart file at len) old.trust now on;
+        going = λ goes. (
+          on.going goes,
+          doubts_go_on name kind old.trust now (AfterPart file at len) (part_stays file at len) on goes,
+          torn_goes_on name apart kind file small old.past past elsewhere old.trust now on.range now.gave_up on.only
+              (after_part name apart kind file small old.past past elsewhere at len within.deeds within.writes within.whole (range_of old.trust kind) on.range on.after)
+              (known.torn (on.going goes)),
+        );
+      }
 
   -- a write of which all bytes may be torn
   pub whole_goes : (at len : ℕ) → file < file_count (reading name old) kind → at ≤ length (file_of (reading name old) kind file)
       → WritesWithin (name kind file) at len old.past past → Covers (name kind file) at len old.past past
       → GoesOn kind (AfterWhole file at len) old.trust now → TrustStays name old.trust past now
-  whole_goes at len there inside within covers on goes =
+  whole_goes at len there inside within covers on =
       let n : List ℕ = name kind file in
       let elsewhere : (m : List ℕ) (a many : ℕ) → (m ≡ n → ⊥) → IsTornAt old.past m a many → IsTornAt past m a many =
-      λ m a many differs torn. subst (λ (p : FolderPast). IsTornAt p m a many) (sym within.whole) (torn_done old.past n m within.deeds a many differs torn) in (
-        on.going goes,
-        doubts_go_on name kind old.trust now (AfterWhole file at len) (whole_stays file at len) on goes,
-        torn_goes_on name apart kind file small old.past past elsewhere old.trust now on.range now.gave_up on.only
-            (after_whole name apart kind file small old.past past elsewhere at len within.deeds within.writes within.whole
-            (λ start torn. torn_written old.past past n start at len torn
-            (omega (arith, inside, ap length (same_Some torn.reading (file_of (reading name old) kind file) (sym torn.is ∙ known.knows.is.seen.there kind file there)))) within covers)
-            (range_of old.trust kind) on.range on.after)
-            (known.torn (on.going goes)),
-      )
+      λ m a many differs torn. subst (λ (p : FolderPast). IsTornAt p m a many) (sym within.whole) (torn_done old.past n m within.deeds a many differs torn) in record {
+        same = goes_on_further kind (AfterWhole file at len) old.trust now on;
+        going = λ goes. (
+          on.going goes,
+          doubts_go_on name kind old.trust now (AfterWhole file at len) (whole_stays file at len) on goes,
+          torn_goes_on name apart kind file small old.past past elsewhere old.trust now on.range now.gave_up on.only
+              (after_whole name apart kind file small old.past past elsewhere at len within.deeds within.writes within.whole
+              (λ start torn. torn_written old.past past n start at len torn
+              (omega (arith, inside, ap length (same_Some torn.reading (file_of (reading name old) kind file) (sym torn.is ∙ known.knows.is.seen.there kind file there)))) within covers)
+              (range_of old.trust kind) on.range on.after)
+              (known.torn (on.going goes)),
+        );
+      }
 
   -- a cut
   pub cut_goes : (deed : FileDeed) → past ≡ did_to old.past (name kind file) deed → GoesOn kind (AfterCut file) old.trust now → TrustStays name old.trust past now
-  cut_goes deed whole on goes =
+  cut_goes deed whole on =
       let elsewhere : (n : List ℕ) (a many : ℕ) → (n ≡ name kind file → ⊥) → IsTornAt old.past n a many → IsTornAt past n a many =
-      deed_elsewhere old.past past (name kind file) deed whole in (
-        on.going goes,
-        doubts_go_on name kind old.trust now (AfterCut file) (cut_stays file) on goes,
-        torn_goes_on name apart kind file small old.past past elsewhere old.trust now on.range now.gave_up on.only
-            (after_cut name apart kind file small old.past past elsewhere (range_of old.trust kind) on.range on.after)
-            (known.torn (on.going goes)),
-      )
+      deed_elsewhere old.past past (name kind file) deed whole in record {
+        same = goes_on_further kind (AfterCut file) old.trust now on;
+        going = λ goes. (
+          on.going goes,
+          doubts_go_on name kind old.trust now (AfterCut file) (cut_stays file) on goes,
+          torn_goes_on name apart kind file small old.past past elsewhere old.trust now on.range now.gave_up on.only
+              (after_cut name apart kind file small old.past past elsewhere (range_of old.trust kind) on.range on.after)
+              (known.torn (on.going goes)),
+        );
+      }
 
   -- a file that was made
   pub made_goes : old.trust.gave_up ≡ false → contents_of old.past (name kind file) ≡ None → past ≡ made_durably (name kind file) old.past → SyncedTo kind file old.trust now
+      → file ≡ known_of old.warc old.cdxj kind → file + 1 < 2 ^ 32 → further_of old.trust kind ≡ Absent
       → ((m : List ℕ) → IsInDoubt name (doubts_of old.trust) m → IsInDoubt name (doubts_of now) m) × AreTorn name past now
-  made_goes goes none whole on =
+      × ((k : Kind) → IsFurther (further_of now k) past (name k (known_of (grown kind old).warc (grown kind old).cdxj k)))
+  made_goes goes none whole on next_one room absent =
       let elsewhere : (n : List ℕ) (a many : ℕ) → (n ≡ name kind file → ⊥) → IsTornAt old.past n a many → IsTornAt past n a many =
       made_elsewhere old.past past (name kind file) whole in (
         (λ m doubt.
@@ -385,4 +435,32 @@ module _ (name : Kind → ℕ → List ℕ) (apart : NamesApart name) (kind : Ki
             (after_sync name apart kind file small old.past past elsewhere (subst (λ (p : FolderPast). IsTornAt p (name kind file) 0 0) (sym whole) (made_torn old.past (name kind file)))
             (range_of old.trust kind) on.range on.after)
             (known.torn goes),
+        (λ k.
+            ⊎_elim
+            (λ same. subst (λ (kk : Kind). IsFurther (further_of now kk) past (name kk (known_of (grown kind old).warc (grown kind old).cdxj kk))) (sym same) this_kind)
+            (λ differs. other_kind k differs)
+            (same_kind_or_other k kind)),
       )
+    where
+      this_kind : IsFurther (further_of now kind) past (name kind (known_of (grown kind old).warc (grown kind old).cdxj kind))
+      this_kind =
+          let makes : MakesInPart (name kind file) old.past past =
+          inr (record { none = none; synced = record { deeds = SyncedAround true ∷ SyncedFolder true ∷ Did (name kind file) (Synced true) ∷ []; syncs = (refl, tt); whole = whole } }) in
+          let count : known_of (grown kind old).warc (grown kind old).cdxj kind ≡ file + 1 = omega (arith, grown_kind kind old, next_one) in
+          let lacks : contents_of old.past (name kind (file + 1)) ≡ None =
+          known.knows.is.seen.no_more kind (file + 1) (omega (arith, known.knows.one_more kind, next_one)) room in
+          let is : contents_of past (name kind (file + 1)) ≡ None =
+          missed_same (name kind file) old.past past (name kind (file + 1)) makes (apart kind file kind (file + 1) small room (inr (λ e. omega (arith, e)))) ∙ lacks in
+          subst (λ (f : Further). IsFurther f past (name kind (known_of (grown kind old).warc (grown kind old).cdxj kind)))
+          (sym (synced_further kind file old.trust now on kind ∙ absent))
+          (subst (λ (n : ℕ). contents_of past (name kind n) ≡ None) (sym count) is)
+
+      other_kind : (k : Kind) → k ≢ kind → IsFurther (further_of now k) past (name k (known_of (grown kind old).warc (grown kind old).cdxj k))
+      other_kind k differs =
+          let makes : MakesInPart (name kind file) old.past past =
+          inr (record { none = none; synced = record { deeds = SyncedAround true ∷ SyncedFolder true ∷ Did (name kind file) (Synced true) ∷ []; syncs = (refl, tt); whole = whole } }) in
+          let number : ℕ = known_of old.warc old.cdxj k in
+          subst (λ (f : Further). IsFurther f past (name k (known_of (grown kind old).warc (grown kind old).cdxj k))) (sym (synced_further kind file old.trust now on k))
+          (subst (λ (n : ℕ). IsFurther (further_of old.trust k) past (name k n)) (sym (grown_other kind old k differs))
+          (missed_other (further_of old.trust k) (name kind file) old.past past (name k number) makes
+          (apart kind file k number small (known.knows.numbers k) (inl differs)) (names_durably old.past past (name kind file) (name k number) whole) (known.further k)))

@@ -28,7 +28,7 @@ range_other Warc range trust Cdxj differs = refl
 range_other Cdxj range trust Warc differs = refl
 range_other Cdxj range trust Cdxj differs = absurd (differs refl)
 
-range_gave : (gave_up : Bool) (trust : Trust) (k : Kind) → range_of (record trust { gave_up = gave_up }) k ≡ range_of trust k
+pub range_gave : (gave_up : Bool) (trust : Trust) (k : Kind) → range_of (record trust { gave_up = gave_up }) k ≡ range_of trust k
 range_gave gave_up trust Warc = refl
 range_gave gave_up trust Cdxj = refl
 

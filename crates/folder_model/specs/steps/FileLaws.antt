@@ -7,7 +7,7 @@ use Rattle.std.specs.Option.{option_map}
 use Rattle.disk_model.specs.Image.{written}
 use Rattle.disk_model.specs.Crash.{Torn, Cut}
 use Rattle.disk_model.specs.steps.CrashLaws.{torn_written}
-use Rattle.folder_model.specs.File.{FileDeed, Made, Wrote, Shortened, Synced, Listed, After, Sync, Crash, read_of, MayHold, may_lack, IsLeft, AreBytesSure, IsNameSure}
+use Rattle.folder_model.specs.File.{FileDeed, Made, Wrote, Shortened, Synced, Listed, After, Sync, Crash, read_of, MayHold, may_lack, IsLeft, AreBytesSure, AreBytesLeft, IsNameSure}
 
 -- a cut of which some was done
 pub cut_begun : (len rest : ℕ) (old : List ℕ) → Cut (len - rest) old (take len old)
@@ -140,6 +140,22 @@ bytes_sure-synced first deeds sure bytes holds = sure bytes holds
 
 pub bytes_sure-listed : (first : Option (List ℕ)) (deeds : List FileDeed) (done : Bool) → AreBytesSure first deeds → AreBytesSure first (Listed done ∷ deeds)
 bytes_sure-listed first deeds done sure bytes holds = sure bytes holds
+
+-- ---- what a crash leaves of the bytes is what reads find
+
+pub bytes_left-made : (first : Option (List ℕ)) (deeds : List FileDeed) → AreBytesLeft first (Made ∷ deeds)
+bytes_left-made first deeds bytes holds = ap (λ (b : List ℕ). Some b) (sym holds)
+
+pub bytes_left-synced : (first : Option (List ℕ)) (deeds : List FileDeed) (done : Bool) → AreBytesLeft first deeds → AreBytesLeft first (Synced done ∷ deeds)
+bytes_left-synced first deeds true left bytes holds = left bytes (sync_then_crash first deeds bytes holds)
+bytes_left-synced first deeds false left bytes holds = left bytes holds
+
+pub bytes_left-listed : (first : Option (List ℕ)) (deeds : List FileDeed) (done : Bool) → AreBytesLeft first deeds → AreBytesLeft first (Listed done ∷ deeds)
+bytes_left-listed first deeds done left bytes holds = left bytes holds
+
+-- then syncs answer for them
+pub bytes_left-sure : (first : Option (List ℕ)) (deeds : List FileDeed) → AreBytesLeft first deeds → AreBytesSure first deeds
+bytes_left-sure first deeds left bytes holds = left bytes (sync_then_crash first deeds bytes holds)
 
 pub name_sure-first : (first : Option (List ℕ)) → IsNameSure first []
 name_sure-first None lacks = refl

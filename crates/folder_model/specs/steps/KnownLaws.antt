@@ -10,19 +10,19 @@ use Rattle.disk_model.specs.Image.{Image, files_of, file_count, file_of, with_fi
 use Rattle.disk_model.specs.Crash.{Torn, Cut, OnFile, MayCreate, Follows, Stepped, Elapses}
 use Rattle.disk_model.specs.steps.CrashLaws.{torn_none, torn_written}
 use Rattle.disk_model.specs.steps.ImageLaws.{same_kind, file_of-with_file, with_file-with_file, with_file-file_of, file_count-with_file, file_count-with_new, file_count-with_new_kind, count_grows, same_or_apart, same_kind_or_other}
-use Rattle.folder_model.specs.File.{FileDeed, Made, Wrote, Shortened, Synced, Listed, Crash, MayHold, may_lack, AreBytesSure}
-use Rattle.folder_model.specs.Folder.{Contents, Deed, Did, SyncedFolder, SyncedAround, FolderPast, did, did_to, deeds_of, contents_of, MayLeave, IsUnfailed}
+use Rattle.folder_model.specs.File.{FileDeed, Made, Wrote, Shortened, Synced, Listed, Crash, MayHold, may_lack, AreBytesSure, AreBytesLeft}
+use Rattle.folder_model.specs.Folder.{Contents, Deed, Did, SyncedFolder, SyncedAround, FolderPast, did, did_to, deeds_of, contents_of, MayLeave, IsUnfailed, AreBytesLeftAt}
 use Rattle.folder_model.specs.Seen.{NamesApart, IsSeen, images_of, IsNamed, IsPlaced, FolderIs}
 use Rattle.folder_model.specs.Times.{Times, moment_of, IsTimed, goes_on, images_since_of}
 use Rattle.folder_model.specs.Known.{bytes_or_none, reading_of, IsInDoubt, Knows}
-use Rattle.folder_model.specs.DiskCalls.{WriteLeaves, CutLeaves, SyncDone, SyncFailed, CreateDone, CreateFailed}
+use Rattle.folder_model.specs.DiskCalls.{WriteLeaves, CutLeaves, SyncDone, SyncsLeave, CreateDone, CreateFailed}
 use Rattle.folder_model.specs.Whole.{done_to, AreWrites, WritesWithin, IsWriting, AreSyncs, MakesInPart, made_durably}
-use Rattle.folder_model.specs.steps.FileLaws.{cut_begun, bytes_sure-wrote, bytes_sure-made, bytes_sure-synced, bytes_sure-shortened, bytes_sure-listed}
+use Rattle.folder_model.specs.steps.FileLaws.{cut_begun, bytes_sure-wrote, bytes_sure-synced, bytes_sure-shortened, bytes_sure-listed, bytes_left-made, bytes_left-sure}
 use Rattle.folder_model.specs.steps.FolderLaws.{deeds_of-same, deeds_of-other, names_cases}
-use Rattle.folder_model.specs.steps.ReadingLaws.{image_of-count, image_of-file, folder_is-changed, folder_is-synced, folder_is-listed, folder_is-around, folder_is-made, is_named-did, is_named-other, is_named-listed}
+use Rattle.folder_model.specs.steps.ReadingLaws.{image_of-count, image_of-file, folder_is-changed, folder_is-synced, folder_is-listed, folder_is-around, folder_is-made, is_named-did, is_named-other}
 use Rattle.folder_model.specs.steps.SeenLaws.{file_is_durable, synced_within, cut_follows}
 use Rattle.folder_model.specs.steps.SureLaws.{on_deed, file_sync_is_durable, opened_is_disk, opened_is_named, unfailed_bytes}
-use Rattle.folder_model.specs.steps.SyncLaws.{syncs_within, fewer_syncs}
+use Rattle.folder_model.specs.steps.SyncLaws.{syncs_within, fewer_syncs, syncs_named, syncs_left, syncs_sure}
 use Rattle.folder_model.specs.steps.MadeLaws.{made_follows}
 use Rattle.folder_model.specs.steps.TimeLaws.{goes_on_timed, deeds_elapse}
 use Rattle.folder_model.specs.steps.TornLaws.{torn_wider, torn_again}
@@ -178,10 +178,8 @@ write_leaves name apart kind file at many old new known gave_up doubts times rea
         numbers = knows.numbers;
         no_fewer = λ k. omega (arith, knows.no_fewer k, counts k);
         one_more = λ k. omega (arith, knows.one_more k, counts k);
-        all = λ goes k. counts k ∙ knows.all goes k;
-        named = λ goes k f inside.
-            subst (λ (p : FolderPast). IsNamed p (name k f)) whole
-            (writes_named old n (name k f) at many within.deeds within.writes (knows.named goes k f (omega (arith, inside, counts k))));
+        named = λ k f inside.
+            subst (λ (p : FolderPast). IsNamed p (name k f)) whole (writes_named old n (name k f) at many within.deeds within.writes (knows.named k f inside));
         sure = λ goes m. or_still (λ sure. subst (λ (p : FolderPast). AreBytesSure (p.first m) (deeds_of m p.deeds)) whole (writes_sure old n m at many within.deeds within.writes sure)) (knows.sure goes m);
       };
       follows = subst (λ (p : FolderPast). Follows (OnFile kind file (Torn at many)) (images_of name old) (images_of name p)) whole
@@ -232,12 +230,13 @@ settled_sure old n doubts left m (inr is) settles sure =
 
 -- a sync that was done, of a file that syncs answer for; from then on it isn't in doubt
 sync_done_now : (name : Kind → ℕ → List ℕ) (kind : Kind) (file : ℕ) (old : FolderPast) (known : Kind → ℕ) (doubts left : Kind → Option ℕ) (times : Times) (reading : Image)
-    → Knows name old known false doubts times reading → file < file_count reading kind
+    → Knows name old known false doubts times reading → file < known kind
     → AreBytesSure (old.first (name kind file)) (deeds_of (name kind file) old.deeds)
     → ((m : List ℕ) → IsInDoubt name doubts m → (m ≡ name kind file) ⊎ IsInDoubt name left m)
     → SyncDone name kind file old (did_to old (name kind file) (Synced true)) known left times reading
-sync_done_now name kind file old known doubts left times reading knows there sure settles =
+sync_done_now name kind file old known doubts left times reading knows ours sure settles =
     let n : List ℕ = name kind file in
+    let there : file < file_count reading kind = omega (arith, ours, knows.no_fewer kind) in
     let new : FolderPast = did_to old n (Synced true) in
     record {
       knows = record {
@@ -246,28 +245,27 @@ sync_done_now name kind file old known doubts left times reading knows there sur
         numbers = knows.numbers;
         no_fewer = knows.no_fewer;
         one_more = knows.one_more;
-        all = knows.all;
-        named = λ goes k f inside. is_named-did old n (name k f) (Synced true) (λ e. cc) (knows.named goes k f inside);
+        named = λ k f inside. is_named-did old n (name k f) (Synced true) (λ e. cc) (knows.named k f inside);
         sure = λ goes m. settled_sure old n (IsInDoubt name doubts) (IsInDoubt name left) m (knows.sure goes m) (settles m) sure;
       };
-      durable = file_sync_is_durable name old reading kind file knows.is there (knows.named refl kind file there) sure;
+      durable = file_sync_is_durable name old reading kind file knows.is there (knows.named kind file ours) sure;
       within = synced_within name old n true;
       time = one_deed_elapses name old times (Did n (Synced true)) knows.timed;
     }
 
 pub sync_done : (name : Kind → ℕ → List ℕ) (kind : Kind) (file : ℕ) (old new : FolderPast) (known : Kind → ℕ) (doubts left : Kind → Option ℕ) (times : Times) (reading : Image)
-    → Knows name old known false doubts times reading → file < file_count reading kind
+    → Knows name old known false doubts times reading → file < known kind
     → AreBytesSure (old.first (name kind file)) (deeds_of (name kind file) old.deeds)
     → ((m : List ℕ) → IsInDoubt name doubts m → (m ≡ name kind file) ⊎ IsInDoubt name left m)
     → new ≡ did_to old (name kind file) (Synced true)
     → SyncDone name kind file old new known left times reading
-sync_done name kind file old new known doubts left times reading knows there sure settles whole =
+sync_done name kind file old new known doubts left times reading knows ours sure settles whole =
     subst (λ (p : FolderPast). SyncDone name kind file old p known left times reading) (sym whole)
-    (sync_done_now name kind file old known doubts left times reading knows there sure settles)
+    (sync_done_now name kind file old known doubts left times reading knows ours sure settles)
 
 -- a sync that failed, so that the disk gives up
 sync_failed_now : (name : Kind → ℕ → List ℕ) (n : List ℕ) (old : FolderPast) (known : Kind → ℕ) (gave_up : Bool) (doubts left : Kind → Option ℕ) (times : Times) (reading : Image)
-    → Knows name old known gave_up doubts times reading → SyncFailed name old (did_to old n (Synced false)) known true left times reading
+    → Knows name old known gave_up doubts times reading → SyncsLeave name old (did_to old n (Synced false)) known true left times reading
 sync_failed_now name n old known gave_up doubts left times reading knows = record {
   knows = record {
     is = folder_is-synced name old reading n false knows.is;
@@ -275,8 +273,7 @@ sync_failed_now name n old known gave_up doubts left times reading knows = recor
     numbers = knows.numbers;
     no_fewer = knows.no_fewer;
     one_more = knows.one_more;
-    all = λ goes. absurd (true≢false goes);
-    named = λ goes. absurd (true≢false goes);
+    named = λ k f inside. is_named-did old n (name k f) (Synced false) (λ e. cc) (knows.named k f inside);
     sure = λ goes. absurd (true≢false goes);
   };
   within = synced_within name old n false;
@@ -284,14 +281,14 @@ sync_failed_now name n old known gave_up doubts left times reading knows = recor
 }
 
 pub sync_failed : (name : Kind → ℕ → List ℕ) (n : List ℕ) (old new : FolderPast) (known : Kind → ℕ) (gave_up : Bool) (doubts left : Kind → Option ℕ) (times : Times) (reading : Image)
-    → Knows name old known gave_up doubts times reading → new ≡ did_to old n (Synced false) → SyncFailed name old new known true left times reading
+    → Knows name old known gave_up doubts times reading → new ≡ did_to old n (Synced false) → SyncsLeave name old new known true left times reading
 sync_failed name n old new known gave_up doubts left times reading knows whole =
-    subst (λ (p : FolderPast). SyncFailed name old p known true left times reading) (sym whole) (sync_failed_now name n old known gave_up doubts left times reading knows)
+    subst (λ (p : FolderPast). SyncsLeave name old p known true left times reading) (sym whole) (sync_failed_now name n old known gave_up doubts left times reading knows)
 
 -- a sync that failed, so that its file is in doubt
 sync_doubted_now : (name : Kind → ℕ → List ℕ) (n : List ℕ) (old : FolderPast) (known : Kind → ℕ) (gave_up : Bool) (doubts left : Kind → Option ℕ) (times : Times) (reading : Image)
     → Knows name old known gave_up doubts times reading → ((m : List ℕ) → IsInDoubt name doubts m → IsInDoubt name left m) → IsInDoubt name left n
-    → SyncFailed name old (did_to old n (Synced false)) known gave_up left times reading
+    → SyncsLeave name old (did_to old n (Synced false)) known gave_up left times reading
 sync_doubted_now name n old known gave_up doubts left times reading knows more this = record {
   knows = record {
     is = folder_is-synced name old reading n false knows.is;
@@ -299,8 +296,7 @@ sync_doubted_now name n old known gave_up doubts left times reading knows more t
     numbers = knows.numbers;
     no_fewer = knows.no_fewer;
     one_more = knows.one_more;
-    all = knows.all;
-    named = λ goes k f inside. is_named-did old n (name k f) (Synced false) (λ e. cc) (knows.named goes k f inside);
+    named = λ k f inside. is_named-did old n (name k f) (Synced false) (λ e. cc) (knows.named k f inside);
     sure = λ goes m.
         ⊎_elim
         (λ same. inl (subst (IsInDoubt name left) (sym same.0) this))
@@ -317,43 +313,43 @@ sync_doubted_now name n old known gave_up doubts left times reading knows more t
 
 pub sync_doubted : (name : Kind → ℕ → List ℕ) (n : List ℕ) (old new : FolderPast) (known : Kind → ℕ) (gave_up : Bool) (doubts left : Kind → Option ℕ) (times : Times) (reading : Image)
     → Knows name old known gave_up doubts times reading → ((m : List ℕ) → IsInDoubt name doubts m → IsInDoubt name left m) → IsInDoubt name left n → new ≡ did_to old n (Synced false)
-    → SyncFailed name old new known gave_up left times reading
+    → SyncsLeave name old new known gave_up left times reading
 sync_doubted name n old new known gave_up doubts left times reading knows more this whole =
-    subst (λ (p : FolderPast). SyncFailed name old p known gave_up left times reading) (sym whole)
+    subst (λ (p : FolderPast). SyncsLeave name old p known gave_up left times reading) (sym whole)
     (sync_doubted_now name n old known gave_up doubts left times reading knows more this)
 
 -- ---- a file that is made
 
 -- syncs leave a disk
-syncs_folder_is : (name : Kind → ℕ → List ℕ) (past : FolderPast) (image : Image) (deeds : List Deed) → AreSyncs deeds → FolderIs name past image
+pub syncs_folder_is : (name : Kind → ℕ → List ℕ) (synced : List ℕ) (past : FolderPast) (image : Image) (deeds : List Deed) → AreSyncs synced deeds → FolderIs name past image
     → FolderIs name (record past { deeds = deeds ++ past.deeds }) image
-syncs_folder_is name past image [] syncs is = is
-syncs_folder_is name past image (Did n Made ∷ earlier) syncs is = absurd syncs
-syncs_folder_is name past image (Did n (Wrote at bytes rest) ∷ earlier) syncs is = absurd syncs
-syncs_folder_is name past image (Did n (Shortened len rest) ∷ earlier) syncs is = absurd syncs
-syncs_folder_is name past image (Did n (Synced done) ∷ earlier) syncs is =
-    folder_is-synced name (record past { deeds = earlier ++ past.deeds }) image n done (syncs_folder_is name past image earlier syncs is)
-syncs_folder_is name past image (Did n (Listed done) ∷ earlier) syncs is = absurd syncs
-syncs_folder_is name past image (SyncedFolder done ∷ earlier) syncs is =
-    folder_is-listed name (record past { deeds = earlier ++ past.deeds }) image done (syncs_folder_is name past image earlier syncs is)
-syncs_folder_is name past image (SyncedAround done ∷ earlier) syncs is =
-    folder_is-around name (record past { deeds = earlier ++ past.deeds }) image done (syncs_folder_is name past image earlier syncs is)
+syncs_folder_is name synced past image [] syncs is = is
+syncs_folder_is name synced past image (Did n Made ∷ earlier) syncs is = absurd syncs
+syncs_folder_is name synced past image (Did n (Wrote at bytes rest) ∷ earlier) syncs is = absurd syncs
+syncs_folder_is name synced past image (Did n (Shortened len rest) ∷ earlier) syncs is = absurd syncs
+syncs_folder_is name synced past image (Did n (Synced done) ∷ earlier) syncs is =
+    folder_is-synced name (record past { deeds = earlier ++ past.deeds }) image n done (syncs_folder_is name synced past image earlier syncs.1 is)
+syncs_folder_is name synced past image (Did n (Listed done) ∷ earlier) syncs is = absurd syncs
+syncs_folder_is name synced past image (SyncedFolder done ∷ earlier) syncs is =
+    folder_is-listed name (record past { deeds = earlier ++ past.deeds }) image done (syncs_folder_is name synced past image earlier syncs is)
+syncs_folder_is name synced past image (SyncedAround done ∷ earlier) syncs is =
+    folder_is-around name (record past { deeds = earlier ++ past.deeds }) image done (syncs_folder_is name synced past image earlier syncs is)
 
 -- The disk's next file was made, with nothing but syncs behind it.
 module _ (name : Kind → ℕ → List ℕ) (apart : NamesApart name) (kind : Kind) (old : FolderPast) (known : Kind → ℕ) (doubts : Kind → Option ℕ) (times : Times) (reading : Image)
-    (knows : Knows name old known false doubts times reading) where
+    (knows : Knows name old known false doubts times reading) (all : file_count reading kind ≡ known kind) where
   room : file_count reading kind < 2 ^ 32
-  room = omega (arith, knows.all refl kind, knows.numbers kind)
+  room = omega (arith, all, knows.numbers kind)
 
   -- images that are left behind some of the syncs
-  images_behind : (deeds : List Deed) → AreSyncs deeds → (image : Image)
+  images_behind : (deeds : List Deed) → AreSyncs (name kind (file_count reading kind)) deeds → (image : Image)
       → images_of name (record old { deeds = deeds ++ Did (name kind (file_count reading kind)) Made ∷ old.deeds }) image
       → Stepped (MayCreate kind (file_count reading kind)) (images_of name old) image
   images_behind deeds syncs image left =
       made_follows name apart old reading kind room knows.is.seen image
-      (left.0, syncs_within (did_to old (name kind (file_count reading kind)) Made) deeds left.0 syncs left.1, left.2)
+      (left.0, syncs_within (name kind (file_count reading kind)) (did_to old (name kind (file_count reading kind)) Made) deeds left.0 syncs left.1, left.2)
 
-  time_behind : (deeds : List Deed) → AreSyncs deeds
+  time_behind : (deeds : List Deed) → AreSyncs (name kind (file_count reading kind)) deeds
       → Elapses (moment_of times) (moment_of (goes_on times (record old { deeds = deeds ++ Did (name kind (file_count reading kind)) Made ∷ old.deeds })))
       (images_since_of name old times)
       (images_since_of name (record old { deeds = deeds ++ Did (name kind (file_count reading kind)) Made ∷ old.deeds })
@@ -379,17 +375,54 @@ module _ (name : Kind → ℕ → List ℕ) (apart : NamesApart name) (kind : Ki
           (λ inside.
           let some : drop k (deeds ++ Did n Made ∷ []) ++ old.deeds ≡ drop k deeds ++ Did n Made ∷ old.deeds =
           ap (λ (ds : List Deed). ds ++ old.deeds) (drop-append-le k deeds (Did n Made ∷ []) inside) ∙ append_assoc (drop k deeds) (Did n Made ∷ []) old.deeds in
-          inr (images_behind (drop k deeds) (fewer_syncs deeds k syncs) image (subst (λ (ds : List Deed). images_of name (record old { deeds = ds }) image) some left)))
+          inr (images_behind (drop k deeds) (fewer_syncs n deeds k syncs) image (subst (λ (ds : List Deed). images_of name (record old { deeds = ds }) image) some left)))
           (cases_lt (length deeds) k)
 
   -- what is read then
-  made_folder_is : (deeds : List Deed) → AreSyncs deeds
+  made_folder_is : (deeds : List Deed) → AreSyncs (name kind (file_count reading kind)) deeds
       → FolderIs name (record old { deeds = deeds ++ Did (name kind (file_count reading kind)) Made ∷ old.deeds }) (with_new reading kind)
   made_folder_is deeds syncs =
-      syncs_folder_is name (did_to old (name kind (file_count reading kind)) Made) (with_new reading kind) deeds syncs
-      (folder_is-made name apart old reading kind room knows.is (knows.named refl))
+      syncs_folder_is name (name kind (file_count reading kind)) (did_to old (name kind (file_count reading kind)) Made) (with_new reading kind) deeds syncs
+      (folder_is-made name apart old reading kind room knows.is (λ f inside. knows.named kind f (omega (arith, inside, all))))
 
-  create_failed_now : (deeds : List Deed) → AreSyncs deeds
+  -- another file than the new one, by its number
+  is_another : (k : Kind) (f : ℕ) → f < known k → IsApart kind (file_count reading kind) k f
+  is_another k f inside =
+      ⊎_elim
+      (λ same. inr (λ e. omega (arith, inside, e, all, ap known same)))
+      (λ differs. inl differs)
+      (same_kind_or_other k kind)
+
+  -- names that were on the disk still are
+  made_named : (deeds : List Deed) → AreSyncs (name kind (file_count reading kind)) deeds → (k : Kind) (f : ℕ) → f < known k
+      → IsNamed (record old { deeds = deeds ++ Did (name kind (file_count reading kind)) Made ∷ old.deeds }) (name k f)
+  made_named deeds syncs k f inside =
+      let n : List ℕ = name kind (file_count reading kind) in
+      syncs_named n (did_to old n Made) deeds (name k f) syncs
+      (is_named-other old n (name k f) Made
+      (apart kind (file_count reading kind) k f room (omega (arith, inside, knows.numbers k)) (is_another k f inside)) (knows.named k f inside))
+
+  -- a crash leaves of the new file no bytes
+  pub made_left : (deeds : List Deed) → AreSyncs (name kind (file_count reading kind)) deeds
+      → AreBytesLeftAt (record old { deeds = deeds ++ Did (name kind (file_count reading kind)) Made ∷ old.deeds }) (name kind (file_count reading kind))
+  made_left deeds syncs =
+      let n : List ℕ = name kind (file_count reading kind) in
+      syncs_left n (did_to old n Made) deeds n syncs
+      (subst (AreBytesLeft (old.first n)) (sym (deeds_of-same n Made old.deeds)) (bytes_left-made (old.first n) (deeds_of n old.deeds)))
+
+  -- syncs answer for all that they did, and for the new file, which is empty
+  made_sure : (deeds : List Deed) → AreSyncs (name kind (file_count reading kind)) deeds → (m : List ℕ)
+      → IsInDoubt name doubts m ⊎ AreBytesSure (old.first m) (deeds_of m (deeds ++ Did (name kind (file_count reading kind)) Made ∷ old.deeds))
+  made_sure deeds syncs m =
+      let n : List ℕ = name kind (file_count reading kind) in
+      ⊎_elim
+      (λ same. inr (subst (λ (k : List ℕ). AreBytesSure (old.first k) (deeds_of k (deeds ++ Did n Made ∷ old.deeds))) (sym same.0)
+      (bytes_left-sure (old.first n) (deeds_of n (deeds ++ Did n Made ∷ old.deeds)) (made_left deeds syncs))))
+      (λ other. or_still (λ sure. syncs_sure n (did_to old n Made) deeds m syncs other.0
+      (subst (AreBytesSure (old.first m)) (sym (deeds_of-other m n Made old.deeds other.0)) sure)) (knows.sure refl m))
+      (names_cases m n)
+
+  create_failed_now : (deeds : List Deed) → AreSyncs (name kind (file_count reading kind)) deeds
       → CreateFailed name kind old (record old { deeds = deeds ++ Did (name kind (file_count reading kind)) Made ∷ old.deeds }) known doubts times reading
   create_failed_now deeds syncs = record {
     image = with_new reading kind;
@@ -403,12 +436,11 @@ module _ (name : Kind → ℕ → List ℕ) (apart : NamesApart name) (kind : Ki
       no_fewer = λ k. omega (arith, knows.no_fewer k, count_grows reading kind k);
       one_more = λ k.
           ⊎_elim
-          (λ same. omega (arith, knows.all refl k, ap (λ (kk : Kind). file_count (with_new reading kind) kk) same, ap (λ (kk : Kind). file_count reading kk) same, file_count-with_new reading kind))
+          (λ same. omega (arith, all, ap known same, ap (λ (kk : Kind). file_count (with_new reading kind) kk) same, ap (λ (kk : Kind). file_count reading kk) same, file_count-with_new reading kind))
           (λ differs. omega (arith, knows.one_more k, file_count-with_new_kind reading kind k differs))
           (same_kind_or_other k kind);
-      all = λ goes. absurd (true≢false goes);
-      named = λ goes. absurd (true≢false goes);
-      sure = λ goes. absurd (true≢false goes);
+      named = made_named deeds syncs;
+      sure = λ goes m. made_sure deeds syncs m;
     };
     partial = inr (refl, refl);
     follows = images_behind deeds syncs;
@@ -425,9 +457,8 @@ module _ (name : Kind → ℕ → List ℕ) (apart : NamesApart name) (kind : Ki
       numbers = knows.numbers;
       no_fewer = knows.no_fewer;
       one_more = knows.one_more;
-      all = λ goes. absurd (true≢false goes);
-      named = λ goes. absurd (true≢false goes);
-      sure = λ goes. absurd (true≢false goes);
+      named = knows.named;
+      sure = knows.sure;
     };
     partial = inl refl;
     follows = λ image left. (image, left, inl refl);
@@ -461,8 +492,8 @@ module _ (name : Kind → ℕ → List ℕ) (apart : NamesApart name) (kind : Ki
       deeds_of-same n (Synced true) (Did n Made ∷ old.deeds) ∙ ap (λ (ds : List FileDeed). Synced true ∷ ds) (deeds_of-same n Made old.deeds) in
       subst (λ (ds : List FileDeed). MayHold (old.first n) (Listed true ∷ ds) Crash held) its holds
 
-  syncs_of_all : AreSyncs (SyncedAround true ∷ SyncedFolder true ∷ Did (name kind (file_count reading kind)) (Synced true) ∷ [])
-  syncs_of_all = tt
+  syncs_of_all : AreSyncs (name kind (file_count reading kind)) (SyncedAround true ∷ SyncedFolder true ∷ Did (name kind (file_count reading kind)) (Synced true) ∷ [])
+  syncs_of_all = (refl, tt)
 
   create_done_now : (more : Kind → ℕ) → ((k : Kind) → more k < 2 ^ 32) → more kind ≡ known kind + 1 → ((k : Kind) → k ≢ kind → more k ≡ known k)
       → CreateDone name kind old (made_durably (name kind (file_count reading kind)) old) more doubts times reading
@@ -471,15 +502,18 @@ module _ (name : Kind → ℕ → List ℕ) (apart : NamesApart name) (kind : Ki
       is = made_folder_is (SyncedAround true ∷ SyncedFolder true ∷ Did (name kind (file_count reading kind)) (Synced true) ∷ []) syncs_of_all;
       timed = goes_on_timed times old (SyncedAround true ∷ SyncedFolder true ∷ Did (name kind (file_count reading kind)) (Synced true) ∷ Did (name kind (file_count reading kind)) Made ∷ []) knows.timed;
       numbers = numbers;
-      no_fewer = λ k. omega (arith, counts k);
-      one_more = λ k. omega (arith, counts k);
-      all = λ goes k. counts k;
-      named = λ goes k f inside. names k f inside;
-      sure = λ goes m. or_still (λ before.
-          let n : List ℕ = name kind (file_count reading kind) in
-          let made = on_deed (AreBytesSure (old.first m)) m n Made old.deeds (bytes_sure-made (old.first m) (deeds_of m old.deeds)) before in
-          let synced = on_deed (AreBytesSure (old.first m)) m n (Synced true) (Did n Made ∷ old.deeds) (bytes_sure-synced (old.first m) (deeds_of m (Did n Made ∷ old.deeds)) made) made in
-          bytes_sure-listed (old.first m) (deeds_of m (Did n (Synced true) ∷ Did n Made ∷ old.deeds)) true synced) (knows.sure refl m);
+      no_fewer = λ k.
+          ⊎_elim
+          (λ same. subst (λ (kk : Kind). more kk ≤ file_count (with_new reading kind) kk) (sym same) (omega (arith, file_count-with_new reading kind, one, all)))
+          (λ differs. omega (arith, file_count-with_new_kind reading kind k differs, others k differs, knows.no_fewer k))
+          (same_kind_or_other k kind);
+      one_more = λ k.
+          ⊎_elim
+          (λ same. subst (λ (kk : Kind). file_count (with_new reading kind) kk ≤ more kk + 1) (sym same) (omega (arith, file_count-with_new reading kind, one, all)))
+          (λ differs. omega (arith, file_count-with_new_kind reading kind k differs, others k differs, knows.one_more k))
+          (same_kind_or_other k kind);
+      named = names;
+      sure = λ goes m. made_sure (SyncedAround true ∷ SyncedFolder true ∷ Did (name kind (file_count reading kind)) (Synced true) ∷ []) syncs_of_all m;
     };
     durable =
         file_is_durable name (made_durably (name kind (file_count reading kind)) old) kind (file_count reading kind) [] room placed new_is_named new_is_empty;
@@ -490,36 +524,24 @@ module _ (name : Kind → ℕ → List ℕ) (apart : NamesApart name) (kind : Ki
       placed : IsPlaced (made_durably (name kind (file_count reading kind)) old)
       placed = (made_folder_is (SyncedAround true ∷ SyncedFolder true ∷ Did (name kind (file_count reading kind)) (Synced true) ∷ []) syncs_of_all).placed
 
-      counts : (k : Kind) → file_count (with_new reading kind) k ≡ more k
-      counts k =
-          ⊎_elim
-          (λ same. subst (λ (kk : Kind). file_count (with_new reading kind) kk ≡ more kk) (sym same) (omega (arith, file_count-with_new reading kind, one, knows.all refl kind)))
-          (λ differs. omega (arith, file_count-with_new_kind reading kind k differs, others k differs, knows.all refl k))
-          (same_kind_or_other k kind)
-
-      names : (k : Kind) (f : ℕ) → f < file_count (with_new reading kind) k → IsNamed (made_durably (name kind (file_count reading kind)) old) (name k f)
+      names : (k : Kind) (f : ℕ) → f < more k → IsNamed (made_durably (name kind (file_count reading kind)) old) (name k f)
       names k f inside =
           let n : List ℕ = name kind (file_count reading kind) in
           ⊎_elim
           (λ same. subst (λ (kk : Kind). IsNamed (made_durably n old) (name kk f)) (sym same.0)
           (subst (λ (ff : ℕ). IsNamed (made_durably n old) (name kind ff)) (sym same.1) new_is_named))
-          (λ other.
-          let before : f < file_count reading k = earlier k f other inside in
-          let made = is_named-other old n (name k f) Made (apart kind (file_count reading kind) k f room (omega (arith, before, knows.is.seen.few k)) other) (knows.named refl k f before) in
-          let synced = is_named-did (did_to old n Made) n (name k f) (Synced true) (λ e. cc) made in
-          is_named-listed (did_to (did_to old n Made) n (Synced true)) (name k f) true synced)
+          (λ other. made_named (SyncedAround true ∷ SyncedFolder true ∷ Did n (Synced true) ∷ []) syncs_of_all k f (earlier k f other inside))
           (same_or_apart kind (file_count reading kind) k f)
         where
-          earlier : (k : Kind) (f : ℕ) → IsApart kind (file_count reading kind) k f → f < file_count (with_new reading kind) k → f < file_count reading k
-          earlier k f (inl differs) inside = omega (arith, inside, file_count-with_new_kind reading kind k differs)
+          earlier : (k : Kind) (f : ℕ) → IsApart kind (file_count reading kind) k f → f < more k → f < known k
+          earlier k f (inl differs) inside = omega (arith, inside, others k differs)
           earlier k f (inr differs) inside =
               ⊎_elim
               (λ same.
-              let here : file_count reading k ≡ file_count reading kind = ap (λ (kk : Kind). file_count reading kk) same in
-              let grown : file_count (with_new reading kind) k ≡ file_count reading kind + 1 =
-              ap (λ (kk : Kind). file_count (with_new reading kind) kk) same ∙ file_count-with_new reading kind in
-              ⊎_elim (λ before. omega (arith, before, here)) (λ past. absurd (differs (omega (arith, past, inside, grown)))) (cases_lt f (file_count reading kind)))
-              (λ apart_kind. omega (arith, inside, file_count-with_new_kind reading kind k apart_kind))
+              let here : more k ≡ more kind = ap more same in
+              let was : known k ≡ known kind = ap known same in
+              ⊎_elim (λ before. omega (arith, before, was, all)) (λ past. absurd (differs (omega (arith, past, inside, here, one, all)))) (cases_lt f (file_count reading kind)))
+              (λ apart_kind. omega (arith, inside, others k apart_kind))
               (same_kind_or_other k kind)
 
   pub create_done : (new : FolderPast) (more : Kind → ℕ) → new ≡ made_durably (name kind (file_count reading kind)) old
@@ -548,8 +570,7 @@ cut_leaves_now name apart kind file len rest old known gave_up doubts times read
         numbers = knows.numbers;
         no_fewer = λ k. omega (arith, knows.no_fewer k, counts k);
         one_more = λ k. omega (arith, knows.one_more k, counts k);
-        all = λ goes k. counts k ∙ knows.all goes k;
-        named = λ goes k f inside. is_named-did old n (name k f) deed (λ e. cc) (knows.named goes k f (omega (arith, inside, counts k)));
+        named = λ k f inside. is_named-did old n (name k f) deed (λ e. cc) (knows.named k f inside);
         sure = λ goes m.
             or_still (λ sure. on_deed (AreBytesSure (old.first m)) m n deed old.deeds (bytes_sure-shortened (old.first m) (deeds_of m old.deeds) (len + rest) rest sure) sure) (knows.sure goes m);
       };
@@ -578,8 +599,7 @@ opened_knows name past known doubts image unfailed seen numbers counted = record
   numbers = numbers;
   no_fewer = λ kind. omega (arith, counted kind);
   one_more = λ kind. omega (arith, counted kind);
-  all = λ goes kind. counted kind;
-  named = λ goes kind file inside. opened_is_named name past image kind file unfailed seen inside;
+  named = λ kind file inside. opened_is_named name past image kind file unfailed seen (omega (arith, inside, counted kind));
   sure = λ goes n. inr (bytes_sure-listed (past.first n) (deeds_of n past.deeds) true (unfailed_bytes past.first past.deeds n unfailed));
 }
 

@@ -10,7 +10,7 @@ use Rattle.disk_model.specs.Image.{Image, file_count, file_of, with_file, writte
 use Rattle.disk_model.specs.Crash.{Torn, Within, Elapses, Cut}
 use Rattle.disk_model.specs.steps.CrashLaws.{torn_none, cut_none}
 use Rattle.disk_model.specs.steps.ImageLaws.{with_file-file_of}
-use Rattle.folder_model.specs.DiskCalls.{SyncDone, SyncFailed}
+use Rattle.folder_model.specs.DiskCalls.{SyncDone, SyncsLeave}
 use Rattle.folder_model.specs.File.{FileDeed, Made, Wrote, Shortened, Synced, Listed, Sync, Crash, read_of, MayHold, IsLeft, AreBytesSure}
 use Rattle.folder_model.specs.Folder.{Did, FolderPast, did_to, deeds_of, Contents, Deed, MayLeave}
 use Rattle.folder_model.specs.Known.{IsInDoubt, Knows}
@@ -326,7 +326,7 @@ module _ (name : Kind → ℕ → List ℕ) (apart : NamesApart name) (kind : Ki
 
   mending_now : (deeds : List FileDeed) (known : Kind → ℕ) (gave_up : Bool) (doubts : Kind → Option ℕ) (times : Times)
       → AreMending at many (file_of reading kind file) deeds → Knows name old known gave_up doubts times reading → IsInDoubt name doubts (name kind file)
-      → SyncFailed name old (done_to old (name kind file) deeds) known gave_up doubts times reading
+      → SyncsLeave name old (done_to old (name kind file) deeds) known gave_up doubts times reading
   mending_now deeds known gave_up doubts times mending knows this =
       let n : List ℕ = name kind file in
       let new : FolderPast = done_to old n deeds in
@@ -340,8 +340,7 @@ module _ (name : Kind → ℕ → List ℕ) (apart : NamesApart name) (kind : Ki
           numbers = knows.numbers;
           no_fewer = knows.no_fewer;
           one_more = knows.one_more;
-          all = knows.all;
-          named = λ goes k f inside. mending_named old n (name k f) at many (file_of reading kind file) deeds mending (knows.named goes k f inside);
+          named = λ k f inside. mending_named old n (name k f) at many (file_of reading kind file) deeds mending (knows.named k f inside);
           sure = λ goes m.
               ⊎_elim
               (λ same. inl (subst (IsInDoubt name doubts) (sym same.0) this))
@@ -379,11 +378,11 @@ module _ (name : Kind → ℕ → List ℕ) (apart : NamesApart name) (kind : Ki
       (range_anew_is_sure (old.first n) (deeds_of n old.deeds) at many bytes torn (is.seen.there kind file there))
 
   mended_now : (known : Kind → ℕ) (doubts left : Kind → Option ℕ) (times : Times)
-      → Knows name old known false doubts times reading → ((m : List ℕ) → IsInDoubt name doubts m → (m ≡ name kind file) ⊎ IsInDoubt name left m)
+      → Knows name old known false doubts times reading → file < known kind → ((m : List ℕ) → IsInDoubt name doubts m → (m ≡ name kind file) ⊎ IsInDoubt name left m)
       → SyncDone name kind file old
       (did_to (done_to old (name kind file) (Shortened (length (file_of reading kind file)) 0 ∷ Wrote at (take many (drop at (file_of reading kind file))) 0 ∷ [])) (name kind file) (Synced true))
       known left times reading
-  mended_now known doubts left times knows settles =
+  mended_now known doubts left times knows ours settles =
       let n : List ℕ = name kind file in
       let bytes : List ℕ = file_of reading kind file in
       let deeds : List FileDeed = Shortened (length bytes) 0 ∷ Wrote at (take many (drop at bytes)) 0 ∷ [] in
@@ -396,8 +395,7 @@ module _ (name : Kind → ℕ → List ℕ) (apart : NamesApart name) (kind : Ki
           numbers = knows.numbers;
           no_fewer = knows.no_fewer;
           one_more = knows.one_more;
-          all = knows.all;
-          named = λ goes k f inside. is_named-did was n (name k f) (Synced true) (λ e. cc) (mending_named old n (name k f) at many bytes deeds anew_mending (knows.named goes k f inside));
+          named = λ k f inside. is_named-did was n (name k f) (Synced true) (λ e. cc) (mending_named old n (name k f) at many bytes deeds anew_mending (knows.named k f inside));
           sure = λ goes m.
               ⊎_elim
               (λ same. settled_sure was n (IsInDoubt name doubts) (IsInDoubt name left) m
@@ -405,7 +403,7 @@ module _ (name : Kind → ℕ → List ℕ) (apart : NamesApart name) (kind : Ki
               (λ other. settled_sure was n (IsInDoubt name doubts) (IsInDoubt name left) m (or_still (λ sure. others_sure old n m deeds other.0 sure) (knows.sure goes m)) (settles m) anew_is_sure)
               (names_cases m n);
         };
-        durable = file_sync_is_durable name was reading kind file all.is there (mending_named old n n at many bytes deeds anew_mending (knows.named refl kind file there)) anew_is_sure;
+        durable = file_sync_is_durable name was reading kind file all.is there (mending_named old n n at many bytes deeds anew_mending (knows.named kind file ours)) anew_is_sure;
         within = λ image left.
             let before = synced_within name was n true image left in
             (before.0, all.within before.0 before.1, before.2);
@@ -439,18 +437,18 @@ pub mending : (name : Kind → ℕ → List ℕ) → NamesApart name
     → (kind : Kind) (file at many : ℕ) (old new : FolderPast) (known : Kind → ℕ) (gave_up : Bool) (doubts : Kind → Option ℕ) (times : Times) (reading : Image)
     → Knows name old known gave_up doubts times reading → file < file_count reading kind → IsTornAt old (name kind file) at many → IsInDoubt name doubts (name kind file)
     → MendsIn (name kind file) at many (file_of reading kind file) old new
-    → SyncFailed name old new known gave_up doubts times reading
+    → SyncsLeave name old new known gave_up doubts times reading
 mending name apart kind file at many old new known gave_up doubts times reading knows there torn this mends =
-    subst (λ (p : FolderPast). SyncFailed name old p known gave_up doubts times reading) (sym mends.whole)
+    subst (λ (p : FolderPast). SyncsLeave name old p known gave_up doubts times reading) (sym mends.whole)
     (mending_now name apart kind file at many old reading knows.is there torn mends.deeds known gave_up doubts times mends.mending knows this)
 
 pub mended_sync : (name : Kind → ℕ → List ℕ) → NamesApart name
     → (kind : Kind) (file at many : ℕ) (old mid new : FolderPast) (known : Kind → ℕ) (doubts left : Kind → Option ℕ) (times : Times) (reading : Image)
-    → Knows name old known false doubts times reading → file < file_count reading kind → IsTornAt old (name kind file) at many
+    → Knows name old known false doubts times reading → file < known kind → IsTornAt old (name kind file) at many
     → ((m : List ℕ) → IsInDoubt name doubts m → (m ≡ name kind file) ⊎ IsInDoubt name left m)
     → mid ≡ did_to (did_to old (name kind file) (Wrote at (take many (drop at (file_of reading kind file))) 0)) (name kind file) (Shortened (length (file_of reading kind file)) 0)
     → new ≡ did_to mid (name kind file) (Synced true)
     → SyncDone name kind file old new known left times reading
-mended_sync name apart kind file at many old mid new known doubts left times reading knows there torn settles anew whole =
+mended_sync name apart kind file at many old mid new known doubts left times reading knows ours torn settles anew whole =
     subst (λ (p : FolderPast). SyncDone name kind file old p known left times reading) (sym (whole ∙ ap (λ (p : FolderPast). did_to p (name kind file) (Synced true)) anew))
-    (mended_now name apart kind file at many old reading knows.is there torn known doubts left times knows settles)
+    (mended_now name apart kind file at many old reading knows.is (omega (arith, ours, knows.no_fewer kind)) torn known doubts left times knows ours settles)

@@ -277,9 +277,9 @@ folder_is-listed name past reading done is = record {
   named = λ k f inside. is_named-listed past (name k f) done (is.named k f inside);
 }
 
--- after a file was made, where all names were on the disk
+-- after a file was made, where all names of its kind were on the disk
 pub folder_is-made : (name : Kind → ℕ → List ℕ) → NamesApart name → (past : FolderPast) (reading : Image) (kind : Kind)
-    → file_count reading kind < 2 ^ 32 → FolderIs name past reading → ((k : Kind) (f : ℕ) → f < file_count reading k → IsNamed past (name k f))
+    → file_count reading kind < 2 ^ 32 → FolderIs name past reading → ((f : ℕ) → f < file_count reading kind → IsNamed past (name kind f))
     → FolderIs name (did_to past (name kind (file_count reading kind)) Made) (with_new reading kind)
 folder_is-made name apart past reading kind room is all_named = record {
   seen = seen-with_new name apart (contents_of past) (contents_of (did_to past (name kind (file_count reading kind)) Made)) reading kind room is.seen
@@ -287,7 +287,7 @@ folder_is-made name apart past reading kind room is all_named = record {
   placed = is.placed;
   named = λ k f inside.
       let before : f < file_count reading k = within k f inside in
-      is_named-other past (name kind (file_count reading kind)) (name k f) Made (apart kind (file_count reading kind) k f room (omega (arith, before, is.seen.few k)) (is_apart k f before)) (all_named k f before);
+      is_named-other past (name kind (file_count reading kind)) (name k f) Made (apart kind (file_count reading kind) k f room (omega (arith, before, is.seen.few k)) (is_apart k f before)) (still k f inside);
 }
   where
     within : (k : Kind) (f : ℕ) → f + 1 < file_count (with_new reading kind) k → f < file_count reading k
@@ -295,6 +295,15 @@ folder_is-made name apart past reading kind room is all_named = record {
         ⊎_elim
         (λ same. omega (arith, inside, ap (λ (kk : Kind). file_count (with_new reading kind) kk) same, ap (λ (kk : Kind). file_count reading kk) same, file_count-with_new reading kind))
         (λ differs. omega (arith, inside, file_count-with_new_kind reading kind k differs))
+        (same_kind_or_other k kind)
+
+    still : (k : Kind) (f : ℕ) → f + 1 < file_count (with_new reading kind) k → IsNamed past (name k f)
+    still k f inside =
+        ⊎_elim
+        (λ same.
+        subst (λ (kk : Kind). IsNamed past (name kk f)) (sym same)
+        (all_named f (omega (arith, within k f inside, ap (λ (kk : Kind). file_count reading kk) same))))
+        (λ differs. is.named k f (omega (arith, inside, file_count-with_new_kind reading kind k differs)))
         (same_kind_or_other k kind)
 
     is_apart : (k : Kind) (f : ℕ) → f < file_count reading k → IsApart kind (file_count reading kind) k f

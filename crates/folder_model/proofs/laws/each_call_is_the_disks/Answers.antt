@@ -1,6 +1,7 @@
 -- The laws of specs/steps.
 use Rattle.folder_model.specs.steps.KnownLaws.{write_leaves, cut_leaves, sync_done, sync_failed, sync_doubted, create_done, create_failed, opened_knows}
 use Rattle.folder_model.specs.steps.MendLaws.{mending, mended_sync}
+use Rattle.folder_model.specs.steps.SettleLaws.{syncs_leave, settled_leaves}
 use Rattle.folder_model.proofs.laws.each_call_is_the_disks.Goals as goal
 
 pub returns-clause-opened : goal.returns-clause-opened
@@ -32,3 +33,9 @@ returns-clause-mending c = mending
 
 pub returns-clause-mended : goal.returns-clause-mended
 returns-clause-mended c = mended_sync
+
+pub returns-clause-settling : goal.returns-clause-settling
+returns-clause-settling c = syncs_leave
+
+pub returns-clause-settled : goal.returns-clause-settled
+returns-clause-settled c = settled_leaves

@@ -2,18 +2,20 @@
 use Rattle.std.proofs.Common.{◌≡◌, ℕ, Ok, Err, IsTrue, true, List, refl, sym, ap, ◌∙◌, subst, arith}
 use Rattle.std.specs.declared.io.Error.{Error}
 use Rattle.std.specs.Prelude.{None}
-use Rattle.folder_model.specs.Folder.{FolderPast, contents_of}
+use Rattle.folder_model.specs.Folder.{FolderPast, contents_of, IsNameSureAt}
 use Rattle.folder_model.specs.Times.{goes_on}
 use Rattle.folder_model.specs.Timed.{times_of}
-use Rattle.folder_model.specs.Whole.{made_durably, MakesInPart}
+use Rattle.folder_model.specs.Whole.{made_durably, MakesInPart, OnListed}
 use Rattle.folder_disk.specs.Calls.{Creates}
 use Rattle.folder_disk.specs.Held.{state_of}
 use Rattle.folder_disk.specs.State.{State, known_of, next, grown, trusted}
-use Rattle.folder_disk.specs.Doubts.{SyncedTo}
+use Rattle.folder_disk.specs.Doubts.{SyncedTo, further_of, with_further}
+use Rattle.folder_disk.specs.declared.trust.Further.TheVariants.{Absent, Unsettled}
 use Rattle.folder_disk.specs.declared.trust.Trust.{Trust}
 use Rattle.folder_disk.specs.steps.SureLaws.{made_goes}
 use Rattle.folder_disk.specs.steps.OpenLaws.{all_same, same_contents, none_open, made_open}
-use Rattle.folder_disk.specs.steps.StateLaws.{create_made, create_missed, create_not_begun, create_behind, create_unacknowledged, nothing_made, grown_trusted, at_error}
+use Rattle.folder_disk.specs.steps.StateLaws.{create_made, create_missed, create_not_begun, create_behind, create_unacknowledged, nothing_made, absent_is_none, grown_trusted, at_error}
+use Rattle.folder_disk.specs.steps.SettleLaws.{missed_now, missed_list_now, missed_ranges, missed_list_ranges}
 use Rattle.folder_disk.proofs.held.Held.create.Goals as goal
 
 pub returns-in_err-check_in_place-clause-creates : goal.returns-in_err-check_in_place-clause-creates
@@ -86,6 +88,7 @@ returns-in_err-keep_at_name-in-Ok-clause-creates g c =
     let named : c.as_str.result.now ≡ name c.args.kind (known_of old.warc old.cdxj c.args.kind) =
     c.as_str.ensures.value ∙ c.in_ok-name.ensures ∙ ap (name c.args.kind) number in
     let trust : Trust = c.synced.new.self in
+    let absent : further_of old.trust c.args.kind ≡ Absent = c.has_further.ensures c.if-has_further.false in
     let on : SyncedTo c.args.kind (known_of old.warc old.cdxj c.args.kind) old.trust trust = subst (λ (k : ℕ). SyncedTo c.args.kind k old.trust trust) number c.synced.ensures in
     let whole : IsTrue tells → past ≡ made_durably (name c.args.kind (known_of old.warc old.cdxj c.args.kind)) old.past =
     λ told. c.in-Ok.ensures.made told ∙ (λ i. made_durably (named i) (c.check_in_place.ensures told i)) in
@@ -95,12 +98,10 @@ returns-in_err-keep_at_name-in-Ok-clause-creates g c =
     ∙ grown_trusted c.args.kind old past trust in
     let made = create_made tells name g.met.N.FileNames.apart c.args.kind old past trust
     (λ told. (c.requires.known told, whole told))
-    c.if-self.false (omega (arith, c.in-Some.ensures.0, number))
+    c.if-self.false absent (omega (arith, c.in-Some.ensures.0, number))
     (λ told.
-    let knows = (c.requires.known told).knows in
-    made_goes name g.met.N.FileNames.apart c.args.kind (known_of old.warc old.cdxj c.args.kind) (knows.numbers c.args.kind) old past trust (c.requires.known told) c.if-self.false
-    (knows.is.seen.no_more c.args.kind (known_of old.warc old.cdxj c.args.kind) (omega (arith, knows.all c.if-self.false c.args.kind)) (knows.numbers c.args.kind))
-    (whole told) on)
+    made_goes name g.met.N.FileNames.apart c.args.kind (known_of old.warc old.cdxj c.args.kind) ((c.requires.known told).knows.numbers c.args.kind) old past trust (c.requires.known told)
+    c.if-self.false (absent_is_none name old c.args.kind (c.requires.known told) absent) (whole told) on refl (omega (arith, c.in-Some.ensures.0, number)) absent)
     {E = Error} in
     let last : FolderPast = past_of c.keep_at_name.new.self.timed.folder in
     let behind : state_of past_of c.keep_at_name.new.self ≡ record (trusted trust (next (grown c.args.kind old) past)) { past = last } =
@@ -126,6 +127,7 @@ returns-in-Ok-clause-creates g c =
     let named : c.as_str.result.now ≡ name c.args.kind (known_of old.warc old.cdxj c.args.kind) =
     c.as_str.ensures.value ∙ c.in_ok-name.ensures ∙ ap (name c.args.kind) number in
     let trust : Trust = c.synced.new.self in
+    let absent : further_of old.trust c.args.kind ≡ Absent = c.has_further.ensures c.if-has_further.false in
     let on : SyncedTo c.args.kind (known_of old.warc old.cdxj c.args.kind) old.trust trust = subst (λ (k : ℕ). SyncedTo c.args.kind k old.trust trust) number c.synced.ensures in
     let whole : IsTrue tells → past ≡ made_durably (name c.args.kind (known_of old.warc old.cdxj c.args.kind)) old.past =
     λ told. c.in-Ok.ensures.made told ∙ (λ i. made_durably (named i) (c.check_in_place.ensures told i)) in
@@ -135,12 +137,10 @@ returns-in-Ok-clause-creates g c =
     ∙ grown_trusted c.args.kind old past trust in
     let made = create_made tells name g.met.N.FileNames.apart c.args.kind old past trust
     (λ told. (c.requires.known told, whole told))
-    c.if-self.false (omega (arith, c.in-Some.ensures.0, number))
+    c.if-self.false absent (omega (arith, c.in-Some.ensures.0, number))
     (λ told.
-    let knows = (c.requires.known told).knows in
-    made_goes name g.met.N.FileNames.apart c.args.kind (known_of old.warc old.cdxj c.args.kind) (knows.numbers c.args.kind) old past trust (c.requires.known told) c.if-self.false
-    (knows.is.seen.no_more c.args.kind (known_of old.warc old.cdxj c.args.kind) (omega (arith, knows.all c.if-self.false c.args.kind)) (knows.numbers c.args.kind))
-    (whole told) on)
+    made_goes name g.met.N.FileNames.apart c.args.kind (known_of old.warc old.cdxj c.args.kind) ((c.requires.known told).knows.numbers c.args.kind) old past trust (c.requires.known told)
+    c.if-self.false (absent_is_none name old c.args.kind (c.requires.known told) absent) (whole told) on refl (omega (arith, c.in-Some.ensures.0, number)) absent)
     {E = Error} in
     let last : FolderPast = past_of c.keep_at_name.new.self.timed.folder in
     let behind : state_of past_of c.keep_at_name.new.self ≡ record (trusted trust (next (grown c.args.kind old) past)) { past = last } =
@@ -174,13 +174,47 @@ returns-then-lacks-clause-creates g c =
     (subst (λ (n : List ℕ). MakesInPart n first past) called (c.make_durably.ensures.partial told))
     ∙ c.check_in_place.ensures told in
     let went : state_of past_of c.lacks.new.self ≡ record old { past = last } = λ i. record (state_of past_of (c.lacks.ensures.rest i)) { past = last } in
-    subst (λ (s : State). Creates {E = Error} tells name c.args.kind old s (Err c.in-Err.error)) (sym went)
-    (create_not_begun {E = Error} tells name c.args.kind old last c.in-Err.error same c.requires.known)
+    subst (λ (s : State). Creates {E = Error} tells name c.args.kind old s (Err c.in-Err-Unsettled.error)) (sym went)
+    (create_not_begun {E = Error} tells name c.args.kind old last c.in-Err-Unsettled.error same c.requires.known)
 
 pub returns-then-lacks-clause-open : goal.returns-then-lacks-clause-open
 returns-then-lacks-clause-open g c = λ told.
     none_open g.N.FileNames.name g.F.Folder.name_of (g.F.Folder.past c.lacks.new.self.timed.folder) c.lacks.new.self.files
     ((λ i. (c.lacks.ensures.rest i).files.written) ∙ c.close.ensures.written) ((λ i. (c.lacks.ensures.rest i).files.read) ∙ c.close.ensures.read)
+
+pub returns-then-has_further-clause-creates : goal.returns-then-has_further-clause-creates
+returns-then-has_further-clause-creates g c =
+    let old : State = state_of g.F.Folder.past c.args.self.now in
+    create_not_begun {E = Error} g.F.Folder.tells g.N.FileNames.name c.args.kind old old.past _ (λ told. refl) c.requires.known
+
+pub returns-in-Err-Unlisted-clause-creates : goal.returns-in-Err-Unlisted-clause-creates
+returns-in-Err-Unlisted-clause-creates g c =
+    let tells = g.F.Folder.tells in
+    let name = g.N.FileNames.name in
+    let past_of = g.F.Folder.past in
+    let old : State = state_of past_of c.args.self.now in
+    let first : FolderPast = past_of c.check_in_place.new.folder in
+    let past : FolderPast = past_of c.make_durably.new.folder in
+    let number : c.known-number.result ≡ known_of old.warc old.cdxj c.args.kind = c.known-number.ensures in
+    let named : c.as_str.result.now ≡ name c.args.kind (known_of old.warc old.cdxj c.args.kind) =
+    c.as_str.ensures.value ∙ c.in_ok-name.ensures ∙ ap (name c.args.kind) number in
+    let trust : Trust = c.missed_list.new.self in
+    let absent : further_of old.trust c.args.kind ≡ Absent = c.has_further.ensures c.if-has_further.false in
+    let times : times_of c.go_on-in-Err-Unlisted.new.self ≡ goes_on old.times past = c.go_on-in-Err-Unlisted.ensures.times in
+    let went : record { past = past_of c.go_on-in-Err-Unlisted.new.self.folder; warc = old.warc; cdxj = old.cdxj; trust = trust; times = times_of c.go_on-in-Err-Unlisted.new.self } ≡ trusted trust (next old past) =
+    λ i. record { past = past_of (c.go_on-in-Err-Unlisted.ensures.folder i); warc = old.warc; cdxj = old.cdxj; trust = trust; times = times i } in
+    let partial : IsTrue tells → MakesInPart (name c.args.kind (known_of old.warc old.cdxj c.args.kind)) old.past past =
+    λ told. subst (λ (p : FolderPast). MakesInPart (name c.args.kind (known_of old.warc old.cdxj c.args.kind)) p past) (c.check_in_place.ensures told)
+    (subst (λ (n : List ℕ). MakesInPart n first past) named (c.make_durably.ensures.partial told)) in
+    subst (λ (s : State). Creates {E = Error} tells name c.args.kind old s (Err c.in-Err-Unlisted.error)) (sym went)
+    (create_missed tells name g.met.N.FileNames.apart c.args.kind old past trust (λ told. (c.requires.known told, partial told)) c.if-self.false absent
+    (missed_list_ranges c.args.kind old.trust trust c.missed_list.ensures)
+    (λ told. missed_list_now name c.args.kind old past trust (c.requires.known told) g.met.N.FileNames.apart (partial told) c.missed_list.ensures)
+    {E = Error} c.in-Err-Unlisted.error)
+
+pub returns-in-Err-Unlisted-clause-open : goal.returns-in-Err-Unlisted-clause-open
+returns-in-Err-Unlisted-clause-open g c = λ told.
+    none_open g.N.FileNames.name g.F.Folder.name_of (g.F.Folder.past c.go_on-in-Err-Unlisted.new.self.folder) c.close.new.self c.close.ensures.written c.close.ensures.read
 
 pub returns-clause-creates : goal.returns-clause-creates
 returns-clause-creates g c =
@@ -195,24 +229,34 @@ returns-clause-creates g c =
     let number : c.known-number.result ≡ known_of old.warc old.cdxj c.args.kind = c.known-number.ensures in
     let named : c.as_str.result.now ≡ name c.args.kind (known_of old.warc old.cdxj c.args.kind) =
     c.as_str.ensures.value ∙ c.in_ok-name.ensures ∙ ap (name c.args.kind) number in
-    let times : times_of c.go_on-in-Err.new.self ≡ goes_on old.times last = c.go_on-in-Err.ensures.times ∙ (λ i. goes_on (times_of (rest i).timed) last) in
-    let went : record { past = past_of c.go_on-in-Err.new.self.folder; warc = c.lacks.new.self.warc; cdxj = c.lacks.new.self.cdxj; trust = record c.lacks.new.self.trust { gave_up = true }; times = times_of c.go_on-in-Err.new.self } ≡ trusted (record old.trust { gave_up = true }) (next old last) =
+    let trust : Trust = c.missed.new.self in
+    let absent : further_of old.trust c.args.kind ≡ Absent = c.has_further.ensures c.if-has_further.false in
+    let only : trust ≡ record (with_further c.args.kind Unsettled old.trust) { gave_up = trust.gave_up } =
+    c.missed.ensures.only ∙ (λ i. record (with_further c.args.kind Unsettled (rest i).trust) { gave_up = trust.gave_up }) in
+    let times : times_of c.go_on-in-Err-Unsettled.new.self ≡ goes_on old.times last = c.go_on-in-Err-Unsettled.ensures.times ∙ (λ i. goes_on (times_of (rest i).timed) last) in
+    let went : record { past = past_of c.go_on-in-Err-Unsettled.new.self.folder; warc = c.lacks.new.self.warc; cdxj = c.lacks.new.self.cdxj; trust = trust; times = times_of c.go_on-in-Err-Unsettled.new.self } ≡ trusted trust (next old last) =
     λ i. record {
-      past = past_of (c.go_on-in-Err.ensures.folder i);
+      past = past_of (c.go_on-in-Err-Unsettled.ensures.folder i);
       warc = (rest i).warc;
       cdxj = (rest i).cdxj;
-      trust = record (rest i).trust { gave_up = true };
+      trust = trust;
       times = times i;
     } in
     let partial : IsTrue tells → MakesInPart (name c.args.kind (known_of old.warc old.cdxj c.args.kind)) old.past last =
     λ told. subst (λ (p : FolderPast). MakesInPart (name c.args.kind (known_of old.warc old.cdxj c.args.kind)) old.past p) (sym (c.lacks.ensures.same told))
     (subst (λ (p : FolderPast). MakesInPart (name c.args.kind (known_of old.warc old.cdxj c.args.kind)) p past) (c.check_in_place.ensures told)
     (subst (λ (n : List ℕ). MakesInPart n first past) named (c.make_durably.ensures.partial told))) in
+    let names : IsTrue tells → (m : List ℕ) → IsNameSureAt old.past m → IsNameSureAt last m =
+    λ told m sure. subst (λ (p : FolderPast). IsNameSureAt p m) (sym (c.lacks.ensures.same told))
+    (subst (λ r. OnListed r (IsNameSureAt past m)) (c.in-Err-Unsettled.is ∙ ap Err c.in-Err-Unsettled.field-0-is)
+    (c.make_durably.ensures.listed told m (subst (λ (p : FolderPast). IsNameSureAt p m) (sym (c.check_in_place.ensures told)) sure))) in
     subst (λ (s : State). Creates {E = Error} tells name c.args.kind old s (Err c.is_there_already.result)) (sym went)
-    (create_missed tells name g.met.N.FileNames.apart c.args.kind old last c.is_there_already.result
-    (λ told. (c.requires.known told, partial told)) c.if-self.false)
+    (create_missed tells name g.met.N.FileNames.apart c.args.kind old last trust (λ told. (c.requires.known told, partial told)) c.if-self.false absent
+    (missed_ranges c.args.kind trust.gave_up old.trust trust only)
+    (λ told. missed_now name c.args.kind old last trust (c.requires.known told) g.met.N.FileNames.apart trust.gave_up (partial told) absent only (names told))
+    {E = Error} c.is_there_already.result)
 
 pub returns-clause-open : goal.returns-clause-open
 returns-clause-open g c = λ told.
-    none_open g.N.FileNames.name g.F.Folder.name_of (g.F.Folder.past c.go_on-in-Err.new.self.folder) c.lacks.new.self.files
+    none_open g.N.FileNames.name g.F.Folder.name_of (g.F.Folder.past c.go_on-in-Err-Unsettled.new.self.folder) c.lacks.new.self.files
     ((λ i. (c.lacks.ensures.rest i).files.written) ∙ c.close.ensures.written) ((λ i. (c.lacks.ensures.rest i).files.read) ∙ c.close.ensures.read)

@@ -74,7 +74,7 @@ returns-in-Ok-clause-cuts g c =
     let whole : c.args.len ≡ c.args.len + 0 = omega arith in
     subst (λ (s : State). Cuts {E = Error} tells name c.args.kind c.args.file c.args.len old s (Ok tt)) (sym went)
     (cut_ended tells name g.met.N.FileNames.apart c.args.kind c.args.file c.args.len old past trust
-    (λ told. (c.requires.known told, c.requires.there told))
+    (λ told. (c.requires.known told, c.is_unknown.ensures c.if-is_unknown.false))
     (λ told. cut_goes name g.met.N.FileNames.apart c.args.kind c.args.file c.ranges.file.fits old past trust (c.requires.known told) (Shortened c.args.len 0)
     (c.in-Ok.ensures.cut told ∙ (λ i. did_to (c.to_write.ensures.same told i) (named told i) (Shortened c.args.len 0))) on)
     {E = Error} (Ok tt)
@@ -111,7 +111,7 @@ returns-in-Err-clause-cuts g c =
     λ told. open_named name name_of c.args.kind c.args.file c.in_ok-one.one is.0 is.1 before (c.in_ok-one.ensures.open told) in
     subst (λ (s : State). Cuts {E = Error} tells name c.args.kind c.args.file c.args.len old s (Err c.in-Err.error)) (sym went)
     (cut_ended tells name g.met.N.FileNames.apart c.args.kind c.args.file c.args.len old past trust
-    (λ told. (c.requires.known told, c.requires.there told))
+    (λ told. (c.requires.known told, c.is_unknown.ensures c.if-is_unknown.false))
     (λ told.
     let part = c.in-Err.ensures.partial told in
     cut_goes name g.met.N.FileNames.apart c.args.kind c.args.file c.ranges.file.fits old past trust (c.requires.known told) (Shortened (c.args.len + part.rest) part.rest)
@@ -149,3 +149,8 @@ returns-in-Ok-clause-open g c = λ told.
 pub returns-in-Err-clause-open : goal.returns-in-Err-clause-open
 returns-in-Err-clause-open g c = λ told.
     none_open g.N.FileNames.name g.F.Folder.name_of (g.F.Folder.past c.go_on-in-Err.new.self.folder) c.close.new.self c.close.ensures.written c.close.ensures.read
+
+pub returns-then-is_unknown-clause-cuts : goal.returns-then-is_unknown-clause-cuts
+returns-then-is_unknown-clause-cuts g c =
+    let old : State = state_of g.F.Folder.past c.args.self.now in
+    cut_not_begun {E = Error} g.F.Folder.tells g.N.FileNames.name c.args.kind c.args.file c.args.len old old.past _ (λ told. refl) c.requires.known

@@ -48,7 +48,7 @@ sync_anew-requires-clause-inside g c = λ told.
     subst (λ (n : List ℕ). c.args.at ≤ length (bytes_of before n)) (sym (named told))
     (subst (λ (p : FolderPast). c.args.at ≤ length (bytes_of p (name c.args.kind c.args.file))) (sym (c.to_write.ensures.same told))
     (torn_inside old.past (name c.args.kind c.args.file) c.args.at c.args.len
-    (is_torn tells name g.met.N.FileNames.apart c.args.kind c.args.file c.ranges.file.fits old old.past c.requires.known c.requires.there c.requires.going c.args.at c.args.len c.requires.doubt told)))
+    (is_torn tells name g.met.N.FileNames.apart c.args.kind c.args.file c.ranges.file.fits old old.past c.requires.known c.requires.ours c.requires.going c.args.at c.args.len c.requires.doubt told)))
 
 pub sync_anew-requires-clause-end : goal.sync_anew-requires-clause-end
 sync_anew-requires-clause-end g c = λ told.
@@ -131,7 +131,7 @@ returns-in-Ok-clause-syncs g c =
     (sync_behind {E = Error} tells name c.args.kind c.args.file old (trusted trust (next old past)) last c.keep_at_name.result
     (λ told. c.keep_at_name.ensures.same told ∙ (λ i. past_of (c.go_on.ensures.folder i)))
     (sync_answered {E = Error} tells name c.args.kind c.args.file old (trusted trust (next old past)) c.keep_at_name.result
-    (anew_done tells name g.met.N.FileNames.apart c.args.kind c.args.file c.ranges.file.fits old past c.requires.known c.requires.there c.requires.going c.args.at c.args.len c.requires.doubt {E = Error} trust on
+    (anew_done tells name g.met.N.FileNames.apart c.args.kind c.args.file c.ranges.file.fits old past c.requires.known c.requires.ours c.requires.going c.args.at c.args.len c.requires.doubt {E = Error} trust on
     (λ told. c.in-Ok.ensures.done told
     ∙ (λ i. did_to (written_anew (c.to_write.ensures.same told i) (named told i) c.args.at c.args.len) (named told i) (Synced true))))))
 
@@ -159,7 +159,7 @@ returns-in-Err-clause-syncs g c =
       times = times i;
     } in
     subst (λ (s : State). Syncs {E = Error} tells name c.args.kind c.args.file old s (Err c.in-Err.error)) (sym went)
-    (anew_missed tells name g.met.N.FileNames.apart c.args.kind c.args.file c.ranges.file.fits old past c.requires.known c.requires.there c.requires.going c.args.at c.args.len c.requires.doubt {E = Error} c.in-Err.error
+    (anew_missed tells name g.met.N.FileNames.apart c.args.kind c.args.file c.ranges.file.fits old past c.requires.known c.requires.ours c.requires.going c.args.at c.args.len c.requires.doubt {E = Error} c.in-Err.error
     (λ told. subst (λ (p : FolderPast). MendsIn (name c.args.kind c.args.file) c.args.at c.args.len (bytes_of p (name c.args.kind c.args.file)) p past) (c.to_write.ensures.same told)
     (subst (λ (n : List ℕ). MendsIn n c.args.at c.args.len (bytes_of before n) before past) (named told) (c.in-Err.ensures.partial told))))
 

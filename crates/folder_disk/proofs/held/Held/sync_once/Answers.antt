@@ -97,7 +97,7 @@ returns-in-Ok-clause-syncs g c =
     (sync_behind {E = Error} tells name c.args.kind c.args.file old (trusted trust (next old past)) last c.keep_at_name.result
     (λ told. c.keep_at_name.ensures.same told ∙ (λ i. past_of (c.go_on.ensures.folder i)))
     (sync_answered {E = Error} tells name c.args.kind c.args.file old (trusted trust (next old past)) c.keep_at_name.result
-    (sure_done tells name g.met.N.FileNames.apart c.args.kind c.args.file c.ranges.file.fits old past c.requires.known c.requires.there c.requires.going {E = Error} trust c.requires.sure on
+    (sure_done tells name g.met.N.FileNames.apart c.args.kind c.args.file c.ranges.file.fits old past c.requires.known c.requires.ours c.requires.going {E = Error} trust c.requires.sure on
     (λ told. c.in-Ok.ensures told ∙ (λ i. did_to (c.to_read.ensures.same told i) (named told i) (Synced true))))))
 
 pub returns-in-Err-clause-syncs : goal.returns-in-Err-clause-syncs
@@ -126,7 +126,7 @@ returns-in-Err-clause-syncs g c =
       times = times i;
     } in
     subst (λ (s : State). Syncs {E = Error} tells name c.args.kind c.args.file old s (Err c.in-Err.error)) (sym went)
-    (sure_missed tells name g.met.N.FileNames.apart c.args.kind c.args.file c.ranges.file.fits old past c.requires.known c.requires.there c.requires.going {E = Error} trust c.in-Err.error on
+    (sure_missed tells name g.met.N.FileNames.apart c.args.kind c.args.file c.ranges.file.fits old past c.requires.known c.requires.ours c.requires.going {E = Error} trust c.in-Err.error on
     (λ told. c.in-Err.ensures told ∙ (λ i. did_to (c.to_read.ensures.same told i) (named told i) (Synced false))))
 
 pub returns-in-Err-clause-open : goal.returns-in-Err-clause-open

@@ -1,5 +1,5 @@
 -- The file was written to, or nothing was done.
-use Rattle.std.proofs.Common.{◌≡◌, ℕ, Ok, Err, IsTrue, List, length, sym, ◌∙◌, subst}
+use Rattle.std.proofs.Common.{◌≡◌, ℕ, Ok, Err, IsTrue, List, length, sym, ◌∙◌, subst, refl}
 use Rattle.std.specs.Prelude.{⊤}
 use Rattle.std.specs.declared.io.Error.{Error}
 use Rattle.folder_model.specs.Folder.{FolderPast}
@@ -82,7 +82,7 @@ returns-in-Ok-clause-writes g c =
     subst (λ (t : Trust). GoesOn c.args.kind (AfterWhole c.args.file c.args.at len) t trust) (λ i. (rest i).trust) c.wrote.ensures in
     subst (λ (s : State). WritesAt {E = Error} tells name c.args.kind c.args.file c.args.at c.args.bytes.now old s (Ok tt)) (sym went)
     (wrote tells name g.met.N.FileNames.apart c.args.kind c.args.file c.args.at c.args.bytes.now old past trust
-    (λ told. (c.requires.known told, c.requires.there told, within told))
+    (λ told. (c.requires.known told, c.is_unknown.ensures c.if-is_unknown.false, within told))
     (λ told. whole_goes name g.met.N.FileNames.apart c.args.kind c.args.file c.ranges.file.fits old past trust (c.requires.known told) c.args.at len
     (c.requires.there told) (c.requires.in_range told) (within told) (covers told) on)
     (Ok tt)
@@ -125,7 +125,7 @@ returns-in-Err-Torn-clause-writes g c =
     subst (λ (t : Trust). GoesOn c.args.kind (AfterWhole c.args.file c.args.at len) t trust) (λ i. (rest i).trust) c.wrote-in-Err-Torn.ensures in
     subst (λ (s : State). WritesAt {E = Error} tells name c.args.kind c.args.file c.args.at c.args.bytes.now old s (Err c.in-Err-Torn.error)) (sym went)
     (wrote tells name g.met.N.FileNames.apart c.args.kind c.args.file c.args.at c.args.bytes.now old past trust
-    (λ told. (c.requires.known told, c.requires.there told, within told))
+    (λ told. (c.requires.known told, c.is_unknown.ensures c.if-is_unknown.false, within told))
     (λ told. whole_goes name g.met.N.FileNames.apart c.args.kind c.args.file c.ranges.file.fits old past trust (c.requires.known told) c.args.at len
     (c.requires.there told) (c.requires.in_range told) (within told) (covers told) on)
     (Err c.in-Err-Torn.error)
@@ -163,7 +163,7 @@ returns-clause-writes g c =
     subst (λ (t : Trust). GoesOn c.args.kind (AfterPart c.args.file c.args.at len) t trust) (λ i. (rest i).trust) c.wrote_part.ensures in
     subst (λ (s : State). WritesAt {E = Error} tells name c.args.kind c.args.file c.args.at c.args.bytes.now old s (Err c.in-Err-Stuck.error)) (sym went)
     (wrote tells name g.met.N.FileNames.apart c.args.kind c.args.file c.args.at c.args.bytes.now old past trust
-    (λ told. (c.requires.known told, c.requires.there told, within told))
+    (λ told. (c.requires.known told, c.is_unknown.ensures c.if-is_unknown.false, within told))
     (λ told. part_goes name g.met.N.FileNames.apart c.args.kind c.args.file c.ranges.file.fits old past trust (c.requires.known told) c.args.at len (within told) on)
     (Err c.in-Err-Stuck.error)
     (λ told. tt))
@@ -194,3 +194,8 @@ returns-in-Err-Torn-clause-open g c = λ told.
 pub returns-clause-open : goal.returns-clause-open
 returns-clause-open g c = λ told.
     none_open g.N.FileNames.name g.F.Folder.name_of (g.F.Folder.past c.go_on-in-Err-Stuck.new.self.folder) c.close-in-Err-Stuck.new.self c.close-in-Err-Stuck.ensures.written c.close-in-Err-Stuck.ensures.read
+
+pub returns-then-is_unknown-clause-writes : goal.returns-then-is_unknown-clause-writes
+returns-then-is_unknown-clause-writes g c =
+    let old : State = state_of g.F.Folder.past c.args.self.now in
+    write_not_begun {E = Error} g.F.Folder.tells g.N.FileNames.name c.args.kind c.args.file c.args.at c.args.bytes.now old old.past _ (λ told. refl) c.requires.known
