@@ -12,7 +12,7 @@ const TELLING: Plan = Plan {
 };
 
 /// The cause of each fault is told.
-static TOLD: [Row; 11] = [
+static TOLD: [Row; 12] = [
     (
         Plan {
             fails: [(0, ErrorKind::WouldBlock), NEVER],
@@ -53,6 +53,20 @@ static TOLD: [Row; 11] = [
         &[
             "archive: make a file: files of another process are in it, of which this one doesn't know;",
             "archive: count files: an earlier call failed, and what it left on the disk isn't known;",
+            "2",
+        ],
+    ),
+    // A file that was to be made and has bytes is another process's.
+    (
+        Plan {
+            fails: [(16, ErrorKind::StorageFull), NEVER],
+            ..TELLING
+        },
+        Lock::Alone,
+        &[FILES, CREATE, FILES],
+        &[
+            "archive: make a file: no storage space;",
+            "archive: count files: files of another process are in it, of which this one doesn't know;",
             "2",
         ],
     ),

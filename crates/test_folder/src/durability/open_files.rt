@@ -84,7 +84,7 @@ static OPEN: [Row; 11] = [
         },
         Lock::Alone,
         &[FILES, CREATE, CREATE],
-        &["sync folder;list names;", "2"],
+        &["sync folder;", "2"],
     ),
     // Where none was made, as on a full disk, it is tried again.
     (
