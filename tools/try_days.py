@@ -170,7 +170,7 @@ def main():
         f.followed(given.program, replica, server.port)
         lost = t.replayed(server, origin, known)
         server.kill()
-        same = "equal" if f.files_of(source) == f.files_of(replica) else "DIFFERENT"
+        same = "equal" if f.volumes_of(source) == f.volumes_of(replica) else "DIFFERENT"
         print(f"{time.time() - begun:.0f} s: {len(lost)} not replayed as answered {lost[:3]}; the volumes of source and replica are {same}")
         for folder in (source, replica):
             print(said(given.program, folder, "check"), "|", said(given.program, folder, "verify", "4").replace("\n", ", "))

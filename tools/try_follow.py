@@ -13,10 +13,10 @@ import time
 import try_server as t
 
 
-def files_of(folder):
-    """The files of an archive, by their names."""
+def volumes_of(folder):
+    """The volumes of an archive, by their names. Checkpoints aren't compared: a server writes them, and a follower doesn't."""
     archive = os.path.join(folder, "archive")
-    return {name: open(os.path.join(archive, name), "rb").read() for name in sorted(os.listdir(archive))}
+    return {name: open(os.path.join(archive, name), "rb").read() for name in sorted(os.listdir(archive)) if name.endswith(".warc")}
 
 
 def followed(program, replica, port, seconds=None):
@@ -56,7 +56,7 @@ def main():
         said = followed(program, replica, server.port)
         server.kill()
         check = [subprocess.run([program, "check"], cwd=it, capture_output=True, text=True).stdout.strip() for it in (source, replica)]
-        same = "equal" if files_of(source) == files_of(replica) else "DIFFERENT"
+        same = "equal" if volumes_of(source) == volumes_of(replica) else "DIFFERENT"
         print(f"{rounds} rounds, {answered} exchanges answered; follow: {said}; source: {check[0]}; replica: {check[1]}; their volumes are {same}")
 
 
