@@ -1,5 +1,6 @@
 -- An accepted target has a look-up key: it is a URL, and the scheme of that URL is `http`.
 use Rattle.std.proofs.Common.{◌≡◌, ℕ, ◌-◌, ◌<◌, ◌≤◌, true, not, ◌&&◌, ◌||◌, nat_le, List, [], ◌∷◌, ◌++◌, length, get_or, take, drop, reverse, codes, bytes_eq, Option, Some, None, Ok, Err, is_ok, unwrap_or, All, refl, sym, ap, ◌∙◌, subst, arith, take_all, true≢false}
+use Rattle.std.specs.Prelude.{IsTrue}
 use Rattle.std.specs.Char.{is_ascii, is_ascii_alphabetic, to_ascii_lowercase}
 use Rattle.std.specs.List.{list_all, prefix_len}
 use Rattle.std.proofs.Math.Nat.{sub-zero}
@@ -16,7 +17,7 @@ use Rattle.url.specs.Path.{segment_len, parse_path_start}
 use Rattle.url.specs.Scheme.{default_port, scheme_type, scheme_len, is_scheme_byte}
 use Rattle.url.proofs.InputLemmas.{IsNot, Passes, prefix_len_at, split_once_none, filter_all, list_all_from_All, All_from_list_all}
 use Rattle.capture.specs.Fields.{lowered}
-use Rattle.capture.specs.Target.{is_target_byte, is_target_text, begins_with_http, http_prefix, authority_of, is_plain_authority, is_http_target}
+use Rattle.capture.specs.Target.{IsAcceptedAs, is_target_byte, is_target_text, begins_with_http, http_prefix, authority_of, is_plain_authority, is_http_target}
 use Rattle.surt_key.specs.Key.{surt_key, is_http, key_of_parsed, key_of}
 use Rattle.surt_key.specs.Targets.{TargetsHaveKeys}
 use Rattle.surt_key.proofs.SpacelessUrls.{ok_then, past_error, same_ok}
@@ -179,24 +180,41 @@ target_scheme [] begins all url parsed = absurd (no_colon (ap (λ (bytes : List 
 
 -- ---- the key
 
+-- a target is a text of ASCII, and the scheme of its URL is `http`
+target_is : (target : List ℕ) → IsTrue (is_http_target target) → (list_all is_ascii target ≡ true) × ((url : Parts) → parse_url None target ≡ Ok url → url.scheme ≡ http)
+target_is target is =
+    let form = and_parts (is_target_text target && begins_with_http target) (is_plain_authority (authority_of target)) is in
+    let front = and_parts (is_target_text target) (begins_with_http target) form.0 in
+    let all : AreOfTarget target = All_from_list_all is_target_byte target front.0 in
+    let begins : lowered (take 7 target) ≡ http_prefix = (bytes_eq-Decides (lowered (take 7 target)) http_prefix).0 front.1 in (
+      list_all_from_All is_ascii target (All-weaker (Passes is_target_byte) (Passes is_ascii) byte_ascii target all),
+      target_scheme target begins all,
+    )
+
+-- a URL whose scheme is `http` has a key
+http_key : (url : Parts) → url.scheme ≡ http → key_of_parsed (Ok url) ≡ Some (surt_key url)
+http_key url scheme =
+    cond-true (is_http url) (Some (surt_key url)) None (ap (λ (s : List ℕ). bytes_eq s (codes "http") || bytes_eq s (codes "https")) scheme)
+
 some_is_not_none : (key : List ℕ) → Some key ≡ None → ⊥
 some_is_not_none key e = cc
 
--- a URL whose scheme is `http` has a key
 key_by : (r : Parsed Parts) → ((url : Parts) → r ≡ Ok url → url.scheme ≡ http) → is_ok r ≡ true → key_of_parsed r ≡ None → ⊥
-key_by (Ok url) scheme ok none =
-    let test : is_http url ≡ true = ap (λ (s : List ℕ). bytes_eq s (codes "http") || bytes_eq s (codes "https")) (scheme url refl) in
-    some_is_not_none (surt_key url) (sym (cond-true (is_http url) (Some (surt_key url)) None test) ∙ none)
+key_by (Ok url) scheme ok none = some_is_not_none (surt_key url) (sym (http_key url (scheme url refl)) ∙ none)
 key_by (Err fault) scheme ok none = absurd cc
 
 pub targets_have_keys : TargetsHaveKeys
 unfolding key_of
 targets_have_keys uri accepted = λ none.
     let parts = and_parts (is_http_target uri) (is_ok (parse_url None uri)) accepted in
-    let form = and_parts (is_target_text uri && begins_with_http uri) (is_plain_authority (authority_of uri)) parts.0 in
-    let front = and_parts (is_target_text uri) (begins_with_http uri) form.0 in
-    let all : AreOfTarget uri = All_from_list_all is_target_byte uri front.0 in
-    let begins : lowered (take 7 uri) ≡ http_prefix = (bytes_eq-Decides (lowered (take 7 uri)) http_prefix).0 front.1 in
-    let ascii : list_all is_ascii uri ≡ true = list_all_from_All is_ascii uri (All-weaker (Passes is_target_byte) (Passes is_ascii) byte_ascii uri all) in
-    key_by (parse_url None uri) (target_scheme uri begins all) parts.1
-    (sym (cond-true (list_all is_ascii uri) (key_of_parsed (parse_url None uri)) None ascii) ∙ none)
+    let is = target_is uri parts.0 in
+    key_by (parse_url None uri) is.1 parts.1
+    (sym (cond-true (list_all is_ascii uri) (key_of_parsed (parse_url None uri)) None is.0) ∙ none)
+
+-- which is the key of the URL as which it is accepted
+pub target_key : (target : List ℕ) (url : Parts) → IsAcceptedAs target url → key_of target ≡ Some (surt_key url)
+unfolding key_of
+target_key target url accepted =
+    let is = target_is target accepted.form in
+    cond-true (list_all is_ascii target) (key_of_parsed (parse_url None target)) None is.0
+    ∙ ap key_of_parsed accepted.parses ∙ http_key url (is.1 url accepted.parses)

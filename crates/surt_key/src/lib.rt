@@ -14,4 +14,4 @@ pub use address::{KeyedUrl, key_of_address};
 pub use fault::KeyFault;
 pub use key::Key;
 pub use laws::{accepted_targets_have_keys, keys_hold_no_space};
-pub use url_key::key_of;
+pub use url_key::{key_of, key_of_url};

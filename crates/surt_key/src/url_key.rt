@@ -1,6 +1,7 @@
 //! The key of a URL.
-ghost use Rattle.std.specs.Prelude.{◌≡◌, ◌++◌, codes, None, Some, Err, IfOk, OnOk, option_copied};
+ghost use Rattle.std.specs.Prelude.{◌≡◌, ◌++◌, ℕ, List, codes, None, Some, Err, IfOk, OnOk, option_copied};
 ghost use Rattle.url.specs.Parts.{nonempty_host};
+ghost use Rattle.capture.specs.Target.{IsAcceptedAs};
 ghost use Rattle.surt_key.specs.Key as spec;
 ghost use Rattle.surt_key.specs.Key.{host_text_of, sorted_query, surt_key};
 
@@ -41,8 +42,11 @@ fn is_http(url: &Url) -> bool
     url.scheme() == "http" || url.scheme() == "https"
 }
 
-fn key_of_url(alloc: Global, url: &Url) -> Result<Key, Memory>
-    ensures { IfOk result (λ key. key ≡ surt_key url.now) }
+/// The key of a URL that was parsed, so that nobody parses its text again: the key that `key_of` makes of each target that is
+/// accepted as this URL.
+pub fn key_of_url(alloc: Global, url: &Url) -> Result<Key, Memory>
+    ensures value { IfOk result (λ key. key ≡ surt_key url.now) }
+    ensures accepted { (target : List ℕ) → IsAcceptedAs target url.now → IfOk result (λ key. spec.key_of target ≡ Some key) }
 {
     let mut out = Vec::with_capacity(alloc, url.as_str().len())?;
     put_host(&mut out, url)?;

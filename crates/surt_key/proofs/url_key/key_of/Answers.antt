@@ -16,7 +16,7 @@ pub returns-in_ok-key_of_url-in-Ok-parse-clause-key :
     goal.returns-in_ok-key_of_url-in-Ok-parse-clause-key
 returns-in_ok-key_of_url-in-Ok-parse-clause-key c =
     let parsed : parse_url None c.args.uri.now ≡ Ok c.in-Ok-parse.url = search rules in
-    key_of-http c.args.uri.now c.in-Ok-parse.url c.if-not-is_ascii.ensures.cases parsed (search rules) ∙ ap Some (sym c.in_ok-key_of_url-in-Ok-parse.ensures)
+    key_of-http c.args.uri.now c.in-Ok-parse.url c.if-not-is_ascii.ensures.cases parsed (search rules) ∙ ap Some (sym c.in_ok-key_of_url-in-Ok-parse.ensures.value)
 
 pub returns-in-Ok-2-clause-not_http : goal.returns-in-Ok-2-clause-not_http
 returns-in-Ok-2-clause-not_http c =
