@@ -2,6 +2,7 @@
 use Rattle.std.proofs.Common.{◌≡◌, ℕ, ◌-◌, ◌<◌, ◌≤◌, ◌^◌, inl, inr, List, ◌++◌, length, take, length-append, append_assoc, refl, sym, ap, subst, ◌∙◌, arith}
 use Rattle.std.proofs.lemmas.List.{take_at}
 use Rattle.capture.specs.Captures.{taken_back}
+use Rattle.capture.specs.Target.{IsAcceptedAs}
 use Rattle.warc_text.specs.Groups.{answer_block}
 use Rattle.warc_text.specs.Ids.{id_of}
 use Rattle.warc_text.specs.Lines.{ended, length_lines, record_end}
@@ -262,12 +263,13 @@ behind_both bytes a r b rest e f = e ∙ ap (λ t. a ++ t) f ∙ sym (append_ass
 -- ---- what was found
 
 pub found_in : (namespace : List ℕ) (number : ℕ) (bytes : List ℕ) (found : Found) (answer_rest request_rest : List ℕ) → IsOpening (opening_of found.opening)
+    → IsAcceptedAs found.opening.uri.now found.opening.url
     → bytes ≡ first_text namespace number (opening_of found.opening) found.answer.now ++ answer_rest
     → bytes ≡ (before_request namespace number (opening_of found.opening) found.answer.now ++ ended found.request.now) ++ request_rest
     → length (before_request namespace number (opening_of found.opening) found.answer.now ++ ended found.request.now) < 2 ^ 63
     → found.first_len ≡ length bytes - length answer_rest → found.len ≡ length bytes - length request_rest
     → IsFoundIn namespace number bytes found
-found_in namespace number bytes found answer_rest request_rest is first whole short first_len len =
+found_in namespace number bytes found answer_rest request_rest is target first whole short first_len len =
     let o = opening_of found.opening in
     let front = first_text namespace number o found.answer.now in
     let text_is : before_request namespace number o found.answer.now ++ ended found.request.now
@@ -279,6 +281,7 @@ found_in namespace number bytes found answer_rest request_rest is first whole sh
       rest = request_rest;
       composed = whole ∙ ap (λ t. t ++ request_rest) text_is;
       opening = is;
+      target = target;
       first_len = first_len ∙ length_before bytes front answer_rest first;
       len = lens ∙ ap length text_is;
       short = omega (arith, lens, short);

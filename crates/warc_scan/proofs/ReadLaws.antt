@@ -43,6 +43,7 @@ found_is namespace number bytes found is =
     let opening = opening_text (id_of namespace ids.Response number) (opening_of found.opening) in
     record {
       opening = is.opening;
+      target = is.target;
       places = omega (arith, is.first_len, length-append opening (ended found.answer.now), ended_length found.answer.now);
       short = omega (arith, is.first_len, is.len, is.short, length-append (first_record namespace number found) (second_record namespace number found));
     }

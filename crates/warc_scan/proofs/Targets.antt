@@ -1,8 +1,10 @@
 -- Targets at the front of bytes.
-use Rattle.std.proofs.Common.{◌≡◌, ℕ, zero, suc, Bool, true, false, ◌&&◌, List, [], ◌∷◌, ◌++◌, drop, get_or, refl, sym, ap, ◌∙◌, arith}
+use Rattle.std.proofs.Common.{◌≡◌, ℕ, zero, suc, Bool, true, false, ◌&&◌, List, [], ◌∷◌, ◌++◌, drop, get_or, None, is_ok, refl, sym, ap, ◌∙◌, arith}
 use Rattle.std.proofs.lemmas.Bool.{and_parts, false≢true}
 use Rattle.httparse.specs.Ascii.{crlf_bytes}
-use Rattle.capture.specs.Target.{authority_of, begins_with_http, is_http_target, is_plain_authority, is_target_byte, is_target_text}
+use Rattle.url.specs.Parser.{parse_url}
+use Rattle.url.specs.Parts.{Parts}
+use Rattle.capture.specs.Target.{IsAcceptedAs, authority_of, begins_with_http, is_http_target, is_plain_authority, is_target_byte, is_target_text}
 use Rattle.warc_text.specs.Groups.{IsOneLine}
 use Rattle.warc_scan.specs.Openings.{IsTarget}
 use Rattle.warc_scan.specs.OpenValues.{IsPartOfTarget}
@@ -36,6 +38,10 @@ both_true : (a b : Bool) → a ≡ true → b ≡ true → (a && b) ≡ true
 both_true true true p q = refl
 both_true true false p q = absurd (false≢true q)
 both_true false b p q = absurd (false≢true p)
+
+-- what is accepted as some URL
+pub accepted_target : (target : List ℕ) (url : Parts) → IsAcceptedAs target url → IsTarget target
+accepted_target target url is = both_true (is_http_target target) (is_ok (parse_url None target)) is.form (ap is_ok is.parses)
 
 text_inside : (bytes line after other : List ℕ) → IsOneLine bytes → bytes ++ after ≡ line ++ (13 ∷ other) → is_target_text line ≡ true → is_target_text bytes ≡ true
 text_inside [] line after other one e is = refl

@@ -1,6 +1,7 @@
 -- The opening of a group's first record, up to its block: what it says, and the block's length.
 use Rattle.std.specs.Prelude.{◌≡◌, ℕ, ◌+◌, ◌<◌, ◌≤◌, Bool, true, List, ◌++◌, length, ⊤}
 use Rattle.capture.specs.Captures.{is_cut}
+use Rattle.capture.specs.Target.{IsAcceptedAs}
 use Rattle.warc_text.specs.Lines.{length_lines}
 use Rattle.warc_scan.specs.Asking.{first_opening}
 use Rattle.warc_scan.specs.Blocks.{IsWord}
@@ -32,6 +33,7 @@ said_in first = (opening_of first.opening, first.block_len)
 pub record BeginsWithOpening (namespace : List ℕ) (number : ℕ) (bytes : List ℕ) (first : FirstOpening) : Type 0 where
   pub stands : StandsFirst namespace number bytes (said_in first)
   pub block_at : first.block_at ≡ length (first_lines namespace number (said_in first))
+  pub target : IsAcceptedAs first.opening.uri.now first.opening.url
 
 -- it is that of a group's first record
 pub record IsOpeningOf (group : Group) (first : FirstOpening) : Type 0 where

@@ -1,7 +1,9 @@
--- A group with its response's head.
+-- A group with what is parsed to find it.
+use Rattle.capture.specs.Target.{IsAcceptedAs}
 use Rattle.http_head.specs.Heads.{HoldsResponse}
 use Rattle.warc_scan.specs.declared.group.HeadedGroup.{HeadedGroup}
 
--- the parts beside the group are those of its head
-abbrev pub HasItsHead : HeadedGroup → Type 0
-HasItsHead read = HoldsResponse read.group.stored.head read.head
+-- the parts beside the group are those of its head, and the URL is that of its target
+pub record HasItsParts (read : HeadedGroup) : Type 0 where
+  pub head : HoldsResponse read.group.stored.head read.head
+  pub target : IsAcceptedAs read.group.stored.uri read.url

@@ -1,6 +1,7 @@
 //! Fields of a record (ISO 28500, WARC 1.1, sections 4 and 5), and the values in them.
 ghost use Rattle.std.specs.Prelude.{◌≡◌, ◌+◌, ◌<◌, ◌++◌, length, codes, IfOk, IfErr, IfSome, IfNone, IsErrOf};
 ghost use Rattle.httparse.specs.Ascii.{crlf_bytes};
+ghost use Rattle.capture.specs.Target.{IsAcceptedAs};
 ghost use Rattle.time_text.specs.Texts.{InRange, warc_date};
 ghost use Rattle.warc_text.specs.Groups.{IsOneLine};
 ghost use Rattle.warc_text.specs.Ids.{IsUuid, id_text, uuid_text};
@@ -14,10 +15,11 @@ ghost use Rattle.warc_scan.specs.steps.Stops.{Differs, NoneStands, NoValueStands
 use crate::form::{DATE_FORM, UUID_FORM, open_form};
 use crate::stop::Stop;
 use crate::strip::strip;
-use capture::{accepted_uri, is_target_text};
+use capture::{accepted_url, is_target_text};
 use memchr::memchr;
 use std::alloc::Global;
 use time_text::read_warc;
+use url::Url;
 use uuid::Uuid;
 
 /// Where `Z` stands in a date that is a whole second, and else the dot before its fraction.
@@ -119,21 +121,23 @@ pub fn read_date_field<'b>(bytes: &'b [u8], name: &[u8]) -> Result<(u64, &'b [u8
     Ok((date, rest))
 }
 
-/// Reads a target and its line's end. Of one that goes on each byte is a target's.
-pub fn read_target(alloc: Global, bytes: &[u8]) -> Result<(&[u8], &[u8]), Stop>
+/// Reads a target, with the URL that it is parsed to, and its line's end. Of one that goes on each byte is a target's.
+pub fn read_target(alloc: Global, bytes: &[u8]) -> Result<(&[u8], Url, &[u8]), Stop>
     ensures ok { IfOk result (λ read. IsTarget read.0.now
-        × (bytes.now ≡ (read.0.now ++ crlf_bytes) ++ read.1.now)) }
+        × (bytes.now ≡ (read.0.now ++ crlf_bytes) ++ read.2.now)) }
+    ensures url { IfOk result (λ read. IsAcceptedAs read.0.now read.1) }
     ensures err { IfErr result (λ stop. NoValueStands IsTarget (λ uri. uri ++ crlf_bytes) IsPartOfTarget stop bytes.now) }
 {
     let Some((uri, behind)) = split_line(bytes) else {
         return Err(open_target(bytes));
     };
-    let accepted = accepted_uri(alloc, uri)?;
-    if accepted {
-        let rest = strip(behind, b"\r\n")?;
-        Ok((uri, rest))
-    } else {
-        Err(Stop::Wrong)
+    let accepted = accepted_url(alloc, uri)?;
+    match accepted {
+        Some(url) => {
+            let rest = strip(behind, b"\r\n")?;
+            Ok((uri, url, rest))
+        }
+        None => Err(Stop::Wrong),
     }
 }
 
@@ -160,15 +164,16 @@ pub fn split_line(bytes: &[u8]) -> Option<(&[u8], &[u8])>
     }
 }
 
-/// Reads a field whose value is a target.
+/// Reads a field whose value is a target, with the URL that this is parsed to.
 pub fn read_target_field<'b>(
     alloc: Global,
     bytes: &'b [u8],
     name: &[u8],
-) -> Result<(&'b [u8], &'b [u8]), Stop>
+) -> Result<(&'b [u8], Url, &'b [u8]), Stop>
     requires { IsTargetMark (name.now ++ codes ": ") }
     ensures ok { IfOk result (λ read. IsTarget read.0.now
-        × (bytes.now ≡ field name.now read.0.now ++ read.1.now)) }
+        × (bytes.now ≡ field name.now read.0.now ++ read.2.now)) }
+    ensures url { IfOk result (λ read. IsAcceptedAs read.0.now read.1) }
     ensures err { IfErr result (λ stop. NoneStands IsTarget (λ uri. field name.now uri) stop bytes.now) }
 {
     let given = strip_name(bytes, name)?;

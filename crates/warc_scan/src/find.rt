@@ -27,7 +27,7 @@ use warc_text::{IdKind, id_of};
 pub const RECORD_END: u64 = 4;
 
 /// The parts of a group, before its messages are read.
-#[derive(Clone, Copy, Debug)]
+#[derive(Debug, Drop)]
 pub struct Found<'b> {
     /// What the opening of the response or revisit says.
     pub opening: Opening<'b>,

@@ -1,6 +1,7 @@
 //! The group of a capture, as it stands in a volume.
 use capture::{Digest, Stored, Text};
 use http_wire::ResponseHead;
+use url::Url;
 use uuid::Uuid;
 
 /// The record that a revisit refers to, as its fields tell (ISO 28500, sections 5.11 and 6.7.2).
@@ -38,11 +39,13 @@ pub struct Group {
     pub len: u64,
 }
 
-/// A group, with the parts of its response's head, which are read to find it.
+/// A group, with what is parsed to find it: its response's head, and its target.
 #[derive(Debug, PartialEq, Eq, Drop)]
 pub struct HeadedGroup {
     /// The group.
     pub group: Group,
     /// The parts of the head.
     pub head: ResponseHead,
+    /// The URL that the target is parsed to.
+    pub url: Url,
 }

@@ -1,5 +1,6 @@
 //! The openings of response and revisit records (ISO 28500, WARC 1.1, sections 6.3 and 6.7).
 ghost use Rattle.std.specs.Prelude.{◌≡◌, ℕ, List, ◌++◌, IfOk, IfErr};
+ghost use Rattle.capture.specs.Target.{IsAcceptedAs};
 ghost use Rattle.warc_scan.specs.steps.Kinds.{IsKind};
 ghost use Rattle.warc_scan.specs.Openings.{IsOpening, opening_of, opening_text};
 ghost use Rattle.warc_scan.specs.steps.Stops.{NoneStands};
@@ -9,15 +10,18 @@ use crate::stop::Stop;
 use crate::strip::strip;
 use capture::Digest;
 use std::alloc::Global;
+use url::Url;
 use uuid::Uuid;
 
 /// What the opening of a response or revisit record says.
-#[derive(Clone, Copy, Debug)]
+#[derive(Debug, Drop)]
 pub struct Opening<'b> {
     /// The capture's date.
     pub date: u64,
     /// Its target.
     pub uri: &'b [u8],
+    /// The URL that the target is parsed to.
+    pub url: Url,
     /// Its payload's digest.
     pub digest: Digest,
     /// Whether the response was cut.
@@ -40,6 +44,7 @@ enum AnswerKind {
 /// Reads the opening of the response or revisit record with this id.
 pub fn read_opening<'b>(alloc: Global, bytes: &'b [u8], id: &Uuid) -> Result<Opening<'b>, Stop>
     ensures right { IfOk result (λ opening. IsOpening (opening_of opening)) }
+    ensures url { IfOk result (λ opening. IsAcceptedAs opening.uri.now opening.url) }
     ensures ok { IfOk result (λ opening. bytes.now ≡ opening_text id.now (opening_of opening) ++ opening.rest.now) }
     ensures err { IfErr result (λ stop. NoneStands IsOpening (opening_text id.now) stop bytes.now) }
 {
@@ -68,6 +73,7 @@ fn kind_of(bytes: &[u8]) -> Result<AnswerKind, Stop>
 fn read_response<'b>(alloc: Global, bytes: &'b [u8], id: &Uuid) -> Result<Opening<'b>, Stop>
     requires { IsKind bytes.now AnswerKind.Response }
     ensures right { IfOk result (λ opening. IsOpening (opening_of opening)) }
+    ensures url { IfOk result (λ opening. IsAcceptedAs opening.uri.now opening.url) }
     ensures ok { IfOk result (λ opening. bytes.now ≡ opening_text id.now (opening_of opening) ++ opening.rest.now) }
     ensures err { IfErr result (λ stop. NoneStands IsOpening (opening_text id.now) stop bytes.now) }
 {
@@ -76,6 +82,7 @@ fn read_response<'b>(alloc: Global, bytes: &'b [u8], id: &Uuid) -> Result<Openin
     Ok(Opening {
         date: common.date,
         uri: common.uri,
+        url: common.url,
         digest: common.digest,
         cut,
         same: None,
@@ -87,6 +94,7 @@ fn read_response<'b>(alloc: Global, bytes: &'b [u8], id: &Uuid) -> Result<Openin
 fn read_revisit<'b>(alloc: Global, bytes: &'b [u8], id: &Uuid) -> Result<Opening<'b>, Stop>
     requires { IsKind bytes.now AnswerKind.Revisit }
     ensures right { IfOk result (λ opening. IsOpening (opening_of opening)) }
+    ensures url { IfOk result (λ opening. IsAcceptedAs opening.uri.now opening.url) }
     ensures ok { IfOk result (λ opening. bytes.now ≡ opening_text id.now (opening_of opening) ++ opening.rest.now) }
     ensures err { IfErr result (λ stop. NoneStands IsOpening (opening_text id.now) stop bytes.now) }
 {
@@ -99,6 +107,7 @@ fn read_revisit<'b>(alloc: Global, bytes: &'b [u8], id: &Uuid) -> Result<Opening
     Ok(Opening {
         date: common.date,
         uri: common.uri,
+        url: common.url,
         digest: common.digest,
         cut: false,
         same: Some(refers),

@@ -1,5 +1,6 @@
 //! The parts of openings of records: all up to a block's length (ISO 28500, WARC 1.1, sections 5 and 6).
 ghost use Rattle.std.specs.Prelude.{◌≡◌, ⊤, ◌++◌, length, IfOk, IfErr};
+ghost use Rattle.capture.specs.Target.{IsAcceptedAs};
 ghost use Rattle.digest32.specs.Base32.{IsDigest};
 ghost use Rattle.time_text.specs.Texts.{InRange};
 ghost use Rattle.warc_text.specs.Ids.{IsUuid};
@@ -18,6 +19,7 @@ use capture::Digest;
 use digest32::read_base32;
 use std::alloc::Global;
 use time_text::write_warc;
+use url::Url;
 use uuid::Uuid;
 
 /// The length of a digest's text.
@@ -35,12 +37,14 @@ pub struct Refers<'b> {
 }
 
 /// What the openings of responses and revisits have in common.
-#[derive(Clone, Copy, Debug)]
+#[derive(Debug, Drop)]
 pub struct Common<'b> {
     /// The capture's date.
     pub date: u64,
     /// Its target.
     pub uri: &'b [u8],
+    /// The URL that the target is parsed to.
+    pub url: Url,
     /// Its payload's digest.
     pub digest: Digest,
     /// What stands behind it.
@@ -90,6 +94,7 @@ pub fn read_common<'b>(
 ) -> Result<Common<'b>, Stop>
     ensures date { IfOk result (λ common. InRange common.date) }
     ensures target { IfOk result (λ common. IsTarget common.uri.now) }
+    ensures url { IfOk result (λ common. IsAcceptedAs common.uri.now common.url) }
     ensures digest { IfOk result (λ common. IsDigest common.digest) }
     ensures ok { IfOk result (λ common. bytes.now
         ≡ front_text word.now id.now common.date common.uri.now common.digest ++ common.rest.now) }
@@ -97,11 +102,12 @@ pub fn read_common<'b>(
 {
     let dated = strip_start(bytes, word, id)?;
     let (date, aimed) = read_date_field(dated, b"WARC-Date")?;
-    let (uri, digested) = read_target_field(alloc, aimed, b"WARC-Target-URI")?;
+    let (uri, url, digested) = read_target_field(alloc, aimed, b"WARC-Target-URI")?;
     let (digest, rest) = read_digest_line(digested)?;
     Ok(Common {
         date,
         uri,
+        url,
         digest,
         rest,
     })
@@ -144,7 +150,7 @@ pub fn read_revisit_end(alloc: Global, bytes: &[u8]) -> Result<(Refers<'_>, &[u8
         Ok(read) => read,
         Err(stop) => return Err(stop),
     };
-    let (uri, dated) = read_target_field(alloc, aimed, b"WARC-Refers-To-Target-URI")?;
+    let (uri, _, dated) = read_target_field(alloc, aimed, b"WARC-Refers-To-Target-URI")?;
     let (date, profiled) = read_date_field(dated, b"WARC-Refers-To-Date")?;
     let typed = strip_profile(profiled)?;
     let rest = strip_content(typed)?;

@@ -3,7 +3,7 @@ ghost use Rattle.std.specs.Prelude.{◌≡◌, IfErr, IfOk};
 ghost use Rattle.warc_scan.specs.Asking.{AsksForGroup, AsksForMore};
 ghost use Rattle.warc_scan.specs.steps.Founds.{HasMessages, IsFound, IsGroupIn, no_group_by};
 ghost use Rattle.warc_scan.specs.Answers.{BeginsWithGroup, TellsGroup, TellsNoGroup};
-ghost use Rattle.warc_scan.specs.Headed.{HasItsHead};
+ghost use Rattle.warc_scan.specs.Headed.{HasItsParts};
 
 use crate::answer::Answer;
 use crate::copy::{copy_bytes, copy_kept, copy_revisited, copy_target};
@@ -28,14 +28,18 @@ pub fn next_group(
 {
     match next_headed_group(alloc, bytes, more, namespace, number) {
         Ok(read) => {
-            let HeadedGroup { group, head: _ } = read;
+            let HeadedGroup {
+                group,
+                head: _,
+                url: _,
+            } = read;
             GroupStep::Group(group)
         }
         Err(why) => no_group(why),
     }
 }
 
-/// The same, with the parts of the response's head, or why there is no group.
+/// The same, with the parts of the response's head and the URL that the target is parsed to, or why there is no group.
 pub fn next_headed_group(
     alloc: Global,
     bytes: &[u8],
@@ -44,7 +48,7 @@ pub fn next_headed_group(
     number: u32,
 ) -> Result<HeadedGroup, NoRecord>
     ensures ok { IfOk result (λ read. BeginsWithGroup namespace.now number bytes.now read.group) }
-    ensures head { IfOk result HasItsHead }
+    ensures parts { IfOk result HasItsParts }
     ensures none { IfErr result (TellsNoGroup namespace.now number more bytes.now) }
     ensures asks { IfErr result (AsksForMore namespace.now number bytes.now) }
 {
@@ -58,7 +62,7 @@ pub fn next_headed_group(
         method,
         answer,
     } = read;
-    Ok(group_of(alloc, number, &found, method, answer)?)
+    Ok(group_of(alloc, number, found, method, answer)?)
 }
 
 /// The step that tells no group.
@@ -78,14 +82,14 @@ fn no_group(why: NoRecord) -> GroupStep
 fn group_of(
     alloc: Global,
     number: u32,
-    found: &Found<'_>,
+    found: Found<'_>,
     method: Text,
     answer: Answer<'_>,
 ) -> Result<HeadedGroup, Memory>
-    requires found { IsFound found.now }
-    requires messages { HasMessages found.now method answer }
-    ensures group { IfOk result (λ read. IsGroupIn number found.now read.group) }
-    ensures head { IfOk result HasItsHead }
+    requires found { IsFound found }
+    requires messages { HasMessages found method answer }
+    ensures group { IfOk result (λ read. IsGroupIn number found.entry read.group) }
+    ensures parts { IfOk result HasItsParts }
 {
     let head_at = found.first_len - RECORD_END - found.answer.len() as u64;
     let body_at = head_at + answer.head.len() as u64;
@@ -112,8 +116,10 @@ fn group_of(
         first_len: found.first_len,
         len: found.len,
     };
+    let opening = found.opening;
     Ok(HeadedGroup {
         group,
         head: answer.parsed,
+        url: opening.url,
     })
 }

@@ -1,5 +1,6 @@
 -- A group that is found by its openings and its blocks, and the group that these make.
 use Rattle.std.specs.Prelude.{◌≡◌, ℕ, ◌+◌, ◌<◌, ◌≤◌, ◌^◌, List, ◌++◌, length, ⊤}
+use Rattle.capture.specs.Target.{IsAcceptedAs}
 use Rattle.capture.specs.WellFormed.{IsRequestOf}
 use Rattle.warc_text.specs.Ids.{id_of}
 use Rattle.warc_text.specs.Lines.{ended}
@@ -43,6 +44,7 @@ pub record IsFoundIn (namespace : List ℕ) (number : ℕ) (bytes : List ℕ) (f
   pub rest : List ℕ
   pub composed : bytes ≡ first_record namespace number found ++ second_record namespace number found ++ rest
   pub opening : IsOpening (opening_of found.opening)
+  pub target : IsAcceptedAs found.opening.uri.now found.opening.url
   pub first_len : found.first_len ≡ length (first_record namespace number found)
   pub len : found.len ≡ length (first_record namespace number found ++ second_record namespace number found)
   pub short : found.len < 2 ^ 63
@@ -50,6 +52,7 @@ pub record IsFoundIn (namespace : List ℕ) (number : ℕ) (bytes : List ℕ) (f
 -- its opening is right, and its response or revisit record holds the block and two line ends behind it
 pub record IsFound (found : Found) : Type 0 where
   pub opening : IsOpening (opening_of found.opening)
+  pub target : IsAcceptedAs found.opening.uri.now found.opening.url
   pub places : length found.answer.now + 4 ≤ found.first_len
   pub short : found.first_len < 2 ^ 63
 

@@ -25,7 +25,7 @@ returns-clause-ok c =
     IfOk-weaker c.read_target.result _ _ (λ read e. (
       e.0,
       behind_mark (c.args.name.now ++ codes ": ") read.0.now crlf_bytes c.args.bytes.now
-          c.in_ok-given.given.now read.1.now c.in_ok-given.ensures.ok e.1,
+          c.in_ok-given.given.now read.2.now c.in_ok-given.ensures.ok e.1,
     )) c.read_target.ensures.ok
 
 pub returns-clause-err : goal.returns-clause-err

@@ -141,4 +141,4 @@ returns-clause-ok c =
     let request = c.in_ok-request.request in
     let second = second_front namespace number bytes id request_id c.id_of-id.ensures c.id_of-request_id.ensures o (λ f. HasBlock f bytes request)
     answer.block.now answer.rest.now behind first.composed c.in_ok-rest.ensures.ok c.in_ok-request.ensures.ok in
-    found_in namespace number bytes _ answer.rest.now request.rest.now c.in-Ok.ensures.right first.composed second.composed second.short refl refl
+    found_in namespace number bytes _ answer.rest.now request.rest.now c.in-Ok.ensures.right c.in-Ok.ensures.url first.composed second.composed second.short refl refl

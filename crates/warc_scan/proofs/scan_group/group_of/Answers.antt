@@ -1,4 +1,5 @@
 use Rattle.std.proofs.Common.{List, ℕ, length, refl, sym, ap, subst, arith}
+use Rattle.capture.specs.Target.{IsAcceptedAs}
 use Rattle.http_head.specs.Heads.{HoldsResponse}
 use Rattle.warc_scan.specs.steps.Responses.{IsAnswerOf, kept_by}
 use Rattle.warc_scan.specs.Groups.{HasPayloadLen}
@@ -6,11 +7,11 @@ use Rattle.warc_scan.proofs.TargetAscii.{revisited_target}
 use Rattle.warc_scan.proofs.scan_group.group_of.Goals as goal
 
 pub copy_revisited-requires : goal.copy_revisited-requires
-copy_revisited-requires c = revisited_target c.args.found.now.opening.same c.requires.found.opening.refers
+copy_revisited-requires c = revisited_target c.args.found.opening.same c.requires.found.opening.refers
 
 pub returns-clause-group : goal.returns-clause-group
 returns-clause-group c =
-    let found = c.args.found.now in
+    let found = c.args.found in
     let method = c.args.method in
     let answer = c.args.answer in
     let kept = kept_by answer.form answer.wire.now in
@@ -37,6 +38,8 @@ returns-clause-group c =
       body_at = omega (arith, ap length heads);
     }
 
-pub returns-clause-head : goal.returns-clause-head
-returns-clause-head c =
-    subst (λ (h : List ℕ). HoldsResponse h c.args.answer.parsed) (sym c.in_ok-head.ensures) c.requires.messages.answer_is.parsed
+pub returns-clause-parts : goal.returns-clause-parts
+returns-clause-parts c = record {
+  head = subst (λ (h : List ℕ). HoldsResponse h c.args.answer.parsed) (sym c.in_ok-head.ensures) c.requires.messages.answer_is.parsed;
+  target = subst (λ (u : List ℕ). IsAcceptedAs u c.args.found.opening.url) (sym c.in_ok-uri.ensures) c.requires.found.target;
+}

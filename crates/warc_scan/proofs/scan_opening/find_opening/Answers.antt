@@ -28,4 +28,5 @@ returns-clause-ok c =
     record {
       stands = ((c.in-Ok.ensures.right, c.in_ok-block_len.ensures.ok.0), (c.in_ok-block_len.block.now, composed));
       block_at = length_before c.args.bytes.now _ c.in_ok-block_len.block.now composed;
+      target = c.in-Ok.ensures.url;
     }
