@@ -10,7 +10,7 @@ use Rattle.warc_journal.specs.Texts.{Hold, with_more}
 use Rattle.warc_journal.specs.declared.extent.Further.TheVariants.{Absent}
 use Rattle.warc_journal.specs.declared.place.Place.{Place}
 use Rattle.warc_scan.specs.Groups.{IsGroup}
-use Rattle.warc_scan.specs.Headed.{HasItsHead}
+use Rattle.warc_scan.specs.Headed.{HasItsParts}
 use Rattle.warc_scan.specs.Infos.{IsInfo}
 use Rattle.warc_scan.specs.declared.group.Group.{Group as GroupFound}
 use Rattle.volume_scan.specs.Damage.{IsDamagedAt}
@@ -147,10 +147,10 @@ Finds d old new (Info volume namespace born) = BeginsOne d old new volume namesp
 Finds d old new (Group place read) = GoesOnWith d old new place read.group
 Finds d old new End = Ends d old new
 
--- a group comes with the parts of its response's head
+-- a group comes with the parts of its response's head, and its target as a URL
 abbrev pub IsHeaded : Found → Type 0
 IsHeaded (Info volume namespace born) = ⊤
-IsHeaded (Group place read) = HasItsHead read
+IsHeaded (Group place read) = HasItsParts read
 IsHeaded End = ⊤
 
 -- damage is answered where it is

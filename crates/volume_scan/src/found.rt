@@ -19,7 +19,7 @@ pub enum Found {
     Group {
         /// Where its group stands.
         place: Place,
-        /// The group, with the parts of its response's head.
+        /// The group, with the parts of its response's head, and its target as a URL.
         read: HeadedGroup,
     },
     /// Nothing: all volumes were read.

@@ -61,7 +61,11 @@ fn group_in(
     };
     match judge_group(alloc, bytes, place.len, namespace, number) {
         Ok(NextGroup::Group(read)) => {
-            let HeadedGroup { group, head: _ } = read;
+            let HeadedGroup {
+                group,
+                head: _,
+                url: _,
+            } = read;
             Ok(group)
         }
         Ok(NextGroup::Nothing) => Err(damaged),

@@ -3,7 +3,7 @@ use Rattle.std.specs.Prelude.{◌≡◌, ◌<◌, ◌≤◌, ℕ, List, [], ⊤}
 use Rattle.capture.specs.Tails.{IsCommitted, IsTail}
 use Rattle.warc_scan.specs.Infos.{IsInfo}
 use Rattle.warc_scan.specs.Answers.{BeginsWithGroup, BeginsWithInfo}
-use Rattle.warc_scan.specs.Headed.{HasItsHead}
+use Rattle.warc_scan.specs.Headed.{HasItsParts}
 use Rattle.warc_scan.specs.declared.group.Group.{Group as GroupFound}
 use Rattle.warc_text.specs.StandsFor.{commit_byte}
 use Rattle.volume_scan.specs.declared.next.NextGroup.{NextGroup}
@@ -39,7 +39,7 @@ pub record HasInfoText (volume : ℕ) (namespace : List ℕ) (born len : ℕ) : 
 
 -- whatever a disk tells, a group that is answered is one
 abbrev pub FitsGroup : List ℕ → ℕ → ℕ → NextGroup → Type 0
-FitsGroup namespace number room (next_group.Group read) = HasGroupText namespace number room read.group × HasItsHead read
+FitsGroup namespace number room (next_group.Group read) = HasGroupText namespace number room read.group × HasItsParts read
 FitsGroup namespace number room next_group.Nothing = ⊤
 FitsGroup namespace number room next_group.Tail = ⊤
 FitsGroup namespace number room next_group.Damaged = ⊤

@@ -2,7 +2,7 @@
 ghost use Rattle.std.specs.Prelude.{◌≡◌, ◌≢◌, ◌+◌, ◌-◌, ◌<◌, ◌^◌, [], IfOk, IsTrue, OnOk, length};
 ghost use Rattle.warc_scan.specs.Answers.{BeginsWithGroup, BeginsWithInfo};
 ghost use Rattle.volume_scan.specs.steps.Next.{FitsGroup, FitsInfo, HasInfoText, IsNextGroup, IsNextInfo, IsFurther};
-ghost use Rattle.warc_scan.specs.Headed.{HasItsHead};
+ghost use Rattle.warc_scan.specs.Headed.{HasItsParts};
 ghost use Rattle.volume_scan.specs.Placed.{HasGroupText};
 ghost use Rattle.volume_scan.specs.Scannings.{Finds, IsHeaded, IsInPlace, captures_of, disk_of, file_count, files_in, position_of};
 ghost use Rattle.volume_scan.specs.steps.Moves.{Comes, Keeps, Moves};
@@ -155,7 +155,7 @@ impl<D: Disk> Scanning<D> {
         requires fewer { captures_of self.old < 2 ^ 32 - 1 }
         requires fits { HasGroupText (position_of self.old).namespace (captures_of self.old)
             (2 ^ 64 - 1 - (position_of self.old).extent.end) read.group }
-        requires headed { HasItsHead read }
+        requires headed { HasItsParts read }
         requires next { IsTrue D.tells → BeginsWithGroup (position_of self.old).namespace (captures_of self.old)
             (unread (position_of self.old) (files_in D.Disk self.old)) read.group }
         ensures finds { Finds D.Disk self.old self.new result }
