@@ -1,6 +1,7 @@
 -- An entry, as it is made of what is told of its capture.
-use Rattle.std.proofs.Common.{◌≡◌, ◌≢◌, ℕ, List, Option, Some, None, Result, Ok, Err, sym, ap, ◌∙◌}
-use Rattle.std.specs.Prelude.{codes, IfOk}
+use Rattle.std.proofs.Common.{◌≡◌, ◌≢◌, ℕ, Bool, true, false, not, List, bytes_eq, codes, Option, Some, None, Result, Ok, Err, refl, sym, ap, ◌∙◌}
+use Rattle.std.proofs.lemmas.Slice.Eq.{bytes_eq-Decides}
+use Rattle.std.specs.Prelude.{IfOk}
 use Rattle.httparse.specs.Grammar.{ResponseHead, status_code}
 use Rattle.capture.specs.Fields.{named_values}
 use Rattle.capture.specs.declared.captured.Stored.{Stored}
@@ -36,7 +37,7 @@ told_so stored head at key date uri mime status date_is uri_is mime_is status_is
   length = at.len;
 }
 
-enters_told : (stored : Stored) (head : ResponseHead) (at : RecordAt) (entry : Option Facts) → stored.method ≡ codes "GET" → status_code head ≢ 304
+pub enters_told : (stored : Stored) (head : ResponseHead) (at : RecordAt) (entry : Option Facts) → stored.method ≡ codes "GET" → status_code head ≢ 304
     → IsToldAs stored head at entry → EntersAs stored head at entry
 enters_told stored head at (Some entry) get changed told =
     let is = told.2 in
@@ -60,3 +61,11 @@ pub enters : {E : Type 0} (stored : Stored) (head : ResponseHead) (at : RecordAt
     → status_code head ≢ 304 → IfOk result (IsToldAs stored head at) → IfOk result (EntersAs stored head at)
 enters stored head at (Ok entry) get changed told = enters_told stored head at entry get changed told
 enters stored head at (Err fault) get changed told = tt
+
+-- a method that isn't another than GET
+same_unless_other : (b : Bool) → false ≡ not b → b ≡ true
+same_unless_other true is = refl
+same_unless_other false is = is
+
+pub is_get : (method get : List ℕ) → get ≡ codes "GET" → false ≡ not (bytes_eq method get) → method ≡ codes "GET"
+is_get method get is other = (bytes_eq-Decides method get).0 (same_unless_other (bytes_eq method get) other) ∙ is

@@ -1,12 +1,14 @@
 //! The entry of a capture in the index.
-ghost use Rattle.std.specs.Prelude.{◌≡◌, ℕ, List, codes, map, slice_get, option_copied, IfOk, ◌-◌, length};
+ghost use Rattle.std.specs.Prelude.{◌≡◌, ℕ, List, codes, map, slice_get, option_copied, IfOk, IfSome, Some, ◌-◌, length};
 ghost use Rattle.capture.specs.Fields.{named_values, values_of};
 ghost use Rattle.cdxj_index.specs.OfBook.{mime_by};
 ghost use Rattle.http_head.specs.Heads.{HoldsResponseParts, named_value};
 ghost use Rattle.httparse.specs.Grammar as grammar;
+ghost use Rattle.surt_key.specs.Key.{key_of as the_key_of};
 ghost use Rattle.time_text.specs.Texts.{InRange};
 ghost use Rattle.archive_volumes.specs.Entries.{EntersAs, IsAskedOf, IsToldAs};
 ghost use Rattle.capture.specs.Message.{IsResponseHeadText};
+ghost use Rattle.capture.specs.Target.{IsAcceptedAs};
 ghost use Rattle.archive_volumes.specs.Held.{book_of, stored_in};
 ghost use Rattle.archive_volumes.specs.Ready.{record_in, room_of};
 ghost use Rattle.archive_volumes.specs.Spots.{form_of, is_same_form, spot_of};
@@ -24,7 +26,8 @@ use disk_model::Disk;
 use http_head::{ResponseHead, WireFault, first_value, read_head};
 use short_text::ShortText;
 use std::alloc::Global;
-use surt_key::{KeyFault, key_of};
+use surt_key::{Key, KeyFault, key_of, key_of_url};
+use url::Url;
 
 /// The status of a response that has no body since the client has it: no capture with it is found by date.
 const NOT_MODIFIED: u16 = 304;
@@ -57,15 +60,17 @@ pub struct Asked<'s> {
     pub revisit: bool,
 }
 
-/// The entry of a capture; none where it isn't found by date, since it wasn't asked for by GET or its response is 304 (RFC
-/// 9110, section 15.4.5), or where its target has no key.
+/// The entry of a capture, whose target was parsed to this URL; none where it isn't found by date, since it wasn't asked for by
+/// GET or its response is 304 (RFC 9110, section 15.4.5).
 pub fn entry_of(
     alloc: Global,
     stored: &Stored,
+    url: &Url,
     head: &ResponseHead,
     at: RecordAt,
 ) -> Result<Option<Entry>, Memory>
     requires date { InRange stored.now.date }
+    requires target { IsAcceptedAs stored.now.uri url.now }
     requires parsed { (h : grammar.ResponseHead) × HoldsResponseParts stored.now.head h head.now }
     ensures { (text : List ℕ) (h : grammar.ResponseHead) → HoldsResponseParts text h head.now → IfOk result (EntersAs stored.now h at) }
 {
@@ -75,7 +80,7 @@ pub fn entry_of(
         date: stored.date,
         revisit: is_revisit(&stored.kept),
     };
-    entry_by(alloc, &asked, head, at)
+    entry_by(alloc, &asked, Some(url), head, at)
 }
 
 /// Whether another capture keeps the payload.
@@ -89,14 +94,17 @@ fn is_revisit(kept: &Kept) -> bool
     }
 }
 
-/// The entry of a capture of which this is told; none where it isn't found by date.
+/// The entry of a capture of which this is told, and of whose target the URL, where it was parsed; none where it isn't found by
+/// date, or where its target has no key.
 fn entry_by(
     alloc: Global,
     asked: &Asked,
+    url: Option<&Url>,
     head: &ResponseHead,
     at: RecordAt,
 ) -> Result<Option<Entry>, Memory>
     requires date { InRange asked.now.date }
+    requires target { IfSome (option_copied url) (IsAcceptedAs asked.now.uri.now) }
     requires parsed { (text : List ℕ) × (h : grammar.ResponseHead) × HoldsResponseParts text h head.now }
     ensures { (stored : Capture) (text : List ℕ) (h : grammar.ResponseHead) → IsAskedOf stored asked.now.method.now asked.now.uri.now asked.now.date asked.now.revisit
         → HoldsResponseParts text h head.now → IfOk result (EntersAs stored h at) }
@@ -107,7 +115,14 @@ fn entry_by(
     if head.status == NOT_MODIFIED {
         return Ok(None);
     }
-    told_entry(alloc, asked, head, at)
+    match url {
+        Some(url) => {
+            let key = key_of_url(alloc, url)?;
+            let entry = entry_with(alloc, asked, key, head, at)?;
+            Ok(Some(entry))
+        }
+        None => told_entry(alloc, asked, head, at),
+    }
 }
 
 /// The entry of a capture of which this is told, whether it is found by date or not; none where its target has no key.
@@ -127,7 +142,25 @@ pub fn told_entry(
         Err(KeyFault::NotHttp) => return Ok(None),
         Err(KeyFault::Memory) => return Err(Memory),
     };
-    Ok(Some(Entry {
+    let entry = entry_with(alloc, asked, key, head, at)?;
+    Ok(Some(entry))
+}
+
+/// The entry of a capture of which this is told, and whose target has this key.
+fn entry_with(
+    alloc: Global,
+    asked: &Asked,
+    key: Key,
+    head: &ResponseHead,
+    at: RecordAt,
+) -> Result<Entry, Memory>
+    requires date { InRange asked.now.date }
+    requires keyed { the_key_of asked.now.uri.now ≡ Some key }
+    requires parsed { (text : List ℕ) × (h : grammar.ResponseHead) × HoldsResponseParts text h head.now }
+    ensures { (stored : Capture) (text : List ℕ) (h : grammar.ResponseHead) → IsAskedOf stored asked.now.method.now asked.now.uri.now asked.now.date asked.now.revisit
+        → HoldsResponseParts text h head.now → IfOk result (λ entry. IsToldAs stored h at (Some entry)) }
+{
+    Ok(Entry {
         key,
         date: asked.date,
         number: at.number,
@@ -138,7 +171,7 @@ pub fn told_entry(
         volume: at.volume,
         offset: at.offset,
         length: at.len,
-    }))
+    })
 }
 
 /// The media type of an entry: that of a revisit is its own.
@@ -208,7 +241,7 @@ pub fn entry_for(
         revisit: ready.spot.form.is_same(),
     };
     match read_head(alloc, head) {
-        Ok(parts) => entry_by(alloc, &asked, &parts, at),
+        Ok(parts) => entry_by(alloc, &asked, None, &parts, at),
         Err(WireFault::Memory) => Err(Memory),
         Err(_) => unreachable!(),
     }
