@@ -8,7 +8,7 @@ ghost use Rattle.http_head.specs.Heads.{HoldsResponseParts};
 ghost use Rattle.time_text.specs.Texts.{InRange};
 ghost use Rattle.warc_journal.specs.Texts.{with_more};
 ghost use Rattle.volume_scan.specs.Scannings.{IsHeaded};
-ghost use Rattle.warc_scan.specs.Headed.{HasItsHead};
+ghost use Rattle.warc_scan.specs.Headed.{HasItsParts};
 ghost use Rattle.warc_scan.specs.Infos.{IsInfo};
 ghost use Rattle.warc_text.specs.Ids.{IsUuid};
 ghost use Rattle.archive_shelf.specs.Storing.{empty_book};
@@ -232,7 +232,7 @@ impl Gathered {
     fn take(&mut self, alloc: Global, place: Place, read: HeadedGroup) -> Result<(), Refusal>
         requires steady { IsSteady self.old }
         requires fits { FitsGroup self.old place read.group }
-        requires headed { HasItsHead read }
+        requires headed { HasItsParts read }
         ensures steady { OnOk result (IsSteady self.new) }
         ensures gathered { (known : Option BookValue) (texts : List (List ℕ)) (text : List ℕ) → IsGathered known self.old texts
             → IsGroupAt (book_of self.old.held) texts text place read.group → MayStand known (with_more texts text)
@@ -245,17 +245,16 @@ impl Gathered {
     {
         reading_laws();
         accepted_targets_have_keys();
-        let HeadedGroup { group, head } = read;
         let number = self.spots.len() as u32;
-        if passes_bounds(number, &place, &group) {
+        if passes_bounds(number, &place, &read.group) {
             return Err(Refusal::Damaged);
         }
-        settle_for(alloc, &mut self.table, &group)?;
-        let first = match self.original(&group, &head) {
+        settle_for(alloc, &mut self.table, &read.group)?;
+        let first = match self.original(&read.group, &read.head) {
             Ok(first) => first,
             Err(refusal) => return Err(refusal),
         };
-        let noted = match note(alloc, &place, group, first, &head) {
+        let noted = match note(alloc, &place, read, first) {
             Ok(noted) => noted,
             Err(Memory) => return Err(Refusal::Memory),
         };

@@ -1,16 +1,16 @@
 //! What is noted of a group that was found.
 ghost use Rattle.std.specs.Prelude.{◌≡◌, ◌+◌, ◌^◌, ◌<◌, IfOk, IsFalse, IsTrue};
-ghost use Rattle.http_head.specs.Heads.{HoldsResponse, HoldsResponseParts};
+ghost use Rattle.http_head.specs.Heads.{HoldsResponseParts};
 ghost use Rattle.httparse.specs.Grammar as grammar;
+ghost use Rattle.warc_scan.specs.Headed.{HasItsParts};
 ghost use Rattle.archive_opening.specs.Noting.{IsNoted, IsPast, IsSomeGroup, IsWithin, referring};
 
 use archive_volumes::{RecordAt, entry_of};
 use capture::{Digest, Kept, Memory, Stored, wires_have_one_payload};
 use cdxj_index::Entry;
-use http_head::ResponseHead;
 use std::alloc::Global;
 use warc_journal::Place;
-use warc_scan::Group;
+use warc_scan::{Group, HeadedGroup};
 
 /// One more than the greatest number that a capture may have.
 pub(crate) const NUMBER_BOUND: u32 = 4_294_967_294;
@@ -57,20 +57,20 @@ pub(crate) fn passes_bounds(number: u32, place: &Place, group: &Group) -> bool
     place.len >= TEXT_BOUND - place.at
 }
 
-/// What is noted of a group, whose capture has a head of these parts, and refers to this capture, if to any.
+/// What is noted of a group, whose capture refers to this one, if to any.
 pub(crate) fn note(
     alloc: Global,
     place: &Place,
-    group: Group,
+    read: HeadedGroup,
     first: Option<u32>,
-    head: &ResponseHead,
 ) -> Result<Noted, Memory>
-    requires found { IsSomeGroup group }
-    requires ends { place.now.at + group.len < 2 ^ 62 }
-    requires parsed { HoldsResponse group.stored.head head.now }
-    ensures { (h : grammar.ResponseHead) → HoldsResponseParts group.stored.head h head.now → IfOk result (IsNoted h place.now group first) }
+    requires found { IsSomeGroup read.group }
+    requires ends { place.now.at + read.group.len < 2 ^ 62 }
+    requires parsed { HasItsParts read }
+    ensures { (h : grammar.ResponseHead) → HoldsResponseParts read.group.stored.head h read.head → IfOk result (IsNoted h place.now read.group first) }
 {
     wires_have_one_payload();
+    let HeadedGroup { group, head, url } = read;
     let digest = group.digest;
     let at = RecordAt {
         number: group.number,
@@ -82,7 +82,7 @@ pub(crate) fn note(
     let head_at = place.at + group.head_at;
     let length = group.payload_len;
     let stored = refer(group.stored, first);
-    let entry = entry_of(alloc, &stored, head, at)?;
+    let entry = entry_of(alloc, &stored, &url, &head, at)?;
     Ok(Noted {
         stored,
         digest,
