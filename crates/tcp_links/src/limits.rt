@@ -21,6 +21,10 @@ pub struct Limits {
     pub origin: u64,
     /// For a peer to take some bytes of what is written to it.
     pub write: u64,
+    /// For a client to take some, while another connection waits to be read.
+    pub write_crowded: u64,
+    /// For one write of the system. Where it took some bytes and waits for room, it isn't told whether the peer takes any.
+    pub write_turn: u64,
     /// For all that an origin sends or a peer takes of one message, and a millisecond more for each byte of it.
     pub whole: u64,
     /// For the same, while another connection waits to be read.
@@ -50,7 +54,11 @@ pub struct Limits {
 ///   what trickles, and let a body of 64 MiB pass on any line that carries 1,000 bytes a second. Ten minutes are one
 ///   while a connection waits, so that streams without an end, as many as there are workers, don't stop a server.
 /// - An origin may compute for a minute before its first byte, as most proxies allow.
-/// - A peer that takes nothing for half a minute has gone.
+/// - A peer that takes nothing for half a minute has gone. While a connection waits it is five seconds for a client, so
+///   that clients which take nothing, as many as there are workers, don't stop a server. An origin may be busy with what
+///   it was sent.
+/// - A write that waits for room tells at its end how many bytes the system took at its beginning. So it waits a second
+///   at most, and what it took is no sign that the peer took some since.
 /// - An origin's addresses share a quarter of a minute, for which a person may wait for a page.
 /// - Two seconds after the last answer let it arrive before the connection is reset.
 /// - Where there is no room, a twentieth of a second lets workers close what they serve.
@@ -65,6 +73,8 @@ pub const LIMITS: Limits = Limits {
     request: 60_000,
     origin: 60_000,
     write: 30_000,
+    write_crowded: 5_000,
+    write_turn: 1_000,
     whole: 600_000,
     whole_crowded: 60_000,
     connect: 15_000,

@@ -28,6 +28,8 @@ const SHORT: Limits = Limits {
     request: 5_000,
     origin: 50,
     write: 50,
+    write_crowded: 50,
+    write_turn: 50,
     whole: 1_000,
     whole_crowded: 1_000,
     connect: 200,

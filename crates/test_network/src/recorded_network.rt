@@ -20,6 +20,8 @@ pub(crate) const LIMITS: Limits = Limits {
     request: 8_000,
     origin: 3_000,
     write: 2_000,
+    write_crowded: 1_500,
+    write_turn: 500,
     whole: 4_000,
     whole_crowded: 2_500,
     connect: 900,
@@ -47,13 +49,18 @@ pub(crate) enum Peer {
     Reset,
     /// It takes nothing.
     TakesNothing,
-    /// It takes a byte with each write, 1,900 milliseconds after it began.
+    /// It takes a byte each 1,400 milliseconds.
     TakesBytes,
+    /// It takes nothing, but its system takes so many bytes at once, and the write waits for room to its limit.
+    Keeps(usize),
     /// It can't be given limits of time.
     Odd,
     /// So many calls fail so, and then each gives or takes so many bytes at once.
     Fails(u32, ErrorKind, usize),
 }
+
+/// How often a peer takes a byte that does so now and then.
+const BYTE_MILLIS: u64 = 1_400;
 
 /// A socket that waits for nobody: what would wait moves its clock on, by its limit at most.
 #[derive(Clone, Copy)]
@@ -66,6 +73,8 @@ pub(crate) struct RecordedSocket {
     has_begun: bool,
     read_limit: u64,
     write_limit: u64,
+    /// When the last byte was taken, where bytes are taken now and then.
+    taken_at: u64,
 }
 
 impl RecordedSocket {
@@ -79,6 +88,7 @@ impl RecordedSocket {
             has_begun: false,
             read_limit: 0,
             write_limit: 0,
+            taken_at: 0,
         }
     }
 
@@ -110,6 +120,29 @@ impl RecordedSocket {
         self.peer = Peer::Fails(often - 1, kind, n);
         Err(Error::from(kind))
     }
+
+    /// What a write of so many bytes answers where a byte is taken now and then.
+    fn give_byte(&mut self, most: usize) -> io::Result<usize>
+        ensures { IfOk result (λ m. m ≤ most) }
+    {
+        let ready = self.taken_at.saturating_add(BYTE_MILLIS);
+        let n = self.after(
+            ready.saturating_sub(self.millis),
+            self.write_limit,
+            most.min(1),
+        )?;
+        self.taken_at = self.millis;
+        Ok(n)
+    }
+
+    /// What a write of so many bytes answers where the system takes some of them, and the peer none.
+    fn keep(&mut self, n: usize, most: usize) -> io::Result<usize>
+        ensures { IfOk result (λ m. m ≤ most) }
+    {
+        self.peer = Peer::TakesNothing;
+        let limit = self.write_limit;
+        self.after(limit, limit, n.min(most))
+    }
 }
 
 impl Read for RecordedSocket {
@@ -137,7 +170,8 @@ impl Write for RecordedSocket {
         self.has_begun = self.has_begun && !matches!(self.peer, Peer::Trickles(_));
         let (millis, n) = match self.peer {
             Peer::TakesNothing => (u64::MAX, 0),
-            Peer::TakesBytes => (1_900, buf.len().min(1)),
+            Peer::TakesBytes => return self.give_byte(buf.len()),
+            Peer::Keeps(n) => return self.keep(n, buf.len()),
             Peer::Fails(often, kind, n) => return self.failing(often, kind, n, buf.len()),
             _ => (0, buf.len()),
         };

@@ -74,7 +74,7 @@ impl<S: Socket> TcpLink<S> {
         S: Drop,
     {
         socket.send_at_once()?;
-        socket.limit_writes(limits.write)?;
+        socket.limit_writes(limits.write_turn)?;
         Ok(TcpLink {
             socket,
             limits: *limits,
@@ -83,7 +83,7 @@ impl<S: Socket> TcpLink<S> {
             to_read,
             to_write: limits.whole,
             reads_within: 0,
-            writes_within: limits.write,
+            writes_within: limits.write_turn,
             answered: false,
             ended: false,
             failed: false,
@@ -241,16 +241,44 @@ impl<S: Socket> TcpLink<S> {
         ensures some { IfOk result (λ n. 0 < n) }
         ensures fits { IfOk result (λ n. n ≤ length piece.now) }
     {
-        let whole = self.left_of_whole(self.to_write);
-        self.limit_writes(self.limits.write.min(whole))?;
+        let most = self.limits.write.min(self.left_of_whole(self.to_write));
         let start = self.socket.time()?;
-        let n = match write_some(&mut self.socket, piece) {
-            Ok(n) => n,
-            Err(error) => return Err(in_words(error)),
-        };
+        let n = self.write_by_turns(piece, most, start)?;
         self.to_write = left_after(self.to_write, millis_since(&mut self.socket, start)?, n);
         self.answered = true;
         Ok(n)
+    }
+
+    /// Writes once within so many milliseconds of a start, or until the peer is to give way to another connection, in
+    /// writes that wait for a turn each.
+    fn write_by_turns(&mut self, piece: &[u8], most: u64, start: Duration) -> io::Result<usize>
+        ensures some { IfOk result (λ n. 0 < n) }
+        ensures fits { IfOk result (λ n. n ≤ length piece.now) }
+    {
+        let turn = self.limits.write_turn;
+        let mut gone = 0;
+        for _ in 0..most {
+            self.limit_writes(turn.min(most.saturating_sub(gone)))?;
+            match write_some(&mut self.socket, piece) {
+                Ok(n) => return Ok(n),
+                Err(error) => {
+                    if error.kind() != ErrorKind::WouldBlock {
+                        return Err(error);
+                    }
+                }
+            }
+            gone = millis_since(&mut self.socket, start)?;
+            if gone >= most || self.gives_way_after(gone) {
+                break;
+            }
+        }
+        Err(io::Error::from(ErrorKind::TimedOut))
+    }
+
+    /// Whether a peer that took nothing for so many milliseconds is a client that gives way to another connection.
+    fn gives_way_after(&self, gone: u64) -> bool {
+        let is_client = self.awaited != Awaited::Response;
+        is_client && gone >= self.limits.write_crowded && self.place.is_crowded()
     }
 
     /// What is left for a message, which is given for where no other connection waits.
