@@ -8,7 +8,7 @@ use Rattle.outside.specs.declared.dialer.Transcript.{Transcript}
 use Rattle.outside.specs.declared.gate.Heard.{Heard}
 use Rattle.command.specs.Gates.{unheard}
 use Rattle.session.specs.Connection.{IsConnection, Setting}
-use Rattle.session.specs.Gains.{World, world_of}
+use Rattle.session.specs.Gains.{World}
 use Rattle.session.specs.declared.served.Served.{Served}
 
 -- What a member of the crew works with: a shelf, what the dialer tells of its links and how often it failed, and the clock's answers.
@@ -36,7 +36,13 @@ hands_of dialers clocks (shelf ∷ shelves) (member ∷ members) = hand_of diale
 module _ {S : Type 0} (alone : Bool) (told : S → Told) where
   -- what the objects of a connection tell, with what was heard of its client
   abbrev pub world_by : Heard → Hand S → World
-  world_by heard hand = world_of heard hand.answers hand.links hand.dialer_faults (told hand.shelf)
+  world_by heard hand = record {
+    heard = heard;
+    answers = hand.answers;
+    links = hand.links;
+    dialer_faults = hand.dialer_faults;
+    shelf = told hand.shelf;
+  }
 
   -- whatever the links tell, a member's shelf has gone on, and its dialer's count didn't fall
   abbrev pub WorksOn : Hand S → Hand S → Type 0

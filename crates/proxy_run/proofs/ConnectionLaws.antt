@@ -15,9 +15,9 @@ use Rattle.disk_model.specs.declared.disk.Disk.{Ghosts as Disks}
 use Rattle.command.proofs.OpeningLaws.{ids_differ}
 use Rattle.proxy_run.specs.Pipes.{pipe_terms}
 use Rattle.session.proofs.ImageLaws.{opens_more}
-use Rattle.session.specs.Exchanges.{Exchange, Fails, IsFailure, Passes}
-use Rattle.session.specs.Images.{HasAllIds, KeepsImages, OpensAtLast, OpensBehind, deed_of, deed_of_failure}
-use Rattle.session.specs.Rounds.{Exchanged, IsCourse, IsDecided, Outcome, Refused, Round, Undecided, Visited, disk_fault, disk_faults, is_disk_fault}
+use Rattle.session.specs.Exchanges.{Exchange, Fails, IsReply, Passes}
+use Rattle.session.specs.Images.{HasAllIds, KeepsImages, OpensAtLast, OpensBehind, deed_of}
+use Rattle.session.specs.Rounds.{Exchanged, IsCourse, IsDecided, Outcome, Refused, Round, Undecided, Visited, disk_fault, disk_faults}
 use Rattle.session.specs.Traces.{StaysView, Terms, Traces, View}
 use Rattle.warc_journal.specs.Journals.{disk_of}
 
@@ -42,18 +42,18 @@ stays_one : (terms : Terms) (traces : Traces) (Before : Book → Type 0) (x : Bo
 stays_one terms traces Before x stays one before = subst (λ (b : Book). SameBook x b) (sym stays.book) (one before)
 
 -- the book stays where no response is passed on
-failed_one : (terms : Terms) (e : Exchange) (refusal : Refusal) (traces : Traces) (Before : Book → Type 0) (x : Book) → IsFailure terms e refusal traces
-    → is_disk_fault refusal ≡ 0 → (Before x → SameBook x traces.before.book) → OpensBehind terms traces (deed_of_failure e refusal) Before x
+failed_one : (terms : Terms) (e : Exchange) (refusal : Refusal) (traces : Traces) (Before : Book → Type 0) (x : Book) → IsReply terms e (Fails refusal) traces
+    → disk_fault (Exchanged e (Fails refusal)) ≡ 0 → (Before x → SameBook x traces.before.book) → OpensBehind terms traces (deed_of (Exchanged e (Fails refusal))) Before x
     → SameBook x traces.after.book
-failed_one terms e (ClockRange now) traces Before x h none one o = stays_one terms traces Before x h.untouched one o
-failed_one terms e DialFault traces Before x h none one o = stays_one terms traces Before x h.untouched one o
-failed_one terms e OriginFault traces Before x h none one o = stays_one terms traces Before x h.untouched one o
-failed_one terms e OriginEnded traces Before x h none one o = stays_one terms traces Before x h.untouched one o
-failed_one terms e OriginMalformed traces Before x h none one o = stays_one terms traces Before x h.untouched one o
-failed_one terms e OriginTooLong traces Before x h none one o = stays_one terms traces Before x h.untouched one o
-failed_one terms e TooManyInterim traces Before x h none one o = stays_one terms traces Before x h.untouched one o
-failed_one terms e (Full count limit) traces Before x h none one o = stays_one terms traces Before x h.untouched one o
-failed_one terms e (Damaged number kept found) traces Before x h none one o = stays_one terms traces Before x h.0.untouched one o
+failed_one terms e (ClockRange now) traces Before x h none one o = stays_one terms traces Before x h.3 one o
+failed_one terms e DialFault traces Before x h none one o = stays_one terms traces Before x h.4 one o
+failed_one terms e OriginFault traces Before x h none one o = stays_one terms traces Before x h.1 one o
+failed_one terms e OriginEnded traces Before x h none one o = stays_one terms traces Before x h.1 one o
+failed_one terms e OriginMalformed traces Before x h none one o = stays_one terms traces Before x h.1 one o
+failed_one terms e OriginTooLong traces Before x h none one o = stays_one terms traces Before x h.1 one o
+failed_one terms e TooManyInterim traces Before x h none one o = stays_one terms traces Before x h.1 one o
+failed_one terms e (Full count limit) traces Before x h none one o = stays_one terms traces Before x h.5 one o
+failed_one terms e (Damaged number kept found) traces Before x h none one o = stays_one terms traces Before x h.3 one o
 failed_one terms e DiskFault traces Before x h none one o = absurd (omega (arith, none))
 failed_one terms e (NoSuch number count) traces Before x h none one o = absurd h
 failed_one terms e Malformed traces Before x h none one o = absurd h

@@ -15,7 +15,7 @@ use Rattle.archive_core.specs.Known.{by_checkpoints, told_at}
 use Rattle.archive_shelf.specs.declared.depth.Depth.TheVariants.{Checkpoints}
 use Rattle.proxy_run.proofs.PipeLaws.{faults_before, faults_behind}
 use Rattle.proxy_run.proofs.StatusLaws.{memory_told, said_by}
-use Rattle.session.specs.Rounds.{IsCourse}
+use Rattle.session.specs.Rounds.{IsCourse, is_closed}
 use Rattle.std.specs.Prelude.{IfSome}
 use Rattle.std.proofs.lemmas.Bool.{false≢true}
 use Rattle.command.proofs.SettlingLaws.{ready_consistent, ready_in, ready_known, ready_limits, ready_none, ready_tells}
@@ -30,7 +30,7 @@ use Rattle.session.specs.Gains.{gains_of}
 use Rattle.session.specs.OneCourse.{AreOneCourse, CoursesEndOneWay, CoursesLeaveNoChoice, WentWell}
 use Rattle.session.specs.Requests.{IsUndecided}
 use Rattle.session.specs.Rounds.{lacks}
-use Rattle.session.specs.Stopping.{Course, Ends, closes_course}
+use Rattle.session.specs.Stopping.{Course, Ends}
 use Rattle.session.specs.Traces.{View, view_of}
 use Rattle.session.specs.declared.served.Served.{Served}
 use Rattle.session.specs.declared.served.Served.TheVariants as served
@@ -51,7 +51,7 @@ whole_of served.WantOfMemory site c then now h other = absurd (other refl)
 
 -- and where the client's link didn't fail either, nothing that could be answered is left over
 all_of : (result : Served) (site : Site) (c : Course) (then now : Heard) → Ends result site c then now → now.faults ≡ 0 → lacks c.rounds ≡ false
-    → (closes_course c ≡ true) ⊎ IsUndecided site c.rest
+    → (is_closed c.served c.rounds ≡ true) ⊎ IsUndecided site c.rest
 all_of served.Done site c then now h ok whole = elim h.3 [
   | inl closed ↦ inl closed.closed
   | inr (met, between, left) ↦ inr left.undecided
@@ -157,9 +157,9 @@ pipes_one_way kinds entries one ends known namespace was is other status end pip
       served = refl;
       bytes = sym mine.given ∙ same.bytes ∙ its.given;
       times = append_cancel_left (kinds.clocks.answers was.crew.1) (gains_of mine.rounds).times (gains_of its.rounds).times
-          (sym (mine.gained.asked clock_tells a.clock) ∙ same.times ∙ its.gained.asked clock_tells b.clock);
+          (sym (mine.asked clock_tells a.clock) ∙ same.times ∙ its.asked clock_tells b.clock);
       transcripts = append_cancel_left (kinds.dialers.links was.crew.0).log (gains_of mine.rounds).transcripts (gains_of its.rounds).transcripts
-          (sym (ap (λ (l : Links Transcript). l.log) mine.gained.logged) ∙ same.transcripts ∙ ap (λ (l : Links Transcript). l.log) its.gained.logged);
+          (sym (ap (λ (l : Links Transcript). l.log) mine.logged) ∙ same.transcripts ∙ ap (λ (l : Links Transcript). l.log) its.logged);
     }) in
     let alike = ends pipe_site first second (seen_by kinds (record is { disk = was.disk }) (contents_of piped.after))
     (seen_by kinds (record other { disk = was.disk }) (contents_of also.after))

@@ -148,7 +148,7 @@ module _ {S : Type 0} (alone : Bool) (told : S → Told) (setting : Setting) whe
       → (told is.shelf).contents.mine ≡ (told was.shelf).contents.mine ++ numbers_of (rounds_in alone told setting was heards is shift)
   mine_on was [] is same = ap (λ (h : Hand S). (told h.shelf).contents.mine) same ∙ sym (append-nil (told was.shelf).contents.mine)
   mine_on was (heard ∷ heards) is shift =
-      let first = ap (λ (c : Contents). c.mine) shift.1.connection.gained.stored in
+      let first = ap (λ (c : Contents). c.mine) shift.1.connection.stored in
       let rest = mine_on shift.0 heards is shift.2 in
       rest ∙ (ap (λ ns. ns ++ numbers_of (rounds_in alone told setting shift.0 heards is shift.2)) first
       ∙ (append_assoc (told was.shelf).contents.mine (numbers_of shift.1.connection.rounds) (numbers_of (rounds_in alone told setting shift.0 heards is shift.2))

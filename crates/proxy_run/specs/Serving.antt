@@ -10,7 +10,6 @@ use Rattle.command.specs.Objects.{Around}
 use Rattle.command.specs.declared.status.Status.{Status}
 use Rattle.command.specs.declared.status.Status.TheVariants.{Done, Words, Archive, Outside, Memory}
 use Rattle.session.specs.Connection.{IsConnection, Setting}
-use Rattle.session.specs.Gains.{world_of}
 use Rattle.session.specs.declared.served.Served.{Served}
 use Rattle.session.specs.declared.served.Served.TheVariants as served
 
@@ -40,8 +39,9 @@ module _ (alone : Bool) (setting : Setting) where
     pub heard : Heard
     pub served : Served
     pub logged : is.connections ≡ one_served was.connections heard
-    pub connection : IsConnection alone setting (world_of unheard was.answers was.links was.dialer_faults shelf_was)
-        (world_of heard is.answers is.links is.dialer_faults shelf_is) served
+    pub connection : IsConnection alone setting
+        (record { heard = unheard; answers = was.answers; links = was.links; dialer_faults = was.dialer_faults; shelf = shelf_was })
+        (record { heard = heard; answers = is.answers; links = is.links; dialer_faults = is.dialer_faults; shelf = shelf_is }) served
     pub status_is : status ≡ status_of served
 
 -- why a gate gave no connection: it was closed, it failed, or there was no memory

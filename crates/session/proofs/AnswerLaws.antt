@@ -1,13 +1,12 @@
 -- What is known of a request when it is to be answered.
 use Rattle.std.proofs.Common.{◌≡◌, Ok, subst}
 use Rattle.capture.specs.declared.site.Site.{Site}
-use Rattle.exchange.specs.Aim.{HasShortHost}
+use Rattle.exchange.specs.Aim.{HasShortHost, aim_of}
 use Rattle.exchange.specs.Storing.{IsForOrigin}
 use Rattle.exchange.specs.declared.aim.Aim.{Aim}
 use Rattle.exchange.specs.declared.aim.Aim.TheVariants.{Origin}
 use Rattle.exchange.specs.declared.aim.Target.{Target}
 use Rattle.session.specs.steps.Reads.{IsWellAsked}
-use Rattle.session.specs.Requests.{aim_of_head}
 use Rattle.session.specs.declared.reading.Asked.{Asked}
 
 -- a request that was read, and goes to an origin
@@ -16,6 +15,6 @@ for_origin site asked target is h = record {
   site = site;
   stream = h.stream;
   request = h.request;
-  aim = subst (λ (aim : Aim). aim_of_head site asked.message.head ≡ Ok aim) is h.aimed;
+  aim = subst (λ (aim : Aim). aim_of site asked.message.head.method asked.message.head.target ≡ Ok aim) is h.aimed;
   host = subst HasShortHost is h.short;
 }

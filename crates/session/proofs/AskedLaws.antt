@@ -6,12 +6,12 @@ use Rattle.capture.specs.First.{Requests, Message, Refused, IsFirst, RefusesAtHe
 use Rattle.capture.specs.Message.{IsRequestHeadText}
 use Rattle.capture.specs.declared.framing.MessageFault.{MessageFault}
 use Rattle.http_wire.specs.Decisions.{FirstsAreOne}
+use Rattle.exchange.specs.Aim.{aim_of}
 use Rattle.exchange.specs.declared.aim.Aim.{Aim}
 use Rattle.exchange.specs.declared.aim.AimFault.{AimFault}
 use Rattle.http_head.specs.declared.head.RequestMessage.{RequestMessage}
 use Rattle.http_wire.specs.Messages.{IsRequest}
 use Rattle.session.specs.Complete.{RequestsAreNotRefused}
-use Rattle.session.specs.Requests.{aim_of_head}
 use Rattle.session.proofs.ReadLaws.{long_isnt_head, one_text, same_aim}
 
 -- a message that was read stands first in its bytes
@@ -48,6 +48,6 @@ not_refused one site wire message aim None refusal asked (inr (none, e)) =
     let same : message.head.text ≡ none.text = one_text wire message.head.text none.text asked.is.skipped none.skipped asked.is.front none.front in
     none.none asked.is.holds.0 (subst (λ (t : List ℕ). IsRequestHeadText t asked.is.holds.0) same asked.is.holds.1.reads)
 not_refused one site wire message aim (Some head) refusal asked (begins, inl nowhere) =
-    somewhere (aim_of_head site message.head) (aim_of_head site head) aim nowhere.fault asked.aimed nowhere.aimed (same_aim site wire head message begins asked.is)
+    somewhere (aim_of site message.head.method message.head.target) (aim_of site head.method head.target) aim nowhere.fault asked.aimed nowhere.aimed (same_aim site wire head message begins asked.is)
 not_refused one site wire message aim (Some head) refusal asked (begins, inr wrong) =
     message_isnt_refused _ wrong.fault (one Requests true wire _ _ (stands_first wire message asked.is) (refused_first wire wrong.fault wrong.refused))

@@ -17,8 +17,8 @@ use Rattle.http_head.specs.declared.head.Received.{Received}
 use Rattle.outside.specs.declared.dialer.Transcript.{Transcript}
 use Rattle.http_wire.specs.Decisions.{ArrivalsAreOne}
 use Rattle.session.specs.Complete.{IsFaultless, GaveResponse, CanBePassedOn, GetsResponse, ResponsesArePassedOn}
-use Rattle.session.specs.Exchanges.{Exchange, Reply, Fails, Passes, IsFailure, IsReply}
-use Rattle.session.specs.Rounds.{Round, Outcome, Exchanged, IsRound, IsDecided, IsTextOf, is_disk_fault, origin_fault, disk_fault, numbers_by}
+use Rattle.session.specs.Exchanges.{Exchange, Reply, Fails, Passes, IsReply}
+use Rattle.session.specs.Rounds.{Round, Outcome, Exchanged, IsRound, IsDecided, IsTextOf, origin_fault, disk_fault, numbers_by}
 use Rattle.session.specs.Traces.{Terms, Traces, CountsMet}
 
 -- ---- faults
@@ -100,28 +100,28 @@ gave_of terms e cut traces t can only = can.gave t (only_one traces.transcripts 
 
 no_failure : {P : Type 0} (terms : Terms) (e : Exchange) (cut : Bool) (refusal : Refusal) (traces : Traces) → ArrivalsAreOne → IsTrue terms.tells → IsFaultless traces
     → CountsMet (origin_fault (Exchanged e (Fails refusal))) traces.before.dialer_faults traces.after.dialer_faults
-    → CountsMet (is_disk_fault refusal) traces.before.disk_faults traces.after.disk_faults
-    → CanBePassedOn terms e cut traces → IsFailure terms e refusal traces → P
+    → CountsMet (disk_fault (Exchanged e (Fails refusal))) traces.before.disk_faults traces.after.disk_faults
+    → CanBePassedOn terms e cut traces → IsReply terms e (Fails refusal) traces → P
 no_failure terms e cut (ClockRange now) traces once tells whole origin disk can h =
-    absurd (h.past (can.in_range now (only_time traces.times now h.asked)))
+    absurd (h.1 (can.in_range now (only_time traces.times now h.0)))
 no_failure terms e cut DialFault traces once tells whole origin disk can h = rose_not _ _ origin.rose whole.dialer whole.dialer_counts
 no_failure terms e cut OriginFault traces once tells whole origin disk can h = rose_not _ _ origin.rose whole.dialer whole.dialer_counts
 no_failure terms e cut OriginEnded traces once tells whole origin disk can h =
-    head_needed_not e cut h.linked.t once (gave_of terms e cut traces h.linked.t can h.linked.only) h.linked.fetched.received.1
-no_failure terms e cut OriginMalformed traces once tells whole origin disk can h = elim h.linked.fetched.received [
-  | inl wrong ↦ refusal_not e cut h.linked.t message_fault.Malformed once (gave_of terms e cut traces h.linked.t can h.linked.only) wrong
-  | inr coded ↦ refusal_not e cut h.linked.t message_fault.CodingRefused once (gave_of terms e cut traces h.linked.t can h.linked.only) coded
+    head_needed_not e cut h.0.t once (gave_of terms e cut traces h.0.t can h.0.linked) h.0.fetched.received.1
+no_failure terms e cut OriginMalformed traces once tells whole origin disk can h = elim h.0.fetched.received [
+  | inl wrong ↦ refusal_not e cut h.0.t message_fault.Malformed once (gave_of terms e cut traces h.0.t can h.0.linked) wrong
+  | inr coded ↦ refusal_not e cut h.0.t message_fault.CodingRefused once (gave_of terms e cut traces h.0.t can h.0.linked) coded
 ]
-no_failure terms e cut OriginTooLong traces once tells whole origin disk can h = elim h.linked.fetched.received [
-  | inl head ↦ refusal_not e cut h.linked.t message_fault.HeadTooLong once (gave_of terms e cut traces h.linked.t can h.linked.only) head
-  | inr body ↦ refusal_not e cut h.linked.t message_fault.BodyTooLong once (gave_of terms e cut traces h.linked.t can h.linked.only) body
+no_failure terms e cut OriginTooLong traces once tells whole origin disk can h = elim h.0.fetched.received [
+  | inl head ↦ refusal_not e cut h.0.t message_fault.HeadTooLong once (gave_of terms e cut traces h.0.t can h.0.linked) head
+  | inr body ↦ refusal_not e cut h.0.t message_fault.BodyTooLong once (gave_of terms e cut traces h.0.t can h.0.linked) body
 ]
 no_failure terms e cut TooManyInterim traces once tells whole origin disk can h =
-    interims_not e cut h.linked.t once (gave_of terms e cut traces h.linked.t can h.linked.only) h.linked.fetched.received
+    interims_not e cut h.0.t once (gave_of terms e cut traces h.0.t can h.0.linked) h.0.fetched.received
 no_failure terms e cut (Full count limit) traces once tells whole origin disk can h =
-    let bad : ⊥ = omega (arith, h.full, h.limit_is, h.count_is, can.room) in absurd bad
+    let bad : ⊥ = omega (arith, h.4, h.3, h.2, can.room) in absurd bad
 no_failure terms e cut DiskFault traces once tells whole origin disk can h = rose_not _ _ disk.rose whole.disk whole.disk_counts
-no_failure terms e cut (Damaged number kept found) traces once tells whole origin disk can h = told_not_untold terms.tells tells h.1.untold
+no_failure terms e cut (Damaged number kept found) traces once tells whole origin disk can h = told_not_untold terms.tells tells h.2.untold
 no_failure terms e cut (NoSuch number count) traces once tells whole origin disk can h = absurd h
 no_failure terms e cut Malformed traces once tells whole origin disk can h = absurd h
 no_failure terms e cut TargetRefused traces once tells whole origin disk can h = absurd h

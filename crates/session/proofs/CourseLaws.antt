@@ -13,6 +13,7 @@ use Rattle.session.specs.steps.Wire.{Says}
 use Rattle.session.specs.steps.Stages.{Stage, IsRemainder, IsStep, terms_at}
 use Rattle.session.specs.Gains.{World, gains_of}
 use Rattle.session.specs.steps.Gaining.{gains_by}
+use Rattle.session.specs.Requests.{interim_of}
 use Rattle.session.specs.Rounds.{Round, Outcome, Undecided, Refused, Exchanged, Visited, closes, closes_outcome, course_text, course_wire, is_closed, lacks, refusal_in, refusals}
 use Rattle.session.specs.Stopping.{Course, Ends, IsClosed, IsCutInside, IsCutShort, IsLeftOver}
 use Rattle.session.specs.Traces.{terms_of}
@@ -82,9 +83,9 @@ module _ (served : ℕ) (r : Round) (rounds : List Round) (rest : List ℕ) (the
     begun = cut.begun;
     unread = cut.unread;
     are = cut.are;
-    interim = cut.interim;
-    asked = cut.asked;
-    part = part_behind (mid.written ++ course_text rounds) (then.written ++ ((r.interim ++ r.text) ++ course_text rounds)) now.written cut.interim
+    head = cut.head;
+    begins = cut.begins;
+    part = part_behind (mid.written ++ course_text rounds) (then.written ++ ((r.interim ++ r.text) ++ course_text rounds)) now.written (interim_of site cut.head)
         (behind_text then.written mid.written (r.interim ++ r.text) (course_text rounds) said.written) cut.part;
     unwritten = cut.unwritten ∙ ap one_more said.unfailed;
   }
@@ -187,6 +188,8 @@ whole_connection alone setting was is result c = record {
   given = c.accounts was.heard.given (sym (append-nil was.heard.given));
   lawful = c.lawful;
   ends = c.ends;
-  gained = c.gained;
+  asked = c.gained.asked;
+  logged = c.gained.logged;
+  stored = c.gained.stored;
   images = c.images;
 }

@@ -6,12 +6,13 @@ use Rattle.archive_shelf.specs.Laws.{BooksLeadToThemselves}
 use Rattle.capture.specs.declared.site.Site.{Site}
 use Rattle.outside.specs.Calls.{one_more}
 use Rattle.outside.specs.declared.gate.Heard.{Heard}
-use Rattle.session.specs.Connection.{Setting, Gained}
-use Rattle.session.specs.steps.Stages.{Stage, IsRemainder, terms_at, view_at}
+use Rattle.session.specs.Connection.{Setting}
+use Rattle.session.specs.steps.Stages.{Gained, Stage, IsRemainder, terms_at, view_at}
 use Rattle.session.specs.steps.Endings.{LastIsWhole, LastIsInPart, client_at, heard_now}
 use Rattle.session.specs.Gains.{World, gains_of}
 use Rattle.session.specs.steps.Gaining.{no_gains, gains_by}
 use Rattle.session.specs.steps.Reads.{BreaksInside, MeetsEnd, MeetsNoMore}
+use Rattle.session.specs.Requests.{interim_of}
 use Rattle.session.specs.Rounds.{Round, closes}
 use Rattle.session.specs.Stopping.{Ends, IsLeftOver}
 use Rattle.session.specs.Traces.{Terms, View, LeadsView}
@@ -113,9 +114,9 @@ broke_inside alone setting from now end itself h = record {
       begun = h.begun;
       unread = h.to.pending;
       are = refl;
-      interim = h.interim;
-      asked = h.asked;
-      part = part_behind h.to.heard.written (from.world.heard.written ++ []) now.written h.interim h.taken.said.written h.broke.part;
+      head = h.head;
+      begins = h.begins;
+      part = part_behind h.to.heard.written (from.world.heard.written ++ []) now.written (interim_of setting.site h.head) h.taken.said.written h.broke.part;
       unwritten = h.broke.unwritten ∙ ap one_more h.taken.said.unfailed;
     })),
   );

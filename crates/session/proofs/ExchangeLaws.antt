@@ -198,12 +198,7 @@ pub past_the_clock : (alone : Bool) (site : Site) (e : Exchange) (lacked : Bool)
     → IsEarlier shelf.crash → (InRange now → ⊥) → Replies alone site e lacked (Some (Fails (ClockRange now))) (clock_alone now faults) shelf shelf
 past_the_clock alone site e lacked now faults shelf earlier past =
     untouched alone site e lacked (Some (Fails (ClockRange now))) (clock_alone now faults) shelf earlier refl refl (none_met faults) (none_met shelf.faults)
-    (record {
-      asked = refl;
-      past = past;
-      none = refl;
-      untouched = record { book = refl; shown = shown_itself alone shelf.contents.shown };
-    })
+    (refl, past, refl, record { book = refl; shown = shown_itself alone shelf.contents.shown })
 
 -- there was no memory to compose the request
 pub unsent : (alone : Bool) (site : Site) (e : Exchange) (now faults : ℕ) (shelf : Told)

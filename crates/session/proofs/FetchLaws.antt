@@ -17,12 +17,12 @@ use Rattle.http_head.specs.declared.head.Received.{Received}
 use Rattle.outside.specs.Records.{Links}
 use Rattle.outside.specs.declared.dialer.Transcript.{Transcript}
 use Rattle.time_text.specs.Texts.{InRange}
-use Rattle.session.specs.Exchanges.{Exchange, Fails, IsFailure, WentInVain, asking_of}
+use Rattle.session.specs.Exchanges.{Exchange, Fails, Fetched, IsReply, asking_of}
 use Rattle.session.specs.steps.Declining.{Declines, Refuses, refusal_by_fetch}
 use Rattle.session.specs.steps.Exchanging.{Around, Asks, terms_in, traces_of}
-use Rattle.session.specs.Images.{NoDeed, deed_of_failure}
-use Rattle.session.specs.Rounds.{Exchanged, is_disk_fault, origin_fault}
-use Rattle.session.specs.Traces.{CountsMet}
+use Rattle.session.specs.Images.{NoDeed, deed_of}
+use Rattle.session.specs.Rounds.{Exchanged, disk_fault, origin_fault}
+use Rattle.session.specs.Traces.{CountsMet, StaysView}
 use Rattle.session.specs.steps.Givens.{Given}
 use Rattle.session.proofs.ExchangeLaws.{lacking_comes, refused_comes, untouched}
 use Rattle.session.proofs.GainLaws.{none_met}
@@ -64,13 +64,16 @@ module _ (alone : Bool) (site : Site) (e : Exchange) (closes : Bool) (date : ℕ
     (old new : Links Transcript) (before now : ℕ) (shelf : Told) (earlier : IsEarlier shelf.crash) (in_range : InRange date) (asks : Bool) (same : asks ≡ asks_for_head e.message.head.method) where
   -- what holds of the one link, by how it ended
   abbrev Vain : FetchFault → Transcript → Type 0
-  Vain fault t = WentInVain (terms_in alone site e shelf) e fault (traces_of alone site e (dialed date (t ∷ []) before now) shelf.contents.seen shelf shelf)
+  Vain fault t =
+      Fetched e (Err fault) (traces_of alone site e (dialed date (t ∷ []) before now) shelf.contents.seen shelf shelf)
+      × StaysView (terms_in alone site e shelf) (traces_of alone site e (dialed date (t ∷ []) before now) shelf.contents.seen shelf shelf).before
+      (traces_of alone site e (dialed date (t ∷ []) before now) shelf.contents.seen shelf shelf).after
 
   -- the link was hung up, and the request refused
-  vain : (fault : FetchFault) (refusal : Refusal) → LogsFetched (asking_of e) (Err fault) old new → deed_of_failure e refusal ≡ NoDeed
-      → CountsMet (origin_fault (Exchanged e (Fails refusal))) before now → is_disk_fault refusal ≡ 0
+  vain : (fault : FetchFault) (refusal : Refusal) → LogsFetched (asking_of e) (Err fault) old new → deed_of (Exchanged e (Fails refusal)) ≡ NoDeed
+      → CountsMet (origin_fault (Exchanged e (Fails refusal))) before now → disk_fault (Exchanged e (Fails refusal)) ≡ 0
       → ((t : Transcript) → Vain fault t
-      → IsFailure (terms_in alone site e shelf) e refusal (traces_of alone site e (dialed date (t ∷ []) before now) shelf.contents.seen shelf shelf))
+      → IsReply (terms_in alone site e shelf) e (Fails refusal) (traces_of alone site e (dialed date (t ∷ []) before now) shelf.contents.seen shelf shelf))
       → Refuses refusal asks closes result
       → Asks alone site e closes date result (record { links = old; faults = before; shelf = shelf }) (record { links = new; faults = now; shelf = shelf })
   vain fault refusal logs deed dialer none is refuses = record {
@@ -79,11 +82,10 @@ module _ (alone : Bool) (site : Site) (e : Exchange) (closes : Bool) (date : ℕ
     comes = refused_comes alone site e refusal asks closes (dialed date (logs.t ∷ []) before now) result shelf shelf same
         (λ lacked. untouched alone site e lacked (Some (Fails refusal)) (dialed date (logs.t ∷ []) before now) shelf earlier deed refl dialer
         (subst (λ (n : ℕ). CountsMet n shelf.faults shelf.faults) (sym none) (none_met shelf.faults))
-        (is logs.t (record {
-          timed = record { date = date; only = refl; in_range = in_range };
-          linked = record { t = logs.t; only = refl; fetched = logs.fetched };
-          untouched = record { book = refl; shown = shown_itself alone shelf.contents.shown };
-        }))) refuses;
+        (is logs.t (
+          record { date = date; timed = refl; in_range = in_range; t = logs.t; linked = refl; fetched = logs.fetched },
+          record { book = refl; shown = shown_itself alone shelf.contents.shown },
+        ))) refuses;
   }
 
   -- by the fault
@@ -95,11 +97,7 @@ module _ (alone : Bool) (site : Site) (e : Exchange) (closes : Bool) (date : ℕ
     logged = same_log old new logs;
     comes = refused_comes alone site e DialFault asks closes (dialed date [] before now) result shelf shelf same
         (λ lacked. untouched alone site e lacked (Some (Fails DialFault)) (dialed date [] before now) shelf earlier refl refl
-        (rose_met before now counts.1) (none_met shelf.faults) (record {
-          timed = record { date = date; only = refl; in_range = in_range };
-          none = refl;
-          untouched = record { book = refl; shown = shown_itself alone shelf.contents.shown };
-        })) fails;
+        (rose_met before now counts.1) (none_met shelf.faults) (date, refl, in_range, refl, record { book = refl; shown = shown_itself alone shelf.contents.shown })) fails;
   }
   fetch_failed fetch_fault.OriginFault logs counts fails =
       vain fetch_fault.OriginFault OriginFault logs refl (rose_met before now counts.1) refl (λ t h. h) fails
@@ -119,7 +117,7 @@ module _ (alone : Bool) (site : Site) (e : Exchange) (closes : Bool) (date : ℕ
         (stayed_met before now counts) (none_met shelf.faults) (
           refl,
           record {
-            begun = inr (inr (record { date = date; only = refl; in_range = in_range }, inl refl));
+            begun = inr (inl ((date, refl), refl));
             untouched = record { book = refl; shown = shown_itself alone shelf.contents.shown };
           },
         )) fails;
@@ -132,10 +130,7 @@ module _ (alone : Bool) (site : Site) (e : Exchange) (closes : Bool) (date : ℕ
         (stayed_met before now counts) (none_met shelf.faults) (
           refl,
           record {
-            begun = inr (inr (
-              record { date = date; only = refl; in_range = in_range },
-              inr (record { t = logs.t; only = refl; fetched = logs.fetched }),
-            ));
+            begun = inr (inr (record { date = date; timed = refl; in_range = in_range; t = logs.t; linked = refl; fetched = logs.fetched }));
             untouched = record { book = refl; shown = shown_itself alone shelf.contents.shown };
           },
         )) fails;

@@ -1,5 +1,5 @@
 -- Requests to the site that are answered.
-use Rattle.std.proofs.Common.{◌≡◌, inl, inr, ℕ, ◌<◌, ◌≤◌, Bool, true, false, IsTrue, List, length, Option, Some, None, sym, ◌∙◌, ap, subst, arith}
+use Rattle.std.proofs.Common.{◌≡◌, ◌⊎◌, inl, inr, ℕ, ◌<◌, ◌≤◌, Bool, true, false, IsTrue, List, length, Option, Some, None, sym, ◌∙◌, ap, subst, arith}
 use Rattle.std.specs.Prelude.{IsSome, MatchBool}
 use Rattle.capture.specs.Captures.{captures}
 use Rattle.capture.specs.declared.refusal.Refusal.{Refusal}
@@ -15,8 +15,8 @@ use Rattle.cdx_query.specs.declared.query.Query.{Query as CdxQuery}
 use Rattle.surt_key.specs.Key.{key_of}
 use Rattle.replay_url.proofs.OneForm.{one_form}
 use Rattle.session.specs.Complete.{IsFaultless, HasShown, HasWanted, IsAnswer, CapturesThatAreThereAreReplayed}
-use Rattle.session.specs.Rounds.{Outcome, Visited, IsDecided, IsTextOf, is_disk_fault, disk_fault}
-use Rattle.session.specs.SiteAnswers.{SiteRequest, SiteReply, Refuses, Redirects, Replays, Lists, Finds, Ships, HasNoMore, Asks, FindsNone, IsSoughtTime, NamesNoTime, IsDated, IsPast, IsRejected, IsSiteReply, date_field, serves_method}
+use Rattle.session.specs.Rounds.{Outcome, Visited, IsDecided, IsTextOf, disk_fault}
+use Rattle.session.specs.SiteAnswers.{SiteRequest, SiteReply, Refuses, Redirects, Replays, Lists, Finds, Ships, HasNoMore, Asks, FindsNone, IsSoughtTime, IsDated, IsRejected, IsSiteReply, date_field, serves_method}
 use Rattle.session.specs.Traces.{Terms, View, Traces, CountsMet}
 use Rattle.session.proofs.CompleteLaws.{rose_not, text_by, told_not_untold}
 
@@ -88,24 +88,21 @@ pub unserved : {P : Type 0} (b : Bool) → b ≡ true → b ≡ false → P
 unserved b t f = let bad : ⊥ = cc in absurd bad
 
 -- a gate whose field names a time
-gate_dated : {P : Type 0} (field : Option (List ℕ)) (time : ℕ) → IsSoughtTime None field time → NamesNoTime field → P
-gate_dated (Some value) time h none = absurd (none time h)
-gate_dated None time h none = absurd none
-
-pub dated : {P : Type 0} (q : SiteRequest) (form : Form) (url : List ℕ) → Asks q form → IsForm q.address (Gate url) → NamesNoTime (date_field q) → P
+pub dated : {P : Type 0} (q : SiteRequest) (form : Form) (url : List ℕ) → Asks q form → IsForm q.address (Gate url)
+    → ((time : ℕ) → IsSoughtTime None (date_field q) time → ⊥) → P
 dated q form url asks gate none =
     let same : form ≡ Gate url = one_form (parts_at q.address) form (Gate url) asks.is gate in
     let is : IsDated (question_of (Gate url)) (date_field q) = subst (λ (f : Form). IsDated (question_of f) (date_field q)) same asks.dated in
-    gate_dated (date_field q) is.0 is.1 none
+    absurd (none is.0 is.1)
 
 numbered : {P : Type 0} (q : SiteRequest) (view : View) (form : Form) (number : ℕ) → Asks q form → HasWanted view (question_of form)
-    → IsPast q view number → P
-numbered q view form number asks wanted (inl (other, past, none)) =
+    → (Asks q (Number number) × (length (captures view.book) ≤ number)) ⊎ (Asks q (Ship number) × (length (captures view.book) < number)) → P
+numbered q view form number asks wanted (inl (other, past)) =
     let same : form ≡ Number number = one_form (parts_at q.address) form (Number number) asks.is other.is in
     let below : number < length (captures view.book) = subst (λ (f : Form). HasWanted view (question_of f)) same wanted in
     let bad : ⊥ = omega (arith, below, past) in
     absurd bad
-numbered q view form number asks wanted (inr (other, past, none)) =
+numbered q view form number asks wanted (inr (other, past)) =
     let same : form ≡ Ship number = one_form (parts_at q.address) form (Ship number) asks.is other.is in
     let below : number ≤ length (captures view.book) = subst (λ (f : Form). HasWanted view (question_of f)) same wanted in
     let bad : ⊥ = omega (arith, below, past) in
@@ -134,7 +131,7 @@ found q view form asks wanted h =
       by_question (ForPiece number) there e = let bad : ⊥ = cc in absurd bad
 
 no_rejection : {P : Type 0} (terms : Terms) (q : SiteRequest) (refusal : Refusal) (traces : Traces) (form : Form) → IsTrue terms.tells → IsFaultless traces
-    → CountsMet (is_disk_fault refusal) traces.before.disk_faults traces.after.disk_faults
+    → CountsMet (disk_fault (Visited q (Refuses refusal))) traces.before.disk_faults traces.after.disk_faults
     → Asks q form → HasWanted traces.before (question_of form) → IsRejected terms q refusal traces.before → P
 no_rejection terms q MethodRefused traces form tells whole disk asks wanted h = unserved (serves_method q.message.head.method) asks.served h
 no_rejection terms q NotAForm traces form tells whole disk asks wanted h = formed (parts_at q.address) form asks.is h.1
@@ -144,7 +141,7 @@ no_rejection terms q BadQuery traces form tells whole disk asks wanted h = queri
 no_rejection terms q (NoSuch number count) traces form tells whole disk asks wanted h = numbered q traces.before form number asks wanted h.0
 no_rejection terms q NoCapture traces form tells whole disk asks wanted h = found q traces.before form asks wanted h
 no_rejection terms q DiskFault traces form tells whole disk asks wanted h = rose_not _ _ disk.rose whole.disk whole.disk_counts
-no_rejection terms q (Damaged at kept lost) traces form tells whole disk asks wanted h = told_not_untold terms.tells tells h.4.untold
+no_rejection terms q (Damaged at kept lost) traces form tells whole disk asks wanted h = told_not_untold terms.tells tells h.1.untold
 no_rejection terms q (ClockRange now) traces form tells whole disk asks wanted h = absurd h
 no_rejection terms q DialFault traces form tells whole disk asks wanted h = absurd h
 no_rejection terms q OriginFault traces form tells whole disk asks wanted h = absurd h

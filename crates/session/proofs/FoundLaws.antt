@@ -1,5 +1,5 @@
 -- What is found by its date, and what an address says of it.
-use Rattle.std.proofs.Common.{◌≡◌, ℕ, Bool, true, false, Result, Ok, Err, refl, sym, ◌∙◌}
+use Rattle.std.proofs.Common.{◌≡◌, inl, ℕ, Bool, true, false, List, Option, Some, None, Result, Ok, Err, refl, sym, ◌∙◌}
 use Rattle.archive_shelf.proofs.CallLaws.{same_tells, stays_tells}
 use Rattle.archive_shelf.specs.Answers.{Brings, is_bring_fault}
 use Rattle.archive_shelf.specs.Contents.{Contents, LeadsShown}
@@ -16,11 +16,17 @@ use Rattle.session.specs.steps.Answering.{AnswersVisit}
 use Rattle.session.specs.Connection.{Setting}
 use Rattle.session.specs.steps.Declining.{Declines, refusal_by_bring}
 use Rattle.session.specs.steps.Givens.{Given}
-use Rattle.session.specs.steps.Looking.{FindsJust}
-use Rattle.session.specs.SiteAnswers.{SiteRequest, Refuses, ReachesJust, IsReplayed}
+use Rattle.session.specs.steps.Looking.{FindsJust, NamesNoTime, ReachesJust}
+use Rattle.session.specs.SiteAnswers.{SiteRequest, Refuses, IsReplayed, IsSoughtTime}
 use Rattle.session.specs.Traces.{Terms}
 use Rattle.session.proofs.LookLaws.{found_answers, found_lacking_by, shown_on}
 use Rattle.session.proofs.VisitLaws.{refusal_is, told_damaged}
+
+-- ---- a field that names no time
+
+pub none_sought : (field : Option (List ℕ)) → NamesNoTime field → (time : ℕ) → IsSoughtTime None field time → ⊥
+none_sought (Some value) none time is = none time is
+none_sought None none time is = none
 
 -- ---- the capture that was found is brought
 
@@ -42,8 +48,7 @@ pub found_replayed : (terms : Terms) (alone : Bool) (q : SiteRequest) (sought : 
     → IsReplayed terms q (record { book = is.seen; shown = mid.shown; dialer_faults = faults; disk_faults = disk }) (ForNearest sought) brought
 found_replayed terms alone q sought number faults disk brought mid is h later (there, replayable, named, known, as_shown) same = record {
   number = number;
-  wants = record { wanted = h; there = there };
-  capture = refl;
+  wants = (h.entry, h.reaches, h.named, h.number_is, there);
   replayable = replayable;
   named = named;
   as_shown = λ entry shown. as_shown entry (shown_on alone mid.shown is.shown entry later shown);
@@ -60,15 +65,12 @@ found_unbrought alone setting q sought number (brings.NoSuch count) asks closes 
     found_there alone mid.contents is.contents q sought number count h.reaches reads.stays.shown b
 found_unbrought alone setting q sought number brings.DiskFault asks closes result was mid is earlier looks h same b reads declines =
     found_answers alone setting q (Refuses DiskFault) closes true result was mid is earlier looks h.knows reads refl
-    (λ faults. (ForNearest sought, number, record { wanted = h.reaches; there = b }))
+    (λ faults. inl (ForNearest sought, number, (h.reaches.entry, h.reaches.reaches, h.reaches.named, h.reaches.number_is, b)))
     (refusal_is result DiskFault asks (asks_for_head q.message.head.method) closes same declines.text_is) declines.closes_is
 found_unbrought alone setting q sought number (brings.Damaged at kept found) asks closes result was mid is earlier looks h same b reads declines =
     found_answers alone setting q (Refuses (Damaged at kept found)) closes false result was mid is earlier looks h.knows reads refl
     (λ faults. (
-      ForNearest sought,
-      number,
-      record { wanted = h.reaches; there = b.0 },
-      b.2,
+      inl (ForNearest sought, number, (h.reaches.entry, h.reaches.reaches, h.reaches.named, h.reaches.number_is, b.0), b.2),
       told_damaged _ _ kept found
           (stays_tells alone mid.contents is.contents reads.stays ∙ same_tells was.contents mid.contents looks.looks.others) b.3,
     ))

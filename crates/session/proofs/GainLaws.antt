@@ -7,7 +7,8 @@ use Rattle.outside.specs.Records.{Links}
 use Rattle.outside.specs.declared.dialer.Transcript.{Transcript}
 use Rattle.outside.specs.declared.gate.Heard.{Heard}
 use Rattle.session.specs.steps.Endings.{heard_now}
-use Rattle.session.specs.Connection.{Setting, Gained}
+use Rattle.session.specs.Connection.{Setting}
+use Rattle.session.specs.steps.Stages.{Gained}
 use Rattle.session.specs.Gains.{World, Gains}
 use Rattle.session.specs.steps.Gaining.{no_gains, both_gains}
 use Rattle.session.specs.Traces.{CountsMet}

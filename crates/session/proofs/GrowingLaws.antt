@@ -13,8 +13,8 @@ use Rattle.capture.specs.declared.captured.Stored.{Stored}
 use Rattle.capture.specs.declared.refusal.Refusal.{Refusal}
 use Rattle.capture.specs.declared.refusal.Refusal.TheVariants.{Malformed, TargetRefused, BadTime, BadAcceptDatetime, BadQuery, NotAForm, NoCapture, NoSuch, MethodRefused, BodyTooLong, HeadTooLong, ClockRange, ConnectRefused, SecureRefused, CodingRefused, DialFault, OriginFault, OriginEnded, OriginMalformed, OriginTooLong, TooManyInterim, Full, DiskFault, Damaged}
 use Rattle.http_head.specs.declared.head.Received.{Received}
-use Rattle.session.specs.Exchanges.{Exchange, Fails, Passes, IsFailure, IsRefusedByDisk, IsPassedOn}
-use Rattle.session.specs.Images.{Deed, NoDeed, Stores, IsDenied, deed_of, contents_at, NeedsIds}
+use Rattle.session.specs.Exchanges.{Exchange, Fails, Passes, IsRefusedByDisk, IsPassedOn, IsReply}
+use Rattle.session.specs.Images.{contents_at}
 use Rattle.session.specs.Laws.{CoursesGrow, CoursesShowOn, CoursesCountFaults, CoursesStayConsistent, IdsDifferOnTheWay}
 use Rattle.session.specs.Rounds.{Round, Outcome, Undecided, Refused, Exchanged, Visited, IsDecided, origin_fault, origin_faults, disk_fault, disk_faults}
 use Rattle.session.proofs.GainLaws.{met_both, none_met}
@@ -38,18 +38,18 @@ pub data Leaves (terms : Terms) (traces : Traces) : Type 0 where
   Denied : (e : Exchange) (refused : IsRefusedByDisk terms e traces) → Leaves terms traces
   Stored_it : (e : Exchange) (received : Received) (payload : List ℕ) (passed : IsPassedOn terms e received payload traces) → Leaves terms traces
 
-pub failure_leaves : (terms : Terms) (e : Exchange) (refusal : Refusal) (traces : Traces) → IsFailure terms e refusal traces
+pub failure_leaves : (terms : Terms) (e : Exchange) (refusal : Refusal) (traces : Traces) → IsReply terms e (Fails refusal) traces
     → StaysView terms traces.before traces.after ⊎ IsRefusedByDisk terms e traces
-failure_leaves terms e (ClockRange now) traces h = inl h.untouched
-failure_leaves terms e DialFault traces h = inl h.untouched
-failure_leaves terms e OriginFault traces h = inl h.untouched
-failure_leaves terms e OriginEnded traces h = inl h.untouched
-failure_leaves terms e OriginMalformed traces h = inl h.untouched
-failure_leaves terms e OriginTooLong traces h = inl h.untouched
-failure_leaves terms e TooManyInterim traces h = inl h.untouched
-failure_leaves terms e (Full count limit) traces h = inl h.untouched
+failure_leaves terms e (ClockRange now) traces h = inl h.3
+failure_leaves terms e DialFault traces h = inl h.4
+failure_leaves terms e OriginFault traces h = inl h.1
+failure_leaves terms e OriginEnded traces h = inl h.1
+failure_leaves terms e OriginMalformed traces h = inl h.1
+failure_leaves terms e OriginTooLong traces h = inl h.1
+failure_leaves terms e TooManyInterim traces h = inl h.1
+failure_leaves terms e (Full count limit) traces h = inl h.5
 failure_leaves terms e DiskFault traces h = inr h
-failure_leaves terms e (Damaged number kept found) traces h = inl h.0.untouched
+failure_leaves terms e (Damaged number kept found) traces h = inl h.3
 failure_leaves terms e (NoSuch number count) traces h = absurd h
 failure_leaves terms e Malformed traces h = absurd h
 failure_leaves terms e TargetRefused traces h = absurd h
@@ -115,17 +115,12 @@ fewer_ids laws a b grown ids =
     let few : length (captures a) ≤ length (captures b) = fewer laws a b grown in
     λ m n lm ln e. ids m n (omega (arith, few, lm)) (omega (arith, few, ln)) (rw grown.namespace e)
 
-ids_needed : (deed : Deed) (book : Book) → HasIds book → NeedsIds deed book
-ids_needed NoDeed book ids = tt
-ids_needed (Stores e received) book ids = ids
-ids_needed (IsDenied e) book ids = ids
-
 pub ids_differ : Growing → IdsDifferOnTheWay
 ids_differ laws terms served was [] is h ids = tt
 ids_differ laws terms served was (r ∷ rounds) is (lawful, leads, knows, last, others) ids = (
-  ids_needed (deed_of r.outcome) r.traces.before.book (fewer_ids laws r.traces.before.book is.book
+  λ some. fewer_ids laws r.traces.before.book is.book
       (laws.steps r.traces.before.book r.traces.after.book is.book (leaves_grows laws terms r.traces (decided_leaves terms r r.outcome lawful.decided))
-      (courses_grow laws terms (served + 1) r.traces.after rounds is others)) ids),
+      (courses_grow laws terms (served + 1) r.traces.after rounds is others)) ids,
   ids_differ laws terms (served + 1) r.traces.after rounds is others ids,
 )
 

@@ -1,5 +1,6 @@
 -- What images do in one step after another.
 use Rattle.std.proofs.Common.{◌≡◌, ◌⊎◌, inl, inr, ℕ, ◌≤◌, IsTrue, List, [], ◌∷◌, refl, ◌∙◌, ap, arith}
+use Rattle.std.proofs.lemmas.List.Elements.{Contains-append_left, Contains-append_right}
 use Rattle.archive_shelf.proofs.CallLaws.{no_more, opened_before}
 use Rattle.archive_shelf.specs.Openings.{IsEarlier, LeavesNoMore}
 use Rattle.archive_shelf.specs.Told.{Told}
@@ -37,7 +38,8 @@ pub images_both : (terms : Terms) (r : Round) (rounds : List Round) (was mid is 
 images_both terms r rounds was mid is h k = record {
   later = up was.crash.moment mid.crash.moment is.crash.moment h.later k.later;
   covered = λ t le c. k.covered t (up t was.crash.moment mid.crash.moment le h.later) (h.covered t le c);
-  reading = λ is_alone tells none. k.reading is_alone tells none.1 ∙ h.reading is_alone tells (none.0, tt);
+  reading = λ is_alone tells none. k.reading is_alone tells (λ x there. none x (Contains-append_right (r ∷ []) rounds x there))
+      ∙ h.reading is_alone tells (λ x there. none x (Contains-append_left (r ∷ []) rounds x there));
   checkpoints = λ is_alone tells. k.checkpoints is_alone tells ∙ h.checkpoints is_alone tells;
   opened = λ is_alone ids t x le o. passed_on (k.opened is_alone ids.1 t x (up t was.crash.moment mid.crash.moment le h.later) o)
       (λ p. h.opened is_alone (ids.0, tt) t x le p);

@@ -107,7 +107,7 @@ lost e received t h = record { host = h.host; port = h.port; sent = h.sent; rece
 module _ (alone : Bool) (site : Site) (e : Exchange) (closes : Bool) (date : ℕ) (received : Received) (around : Around)
     (in_range : InRange date) (come : HasCome e date received around) where
   -- a response has come, over these traces
-  abbrev fetched_in : (found : Book) (was is : Told) → Fetched e received (traces_of alone site e around found was is)
+  abbrev fetched_in : (found : Book) (was is : Told) → Fetched e (Ok received) (traces_of alone site e around found was is)
   fetched_in found was is = record {
     date = date;
     timed = come.timed;
@@ -128,10 +128,14 @@ module _ (alone : Bool) (site : Site) (e : Exchange) (closes : Bool) (date : ℕ
       (stayed_met around.faults_before around.faults_now come.steady) (none_met shelf.faults) (
         refl,
         record {
-          begun = inr (inr (
-            record { date = date; only = come.timed; in_range = in_range },
-            inr (record { t = come.t; only = come.linked; fetched = lost e received come.t come.fetched }),
-          ));
+          begun = inr (inr (record {
+            date = date;
+            timed = come.timed;
+            in_range = in_range;
+            t = come.t;
+            linked = come.linked;
+            fetched = lost e received come.t come.fetched;
+          }));
           untouched = record { book = refl; shown = shown_itself alone shelf.contents.shown };
         },
       )
@@ -152,15 +156,14 @@ module _ (alone : Bool) (site : Site) (e : Exchange) (closes : Bool) (date : ℕ
   full_reply count limit lacked was is earlier h =
       unwritten alone site e lacked (Some (Fails (Full count limit))) around was is earlier h.leaves.0
       (quiet_by (Err (store_fault.Full count limit)) was is h tt) refl refl
-      (stayed_met around.faults_before around.faults_now come.steady) (stayed_met was.faults is.faults h.faults)
-      (record {
-        received = received;
-        fetched = fetched_in is.contents.seen was is;
-        count_is = h.leaves.2;
-        limit_is = h.leaves.3;
-        full = omega (arith, h.leaves.1, h.leaves.2, h.leaves.3);
-        untouched = record { book = refl; shown = h.leaves.0.shown };
-      })
+      (stayed_met around.faults_before around.faults_now come.steady) (stayed_met was.faults is.faults h.faults) (
+        received,
+        fetched_in is.contents.seen was is,
+        h.leaves.2,
+        h.leaves.3,
+        omega (arith, h.leaves.1, h.leaves.2, h.leaves.3),
+        record { book = refl; shown = h.leaves.0.shown },
+      )
 
   -- an earlier capture is damaged
   damaged_reply : (number : ℕ) (kept : List ℕ) (found : Option (List ℕ)) (lacked : Bool) (was is : Told) → IsEarlier is.crash
@@ -170,12 +173,10 @@ module _ (alone : Bool) (site : Site) (e : Exchange) (closes : Bool) (date : ℕ
       unwritten alone site e lacked (Some (Fails (Damaged number kept found))) around was is earlier h.leaves.0
       (quiet_by (Err (store_fault.Damaged number kept found)) was is h tt) refl refl
       (stayed_met around.faults_before around.faults_now come.steady) (stayed_met was.faults is.faults h.faults) (
-        record {
-          room = room_in is.contents.seen was is h.leaves.1;
-          number_is = h.leaves.2;
-          untouched = record { book = refl; shown = h.leaves.0.shown };
-        },
+        room_in is.contents.seen was is h.leaves.1,
+        h.leaves.2,
         h.leaves.3,
+        record { book = refl; shown = h.leaves.0.shown },
       )
 
   -- there was no memory to store the capture
@@ -187,10 +188,14 @@ module _ (alone : Bool) (site : Site) (e : Exchange) (closes : Bool) (date : ℕ
       (stayed_met around.faults_before around.faults_now come.steady) (stayed_met was.faults is.faults h.faults) (
         refl,
         record {
-          begun = inr (inr (
-            record { date = date; only = come.timed; in_range = in_range },
-            inr (record { t = come.t; only = come.linked; fetched = lost e received come.t come.fetched }),
-          ));
+          begun = inr (inr (record {
+            date = date;
+            timed = come.timed;
+            in_range = in_range;
+            t = come.t;
+            linked = come.linked;
+            fetched = lost e received come.t come.fetched;
+          }));
           untouched = record { book = refl; shown = h.leaves.shown };
         },
       )

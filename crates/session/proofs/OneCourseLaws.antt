@@ -9,6 +9,7 @@ use Rattle.capture.specs.declared.refusal.Refusal.{Refusal}
 use Rattle.capture.specs.declared.refusal.Refusal.TheVariants.{DialFault}
 use Rattle.capture.specs.declared.site.Site.{Site}
 use Rattle.cdxj_index.specs.OfBook.{AreEntries}
+use Rattle.exchange.specs.Aim.{aim_of}
 use Rattle.exchange.specs.Refusals.{memory_text, refusal_text}
 use Rattle.exchange.specs.declared.aim.Aim.{Aim}
 use Rattle.exchange.specs.declared.aim.Aim.TheVariants.{Origin}
@@ -24,11 +25,11 @@ use Rattle.outside.specs.declared.gate.Heard.{Heard}
 use Rattle.session.specs.Exchanges.{Exchange, Reply, Fails, IsReply}
 use Rattle.session.specs.Gains.{gains_of}
 use Rattle.session.specs.OneCourse.{AreOneCourse, AreSameRounds, CoursesEndOneWay, CoursesLeaveNoChoice, IsSameRound, RoundWentWell, RoundsLeaveNoChoice, WentWell}
-use Rattle.session.specs.Requests.{IsAsked, IsBetween, IsInside, IsInterim, IsUndecided, aim_of_head, closes_after, interim_of}
+use Rattle.session.specs.Requests.{IsAsked, IsBetween, IsInside, IsInterim, IsUndecided, closes_after, interim_of}
 use Rattle.session.specs.Requests as requests
 use Rattle.session.specs.Rounds.{Round, Outcome, Undecided, Refused, Exchanged, Visited, IsCourse, IsDecided, IsRound, IsTextOf, closes, closes_outcome, course_text, course_wire, disk_fault, disk_faults, is_closed, lacks, origin_fault, origin_faults, refusal_in, refusals}
 use Rattle.session.specs.SiteAnswers.{SiteRequest, SiteReply, IsSiteReply}
-use Rattle.session.specs.Stopping.{Course, Ends, IsClosed, IsLeftOver, closes_course}
+use Rattle.session.specs.Stopping.{Course, Ends, IsClosed, IsLeftOver}
 use Rattle.session.specs.Traces.{CountsMet, IsConsistentView, IsIdle, LeadsView, Terms, View}
 use Rattle.session.specs.steps.Exchanging.{is_cut_off, reply_text}
 use Rattle.session.specs.declared.served.Served.{Served}
@@ -101,8 +102,8 @@ address_once a t s e d = cc
 origin_isnt_site : {P : Type 0} (a : Result Aim AimFault) (t : Target) (s : List ℕ) → a ≡ Ok (Origin t) → a ≡ Ok (ToSite s) → P
 origin_isnt_site a t s e d = let bad : ⊥ = cc in absurd bad
 
-aimed_as : (terms : Terms) (w : List ℕ) (m n : RequestMessage) (aim : Aim) → m ≡ n → IsAsked terms.site w m aim → aim_of_head terms.site n.head ≡ Ok aim
-aimed_as terms w m n aim same asked = ap (λ (x : RequestMessage). aim_of_head terms.site x.head) (sym same) ∙ asked.aimed
+aimed_as : (terms : Terms) (w : List ℕ) (m n : RequestMessage) (aim : Aim) → m ≡ n → IsAsked terms.site w m aim → aim_of terms.site n.head.method n.head.target ≡ Ok aim
+aimed_as terms w m n aim same asked = ap (λ (x : RequestMessage). aim_of terms.site x.head.method x.head.target) (sym same) ∙ asked.aimed
 
 exchange_same : (e d : Exchange) → e.message ≡ d.message → e.target ≡ d.target → e ≡ d
 exchange_same e d message target = λ i. record { message = message i; target = target i }
@@ -186,7 +187,7 @@ module _ (laws : Choosing) (terms : Terms) (served : ℕ) (tells : IsTrue terms.
   both_exchanged e d a b is also h k text too =
       let asked : SameAsked e.message d.message bytes left = one_asked laws.cutting r.wire s.wire bytes left e.message d.message given h.0.is k.0.is in
       let target : e.target ≡ d.target =
-      origin_once (aim_of_head terms.site d.message.head) e.target d.target (aimed_as terms r.wire e.message d.message (Origin e.target) asked.message h.0) k.0.aimed in
+      origin_once (aim_of terms.site d.message.head.method d.message.head.target) e.target d.target (aimed_as terms r.wire e.message d.message (Origin e.target) asked.message h.0) k.0.aimed in
       let exchange : e ≡ d = exchange_same e d asked.message target in
       let replied : IsReply terms d a r.traces = subst (λ (x : Exchange). IsReply terms x a r.traces) exchange h.1 in
       let disk : disk_fault (Exchanged d a) ≡ 0 = subst (λ (x : Exchange). disk_fault (Exchanged x a) ≡ 0) exchange (subst (λ (o : Outcome). disk_fault o ≡ 0) is rp.disk) in
@@ -214,7 +215,7 @@ module _ (laws : Choosing) (terms : Terms) (served : ℕ) (tells : IsTrue terms.
   both_visited q p a b is also h k text too =
       let asked : SameAsked q.message p.message bytes left = one_asked laws.cutting r.wire s.wire bytes left q.message p.message given h.0.is k.0.is in
       let address : q.address ≡ p.address =
-      address_once (aim_of_head terms.site p.message.head) q.address p.address (aimed_as terms r.wire q.message p.message (ToSite q.address) asked.message h.0) k.0.aimed in
+      address_once (aim_of terms.site p.message.head.method p.message.head.target) q.address p.address (aimed_as terms r.wire q.message p.message (ToSite q.address) asked.message h.0) k.0.aimed in
       let request : q ≡ p = request_same q p asked.message address in
       let own : IsSiteReply terms p a s.traces.before =
       subst (λ (v : View). IsSiteReply terms p a v) before (subst (λ (x : SiteRequest). IsSiteReply terms x a r.traces.before) request h.2) in
@@ -244,13 +245,13 @@ module _ (laws : Choosing) (terms : Terms) (served : ℕ) (tells : IsTrue terms.
       → IsAsked terms.site s.wire n (ToSite address) → P
   elsewhere m n target address h k =
       let asked : SameAsked m n bytes left = one_asked laws.cutting r.wire s.wire bytes left m n given h.is k.is in
-      origin_isnt_site (aim_of_head terms.site n.head) target address (aimed_as terms r.wire m n (Origin target) asked.message h) k.aimed
+      origin_isnt_site (aim_of terms.site n.head.method n.head.target) target address (aimed_as terms r.wire m n (Origin target) asked.message h) k.aimed
 
   elsewhere_too : {P : Type 0} (m n : RequestMessage) (target : Target) (address : List ℕ) → IsAsked terms.site r.wire m (ToSite address)
       → IsAsked terms.site s.wire n (Origin target) → P
   elsewhere_too m n target address h k =
       let asked : SameAsked m n bytes left = one_asked laws.cutting r.wire s.wire bytes left m n given h.is k.is in
-      origin_isnt_site (aim_of_head terms.site n.head) target address k.aimed (aimed_as terms r.wire m n (ToSite address) asked.message h)
+      origin_isnt_site (aim_of terms.site n.head.method n.head.target) target address k.aimed (aimed_as terms r.wire m n (ToSite address) asked.message h)
 
   two_rounds : (o p : Outcome) → r.outcome ≡ o → s.outcome ≡ p → IsDecided terms r o → IsDecided terms s p → IsTextOf terms served o r.text
       → IsTextOf terms served p s.text → Step
@@ -506,9 +507,9 @@ between_isnt_inside site stream between (inr awaits) =
 
 interim_once : (site : Site) (stream a b : List ℕ) → IsInterim site stream a → IsInterim site stream b → a ≡ b
 interim_once site stream a b (inl has) (inl also) =
-    has.text_is ∙ ap (interim_of site) (one_head stream has.head also.head has.begins also.begins) ∙ sym also.text_is
-interim_once site stream a b (inl has) (inr (none, e)) = absurd (none has.head has.begins)
-interim_once site stream a b (inr (none, e)) (inl has) = absurd (none has.head has.begins)
+    has.2 ∙ ap (interim_of site) (one_head stream has.0 also.0 has.1 also.1) ∙ sym also.2
+interim_once site stream a b (inl has) (inr (none, e)) = absurd (none has.0 has.1)
+interim_once site stream a b (inr (none, e)) (inl has) = absurd (none has.0 has.1)
 interim_once site stream a b (inr (none, e)) (inr (too, d)) = e ∙ sym d
 
 module _ (site : Site) (a b : Course) (is other : View) (then now also : Heard) (same : AreOneCourse a b is other) where
@@ -523,11 +524,11 @@ module _ (site : Site) (a b : Course) (is other : View) (then now also : Heard) 
       h.written ∙ ap (λ (t : List ℕ). then.written ++ (t ++ h.interim)) same.text
       ∙ ap (λ (t : List ℕ). then.written ++ (course_text b.rounds ++ t)) interim ∙ sym k.written
 
-  apart : {P : Type 0} → closes_course a ≡ true → closes_course b ≡ false → P
-  apart t f = true_isnt_false (closes_course b) (sym same.closed ∙ t) f
+  apart : {P : Type 0} → is_closed a.served a.rounds ≡ true → is_closed b.served b.rounds ≡ false → P
+  apart t f = true_isnt_false (is_closed b.served b.rounds) (sym same.closed ∙ t) f
 
-  apart_too : {P : Type 0} → closes_course a ≡ false → closes_course b ≡ true → P
-  apart_too f t = true_isnt_false (closes_course b) t (sym same.closed ∙ f)
+  apart_too : {P : Type 0} → is_closed a.served a.rounds ≡ false → is_closed b.served b.rounds ≡ true → P
+  apart_too f t = true_isnt_false (is_closed b.served b.rounds) t (sym same.closed ∙ f)
 
   done_alike : IsClosed a then now ⊎ ((now.ended ≡ true) × IsBetween a.rest × IsLeftOver site a then now)
       → IsClosed b then also ⊎ ((also.ended ≡ true) × IsBetween b.rest × IsLeftOver site b then also) → now.written ≡ also.written

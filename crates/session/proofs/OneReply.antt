@@ -1,5 +1,5 @@
 -- A request that goes to an origin is answered in one way, by what its link gave and when.
-use Rattle.std.proofs.Common.{◌≡◌, ◌⊎◌, inl, inr, ℕ, ◌<◌, Bool, IsTrue, List, [], ◌∷◌, ◌++◌, length, take, drop, Option, Some, None, Ok, refl, sym, ◌∙◌, ap, subst, arith}
+use Rattle.std.proofs.Common.{◌≡◌, ◌⊎◌, inl, inr, ℕ, ◌<◌, ◌≤◌, Bool, IsTrue, List, [], ◌∷◌, ◌++◌, length, take, drop, Option, Some, None, Ok, Err, refl, sym, ◌∙◌, ap, subst, arith}
 use Rattle.std.proofs.lemmas.List.{append_cancel_left}
 use Rattle.archive_shelf.proofs.CallLaws.{shown_same}
 use Rattle.archive_shelf.specs.Answers.{IsByRule}
@@ -29,8 +29,8 @@ use Rattle.http_wire.proofs.OneHead.{one_head as one_text, one_parse, one_skippe
 use Rattle.http_wire.specs.Decisions.{ArrivalsAreOne}
 use Rattle.http_wire.specs.Messages.{IsResponse}
 use Rattle.outside.specs.declared.dialer.Transcript.{Transcript}
-use Rattle.session.specs.Exchanges.{Exchange, Reply, Fails, Passes, Fetched, WasNotDialed, WentInVain, IsFailure, IsFull, IsPassedOn, IsPastTheClock, IsReply, taken_of}
-use Rattle.session.specs.Rounds.{is_disk_fault, disk_fault, Exchanged}
+use Rattle.session.specs.Exchanges.{Exchange, Reply, Fails, Passes, Fetched, IsPassedOn, IsReply, taken_of}
+use Rattle.session.specs.Rounds.{disk_fault, Exchanged}
 use Rattle.session.specs.Traces.{StaysView, Terms, Traces}
 use Rattle.session.proofs.CompleteLaws.{told_not_untold}
 use Rattle.session.proofs.OneRequest.{fields_once, version_once}
@@ -155,6 +155,28 @@ record InVain (terms : Terms) (e : Exchange) (refusal : Refusal) (traces : Trace
   pub unfailed : t.faults ≡ 0
   pub untouched : StaysView terms traces.before traces.after
 
+-- the clock's answer has no text, and nobody was dialed
+record IsPastTheClock (terms : Terms) (now : ℕ) (traces : Traces) : Type 0 where
+  pub asked : traces.times ≡ now ∷ []
+  pub past : InRange now → ⊥
+  pub none : traces.transcripts ≡ []
+  pub untouched : StaysView terms traces.before traces.after
+
+-- no link was made
+record WasNotDialed (terms : Terms) (traces : Traces) : Type 0 where
+  pub dated : Dated traces.times
+  pub none : traces.transcripts ≡ []
+  pub untouched : StaysView terms traces.before traces.after
+
+-- a response has come, but there are as many captures as there may be
+record IsFull (terms : Terms) (e : Exchange) (count limit : ℕ) (traces : Traces) : Type 0 where
+  pub received : Received
+  pub fetched : Fetched e (Ok received) traces
+  pub count_is : count ≡ length (captures traces.before.book)
+  pub limit_is : limit ≡ terms.limits.captures
+  pub full : limit ≤ count
+  pub untouched : StaysView terms traces.before traces.after
+
 -- the link to the origin failed
 record Broke (terms : Terms) (traces : Traces) : Type 0 where
   pub dated : Dated traces.times
@@ -173,53 +195,55 @@ data Went (terms : Terms) (e : Exchange) (reply : Reply) (traces : Traces) : Typ
   WasPassed : (received : Received) (payload : List ℕ) (is : reply ≡ Passes received payload) (passed : IsPassedOn terms e received payload traces)
       → Went terms e reply traces
 
-vain : (terms : Terms) (e : Exchange) (fault : FetchFault) (refusal : Refusal) (traces : Traces) (h : WentInVain terms e fault traces)
-    → Came (asks_for_head e.message.head.method) h.linked.t (Some refusal) → h.linked.t.faults ≡ 0 → InVain terms e refusal traces
-vain terms e fault refusal traces h came unfailed = record {
-  dated = record { date = h.timed.date; only = h.timed.only; in_range = h.timed.in_range };
-  t = h.linked.t;
-  linked = h.linked.only;
+vain : (terms : Terms) (e : Exchange) (fault : FetchFault) (refusal : Refusal) (traces : Traces) (h : Fetched e (Err fault) traces)
+    → StaysView terms traces.before traces.after → Came (asks_for_head e.message.head.method) h.t (Some refusal) → h.t.faults ≡ 0 → InVain terms e refusal traces
+vain terms e fault refusal traces h untouched came unfailed = record {
+  dated = record { date = h.date; only = h.timed; in_range = h.in_range };
+  t = h.t;
+  linked = h.linked;
   came = came;
   unfailed = unfailed;
-  untouched = h.untouched;
+  untouched = untouched;
 }
 
 one_met : {P : Type 0} → ◌≡◌ {A = ℕ} 1 0 → P
 one_met e = absurd (omega (arith, e))
 
-failure_went : (terms : Terms) (e : Exchange) (refusal : Refusal) (traces : Traces) → IsTrue terms.tells → is_disk_fault refusal ≡ 0
-    → IsFailure terms e refusal traces → Went terms e (Fails refusal) traces
-failure_went terms e (ClockRange now) traces tells disk h = PastTheClock now refl h
-failure_went terms e DialFault traces tells disk h = NotDialed refl h
+failure_went : (terms : Terms) (e : Exchange) (refusal : Refusal) (traces : Traces) → IsTrue terms.tells → disk_fault (Exchanged e (Fails refusal)) ≡ 0
+    → IsReply terms e (Fails refusal) traces → Went terms e (Fails refusal) traces
+failure_went terms e (ClockRange now) traces tells disk h = PastTheClock now refl (record { asked = h.0; past = h.1; none = h.2; untouched = h.3 })
+failure_went terms e DialFault traces tells disk h =
+    NotDialed refl (record { dated = record { date = h.0; only = h.1; in_range = h.2 }; none = h.3; untouched = h.4 })
 failure_went terms e OriginFault traces tells disk h =
     LinkBroke refl (record {
-      dated = record { date = h.timed.date; only = h.timed.only; in_range = h.timed.in_range };
-      t = h.linked.t;
-      linked = h.linked.only;
-      failed = h.linked.fetched.faults;
-      untouched = h.untouched;
+      dated = record { date = h.0.date; only = h.0.timed; in_range = h.0.in_range };
+      t = h.0.t;
+      linked = h.0.linked;
+      failed = h.0.fetched.faults;
+      untouched = h.1;
     })
 failure_went terms e OriginEnded traces tells disk h =
-    let came = h.linked.fetched.received in
-    AskedInVain OriginEnded refl (vain terms e _ OriginEnded traces h (record { arrival = Arrived came.1.0 HeadNeeded; is = came.1.1; why_is = refl }) h.linked.fetched.faults)
-failure_went terms e OriginMalformed traces tells disk h = elim h.linked.fetched.received [
-  | inl wrong ↦ AskedInVain OriginMalformed refl (vain terms e _ OriginMalformed traces h
-      (record { arrival = Arrived wrong.0 (RefusedFirst message_fault.Malformed); is = wrong.1; why_is = refl }) h.linked.fetched.faults)
-  | inr coded ↦ AskedInVain OriginMalformed refl (vain terms e _ OriginMalformed traces h
-      (record { arrival = Arrived coded.0 (RefusedFirst message_fault.CodingRefused); is = coded.1; why_is = refl }) h.linked.fetched.faults)
+    let came = h.0.fetched.received in
+    AskedInVain OriginEnded refl (vain terms e _ OriginEnded traces h.0 h.1 (record { arrival = Arrived came.1.0 HeadNeeded; is = came.1.1; why_is = refl }) h.0.fetched.faults)
+failure_went terms e OriginMalformed traces tells disk h = elim h.0.fetched.received [
+  | inl wrong ↦ AskedInVain OriginMalformed refl (vain terms e _ OriginMalformed traces h.0 h.1
+      (record { arrival = Arrived wrong.0 (RefusedFirst message_fault.Malformed); is = wrong.1; why_is = refl }) h.0.fetched.faults)
+  | inr coded ↦ AskedInVain OriginMalformed refl (vain terms e _ OriginMalformed traces h.0 h.1
+      (record { arrival = Arrived coded.0 (RefusedFirst message_fault.CodingRefused); is = coded.1; why_is = refl }) h.0.fetched.faults)
 ]
-failure_went terms e OriginTooLong traces tells disk h = elim h.linked.fetched.received [
-  | inl head ↦ AskedInVain OriginTooLong refl (vain terms e _ OriginTooLong traces h
-      (record { arrival = Arrived head.0 (RefusedFirst message_fault.HeadTooLong); is = head.1; why_is = refl }) h.linked.fetched.faults)
-  | inr body ↦ AskedInVain OriginTooLong refl (vain terms e _ OriginTooLong traces h
-      (record { arrival = Arrived body.0 (RefusedFirst message_fault.BodyTooLong); is = body.1; why_is = refl }) h.linked.fetched.faults)
+failure_went terms e OriginTooLong traces tells disk h = elim h.0.fetched.received [
+  | inl head ↦ AskedInVain OriginTooLong refl (vain terms e _ OriginTooLong traces h.0 h.1
+      (record { arrival = Arrived head.0 (RefusedFirst message_fault.HeadTooLong); is = head.1; why_is = refl }) h.0.fetched.faults)
+  | inr body ↦ AskedInVain OriginTooLong refl (vain terms e _ OriginTooLong traces h.0 h.1
+      (record { arrival = Arrived body.0 (RefusedFirst message_fault.BodyTooLong); is = body.1; why_is = refl }) h.0.fetched.faults)
 ]
 failure_went terms e TooManyInterim traces tells disk h =
-    AskedInVain TooManyInterim refl (vain terms e _ TooManyInterim traces h
-    (record { arrival = final.TooManyInterim; is = h.linked.fetched.received; why_is = refl }) h.linked.fetched.faults)
-failure_went terms e (Full count limit) traces tells disk h = WasFull count limit refl h
+    AskedInVain TooManyInterim refl (vain terms e _ TooManyInterim traces h.0 h.1
+    (record { arrival = final.TooManyInterim; is = h.0.fetched.received; why_is = refl }) h.0.fetched.faults)
+failure_went terms e (Full count limit) traces tells disk h =
+    WasFull count limit refl (record { received = h.0; fetched = h.1; count_is = h.2; limit_is = h.3; full = h.4; untouched = h.5 })
 failure_went terms e DiskFault traces tells disk h = one_met disk
-failure_went terms e (Damaged number kept found) traces tells disk h = told_not_untold terms.tells tells h.1.untold
+failure_went terms e (Damaged number kept found) traces tells disk h = told_not_untold terms.tells tells h.2.untold
 failure_went terms e (NoSuch number count) traces tells disk h = absurd h
 failure_went terms e Malformed traces tells disk h = absurd h
 failure_went terms e TargetRefused traces tells disk h = absurd h
@@ -316,7 +340,7 @@ dial_told terms e d reply other u v a b times transcripts dialed = of b where
 
   of : Went terms d other v → other ≡ Fails DialFault
   of (PastTheClock now is past) =
-      absurd (past.past (subst InRange (one_date v.times none.timed.date now (sym times ∙ none.timed.only) past.asked) none.timed.in_range))
+      absurd (past.past (subst InRange (one_date v.times none.dated.date now (sym times ∙ none.dated.only) past.asked) none.dated.in_range))
   of (NotDialed is h) = is
   of (LinkBroke is h) = some_isnt_none_linked h.t v.transcripts nothing h.linked
   of (AskedInVain refusal is h) = some_isnt_none_linked h.t v.transcripts nothing h.linked
@@ -398,7 +422,7 @@ module _ (laws : Answering) (terms : Terms) (e : Exchange) (u v : Traces) (times
   apart_too : {P : Type 0} (now : ℕ) → IsPastTheClock terms now v → (d : Dated u.times) → P
   apart_too now past d = absurd (past.past (subst InRange (first_is u.times v.times times later d.date now d.only past.asked timed) d.in_range))
 
-  fetched_dated : (received : Received) (traces : Traces) → Fetched e received traces → Dated traces.times
+  fetched_dated : (received : Received) (traces : Traces) → Fetched e (Ok received) traces → Dated traces.times
   fetched_dated received traces h = record { date = h.date; only = h.timed; in_range = h.in_range }
 
   -- a response came of one, and none of the other
@@ -460,7 +484,7 @@ module _ (laws : Answering) (terms : Terms) (e : Exchange) (u v : Traces) (times
       → SameReply terms.alone reply other u v times later transcripts further
   dialed_both reply other is also h k =
       same_stays reply other (is ∙ sym also)
-      (rest_is u.times v.times times later h.timed.date k.timed.date h.timed.only k.timed.only timed)
+      (time_rest h.dated k.dated)
       (none_is u.transcripts v.transcripts transcripts further h.none k.none linked) h.untouched k.untouched
 
   both_went : (reply other : Reply) → DialedAlike reply other → Went terms e reply u → Went terms e other v → SameReply terms.alone reply other u v times later transcripts further

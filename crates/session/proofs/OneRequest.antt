@@ -21,6 +21,7 @@ use Rattle.capture.specs.declared.framing.FramingFault.TheVariants as framing_fa
 use Rattle.capture.specs.declared.framing.MessageFault.{MessageFault}
 use Rattle.capture.specs.declared.refusal.Refusal.{Refusal}
 use Rattle.capture.specs.declared.site.Site.{Site}
+use Rattle.exchange.specs.Aim.{aim_of}
 use Rattle.exchange.specs.declared.aim.Aim.{Aim}
 use Rattle.exchange.specs.declared.aim.AimFault.{AimFault}
 use Rattle.exchange.specs.declared.aim.AimFault.TheVariants as aim_fault
@@ -36,7 +37,7 @@ use Rattle.http_wire.proofs.OneHead.{no_head_is_none, no_head_in_more, one_skipp
 use Rattle.http_wire.specs.Decisions.{FirstsAreOne, MessagesStay, RefusalsStay}
 use Rattle.http_wire.specs.Heads.{BeginsWithRequest}
 use Rattle.http_wire.specs.Messages.{IsRequest}
-use Rattle.session.specs.Requests.{IsAimRefusal, IsAimedNowhere, IsAsked, IsInterim, IsNoMessage, IsRefused, IsUndecided, aim_of_head, interim_of, refusal_of}
+use Rattle.session.specs.Requests.{IsAimRefusal, IsAimedNowhere, IsAsked, IsInterim, IsNoMessage, IsRefused, IsUndecided, interim_of, refusal_of}
 use Rattle.session.proofs.AskedLaws.{refused_first, somewhere, stands_first}
 use Rattle.session.proofs.ReadLaws.{long_isnt_head, one_text}
 
@@ -236,7 +237,7 @@ none_told stream head begins none =
 
 nowhere_once : (site : Site) (head : RequestHead) (a b : Refusal) → IsAimedNowhere site head a → IsAimedNowhere site head b → a ≡ b
 nowhere_once site head a b h k =
-    let same : h.fault ≡ k.fault = aim_fault_once (aim_of_head site head) h.fault k.fault h.aimed k.aimed in
+    let same : h.fault ≡ k.fault = aim_fault_once (aim_of site head.method head.target) h.fault k.fault h.aimed k.aimed in
     aim_refusal_once k.fault a b (subst (λ (f : AimFault). IsAimRefusal f a) same h.refusal_is) k.refusal_is
 
 wrong_once : FirstsAreOne → (site : Site) (stream : List ℕ) (head : RequestHead) (a b : Refusal) → IsNoMessage site stream head a
@@ -250,9 +251,9 @@ behind_head_once : FirstsAreOne → (site : Site) (stream : List ℕ) (head : Re
     → IsAimedNowhere site head a ⊎ IsNoMessage site stream head a → IsAimedNowhere site head b ⊎ IsNoMessage site stream head b → a ≡ b
 behind_head_once one site stream head a b (inl h) (inl k) = nowhere_once site head a b h k
 behind_head_once one site stream head a b (inl h) (inr k) =
-    somewhere (aim_of_head site head) (aim_of_head site head) k.aimed.0 h.fault k.aimed.1 h.aimed refl
+    somewhere (aim_of site head.method head.target) (aim_of site head.method head.target) k.aimed.0 h.fault k.aimed.1 h.aimed refl
 behind_head_once one site stream head a b (inr h) (inl k) =
-    somewhere (aim_of_head site head) (aim_of_head site head) h.aimed.0 k.fault h.aimed.1 k.aimed refl
+    somewhere (aim_of site head.method head.target) (aim_of site head.method head.target) h.aimed.0 k.fault h.aimed.1 k.aimed refl
 behind_head_once one site stream head a b (inr h) (inr k) = wrong_once one site stream head a b h k
 
 -- with which head, and why
@@ -297,7 +298,7 @@ asked_or_refused laws site w x m aim None b asked (inr (none, e)) =
     none_told (w ++ x) m.head (begins_stays laws.heads w x m.head (begins_of w m asked.is)) none
 asked_or_refused laws site w x m aim (Some head) b asked (begins, inl nowhere) =
     let same : m.head ≡ head = one_head (w ++ x) m.head head (begins_stays laws.heads w x m.head (begins_of w m asked.is)) begins in
-    somewhere (aim_of_head site m.head) (aim_of_head site head) aim nowhere.fault asked.aimed nowhere.aimed (ap (aim_of_head site) same)
+    somewhere (aim_of site m.head.method m.head.target) (aim_of site head.method head.target) aim nowhere.fault asked.aimed nowhere.aimed (ap (λ (h : RequestHead). aim_of site h.method h.target) same)
 asked_or_refused laws site w x m aim (Some head) b asked (begins, inr wrong) =
     message_isnt (length w) wrong.fault (laws.firsts Requests true (w ++ x) (Message (length w)) (RefusedFirst wrong.fault)
     (asked_first laws w x m true asked.is) (refused_first (w ++ x) wrong.fault wrong.refused))
@@ -355,8 +356,8 @@ decided_on one site stream (Some head) b (begins, why) (inl between) =
     absurd (no_head_is_none begins.skipped head.text (sym between.0 ∙ begins.front))
 decided_on one site stream (Some head) b (begins, why) (inr (inl needs)) = needs_no_head stream head.text begins.skipped needs begins.front
 decided_on one site stream (Some head) b (begins, inl nowhere) (inr (inr awaits)) =
-    somewhere (aim_of_head site awaits.0) (aim_of_head site head) awaits.2.0 nowhere.fault awaits.2.1 nowhere.aimed
-    (ap (aim_of_head site) (one_head stream awaits.0 head awaits.1 begins))
+    somewhere (aim_of site awaits.0.method awaits.0.target) (aim_of site head.method head.target) awaits.2.0 nowhere.fault awaits.2.1 nowhere.aimed
+    (ap (λ (h : RequestHead). aim_of site h.method h.target) (one_head stream awaits.0 head awaits.1 begins))
 decided_on one site stream (Some head) b (begins, inr wrong) (inr (inr awaits)) =
     fault_isnt wrong.fault (one Requests false stream (RefusedFirst wrong.fault) BodyNeeded (refused_first stream wrong.fault wrong.refused) awaits.3)
 
@@ -369,11 +370,11 @@ refused_is_decided laws site w x head b refused undecided =
 
 interim_behind : (site : Site) (stream : List ℕ) (head : RequestHead) (text : List ℕ) → BeginsWithRequest stream head → IsInterim site stream text
     → text ≡ interim_of site head
-interim_behind site stream head text begins (inl has) = has.text_is ∙ ap (interim_of site) (one_head stream has.head head has.begins begins)
+interim_behind site stream head text begins (inl has) = has.2 ∙ ap (interim_of site) (one_head stream has.0 head has.1 begins)
 interim_behind site stream head text begins (inr (none, e)) = absurd (none head begins)
 
 no_interim : (site : Site) (stream text : List ℕ) → ((head : RequestHead) → ¬ (BeginsWithRequest stream head)) → IsInterim site stream text → text ≡ []
-no_interim site stream text none (inl has) = absurd (none has.head has.begins)
+no_interim site stream text none (inl has) = absurd (none has.0 has.1)
 no_interim site stream text none (inr (also, e)) = e
 
 -- what bytes tell of it, by the head that they begin with

@@ -53,8 +53,8 @@ use Rattle.time_text.specs.Blanks.{trim_blanks}
 use Rattle.time_text.specs.Reading.{IsHttpDate}
 use Rattle.warc_text.specs.Growth.{NumbersHaveOneGroup}
 use Rattle.warc_text.specs.Records.{info_text}
-use Rattle.session.specs.Rounds.{Visited, is_disk_fault, disk_fault}
-use Rattle.session.specs.SiteAnswers.{SiteRequest, SiteReply, Refuses, Redirects, Replays, Lists, Finds, Ships, HasNoMore, Asks, FindsNone, IsRejected, IsSiteReply, IsSiteText, IsSoughtTime, IsWanted, NamesNoTime, Reaches, asks_for_capture, date_field, serves_method}
+use Rattle.session.specs.Rounds.{Visited, disk_fault}
+use Rattle.session.specs.SiteAnswers.{SiteRequest, SiteReply, Refuses, Redirects, Replays, Lists, Finds, Ships, HasNoMore, Asks, FindsNone, IsRejected, IsSiteReply, IsSiteText, IsSoughtTime, Reaches, Wants, date_field, serves_method}
 use Rattle.session.specs.Traces.{Terms, View}
 use Rattle.session.proofs.CompleteLaws.{told_not_untold}
 use Rattle.session.proofs.FormLaws.{dated, formed, timed, unserved}
@@ -225,7 +225,7 @@ data Answers (terms : Terms) (q : SiteRequest) (view : View) (reply : SiteReply)
   Timeless : (is : reply ≡ Refuses BadTime) (served : serves_method q.message.head.method ≡ true) (bad : BadTimeAt (parts_at q.address))
       → Answers terms q view reply
   Dateless : (is : reply ≡ Refuses BadAcceptDatetime) (served : serves_method q.message.head.method ≡ true) (url : List ℕ)
-      (gate : IsForm q.address (Gate url)) (none : NamesNoTime (date_field q)) → Answers terms q view reply
+      (gate : IsForm q.address (Gate url)) (none : (time : ℕ) → IsSoughtTime None (date_field q) time → ⊥) → Answers terms q view reply
   Asking : (form : Form) (asks : Asks q form) (follows : Follows terms q view (question_of form) reply) → Answers terms q view reply
 
 -- by the question of the form
@@ -252,12 +252,12 @@ one_met e = absurd (omega (arith, e))
 
 past_number : (terms : Terms) (q : SiteRequest) (view : View) (number count : ℕ) → IsRejected terms q (NoSuch number count) view
     → Answers terms q view (Refuses (NoSuch number count))
-past_number terms q view number count (inl (asks, past, none), is) =
+past_number terms q view number count (inl (asks, past), none, is) =
     Asking (Number number) asks (PastAll (ap (λ n. Refuses (NoSuch number n)) is) past)
-past_number terms q view number count (inr (asks, past, none), is) =
+past_number terms q view number count (inr (asks, past), none, is) =
     Asking (Ship number) asks (PastNext (ap (λ n. Refuses (NoSuch number n)) is) past)
 
-rejected : (terms : Terms) (q : SiteRequest) (refusal : Refusal) (view : View) → IsTrue terms.tells → is_disk_fault refusal ≡ 0
+rejected : (terms : Terms) (q : SiteRequest) (refusal : Refusal) (view : View) → IsTrue terms.tells → disk_fault (Visited q (Refuses refusal)) ≡ 0
     → IsRejected terms q refusal view → Answers terms q view (Refuses refusal)
 rejected terms q MethodRefused view tells disk h = Unserved refl h
 rejected terms q NotAForm view tells disk h = Formless refl h.0 h.1
@@ -267,7 +267,7 @@ rejected terms q BadQuery view tells disk h = Asking (Query h.0) h.1 (NoQuery re
 rejected terms q (NoSuch number count) view tells disk h = past_number terms q view number count h
 rejected terms q NoCapture view tells disk h = shows_none terms q view h
 rejected terms q DiskFault view tells disk h = one_met disk
-rejected terms q (Damaged at kept lost) view tells disk h = told_not_untold terms.tells tells h.4.untold
+rejected terms q (Damaged at kept lost) view tells disk h = told_not_untold terms.tells tells h.1.untold
 rejected terms q (ClockRange now) view tells disk h = absurd h
 rejected terms q DialFault view tells disk h = absurd h
 rejected terms q OriginFault view tells disk h = absurd h
@@ -285,29 +285,28 @@ rejected terms q SecureRefused view tells disk h = absurd h
 rejected terms q CodingRefused view tells disk h = absurd h
 
 replays : (terms : Terms) (q : SiteRequest) (view : View) (question : Question) (brought : Brought) → IsTrue terms.tells
-    → (number : ℕ) → IsWanted q view.shown question number → number < length (captures view.book) → asks_for_capture question ≡ true
-    → IsBrought view.book number brought → Answers terms q view (Replays question brought)
-replays terms q view (ForNumber wanted) brought tells number (asks, is) there capture right =
+    → (number : ℕ) → Wants q view question number → IsBrought view.book number brought → Answers terms q view (Replays question brought)
+replays terms q view (ForNumber wanted) brought tells number (asks, is, there) right =
     Asking (Number wanted) asks (GivenByNumber brought refl (omega (arith, is, there)) (subst (λ (n : ℕ). IsBrought view.book n brought) is right))
-replays terms q view (ForNearest sought) brought tells number reached there capture right =
-    asked terms q view (Replays (ForNearest sought) brought) reached.reaches.form (ForNearest sought) reached.reaches.asks reached.reaches.asked
-    (GivenByDate reached.entry brought refl reached.reaches reached.named (subst (λ (n : ℕ). IsBrought view.book n brought) reached.number_is right))
-replays terms q view (ForPiece wanted) brought tells number h there capture right = let bad : ⊥ = cc in absurd bad
-replays terms q view (ForAll url) brought tells number h there capture right = absurd h
-replays terms q view (ForQuery text) brought tells number h there capture right = absurd h
+replays terms q view (ForNearest sought) brought tells number (entry, reaches, named, number_is, there) right =
+    asked terms q view (Replays (ForNearest sought) brought) reaches.form (ForNearest sought) reaches.asks reaches.asked
+    (GivenByDate entry brought refl reaches named (subst (λ (n : ℕ). IsBrought view.book n brought) number_is right))
+replays terms q view (ForPiece wanted) brought tells number h right = absurd h
+replays terms q view (ForAll url) brought tells number h right = absurd h
+replays terms q view (ForQuery text) brought tells number h right = absurd h
 
 answered : (terms : Terms) (q : SiteRequest) (reply : SiteReply) (view : View) → IsTrue terms.tells → disk_fault (Visited q reply) ≡ 0
     → IsSiteReply terms q reply view → Answers terms q view reply
 answered terms q (Refuses refusal) view tells disk h = rejected terms q refusal view tells disk h
 answered terms q (Redirects sought entry) view tells disk h =
-    asked terms q view (Redirects sought entry) h.reaches.form (ForNearest sought) h.reaches.asks h.reaches.asked (LedOn entry refl h.reaches h.other)
+    asked terms q view (Redirects sought entry) h.0.form (ForNearest sought) h.0.asks h.0.asked (LedOn entry refl h.0 h.1)
 answered terms q (Replays question brought) view tells disk h =
-    replays terms q view question brought tells h.number h.wants.wanted h.wants.there h.capture (h.brought_is tells)
-answered terms q (Lists url entries) view tells disk h = Asking (Map url) h.asks (SomeListed entries refl h.key h.keyed h.picked h.some)
-answered terms q (Finds query found) view tells disk h = Asking (Query h.text) h.asks (Found_by query found refl h.is h.answers)
+    replays terms q view question brought tells h.number h.wants (h.brought_is tells)
+answered terms q (Lists url entries) view tells disk h = Asking (Map url) h.1 (SomeListed entries refl h.0 h.2 h.3 h.4)
+answered terms q (Finds query found) view tells disk h = Asking (Query h.0) h.1 (Found_by query found refl h.2 h.3)
 answered terms q (Ships number piece) view tells disk h =
-    Asking (Ship number) h.wants.wanted.0 (Shipped_it piece refl h.wants.there (h.piece_is tells))
-answered terms q (HasNoMore number) view tells disk h = Asking (Ship number) h.asks (NothingYet refl h.next)
+    Asking (Ship number) h.0 (Shipped_it piece refl h.1 (h.3 tells))
+answered terms q (HasNoMore number) view tells disk h = Asking (Ship number) h.0 (NothingYet refl h.1)
 
 -- ---- two answers
 

@@ -32,7 +32,7 @@ use Rattle.http_wire.specs.Reading.{Standing, Open, Failed, EndsInside}
 use Rattle.http_wire.specs.Reading.{IsUndecided as WireUndecided, LacksHead as WireLacksHead}
 use Rattle.outside.specs.declared.gate.Heard.{Heard}
 use Rattle.session.specs.steps.Reads.{Client, HasTaken, HasRead, AwaitsRest, ReadsNone, NoMore, Breaking, Refusing, GivingUp, Owes, ComesFaulty, IsBehind, IsWellAsked, LooksAt, ReadsBody, RefusesAim}
-use Rattle.session.specs.Requests.{IsAimed, IsAimedNowhere, IsInside, IsInterim, IsRefused, IsUndecided, aim_of_head, answers_head, continue_text, interim_of, refusal_of, waits_for_answer}
+use Rattle.session.specs.Requests.{IsAimed, IsAimedNowhere, IsInside, IsInterim, IsRefused, IsUndecided, answers_head, continue_text, interim_of, refusal_of, waits_for_answer}
 use Rattle.session.specs.steps.Wire.{EndsRefusal, Says, Tries, Writes}
 use Rattle.session.specs.declared.reading.Asked.{Asked}
 use Rattle.session.specs.declared.served.Served.{Served}
@@ -142,7 +142,7 @@ broke_behind site from stream window head now begins aimed undecided none accoun
   rest = stream;
   interim = interim_of site head;
   undecided = undecided_behind site stream head begins aimed undecided;
-  interim_is = inl (record { head = head; begins = begins; text_is = refl });
+  interim_is = inl ((head, begins, refl));
   taken = record { accounts = rw none at accounts; said = said };
   meets = broke;
 })
@@ -153,7 +153,7 @@ broke_behind site from stream window head now begins aimed undecided none accoun
 interim_known : (site : Site) (stream : List ℕ) (standing : Standing) (head : Option RequestHead) (interim : List ℕ) → standing ≢ Failed Memory
     → HoldsHead stream standing head → Owes site head interim → IsInterim site stream interim
 interim_known site stream standing None interim n holds owed = inr (no_head_lacks stream (wire_lacks stream standing n holds), owed)
-interim_known site stream standing (Some head) interim n holds owed = inl (record { head = head; begins = holds; text_is = owed.1 })
+interim_known site stream standing (Some head) interim n holds owed = inl ((head, holds, owed.1))
 
 goes_on_false : (framing : Framing) (stream : List ℕ) → BeginsBody framing true stream → BeginsBody framing false stream
 goes_on_false Empty stream h = absurd h
@@ -184,7 +184,7 @@ not_memory fault standing e n f = n cc
 
 -- the head is the one that was looked at
 pub still_owed : (site : Site) (old new : Option RequestHead) (head : RequestHead) (aim : Aim) → old ≡ Some head → new ≡ old
-    → aim_of_head site head ≡ Ok aim → Owes site new (interim_of site head)
+    → aim_of site head.method head.target ≡ Ok aim → Owes site new (interim_of site head)
 still_owed site old new head aim e same aimed =
     subst (λ (o : Option RequestHead). Owes site o (interim_of site head)) (sym (same ∙ e)) ((aim, aimed), refl)
 
@@ -251,7 +251,7 @@ out_of_memory site from stream interim standing (Some head) to now holds owed h 
       wire = stream;
       interim = interim;
       begun = inr (inl (head, holds, owed.0));
-      interim_is = inl (inl (record { head = head; begins = holds; text_is = owed.1 }));
+      interim_is = inl (inl ((head, holds, owed.1)));
       to = record { heard = to; pending = parts.0 };
       taken = record { accounts = parts.1; said = h.said };
       tries = tries;
@@ -303,7 +303,7 @@ turned_away site from stream interim standing head fault refusal asks to now end
 
 -- a head that goes nowhere, or for which there was no memory
 pub aim_ends : (site : Site) (head : RequestHead) (fault : AimFault) (asks : Bool) (before now : Heard) (end : Served)
-    → IsAim (aim_of_head site head) (Err fault) → asks ≡ asks_for_head head.method → RefusesAim fault asks before now end
+    → IsAim (aim_of site head.method head.target) (Err fault) → asks ≡ asks_for_head head.method → RefusesAim fault asks before now end
     → LooksAt site head before now (Err end)
 aim_ends site head aim_fault.ConnectRefused asks before now end is asked h =
     inl (
@@ -327,7 +327,7 @@ aim_ends site head aim_fault.Memory asks before now end is asked h = inr (inl h)
 
 -- a head that goes nowhere asks for nothing
 nowhere_asks : (site : Site) (head : RequestHead) (refusal : Refusal) → IsAimedNowhere site head refusal → interim_of site head ≡ []
-nowhere_asks site head refusal h = by_aim (aim_of_head site head) (waits_for_answer head) h.fault h.aimed where
+nowhere_asks site head refusal h = by_aim (aim_of site head.method head.target) (waits_for_answer head) h.fault h.aimed where
   by_aim : (aim : Result Aim AimFault) (waits : Bool) (fault : AimFault) → aim ≡ Err fault → (if is_ok aim && waits then continue_text else []) ≡ []
   by_aim (Err fault) waits f e = refl
   by_aim (Ok aim) waits f e = absurd (cc)
@@ -343,7 +343,7 @@ looked_ends site from stream pending head before now end begins taken (inl (refu
   wire = stream;
   interim = [];
   refused = (begins, inl nowhere);
-  interim_is = inl (record { head = head; begins = begins; text_is = sym (nowhere_asks site head refusal nowhere) });
+  interim_is = inl ((head, begins, sym (nowhere_asks site head refusal nowhere)));
   to = record { heard = before; pending = pending };
   taken = taken;
   ends = ends;
@@ -360,8 +360,8 @@ looked_ends site from stream pending head before now end begins taken (inr (inl 
 })
 looked_ends site from stream pending head before now end begins taken (inr (inr (aimed, broke, e))) = Breaking (record {
   begun = stream;
-  interim = interim_of site head;
-  asked = record { head = head; begins = begins; text_is = refl };
+  head = head;
+  begins = begins;
   to = record { heard = before; pending = pending };
   taken = taken;
   broke = broke;
@@ -396,7 +396,7 @@ faulty_behind site from mid stream grown head aim now h accounts same = record {
 
 -- a head goes where another goes that has the same text
 pub same_aim : (site : Site) (stream : List ℕ) (head : RequestHead) (message : RequestMessage) → BeginsWithRequest stream head → IsRequest stream message
-    → aim_of_head site message.head ≡ aim_of_head site head
+    → aim_of site message.head.method message.head.target ≡ aim_of site head.method head.target
 same_aim site stream head message begins is =
     let text : message.head.text ≡ head.text = one_text stream message.head.text head.text is.skipped begins.skipped is.front begins.front in
     let own = is.holds.1 in
@@ -415,7 +415,7 @@ read_whole site from mid stream grown head aim message to h begins is accounts s
   wire = grown;
   interim = interim_of site head;
   asked = record { is = is; aimed = same_aim site grown head message begins is ∙ h.aimed };
-  interim_is = inl (record { head = head; begins = begins; text_is = refl });
+  interim_is = inl ((head, begins, refl));
   taken = record { accounts = λ done e. accounts done (h.taken.accounts done e); said = says_same _ _ _ _ h.taken.said same };
 }
 
@@ -428,7 +428,7 @@ read_without_memory site from mid stream grown head aim to now h begins accounts
   wire = grown;
   interim = interim_of site head;
   begun = inr (inl (head, begins, (aim, h.aimed)));
-  interim_is = inl (inl (record { head = head; begins = begins; text_is = refl }));
+  interim_is = inl (inl ((head, begins, refl)));
   to = to;
   taken = record { accounts = λ done e. accounts done (h.taken.accounts done e); said = says_same _ _ _ _ h.taken.said same };
   tries = tries;
@@ -446,7 +446,7 @@ body_broke site from mid stream grown window head aim now h begins undecided non
 
 -- a head that was looked at
 pub looked : (site : Site) (from : Client) (stream pending : List ℕ) (head : RequestHead) (aim : Aim) (before now : Heard)
-    → BeginsWithRequest stream head → HasTaken from stream [] (record { heard = before; pending = pending }) → aim_of_head site head ≡ Ok aim
+    → BeginsWithRequest stream head → HasTaken from stream [] (record { heard = before; pending = pending }) → aim_of site head.method head.target ≡ Ok aim
     → Writes (interim_of site head) before now → AwaitsRest site from stream head aim (record { heard = now; pending = pending })
 looked site from stream pending head aim before now begins taken aimed w = record {
   begins = begins;
@@ -511,7 +511,7 @@ pub open_is_whole : (standing : Standing) → standing ≡ Open → standing ≢
 open_is_whole standing e f = cc
 
 -- a fault of which a head came, that goes somewhere
-pub owes_held : (site : Site) (held : Option RequestHead) (head : RequestHead) (aim : Aim) → held ≡ Some head → aim_of_head site head ≡ Ok aim
+pub owes_held : (site : Site) (held : Option RequestHead) (head : RequestHead) (aim : Aim) → held ≡ Some head → aim_of site head.method head.target ≡ Ok aim
     → Owes site held (interim_of site head)
 owes_held site held head aim e aimed = subst (λ (o : Option RequestHead). Owes site o (interim_of site head)) (sym e) ((aim, aimed), refl)
 
@@ -527,6 +527,6 @@ behind stream old new standing (Ok message) holds same is = λ head e. record {
 behind stream old new standing (Err end) holds same is = tt
 
 -- what was read of a head that was looked at is well asked
-pub well_asked : (site : Site) (asked : Asked) (head : RequestHead) → IsBehind head asked.message → aim_of_head site head ≡ Ok asked.aim → HasShortHost asked.aim
+pub well_asked : (site : Site) (asked : Asked) (head : RequestHead) → IsBehind head asked.message → aim_of site head.method head.target ≡ Ok asked.aim → HasShortHost asked.aim
     → IsWellAsked site asked
 well_asked site asked head h aimed short = record { stream = h.stream; request = h.request; aimed = h.same_aim site ∙ aimed; short = short }

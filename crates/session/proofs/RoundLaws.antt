@@ -4,8 +4,8 @@ use Rattle.archive_shelf.proofs.CallLaws.{shown_itself}
 use Rattle.archive_shelf.specs.Laws.{BooksLeadToThemselves}
 use Rattle.archive_shelf.specs.Told.{Told}
 use Rattle.capture.specs.declared.book.Book.{Book}
-use Rattle.session.specs.Connection.{Setting, Gained}
-use Rattle.session.specs.steps.Stages.{Stage, IsRemainder, IsMade, terms_at, view_at}
+use Rattle.session.specs.Connection.{Setting}
+use Rattle.session.specs.steps.Stages.{Gained, Stage, IsRemainder, IsMade, terms_at, view_at}
 use Rattle.session.specs.steps.Endings.{client_at, heard_now}
 use Rattle.session.specs.Gains.{World, Gains}
 use Rattle.session.specs.steps.Gaining.{no_gains, gains_by}

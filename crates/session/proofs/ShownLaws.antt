@@ -10,18 +10,18 @@ use Rattle.capture.specs.declared.refusal.Refusal.TheVariants.{NoSuch}
 use Rattle.archive_shelf.specs.Answers.{IsBrought}
 use Rattle.session.specs.Laws.{FoundCapturesAreReplayed, ShownNumbersAreThere}
 use Rattle.session.specs.Rounds.{Round, Outcome, IsCourse, IsDecided, Visited}
-use Rattle.session.specs.SiteAnswers.{SiteRequest, IsPast, Refuses, HasNoMore}
+use Rattle.session.specs.SiteAnswers.{SiteRequest, Refuses, HasNoMore}
 use Rattle.session.specs.Traces.{Terms, View}
 use Rattle.session.proofs.GrowingLaws.{decided_leaves, leaves_shows}
 use Rattle.session.proofs.StayLaws.{IsIn, lawful_in, only_this}
 
 pub found_replayed : FoundCapturesAreReplayed
 found_replayed terms q view sought brought h tells =
-    let found = h.wants.wanted in (
-      found.entry,
-      found.reaches,
-      subst (λ (n : ℕ). IsEntryOf view.book n found.entry) found.number_is (h.agrees tells found.entry found.reaches.nearest.member (sym found.number_is)),
-      subst (λ (n : ℕ). IsBrought view.book n brought) found.number_is (h.brought_is tells),
+    let found = h.wants in (
+      found.0,
+      found.1,
+      subst (λ (n : ℕ). IsEntryOf view.book n found.0) found.3 (h.agrees tells found.0 found.1.nearest.member (sym found.3)),
+      subst (λ (n : ℕ). IsBrought view.book n brought) found.3 (h.brought_is tells),
     )
 
 -- what was shown before a course is shown in each of its rounds
@@ -39,16 +39,12 @@ shown_in terms served was (r ∷ rounds) is x (lawful, leads, knows, last, other
 still_shown : (a b : List Facts) (entry : Facts) → Begins a b → Contains a entry → Contains b entry
 still_shown a b entry h there = rw h.joined (Contains-append_left a h.rest entry there)
 
-not_past : (q : SiteRequest) (view : View) (entry : Facts) → Contains view.shown entry → IsPast q view entry.number → ⊥
-not_past q view entry there (inl (asks, past, none)) = none entry there refl
-not_past q view entry there (inr (asks, past, none)) = none entry there refl
-
 pub shown_there : ShownNumbersAreThere
 shown_there terms served was rounds is r q count entry course there shown =
     let found : IsIn terms r = lawful_in terms served was rounds is r course there in
     let decided : (o : Outcome) → r.outcome ≡ o → IsDecided terms r o = λ o same. subst (λ (o : Outcome). IsDecided terms r o) same found.lawful.decided in
     let still : Contains r.traces.before.shown entry
     = still_shown was.shown r.traces.before.shown entry (shown_in terms served was rounds is r course there) shown in (
-      λ refused. not_past q r.traces.before entry still (decided (Visited q (Refuses (NoSuch entry.number count))) refused).2.0,
-      λ more. (decided (Visited q (HasNoMore entry.number)) more).2.none entry still refl,
+      λ refused. (decided (Visited q (Refuses (NoSuch entry.number count))) refused).2.1 entry still refl,
+      λ more. (decided (Visited q (HasNoMore entry.number)) more).2.2 entry still refl,
     )

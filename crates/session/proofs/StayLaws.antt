@@ -1,6 +1,6 @@
 -- What a reader of a course may stop at.
 use Rattle.std.proofs.Common.{◌≡◌, inl, inr, ℕ, zero, suc, ◌+◌, ◌<◌, List, [], ◌∷◌, length, get_or, refl, sym, ◌∙◌, ap, subst, arith, lit<}
-use Rattle.std.specs.Prelude.{Contains}
+use Rattle.std.specs.Prelude.{Contains, Result, Ok, Err}
 use Rattle.std.proofs.lemmas.List.Elements.{Contains-append_left, Contains-append_right, Contains-append_cases}
 use Rattle.archive_shelf.proofs.StoringLaws.{captures_stay}
 use Rattle.capture.specs.Captures.{captures, IsPayloadOf}
@@ -11,9 +11,11 @@ use Rattle.capture.specs.declared.refusal.Refusal.{Refusal}
 use Rattle.capture.specs.declared.refusal.Refusal.TheVariants.{Malformed, TargetRefused, BadTime, BadAcceptDatetime, BadQuery, NotAForm, NoCapture, NoSuch, MethodRefused, BodyTooLong, HeadTooLong, ClockRange, ConnectRefused, SecureRefused, CodingRefused, DialFault, OriginFault, OriginEnded, OriginMalformed, OriginTooLong, TooManyInterim, Full, DiskFault, Damaged}
 use Rattle.capture.specs.declared.site.Site.{Site}
 use Rattle.exchange.specs.declared.aim.Aim.TheVariants.{Origin}
+use Rattle.exchange.specs.declared.fetching.FetchFault.{FetchFault}
+use Rattle.exchange.specs.declared.fetching.FetchFault.TheVariants as fetch_fault
 use Rattle.http_head.specs.declared.head.Received.{Received}
 use Rattle.outside.specs.declared.dialer.Transcript.{Transcript}
-use Rattle.session.specs.Exchanges.{Exchange, Fails, Passes, Fetched, IsFailure, IsPassedOn, IsRefusedByDisk, RanOut}
+use Rattle.session.specs.Exchanges.{Exchange, Fails, Passes, Fetched, IsPassedOn, IsRefusedByDisk, IsReply, RanOut}
 use Rattle.session.specs.Gains.{gains_of}
 use Rattle.session.specs.Laws.{IsDialedFor, OriginsAloneAreDialed, OtherRoundsStoreNothing, PassedOnResponsesStay}
 use Rattle.session.specs.Requests.{IsAsked}
@@ -76,21 +78,21 @@ module _ (site : Site) (r : Round) (t : Transcript) (there : Contains r.traces.t
         port = sym (ap (λ (x : Transcript). x.port) same) ∙ port;
       }
 
-  fetched_from : (e : Exchange) (received : Received) → IsAsked site r.wire e.message (Origin e.target) → Fetched e received r.traces → IsDialedFor site r t
-  fetched_from e received asked h = one_dialed e h.t asked h.linked h.fetched.host h.fetched.port
+  fetched_from : (e : Exchange) (result : Result Received FetchFault) → IsAsked site r.wire e.message (Origin e.target) → Fetched e result r.traces → IsDialedFor site r t
+  fetched_from e result asked h = one_dialed e h.t asked h.linked h.fetched.host h.fetched.port
 
   failure_dialed : (terms : Terms) (e : Exchange) (refusal : Refusal) → IsAsked site r.wire e.message (Origin e.target)
-      → IsFailure terms e refusal r.traces → IsDialedFor site r t
-  failure_dialed terms e (ClockRange now) asked h = nobody r.traces.transcripts t h.none there
-  failure_dialed terms e DialFault asked h = nobody r.traces.transcripts t h.none there
-  failure_dialed terms e OriginFault asked h = one_dialed e h.linked.t asked h.linked.only h.linked.fetched.host h.linked.fetched.port
-  failure_dialed terms e OriginEnded asked h = one_dialed e h.linked.t asked h.linked.only h.linked.fetched.host h.linked.fetched.port
-  failure_dialed terms e OriginMalformed asked h = one_dialed e h.linked.t asked h.linked.only h.linked.fetched.host h.linked.fetched.port
-  failure_dialed terms e OriginTooLong asked h = one_dialed e h.linked.t asked h.linked.only h.linked.fetched.host h.linked.fetched.port
-  failure_dialed terms e TooManyInterim asked h = one_dialed e h.linked.t asked h.linked.only h.linked.fetched.host h.linked.fetched.port
-  failure_dialed terms e (Full count limit) asked h = fetched_from e h.received asked h.fetched
-  failure_dialed terms e DiskFault asked h = fetched_from e h.room.received asked h.room.fetched
-  failure_dialed terms e (Damaged number kept found) asked h = fetched_from e h.0.room.received asked h.0.room.fetched
+      → IsReply terms e (Fails refusal) r.traces → IsDialedFor site r t
+  failure_dialed terms e (ClockRange now) asked h = nobody r.traces.transcripts t h.2 there
+  failure_dialed terms e DialFault asked h = nobody r.traces.transcripts t h.3 there
+  failure_dialed terms e OriginFault asked h = fetched_from e (Err fetch_fault.OriginFault) asked h.0
+  failure_dialed terms e OriginEnded asked h = fetched_from e (Err fetch_fault.OriginEnded) asked h.0
+  failure_dialed terms e OriginMalformed asked h = fetched_from e (Err fetch_fault.OriginMalformed) asked h.0
+  failure_dialed terms e OriginTooLong asked h = fetched_from e (Err fetch_fault.OriginTooLong) asked h.0
+  failure_dialed terms e TooManyInterim asked h = fetched_from e (Err fetch_fault.TooManyInterim) asked h.0
+  failure_dialed terms e (Full count limit) asked h = fetched_from e (Ok h.0) asked h.1
+  failure_dialed terms e DiskFault asked h = fetched_from e (Ok h.room.received) asked h.room.fetched
+  failure_dialed terms e (Damaged number kept found) asked h = fetched_from e (Ok h.0.received) asked h.0.fetched
   failure_dialed terms e (NoSuch number count) asked h = absurd h
   failure_dialed terms e Malformed asked h = absurd h
   failure_dialed terms e TargetRefused asked h = absurd h
@@ -111,10 +113,7 @@ module _ (site : Site) (r : Round) (t : Transcript) (there : Contains r.traces.t
     | inl (untimed, none) ↦ nobody r.traces.transcripts t none there
     | inr more ↦ elim more [
       | inl (timed, none) ↦ nobody r.traces.transcripts t none there
-      | inr begun ↦ elim begun.1 [
-        | inl none ↦ nobody r.traces.transcripts t none there
-        | inr one ↦ one_dialed e one.t asked one.only one.fetched.host one.fetched.port
-      ]
+      | inr fetched ↦ fetched_from e (Err fetch_fault.Memory) asked fetched
     ]
   ]
 
@@ -124,7 +123,7 @@ dialed terms r t Undecided (lacking, inl (begun, idle)) there = nobody r.traces.
 dialed terms r t Undecided (lacking, inr (e, asked, out)) there = ran_out_dialed terms.site r t there terms e asked out
 dialed terms r t (Refused head refusal) h there = nobody r.traces.transcripts t h.1.transcripts there
 dialed terms r t (Exchanged e (Fails refusal)) h there = failure_dialed terms.site r t there terms e refusal h.0 h.1
-dialed terms r t (Exchanged e (Passes received payload)) h there = fetched_from terms.site r t there e received h.0 h.1.fetched
+dialed terms r t (Exchanged e (Passes received payload)) h there = fetched_from terms.site r t there e (Ok received) h.0 h.1.fetched
 dialed terms r t (Visited q reply) h there = nobody r.traces.transcripts t h.1.transcripts there
 
 pub origins_dialed : OriginsAloneAreDialed

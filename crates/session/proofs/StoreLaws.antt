@@ -1,5 +1,5 @@
 -- What images do in a round that asks the shelf, by what its calls promise.
-use Rattle.std.proofs.Common.{◌≡◌, ◌⊎◌, inl, inr, ℕ, Bool, [], ◌∷◌, Option, Some, None, refl, sym, ◌∙◌, ap, subst}
+use Rattle.std.proofs.Common.{◌≡◌, ◌≢◌, ◌⊎◌, inl, inr, ℕ, Bool, [], ◌∷◌, Option, Some, None, refl, sym, ◌∙◌, ap, subst, lit<}
 use Rattle.std.specs.Prelude.{unwrap_or}
 use Rattle.archive_shelf.proofs.CallLaws.{no_more, opened_before}
 use Rattle.archive_shelf.specs.Openings.{HasIds, IsEarlier, SameBook}
@@ -11,7 +11,7 @@ use Rattle.capture.specs.declared.site.Site.{Site}
 use Rattle.http_head.specs.declared.head.Received.{Received}
 use Rattle.warc_journal.specs.Extents.{cdxj_files}
 use Rattle.session.specs.Exchanges.{Exchange, HasRoom, taken_of}
-use Rattle.session.specs.Images.{Deed, NoDeed, Stores, IsDenied, deed_of, MayBeLeft, OpensBehind, KeepsImages, NeedsIds}
+use Rattle.session.specs.Images.{Deed, NoDeed, Stores, IsDenied, deed_of, MayBeLeft, OpensBehind, KeepsImages}
 use Rattle.session.specs.Rounds.{Round}
 use Rattle.session.specs.steps.Shelving.{HasKept, WasDenied}
 use Rattle.session.specs.Traces.{Terms, Traces, terms_of}
@@ -47,8 +47,9 @@ no_other e = let bad : ⊥ = cc in absurd bad
 stored_some : {P : Type 0} (deed : Deed) (e : Exchange) (received : Received) → deed ≡ Stores e received → deed ≡ NoDeed → P
 stored_some deed e received h none = let bad : ⊥ = cc in absurd bad
 
-ids_stored : (deed : Deed) (e : Exchange) (received : Received) (book : Book) → deed ≡ Stores e received → NeedsIds deed book → HasIds book
-ids_stored deed e received book h ids = subst (λ (d : Deed). NeedsIds d book) h ids
+ids_stored : (deed : Deed) (e : Exchange) (received : Received) (book : Book) → deed ≡ Stores e received → (deed ≢ NoDeed → HasIds book)
+    → HasIds book
+ids_stored deed e received book h ids = ids (λ none. stored_some deed e received h none)
 
 -- a round that stored the capture of its exchange
 pub images_stored : (alone : Bool) (site : Site) (r : Round) (e : Exchange) (received : Received) (was is : Told)
@@ -59,7 +60,7 @@ images_stored alone site r e received was is h =
     record {
       later = crash.later;
       covered = crash.covered;
-      reading = λ is_alone tells none. stored_some (deed_of r.outcome) e received h.deed none.0;
+      reading = λ is_alone tells none. stored_some (deed_of r.outcome) e received h.deed (none r (0, lit< tt, refl));
       checkpoints = λ is_alone tells. (h.stores.reading is_alone tells).1;
       opened = λ is_alone ids t x le o. elim (crash.moves (rw (sym (h.found is_alone)) (ids_stored (deed_of r.outcome) e received r.traces.before.book h.deed ids.0)) t x le o) [
         | inl p ↦ inl p
@@ -93,8 +94,8 @@ just_this x y e = sym (ap (λ (o : Option Book). unwrap_or o y) e)
 denied_some : {P : Type 0} (deed : Deed) (e : Exchange) → deed ≡ IsDenied e → deed ≡ NoDeed → P
 denied_some deed e h none = let bad : ⊥ = cc in absurd bad
 
-ids_denied : (deed : Deed) (e : Exchange) (book : Book) → deed ≡ IsDenied e → NeedsIds deed book → HasIds book
-ids_denied deed e book h ids = subst (λ (d : Deed). NeedsIds d book) h ids
+ids_denied : (deed : Deed) (e : Exchange) (book : Book) → deed ≡ IsDenied e → (deed ≢ NoDeed → HasIds book) → HasIds book
+ids_denied deed e book h ids = ids (λ none. denied_some deed e h none)
 
 -- a round whose store the disk refused
 pub images_denied : (alone : Bool) (site : Site) (r : Round) (e : Exchange) (was is : Told)
@@ -105,7 +106,7 @@ images_denied alone site r e was is h =
     record {
       later = crash.later;
       covered = crash.covered;
-      reading = λ is_alone tells none. denied_some (deed_of r.outcome) e h.deed none.0;
+      reading = λ is_alone tells none. denied_some (deed_of r.outcome) e h.deed (none r (0, lit< tt, refl));
       checkpoints = λ is_alone tells. (h.stores.reading is_alone tells).1;
       opened = λ is_alone ids t x le o. elim (crash.moves (rw (sym (h.found is_alone)) (ids_denied (deed_of r.outcome) e r.traces.before.book h.deed ids.0)) t x le o) [
         | inl p ↦ inl p

@@ -24,7 +24,7 @@ use Rattle.exchange.specs.declared.aim.Aim.TheVariants.{Site as ToSite}
 use Rattle.outside.specs.Records.{Links}
 use Rattle.outside.specs.declared.dialer.Transcript.{Transcript}
 use Rattle.outside.specs.declared.gate.Heard.{Heard}
-use Rattle.replay_url.specs.Questions.{ForNumber, ForPiece}
+use Rattle.replay_url.specs.Questions.{ForNumber}
 use Rattle.replay_url.specs.declared.form.Form.TheVariants.{Number, Ship}
 use Rattle.session.specs.steps.Stages.{terms_at}
 use Rattle.session.specs.steps.Answering.{Incoming, MakesRound, IsAnswered, Answers, AnswersVisit}
@@ -32,7 +32,7 @@ use Rattle.session.specs.Connection.{Setting}
 use Rattle.session.specs.steps.Declining.{Declines, DeclinesPiece, refusal_by_bring}
 use Rattle.session.specs.Requests.{IsAsked, IsInterim, closes_after, IsBegun}
 use Rattle.session.specs.Rounds.{Round, Visited, IsRound, disk_fault, Undecided, is_from_shown}
-use Rattle.session.specs.SiteAnswers.{SiteRequest, SiteReply, Refuses, HasNoMore, Asks, IsReplayed, IsShipped, IsSiteReply, IsSiteText, nothing_text}
+use Rattle.session.specs.SiteAnswers.{SiteRequest, SiteReply, Refuses, HasNoMore, Ships, Asks, IsReplayed, IsSiteReply, IsSiteText, nothing_text}
 use Rattle.session.specs.Traces.{Terms, View, CountsMet}
 use Rattle.capture.specs.declared.captured.Brought.{Brought}
 use Rattle.capture.specs.declared.memory.Memory.{Memory}
@@ -314,8 +314,7 @@ pub number_replayed : (terms : Terms) (q : SiteRequest) (number : ℕ) (brought 
     → IsReplayed terms q (record { book = is.seen; shown = is.shown; dialer_faults = faults; disk_faults = disk }) (ForNumber number) brought
 number_replayed terms q number brought is faults disk asks (there, replayable, named, known, shown) same = record {
   number = number;
-  wants = record { wanted = (asks, refl); there = there };
-  capture = refl;
+  wants = (asks, refl, there);
   replayable = replayable;
   named = named;
   as_shown = shown;
@@ -326,12 +325,8 @@ number_replayed terms q number brought is faults disk asks (there, replayable, n
 -- a piece is shipped
 pub piece_shipped : (terms : Terms) (q : SiteRequest) (number : ℕ) (piece : List ℕ) (is : Contents) (faults disk : ℕ) → Asks q (Ship number)
     → GivesPiece is number (Ok piece) → is.tells ≡ terms.tells
-    → IsShipped terms q (record { book = is.seen; shown = is.shown; dialer_faults = faults; disk_faults = disk }) number piece
-piece_shipped terms q number piece is faults disk asks (there, some, known) same = record {
-  wants = record { wanted = (asks, refl); there = there };
-  some = some;
-  piece_is = λ tells. known (rw same tells);
-}
+    → IsSiteReply terms q (Ships number piece) (record { book = is.seen; shown = is.shown; dialer_faults = faults; disk_faults = disk })
+piece_shipped terms q number piece is faults disk asks (there, some, known) same = (asks, there, some, λ tells. known (rw same tells))
 
 -- a request that is answered by what was brought
 pub bring_answers : (alone : Bool) (setting : Setting) (q : SiteRequest) (reply : SiteReply) (closes fault : Bool)
@@ -367,19 +362,16 @@ pub unbrought_answers : (alone : Bool) (setting : Setting) (q : SiteRequest) (nu
     → Declines (refusal_by_bring number fault) asks closes result → AnswersVisit alone setting q closes result was is
 unbrought_answers alone setting q number (brings.NoSuch count) asks closes result was is earlier asked same h reads declines =
     bring_answers alone setting q (Refuses (NoSuch number count)) closes false result was is earlier reads refl refl
-    (λ faults. (inl (asked, subst (λ (n : ℕ). n ≤ number) h.0 h.1, h.2), h.0))
+    (λ faults. (inl (asked, subst (λ (n : ℕ). n ≤ number) h.0 h.1), h.2, h.0))
     (refusal_is result (NoSuch number count) asks (asks_for_head q.message.head.method) closes same declines.text_is) declines.closes_is
 unbrought_answers alone setting q number brings.DiskFault asks closes result was is earlier asked same h reads declines =
     bring_answers alone setting q (Refuses DiskFault) closes true result was is earlier reads refl refl
-    (λ faults. (ForNumber number, number, record { wanted = (asked, refl); there = h }))
+    (λ faults. inl (ForNumber number, number, (asked, refl, h)))
     (refusal_is result DiskFault asks (asks_for_head q.message.head.method) closes same declines.text_is) declines.closes_is
 unbrought_answers alone setting q number (brings.Damaged at kept found) asks closes result was is earlier asked same h reads declines =
     bring_answers alone setting q (Refuses (Damaged at kept found)) closes false result was is earlier reads refl refl
     (λ faults. (
-      ForNumber number,
-      number,
-      record { wanted = (asked, refl); there = h.0 },
-      h.2,
+      inl (ForNumber number, number, (asked, refl, h.0), h.2),
       told_damaged _ _ kept found (stays_tells alone was.contents is.contents reads.stays) h.3,
     ))
     (refusal_is result (Damaged at kept found) asks (asks_for_head q.message.head.method) closes same declines.text_is) declines.closes_is
@@ -400,23 +392,20 @@ unshipped_answers alone setting q number (brings.NoSuch count) asks closes resul
       by_test true e text =
           let next : number ≡ count = eqb-true number count e in
           bring_answers alone setting q (HasNoMore number) closes false result was is earlier reads refl refl
-          (λ faults. record { asks = asked; next = next ∙ h.0; none = h.2 }) text closed
+          (λ faults. (asked, next ∙ h.0, h.2)) text closed
       by_test false e refuses =
           let other : number ≢ count = eqb-false number count e in
           bring_answers alone setting q (Refuses (NoSuch number count)) closes false result was is earlier reads refl refl
-          (λ faults. (inr (asked, omega (arith, h.0, h.1, other), h.2), h.0))
+          (λ faults. (inr (asked, omega (arith, h.0, h.1, other)), h.2, h.0))
           (refusal_is result (NoSuch number count) asks (asks_for_head q.message.head.method) closes same refuses.text_is) closed
 unshipped_answers alone setting q number brings.DiskFault asks closes result was is earlier asked same h reads declines closed =
     bring_answers alone setting q (Refuses DiskFault) closes true result was is earlier reads refl refl
-    (λ faults. (ForPiece number, number, record { wanted = (asked, refl); there = h }))
+    (λ faults. inr (number, asked, h))
     (refusal_is result DiskFault asks (asks_for_head q.message.head.method) closes same declines.text_is) closed
 unshipped_answers alone setting q number (brings.Damaged at kept found) asks closes result was is earlier asked same h reads declines closed =
     bring_answers alone setting q (Refuses (Damaged at kept found)) closes false result was is earlier reads refl refl
     (λ faults. (
-      ForPiece number,
-      number,
-      record { wanted = (asked, refl); there = h.0 },
-      h.1,
+      inr (subst (λ (n : ℕ). Asks q (Ship n)) (sym h.1) asked, omega (arith, h.0, h.1)),
       told_damaged _ _ kept found (stays_tells alone was.contents is.contents reads.stays) h.2,
     ))
     (refusal_is result (Damaged at kept found) asks (asks_for_head q.message.head.method) closes same declines.text_is) closed

@@ -29,13 +29,3 @@ pub record World : Type 1 where
   pub links : Links Transcript
   pub dialer_faults : ℕ
   pub shelf : Told
-
--- what these objects tell
-abbrev pub world_of : Heard → (answers : List ℕ) → Links Transcript → (dialer_faults : ℕ) → Told → World
-world_of heard answers links dialer_faults shelf = record {
-  heard = heard;
-  answers = answers;
-  links = links;
-  dialer_faults = dialer_faults;
-  shelf = shelf;
-}

@@ -1,16 +1,15 @@
 -- Which books a stop may leave, while a connection is served over an archive alone.
-use Rattle.std.specs.Prelude.{◌≡◌, ◌⊎◌, ◌≤◌, List, [], ◌∷◌, IsTrue, ⊤}
+use Rattle.std.specs.Prelude.{◌≡◌, ◌≢◌, ◌⊎◌, ◌≤◌, List, [], ◌∷◌, Contains, IsTrue, Ok, ⊤}
 use Rattle.archive_shelf.specs.Contents.{Contents}
 use Rattle.archive_shelf.specs.Openings.{SameBook, HasIds, Moves, StaysCovered, MayLeave}
 use Rattle.archive_shelf.specs.Storing.{Storing, stored_by}
 use Rattle.archive_shelf.specs.Told.{Told}
 use Rattle.capture.specs.declared.book.Book.{Book}
-use Rattle.capture.specs.declared.refusal.Refusal.{Refusal}
 use Rattle.capture.specs.declared.refusal.Refusal.TheVariants.{DiskFault}
 use Rattle.http_head.specs.declared.head.Received.{Received}
 use Rattle.warc_journal.specs.Extents.{cdxj_files}
 use Rattle.session.specs.Exchanges.{Exchange, Fails, Passes, Fetched, HasRoom, taken_of}
-use Rattle.session.specs.Rounds.{Outcome, Undecided, Refused, Exchanged, Visited, Round}
+use Rattle.session.specs.Rounds.{Outcome, Exchanged, Round}
 use Rattle.session.specs.Traces.{Terms, View, Traces}
 
 -- what a round did to the archive: nothing, it stored the capture of an exchange, or the disk refused that
@@ -20,16 +19,10 @@ pub data Deed : Type 0 where
   IsDenied : (e : Exchange) → Deed
 
 -- a store alone is refused by the disk and may leave something
-abbrev pub deed_of_failure : Exchange → Refusal → Deed
-deed_of_failure e DiskFault = IsDenied e
-deed_of_failure e other = NoDeed
-
 abbrev pub deed_of : Outcome → Deed
-deed_of Undecided = NoDeed
-deed_of (Refused head refusal) = NoDeed
-deed_of (Exchanged e (Fails refusal)) = deed_of_failure e refusal
+deed_of (Exchanged e (Fails DiskFault)) = IsDenied e
 deed_of (Exchanged e (Passes received payload)) = Stores e received
-deed_of (Visited q reply) = NoDeed
+deed_of other = NoDeed
 
 -- what a shelf with this view tells
 abbrev pub contents_at : Terms → View → Contents
@@ -39,7 +32,7 @@ contents_at terms view = record { tells = terms.tells; seen = view.book; shown =
 abbrev pub MayBeLeft : Terms → Traces → Deed → Book → Type 0
 MayBeLeft terms traces NoDeed x = ⊥
 MayBeLeft terms traces (Stores e received) x =
-    (fetched : Fetched e received traces) × MayLeave (contents_at terms traces.before) (taken_of e fetched.date received) x
+    (fetched : Fetched e (Ok received) traces) × MayLeave (contents_at terms traces.before) (taken_of e fetched.date received) x
 MayBeLeft terms traces (IsDenied e) x =
     (room : HasRoom terms e traces) × MayLeave (contents_at terms traces.before) (taken_of e room.fetched.date room.received) x
 
@@ -66,21 +59,10 @@ abbrev pub OpensAtLast : Terms → (Book → Type 0) → List Round → Book →
 OpensAtLast terms Before [] x = Before x
 OpensAtLast terms Before (r ∷ rounds) x = OpensAtLast terms (OpensBehind terms r.traces (deed_of r.outcome) Before) rounds x
 
--- the ids of the captures of a book differ, and that of one more, where a round may add to it
-abbrev pub NeedsIds : Deed → Book → Type 0
-NeedsIds NoDeed book = ⊤
-NeedsIds (Stores e received) book = HasIds book
-NeedsIds (IsDenied e) book = HasIds book
-
--- and so of each book on the way
+-- the ids of the captures of each book on the way differ, and that of one more, where a round may add to it
 abbrev pub HasAllIds : List Round → Type 0
 HasAllIds [] = ⊤
-HasAllIds (r ∷ rounds) = NeedsIds (deed_of r.outcome) r.traces.before.book × HasAllIds rounds
-
--- nothing was written to the disk
-abbrev pub WriteNone : List Round → Type 0
-WriteNone [] = ⊤
-WriteNone (r ∷ rounds) = (deed_of r.outcome ≡ NoDeed) × WriteNone rounds
+HasAllIds (r ∷ rounds) = (deed_of r.outcome ≢ NoDeed → HasIds r.traces.before.book) × HasAllIds rounds
 
 -- What images do while rounds are served. Where nothing is written a read of the disk gives what it gave, and in any case the
 -- checkpoints that it gave. Where the ids differ, a book that may be opened since a moment might be before the first round, or one
@@ -88,7 +70,8 @@ WriteNone (r ∷ rounds) = (deed_of r.outcome ≡ NoDeed) × WriteNone rounds
 pub record KeepsImages (terms : Terms) (rounds : List Round) (was is : Told) : Type 0 where
   pub later : was.crash.moment ≤ is.crash.moment
   pub covered : StaysCovered was.crash is.crash
-  pub reading : IsTrue terms.alone → IsTrue terms.tells → WriteNone rounds → is.reading ≡ was.reading
+  pub reading : IsTrue terms.alone → IsTrue terms.tells → ((r : Round) → Contains rounds r → deed_of r.outcome ≡ NoDeed)
+      → is.reading ≡ was.reading
   pub checkpoints : IsTrue terms.alone → IsTrue terms.tells → cdxj_files is.reading ≡ cdxj_files was.reading
   pub opened : IsTrue terms.alone → HasAllIds rounds → Moves was.crash is.crash (IsPassed terms rounds)
   pub left : IsTrue terms.alone → IsTrue terms.tells → HasAllIds rounds

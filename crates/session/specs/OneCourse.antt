@@ -7,8 +7,8 @@ use Rattle.cdxj_index.specs.OfBook.{AreEntries}
 use Rattle.outside.specs.declared.gate.Heard.{Heard}
 use Rattle.session.specs.Gains.{gains_of}
 use Rattle.session.specs.Requests.{IsUndecided}
-use Rattle.session.specs.Rounds.{Round, IsCourse, IsRound, course_text, course_wire, disk_fault, lacks}
-use Rattle.session.specs.Stopping.{Course, Ends, closes_course}
+use Rattle.session.specs.Rounds.{Round, IsCourse, IsRound, course_text, course_wire, disk_fault, lacks, is_closed}
+use Rattle.session.specs.Stopping.{Course, Ends}
 use Rattle.session.specs.Traces.{Terms, View, IsConsistentView}
 use Rattle.session.specs.declared.served.Served.{Served}
 
@@ -27,7 +27,7 @@ pub record WentWell (terms : Terms) (was : View) (c : Course) (is : View) : Type
   pub dialer_counts : was.dialer_faults < 2 ^ 64 - 1
   pub disk : is.disk_faults ≡ was.disk_faults
   pub disk_counts : was.disk_faults < 2 ^ 64 - 1
-  pub all : (closes_course c ≡ true) ⊎ IsUndecided terms.site c.rest
+  pub all : (is_closed c.served c.rounds ≡ true) ⊎ IsUndecided terms.site c.rest
 
 -- Both are behind as many requests; the client gave them the same bytes, the clock the same times, and the links to origins took and
 -- gave the same.
@@ -56,8 +56,8 @@ AreSameRounds (a ∷ rounds) [] = ⊥
 pub record AreOneCourse (a b : Course) (is other : View) : Type 0 where
   pub rounds : AreSameRounds a.rounds b.rounds
   pub text : course_text a.rounds ≡ course_text b.rounds
-  pub closed : closes_course a ≡ closes_course b
-  pub rest : closes_course a ≡ false → a.rest ≡ b.rest
+  pub closed : is_closed a.served a.rounds ≡ is_closed b.served b.rounds
+  pub rest : is_closed a.served a.rounds ≡ false → a.rest ≡ b.rest
   pub book : is.book ≡ other.book
   pub shown : is.shown ≡ other.shown
 

@@ -1,6 +1,6 @@
 -- What a client's bytes ask, and why they are refused for themselves (RFC 9112, sections 2 and 3). A head is looked at
 -- first, then the method CONNECT, then the target, then what tells of a body, then the body.
-use Rattle.std.specs.Prelude.{◌≡◌, ◌⊎◌, ℕ, ◌+◌, Bool, true, false, ◌&&◌, ◌||◌, ◌==◌, nat_le, List, [], map, codes, Option, Some, None, Result, Ok, Err, is_ok, if◌then◌else◌}
+use Rattle.std.specs.Prelude.{◌≡◌, ◌⊎◌, ℕ, ◌+◌, Bool, true, false, not, ◌&&◌, ◌||◌, ◌==◌, nat_le, List, [], map, codes, Option, Some, None, Result, Ok, Err, is_ok, if◌then◌else◌}
 use Rattle.std.specs.List.{list_any}
 use Rattle.std.specs.Str.{bytes_eq}
 use Rattle.capture.specs.Fields.{NamedValue, is_named, lowered}
@@ -34,13 +34,9 @@ use Rattle.session.specs.declared.TheConstants.{REQUEST_LIMIT}
 
 -- ---- heads
 
--- where a head asks to go
-abbrev pub aim_of_head : Site → RequestHead → Result Aim AimFault
-aim_of_head site head = aim_of site head.method head.target
-
 -- a head asks to go somewhere
 abbrev pub IsAimed : Site → RequestHead → Type 0
-IsAimed site head = (aim : Aim) × (aim_of_head site head ≡ Ok aim)
+IsAimed site head = (aim : Aim) × (aim_of site head.method head.target ≡ Ok aim)
 
 -- it tells of a body, within the limit
 abbrev pub tells_body : Result Framing FramingFault → Bool
@@ -70,24 +66,16 @@ continue_text = codes "HTTP/1.1 100 Continue\r\n\r\n"
 
 -- what is written before the body of a request with this head is read: that answer, where the head goes somewhere and asks for it
 abbrev pub interim_of : Site → RequestHead → List ℕ
-interim_of site head = if is_ok (aim_of_head site head) && waits_for_answer head then continue_text else []
+interim_of site head = if is_ok (aim_of site head.method head.target) && waits_for_answer head then continue_text else []
 
--- the member of a list is `close`, in whatever case
-abbrev pub is_close : List ℕ → Bool
-is_close member = bytes_eq (lowered member) (codes "close")
-
--- the field is a Connection that lists `close` (RFC 9112, section 9.6)
+-- the field is a Connection that lists `close`, in whatever case (RFC 9112, section 9.6)
 abbrev pub lists_close : NamedValue → Bool
-lists_close field = is_named connection field && list_any is_close (members field.1)
+lists_close field = is_named connection field && list_any (λ member. bytes_eq (lowered member) (codes "close")) (members field.1)
 
--- the request is the last, by its version or by what its fields say
-abbrev pub is_last : Version → List NamedValue → Bool
-is_last Http10 fields = true
-is_last Http11 fields = list_any lists_close fields
-
--- the connection closes after a request with this head, behind so many others
+-- the connection closes after a request with this head, behind so many others: by its version, by what its fields say, or by its number
 abbrev pub closes_after : ℕ → RequestHead → Bool
-closes_after served head = is_last head.version (map named_value head.fields) || (served + 1 == REQUEST_LIMIT)
+closes_after served head =
+    not (is_persistent head.version) || list_any lists_close (map named_value head.fields) || (served + 1 == REQUEST_LIMIT)
 
 -- whether a request asks for a head alone; without a head it doesn't
 abbrev pub answers_head : Option RequestHead → Bool
@@ -96,16 +84,11 @@ answers_head None = false
 
 -- ---- streams
 
--- what the head of the stream asks for, before its body is read
-pub record HasInterim (site : Site) (stream text : List ℕ) : Type 0 where
-  pub head : RequestHead
-  pub begins : BeginsWithRequest stream head
-  pub text_is : text ≡ interim_of site head
-
--- what is written in the middle of the stream: nothing, where no head stands first in it
+-- what is written in the middle of the stream: what its head asks for, before its body is read, or nothing, where no head stands first
 abbrev pub IsInterim : Site → List ℕ → List ℕ → Type 0
 IsInterim site stream text =
-    HasInterim site stream text ⊎ (((head : RequestHead) → ¬ (BeginsWithRequest stream head)) × (text ≡ []))
+    ((head : RequestHead) × BeginsWithRequest stream head × (text ≡ interim_of site head))
+    ⊎ (((head : RequestHead) → ¬ (BeginsWithRequest stream head)) × (text ≡ []))
 
 -- nothing has begun but line ends that are skipped
 abbrev pub IsBetween : List ℕ → Type 0
@@ -124,7 +107,7 @@ IsUndecided site stream = IsBetween stream ⊎ IsInside site stream
 -- the bytes are one request, with the line ends that are skipped before it, which asks to go there
 pub record IsAsked (site : Site) (wire : List ℕ) (message : RequestMessage) (aim : Aim) : Type 0 where
   pub is : IsRequest wire message
-  pub aimed : aim_of_head site message.head ≡ Ok aim
+  pub aimed : aim_of site message.head.method message.head.target ≡ Ok aim
 
 -- ---- refusals
 
@@ -145,7 +128,7 @@ refusal_of message_fault.CodingRefused = CodingRefused
 -- the head asks to go nowhere
 pub record IsAimedNowhere (site : Site) (head : RequestHead) (refusal : Refusal) : Type 0 where
   pub fault : AimFault
-  pub aimed : aim_of_head site head ≡ Err fault
+  pub aimed : aim_of site head.method head.target ≡ Err fault
   pub refusal_is : IsAimRefusal fault refusal
 
 -- the head asks to go somewhere, and it or the body behind it is no message

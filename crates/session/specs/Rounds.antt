@@ -58,17 +58,10 @@ origin_fault (Exchanged e (Fails OriginFault)) = 1
 origin_fault other = 0
 
 -- a fault of the disk was met
-abbrev pub is_disk_fault : Refusal → ℕ
-is_disk_fault DiskFault = 1
-is_disk_fault other = 0
-
 abbrev pub disk_fault : Outcome → ℕ
-disk_fault Undecided = 0
-disk_fault (Refused head refusal) = 0
-disk_fault (Exchanged e (Fails refusal)) = is_disk_fault refusal
-disk_fault (Exchanged e (Passes received payload)) = 0
-disk_fault (Visited q (Refuses refusal)) = is_disk_fault refusal
-disk_fault (Visited q other) = 0
+disk_fault (Exchanged e (Fails DiskFault)) = 1
+disk_fault (Visited q (Refuses DiskFault)) = 1
+disk_fault other = 0
 
 -- ---- a lawful round
 

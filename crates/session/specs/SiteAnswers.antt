@@ -63,11 +63,6 @@ serves_method method = bytes_eq method (codes "GET") || asks_for_head method
 abbrev pub date_field : SiteRequest → Option (List ℕ)
 date_field q = slice_get (values_of (codes "accept-datetime") (map named_value q.message.head.fields)) 0
 
--- the field names no time
-abbrev pub NamesNoTime : Option (List ℕ) → Type 0
-NamesNoTime (Some value) = (time : ℕ) → ¬ (IsHttpDate (trim_blanks value) time)
-NamesNoTime None = ⊥
-
 -- The time that a capture is to be nearest to: the one that the address names, or the one that a gate is asked for, by its field, or
 -- the latest, where there is none.
 abbrev pub IsSoughtTime : Option NamedTime → Option (List ℕ) → ℕ → Type 0
@@ -100,25 +95,14 @@ pub record Reaches (q : SiteRequest) (shown : List Facts) (sought : Nearest) (en
   pub timed : IsSoughtTime sought.named (date_field q) time
   pub nearest : IsNearest shown key time entry
 
--- the address names the date of the capture that is nearest
-pub record ReachesJust (q : SiteRequest) (shown : List Facts) (sought : Nearest) (number : ℕ) : Type 0 where
-  pub entry : Facts
-  pub reaches : Reaches q shown sought entry
-  pub named : names_date sought.named entry.date ≡ true
-  pub number_is : number ≡ entry.number
-
--- the number of the capture that is to be brought, or whose piece is: it is asked for, or it is that of the date that is
-abbrev pub IsWanted : SiteRequest → List Facts → Question → ℕ → Type 0
-IsWanted q shown (ForNumber asked) number = Asks q (Number asked) × (number ≡ asked)
-IsWanted q shown (ForNearest sought) number = ReachesJust q shown sought number
-IsWanted q shown (ForPiece asked) number = Asks q (Ship asked) × (number ≡ asked)
-IsWanted q shown (ForAll url) number = ⊥
-IsWanted q shown (ForQuery text) number = ⊥
-
--- a capture that is to be brought, or whose piece is, which the book has
-pub record Wants (q : SiteRequest) (view : View) (question : Question) (number : ℕ) : Type 0 where
-  pub wanted : IsWanted q view.shown question number
-  pub there : number < length (captures view.book)
+-- The capture that is to be brought, which the book has: its number is asked for, or it is that of the nearest one, whose date the
+-- address names.
+abbrev pub Wants : SiteRequest → View → Question → ℕ → Type 0
+Wants q view (ForNumber asked) number = Asks q (Number asked) × (number ≡ asked) × (number < length (captures view.book))
+Wants q view (ForNearest sought) number =
+    (entry : Facts) × Reaches q view.shown sought entry × (names_date sought.named entry.date ≡ true) × (number ≡ entry.number)
+    × (number < length (captures view.book))
+Wants q view other number = ⊥
 
 -- no capture of the URL is shown
 pub record FindsNone (q : SiteRequest) (view : View) : Type 0 where
@@ -134,47 +118,36 @@ pub record FindsNone (q : SiteRequest) (view : View) : Type 0 where
 abbrev pub ShowsNone : View → ℕ → Type 0
 ShowsNone view number = (entry : Facts) → Contains view.shown entry → entry.number ≢ number
 
--- The number that is asked for is that of no capture of the book, nor of one that is shown; or it is that of no piece, nor of the next
--- one, which is still to come, and nothing is shown under it.
-abbrev pub IsPast : SiteRequest → View → ℕ → Type 0
-IsPast q view number =
-    (Asks q (Number number) × (length (captures view.book) ≤ number) × ShowsNone view number)
-    ⊎ (Asks q (Ship number) × (length (captures view.book) < number) × ShowsNone view number)
-
--- the damaged capture: the one whose piece is asked for, or the one that keeps the payload
-abbrev pub IsDamagedIn : View → Question → ℕ → ℕ → Type 0
-IsDamagedIn view (ForPiece asked) number at = at ≡ number
-IsDamagedIn view other number at = KeepsPayloadOf view.book number at
-
 -- ---- the replies
 
--- why the site refuses
+-- Why the site refuses. A number is told to be that of no capture of the book, nor of one that is shown; or to be that of no piece, nor of
+-- the next one, which is still to come. A damaged capture is the one that keeps the payload, or the one whose piece is asked for.
 abbrev pub IsRejected : Terms → SiteRequest → Refusal → View → Type 0
 IsRejected terms q MethodRefused view = serves_method q.message.head.method ≡ false
 IsRejected terms q NotAForm view = (serves_method q.message.head.method ≡ true) × IsFault q.address form_fault.NotAForm
 IsRejected terms q BadTime view = (serves_method q.message.head.method ≡ true) × IsFault q.address form_fault.BadTime
 IsRejected terms q BadAcceptDatetime view =
-    (serves_method q.message.head.method ≡ true) × ((url : List ℕ) × IsForm q.address (Gate url)) × NamesNoTime (date_field q)
+    (serves_method q.message.head.method ≡ true) × ((url : List ℕ) × IsForm q.address (Gate url))
+    × ((time : ℕ) → ¬ (IsSoughtTime None (date_field q) time))
 IsRejected terms q BadQuery view = (text : List ℕ) × Asks q (Queried text) × ((query : Query) → ¬ (IsQuery text query))
-IsRejected terms q (NoSuch number count) view = IsPast q view number × (count ≡ length (captures view.book))
+IsRejected terms q (NoSuch number count) view =
+    ((Asks q (Number number) × (length (captures view.book) ≤ number)) ⊎ (Asks q (Ship number) × (length (captures view.book) < number)))
+    × ShowsNone view number × (count ≡ length (captures view.book))
 IsRejected terms q NoCapture view = FindsNone q view
-IsRejected terms q DiskFault view = (question : Question) × (number : ℕ) × Wants q view question number
+IsRejected terms q DiskFault view =
+    ((question : Question) × (number : ℕ) × Wants q view question number)
+    ⊎ ((number : ℕ) × Asks q (Ship number) × (number < length (captures view.book)))
 IsRejected terms q (Damaged at kept found) view =
-    (question : Question) × (number : ℕ) × Wants q view question number × IsDamagedIn view question number at × IsDamaged terms.tells kept found
+    (((question : Question) × (number : ℕ) × Wants q view question number × KeepsPayloadOf view.book number at)
+    ⊎ (Asks q (Ship at) × (at < length (captures view.book))))
+    × IsDamaged terms.tells kept found
 IsRejected terms q other view = ⊥
-
--- a capture is asked for, and no piece of one
-abbrev pub asks_for_capture : Question → Bool
-asks_for_capture (ForNearest sought) = true
-asks_for_capture (ForNumber number) = true
-asks_for_capture other = false
 
 -- The capture that was wanted is replayed. Whatever is told, it is what each entry tells that is shown under its number: its target, its date
 -- and the digest of its payload. Where the disk is told, each such entry is that of the book's capture: so is the one that was found by date.
 pub record IsReplayed (terms : Terms) (q : SiteRequest) (view : View) (question : Question) (brought : Brought) : Type 0 where
   pub number : ℕ
   pub wants : Wants q view question number
-  pub capture : asks_for_capture question ≡ true
   pub replayable : IsReplayable brought
   pub named : IsNamed view.book number brought
   pub as_shown : BringsAsShown view.shown number brought
@@ -182,58 +155,29 @@ pub record IsReplayed (terms : Terms) (q : SiteRequest) (view : View) (question 
   pub agrees : IsTrue terms.tells
       → (entry : Facts) → Contains view.shown entry → entry.number ≡ number → IsEntryOf view.book number entry
 
--- all captures of the URL that are shown are listed, of which there are some
-pub record AreListed (q : SiteRequest) (view : View) (url : List ℕ) (entries : List Facts) : Type 0 where
-  pub asks : Asks q (Map url)
-  pub key : List ℕ
-  pub keyed : key_of url ≡ Some key
-  pub picked : ArePicked (λ e. bytes_eq key e.key) view.shown entries
-  pub some : entries ≢ []
-
--- the query is answered from all entries that are shown
-pub record IsFoundBy (q : SiteRequest) (view : View) (query : Query) (found : List ℕ) : Type 0 where
-  pub text : List ℕ
-  pub asks : Asks q (Queried text)
-  pub is : IsQuery text query
-  pub answers : IsAnswer query view.shown found
-
--- The piece of the capture with this number is shipped. Whatever is told, its group tells the digest of each entry that is shown under the number.
-pub record IsShipped (terms : Terms) (q : SiteRequest) (view : View) (number : ℕ) (piece : List ℕ) : Type 0 where
-  pub wants : Wants q view (ForPiece number) number
-  pub some : IsShownPiece view.book view.shown number piece
-  pub piece_is : IsTrue terms.tells → IsPiece view.book number piece
-
--- the piece that is asked for is the next one, which is still to come: nothing is shown under its number
-pub record IsNext (q : SiteRequest) (view : View) (number : ℕ) : Type 0 where
-  pub asks : Asks q (Ship number)
-  pub next : number ≡ length (captures view.book)
-  pub none : ShowsNone view number
-
--- a redirect leads to the capture that is nearest, unless the address names its date
-pub record IsRedirected (q : SiteRequest) (view : View) (sought : Nearest) (entry : Facts) : Type 0 where
-  pub reaches : Reaches q view.shown sought entry
-  pub other : names_date sought.named entry.date ≡ false
-
--- the reply follows from what is seen of the archive
+-- The reply follows from what is seen of the archive. A redirect leads to the capture that is nearest, unless the address names its date.
+-- All captures of the URL that are shown are listed, of which there are some. Whatever is told, the group of a piece tells the digest of
+-- each entry that is shown under its number. The next piece is still to come.
 abbrev pub IsSiteReply : Terms → SiteRequest → SiteReply → View → Type 0
 IsSiteReply terms q (Refuses refusal) view = IsRejected terms q refusal view
-IsSiteReply terms q (Redirects sought entry) view = IsRedirected q view sought entry
+IsSiteReply terms q (Redirects sought entry) view = Reaches q view.shown sought entry × (names_date sought.named entry.date ≡ false)
 IsSiteReply terms q (Replays question brought) view = IsReplayed terms q view question brought
-IsSiteReply terms q (Lists url entries) view = AreListed q view url entries
-IsSiteReply terms q (Finds query found) view = IsFoundBy q view query found
-IsSiteReply terms q (Ships number piece) view = IsShipped terms q view number piece
-IsSiteReply terms q (HasNoMore number) view = IsNext q view number
+IsSiteReply terms q (Lists url entries) view =
+    (key : List ℕ) × Asks q (Map url) × (key_of url ≡ Some key) × ArePicked (λ e. bytes_eq key e.key) view.shown entries × (entries ≢ [])
+IsSiteReply terms q (Finds query found) view =
+    (text : List ℕ) × Asks q (Queried text) × IsQuery text query × IsAnswer query view.shown found
+IsSiteReply terms q (Ships number piece) view =
+    Asks q (Ship number) × (number < length (captures view.book)) × IsShownPiece view.book view.shown number piece
+    × (IsTrue terms.tells → IsPiece view.book number piece)
+IsSiteReply terms q (HasNoMore number) view = Asks q (Ship number) × (number ≡ length (captures view.book)) × ShowsNone view number
 
 -- ---- the texts
-
--- the status line of what is found, and its type
-unfoldable pub found_start : List ℕ → List ℕ
-found_start media_type = own_status_line status.Ok ++ type_line media_type
 
 -- a body of this type, as an answer
 unfoldable pub found_text : List ℕ → List ℕ → Bool → Bool → List ℕ
 found_text media_type body answers_head closes =
-    found_start media_type
+    own_status_line status.Ok
+    ++ type_line media_type
     ++ head_end (length body) closes
     ++ body_unless answers_head body
 

@@ -1,10 +1,12 @@
 -- How a connection ends.
-use Rattle.std.specs.Prelude.{◌≡◌, ◌≢◌, ◌⊎◌, ℕ, Bool, true, false, List, [], ◌∷◌, ◌++◌}
+use Rattle.std.specs.Prelude.{◌≡◌, ◌≢◌, ◌⊎◌, ℕ, true, false, List, [], ◌∷◌, ◌++◌}
 use Rattle.capture.specs.declared.site.Site.{Site}
 use Rattle.exchange.specs.Writing.{GrowsByProperFront}
 use Rattle.outside.specs.Calls.{one_more}
 use Rattle.outside.specs.declared.gate.Heard.{Heard}
-use Rattle.session.specs.Requests.{HasInterim, IsBetween, IsInside, IsInterim, IsUndecided}
+use Rattle.http_head.specs.declared.head.RequestHead.{RequestHead}
+use Rattle.http_wire.specs.Heads.{BeginsWithRequest}
+use Rattle.session.specs.Requests.{IsBetween, IsInside, IsInterim, IsUndecided, interim_of}
 use Rattle.session.specs.Rounds.{Round, course_text, is_closed, lacks, refusals}
 use Rattle.session.specs.declared.served.Served.{Served}
 use Rattle.session.specs.declared.served.Served.TheVariants.{Done, ClientBroke, ClientEndedEarly, ClientRefused, WantOfMemory}
@@ -14,10 +16,6 @@ pub record Course : Type 0 where
   pub served : ℕ
   pub rounds : List Round
   pub rest : List ℕ
-
--- some round closes the connection
-abbrev pub closes_course : Course → Bool
-closes_course c = is_closed c.served c.rounds
 
 -- A write of the last answer failed, and no other.
 pub record IsCutShort (c : Course) (then now : Heard) : Type 0 where
@@ -29,24 +27,24 @@ pub record IsCutShort (c : Course) (then now : Heard) : Type 0 where
 
 -- A write failed of the text that a head asks for before its body is read, and no other.
 pub record IsCutInside (site : Site) (c : Course) (then now : Heard) : Type 0 where
-  pub not_closed : closes_course c ≡ false
+  pub not_closed : is_closed c.served c.rounds ≡ false
   pub begun : List ℕ
   pub unread : List ℕ
   pub are : c.rest ≡ begun ++ unread
-  pub interim : List ℕ
-  pub asked : HasInterim site begun interim
-  pub part : GrowsByProperFront (then.written ++ course_text c.rounds) now.written interim
+  pub head : RequestHead
+  pub begins : BeginsWithRequest begun head
+  pub part : GrowsByProperFront (then.written ++ course_text c.rounds) now.written (interim_of site head)
   pub unwritten : now.failed_writes ≡ one_more then.failed_writes
 
 -- All was answered, and the last answer closes.
 pub record IsClosed (c : Course) (then now : Heard) : Type 0 where
   pub written : now.written ≡ then.written ++ course_text c.rounds
   pub unfailed : now.failed_writes ≡ then.failed_writes
-  pub closed : closes_course c ≡ true
+  pub closed : is_closed c.served c.rounds ≡ true
 
 -- All was answered, and no answer closes; what is left over is no request and isn't refused.
 pub record IsLeftOver (site : Site) (c : Course) (then now : Heard) : Type 0 where
-  pub not_closed : closes_course c ≡ false
+  pub not_closed : is_closed c.served c.rounds ≡ false
   pub undecided : IsUndecided site c.rest
   pub interim : List ℕ
   pub interim_is : IsInterim site c.rest interim

@@ -4,7 +4,6 @@ ghost use Rattle.archive_shelf.specs.Told.{GoesOn};
 ghost use Rattle.outside.specs.declared.gate.Heard.{Heard};
 ghost use Rattle.session.specs.steps.Answering.{Answers, Incoming};
 ghost use Rattle.session.specs.steps.Reads.{IsWellAsked};
-ghost use Rattle.session.specs.Gains.{world_of};
 ghost use Rattle.session.specs.Requests.{IsAsked, IsInterim, closes_after as closes_by};
 
 use crate::answer::Answer;
@@ -45,8 +44,8 @@ pub fn answer<S: Shelf, N: Dialer, C: Clock>(
         → ask.entry.closes ≡ closes_by incoming.served ask.entry.asked.message.head
         → IsAsked ask.entry.site.now incoming.wire ask.entry.asked.message ask.entry.asked.aim → IsInterim ask.entry.site.now incoming.wire incoming.interim
         → Answers S.alone (record { site = ask.entry.site.now; clock_tells = C.tells }) incoming result
-        (world_of then (C.answers clock.old) (N.links dialer.old) (N.faults dialer.old) (S.told shelf.old))
-        (world_of now (C.answers clock.new) (N.links dialer.new) (N.faults dialer.new) (S.told shelf.new)) }
+        (record { heard = then; answers = C.answers clock.old; links = N.links dialer.old; dialer_faults = N.faults dialer.old; shelf = S.told shelf.old })
+        (record { heard = now; answers = C.answers clock.new; links = N.links dialer.new; dialer_faults = N.faults dialer.new; shelf = S.told shelf.new }) }
     ensures closes { IfOk result (λ answer. IsTrue ask.entry.closes → IsTrue answer.closes) }
     ensures goes_on { GoesOn S.alone (S.told shelf.old) (S.told shelf.new) }
     ensures faults { N.faults dialer.old ≤ N.faults dialer.new }

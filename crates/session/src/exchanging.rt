@@ -9,7 +9,6 @@ ghost use Rattle.http_wire.specs.Messages.{IsOneResponse};
 ghost use Rattle.exchange.specs.Storing.{IsForOrigin};
 ghost use Rattle.exchange.specs.Texts.{forwarded};
 ghost use Rattle.outside.specs.declared.gate.Heard.{Heard};
-ghost use Rattle.session.specs.Gains.{world_of};
 ghost use Rattle.session.specs.Exchanges as spec;
 ghost use Rattle.session.specs.steps.Exchanging.{AnswersProxied, Around, Asks, Comes, HasCome, Keeps, exchange_of, given_of};
 ghost use Rattle.time_text.specs.Texts.{InRange};
@@ -65,8 +64,8 @@ pub fn answer_proxied<S: Shelf, N: Dialer, C: Clock>(
     requires empty { window.old ≡ [] }
     ensures answers { IsTrue N.Link.tells → (site : Site) (then now : Heard)
         → AnswersProxied S.alone (record { site = site; clock_tells = C.tells }) (exchange_of proxied) proxied.closes result
-        (world_of then (C.answers clock.old) (N.links dialer.old) (N.faults dialer.old) (S.told shelf.old))
-        (world_of now (C.answers clock.new) (N.links dialer.new) (N.faults dialer.new) (S.told shelf.new)) }
+        (record { heard = then; answers = C.answers clock.old; links = N.links dialer.old; dialer_faults = N.faults dialer.old; shelf = S.told shelf.old })
+        (record { heard = now; answers = C.answers clock.new; links = N.links dialer.new; dialer_faults = N.faults dialer.new; shelf = S.told shelf.new }) }
     ensures closes { IfOk result (λ answer. IsTrue proxied.closes → IsTrue answer.closes) }
     ensures goes_on { GoesOn S.alone (S.told shelf.old) (S.told shelf.new) }
     ensures faults { N.faults dialer.old ≤ N.faults dialer.new }

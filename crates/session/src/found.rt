@@ -3,6 +3,7 @@ ghost use Rattle.std.specs.Prelude.{◌≡◌, ◌++◌, length, IfOk, OnOk};
 ghost use Rattle.capture.specs.Methods.{asks_for_head as is_head};
 ghost use Rattle.head_lines.specs.Lines.{head_end};
 ghost use Rattle.session.specs.SiteAnswers as spec;
+ghost use Rattle.session.specs.steps.Givens.{found_start};
 
 use crate::answer::Answer;
 use crate::heads::asks_for_head;
@@ -18,7 +19,7 @@ use std::alloc::Global;
 const ROOM: usize = 256;
 
 /// The answer with a body of this type.
-#[tactic(auto, unfolding(crate::specs::SiteAnswers::found_text))]
+#[tactic(auto, unfolding(crate::specs::SiteAnswers::found_text, crate::specs::steps::Givens::found_start))]
 pub fn found(alloc: Global, visit: Visit, media_type: &[u8], body: Bytes) -> Result<Answer, Memory>
     ensures text { IfOk result (λ answer. answer.text ≡ spec.found_text media_type.now body (is_head visit.entry.message.now.head.method) visit.entry.closes) }
     ensures closes { IfOk result (λ answer. answer.closes ≡ visit.entry.closes) }
@@ -33,7 +34,7 @@ pub fn found(alloc: Global, visit: Visit, media_type: &[u8], body: Bytes) -> Res
 
 /// The head of the answer with a body of this type, of so many bytes.
 fn found_head(alloc: Global, media_type: &[u8], len: usize, closes: bool) -> Result<Vec<u8>, Memory>
-    ensures { IfOk result (λ head. head.items ≡ spec.found_start media_type.now ++ head_end len closes) }
+    ensures { IfOk result (λ head. head.items ≡ found_start media_type.now ++ head_end len closes) }
 {
     let mut out = Vec::with_capacity(alloc, ROOM)?;
     put_start(&mut out, media_type)?;
@@ -42,9 +43,9 @@ fn found_head(alloc: Global, media_type: &[u8], len: usize, closes: bool) -> Res
 }
 
 /// Puts the status line of what is found, and its type.
-#[tactic(auto, unfolding(crate::specs::SiteAnswers::found_start))]
+#[tactic(auto, unfolding(crate::specs::steps::Givens::found_start))]
 fn put_start(out: &mut Vec<u8>, media_type: &[u8]) -> Result<(), Memory>
-    ensures { OnOk result (out.new.items ≡ out.old.items ++ spec.found_start media_type.now) }
+    ensures { OnOk result (out.new.items ≡ out.old.items ++ found_start media_type.now) }
 {
     put_own_status_line(out, Status::Ok)?;
     put_type_line(out, media_type)

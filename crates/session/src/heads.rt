@@ -1,6 +1,8 @@
 //! What the head of a request asks of the connection.
-ghost use Rattle.std.specs.Prelude.{◌≡◌, ◌<◌, map};
+ghost use Rattle.std.specs.Prelude.{◌≡◌, ◌<◌, ◌||◌, not, codes, map};
 ghost use Rattle.std.specs.List.{list_any};
+ghost use Rattle.std.specs.Str.{bytes_eq};
+ghost use Rattle.capture.specs.Fields.{lowered};
 ghost use Rattle.capture.specs.Methods.{asks_for_head as method_asks};
 ghost use Rattle.http_head.specs.Heads.{named_value};
 ghost use Rattle.message_body.specs.Framings.{members, told_by_request};
@@ -23,7 +25,7 @@ pub fn closes_after(served: usize, head: &RequestHead) -> bool
 
 /// Whether a head says that its request is the last.
 fn is_last(head: &RequestHead) -> bool
-    ensures { result ≡ spec.is_last head.now.version (map named_value head.now.fields) }
+    ensures { result ≡ (not (spec.is_persistent head.now.version) || list_any spec.lists_close (map named_value head.now.fields)) }
 {
     match head.version {
         Version::Http10 => true,
@@ -46,7 +48,7 @@ fn lists_close(field: &Field) -> bool
 
 /// Whether a member of the list is `close`.
 fn has_close(list: &[u8]) -> bool
-    ensures { result ≡ list_any spec.is_close (members list.now) }
+    ensures { result ≡ list_any (λ member. bytes_eq (lowered member) (codes "close")) (members list.now) }
 {
     let mut rest = list;
     'members: loop {
@@ -65,7 +67,7 @@ fn has_close(list: &[u8]) -> bool
 }
 
 fn is_close(member: &[u8]) -> bool
-    ensures { result ≡ spec.is_close member.now }
+    ensures { result ≡ bytes_eq (lowered member.now) (codes "close") }
 {
     member.eq_ignore_ascii_case(b"close")
 }

@@ -3,6 +3,7 @@ ghost use Rattle.std.specs.Prelude.{◌≡◌, ◌≤◌, ℕ, [], List, true, S
 ghost use Rattle.capture.specs.Faults.{CountsFaults, Rose};
 ghost use Rattle.capture.specs.First.{Requests};
 ghost use Rattle.capture.specs.declared.site.Site.{Site as TheSite};
+ghost use Rattle.exchange.specs.Aim as aims;
 ghost use Rattle.exchange.specs.Aim.{HasShortHost};
 ghost use Rattle.exchange.specs.Receiving.{MayGoOn};
 ghost use Rattle.exchange.specs.Refusals.{refusal_text as text_of_refusal, memory_text};
@@ -283,7 +284,7 @@ fn look_at<L: Link>(
     requires { L.faults client.old ≡ 0 }
     ensures looks { IsTrue L.tells → LooksAt site.now head.now
         (heard_of (L.traffic client.old) (L.faults client.old)) (heard_of (L.traffic client.new) (L.faults client.new)) result }
-    ensures aimed { IfOk result (λ aim. spec.aim_of_head site.now head.now ≡ Ok aim) }
+    ensures aimed { IfOk result (λ aim. aims.aim_of site.now head.now.method head.now.target ≡ Ok aim) }
     ensures short { IfOk result HasShortHost }
     ensures whole { OnOk result (L.faults client.new ≡ 0) }
     ensures later { L.faults client.old ≤ L.faults client.new }

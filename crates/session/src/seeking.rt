@@ -8,9 +8,9 @@ ghost use Rattle.replay_url.specs.Keyed.{HasKey};
 ghost use Rattle.replay_url.specs.Questions.{names_date};
 ghost use Rattle.replay_url.specs.declared.form.Form.TheVariants.{Gate as TheGate, Memento as TheMemento};
 ghost use Rattle.session.specs.steps.Answering.{AnswersVisit};
-ghost use Rattle.session.specs.steps.Looking.{FindsNearest};
+ghost use Rattle.session.specs.steps.Looking.{FindsNearest, NamesNoTime};
 ghost use Rattle.session.specs.SiteAnswers as spec;
-ghost use Rattle.session.specs.SiteAnswers.{Asks, IsSoughtTime, NamesNoTime};
+ghost use Rattle.session.specs.SiteAnswers.{Asks, IsSoughtTime};
 ghost use Rattle.timegate.specs.Redirect.{redirect_text};
 
 use crate::answer::Answer;

@@ -4,7 +4,6 @@ ghost use Rattle.archive_shelf.specs.Told.{GoesOn};
 ghost use Rattle.capture.specs.Faults.{Rose};
 ghost use Rattle.outside.specs.Gate.{heard_of};
 ghost use Rattle.session.specs.Connection.{IsConnection};
-ghost use Rattle.session.specs.Gains.{world_of};
 
 use crate::Served;
 use crate::answering::{Ask, answer};
@@ -32,8 +31,8 @@ pub fn serve<S: Shelf, L: Link, N: Dialer, C: Clock>(
 ) -> Served
     requires no_fault { L.faults client.old ≡ 0 }
     ensures serves { IsTrue L.tells → IsTrue N.Link.tells → IsConnection S.alone (record { site = site.now; clock_tells = C.tells })
-        (world_of (heard_of (L.traffic client.old) (L.faults client.old)) (C.answers clock.old) (N.links dialer.old) (N.faults dialer.old) (S.told shelf.old))
-        (world_of (heard_of (L.traffic client.new) (L.faults client.new)) (C.answers clock.new) (N.links dialer.new) (N.faults dialer.new) (S.told shelf.new)) result }
+        (record { heard = heard_of (L.traffic client.old) (L.faults client.old); answers = C.answers clock.old; links = N.links dialer.old; dialer_faults = N.faults dialer.old; shelf = S.told shelf.old })
+        (record { heard = heard_of (L.traffic client.new) (L.faults client.new); answers = C.answers clock.new; links = N.links dialer.new; dialer_faults = N.faults dialer.new; shelf = S.told shelf.new }) result }
     ensures later { L.faults client.old ≤ L.faults client.new }
     ensures broke { result ≡ Served.ClientBroke → Rose (L.faults client.old) (L.faults client.new) }
     ensures goes_on { GoesOn S.alone (S.told shelf.old) (S.told shelf.new) }

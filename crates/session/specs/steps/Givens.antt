@@ -1,5 +1,7 @@
 -- An answer as clauses see it.
 use Rattle.std.specs.Prelude.{ℕ, Bool, List, ◌++◌, Option, Some, None}
+use Rattle.head_lines.specs.Lines.{own_status_line, type_line}
+use Rattle.head_lines.specs.declared.status.Status.TheVariants as status
 
 -- the text that the client gets, and whether the connection closes behind it
 pub record Given : Type 0 where
@@ -10,3 +12,7 @@ pub record Given : Type 0 where
 abbrev pub with_body : List ℕ → Option (List ℕ) → List ℕ
 with_body head None = head
 with_body head (Some body) = head ++ body
+
+-- the status line of what is found, and its type
+unfoldable pub found_start : List ℕ → List ℕ
+found_start media_type = own_status_line status.Ok ++ type_line media_type

@@ -1,14 +1,28 @@
 -- What is found among the entries that are shown.
-use Rattle.std.specs.Prelude.{◌≡◌, ℕ, Bool, List, Option, Some, bytes_eq}
+use Rattle.std.specs.Prelude.{◌≡◌, ℕ, Bool, true, List, Option, Some, None, bytes_eq}
 use Rattle.archive_shelf.specs.Contents.{Contents}
 use Rattle.archive_shelf.specs.Queries.{ArePicked, IsFound}
 use Rattle.archive_shelf.specs.Told.{KnowsBook}
 use Rattle.cdx_query.specs.Answers.{IsAnswer}
 use Rattle.cdx_query.specs.declared.query.Query.{Query}
 use Rattle.cdxj_index.specs.Facts.{Facts}
-use Rattle.replay_url.specs.Questions.{Nearest}
+use Rattle.replay_url.specs.Questions.{Nearest, names_date}
 use Rattle.surt_key.specs.Key.{key_of}
-use Rattle.session.specs.SiteAnswers.{SiteRequest, ReachesJust}
+use Rattle.time_text.specs.Blanks.{trim_blanks}
+use Rattle.time_text.specs.Reading.{IsHttpDate}
+use Rattle.session.specs.SiteAnswers.{SiteRequest, Reaches}
+
+-- the field names no time
+abbrev pub NamesNoTime : Option (List ℕ) → Type 0
+NamesNoTime (Some value) = (time : ℕ) → ¬ (IsHttpDate (trim_blanks value) time)
+NamesNoTime None = ⊥
+
+-- the address names the date of the capture that is nearest
+pub record ReachesJust (q : SiteRequest) (shown : List Facts) (sought : Nearest) (number : ℕ) : Type 0 where
+  pub entry : Facts
+  pub reaches : Reaches q shown sought entry
+  pub named : names_date sought.named entry.date ≡ true
+  pub number_is : number ≡ entry.number
 
 -- the entry of a URL's key that is nearest to a time, or that the key has none
 pub record FindsNearest (alone : Bool) (now : Contents) (url : List ℕ) (time : ℕ) (found : Option Facts) : Type 0 where

@@ -6,7 +6,7 @@ use Rattle.capture.specs.declared.refusal.Refusal.TheVariants.{ConnectRefused, S
 use Rattle.capture.specs.declared.site.Site.{Site}
 use Rattle.exchange.specs.Receiving.{BeginsAccounted, StaysAccounted}
 use Rattle.exchange.specs.Refusals.{refusal_text, memory_text}
-use Rattle.exchange.specs.Aim.{HasShortHost}
+use Rattle.exchange.specs.Aim.{HasShortHost, aim_of}
 use Rattle.exchange.specs.declared.aim.Aim.{Aim}
 use Rattle.exchange.specs.declared.aim.AimFault.{AimFault}
 use Rattle.exchange.specs.declared.aim.AimFault.TheVariants as aim_fault
@@ -15,7 +15,7 @@ use Rattle.http_head.specs.declared.head.RequestMessage.{RequestMessage}
 use Rattle.http_wire.specs.Heads.{BeginsWithRequest}
 use Rattle.http_wire.specs.Messages.{IsRequest}
 use Rattle.outside.specs.declared.gate.Heard.{Heard}
-use Rattle.session.specs.Requests.{HasInterim, IsAimed, IsAimedNowhere, IsAsked, IsBegun, IsBetween, IsInside, IsInterim, IsRefused, IsUndecided, aim_of_head, answers_head, interim_of}
+use Rattle.session.specs.Requests.{IsAimed, IsAimedNowhere, IsAsked, IsBegun, IsBetween, IsInside, IsInterim, IsRefused, IsUndecided, answers_head, interim_of}
 use Rattle.session.specs.steps.Wire.{Breaks, EndsRefusal, Says, Tries, Writes}
 use Rattle.session.specs.declared.reading.Asked.{Asked}
 use Rattle.session.specs.declared.served.Served.{Served}
@@ -42,7 +42,7 @@ pub record HasRead (site : Site) (from : Client) (message : RequestMessage) (aim
 -- The head of a request was read, which goes there, and its body is awaited: where it asks to be told so, it was.
 pub record AwaitsRest (site : Site) (from : Client) (stream : List ℕ) (head : RequestHead) (aim : Aim) (to : Client) : Type 0 where
   pub begins : BeginsWithRequest stream head
-  pub aimed : aim_of_head site head ≡ Ok aim
+  pub aimed : aim_of site head.method head.target ≡ Ok aim
   pub taken : HasTaken from stream (interim_of site head) to
 
 -- ---- no request was read
@@ -67,11 +67,11 @@ pub record MeetsNoMore (site : Site) (from : Client) (now : Heard) (end : Served
 -- the link failed in the text that asks for the body
 pub record BreaksInside (site : Site) (from : Client) (now : Heard) (end : Served) : Type 0 where
   pub begun : List ℕ
-  pub interim : List ℕ
-  pub asked : HasInterim site begun interim
+  pub head : RequestHead
+  pub begins : BeginsWithRequest begun head
   pub to : Client
   pub taken : HasTaken from begun [] to
-  pub broke : Breaks interim to.heard now
+  pub broke : Breaks (interim_of site head) to.heard now
   pub ends : end ≡ ClientBroke
 
 -- what came is refused
@@ -121,7 +121,7 @@ pub record ComesFaulty (from : Client) (stream interim : List ℕ) (to : Heard) 
 -- Where a head goes. It was told that its body is awaited, if it asks for that; or the connection ends: the head goes nowhere, or
 -- there was no memory, or the link failed.
 abbrev pub LooksAt : Site → RequestHead → Heard → Heard → Result Aim Served → Type 0
-LooksAt site head then now (Ok aim) = (aim_of_head site head ≡ Ok aim) × Writes (interim_of site head) then now
+LooksAt site head then now (Ok aim) = (aim_of site head.method head.target ≡ Ok aim) × Writes (interim_of site head) then now
 LooksAt site head then now (Err end) =
     ((refusal : Refusal) × IsAimedNowhere site head refusal
     × EndsRefusal refusal (refusal_text refusal (asks_for_head head.method) true) then now end)
@@ -139,14 +139,14 @@ RefusesAim aim_fault.Memory answers_head then now end = Tries memory_text then n
 pub record IsWellAsked (site : Site) (asked : Asked) : Type 0 where
   pub stream : List ℕ
   pub request : IsRequest stream asked.message
-  pub aimed : aim_of_head site asked.message.head ≡ Ok asked.aim
+  pub aimed : aim_of site asked.message.head.method asked.message.head.target ≡ Ok asked.aim
   pub short : HasShortHost asked.aim
 
 -- the request is one that was read, and goes where this head goes
 pub record IsBehind (head : RequestHead) (message : RequestMessage) : Type 0 where
   pub stream : List ℕ
   pub request : IsRequest stream message
-  pub same_aim : (site : Site) → aim_of_head site message.head ≡ aim_of_head site head
+  pub same_aim : (site : Site) → aim_of site message.head.method message.head.target ≡ aim_of site head.method head.target
 
 -- what comes of reading the body of a request that goes there
 abbrev pub ReadsBody : Site → Client → Aim → Client → Result RequestMessage Served → Type 0

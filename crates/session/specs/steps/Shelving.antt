@@ -14,7 +14,7 @@ module _ (alone : Bool) (site : Site) (r : Round) (e : Exchange) where
   -- a capture was stored in the book that was seen before
   pub record HasKept (received : Received) (was is : Told) : Type 0 where
     pub deed : deed_of r.outcome ≡ Stores e received
-    pub fetched : Fetched e received r.traces
+    pub fetched : Fetched e (Ok received) r.traces
     pub found : IsTrue alone → r.traces.before.book ≡ was.contents.seen
     pub after : r.traces.after.book ≡ is.contents.seen
     pub receipt : Receipt

@@ -1,9 +1,9 @@
 -- A connection from a stage on, and a step from one stage to the next.
-use Rattle.std.specs.Prelude.{◌≡◌, ◌+◌, ℕ, Bool, false, List, [], ◌∷◌, ◌++◌}
+use Rattle.std.specs.Prelude.{◌≡◌, ◌+◌, ◌-◌, ◌^◌, ◌<◌, ℕ, Bool, false, IsTrue, List, [], ◌∷◌, ◌++◌, length}
 use Rattle.archive_shelf.specs.Told.{Told}
 use Rattle.exchange.specs.Receiving.{StaysAccounted}
-use Rattle.session.specs.Connection.{Setting, Gained}
-use Rattle.session.specs.Gains.{World, gains_of}
+use Rattle.session.specs.Connection.{Setting}
+use Rattle.session.specs.Gains.{World, Gains, gains_of}
 use Rattle.session.specs.steps.Gaining.{gains_by}
 use Rattle.session.specs.Images.{KeepsImages}
 use Rattle.session.specs.Rounds.{Round, IsRound, IsCourse, KnowsBefore, closes, course_wire}
@@ -27,6 +27,16 @@ abbrev pub view_at : World → View
 view_at world = view_of world.shelf.contents world.dialer_faults world.shelf.faults
 
 module _ (alone : Bool) (setting : Setting) where
+  -- what the objects tell has changed by what was gained
+  pub record Gained (was is : World) (gains : Gains) : Type 0 where
+    pub asked : IsTrue setting.clock_tells → length is.answers < 2 ^ 64 - 1 → is.answers ≡ was.answers ++ gains.times
+    pub logged : is.links ≡ record was.links { log = was.links.log ++ gains.transcripts }
+    pub stored : is.shelf.contents ≡ record was.shelf.contents {
+      seen = is.shelf.contents.seen;
+      shown = is.shelf.contents.shown;
+      mine = was.shelf.contents.mine ++ gains.numbers;
+    }
+
   -- what is left of a connection, from a stage on
   pub record IsRemainder (from : Stage) (is : World) (result : Served) : Type 0 where
     pub rounds : List Round
@@ -34,7 +44,7 @@ module _ (alone : Bool) (setting : Setting) where
     pub accounts : StaysAccounted from.world.heard.given from.pending is.heard.given (course_wire rounds ++ rest)
     pub lawful : IsCourse (terms_at alone setting from.world.shelf) from.served (view_at from.world) rounds (view_at is)
     pub ends : Ends result setting.site (record { served = from.served; rounds = rounds; rest = rest }) from.world.heard is.heard
-    pub gained : Gained alone setting from.world is (gains_of rounds)
+    pub gained : Gained from.world is (gains_of rounds)
     pub images : KeepsImages (terms_at alone setting from.world.shelf) rounds from.world.shelf is.shelf
 
   -- A lawful round was made between two stages. Only its text may not be written.
@@ -43,7 +53,7 @@ module _ (alone : Bool) (setting : Setting) where
     pub leads : LeadsView (terms_at alone setting was.shelf) (view_at was) r.traces.before
     pub knows : KnowsBefore (terms_at alone setting was.shelf) (view_at was) r
     pub left : view_at is ≡ r.traces.after
-    pub gained : Gained alone setting was is (gains_by r)
+    pub gained : Gained was is (gains_by r)
     pub images : KeepsImages (terms_at alone setting was.shelf) (r ∷ []) was.shelf is.shelf
 
   -- A lawful round was made from one stage to the next, doesn't close, and its text was written.

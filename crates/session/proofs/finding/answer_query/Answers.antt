@@ -15,12 +15,7 @@ returns-in-Ok-clause-answers g c clock_tells =
     (record { message = c.args.visit.message.now; address = c.args.visit.address.now })
     (Finds c.args.query.now c.in-Ok.text) c.args.visit.closes c.found.result (g.S.Finder.told c.args.shelf.now) (g.S.Finder.told c.look_up.new.shelf)
     (g.met.S.Finder.earlier c.look_up.new.shelf) c.look_up.ensures.looks there.knows refl
-    (λ faults. record {
-      text = c.requires.asks.0;
-      asks = c.requires.asks.1;
-      is = c.requires.asks.2;
-      answers = there.answers;
-    })
+    (λ faults. (c.requires.asks.0, c.requires.asks.1, c.requires.asks.2, there.answers))
     (rw c.media_type.ensures at c.found.ensures.text) c.found.ensures.closes
 
 pub returns-in-Err-clause-answers : goal.returns-in-Err-clause-answers

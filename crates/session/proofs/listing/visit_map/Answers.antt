@@ -31,7 +31,7 @@ returns-else-is_empty-clause-answers g c clock_tells =
     (record { message = c.args.visit.message.now; address = c.args.visit.address.now })
     (Lists c.args.of.now.url c.in-Ok.entries.items) c.args.visit.closes c.list.result (g.S.Finder.told c.args.shelf.now) (g.S.Finder.told c.all_of.new.shelf)
     (g.met.S.Finder.earlier c.all_of.new.shelf) c.all_of.ensures.looks found.knows refl
-    (λ faults. record { asks = c.requires.asks; key = found.key; keyed = found.keyed; picked = found.picked; some = some_list c.in-Ok.entries.items (vec_len c.in-Ok.entries) c.is_empty.result (omega (arith, c.in-Ok.entries.ok.0)) c.is_empty.ensures c.if-is_empty.false })
+    (λ faults. (found.key, c.requires.asks, found.keyed, found.picked, some_list c.in-Ok.entries.items (vec_len c.in-Ok.entries) c.is_empty.result (omega (arith, c.in-Ok.entries.ok.0)) c.is_empty.ensures c.if-is_empty.false))
     (rw (c.as_slice.ensures.value, c.as_slice-in-Ok.ensures.value) at c.list.ensures.text) c.list.ensures.closes
 
 pub returns-in-Err-clause-answers : goal.returns-in-Err-clause-answers

@@ -16,10 +16,10 @@ returns-in-Ok-Some-clause-answers g c clock_tells =
     (record { message = c.args.visit.message.now; address = c.args.visit.address.now })
     (Redirects (by_gate c.args.of.now.url) c.in-Ok-Some.entry) c.args.visit.closes c.lead_to.result (g.S.Finder.told c.args.shelf.now) (g.S.Finder.told c.seek.new.shelf)
     (g.met.S.Finder.earlier c.seek.new.shelf) c.seek.ensures.looks found.knows refl
-    (λ faults. record {
-      reaches = record { form = Gate c.args.of.now.url; asks = c.requires.asks; asked = refl; key = found.key; keyed = found.keyed; time = c.args.time; timed = c.requires.timed; nearest = found.nearest };
-      other = refl;
-    })
+    (λ faults. (
+      record { form = Gate c.args.of.now.url; asks = c.requires.asks; asked = refl; key = found.key; keyed = found.keyed; time = c.args.time; timed = c.requires.timed; nearest = found.nearest },
+      refl,
+    ))
     (rw c.as_slice.ensures.value at c.lead_to.ensures.text) c.lead_to.ensures.closes
 
 pub returns-in-Ok-None-clause-answers : goal.returns-in-Ok-None-clause-answers

@@ -41,10 +41,10 @@ returns-else-names_date-clause-answers g c clock_tells =
     (record { message = c.args.visit.message.now; address = c.args.visit.address.now })
     (Redirects (by_memento c.args.sought.time c.args.sought.digits c.args.sought.raw c.args.sought.of.now.url) c.in-Ok-Some.entry) c.args.visit.closes c.lead_to.result (g.S.Finder.told c.args.shelf.now) (g.S.Finder.told c.seek.new.shelf)
     (g.met.S.Finder.earlier c.seek.new.shelf) c.seek.ensures.looks found.knows refl
-    (λ faults. record {
-      reaches = record { form = Memento c.args.sought.time c.args.sought.digits c.args.sought.raw c.args.sought.of.now.url; asks = c.requires.asks; asked = refl; key = found.key; keyed = found.keyed; time = c.args.sought.time; timed = refl; nearest = found.nearest };
-      other = by_test c.names_date.result (names_date (Some (record { time = c.args.sought.time; digits = c.args.sought.digits })) c.in-Ok-Some.entry.date) c.names_date.ensures c.if-names_date.false;
-    })
+    (λ faults. (
+      record { form = Memento c.args.sought.time c.args.sought.digits c.args.sought.raw c.args.sought.of.now.url; asks = c.requires.asks; asked = refl; key = found.key; keyed = found.keyed; time = c.args.sought.time; timed = refl; nearest = found.nearest },
+      by_test c.names_date.result (names_date (Some (record { time = c.args.sought.time; digits = c.args.sought.digits })) c.in-Ok-Some.entry.date) c.names_date.ensures c.if-names_date.false,
+    ))
     (rw c.as_slice.ensures.value at c.lead_to.ensures.text) c.lead_to.ensures.closes
 
 pub returns-in-Ok-None-clause-answers : goal.returns-in-Ok-None-clause-answers

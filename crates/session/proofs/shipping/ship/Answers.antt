@@ -2,6 +2,7 @@
 use Rattle.std.proofs.Common.{false, refl}
 use Rattle.archive_shelf.proofs.CallLaws.{read_goes_on, stays_tells}
 use Rattle.session.specs.SiteAnswers.{Ships}
+use Rattle.session.specs.steps.Stages.{terms_at}
 use Rattle.session.proofs.VisitLaws.{bring_answers, piece_shipped, unshipped_answers}
 use Rattle.session.proofs.shipping.ship.Goals as goal
 
@@ -12,7 +13,7 @@ returns-in-Ok-clause-answers g c clock_tells =
     (Ships c.args.number c.in-Ok.piece) c.args.visit.closes false c.found.result (g.S.Finder.told c.args.shelf.now) (g.S.Finder.told c.piece.new.self)
     (g.met.S.Finder.earlier c.piece.new.self)
     c.in-Ok.ensures.reads refl refl
-    (λ faults. piece_shipped _ (record { message = c.args.visit.message.now; address = c.args.visit.address.now }) c.args.number c.in-Ok.piece (g.S.Finder.told c.piece.new.self).contents faults
+    (λ faults. piece_shipped (terms_at g.S.Finder.alone (record { site = c.args.visit.site.now; clock_tells = clock_tells }) (g.S.Finder.told c.args.shelf.now)) (record { message = c.args.visit.message.now; address = c.args.visit.address.now }) c.args.number c.in-Ok.piece (g.S.Finder.told c.piece.new.self).contents faults
     (g.S.Finder.told c.args.shelf.now).faults c.requires.asks c.in-Ok.ensures.gives
     (stays_tells g.S.Finder.alone (g.S.Finder.told c.args.shelf.now).contents (g.S.Finder.told c.piece.new.self).contents c.in-Ok.ensures.reads.stays))
     c.found.ensures.text
