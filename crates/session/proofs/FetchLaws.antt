@@ -17,9 +17,9 @@ use Rattle.http_head.specs.declared.head.Received.{Received}
 use Rattle.outside.specs.Records.{Links}
 use Rattle.outside.specs.declared.dialer.Transcript.{Transcript}
 use Rattle.time_text.specs.Texts.{InRange}
-use Rattle.session.specs.Exchanges.{Exchange, Fails, Fetched, IsReply, asking_of}
+use Rattle.session.specs.Exchanges.{Exchange, Fails, Fetched, IsReply}
 use Rattle.session.specs.steps.Declining.{Declines, Refuses, refusal_by_fetch}
-use Rattle.session.specs.steps.Exchanging.{Around, Asks, terms_in, traces_of}
+use Rattle.session.specs.steps.Exchanging.{asking_of, Around, Asks, terms_in, traces_of}
 use Rattle.session.specs.Images.{NoDeed, deed_of}
 use Rattle.session.specs.Rounds.{Exchanged, disk_fault, origin_fault}
 use Rattle.session.specs.Traces.{CountsMet, StaysView}

@@ -27,8 +27,8 @@ use Rattle.http_head.specs.declared.head.Received.{Received}
 use Rattle.outside.specs.declared.dialer.Transcript.{Transcript}
 use Rattle.time_text.specs.Texts.{InRange}
 use Rattle.warc_text.specs.Fits.{Fits}
-use Rattle.session.specs.Exchanges.{Exchange, Fails, Fetched, HasRoom, Passes, asking_of, taken_of}
-use Rattle.session.specs.steps.Exchanging.{Around, Comes, FollowsStore, HasCome, Keeps, PassesOn, Replies, round_of, terms_in, traces_of}
+use Rattle.session.specs.Exchanges.{Exchange, Fails, Fetched, HasRoom, Passes, taken_of}
+use Rattle.session.specs.steps.Exchanging.{asking_of, Around, Comes, FollowsStore, HasCome, Keeps, PassesOn, Replies, round_of, terms_in, traces_of}
 use Rattle.session.specs.Laws.{StoredCapturesHaveTheirPayload}
 use Rattle.session.specs.Traces.{IsConsistentView, view_of}
 use Rattle.session.specs.steps.Givens.{Given}

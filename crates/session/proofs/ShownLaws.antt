@@ -10,7 +10,7 @@ use Rattle.capture.specs.declared.refusal.Refusal.TheVariants.{NoSuch}
 use Rattle.archive_shelf.specs.Answers.{IsBrought}
 use Rattle.session.specs.Laws.{FoundCapturesAreReplayed, ShownNumbersAreThere}
 use Rattle.session.specs.Rounds.{Round, Outcome, IsCourse, IsDecided, Visited}
-use Rattle.session.specs.SiteAnswers.{SiteRequest, Refuses, HasNoMore}
+use Rattle.session.specs.SiteAnswers.{Refuses, HasNoMore}
 use Rattle.session.specs.Traces.{Terms, View}
 use Rattle.session.proofs.GrowingLaws.{decided_leaves, leaves_shows}
 use Rattle.session.proofs.StayLaws.{IsIn, lawful_in, only_this}

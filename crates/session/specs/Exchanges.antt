@@ -12,7 +12,7 @@ use Rattle.capture.specs.Payload.{IsPayload}
 use Rattle.capture.specs.declared.captured.Taken.{Taken}
 use Rattle.capture.specs.declared.refusal.Refusal.{Refusal}
 use Rattle.capture.specs.declared.refusal.Refusal.TheVariants.{ClockRange, DialFault, OriginFault, OriginEnded, OriginMalformed, OriginTooLong, TooManyInterim, Full, DiskFault, Damaged}
-use Rattle.exchange.specs.Fetches.{Asking, IsFetched}
+use Rattle.exchange.specs.Fetches.{IsFetched}
 use Rattle.exchange.specs.Texts.{forwarded}
 use Rattle.exchange.specs.declared.aim.Target.{Target}
 use Rattle.exchange.specs.declared.fetching.FetchFault.{FetchFault}
@@ -28,14 +28,6 @@ pub record Exchange : Type 0 where
   pub message : RequestMessage
   pub target : Target
 
--- what is asked of the origin
-abbrev pub asking_of : Exchange → Asking
-asking_of e = record {
-  target = e.target;
-  request = forwarded e.message e.target;
-  answers_head = asks_for_head e.message.head.method;
-}
-
 -- How the request is answered: by a refusal, or by the origin's response, with this payload.
 pub data Reply : Type 0 where
   Fails : (refusal : Refusal) → Reply
@@ -49,7 +41,11 @@ pub record Fetched (e : Exchange) (result : Result Received FetchFault) (traces 
   pub in_range : InRange date
   pub t : Transcript
   pub linked : traces.transcripts ≡ t ∷ []
-  pub fetched : IsFetched (asking_of e) t result
+  pub fetched : IsFetched (record {
+    target = e.target;
+    request = forwarded e.message e.target;
+    answers_head = asks_for_head e.message.head.method;
+  }) t result
 
 -- the capture of an exchange: what the client asked and when, what went to the origin, and what came back
 abbrev pub taken_of : Exchange → ℕ → Received → Taken

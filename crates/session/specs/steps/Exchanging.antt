@@ -10,9 +10,9 @@ use Rattle.capture.specs.declared.book.Book.{Book}
 use Rattle.capture.specs.declared.captured.Taken.{Taken}
 use Rattle.capture.specs.declared.memory.Memory.{Memory}
 use Rattle.capture.specs.declared.site.Site.{Site}
-use Rattle.exchange.specs.Fetches.{IsFetched}
+use Rattle.exchange.specs.Fetches.{Asking, IsFetched}
 use Rattle.exchange.specs.Refusals.{refusal_text}
-use Rattle.exchange.specs.Texts.{answered}
+use Rattle.exchange.specs.Texts.{answered, forwarded}
 use Rattle.exchange.specs.declared.aim.Aim.TheVariants.{Origin}
 use Rattle.http_head.specs.declared.head.Received.{Received}
 use Rattle.outside.specs.Records.{Links}
@@ -20,7 +20,7 @@ use Rattle.outside.specs.declared.dialer.Transcript.{Transcript}
 use Rattle.session.specs.steps.Answering.{Answers, Incoming}
 use Rattle.session.specs.Connection.{Setting}
 use Rattle.session.specs.steps.Declining.{Declines, refusal_by_store}
-use Rattle.session.specs.Exchanges.{Exchange, Reply, Fails, Passes, RanOut, IsReply, asking_of}
+use Rattle.session.specs.Exchanges.{Exchange, Reply, Fails, Passes, RanOut, IsReply}
 use Rattle.session.specs.Gains.{World}
 use Rattle.session.specs.Images.{KeepsImages}
 use Rattle.session.specs.Requests.{IsAsked, IsInterim, closes_after}
@@ -35,6 +35,14 @@ use Rattle.session.specs.declared.passing.Rest.TheVariants as rests
 -- the request, and the origin that it goes to
 abbrev pub exchange_of : Proxied → Exchange
 exchange_of proxied = record { message = proxied.message; target = proxied.target }
+
+-- what is asked of the origin
+abbrev pub asking_of : Exchange → Asking
+asking_of e = record {
+  target = e.target;
+  request = forwarded e.message e.target;
+  answers_head = asks_for_head e.message.head.method;
+}
 
 -- ---- answers
 
