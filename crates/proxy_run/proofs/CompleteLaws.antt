@@ -1,6 +1,6 @@
 -- A run over a disk that is ready isn't refused.
 use Rattle.std.proofs.Common.{◌≡◌, ◌≢◌, ◌⊎◌, ℕ, ◌-◌, ◌^◌, ◌<◌, ◌≤◌, Bool, true, true≢false, IsTrue, List, length, Option, Some, None, Result, Ok, Err, refl, sym, ap, subst, ◌∙◌, inl, inr, ⊎_elim, arith}
-use Rattle.std.specs.Prelude.{IfSome, ⊤}
+use Rattle.std.specs.Prelude.{IfSome, ⊤, MatchResult, codes}
 use Rattle.archive_opening.specs.Opening.{CountsFault, HoldsOther, IsDamageIn, IsOtherIn, IsOutside}
 use Rattle.archive_core.proofs.FinishedLaws.{checkpoints_later, same_checkpoints_of}
 use Rattle.archive_core.specs.Finished.{IsSettled}
@@ -39,15 +39,14 @@ use Rattle.proxy_run.proofs.StatusLaws.{settled_answered}
 use Rattle.proxy_run.proofs.NextLaws.{all_next, settled_next, sound_still, stands_same}
 use Rattle.proxy_run.specs.Complete.{CapturesComeBack, ChecksAreAnswered, EndsBadly, FollowsAreAnswered, FollowsBadly, FollowsLeaveReady, ImportsAreAnswered, ImportsBadly, ImportsLeaveReady, IsFullBefore, IsNotFollowed, IsNotTaken, IsReady, IsLeftSettled, IsSteady, NoFaults, PipesAreAnswered, PipesLeaveReady, PipesLeaveSettled, PipesLeaveTheLast, PipesPassOn, ServesBadly}
 use Rattle.replica.specs.Following.{EndsBy as FollowEnds, is_disk_stop}
-use Rattle.proxy_run.specs.Follows.{TellsEnd}
 use Rattle.importing.specs.Imports.{IsTellable, Tells, status_after}
 use Rattle.importing.specs.Keeping.{EndsBy, Keeps, is_denied}
 use Rattle.command.specs.Objects.{Kinds, Objects, UsesFirst, with_one}
-use Rattle.proxy_run.specs.Pipes.{HasServed, HasServedNone, Pipes, Refuses, pipe_terms}
+use Rattle.proxy_run.specs.Pipes.{HasServed, Pipes, Refuses, around_in}
 use Rattle.command.specs.Printing.{LacksMemory, Prints, printed_as}
 use Rattle.proxy_run.specs.Checks.{IsCounted}
-use Rattle.proxy_run.specs.Runs.{HasPiped, HasReplicated, HasTakenIn, LacksWords}
-use Rattle.proxy_run.specs.Serving.{IsReason, status_of}
+use Rattle.proxy_run.specs.Runs.{HasReplicated, HasTakenIn}
+use Rattle.proxy_run.specs.Serving.{status_of, pipe_site}
 use Rattle.replica.specs.Sources.{source_of}
 use Rattle.command.specs.Texts.{IsFaultText}
 use Rattle.replica.specs.declared.asking.SourceFault.TheVariants as sources
@@ -62,6 +61,10 @@ use Rattle.session.specs.Laws.{CoursesCountFaults, IdsDifferOnTheWay}
 use Rattle.session.specs.Rounds.{disk_faults}
 use Rattle.session.specs.declared.served.Served.{Served}
 use Rattle.session.specs.declared.served.Served.TheVariants as served
+use Rattle.session.specs.Traces.{terms_of}
+use Rattle.crew.specs.Crews.{IsEnd}
+use Rattle.proxy_run.specs.Follows.{TellsStop}
+use Rattle.proxy_run.specs.StopTexts.{numbered}
 use Rattle.warc_journal.specs.Extents.{cdxj_files, warc_files}
 use Rattle.warc_journal.specs.Journals.{disk_of}
 use Rattle.warc_text.specs.Sound.{IsSound}
@@ -167,7 +170,7 @@ module _ {D G L P N M C O : Type 0} (kinds : Kinds D G L P N M C O) where
   badly was is before after status first s (inr (inr ends)) =
       inr (inr (record { before = before; after = after; first = first; served = s; badly = ends }))
 
-  without : (closed : Bool) (before now : ℕ) (status : Status) → IsSteady before now → IsReason closed before now status
+  without : (closed : Bool) (before now : ℕ) (status : Status) → IsSteady before now → IsEnd closed before now status
       → (status ≡ Done) ⊎ (status ≡ Memory)
   without closed before now Done steady reason = inl refl
   without closed before now Words steady reason = absurd reason
@@ -182,21 +185,22 @@ module _ {D G L P N M C O : Type 0} (kinds : Kinds D G L P N M C O) where
   served_answered : (was is : Objects D G (List (N × C)) O) (before after : Holdings D) (status : Status) (first : UsesFirst was.crew is.crew)
       → NoFaults kinds was is
       → HasServed kinds (with_one was first.before) (with_one is first.after) before after status
-      ⊎ HasServedNone kinds (with_one was first.before) (with_one is first.after) before after status
+      ⊎ (IsEnd (kinds.gates.closed was.gate) (kinds.gates.faults was.gate) (kinds.gates.faults is.gate) status
+      × (around_in kinds (with_one is first.after) ≡ around_in kinds (with_one was first.before)) × (after ≡ before))
       → (status ≡ Done) ⊎ (status ≡ Memory) ⊎ ServesBadly kinds was is status
   served_answered was is before after status first steady (inl s) =
       badly was is before after status first s (ends_or_badly s.one.served status s.one.status_is)
   served_answered was is before after status first steady (inr n) =
-      one_more (without (kinds.gates.closed was.gate) (kinds.gates.faults was.gate) (kinds.gates.faults is.gate) status steady.gate n.reason)
+      one_more (without (kinds.gates.closed was.gate) (kinds.gates.faults was.gate) (kinds.gates.faults is.gate) status steady.gate n.0)
 
   pipe_answered : (known : Option Book) (namespace : List ℕ) (was is : Objects D G (List (N × C)) O) (status : Status)
       → IsTrue (told_at Checkpoints kinds.disks.tells known) → IsTrue kinds.clients_tell → IsTrue kinds.origins_tell → NoFaults kinds was is
-      → HasPiped kinds known namespace was is status ⊎ Refuses kinds (by_checkpoints was.disk (Some namespace) known) was is status
+      → ((first : UsesFirst was.crew is.crew) × Pipes kinds known (Some namespace) (with_one was first.before) (with_one is first.after) status) ⊎ Refuses kinds (by_checkpoints was.disk (Some namespace) known) was is status
       → (status ≡ Done) ⊎ (status ≡ Memory) ⊎ ServesBadly kinds was is status
   pipe_answered known namespace was is status told clients origins steady (inl piped) =
-      let p = piped.piped in
+      let p = piped.1 in
       settled_answered (λ (s : Status). ServesBadly kinds was is s) p.closed.answer p.said status p.closed.status_is
-      (served_answered was is p.before p.after p.said piped.first steady (p.serves clients origins))
+      (served_answered was is p.before p.after p.said piped.0 steady (p.serves clients origins))
   pipe_answered known namespace was is status told clients origins steady (inr refuses) =
       inr (inl (refused_known known (Some namespace) was is status told steady refuses))
 
@@ -276,7 +280,9 @@ module _ {D G L P N M C O : Type 0} (kinds : Kinds D G L P N M C O) where
 
   ended_answered : (known : Option Book) (namespace : List ℕ) (site : Site) (was is : Objects D G (List (N × C)) O) (status : Status) (taken : HasReplicated kinds known namespace site was is status)
       → IsTrue (told_at Checkpoints kinds.disks.tells known) → NoFaults kinds was is → (result : Result ⊤ Stop) → taken.follows.follows.result ≡ result
-      → TellsEnd kinds.sinks (length (captures taken.follows.after.book)) result was.out is.out status
+      → MatchResult result
+      (λ done. Prints kinds.sinks Done (numbered (codes "captures ") (length (captures taken.follows.after.book))) was.out is.out status ⊎ LacksMemory kinds.sinks was.out is.out status)
+      (λ stop. TellsStop kinds.sinks stop was.out is.out status)
       → FollowEnds kinds.disks (source_of site) kinds.origins_tell result taken.follows.follows.followed.refused
       taken.follows.follows.followed.reached taken.follows.follows.followed.links taken.follows.after (kinds.dialers.links taken.first.after.0)
       → CountsIf (is_disk_stop result) (kinds.disks.faults was.disk) (kinds.disks.faults is.disk)
@@ -308,14 +314,14 @@ module _ {D G L P N M C O : Type 0} (kinds : Kinds D G L P N M C O) where
 
   follow_answered : (known : Option Book) (namespace : List ℕ) (site : Site) (was is : Objects D G (List (N × C)) O) (status : Status)
       → IsTrue (told_at Checkpoints kinds.disks.tells known) → NoFaults kinds was is
-      → HasReplicated kinds known namespace site was is status ⊎ Refuses kinds (by_checkpoints was.disk (Some namespace) known) was is status ⊎ LacksWords kinds known was is status
+      → HasReplicated kinds known namespace site was is status ⊎ Refuses kinds (by_checkpoints was.disk (Some namespace) known) was is status ⊎ ((status ≡ Memory) × (is ≡ was))
       → (status ≡ Done) ⊎ (status ≡ Memory) ⊎ FollowsBadly kinds known namespace site was is status
   follow_answered known namespace site was is status told steady (inl taken) =
       ended_answered known namespace site was is status taken told steady taken.follows.follows.result refl taken.follows.follows.told taken.follows.follows.followed.ends
       taken.follows.disk_faults
   follow_answered known namespace site was is status told steady (inr (inl refuses)) =
       inr (inl (refused_known known (Some namespace) was is status told steady refuses))
-  follow_answered known namespace site was is status told steady (inr (inr lacks)) = inr (inl lacks.status_is)
+  follow_answered known namespace site was is status told steady (inr (inr lacks)) = inr (inl lacks.0)
 
   pub follows_answered : FollowsAreAnswered kinds
   follows_answered known namespace site was is status told steady runs = follow_answered known namespace site was is status told steady runs
@@ -388,7 +394,9 @@ module _ {D G L P N M C O : Type 0} (kinds : Kinds D G L P N M C O) where
 
     -- what an image stands for, that the connection leaves, is the last book
     last_then : CoursesCountFaults → IdsDifferOnTheWay → HasIds piped.after.book → IsSteady (kinds.disks.faults was.disk) (kinds.disks.faults is.disk)
-        → HasServed kinds was is piped.before piped.after piped.said ⊎ HasServedNone kinds was is piped.before piped.after piped.said
+        → HasServed kinds was is piped.before piped.after piped.said
+        ⊎ (IsEnd (kinds.gates.closed was.gate) (kinds.gates.faults was.gate) (kinds.gates.faults is.gate) piped.said
+        × (around_in kinds is ≡ around_in kinds was) × (piped.after ≡ piped.before))
         → (image : Image) (x : Book) → kinds.disks.images (disk_of piped.after.journal) image → ImageStandsFor image x → SameBook x piped.after.book
     last_then counts differ ids steady (inl s) image x left stands =
         let c = s.one.connection in
@@ -396,7 +404,7 @@ module _ {D G L P N M C O : Type 0} (kinds : Kinds D G L P N M C O) where
         (counts _ _ _ c.rounds _ c.lawful).1.rose in
         let none : disk_faults c.rounds ≡ 0 =
         omega (arith, met, faults_before kinds piped steady.same, faults_behind kinds piped steady.same, steady.same, steady.below) in
-        course_one (pipe_terms (contents_of piped.before)) 0 _ c.rounds _ (λ book. SameBook book piped.before.book) x refl c.lawful none (λ b same. same)
+        course_one (terms_of pipe_site true (contents_of piped.before)) 0 _ c.rounds _ (λ book. SameBook book piped.before.book) x refl c.lawful none (λ b same. same)
         (s.left told_first (ids_earlier piped.before.book piped.after.book piped.goes_on.grows ids) (differ _ _ _ c.rounds _ c.lawful ids) image x left stands)
     last_then counts differ ids steady (inr n) image x left stands =
         let at : ImageStandsFor image piped.before.book =

@@ -13,22 +13,22 @@ use Rattle.disk_model.specs.Crash.{Leaves}
 use Rattle.disk_model.specs.Image.{Image}
 use Rattle.disk_model.specs.declared.disk.Disk.{Ghosts as Disks}
 use Rattle.command.proofs.OpeningLaws.{ids_differ}
-use Rattle.proxy_run.specs.Pipes.{pipe_terms}
 use Rattle.session.proofs.ImageLaws.{opens_more}
 use Rattle.session.specs.Exchanges.{Exchange, Fails, IsReply, Passes}
 use Rattle.session.specs.Images.{HasAllIds, KeepsImages, OpensAtLast, OpensBehind, deed_of}
 use Rattle.session.specs.Rounds.{Exchanged, IsCourse, IsDecided, Outcome, Refused, Round, Undecided, Visited, disk_fault, disk_faults}
-use Rattle.session.specs.Traces.{StaysView, Terms, Traces, View}
+use Rattle.session.specs.Traces.{StaysView, Terms, Traces, View, terms_of}
+use Rattle.proxy_run.specs.Serving.{pipe_site}
 use Rattle.warc_journal.specs.Journals.{disk_of}
 
 -- where each image stood for the book before the connection
 pub leaves_just : {D : Type 0} (disks : Disks D) → DiskLaws disks → (rounds : List Round) (was is : Holdings D) → is.told ≡ was.told
     → (IsTrue was.told → Leaves (disks.images (disk_of was.journal)) (λ image. ImageStandsFor image was.book))
-    → KeepsImages (pipe_terms (contents_of was)) rounds (told_of disks was) (told_of disks is)
+    → KeepsImages (terms_of pipe_site true (contents_of was)) rounds (told_of disks was) (told_of disks is)
     → IsTrue was.told → HasIds was.book → HasAllIds rounds → (image : Image) (x : Book) → disks.images (disk_of is.journal) image → ImageStandsFor image x
-    → OpensAtLast (pipe_terms (contents_of was)) (λ book. SameBook book was.book) rounds x
+    → OpensAtLast (terms_of pipe_site true (contents_of was)) (λ book. SameBook book was.book) rounds x
 leaves_just disks laws rounds was is same stood k told ids all image x now stands =
-    opens_more (pipe_terms (contents_of was)) rounds
+    opens_more (terms_of pipe_site true (contents_of was)) rounds
     (λ b. (told_of disks was).crash.openings (told_of disks was).crash.moment b) (λ b. SameBook b was.book)
     (λ b o. one_of o.image b was.book o.stands
     (stood told o.image (now_image (muted was.told disks) (laws_muted disks was.told laws) (disk_of was.journal) b o)) (ids_differ was.book ids)) x

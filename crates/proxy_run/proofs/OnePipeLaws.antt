@@ -22,7 +22,7 @@ use Rattle.command.proofs.SettlingLaws.{ready_consistent, ready_in, ready_known,
 use Rattle.command.specs.Objects.{Kinds, Objects}
 use Rattle.proxy_run.specs.OnePipe.{PipesLeaveNoChoice, PipesWell}
 use Rattle.command.specs.Settling.{OpensSettled}
-use Rattle.proxy_run.specs.Pipes.{Pipes, pipe_terms}
+use Rattle.proxy_run.specs.Pipes.{Pipes}
 use Rattle.proxy_run.specs.Serving.{pipe_site, status_of}
 use Rattle.command.specs.Gates.{unheard}
 use Rattle.command.specs.declared.status.Status.{Status}
@@ -31,7 +31,7 @@ use Rattle.session.specs.OneCourse.{AreOneCourse, CoursesEndOneWay, CoursesLeave
 use Rattle.session.specs.Requests.{IsUndecided}
 use Rattle.session.specs.Rounds.{lacks}
 use Rattle.session.specs.Stopping.{Course, Ends}
-use Rattle.session.specs.Traces.{View, view_of}
+use Rattle.session.specs.Traces.{View, view_of, terms_of}
 use Rattle.session.specs.declared.served.Served.{Served}
 use Rattle.session.specs.declared.served.Served.TheVariants as served
 use Rattle.warc_journal.specs.Journals.{disk_of}
@@ -119,12 +119,12 @@ module _ {D G L P N M C O : Type 0} (kinds : Kinds D G L P N M C O) where
     pub said : status ≡ piped.said
     said = said_by piped.closed.answer piped.said status piped.closed.status_is a.memory
 
-    went_well : WentWell (pipe_terms (contents_of piped.before)) (seen_by was (contents_of piped.before)) course_of
+    went_well : WentWell (terms_of pipe_site true (contents_of piped.before)) (seen_by was (contents_of piped.before)) course_of
         (seen_by (record is { disk = was.disk }) (contents_of piped.after))
     went_well = record {
-      lawful = subst (λ (n : ℕ). IsCourse (pipe_terms (contents_of piped.before)) 0 (view_of (contents_of piped.before) (kinds.dialers.faults was.crew.0) n)
+      lawful = subst (λ (n : ℕ). IsCourse (terms_of pipe_site true (contents_of piped.before)) 0 (view_of (contents_of piped.before) (kinds.dialers.faults was.crew.0) n)
           a.served.one.connection.rounds (view_of (contents_of piped.after) (kinds.dialers.faults is.crew.0) (kinds.disks.faults was.disk))) (faults_before kinds piped a.disk.same)
-          (subst (λ (n : ℕ). IsCourse (pipe_terms (contents_of piped.before)) 0
+          (subst (λ (n : ℕ). IsCourse (terms_of pipe_site true (contents_of piped.before)) 0
           (view_of (contents_of piped.before) (kinds.dialers.faults was.crew.0) (kinds.disks.faults (disk_of piped.before.journal)))
           a.served.one.connection.rounds (view_of (contents_of piped.after) (kinds.dialers.faults is.crew.0) n)) (faults_behind kinds piped a.disk.same)
           a.served.one.connection.lawful);
@@ -146,12 +146,12 @@ pipes_one_way kinds entries one ends known namespace was is other status end pip
     let now : Contents = contents_of piped.before in
     let opened : contents_of also.before ≡ now =
     opened_same kinds.disks known namespace was.disk also.before piped.before entries tells also.opened piped.opened in
-    let well : WentWell (pipe_terms now) (seen_by kinds was now) second (seen_by kinds (record other { disk = was.disk }) (contents_of also.after)) =
-    subst (λ (x : Contents). WentWell (pipe_terms x) (seen_by kinds was x) second (seen_by kinds (record other { disk = was.disk }) (contents_of also.after))) opened
+    let well : WentWell (terms_of pipe_site true now) (seen_by kinds was now) second (seen_by kinds (record other { disk = was.disk }) (contents_of also.after)) =
+    subst (λ (x : Contents). WentWell (terms_of pipe_site true x) (seen_by kinds was x) second (seen_by kinds (record other { disk = was.disk }) (contents_of also.after))) opened
     (went_well kinds also b) in
     let courses : AreOneCourse first second (seen_by kinds (record is { disk = was.disk }) (contents_of piped.after))
     (seen_by kinds (record other { disk = was.disk }) (contents_of also.after)) =
-    one (pipe_terms now) (seen_by kinds was now) first second (seen_by kinds (record is { disk = was.disk }) (contents_of piped.after))
+    one (terms_of pipe_site true now) (seen_by kinds was now) first second (seen_by kinds (record is { disk = was.disk }) (contents_of piped.after))
     (seen_by kinds (record other { disk = was.disk }) (contents_of also.after)) refl
     (ready_tells kinds.disks piped.opened ∙ tells) (ready_consistent kinds.disks piped.opened).shown (went_well kinds piped a) well (record {
       served = refl;

@@ -14,12 +14,13 @@ use Rattle.capture.specs.declared.book.Book.{Book}
 use Rattle.outside.specs.Gate.{Connections}
 use Rattle.command.specs.Objects.{Around, Kinds, Objects}
 use Rattle.command.specs.Settling.{ClosesSettled, OpensSettled}
-use Rattle.proxy_run.specs.Pipes.{HasServed, HasServedNone, Pipes, around_in}
-use Rattle.proxy_run.specs.Serving.{IsServedStatus, IsReason, ServesOne, pipe_site}
+use Rattle.proxy_run.specs.Pipes.{HasServed, Pipes, around_in}
+use Rattle.proxy_run.specs.Serving.{IsServedStatus, ServesOne, pipe_site}
 use Rattle.command.specs.declared.status.Status.{Status}
 use Rattle.command.specs.declared.status.Status.TheVariants.{Outside}
 use Rattle.command.proofs.SettlingLaws.{closed_faults, closed_opens, ready_faults, ready_opens, ready_tells, told_tells}
 use Rattle.proxy_run.proofs.ConnectionLaws.{leaves_just}
+use Rattle.crew.specs.Crews.{IsEnd}
 use Rattle.warc_journal.specs.Journals.{disk_of}
 
 -- nothing but connections might have been gained, and none was
@@ -41,15 +42,16 @@ module _ {D G L P N M C O : Type 0} (kinds : Kinds D G L P N M C O) (laws : Disk
 
   serves_by : after.told ≡ before.told
       → (ServesOne true (record { site = pipe_site; clock_tells = kinds.clocks.tells }) (around_in kinds was) (around_in kinds is) (told_of kinds.disks before) (told_of kinds.disks after) said
-      ⊎ (IsReason (kinds.gates.closed was.gate) (kinds.gates.faults was.gate) (kinds.gates.faults is.gate) said × (around_in kinds is ≡ around_in kinds was) × (after ≡ before)))
-      → HasServed kinds was is before after said ⊎ HasServedNone kinds was is before after said
+      ⊎ (IsEnd (kinds.gates.closed was.gate) (kinds.gates.faults was.gate) (kinds.gates.faults is.gate) said × (around_in kinds is ≡ around_in kinds was) × (after ≡ before)))
+      → HasServed kinds was is before after said
+      ⊎ (IsEnd (kinds.gates.closed was.gate) (kinds.gates.faults was.gate) (kinds.gates.faults is.gate) said × (around_in kinds is ≡ around_in kinds was) × (after ≡ before))
   serves_by same (inl one) = inl (has_served same one)
-  serves_by same (inr none) = inr (record { reason = none.0; nothing_gained = none.1; same = none.2 })
+  serves_by same (inr none) = inr none
 
   pub pipes_by : ClosesSettled kinds.disks after said is.disk status → (IsTrue after.told → OpensNear kinds.disks is.disk after.book)
       → (IsTrue kinds.clients_tell → IsTrue kinds.origins_tell
       → ServesOne true (record { site = pipe_site; clock_tells = kinds.clocks.tells }) (around_in kinds was) (around_in kinds is) (told_of kinds.disks before) (told_of kinds.disks after) said
-      ⊎ (IsReason (kinds.gates.closed was.gate) (kinds.gates.faults was.gate) (kinds.gates.faults is.gate) said × (around_in kinds is ≡ around_in kinds was) × (after ≡ before)))
+      ⊎ (IsEnd (kinds.gates.closed was.gate) (kinds.gates.faults was.gate) (kinds.gates.faults is.gate) said × (around_in kinds is ≡ around_in kinds was) × (after ≡ before)))
       → GoesOn true (told_of kinds.disks before) (told_of kinds.disks after)
       → IsServedStatus said → (said ≡ Outside) ⊎ (kinds.gates.faults is.gate ≡ kinds.gates.faults was.gate) → is.out ≡ was.out
       → Pipes kinds known asked was is status

@@ -85,7 +85,7 @@ module _ {D G L P N M C O : Type 0} (kinds : Kinds D G L P N M C O) (known : Opt
       → Pipes kinds known (Some namespace) (with_one was before) (with_one is after) status
       ⊎ Refuses kinds (by_checkpoints was.disk (Some namespace) known) (with_one was before) (with_one is after) status → Runs kinds known (Some (Pipe namespace)) site was is status
   piped namespace was is status before after others were are (inl pipes) =
-      inl (record { first = record { before = before; after = after; others = others; were = were; are = are }; piped = pipes })
+      inl (record { before = before; after = after; others = others; were = were; are = are }, pipes)
   piped namespace was is status before after others were are (inr refuses) =
       inr (refuses_all (by_checkpoints was.disk (Some namespace) known) was is status before after others were are refuses)
 
@@ -150,8 +150,8 @@ module _ {D G L P N M C O : Type 0} (kinds : Kinds D G L P N M C O) (known : Opt
 
   follow_lacking : (namespace : List ℕ) (base : Option Site) (was : Objects D G (List (N × C)) O) (status : Status) → status ≡ Memory
       → Runs kinds known (Some (Follow namespace)) base was was status
-  follow_lacking namespace None was status memory = inr (record { status_is = memory; untouched = refl })
-  follow_lacking namespace (Some base) was status memory = inr (inr (record { status_is = memory; untouched = refl }))
+  follow_lacking namespace None was status memory = inr (memory, refl)
+  follow_lacking namespace (Some base) was status memory = inr (inr (memory, refl))
 
   siteless : (namespace : List ℕ) (was : Objects D G (List (N × C)) O) (out : O) (status : Status) → NamesNone kinds.sinks site was.out out status
       → Runs kinds known (Some (Follow namespace)) site was (record was { out = out }) status

@@ -43,8 +43,7 @@ use Rattle.proxy_run.specs.Complete.{IsSteady, NoFaults}
 use Rattle.proxy_run.specs.Pipes.{Refuses}
 use Rattle.proxy_run.proofs.StatusLaws.{memory_told, said_by, settled_well}
 use Rattle.proxy_run.specs.Promises.{AllAreHungUp, AllAreReadOut, AreReadOut, BooksLeadOn, BooksOnlyGrow, CapturesAreStoredOnce, FaultsAreCounted, GatesAreEmptied, IsHeardOut, IsReadOut, LeadTo, LeadsTo, LogsAreInOrder, ServersAreAnswered, ServersCapturesComeBack, ServersLeaveReady, ServersLeaveSettled, ServersLeaveTheLast, ServersWithoutShelvesComeBack, ServersWithoutShelvesLeaveReady, numbers_of, rounds_in, rounds_of}
-use Rattle.proxy_run.specs.Runs.{LacksWords}
-use Rattle.proxy_run.specs.Serves.{AreNewcomers, HasShare, LacksShelves, Seat, Serves, all_faults, all_mine, told_by, worst}
+use Rattle.proxy_run.specs.Serves.{AreNewcomers, LacksShelves, Seat, Serves, all_mine, told_by, worst}
 use Rattle.command.specs.Gates.{unheard}
 use Rattle.crew.specs.Shifts.{AreShifts, Hand, IsShift, hand_of, hands_of}
 use Rattle.command.specs.Texts.{captures_line}
@@ -57,6 +56,7 @@ use Rattle.session.specs.Rounds.{Round, disk_faults, is_closed, lacks, numbers_b
 use Rattle.session.specs.Stopping.{Course, Ends, IsClosed, IsLeftOver}
 use Rattle.session.specs.declared.served.Served.{Served}
 use Rattle.session.specs.declared.served.Served.TheVariants as end
+use Rattle.std.specs.List.Sorted.{IsStrictlyIncreasing}
 use Rattle.warc_journal.specs.Journals.{disk_of}
 use Rattle.warc_text.specs.Sound.{IsSound}
 use Rattle.warc_text.specs.StandsFor.{FilesStandForNoVolume, FilesStandForOneBook, StandsFor}
@@ -273,17 +273,17 @@ module _ {N M C : Type 0} (dialers : Dialers N M) (clocks : Clocks C) (setting :
   none_stored now none [] crew new = tt
   none_stored now none (seat ∷ seats) [] new = tt
   none_stored now none (seat ∷ seats) (member ∷ crew) new = (
-    (seat.number, ap (λ (c : Contents). seat.number ∷ c.mine) new.0.contents_are ∙ ap (λ (ns : List ℕ). seat.number ∷ ns) none),
-    none_stored now none seats crew new.1,
+    (seat.number, ap (λ (c : Contents). seat.number ∷ c.mine) new.0 ∙ ap (λ (ns : List ℕ). seat.number ∷ ns) none),
+    none_stored now none seats crew new.3,
   )
 
   none_met : (now : Contents) (seats : List Seat) (crew : List (N × C)) → AreNewcomers now seats → HaveNoFaults false told_by setting (hands_of dialers clocks seats crew)
   none_met now [] crew new = tt
   none_met now (seat ∷ seats) [] new = tt
-  none_met now (seat ∷ seats) (member ∷ crew) new = (new.0.no_faults, none_met now seats crew new.1)
+  none_met now (seat ∷ seats) (member ∷ crew) new = (new.2, none_met now seats crew new.3)
 
   faults_of_hands : (seats : List Seat) (crew : List (N × C)) → length seats ≤ length crew
-      → sum_by (λ h. (told_by h.shelf).faults) (hands_of dialers clocks seats crew) ≡ all_faults seats
+      → sum_by (λ h. (told_by h.shelf).faults) (hands_of dialers clocks seats crew) ≡ sum_by (λ (seat : Seat). seat.faults) seats
   faults_of_hands [] crew few = refl
   faults_of_hands (seat ∷ seats) [] few = absurd (omega (arith, few))
   faults_of_hands (seat ∷ seats) (member ∷ crew) few =
@@ -295,11 +295,11 @@ module _ {N M C : Type 0} (dialers : Dialers N M) (clocks : Clocks C) (setting :
         sum_by-cons (λ (x : Seat). x.faults) seat seats,
       )
 
-  hands_grow : (book : Book) (seats : List Seat) (crew : List (N × C)) → ((k : ℕ) → IfSome (slice_get seats k) (HasShare book))
+  hands_grow : (book : Book) (seats : List Seat) (crew : List (N × C)) → ((k : ℕ) → IfSome (slice_get seats k) (λ (seat : Seat). Grows seat.contents.seen book × IsStrictlyIncreasing seat.contents.mine))
       → AllGrow false told_by setting book (hands_of dialers clocks seats crew)
   hands_grow book [] crew each = tt
   hands_grow book (seat ∷ seats) [] each = tt
-  hands_grow book (seat ∷ seats) (member ∷ crew) each = ((each 0).grows, hands_grow book seats crew (λ k. each (suc k)))
+  hands_grow book (seat ∷ seats) (member ∷ crew) each = ((each 0).0, hands_grow book seats crew (λ k. each (suc k)))
 
 -- ---- the sentences
 
@@ -416,7 +416,7 @@ module _ {D G L P N M C O : Type 0} (kinds : Kinds D G L P N M C O) where
       let from = closed_from kinds.disks s.closed (told_tells Checkpoints kinds.disks.tells known told) image left in
       let stood : ImageStandsFor from.0 at.0 =
       record { for = subst (λ (files : List (List ℕ)). StandsFor files at.0) from.2 at.1.for; sound = at.1.sound } in
-      let none : all_faults s.seats ≡ 0 = omega (arith, s.disk_faults, steady.same, steady.below, first, last) in
+      let none : sum_by (λ (seat : Seat). seat.faults) s.seats ≡ 0 = omega (arith, s.disk_faults, steady.same, steady.below, first, last) in
       let opened = opens_now (muted s.after.told kinds.disks) (laws_muted kinds.disks s.after.told laws) (disk_of s.after.journal) at.0 from.0 (s.same_told ∙ so) from.1 stood in
       stands_last image at.0 s.before.book s.after.book (only_one (s.only none ids at.0 opened)) s.shared.grows ((ready_consistent kinds.disks s.opened).sound so) at.1
 
@@ -459,7 +459,7 @@ module _ {D G L P N M C O : Type 0} (kinds : Kinds D G L P N M C O) where
   server_answered : (known : Option Book) (namespace : List ℕ) (site : Site) (workers : ℕ) (was is : Objects D G (List (N × C)) O) (status : Status)
       → IsTrue (told_at Checkpoints kinds.disks.tells known) → NoFaults kinds was is
       → Serves kinds known (record { asked = Some namespace; site = site; workers = workers }) was is status ⊎ LacksShelves kinds known (Some namespace) was is status
-      ⊎ Refuses kinds (by_checkpoints was.disk (Some namespace) known) was is status ⊎ LacksWords kinds known was is status
+      ⊎ Refuses kinds (by_checkpoints was.disk (Some namespace) known) was is status ⊎ ((status ≡ Memory) × (is ≡ was))
       → (status ≡ Done) ⊎ (status ≡ Memory)
   server_answered known namespace site workers was is status told steady (inl s) =
       let printed = printed_or_lacked kinds.sinks s.said (captures_line (length (captures s.after.book))) was.out is.out s.told.printed steady.out s.told.prints in
@@ -470,7 +470,7 @@ module _ {D G L P N M C O : Type 0} (kinds : Kinds D G L P N M C O) where
       settled_well lacks.closed.answer Memory status lacks.closed.status_is (inr refl)
   server_answered known namespace site workers was is status told steady (inr (inr (inl refuses))) =
       inr (refused_known kinds known (Some namespace) was is status told steady refuses)
-  server_answered known namespace site workers was is status told steady (inr (inr (inr lacks))) = inr lacks.status_is
+  server_answered known namespace site workers was is status told steady (inr (inr (inr lacks))) = inr lacks.0
 
   pub servers_answered : ServersAreAnswered kinds
   servers_answered known namespace site workers was is status told steady runs =

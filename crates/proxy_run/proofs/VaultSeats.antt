@@ -36,11 +36,13 @@ use Rattle.command.proofs.OpeningLaws.{ids_differ}
 use Rattle.command.proofs.SettlingLaws.{ready_none}
 use Rattle.command.specs.Printing.{printed_as}
 use Rattle.command.specs.Settling.{ClosesSettled, IsOf, OpensSettled}
-use Rattle.proxy_run.specs.Serves.{AreNewcomers, HasShare, IsNewcomer, IsSharedOut, Seat, Serves, TellsCount, all_faults, all_mine, told_by}
+use Rattle.proxy_run.specs.Serves.{AreNewcomers, IsSharedOut, Seat, Serves, TellsCount, all_mine, told_by}
 use Rattle.crew.specs.Shifts.{hands_of}
 use Rattle.command.specs.declared.status.Status.{Status}
 use Rattle.proxy_run.specs.steps.Seating.{IsNameOf}
 use Rattle.proxy_run.proofs.SeatLaws.{serves_as}
+use Rattle.std.specs.List.Sorted.{IsStrictlyIncreasing}
+use Rattle.capture.specs.Growth.{Grows}
 use Rattle.warc_journal.specs.Journals.{disk_of}
 
 -- what is told of a pass
@@ -68,21 +70,24 @@ settled_calm disks laws held left ids x o =
     (ids_differ held.book ids))
 
 module _ (vault : VaultName) (now : Contents) (faults : ℕ) (name : IsNameOf vault now faults) (none : now.mine ≡ []) where
-  newcomer : (number : ℕ) (pass : Passing) → IsNewMember vault number pass → IsNewcomer now (seat_of pass)
+  newcomer : (number : ℕ) (pass : Passing) → IsNewMember vault number pass
+      → ((seat_of pass).contents ≡ record now { shown = (seat_of pass).contents.shown }) × (IsTrue now.tells → AreEntries now.seen (seat_of pass).contents.shown)
+      × ((seat_of pass).faults ≡ 0)
   newcomer number pass new =
       let tells : (contents_at pass).tells ≡ now.tells = new.member.told ∙ name.tells in
       let seen : (contents_at pass).seen ≡ now.seen = new.book_is ∙ name.book in
       let mine : own_captures pass.known.numbers pass.known.seen ≡ now.mine = new_captures vault number pass new ∙ sym none in
-      let limits : (contents_at pass).limits ≡ now.limits = new.member.limits_are ∙ name.limits in
-      record {
-        contents_are = λ i. record { tells = tells i; seen = seen i; shown = shown_in pass.shown.items; mine = mine i; limits = limits i };
-        shows = λ told. subst (λ (b : Book). AreEntries b (shown_in pass.shown.items)) name.book (new.shows (name.tells ∙ told));
-        no_faults = new_faults vault number pass new;
-      }
+      let limits : (contents_at pass).limits ≡ now.limits = new.member.limits_are ∙ name.limits in (
+        λ i. record { tells = tells i; seen = seen i; shown = shown_in pass.shown.items; mine = mine i; limits = limits i },
+        λ told. subst (λ (b : Book). AreEntries b (shown_in pass.shown.items)) name.book (new.shows (name.tells ∙ told)),
+        new_faults vault number pass new,
+      )
 
   pub newcomers : (place : ℕ → ℕ) (passes : List Passing) → ((k : ℕ) → IfSome (slice_get passes k) (IsNewMember vault (place k))) → AreNewcomers now (map seat_of passes)
   newcomers place [] each = tt
-  newcomers place (pass ∷ passes) each = (newcomer (place 0) pass (each 0), newcomers (λ k. place (suc k)) passes (λ k. each (suc k)))
+  newcomers place (pass ∷ passes) each =
+      let first = newcomer (place 0) pass (each 0) in
+      (first.0, first.1, first.2, newcomers (λ k. place (suc k)) passes (λ k. each (suc k)))
 
 -- ---- members
 
@@ -131,16 +136,16 @@ mine_as : (passes : List Passing) → all_mine (map seat_of passes) ≡ flat_map
 mine_as [] = refl
 mine_as (pass ∷ passes) = ap (λ ns. own_of pass.known ++ ns) (mine_as passes)
 
-faults_as : (passes : List Passing) → all_faults (map seat_of passes) ≡ sum_by met_by (map known_of passes)
+faults_as : (passes : List Passing) → sum_by (λ (seat : Seat). seat.faults) (map seat_of passes) ≡ sum_by met_by (map known_of passes)
 faults_as [] = refl
 faults_as (pass ∷ passes) =
     sum_by-cons (λ (seat : Seat). seat.faults) (seat_of pass) (map seat_of passes)
     ∙ (ap (λ n. met_by pass.known + n) (faults_as passes) ∙ sym (sum_by-cons met_by pass.known (map known_of passes)))
 
 shares : (history : List Noted) (passes : List Passing) → ((k : ℕ) → IfSome (slice_get (map known_of passes) k) (HasItsOwn history))
-    → (k : ℕ) → IfSome (slice_get (map seat_of passes) k) (HasShare (told_book history))
+    → (k : ℕ) → IfSome (slice_get (map seat_of passes) k) (λ (seat : Seat). Grows seat.contents.seen (told_book history) × IsStrictlyIncreasing seat.contents.mine)
 shares history [] each k = tt
-shares history (pass ∷ passes) each zero = record { grows = (each 0).grown; rise = (each 0).rise }
+shares history (pass ∷ passes) each zero = ((each 0).grown, (each 0).rise)
 shares history (pass ∷ passes) each (suc k) = shares history passes (λ n. each (suc n)) k
 
 pub shared_out : (book : Book) (passes : List Passing) (history : List Noted) → IsHistoryShared book (map known_of passes) history

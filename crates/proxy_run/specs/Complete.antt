@@ -17,7 +17,7 @@ use Rattle.capture.specs.declared.site.Site.{Site}
 use Rattle.disk_model.specs.Crash.{Leaves}
 use Rattle.disk_model.specs.Image.{Image}
 use Rattle.command.specs.Objects.{Kinds, Objects, UsesFirst, with_one}
-use Rattle.proxy_run.specs.Pipes.{HasServed, Pipes, pipe_terms}
+use Rattle.proxy_run.specs.Pipes.{HasServed, Pipes}
 use Rattle.proxy_run.specs.Runs.{HasReplicated, HasTakenIn, Runs}
 use Rattle.replica.specs.declared.asking.SourceFault.TheVariants as sources
 use Rattle.replica.specs.declared.following.Stop.{Stop}
@@ -31,6 +31,8 @@ use Rattle.command.specs.declared.words.Command.TheVariants.{Check, Follow, Impo
 use Rattle.session.specs.Images.{HasAllIds, IsPassed}
 use Rattle.session.specs.declared.served.Served.{Served}
 use Rattle.session.specs.declared.served.Served.TheVariants as served
+use Rattle.session.specs.Traces.{terms_of}
+use Rattle.proxy_run.specs.Serving.{pipe_site}
 use Rattle.warc_reader.specs.Records.{HasNoRecordAt}
 use Rattle.warc_text.specs.StandsFor.{IdsDifferIn}
 
@@ -202,7 +204,7 @@ module _ {D G L P N M C O : Type 0} (kinds : Kinds D G L P N M C O) where
       (s : HasServed kinds was is piped.before piped.after piped.said)
       → HasAllIds s.one.connection.rounds
       → Moves (crash_of (muted piped.before.told kinds.disks) was.disk) (crash_of (muted piped.before.told kinds.disks) is.disk)
-      (IsPassed (pipe_terms (contents_of piped.before)) s.one.connection.rounds)
+      (IsPassed (terms_of pipe_site true (contents_of piped.before)) s.one.connection.rounds)
 
   -- What was stored comes back: each book for which such an image stands holds all captures of the last book in order, and one more
   -- at most.

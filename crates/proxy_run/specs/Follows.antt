@@ -1,5 +1,5 @@
 -- What the command `follow` leaves.
-use Rattle.std.specs.Prelude.{◌≡◌, ◌⊎◌, ℕ, Bool, List, codes, length, IsTrue, Option, Result, Ok, Err, ⊤}
+use Rattle.std.specs.Prelude.{◌≡◌, ◌⊎◌, ℕ, Bool, List, codes, length, IsTrue, Option, Result, MatchResult, ⊤}
 use Rattle.archive_core.specs.Holdings.{Holdings}
 use Rattle.archive_shelf.specs.Answers.{CountsIf}
 use Rattle.archive_opening.specs.Telling.{HasCheckpointsOf}
@@ -37,22 +37,22 @@ stop_status (Piece number pieces.DiskFault) = Archive
 stop_status (Piece number (pieces.Damaged at kept found)) = Archive
 stop_status (Piece number pieces.Memory) = Archive
 
--- How many captures there are was printed, or why no more were taken, with the status of that; or there was no memory.
+-- Why no more captures were taken was printed, with the status of that; or there was no memory.
 abbrev pub TellsStop : {O : Type 0} → Sinks O → Stop → O → O → Status → Type 0
 TellsStop sinks stop was is status =
     ((text : List ℕ) × IsStopText stop text × Prints sinks (stop_status stop) text was is status) ⊎ LacksMemory sinks was is status
 
-abbrev pub TellsEnd : {O : Type 0} → Sinks O → ℕ → Result ⊤ Stop → O → O → Status → Type 0
-TellsEnd sinks count (Ok done) was is status = Prints sinks Done (numbered (codes "captures ") count) was is status ⊎ LacksMemory sinks was is status
-TellsEnd sinks count (Err stop) was is status = TellsStop sinks stop was is status
-
 module _ {D N M O : Type 0} (disks : Disks D) (dialers : Dialers N M) (sinks : Sinks O) (tells : Bool) (source : Target) where
-  -- a source was followed by an archive, with a dialer, and how that ended was told
+  -- A source was followed by an archive, with a dialer. How many captures there are was printed, or why no more were taken; or there was no
+  -- memory.
   pub record FollowsTo (was is : Holdings D) (dialer_was dialer_is : N) (output : Printed O) : Type 0 where
     pub result : Result ⊤ Stop
     pub followed : HasFollowed disks source tells was is (dialers.links dialer_was) (dialers.links dialer_is) result
     pub dialer_faults : CountsIf (is_outside_stop result) (dialers.faults dialer_was) (dialers.faults dialer_is)
-    pub told : TellsEnd sinks (length (captures is.book)) result output.was output.is output.status
+    pub told : MatchResult result
+        (λ done. Prints sinks Done (numbered (codes "captures ") (length (captures is.book))) output.was output.is output.status
+        ⊎ LacksMemory sinks output.was output.is output.status)
+        (λ stop. TellsStop sinks stop output.was output.is output.status)
 
 module _ {D N M C O : Type 0} (disks : Disks D) (dialers : Dialers N M) (sinks : Sinks O) (tells : Bool) (known : Option Book) where
   -- The archive on a disk was opened by its checkpoints, over which nothing was written, and followed the source at the site, by a member's dialer; its clock wasn't asked, and no gate. Where the

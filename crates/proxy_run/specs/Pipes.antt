@@ -1,10 +1,9 @@
 -- What the command `pipe` leaves.
 use Rattle.std.specs.Prelude.{◌≡◌, ◌⊎◌, ◌≤◌, ℕ, List, true, IsTrue, Option}
 use Rattle.archive_core.specs.Holdings.{Holdings, contents_of}
-use Rattle.archive_core.specs.Known.{Opening, by_checkpoints, opening_of}
+use Rattle.archive_core.specs.Known.{Opening, by_checkpoints}
 use Rattle.archive_core.specs.Told.{told_of}
 use Rattle.archive_volumes.specs.Volumes.{OpensNear, crash_of, muted}
-use Rattle.archive_shelf.specs.Contents.{Contents}
 use Rattle.archive_shelf.specs.Openings.{HasIds, ImageStandsFor, SameBook, StaysCovered}
 use Rattle.archive_shelf.specs.Told.{GoesOn}
 use Rattle.capture.specs.declared.book.Book.{Book}
@@ -13,16 +12,13 @@ use Rattle.command.specs.Objects.{Around, Kinds, Objects, told_around}
 use Rattle.command.specs.Opening.{IsNotOpened}
 use Rattle.command.specs.Printing.{printed_as}
 use Rattle.command.specs.Settling.{ClosesSettled, OpensSettled}
-use Rattle.proxy_run.specs.Serving.{IsReason, IsServedStatus, ServesOne, pipe_site}
+use Rattle.proxy_run.specs.Serving.{IsServedStatus, ServesOne, pipe_site}
 use Rattle.command.specs.declared.status.Status.{Status}
 use Rattle.command.specs.declared.status.Status.TheVariants.{Outside}
 use Rattle.session.specs.Images.{HasAllIds, OpensAtLast}
-use Rattle.session.specs.Traces.{Terms, terms_of}
+use Rattle.session.specs.Traces.{terms_of}
+use Rattle.crew.specs.Crews.{IsEnd}
 use Rattle.warc_journal.specs.Journals.{disk_of}
-
--- where and over what `pipe` serves its connection
-abbrev pub pipe_terms : Contents → Terms
-pipe_terms now = terms_of pipe_site true now
 
 module _ {D G L P N M C O : Type 0} (kinds : Kinds D G L P N M C O) where
   -- what is told around the connection
@@ -37,13 +33,7 @@ module _ {D G L P N M C O : Type 0} (kinds : Kinds D G L P N M C O) where
     -- the book that was there before
     pub left : IsTrue before.told → HasIds before.book → HasAllIds one.connection.rounds
         → (image : Image) (x : Book) → kinds.disks.images (disk_of after.journal) image → ImageStandsFor image x
-        → OpensAtLast (pipe_terms (contents_of before)) (λ book. SameBook book before.book) one.connection.rounds x
-
-  -- the gate gave no connection, nothing was gained, and the archive wasn't asked
-  pub record HasServedNone (was is : Objects D G (N × C) O) (before after : Holdings D) (status : Status) : Type 0 where
-    pub reason : IsReason (kinds.gates.closed was.gate) (kinds.gates.faults was.gate) (kinds.gates.faults is.gate) status
-    pub nothing_gained : around_in is ≡ around_in was
-    pub same : after ≡ before
+        → OpensAtLast (terms_of pipe_site true (contents_of before)) (λ book. SameBook book before.book) one.connection.rounds x
 
   -- The archive was opened by its checkpoints, those that were missing were written, the connection was served, and those that were missing then were written.
   -- What holds whatever the links tell: nothing was printed; the book has only grown, and where it is told, each image that a crash may leave, and so what a
@@ -55,7 +45,11 @@ module _ {D G L P N M C O : Type 0} (kinds : Kinds D G L P N M C O) where
     pub after : Holdings D
     pub said : Status
     pub opened : OpensSettled kinds.disks (by_checkpoints was.disk asked known) before
-    pub serves : IsTrue kinds.clients_tell → IsTrue kinds.origins_tell → HasServed was is before after said ⊎ HasServedNone was is before after said
+    -- it was served, or the gate gave none, for this reason: then nothing was gained, and the archive wasn't asked
+    pub serves : IsTrue kinds.clients_tell → IsTrue kinds.origins_tell
+        → HasServed was is before after said
+        ⊎ (IsEnd (kinds.gates.closed was.gate) (kinds.gates.faults was.gate) (kinds.gates.faults is.gate) said × (around_in is ≡ around_in was)
+        × (after ≡ before))
     pub goes_on : GoesOn true (told_of kinds.disks before) (told_of kinds.disks after)
     pub closed : ClosesSettled kinds.disks after said is.disk status
     pub near : IsTrue before.told → OpensNear kinds.disks is.disk after.book

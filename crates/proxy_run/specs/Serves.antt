@@ -46,35 +46,23 @@ told_by seat = record {
   crash = untold;
 }
 
--- A shelf that has stored nothing and met no fault, over an archive of which this is told. Where the disk is told, what is shown of it are
+-- Shelves that have stored nothing and met no fault, over an archive of which this is told. Where the disk is told, what is shown of it are
 -- the entries of the book.
-pub record IsNewcomer (now : Contents) (seat : Seat) : Type 0 where
-  pub contents_are : seat.contents ≡ record now { shown = seat.contents.shown }
-  pub shows : IsTrue now.tells → AreEntries now.seen seat.contents.shown
-  pub no_faults : seat.faults ≡ 0
-
--- so are all of these
 abbrev pub AreNewcomers : Contents → List Seat → Type 0
 AreNewcomers now [] = Unit {0}
-AreNewcomers now (seat ∷ seats) = IsNewcomer now seat × AreNewcomers now seats
+AreNewcomers now (seat ∷ seats) =
+    (seat.contents ≡ record now { shown = seat.contents.shown }) × (IsTrue now.tells → AreEntries now.seen seat.contents.shown)
+    × (seat.faults ≡ 0) × AreNewcomers now seats
 
 -- the numbers of the captures that they stored, shelf by shelf
 abbrev pub all_mine : List Seat → List ℕ
 all_mine seats = flat_map (λ seat. seat.contents.mine) seats
 
--- how many faults they met
-abbrev pub all_faults : List Seat → ℕ
-all_faults seats = sum_by (λ seat. seat.faults) seats
-
--- what a shelf has seen and stored, by the book that is left
-pub record HasShare (book : Book) (seat : Seat) : Type 0 where
-  pub grows : Grows seat.contents.seen book
-  pub rise : IsStrictlyIncreasing seat.contents.mine
-
--- Between two books, these shelves stored just the captures behind those of the first one, each once.
+-- Between two books, these shelves stored just the captures behind those of the first one, each once: each by rising numbers, and what it has
+-- seen has grown into the last one.
 pub record IsSharedOut (before : Book) (seats : List Seat) (after : Book) : Type 0 where
   pub grows : Grows before after
-  pub each : (k : ℕ) → IfSome (slice_get seats k) (HasShare after)
+  pub each : (k : ℕ) → IfSome (slice_get seats k) (λ (seat : Seat). Grows seat.contents.seen after × IsStrictlyIncreasing seat.contents.mine)
   pub once : IsPermutation (all_mine seats) (range_with_len (length (captures before)) (length (all_mine seats)))
   pub count : length (captures after) ≡ length (captures before) + length (all_mine seats)
 
@@ -121,11 +109,11 @@ module _ {D G L P N M C O : Type 0} (kinds : Kinds D G L P N M C O) (known : Opt
     pub ended : IsEnd (kinds.gates.closed is.gate) (kinds.gates.faults was.gate) (kinds.gates.faults is.gate) said
     pub shared : IsSharedOut before.book seats after.book
     pub same_told : after.told ≡ before.told
-    pub disk_faults : RoseBy (all_faults seats) (kinds.disks.faults (disk_of before.journal)) (kinds.disks.faults (disk_of after.journal))
+    pub disk_faults : RoseBy (sum_by (λ (seat : Seat). seat.faults) seats) (kinds.disks.faults (disk_of before.journal)) (kinds.disks.faults (disk_of after.journal))
     pub told : TellsCount kinds.sinks (length (captures after.book)) said (printed_as was.out is.out counted)
     pub closed : ClosesSettled kinds.disks after counted is.disk status
     -- where the members met no fault of the disk and ids differ, only the last book may be opened of what they leave
-    pub only : all_faults seats ≡ 0 → HasIds after.book → IsState (told_of kinds.disks after).crash after.book None
+    pub only : sum_by (λ (seat : Seat). seat.faults) seats ≡ 0 → HasIds after.book → IsState (told_of kinds.disks after).crash after.book None
     -- where the book is told, the finished checkpoints of each image that they leave are those of the last book
     pub right : IsTrue after.told → Leaves (kinds.disks.images (disk_of after.journal)) (λ image. HasCheckpointsOf image after.book)
     pub near : IsTrue before.told → OpensNear kinds.disks is.disk after.book

@@ -1,7 +1,6 @@
 -- What serving the gate's first connection leaves.
-use Rattle.std.specs.Prelude.{◌≡◌, ℕ, Bool, true, codes, ⊤}
+use Rattle.std.specs.Prelude.{◌≡◌, Bool, codes, ⊤}
 use Rattle.archive_shelf.specs.Told.{Told}
-use Rattle.capture.specs.Faults.{Rose}
 use Rattle.capture.specs.declared.site.Site.{Site}
 use Rattle.command.specs.Gates.{unheard}
 use Rattle.outside.specs.Gate.{one_served}
@@ -43,11 +42,3 @@ module _ (alone : Bool) (setting : Setting) where
         (record { heard = unheard; answers = was.answers; links = was.links; dialer_faults = was.dialer_faults; shelf = shelf_was })
         (record { heard = heard; answers = is.answers; links = is.links; dialer_faults = is.dialer_faults; shelf = shelf_is }) served
     pub status_is : status ≡ status_of served
-
--- why a gate gave no connection: it was closed, it failed, or there was no memory
-abbrev pub IsReason : (was_closed : Bool) → (before now : ℕ) → Status → Type 0
-IsReason was_closed before now Done = was_closed ≡ true
-IsReason was_closed before now Words = ⊥
-IsReason was_closed before now Archive = ⊥
-IsReason was_closed before now Outside = Rose before now
-IsReason was_closed before now Memory = ⊤

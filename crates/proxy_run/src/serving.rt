@@ -5,7 +5,8 @@ ghost use Rattle.outside.specs.Gate.{Connections, one_given};
 ghost use Rattle.outside.specs.Link.{IsFresh};
 ghost use Rattle.command.specs.Objects.{told_around};
 ghost use Rattle.proxy_run.specs.Serving as spec;
-ghost use Rattle.proxy_run.specs.Serving.{IsReason, IsServedStatus, ServesOne, pipe_site};
+ghost use Rattle.crew.specs.Crews.{IsEnd};
+ghost use Rattle.proxy_run.specs.Serving.{IsServedStatus, ServesOne, pipe_site};
 
 use archive_shelf::{Shelf, leading_books_grow};
 use capture::{Memory, Site, Text};
@@ -24,7 +25,7 @@ pub fn serve_first<S: Shelf, G: Gate, N: Dialer, C: Clock>(
     ensures serves { IsTrue G.Link.tells → IsTrue N.Link.tells
         → ServesOne S.alone (record { site = pipe_site; clock_tells = C.tells }) (told_around G.Gate N.Dialer C.Clock gate.old member.old)
         (told_around G.Gate N.Dialer C.Clock gate.new member.new) (S.told shelf.old) (S.told shelf.new) result
-        ⊎ (IsReason (G.closed gate.old) (G.faults gate.old) (G.faults gate.new) result
+        ⊎ (IsEnd (G.closed gate.old) (G.faults gate.old) (G.faults gate.new) result
         × (told_around G.Gate N.Dialer C.Clock gate.new member.new ≡ told_around G.Gate N.Dialer C.Clock gate.old member.old) × (shelf.new ≡ shelf.old)) }
     ensures goes_on { GoesOn S.alone (S.told shelf.old) (S.told shelf.new) }
     ensures ends { IsServedStatus result }

@@ -13,7 +13,7 @@ returns-in-Connection-clause-serves g c t u = inl (c.serve_link.ensures.serves t
 
 pub returns-in-Closed-clause-serves : goal.returns-in-Closed-clause-serves
 returns-in-Closed-clause-serves g c t u =
-    inr (c.in-Closed.ensures.was_closed t, none_gained (told_around g.G.Gate g.N.Dialer g.C.Clock c.args.gate.now c.args.member.now) _ (c.in-Closed.ensures.gives t), refl)
+    inr ((c.in-Closed.ensures.was_closed t, c.in-Closed.ensures.counts), none_gained (told_around g.G.Gate g.N.Dialer g.C.Clock c.args.gate.now c.args.member.now) _ (c.in-Closed.ensures.gives t), refl)
 
 pub returns-in-Failed-clause-serves : goal.returns-in-Failed-clause-serves
 returns-in-Failed-clause-serves g c t u =
