@@ -40,7 +40,7 @@ full_stores d laws was taken (stores.Full count limit) full = record {
         (leaves_no_more_itself (crash_of (muted was.told d) (disk_of was.journal)));
   };
   just = tt;
-  fills = λ tells. rests_itself d (disk_of was.journal);
+  fills = ((λ tells. rests_itself d (disk_of was.journal)), refl);
   bytes = λ tells. ((λ none. refl), refl);
 }
 full_stores d laws was taken stores.DiskFault full = absurd full
@@ -57,7 +57,7 @@ full_exit d laws was taken fault (Err other) is full =
 
 module _ {D : Type 0} (d : Ghosts D) (laws : DiskLaws d) (was : Holdings D) (journal : Journal D) (taken : Taken)
     (unwritten : WritesNothing true (told_of d was) (told_of d (record was { journal = journal })))
-    (rests : IsTrue d.tells → Rests d (disk_of was.journal) (disk_of journal)) where
+    (rests : IsTrue d.tells → Rests d (disk_of was.journal) (disk_of journal)) (extent : extent_of journal ≡ extent_of was.journal) where
   abbrev looked : Holdings D
   looked = record was { journal = journal }
 
@@ -74,7 +74,7 @@ module _ {D : Type 0} (d : Ghosts D) (laws : DiskLaws d) (was : Holdings D) (jou
           (opens_earlier (muted was.told d) (laws_muted d was.told laws) (disk_of journal)) unwritten.crash;
     };
     just = tt;
-    fills = fills_none d was looked taken fault rests;
+    fills = fills_none d was looked taken fault (rests, extent);
     bytes = λ tells. ((λ none. (rests tells).read), ap (λ (image : Image). cdxj_files image) (rests tells).read);
   }
 
@@ -91,10 +91,10 @@ module _ {D : Type 0} (d : Ghosts D) (laws : DiskLaws d) (was : Holdings D) (jou
 
   -- ---- and then a store
 
-  pub then_by : d.faults (disk_of journal) ≡ d.faults (disk_of was.journal) → extent_of journal ≡ extent_of was.journal
+  pub then_by : d.faults (disk_of journal) ≡ d.faults (disk_of was.journal)
       → (is : Holdings D) (result : Result Receipt StoreFault)
       → Stores d (record was { journal = journal }) is taken result → Stores d was is taken result
-  then_by steady extent is result stored = record {
+  then_by steady is result stored = record {
     told = stores_behind true taken (told_of d was) (told_of d looked) (told_of d is) result refl steady
         (opens_earlier (muted was.told d) (laws_muted d was.told laws) (disk_of journal)) unwritten
         stored.told;
@@ -115,7 +115,7 @@ known_by {D} d was mid looks =
 pub stores_after : {D : Type 0} (d : Ghosts D) (laws : DiskLaws d) (was mid is : Holdings D) (taken : Taken) (result : Result Receipt StoreFault)
     → OnlyLooks d was mid → d.faults (disk_of mid.journal) ≡ d.faults (disk_of was.journal) → Stores d mid is taken result → Stores d was is taken result
 stores_after {D} d laws was mid is taken result looks steady stored =
-    then_by d laws was mid.journal taken (known_by d was mid looks) looks.bytes steady looks.extent is result
+    then_by d laws was mid.journal taken (known_by d was mid looks) looks.bytes looks.extent steady is result
     (subst (λ (held : Holdings D). Stores d held is taken result) looks.others stored)
 
 pub fault_after : {D : Type 0} (d : Ghosts D) (laws : DiskLaws d) (was mid : Holdings D) (taken : Taken) (fault : StoreFault)
@@ -124,7 +124,7 @@ pub fault_after : {D : Type 0} (d : Ghosts D) (laws : DiskLaws d) (was mid : Hol
     → Stores d was mid taken (Err fault)
 fault_after {D} d laws was mid taken fault looks not_full answer counts =
     subst (λ (held : Holdings D). Stores d was held taken (Err fault)) (sym looks.others)
-    (fault_by d laws was mid.journal taken (known_by d was mid looks) looks.bytes not_full fault
+    (fault_by d laws was mid.journal taken (known_by d was mid looks) looks.bytes looks.extent not_full fault
     (subst (λ (held : Holdings D). LooksFor (contents_of held) taken (Err fault)) looks.others answer) counts)
 
 -- and the same where a `?` hands the fault out

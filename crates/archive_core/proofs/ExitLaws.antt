@@ -22,7 +22,7 @@ use Rattle.disk_model.specs.declared.disk.Disk.{Ghosts}
 use Rattle.httparse.specs.Grammar as grammar
 use Rattle.revisit_table.specs.Table.{Table}
 use Rattle.warc_journal.specs.Extents.{cdxj_files}
-use Rattle.warc_journal.specs.Journals.{Rests, disk_of, last_len, texts}
+use Rattle.warc_journal.specs.Journals.{Rests, disk_of, extent_of, last_len, texts}
 use Rattle.warc_journal.specs.Texts.{with_more}
 use Rattle.warc_journal.specs.declared.journal.Journal.{Journal}
 use Rattle.warc_text.proofs.BookLaws.{get_behind}
@@ -150,7 +150,10 @@ module _ {D : Type 0} (d : Ghosts D) (was is : Holdings D) (journal_is : is.jour
       };
     };
     just = tt;
-    fills = λ tells. subst (λ (j : Journal D). Rests d (disk_of was.journal) (disk_of j)) (sym journal_is) (rests_itself d (disk_of was.journal));
+    fills = (
+      (λ tells. subst (λ (j : Journal D). Rests d (disk_of was.journal) (disk_of j)) (sym journal_is) (rests_itself d (disk_of was.journal))),
+      ap (λ (j : Journal D). extent_of j) journal_is,
+    );
     bytes = λ tells.
         ((λ none. ap (λ (j : Journal D). d.reading (disk_of j)) journal_is), ap (λ (j : Journal D). cdxj_files (d.reading (disk_of j))) journal_is);
   }

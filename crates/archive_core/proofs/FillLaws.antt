@@ -15,8 +15,7 @@ use Rattle.archive_shelf.specs.declared.fault.StoreFault.{StoreFault}
 use Rattle.archive_shelf.specs.declared.fault.StoreFault.TheVariants as stores
 use Rattle.archive_shelf.specs.declared.receipt.Receipt.{Receipt}
 use Rattle.archive_core.specs.Holdings.{Holdings}
-use Rattle.archive_core.specs.Looking.{KeepsBytes}
-use Rattle.archive_core.specs.Stores.{Fills, FillsVolumes, texts_where}
+use Rattle.archive_core.specs.Stores.{Fills, FillsVolumes, LeavesVolumes, texts_where}
 use Rattle.archive_volumes.proofs.VolumeLaws.{texts_rest}
 use Rattle.archive_volumes.proofs.WrittenLaws.{rests_on, texts_since}
 use Rattle.archive_volumes.specs.Grouping.{IsGroupFor}
@@ -84,7 +83,7 @@ fills_by {D} d was is now taken same payload group journal_is book_is has of (So
     }
 
 -- nothing was written
-pub fills_none : {D : Type 0} (d : Ghosts D) (was is : Holdings D) (taken : Taken) (fault : StoreFault) → KeepsBytes d was is → Fills d was is taken (Err fault)
+pub fills_none : {D : Type 0} (d : Ghosts D) (was is : Holdings D) (taken : Taken) (fault : StoreFault) → LeavesVolumes d was is → Fills d was is taken (Err fault)
 fills_none d was is taken (stores.Full count limit) kept = kept
 fills_none d was is taken stores.DiskFault kept = inl kept
 fills_none d was is taken (stores.Damaged number kept found) bytes = bytes
@@ -97,8 +96,8 @@ module _ {D : Type 0} (d : Ghosts D) (was is : Holdings D) (journal : Journal D)
   abbrev looked : Holdings D
   looked = record was { journal = journal }
 
-  kept_after : KeepsBytes d looked is → KeepsBytes d was is
-  kept_after kept tells = rests_on d (disk_of was.journal) (disk_of journal) (disk_of is.journal) (rests tells) (kept tells)
+  kept_after : LeavesVolumes d looked is → LeavesVolumes d was is
+  kept_after kept = ((λ tells. rests_on d (disk_of was.journal) (disk_of journal) (disk_of is.journal) (rests tells) (kept.0 tells)), kept.1 ∙ extent)
 
   read_same : IsTrue d.tells → texts d journal ≡ texts d was.journal
   read_same tells = texts_rest d was.journal journal (rests tells) extent
@@ -132,7 +131,7 @@ module _ {D : Type 0} (d : Ghosts D) (was is : Holdings D) (journal : Journal D)
   fills_after (Ok receipt) f = volumes_after receipt.same_as (Ok receipt) f
   fills_after (Err (stores.Full count limit)) kept = kept_after kept
   fills_after (Err stores.DiskFault) f = ⊎_elim
-      (λ (kept : KeepsBytes d looked is). inl (kept_after kept))
+      (λ (kept : LeavesVolumes d looked is). inl (kept_after kept))
       (λ (put : (same : Option ℕ) × FillsVolumes d looked is taken same (Err stores.DiskFault)).
       inr (put.0, volumes_after put.0 (Err stores.DiskFault) put.1))
       f

@@ -33,6 +33,7 @@ pub mod ShownLaws
 pub mod SettledLaws
 pub mod SettlingLaws
 pub mod SortLaws
+pub mod StoodLaws
 pub mod StoredLaws
 pub mod SupplyingLaws
 pub mod TellingLaws

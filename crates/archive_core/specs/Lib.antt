@@ -9,6 +9,7 @@ pub mod Reopening
 pub mod Rolling
 pub mod Settling
 pub mod Shown
+pub mod Stood
 pub mod Stores
 pub mod TakingPieces
 pub mod Texts

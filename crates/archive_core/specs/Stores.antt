@@ -3,7 +3,7 @@ use Rattle.std.specs.Prelude.{◌≡◌, ◌⊎◌, ℕ, ◌+◌, Bool, true, if
 use Rattle.capture.specs.Captures.{captures, HasPayload}
 use Rattle.capture.specs.declared.captured.Taken.{Taken}
 use Rattle.disk_model.specs.declared.disk.Disk.{Ghosts}
-use Rattle.warc_journal.specs.Journals.{disk_of, last_len, texts}
+use Rattle.warc_journal.specs.Journals.{disk_of, extent_of, last_len, texts}
 use Rattle.warc_journal.specs.Texts.{with_more}
 use Rattle.warc_text.specs.Records.{info_text}
 use Rattle.archive_shelf.specs.Answers.{IsFull, IsNotFull, LeavesReading}
@@ -51,13 +51,17 @@ pub record FillsVolumes {D : Type 0} (d : Ghosts D) (was is : Holdings D) (taken
   pub bytes : IsTrue d.tells
       → WritesTexts d was.journal is.journal (texts_as (texts_where d was begun taken.date) (with_more (texts_where d was begun taken.date) group)) result
 
--- what a store leaves of the volumes, by what it answers: those that write nothing leave all bytes as they were
+-- nothing was written: all bytes are as they were, and the volumes reach as far
+abbrev pub LeavesVolumes : {D : Type 0} → Ghosts D → Holdings D → Holdings D → Type 0
+LeavesVolumes d was is = KeepsBytes d was is × (extent_of is.journal ≡ extent_of was.journal)
+
+-- what a store leaves of the volumes, by what it answers
 abbrev pub Fills : {D : Type 0} → Ghosts D → Holdings D → Holdings D → Taken → Result Receipt StoreFault → Type 0
 Fills d was is taken (Ok receipt) = FillsVolumes d was is taken receipt.same_as (Ok receipt)
-Fills d was is taken (Err (stores.Full count limit)) = KeepsBytes d was is
-Fills d was is taken (Err stores.DiskFault) = KeepsBytes d was is ⊎ ((same : Option ℕ) × FillsVolumes d was is taken same (Err stores.DiskFault))
-Fills d was is taken (Err (stores.Damaged number kept found)) = KeepsBytes d was is
-Fills d was is taken (Err stores.Memory) = KeepsBytes d was is
+Fills d was is taken (Err (stores.Full count limit)) = LeavesVolumes d was is
+Fills d was is taken (Err stores.DiskFault) = LeavesVolumes d was is ⊎ ((same : Option ℕ) × FillsVolumes d was is taken same (Err stores.DiskFault))
+Fills d was is taken (Err (stores.Damaged number kept found)) = LeavesVolumes d was is
+Fills d was is taken (Err stores.Memory) = LeavesVolumes d was is
 
 -- a capture was stored, or refused
 pub record Stores {D : Type 0} (d : Ghosts D) (was is : Holdings D) (taken : Taken) (result : Result Receipt StoreFault) : Type 0 where

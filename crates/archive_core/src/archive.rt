@@ -1,10 +1,13 @@
 //! The archive over a disk.
-ghost use Rattle.std.specs.Prelude.{◌≡◌, Contains, IfNone, IfOk, IfSome, IsTrue, Some, option_copied};
+ghost use Rattle.std.specs.List.{starts_with};
+ghost use Rattle.std.specs.Prelude.{◌≡◌, Contains, IfNone, IfOk, IfSome, IsTrue, Some, bytes_eq, nat_eq, option_copied};
 ghost use Rattle.cdxj_index.specs.Queries.{with_number};
 ghost use Rattle.warc_journal.specs.Journals.{disk_of};
 ghost use Rattle.archive_shelf.specs.Answers.{ShowsNone};
+ghost use Rattle.archive_shelf.specs.Queries.{ArePicked, IsFound};
 ghost use Rattle.archive_shelf.specs.Storing.{counts_of};
 ghost use Rattle.archive_core.specs.Holdings.{contents_of};
+ghost use Rattle.archive_core.specs.Shown.{numbered};
 ghost use Rattle.archive_core.specs.Stores.{Admits};
 ghost use Rattle.archive_volumes.specs.Facts.{facts_of};
 ghost use Rattle.archive_volumes.specs.Held.{book_of};
@@ -115,6 +118,27 @@ impl<D: Disk> Archive<D> {
         self.volumes.held.facts(alloc)
     }
 
+    /// A copy of the entry of a key that is nearest to a time.
+    pub(crate) fn nearest(&self, key: &Key, time: u64) -> Result<Option<Entry>, Memory>
+        ensures { IfOk result (λ entry. IsFound (numbered self.now.index) key.now time entry) }
+    {
+        finding::nearest(&self.index, key, time)
+    }
+
+    /// Copies of the entries of a key, in order of date and number.
+    pub(crate) fn entries_of(&self, alloc: Global, key: &Key) -> Result<Vec<Entry>, Memory>
+        ensures { IfOk result (λ entries. ArePicked (λ e. bytes_eq key.now e.key) (numbered self.now.index) entries.items) }
+    {
+        finding::with_key(alloc, &self.index, key)
+    }
+
+    /// Copies of the entries whose key begins with these bytes, in order of key, date and number.
+    pub(crate) fn entries_from(&self, alloc: Global, start: &Key) -> Result<Vec<Entry>, Memory>
+        ensures { IfOk result (λ entries. ArePicked (λ e. starts_with nat_eq e.key start.now) (numbered self.now.index) entries.items) }
+    {
+        finding::starting(alloc, &self.index, start)
+    }
+
     /// Refuses a capture more where there are as many as there may be.
     pub(crate) fn check_room(&self) -> Result<(), StoreFault>
         ensures { Admits (contents_of self.now) result }
@@ -179,14 +203,17 @@ impl<D: Disk> Finder for Archive<D> {
     ghost covered_later = { λ a t s le all told image left. all told image (D.earlier (disk_of a.journal) t s image le left) };
 
     fn by_date(&mut self, _alloc: Global, key: &Key, time: u64) -> Result<Option<Entry>, Memory> {
-        finding::nearest(&self.index, key, time)
+        self.shows_its_book();
+        self.nearest(key, time)
     }
 
     fn map(&mut self, alloc: Global, key: &Key) -> Result<Vec<Entry>, Memory> {
-        finding::with_key(alloc, &self.index, key)
+        self.shows_its_book();
+        self.entries_of(alloc, key)
     }
 
     fn starting(&mut self, alloc: Global, start: &Key) -> Result<Vec<Entry>, Memory> {
-        finding::starting(alloc, &self.index, start)
+        self.shows_its_book();
+        self.entries_from(alloc, start)
     }
 }

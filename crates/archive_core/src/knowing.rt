@@ -1,11 +1,12 @@
 //! Opening an archive whose book may be known.
-ghost use Rattle.std.specs.Prelude.{◌≡◌, IfErr, IfOk, IfSome, Option};
+ghost use Rattle.std.specs.Prelude.{◌≡◌, IfErr, IfOk, IfSome, IsTrue, Option};
 ghost use Rattle.capture.specs.declared.book.Book.{Book as BookValue};
 ghost use Rattle.warc_text.specs.Ids.{IsUuid};
 ghost use Rattle.archive_opening.specs.Telling.{MayBeSettled};
 ghost use Rattle.archive_core.specs.Holdings.{AreLimits};
 ghost use Rattle.archive_core.specs.Known.{HasCheckpointsOfKnown, IsNotOpenedKnown, IsReopenedKnown, MayBeKnown, by_checkpoints, opening_of};
 ghost use Rattle.archive_core.specs.Reopening.{IsNotOpened, IsReopened};
+ghost use Rattle.archive_core.specs.Stood.{KeepsOn};
 
 use crate::Archive;
 use crate::reopen::{archive_of, open_whole};
@@ -37,6 +38,7 @@ impl<D: Disk> Archive<D> {
         ensures refused { IfErr result (IsNotOpenedKnown D.Disk disk namespace known) }
         ensures whole { depth ≡ Depth.Whole → IfOk result (IsReopened D.Disk disk namespace limits) }
         ensures whole_refused { depth ≡ Depth.Whole → IfErr result (IsNotOpened D.Disk disk namespace) }
+        ensures stood { depth ≡ Depth.Checkpoints → IfOk result (λ archive. IsTrue D.tells → KeepsOn D.Disk disk archive.journal) }
     {
         match depth {
             Depth::Whole => open_whole(alloc, disk, namespace, limits),
@@ -60,6 +62,7 @@ impl<D: Disk> Archive<D> {
         requires known { MayBeSettled D.Disk disk namespace known.now.value }
         ensures reopened { IfOk result (IsReopenedKnown D.Disk (by_checkpoints disk namespace known.now.value) limits) }
         ensures refused { IfErr result (IsNotOpenedKnown D.Disk disk namespace known.now.value) }
+        ensures stood { IfOk result (λ archive. IsTrue D.tells → KeepsOn D.Disk disk archive.journal) }
     {
         match open_by_checkpoints(alloc, disk, &namespace, known) {
             Ok(opened) => {

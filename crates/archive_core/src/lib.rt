@@ -15,9 +15,11 @@ mod settling;
 mod shelf;
 mod storing;
 mod take_piece;
+mod watched;
 
 pub use archive::Archive;
 pub use comparing::payload_of_taken;
 pub use laws::{
     compared_payloads_serve_later, settling_keeps_checkpoints_right, taken_pieces_lead_on,
 };
+pub use watched::{Since, StoodTexts, Watched};

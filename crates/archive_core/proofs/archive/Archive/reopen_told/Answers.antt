@@ -5,6 +5,8 @@ use Rattle.archive_volumes.proofs.ChangeLaws.{DiskLaws}
 use Rattle.archive_core.specs.Reopening.{IsMadeOf}
 use Rattle.archive_core.proofs.KnownLaws.{basis_told, entries_told, finished_told, may_be_known, refused_told, reopened_told, usable_told}
 use Rattle.archive_core.proofs.ReopenLaws.{no_memory, none_known}
+use Rattle.archive_core.proofs.StoodLaws.{keeps_made, keeps_on}
+use Rattle.warc_journal.specs.Journals.{disk_of}
 use Rattle.archive_shelf.specs.declared.depth.Depth.TheVariants.{Checkpoints}
 use Rattle.archive_core.specs.Known.{told_at}
 use Rattle.archive_core.proofs.archive.Archive.reopen_told.Given.{Over}
@@ -50,3 +52,10 @@ pub returns-in-Err-clause-refused : goal.returns-in-Err-clause-refused
 returns-in-Err-clause-refused g c =
     refused_told g.D.Disk (disk_laws g) c.args.disk c.args.namespace c.args.limits c.args.known.now.value c.requires.known c.in-Err.refused c.in-Err.ensures.refused
     c.in-Err.ensures.cause c.in-Err.ensures.damage c.in-Err.ensures.other c.in-Err.ensures.borne_out c.in-Err.ensures.given_back c.in-Err.ensures.faults
+
+-- what stood finished on the disk when it was opened stands in the archive's volumes
+pub returns-in-Ok-clause-stood : goal.returns-in-Ok-clause-stood
+returns-in-Ok-clause-stood g c =
+    keeps_made g.D.Disk (disk_laws g) c.args.disk c.in-Ok.opened c.args.limits _ c.archive_of.result c.archive_of.ensures.made
+    (λ tells. keeps_on g.D.Disk (disk_laws g) c.args.disk _ c.in-Ok.opened tells c.in-Ok.ensures.opened.usable (c.in-Ok.ensures.opened.rests tells)
+    (c.in-Ok.ensures.counts tells) (g.met.D.Disk.reading_is_image (disk_of c.in-Ok.opened.journal) tells))

@@ -1,19 +1,13 @@
-use Rattle.std.proofs.Common.{IsTrue, subst}
-use Rattle.std.specs.Prelude.{nat_eq, IfOk}
-use Rattle.std.specs.List.{starts_with}
+use Rattle.std.proofs.Common.{IsTrue, refl}
 use Rattle.cdxj_index.specs.OfBook.{AreEntries}
-use Rattle.archive_shelf.specs.Queries.{ArePicked}
-use Rattle.archive_core.specs.Holdings.{Holdings, IsArchive}
 use Rattle.archive_core.specs.Shown.{numbered}
-use Rattle.archive_core.proofs.ArchiveLaws as laws
+use Rattle.archive_core.proofs.ArchiveLaws.{on_each_ok}
 use Rattle.archive_core.proofs.archive.ArchiveFinder.starting.Goals as goal
 
 pub returns-clause-found : goal.returns-clause-found
-returns-clause-found g c =
-    subst (λ (held : Holdings _). IfOk c.starting.result (λ entries. ArePicked (λ e. starts_with nat_eq e.key c.args.start.now) (numbered held.index) entries.items)) c.self.view_is c.starting.ensures
+returns-clause-found g c = c.entries_from.ensures
 
 pub returns-clause-knows : goal.returns-clause-knows
 returns-clause-knows g c =
-    let is = subst (λ (held : Holdings _). IsArchive g.D.Disk held) c.self.view_is c.self.invariant in
-    laws.on_each_ok c.starting.result (IsTrue c.args.self.now.told → AreEntries c.args.self.now.book (numbered c.args.self.now.index))
-    (laws.shows_entries g.D.Disk c.args.self.now is)
+    on_each_ok c.entries_from.result (IsTrue c.args.self.now.told → AreEntries c.args.self.now.book (numbered c.args.self.now.index))
+    (c.shows_its_book.ensures.shows.consistent.shown refl)
