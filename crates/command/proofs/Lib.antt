@@ -4,3 +4,4 @@ mod HostTexts
 pub mod OpeningLaws
 mod WordsLemmas
 pub mod SettlingLaws
+pub mod StandingLaws

@@ -1,7 +1,8 @@
 //! Opens the archive on a disk, and says why it isn't opened.
-ghost use Rattle.std.specs.Prelude.{◌≡◌, ◌⊎◌, IfErr, IfOk, IfSome, List, OnOk, ℕ};
+ghost use Rattle.std.specs.Prelude.{◌≡◌, ◌⊎◌, IfErr, IfOk, IfSome, IsTrue, List, OnOk, ℕ};
 ghost use Rattle.archive_opening.specs.Telling.{MayBeSettled};
 ghost use Rattle.archive_core.specs.Known.{opening_of};
+ghost use Rattle.archive_core.specs.Stood.{KeepsOn};
 ghost use Rattle.command.specs.Opening.{IsNotOpened, IsOpened};
 ghost use Rattle.command.specs.Printing.{LacksMemory, Prints, printed_as};
 ghost use Rattle.command.specs.Texts.{IsFaultText};
@@ -52,6 +53,7 @@ pub fn open<K: Known, D: Disk, O: Sink>(
     requires uuid { IfSome asked IsUuid }
     requires known { MayBeSettled D.Disk disk asked K.book }
     ensures opened { IfOk result (IsOpened D.Disk (opening_of disk depth asked K.book)) }
+    ensures stood { depth ≡ Depth.Checkpoints → IfOk result (λ archive. IsTrue D.tells → KeepsOn D.Disk disk archive.journal) }
     ensures refused { IfErr result (λ ran. IsNotOpened D.Disk O.Sink (opening_of disk depth asked K.book) ran.disk (printed_as out.old out.new ran.status)) }
     ensures prints_nothing { OnOk result (out.new ≡ out.old) }
 {
