@@ -64,6 +64,7 @@ pub fn measure<R: Clock + Files + Print + Wait>(rt: &R, alloc: Global) -> Result
 pub(crate) fn not_said<R>(rt: &R) -> Shown<Sure>
     ensures calm { result.value.calm ≡ false }
     ensures right { result.value.right ≡ false }
+    ensures lasts { result.value.lasts ≡ false }
 {
     Shown::told_by(rt)
 }

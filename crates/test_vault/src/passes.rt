@@ -19,6 +19,7 @@ use vault::{At, Naming, Sure, Unnamed, Vault, VaultPass};
 pub(crate) fn not_said<R>(rt: &R) -> Shown<Sure>
     ensures calm { result.value.calm ≡ false }
     ensures right { result.value.right ≡ false }
+    ensures lasts { result.value.lasts ≡ false }
 {
     Shown::told_by(rt)
 }

@@ -1,4 +1,4 @@
--- A crash leaves the archive's book alone as long as its disk doesn't fail, and its checkpoints in any case.
+-- A crash leaves the archive's book alone as long as its disk doesn't fail, and in any case its checkpoints, and what stood in its volumes.
 use Rattle.std.proofs.Common.{◌≡◌, ◌⊎◌, ℕ, ◌≤◌, Bool, List, ◌++◌, length, IsTrue, Some, None, Result, Ok, Err, refl, sym, ap, subst, ◌∙◌, arith, length-append}
 use Rattle.std.specs.declared.snapshot.Snapshot.{Snapshot}
 use Rattle.capture.specs.Captures.{captures}
@@ -20,9 +20,10 @@ use Rattle.archive_volumes.proofs.StoreLaws.{opens_earlier}
 use Rattle.archive_volumes.specs.Volumes.{muted}
 use Rattle.archive_core.proofs.FinishedLaws.{checkpoints_later, same_checkpoints_of}
 use Rattle.archive_core.specs.Holdings.{Holdings}
+use Rattle.archive_core.specs.Stood.{KeepsStood}
 use Rattle.archive_core.specs.Stores.{Stores}
 use Rattle.archive_core.specs.Told.{told_of}
-use Rattle.vault.specs.Calm.{StaysCalm, StaysRight}
+use Rattle.vault.specs.Calm.{StaysCalm, StaysRight, StaysStood, StillStands}
 use Rattle.vault.specs.Guarded.{Stands}
 use Rattle.vault.specs.History.{IsBegun, sure_in}
 use Rattle.vault.specs.Noting.{Notes}
@@ -43,11 +44,12 @@ ids_earlier was now grows ids =
 
 -- what holds of a history holds where room was made for more
 pub roomy : {D : Type 0} (d : Ghosts D) (held : Holdings D) (before room : List (Snapshot Noted)) → room ≡ before
-    → Stands (values before) held × AreCounted (values before) (d.faults (disk_of held.journal)) × StaysCalm d (values before) held × StaysRight d (values before) held
-    → Stands (values room) held × AreCounted (values room) (d.faults (disk_of held.journal)) × StaysCalm d (values room) held × StaysRight d (values room) held
+    → Stands (values before) held × AreCounted (values before) (d.faults (disk_of held.journal)) × StaysCalm d (values before) held × StaysRight d (values before) held × StaysStood d (values before) held
+    → Stands (values room) held × AreCounted (values room) (d.faults (disk_of held.journal)) × StaysCalm d (values room) held × StaysRight d (values room) held × StaysStood d (values room) held
 roomy d held before room same holds =
     subst
-    (λ (l : List (Snapshot Noted)). Stands (values l) held × AreCounted (values l) (d.faults (disk_of held.journal)) × StaysCalm d (values l) held × StaysRight d (values l) held)
+    (λ (l : List (Snapshot Noted)). Stands (values l) held × AreCounted (values l) (d.faults (disk_of held.journal)) × StaysCalm d (values l) held × StaysRight d (values l) held
+    × StaysStood d (values l) held)
     (sym same) holds
 
 -- what was sure when the archive was given stays what it was
@@ -106,3 +108,13 @@ pub read_right : {D : Type 0} (d : Ghosts D) (history added after : List Noted) 
     → is.book ≡ was.book → LeavesNoMore (told_of d was).crash (told_of d is).crash → StaysRight d history was → StaysRight d after is
 read_right d history added after was is begun joined same more right =
     stays_right d history added after was is begun joined (subst (λ (b : Book). Grows was.book b) (sym same) (grows_from_itself was.book)) more.kept right
+
+-- ---- what stood
+
+-- behind a turn that leaves it
+pub stays_stood : {D : Type 0} (d : Ghosts D) (history added after : List Noted) (was is : Holdings D) → IsBegun history → after ≡ history ++ added
+    → (IsTrue d.tells → KeepsStood d (sure_in history).stood was.journal → KeepsStood d (sure_in history).stood is.journal)
+    → StaysStood d history was → StaysStood d after is
+stays_stood d history added after was is begun joined keeps stands =
+    subst (λ (s : Sure). IsTrue s.lasts → StillStands d s.stood is) (sym (sure_before history added after begun joined))
+    (λ sure tells. keeps tells (stands sure tells))

@@ -131,4 +131,5 @@ closed_by_all vault passes are some all shown book limits told faults crash left
           (subst (λ (n : ℕ). RoseBy (faults_since left.history) n faults) given.2 left.counted);
       calm = λ t none. left.calm (subst (λ (s : Sure). IsTrue s.calm) (sym given.3) t) (share.faults ∙ none);
       right = λ t. left.right (subst (λ (s : Sure). IsTrue s.right) (sym given.3) t);
+      lasts = subst (λ (s : Sure). IsTrue s.lasts → crash.lasts s.stood) given.3 left.lasts;
     }

@@ -5,6 +5,7 @@ use Rattle.capture.specs.declared.limits.Limits.{Limits}
 use Rattle.cdxj_index.specs.Facts.{Facts}
 use Rattle.archive_shelf.specs.Contents.{Contents}
 use Rattle.archive_shelf.specs.Storing.{as_stored, empty_book, with_capture, with_volume}
+use Rattle.archive_core.specs.Stood.{none_stood}
 use Rattle.archive_volumes.specs.Held.{book_of}
 use Rattle.logbook.specs.Pages.{Book as LogBook}
 use Rattle.vault.specs.declared.noted.Kind.{Kind}
@@ -85,7 +86,7 @@ given_faults (noted ∷ others) = faults_by noted.kind
 
 -- nothing is
 abbrev pub not_sure : Sure
-not_sure = record { calm = false; right = false }
+not_sure = record { calm = false; right = false; lasts = false; stood = none_stood }
 
 abbrev pub sure_by : Kind → Sure
 sure_by (Opened held limits told list faults sure) = sure.value

@@ -29,7 +29,7 @@ pub record IsNew (tells : Bool) (sure : Sure) (faults : ℕ) (lock : LockId) (pa
 
 -- What is left when a vault is closed: the book and the limits of some history that the pass had seen the beginning of, whether the book is
 -- told as that says, and a disk that has counted the faults which it tells of. A crash leaves of the archive what was sure of it when it was given: its
--- book alone where no fault was met, and its checkpoints in any case.
+-- book alone where no fault was met, and in any case its checkpoints, and what stood in its volumes.
 pub record IsLeft (pass : Known Noted) (book : Book) (limits : Limits) (told : Bool) (faults : ℕ) (crash : Crash) : Type 0 where
   pub history : List Noted
   pub shows : Shows by_of pass.passes pass.numbers pass.seen history
@@ -40,3 +40,4 @@ pub record IsLeft (pass : Known Noted) (book : Book) (limits : Limits) (told : B
   pub counted : AreCounted history faults
   pub calm : IsTrue (sure_in history).calm → faults_since history ≡ 0 → crash.calm
   pub right : IsTrue (sure_in history).right → crash.right
+  pub lasts : IsTrue (sure_in history).lasts → crash.lasts (sure_in history).stood

@@ -61,7 +61,8 @@ IsShownIn history pass = Shows by_of pass.known.passes pass.known.numbers pass.k
 
 -- What is left when a vault is closed with all its passes: the book of a history that is shared out among them; the limits, and whether
 -- the book is told, as of the archive that was given; a disk whose count of faults has risen by those that the passes met; and of
--- what a crash leaves, what was sure of it when the archive was given: its book alone where they met none, and its checkpoints in any case.
+-- what a crash leaves, what was sure of it when the archive was given: its book alone where they met none, and in any case its checkpoints, and what
+-- stood in its volumes.
 pub record IsLeftByAll (vault : VaultName) (passes : List (Known Noted)) (book : Book) (limits : Limits) (told : Bool) (faults : ℕ) (crash : Crash) : Type 0 where
   pub history : List Noted
   pub shared : IsSharedOut vault.book passes history
@@ -71,6 +72,7 @@ pub record IsLeftByAll (vault : VaultName) (passes : List (Known Noted)) (book :
   pub counted : RoseBy (sum_by (λ pass. own_faults pass.numbers pass.seen) passes) vault.faults faults
   pub calm : IsTrue vault.sure.calm → sum_by (λ pass. own_faults pass.numbers pass.seen) passes ≡ 0 → crash.calm
   pub right : IsTrue vault.sure.right → crash.right
+  pub lasts : IsTrue vault.sure.lasts → crash.lasts vault.sure.stood
 
 -- ---- histories that were shown one after the other
 

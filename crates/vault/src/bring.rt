@@ -11,7 +11,7 @@ use crate::keeping::Keeping;
 use crate::noting::note_fault;
 use crate::published::Published;
 use crate::turning::Act;
-use archive_shelf::{BringFault, Shelf};
+use archive_shelf::BringFault;
 use capture::Brought;
 use disk_model::Disk;
 use std::alloc::Global;
@@ -52,7 +52,8 @@ impl<D: Disk> Keeping<D> {
         if self.history.reserve(1).is_err() {
             return Err(BringFault::Memory);
         }
-        let answer = self.archive.bring(alloc, number);
+        let answer = self.archive.bring_numbered(alloc, number);
+        self.archive.shows_its_book();
         note_fault(&mut self.history, by, is_disk_fault(&answer));
         answer
     }

@@ -17,8 +17,8 @@ use std::sync::Wait;
 impl<D: Disk> Vault<D> {
     /// Ends the vault with all its passes, in the order of their numbers, and gives the archive back. What its book has behind the one that
     /// was given is shared out among them, and so are the faults that its disk has counted since. Of what a crash leaves, what
-    /// was sure when the archive was given is so: that it is the book alone if no pass met a fault, and that the finished checkpoints are the book's
-    /// in any case. May wait for readers.
+    /// was sure when the archive was given is so: that it is the book alone if no pass met a fault, and in any case that the finished checkpoints are the
+    /// book's, and that the texts which stood in its volumes stand there. May wait for readers.
     pub fn close_all<R: Wait, J: Naming>(self, rt: &R, passes: Vec<VaultPass>) -> Archive<D>
         requires vault { self ≡ J.vault.lock }
         requires some { 0 < J.vault.passes }

@@ -3,7 +3,7 @@ ghost use Rattle.std.specs.Prelude.{◌≡◌, IfErr, IfOk, IsTrue, length};
 ghost use Rattle.capture.specs.Captures.{captures};
 ghost use Rattle.warc_journal.specs.Journals.{disk_of};
 ghost use Rattle.warc_text.specs.Sound.{IsSound};
-ghost use Rattle.vault.specs.Calm.{HasRightCheckpoints, IsCalm, StaysCalm, StaysRight};
+ghost use Rattle.vault.specs.Calm.{HasRightCheckpoints, IsCalm, StaysCalm, StaysRight, StaysStood, StillStands};
 ghost use Rattle.vault.specs.Guarded.{Stands};
 ghost use Rattle.vault.specs.History.{IsOpening, Names, given_faults, is_told, sure_in, told_book};
 ghost use Rattle.vault.specs.Own.{AreCounted};
@@ -32,7 +32,7 @@ pub(crate) struct Keeping<D: Disk> {
 impl<D: Disk> Model for Keeping<D> {
     ghost use Rattle.std.specs.Prelude.{map};
     ghost use Rattle.warc_journal.specs.Journals.{disk_of};
-    ghost use Rattle.vault.specs.Calm.{StaysCalm, StaysRight};
+    ghost use Rattle.vault.specs.Calm.{StaysCalm, StaysRight, StaysStood};
     ghost use Rattle.vault.specs.Guarded.{Guarded, Stands};
     ghost use Rattle.vault.specs.Own.{AreCounted};
 
@@ -40,7 +40,7 @@ impl<D: Disk> Model for Keeping<D> {
 
     ghost view = { λ k. record { history = map (λ s. s.value) k.history.items; holdings = k.archive } };
 
-    ghost invariant = { λ k. Stands (map (λ s. s.value) k.history.items) k.archive × AreCounted (map (λ s. s.value) k.history.items) (D.faults (disk_of k.archive.journal)) × StaysCalm D.Disk (map (λ s. s.value) k.history.items) k.archive × StaysRight D.Disk (map (λ s. s.value) k.history.items) k.archive };
+    ghost invariant = { λ k. Stands (map (λ s. s.value) k.history.items) k.archive × AreCounted (map (λ s. s.value) k.history.items) (D.faults (disk_of k.archive.journal)) × StaysCalm D.Disk (map (λ s. s.value) k.history.items) k.archive × StaysRight D.Disk (map (λ s. s.value) k.history.items) k.archive × StaysStood D.Disk (map (λ s. s.value) k.history.items) k.archive };
 }
 
 impl<D: Disk> Keeping<D> {
@@ -53,6 +53,7 @@ impl<D: Disk> Keeping<D> {
     ) -> Result<Keeping<D>, Archive<D>>
         requires calm { IsTrue sure.value.calm → IsCalm D.Disk archive }
         requires right { IsTrue sure.value.right → HasRightCheckpoints D.Disk archive }
+        requires lasts { IsTrue sure.value.lasts → StillStands D.Disk sure.value.stood archive }
         ensures opens { IfOk result (λ keeping. IsOpening archive.book archive.limits keeping.history) }
         ensures told { IfOk result (λ keeping. is_told keeping.history ≡ archive.told) }
         ensures given { IfOk result (λ keeping. given_faults keeping.history ≡ D.faults (disk_of archive.journal)) }
@@ -122,6 +123,7 @@ impl<D: Disk> Keeping<D> {
         ensures counted { AreCounted self.history (D.faults (disk_of result.journal)) }
         ensures calm { StaysCalm D.Disk self.history result }
         ensures right { StaysRight D.Disk self.history result }
+        ensures lasts { StaysStood D.Disk self.history result }
     {
         self.archive
     }

@@ -1,7 +1,7 @@
 //! Vaults by their names.
 ghost use Rattle.std.specs.Prelude.{◌≡◌, ◌<◌, ◌≤◌, IfErr, IfOk, IsTrue};
 ghost use Rattle.warc_journal.specs.Journals.{disk_of};
-ghost use Rattle.vault.specs.Calm.{HasRightCheckpoints, IsCalm};
+ghost use Rattle.vault.specs.Calm.{HasRightCheckpoints, IsCalm, StillStands};
 ghost use Rattle.vault.specs.Members.{AreNewMembers};
 
 use crate::noted::Sure;
@@ -55,6 +55,7 @@ impl<D: Disk> Unnamed<D> {
         requires passes { (0 < passes) × (passes ≤ 17) }
         requires calm { IsTrue sure.value.calm → IsCalm D.Disk archive }
         requires right { IsTrue sure.value.right → HasRightCheckpoints D.Disk archive }
+        requires lasts { IsTrue sure.value.lasts → StillStands D.Disk sure.value.stood archive }
         ensures passes { IfOk result (λ u. u.passes ≡ passes) }
         ensures archive { IfOk result (λ u. (u.book ≡ archive.book) × (u.limits ≡ archive.limits) × (u.tells ≡ archive.told) × (u.faults ≡ D.faults (disk_of archive.journal))) }
         ensures sure { IfOk result (λ u. u.sure ≡ sure.value) }

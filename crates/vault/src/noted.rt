@@ -1,5 +1,6 @@
 //! The entries of a vault's history, of which only clauses know.
 use crate::item::Item;
+use archive_core::StoodTexts;
 use archive_volumes::Held;
 use capture::{Limits, Taken};
 use index_snapshot::Note;
@@ -13,6 +14,10 @@ pub struct Sure {
     pub calm: bool,
     /// Where the book is told, no finished checkpoints but those of its sealed volumes.
     pub right: bool,
+    /// Whatever is told of the book, the texts that stood finished in its volumes at a moment, at each moment since.
+    pub lasts: bool,
+    /// Which texts these are, and since when.
+    pub stood: StoodTexts,
 }
 
 /// What an entry of the history tells.

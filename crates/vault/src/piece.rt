@@ -10,7 +10,7 @@ use crate::keeping::Keeping;
 use crate::noting::note_fault;
 use crate::published::Published;
 use crate::turning::Act;
-use archive_shelf::{BringFault, Shelf};
+use archive_shelf::BringFault;
 use capture::Bytes;
 use disk_model::Disk;
 use std::alloc::Global;
@@ -46,7 +46,8 @@ impl<D: Disk> Keeping<D> {
         if self.history.reserve(1).is_err() {
             return Err(BringFault::Memory);
         }
-        let answer = self.archive.piece(alloc, number);
+        let answer = self.archive.piece_numbered(alloc, number);
+        self.archive.shows_its_book();
         note_fault(&mut self.history, by, is_disk_fault(&answer));
         answer
     }

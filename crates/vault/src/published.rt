@@ -8,7 +8,7 @@ ghost use Rattle.archive_core.specs.Looking.{IsDigestOf, IsRightOf};
 ghost use Rattle.history_lock.specs.Seen.{Adds};
 ghost use Rattle.index_snapshot.specs.Entries.{entries_in};
 ghost use Rattle.index_snapshot.specs.Publishing.{edge_of, full_of};
-ghost use Rattle.vault.specs.Calm.{HasRightCheckpoints, IsCalm, StaysCalm, StaysRight};
+ghost use Rattle.vault.specs.Calm.{HasRightCheckpoints, IsCalm, StaysCalm, StaysRight, StaysStood, StillStands};
 ghost use Rattle.vault.specs.Guarded.{AreShown, Stands};
 ghost use Rattle.vault.specs.History.{IsOpening, by_of, given_faults, is_told, sure_in, told_in};
 ghost use Rattle.vault.specs.Items.{AreItems, brings_of, last_book, tells_in};
@@ -98,6 +98,7 @@ impl<D: Disk> Published<D> {
         requires readers { (0 < readers) × (readers ≤ 17) }
         requires calm { IsTrue sure.value.calm → IsCalm D.Disk archive }
         requires right { IsTrue sure.value.right → HasRightCheckpoints D.Disk archive }
+        requires lasts { IsTrue sure.value.lasts → StillStands D.Disk sure.value.stood archive }
         ensures opens { IfOk result (λ r. IsOpening archive.book archive.limits r.0.kept.history) }
         ensures told { IfOk result (λ r. is_told r.0.kept.history ≡ archive.told) }
         ensures given { IfOk result (λ r. given_faults r.0.kept.history ≡ D.faults (disk_of archive.journal)) }
@@ -271,6 +272,7 @@ impl<D: Disk> Published<D> {
         ensures counted { AreCounted self.kept.history (D.faults (disk_of result.journal)) }
         ensures calm { StaysCalm D.Disk self.kept.history result }
         ensures right { StaysRight D.Disk self.kept.history result }
+        ensures lasts { StaysStood D.Disk self.kept.history result }
     {
         let Published {
             keeping,

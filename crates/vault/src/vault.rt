@@ -8,7 +8,7 @@ ghost use Rattle.archive_shelf.specs.Pieces.{GivesPiece};
 ghost use Rattle.archive_core.specs.Looking.{IsDigestOf, IsRightOf};
 ghost use Rattle.history_lock.specs.Known.{IsSamePass};
 ghost use Rattle.history_lock.specs.Seen.{Shows, Turn};
-ghost use Rattle.vault.specs.Calm.{HasRightCheckpoints, IsCalm, crash_left};
+ghost use Rattle.vault.specs.Calm.{HasRightCheckpoints, IsCalm, StillStands, crash_left};
 ghost use Rattle.vault.specs.History.{IsBegun, KeepsNames, Names, by_of, is_told, told_in};
 ghost use Rattle.vault.specs.Company.{contents_at};
 ghost use Rattle.vault.specs.Items.{brings_of, shown_in};
@@ -56,7 +56,7 @@ impl<D: Disk> Model for Vault<D> {
 impl<D: Disk> Vault<D> {
     /// A vault round an archive, and so many passes, with the numbers from 1 on. Each has seen that the archive was given, and shows
     /// its captures by date. What is sure of a crash now is so at the end: that it leaves the archive's book alone if
-    /// the disk didn't fail, and that it leaves checkpoints of that book alone in any case. At `Err` there was no memory, and the archive comes back as it was. May wait.
+    /// the disk didn't fail, and in any case checkpoints of that book alone, and the texts that stood in its volumes. At `Err` there was no memory, and the archive comes back as it was. May wait.
     pub fn new<R: Wait>(
         alloc: Global,
         rt: &R,
@@ -67,6 +67,7 @@ impl<D: Disk> Vault<D> {
         requires passes { (0 < passes) × (passes ≤ 17) }
         requires calm { IsTrue sure.value.calm → IsCalm D.Disk archive }
         requires right { IsTrue sure.value.right → HasRightCheckpoints D.Disk archive }
+        requires lasts { IsTrue sure.value.lasts → StillStands D.Disk sure.value.stood archive }
         ensures count { IfOk result (λ r. length r.1.items ≡ passes) }
         ensures each { IfOk result (λ r. (k : ℕ) → IfSome (slice_get r.1.items k) (λ p. IsNew archive.told sure.value (D.faults (disk_of archive.journal)) r.0 passes (k + 1) archive.book archive.limits p)) }
         ensures err { IfErr result (λ back. back ≡ archive) }

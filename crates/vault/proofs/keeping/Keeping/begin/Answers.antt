@@ -1,6 +1,7 @@
 -- The history has its first entry.
-use Rattle.std.proofs.Common.{◌≡◌, List, [], ◌∷◌, ◌++◌, IsTrue, rules, ap, subst, ◌∙◌}
+use Rattle.std.proofs.Common.{◌≡◌, List, [], ◌∷◌, ◌++◌, IsTrue, rules, sym, ap, subst, ◌∙◌}
 use Rattle.std.specs.declared.snapshot.Snapshot.{Snapshot}
+use Rattle.vault.specs.Calm.{StillStands}
 use Rattle.vault.specs.History.{sure_by, sure_in}
 use Rattle.vault.specs.declared.noted.Noted.{Noted}
 use Rattle.vault.specs.declared.noted.Sure.{Sure}
@@ -17,4 +18,5 @@ invariant_of-result g c =
       search rules,
       λ told none. c.requires.calm (subst (λ (s : Sure). IsTrue s.calm) sure told),
       λ told. c.requires.right (subst (λ (s : Sure). IsTrue s.right) sure told),
+      subst (λ (s : Sure). IsTrue s.lasts → StillStands g.D.Disk s.stood c.args.archive) (sym sure) c.requires.lasts,
     )

@@ -6,6 +6,7 @@ use Rattle.capture.specs.declared.book.Book.{Book}
 use Rattle.archive_shelf.specs.Comparing.{IsRight}
 use Rattle.archive_volumes.proofs.ChangeLaws.{DiskLaws}
 use Rattle.history_lock.specs.Seen.{Adds}
+use Rattle.archive_core.proofs.StoodLaws.{keeps_fills}
 use Rattle.archive_core.specs.Shown.{numbered}
 use Rattle.archive_core.specs.Told.{told_of}
 use Rattle.archive_shelf.proofs.CallLaws.{stored_goes_on}
@@ -15,7 +16,7 @@ use Rattle.vault.specs.History.{by_of, is_told, told_book}
 use Rattle.vault.specs.Noting.{Notes}
 use Rattle.vault.specs.Turns.{Commits}
 use Rattle.vault.specs.declared.noted.Noted.{Noted}
-use Rattle.vault.proofs.CalmLaws.{roomy, stays_right, store_calm}
+use Rattle.vault.proofs.CalmLaws.{roomy, stays_right, stays_stood, store_calm}
 use Rattle.vault.proofs.CommitLaws.{all_committed}
 use Rattle.vault.proofs.NotingLaws.{noting_from, values}
 use Rattle.vault.proofs.keeping.Keeping.commit.Given.{Over}
@@ -52,6 +53,10 @@ invariant_of-self-2 g c =
           c.stored-answer.result.0 noting.done store,
       stays_right g.D.Disk (values c.self.inside.history.items) noting.added (values c.note_store.new.history.items) c.self.inside.archive
           c.stored-answer.new.archive c.self.invariant.0.begun noting.joined grows store.told.crash.kept c.self.invariant.3,
+      stays_stood g.D.Disk (values c.self.inside.history.items) noting.added (values c.note_store.new.history.items) c.self.inside.archive
+          c.stored-answer.new.archive c.self.invariant.0.begun noting.joined
+          (λ tells keeps. keeps_fills g.D.Disk (disk_laws g) _ c.self.inside.archive c.stored-answer.new.archive c.args.taken.now tells keeps
+          c.stored-answer.result.0 store.fills) c.self.invariant.4,
     )
 
 pub returns-clause-adds : goal.returns-clause-adds

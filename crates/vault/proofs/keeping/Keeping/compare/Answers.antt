@@ -1,6 +1,7 @@
 -- A payload was looked for.
 use Rattle.std.proofs.Common.{ap, subst, sym}
 use Rattle.std.specs.Prelude.{Contains}
+use Rattle.archive_core.proofs.StoodLaws.{keeps_looks}
 use Rattle.archive_core.specs.Holdings.{Holdings}
 use Rattle.archive_core.specs.Shown.{numbered}
 use Rattle.archive_volumes.specs.Choosing.{is_look_fault}
@@ -10,7 +11,7 @@ use Rattle.vault.specs.Guarded.{Guarded, KeepsShown}
 use Rattle.vault.specs.History.{by_of, is_told}
 use Rattle.vault.specs.Noting.{failing}
 use Rattle.vault.specs.Turns.{Compares}
-use Rattle.vault.proofs.CalmLaws.{read_calm, read_right, roomy}
+use Rattle.vault.proofs.CalmLaws.{read_calm, read_right, roomy, stays_stood}
 use Rattle.vault.proofs.NotingLaws.{joined_by, values}
 use Rattle.vault.proofs.ReadLaws.{all_compared}
 use Rattle.vault.proofs.keeping.Keeping.compare.Given.{Over}
@@ -41,6 +42,9 @@ invariant_of-self-2 g c =
       read_right g.D.Disk (values c.self.inside.history.items) (failing c.args.by (is_look_fault c.compare-answer.result)) (values c.note_fault.new.history.items)
           c.self.inside.archive c.compare-answer.new.self c.self.invariant.0.begun joined
           (ap (λ (held : Holdings _). held.book) c.compare-answer.ensures.only_looks.others) c.compare-answer.ensures.only_looks.unwritten.crash c.self.invariant.3,
+      stays_stood g.D.Disk (values c.self.inside.history.items) (failing c.args.by (is_look_fault c.compare-answer.result)) (values c.note_fault.new.history.items)
+          c.self.inside.archive c.compare-answer.new.self c.self.invariant.0.begun joined
+          (λ tells. keeps_looks g.D.Disk (disk_laws g) _ c.self.inside.archive c.compare-answer.new.self tells c.compare-answer.ensures.only_looks) c.self.invariant.4,
     )
 
 pub returns-clause-adds : goal.returns-clause-adds

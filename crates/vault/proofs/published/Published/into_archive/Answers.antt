@@ -1,6 +1,6 @@
 -- What a crash leaves of the archive is as sure as the history says.
 use Rattle.std.proofs.Common.{subst}
-use Rattle.vault.specs.Calm.{StaysCalm, StaysRight}
+use Rattle.vault.specs.Calm.{StaysCalm, StaysRight, StaysStood}
 use Rattle.vault.specs.Guarded.{Publication}
 use Rattle.vault.proofs.published.Published.into_archive.Goals as goal
 
@@ -9,3 +9,6 @@ returns-clause-calm g c = subst (λ (p : Publication _). StaysCalm g.D.Disk p.ke
 
 pub returns-clause-right : goal.returns-clause-right
 returns-clause-right g c = subst (λ (p : Publication _). StaysRight g.D.Disk p.kept.history c.into_archive.result) c.self.view_is c.into_archive.ensures.right
+
+pub returns-clause-lasts : goal.returns-clause-lasts
+returns-clause-lasts g c = subst (λ (p : Publication _). StaysStood g.D.Disk p.kept.history c.into_archive.result) c.self.view_is c.into_archive.ensures.lasts

@@ -17,4 +17,5 @@ returns g c = record {
   counted = c.into_archive.ensures.counted;
   calm = c.into_archive.ensures.calm;
   right = c.into_archive.ensures.right;
+  lasts = c.into_archive.ensures.lasts;
 }
