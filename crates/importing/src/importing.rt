@@ -1,5 +1,7 @@
 //! The command `import`: stores the captures of a WARC file of another tool.
-ghost use Rattle.std.specs.Prelude.{◌≡◌, ◌≤◌, ◌⊎◌, ℕ, List, [], length, IfSome, Ok, Err, Option};
+ghost use Rattle.std.specs.Prelude.{◌≡◌, ◌≤◌, ◌⊎◌, ℕ, true, List, [], length, IfSome, IsTrue, Ok, Err, Option};
+ghost use Rattle.archive_core.specs.Stood.{KeepsStood};
+ghost use Rattle.archive_core.specs.Told.{told_of};
 ghost use Rattle.archive_opening.specs.Telling.{MayBeSettled};
 ghost use Rattle.archive_shelf.specs.declared.fault.StoreFault.{StoreFault as Refusal};
 ghost use Rattle.importing.specs.Imports.{Imports, IsTellable, Tells, TellsFile, status_after as after, takens_in};
@@ -21,12 +23,15 @@ ghost use Rattle.warc_text.specs.Ids.{IsUuid};
 use crate::input::{InputFault, read_first};
 use crate::taking::take_all;
 use crate::tally::{Tally, damaged_input, put_sums};
+use archive_core::{Archive, Since, StoodTexts, Watched};
 use archive_shelf::{Depth, Shelf, StoreFault};
 use capture::Memory;
-use command::{Command, Known, Ran, Status, asked_of, open, print_as};
+use command::{Command, Known, Ran, Status, asked_of, open, print_as, stood_on};
 use disk_model::Disk;
 use outside::{Gate, Sink};
+use shown::Shown;
 use std::alloc::Global;
+use std::marker::Brand;
 use warc_reader::{CaptureReader, ImportFault};
 
 /// Opens the archive on the disk in the namespace that the command names, by its checkpoints, reads the gate's first connection to its end, stores the
@@ -45,21 +50,37 @@ pub fn import<K: Known, D: Disk, G: Gate, O: Sink>(
         (objects_of result.disk gate.new tt out.new) result.status
         ⊎ (IsNotOpened D.Disk O.Sink (by_checkpoints disk (spec.asked_of command) K.book) result.disk (printed_as out.old out.new result.status) × (gate.new ≡ gate.old)) }
 {
-    let mut archive = match open::<K, D, O>(
-        alloc,
-        disk,
-        asked_of(command),
-        Depth::Checkpoints,
-        out,
-    ) {
+    let given = Shown::told_by(&disk);
+    let archive = match open::<K, D, O>(alloc, disk, asked_of(command), Depth::Checkpoints, out) {
         Ok(archive) => archive,
         Err(ran) => return ran,
     };
-    let status = import_first(alloc, &mut archive, gate, out);
+    let stood = stood_on(&given, &archive);
+    let (archive, status) = import_watched::<D, G, O, Brand>(alloc, archive, &stood, gate, out);
     Ran {
         status,
         disk: archive.close(),
     }
+}
+
+/// Reads the gate's first connection to its end, and imports what it gives into an archive that keeps what stood in its volumes.
+fn import_watched<D: Disk, G: Gate, O: Sink, S: Since>(
+    alloc: Global,
+    archive: Archive<D>,
+    stood: &Shown<StoodTexts>,
+    gate: &mut G,
+    out: &mut O,
+) -> (Archive<D>, Status)
+    requires { IsTrue D.tells → KeepsStood D.Disk S.stood archive.journal }
+    ensures first { ImportsFirst true O.Sink G.Link.tells (gate_told G.Gate gate.old) (gate_told G.Gate gate.new) (told_of D.Disk archive) (told_of D.Disk result.0)
+        (printed_as out.old out.new result.1) }
+    ensures keeps { IsTrue D.tells → KeepsStood D.Disk S.stood result.0.journal }
+{
+    // only the clauses read it
+    let _ = stood;
+    let mut watched = Watched::<D, S>::over(archive);
+    let status = import_first(alloc, &mut watched, gate, out);
+    (watched.into_archive(), status)
 }
 
 /// Reads the gate's first connection to its end, and imports what it gives.

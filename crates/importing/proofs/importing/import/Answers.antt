@@ -1,5 +1,6 @@
 -- The archive was refused, or the gate's first connection was imported.
-use Rattle.std.proofs.Common.{refl, inl, inr}
+use Rattle.std.proofs.Common.{refl, sym, subst, inl, inr}
+use Rattle.archive_core.specs.Stood.{KeepsOn, Lasts, StoodOn}
 use Rattle.archive_volumes.proofs.ChangeLaws.{DiskLaws}
 use Rattle.command.specs.Objects.{objects_of}
 use Rattle.command.proofs.SettlingLaws.{opened_is_of}
@@ -19,11 +20,26 @@ open-requires-clause-known g c = rw c.asked_of.ensures c.requires.known
 pub returns-in-Err : goal.returns-in-Err
 returns-in-Err g c = inr (rw c.asked_of.ensures at c.in-Err.ensures.refused, refl)
 
+pub stood_on-stood-requires : goal.stood_on-stood-requires
+stood_on-stood-requires g c = λ tells.
+    subst (λ (disk : _). KeepsOn g.D.Disk disk c.in-Ok.archive.journal) (sym c.told_by-given.ensures) (c.in-Ok.ensures.stood refl tells)
+
+pub import_watched-archive-requires : goal.import_watched-archive-requires
+import_watched-archive-requires g c = c.stood_on-stood.ensures.keeps
+
 pub returns : goal.returns
 returns g c =
+    let left = c.import_watched-archive.result.0 in
+    let status = c.import_watched-archive.result.1 in
     let opened = rw c.asked_of.ensures at c.in-Ok.ensures.opened in
     inl (imports_by g.D.Disk g.G.Gate g.O.Sink g.G.Link.Link.tells (disk_laws g) _
-    (objects_of c.args.disk c.args.gate.now tt c.args.out.now) (objects_of c.close.result c.import_first-status.new.gate tt c.import_first-status.new.out)
-    c.open.new.out c.import_first-status.result c.in-Ok.archive c.import_first-status.new.shelf g.K.Known.book
+    (objects_of c.args.disk c.args.gate.now tt c.args.out.now) (objects_of c.close.result c.import_watched-archive.new.gate tt c.import_watched-archive.new.out)
+    c.open.new.out status c.in-Ok.archive left g.K.Known.book
     opened (opened_is_of g.D.Disk c.args.disk _ g.K.Known.book c.requires.known c.in-Ok.archive opened.is) c.close.ensures.disk
-    c.in-Ok.ensures.prints_nothing c.close.ensures.near c.import_first-status.ensures)
+    c.in-Ok.ensures.prints_nothing c.close.ensures.near
+    (λ tells. record {
+      stood = c.stood_on-stood.result.value;
+      on = subst (λ (disk : _). StoodOn g.D.Disk disk c.stood_on-stood.result.value) c.told_by-given.ensures (c.stood_on-stood.ensures.on tells);
+      lasts = subst (Lasts g.D.Disk c.stood_on-stood.result.value) (sym c.close.ensures.disk) (c.import_watched-archive.ensures.keeps tells).lasts;
+    })
+    c.import_watched-archive.ensures.first)
