@@ -408,8 +408,8 @@ module _ {D G L P N M C O : Type 0} (kinds : Kinds D G L P N M C O) where
         (s.left told_first (ids_earlier piped.before.book piped.after.book piped.goes_on.grows ids) (differ _ _ _ c.rounds _ c.lawful ids) image x left stands)
     last_then counts differ ids steady (inr n) image x left stands =
         let at : ImageStandsFor image piped.before.book =
-        (piped.opened.left told_first image (subst (λ (h : Holdings D). kinds.disks.images (disk_of h.journal) image) n.same left)).stands in
-        subst (λ (now : Holdings D). SameBook x now.book) (sym n.same)
+        (piped.opened.left told_first image (subst (λ (h : Holdings D). kinds.disks.images (disk_of h.journal) image) n.2 left)).stands in
+        subst (λ (now : Holdings D). SameBook x now.book) (sym n.2)
         (one_of image x piped.before.book stands at (ids_differ piped.before.book (ids_earlier piped.before.book piped.after.book piped.goes_on.grows ids)))
 
     pub left_last : CoursesCountFaults → IdsDifferOnTheWay → IsTrue kinds.clients_tell → IsTrue kinds.origins_tell

@@ -8,6 +8,7 @@ use Rattle.std.proofs.lemmas.List.Elements.{All-from_recursion, recursion_from_A
 use Rattle.std.proofs.lemmas.List.Sums.{sum_by-cons}
 use Rattle.archive_core.specs.Holdings.{Holdings, contents_of}
 use Rattle.archive_core.specs.Known.{by_checkpoints}
+use Rattle.archive_core.specs.Stood.{KeepsFinished, Stood}
 use Rattle.archive_core.specs.Told.{told_of}
 use Rattle.archive_opening.specs.Telling.{HasCheckpointsOf}
 use Rattle.archive_shelf.specs.Contents.{Contents}
@@ -166,7 +167,7 @@ shared_out book passes history shared =
 module _ {D G L P N M C O : Type 0} (kinds : Kinds D G L P N M C O) (known : Option Book) (asked : Option (List ℕ)) (site : Site)
     (was is : Objects D G (List (N × C)) O) (vault : VaultName) (starts seats : List Passing) where
   -- all that a crew serves over a vault of an archive that was opened and settled
-  pub serves_over : (before after : Holdings D) → OpensSettled kinds.disks (by_checkpoints was.disk asked known) before
+  pub serves_over : (before after : Holdings D) (lasts : Stood → Type 0) → OpensSettled kinds.disks (by_checkpoints was.disk asked known) before
       → IsNameOf vault (contents_of before) (kinds.disks.faults (disk_of before.journal)) → AreNewMembers vault starts → AreMembers vault seats → (said : Status)
       → (IsTrue kinds.clients_tell → IsTrue kinds.origins_tell
       → ServesAll (record { alone = false; told = told_at; setting = record { site = site; clock_tells = kinds.clocks.tells } })
@@ -176,11 +177,13 @@ module _ {D G L P N M C O : Type 0} (kinds : Kinds D G L P N M C O) (known : Opt
       → IsLeftByAll vault (map known_of seats) after.book after.limits after.told (kinds.disks.faults (disk_of after.journal)) (record {
         calm = HasIds after.book → IsState (told_of kinds.disks after).crash after.book None;
         right = IsTrue after.told → Leaves (kinds.disks.images (disk_of after.journal)) (λ image. HasCheckpointsOf image after.book);
+        lasts = lasts;
       })
       → (counted : Status) → TellsCount kinds.sinks (length (captures after.book)) said (printed_as was.out is.out counted)
       → (status : Status) → ClosesSettled kinds.disks after counted is.disk status → (IsTrue after.told → OpensNear kinds.disks is.disk after.book)
+      → (lasts vault.sure.stood → IsTrue kinds.disks.tells → KeepsFinished kinds.disks was.disk is.disk)
       → drop vault.passes is.crew ≡ drop vault.passes was.crew → Serves kinds known (record { asked = asked; site = site; workers = vault.passes }) was is status
-  serves_over before after opened name new back said serves ended of_all counted tells status closed near others =
+  serves_over before after lasts opened name new back said serves ended of_all counted tells status closed near bytes others =
       let same : after.told ≡ before.told = of_all.told_is ∙ name.tells in
       record {
         before = before;
@@ -210,5 +213,6 @@ module _ {D G L P N M C O : Type 0} (kinds : Kinds D G L P N M C O) (known : Opt
         only = λ none. of_all.calm name.calm (sym (faults_as seats) ∙ none);
         right = of_all.right name.right;
         near = λ t. near (same ∙ t);
+        bytes = bytes (of_all.lasts name.lasts);
         others = others;
       }

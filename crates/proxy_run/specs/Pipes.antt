@@ -2,6 +2,7 @@
 use Rattle.std.specs.Prelude.{◌≡◌, ◌⊎◌, ◌≤◌, ℕ, List, true, IsTrue, Option}
 use Rattle.archive_core.specs.Holdings.{Holdings, contents_of}
 use Rattle.archive_core.specs.Known.{Opening, by_checkpoints}
+use Rattle.archive_core.specs.Stood.{KeepsFinished}
 use Rattle.archive_core.specs.Told.{told_of}
 use Rattle.archive_volumes.specs.Volumes.{OpensNear, crash_of, muted}
 use Rattle.archive_shelf.specs.Openings.{HasIds, ImageStandsFor, SameBook, StaysCovered}
@@ -53,6 +54,8 @@ module _ {D G L P N M C O : Type 0} (kinds : Kinds D G L P N M C O) where
     pub goes_on : GoesOn true (told_of kinds.disks before) (told_of kinds.disks after)
     pub closed : ClosesSettled kinds.disks after said is.disk status
     pub near : IsTrue before.told → OpensNear kinds.disks is.disk after.book
+    -- whatever is told of the book, no finished text of its volumes lost a byte, at whatever moment a crash stopped that
+    pub bytes : IsTrue kinds.disks.tells → KeepsFinished kinds.disks was.disk is.disk
     pub covered : StaysCovered (crash_of (muted before.told kinds.disks) was.disk) (crash_of (muted before.told kinds.disks) is.disk)
     pub ends : IsServedStatus said
     pub gate_failed : (said ≡ Outside) ⊎ (kinds.gates.faults is.gate ≡ kinds.gates.faults was.gate)

@@ -4,6 +4,7 @@ use Rattle.std.specs.List.{flat_map, range_with_len, sum_by}
 use Rattle.std.specs.List.Sorted.{IsStrictlyIncreasing}
 use Rattle.archive_core.specs.Holdings.{Holdings, contents_of}
 use Rattle.archive_core.specs.Known.{by_checkpoints}
+use Rattle.archive_core.specs.Stood.{KeepsFinished}
 use Rattle.archive_core.specs.Told.{told_of}
 use Rattle.archive_opening.specs.Telling.{HasCheckpointsOf}
 use Rattle.archive_shelf.specs.Contents.{Contents}
@@ -117,6 +118,8 @@ module _ {D G L P N M C O : Type 0} (kinds : Kinds D G L P N M C O) (known : Opt
     -- where the book is told, the finished checkpoints of each image that they leave are those of the last book
     pub right : IsTrue after.told → Leaves (kinds.disks.images (disk_of after.journal)) (λ image. HasCheckpointsOf image after.book)
     pub near : IsTrue before.told → OpensNear kinds.disks is.disk after.book
+    -- whatever is told of the book, no finished text of its volumes lost a byte, at whatever moment a crash stopped that
+    pub bytes : IsTrue kinds.disks.tells → KeepsFinished kinds.disks was.disk is.disk
     pub others : drop duty.workers is.crew ≡ drop duty.workers was.crew
 
   -- The archive was opened and settled, but there was no memory for so many shelves: it was settled again, and nothing else was touched.
@@ -125,4 +128,5 @@ module _ {D G L P N M C O : Type 0} (kinds : Kinds D G L P N M C O) (known : Opt
     pub opened : OpensSettled kinds.disks (by_checkpoints was.disk asked known) before
     pub closed : ClosesSettled kinds.disks before Memory is.disk status
     pub near : IsTrue before.told → OpensNear kinds.disks is.disk before.book
+    pub bytes : IsTrue kinds.disks.tells → KeepsFinished kinds.disks was.disk is.disk
     pub untouched : is ≡ record was { disk = is.disk }

@@ -1,6 +1,7 @@
 //! The command `serve`: the connections of many clients over one archive.
 ghost use Rattle.std.specs.Prelude.{◌⊎◌, ◌≡◌, ◌<◌, ◌≤◌, ℕ, true, IfSome, IsTrue, List, Option, length};
 ghost use Rattle.archive_core.specs.Holdings.{Holdings, contents_of};
+ghost use Rattle.archive_core.specs.Stood.{StoodOn};
 ghost use Rattle.archive_opening.specs.Telling.{MayBeSettled};
 ghost use Rattle.capture.specs.declared.book.Book.{Book};
 ghost use Rattle.archive_core.specs.Known.{by_checkpoints};
@@ -17,9 +18,9 @@ ghost use Rattle.warc_text.specs.Ids.{IsUuid};
 
 use crate::counting::tell_count;
 use crate::seating::serve_by;
-use archive_core::Archive;
+use archive_core::{Archive, StoodTexts};
 use capture::Site;
-use command::{Command, Known, Ran, Status, asked_of, open_and_settle, settle_and_close};
+use command::{Command, Known, Ran, Status, asked_of, open_and_settle, settle_and_close, stood_on};
 use disk_model::Disk;
 use outside::{Clock, Dialer, Gate, Sink};
 use shown::Shown;
@@ -80,11 +81,13 @@ where
         site,
         workers,
     } = service;
+    let given = Shown::told_by(&disk);
     let archive = match open_and_settle::<K, D, O>(alloc, disk, asked_of(command), out) {
         Ok(archive) => archive,
         Err(ran) => return ran,
     };
-    let sure = left_sure(&archive);
+    let stood = stood_on(&given, &archive);
+    let sure = left_sure(&archive, &stood);
     match Unnamed::new(alloc, rt, archive, workers, sure) {
         Ok(unnamed) => {
             serve_named::<R, D, G, N, C, O, Brand>(rt, alloc, unnamed, site, gate, crew, out)
@@ -93,14 +96,16 @@ where
     }
 }
 
-/// That a crash leaves the archive's book alone, and its checkpoints, where each image that is left stands for it and has these.
-fn left_sure<D: Disk>(archive: &Archive<D>) -> Shown<Sure>
+/// That a crash leaves the archive's book alone, and its checkpoints, where each image that is left stands for it and has these; and what stood in its volumes.
+fn left_sure<D: Disk>(archive: &Archive<D>, stood: &Shown<StoodTexts>) -> Shown<Sure>
     requires { IsTrue archive.now.told → Leaves (D.images (disk_of archive.now.journal)) (IsOf archive.now.book) }
-    ensures value { result.value ≡ record { calm = true; right = true } }
+    ensures value { result.value ≡ record { calm = true; right = true; lasts = true; stood = stood.now.value } }
     ensures calm { IsCalm D.Disk archive.now }
     ensures right { HasRightCheckpoints D.Disk archive.now }
 {
-    Shown::told_by(archive)
+    // only the clauses read it
+    let _ = archive;
+    Shown::told_by(stood)
 }
 
 /// Serves over a vault under a name, ends it, prints how many captures there are, writes the checkpoints that are missing, and closes the
@@ -131,7 +136,8 @@ where
     requires enough { unnamed.passes ≤ length crew.old.items }
     ensures { let kinds = kinds_of D.Disk G.Gate N.Dialer C.Clock O.Sink G.Link.tells N.Link.tells in
         (known : Option Book) (asked : Option (List ℕ)) (disk : D) (before : Holdings D) → OpensSettled D.Disk (by_checkpoints disk asked known) before
-        → IsNameOf unnamed (contents_of before) (D.faults (disk_of before.journal)) → Serves kinds known (record { asked = asked; site = site.now; workers = unnamed.passes }) (objects_of disk gate.old crew.old.items out.old)
+        → IsNameOf unnamed (contents_of before) (D.faults (disk_of before.journal)) → (IsTrue D.tells → StoodOn D.Disk disk unnamed.sure.stood)
+        → Serves kinds known (record { asked = asked; site = site.now; workers = unnamed.passes }) (objects_of disk gate.old crew.old.items out.old)
         (objects_of result.disk gate.new crew.new.items out.new) result.status }
 {
     let (vault, mut passes) = unnamed.named::<J>();

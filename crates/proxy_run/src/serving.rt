@@ -1,5 +1,7 @@
 //! Serves the gate's first connection.
-ghost use Rattle.std.specs.Prelude.{◌≡◌, ◌<◌, ◌⊎◌, IsTrue, IfOk};
+ghost use Rattle.std.specs.Prelude.{◌≡◌, ◌<◌, ◌⊎◌, true, IsTrue, IfOk};
+ghost use Rattle.archive_core.specs.Stood.{KeepsStood};
+ghost use Rattle.archive_core.specs.Told.{told_of};
 ghost use Rattle.archive_shelf.specs.Told.{GoesOn};
 ghost use Rattle.outside.specs.Gate.{Connections, one_given};
 ghost use Rattle.outside.specs.Link.{IsFresh};
@@ -8,12 +10,41 @@ ghost use Rattle.proxy_run.specs.Serving as spec;
 ghost use Rattle.crew.specs.Crews.{IsEnd};
 ghost use Rattle.proxy_run.specs.Serving.{IsServedStatus, ServesOne, pipe_site};
 
+use archive_core::{Archive, Since, StoodTexts, Watched};
 use archive_shelf::{Shelf, leading_books_grow};
 use capture::{Memory, Site, Text};
 use command::{Status, hang_up};
+use disk_model::Disk;
 use outside::{Accepted, Clock, Dialer, Gate};
 use session::{Served, serve};
+use shown::Shown;
 use std::alloc::Global;
+
+/// Serves the gate's first connection over an archive that keeps what stood in its volumes.
+pub(crate) fn serve_watched<D: Disk, G: Gate, N: Dialer, C: Clock, S: Since>(
+    alloc: Global,
+    archive: Archive<D>,
+    stood: &Shown<StoodTexts>,
+    gate: &mut G,
+    member: &mut (N, C),
+) -> (Archive<D>, Status)
+    requires { IsTrue D.tells → KeepsStood D.Disk S.stood archive.journal }
+    ensures serves { IsTrue G.Link.tells → IsTrue N.Link.tells
+        → ServesOne true (record { site = pipe_site; clock_tells = C.tells }) (told_around G.Gate N.Dialer C.Clock gate.old member.old)
+        (told_around G.Gate N.Dialer C.Clock gate.new member.new) (told_of D.Disk archive) (told_of D.Disk result.0) result.1
+        ⊎ (IsEnd (G.closed gate.old) (G.faults gate.old) (G.faults gate.new) result.1
+        × (told_around G.Gate N.Dialer C.Clock gate.new member.new ≡ told_around G.Gate N.Dialer C.Clock gate.old member.old) × (result.0 ≡ archive)) }
+    ensures goes_on { GoesOn true (told_of D.Disk archive) (told_of D.Disk result.0) }
+    ensures ends { IsServedStatus result.1 }
+    ensures gate_failed { (result.1 ≡ Status.Outside) ⊎ (G.faults gate.new ≡ G.faults gate.old) }
+    ensures keeps { IsTrue D.tells → KeepsStood D.Disk S.stood result.0.journal }
+{
+    // only the clauses read it
+    let _ = stood;
+    let mut watched = Watched::<D, S>::over(archive);
+    let said = serve_first(alloc, &mut watched, gate, member);
+    (watched.into_archive(), said)
+}
 
 /// Serves the gate's first connection over an archive, with the dialer and the clock of a member, and hangs it up.
 pub fn serve_first<S: Shelf, G: Gate, N: Dialer, C: Clock>(

@@ -3,8 +3,8 @@ use Rattle.std.specs.Prelude.{◌≡◌, ◌≤◌, ℕ, IsTrue}
 use Rattle.archive_shelf.specs.Contents.{Contents}
 use Rattle.vault.specs.Members.{VaultName}
 
--- The vault was given an archive of which this is told, whose disk had counted so many faults, and of which a crash left its book alone and
--- no finished checkpoints but that book's.
+-- The vault was given an archive of which this is told, whose disk had counted so many faults, and of which a crash left its book alone,
+-- no finished checkpoints but that book's, and what stood in its volumes.
 pub record IsNameOf (vault : VaultName) (now : Contents) (faults : ℕ) : Type 0 where
   pub book : vault.book ≡ now.seen
   pub limits : vault.limits ≡ now.limits
@@ -12,3 +12,4 @@ pub record IsNameOf (vault : VaultName) (now : Contents) (faults : ℕ) : Type 0
   pub met : faults ≤ vault.faults
   pub calm : IsTrue vault.sure.calm
   pub right : IsTrue vault.sure.right
+  pub lasts : IsTrue vault.sure.lasts

@@ -1,5 +1,6 @@
 -- The archive was refused, or the gate's first connection was served over it.
-use Rattle.std.proofs.Common.{refl, inl, inr}
+use Rattle.std.proofs.Common.{refl, sym, subst, inl, inr}
+use Rattle.archive_core.specs.Stood.{KeepsOn, StoodOn}
 use Rattle.command.specs.Objects.{kinds_of, objects_of}
 use Rattle.archive_volumes.proofs.ChangeLaws.{DiskLaws}
 use Rattle.proxy_run.proofs.PipeLaws.{pipes_by}
@@ -18,14 +19,29 @@ open_and_settle-requires-clause-known g c = rw c.asked_of.ensures c.requires.kno
 pub returns-in-Err : goal.returns-in-Err
 returns-in-Err g c = inr (record { refused = rw c.asked_of.ensures at c.in-Err.ensures.refused; untouched = refl })
 
+pub stood_on-stood-requires : goal.stood_on-stood-requires
+stood_on-stood-requires g c = λ tells.
+    subst (λ (disk : _). KeepsOn g.D.Disk disk c.in-Ok.archive.journal) (sym c.told_by-given.ensures) (c.in-Ok.ensures.stood tells)
+
+pub serve_watched-requires : goal.serve_watched-requires
+serve_watched-requires g c = c.stood_on-stood.ensures.keeps
+
 pub returns : goal.returns
 returns g c =
+    let left = c.serve_watched-archive.result.0 in
+    let said = c.serve_watched-archive.result.1 in
+    let stood = c.stood_on-stood.result.value in
     inl (pipes_by
     (kinds_of g.D.Disk g.G.Gate g.N.Dialer g.C.Clock g.O.Sink g.G.Link.Link.tells g.N.Link.Link.tells)
     (disk_laws g)
     (objects_of c.args.disk c.args.gate.now c.args.member.now c.args.out.now)
-    (objects_of c.settle_and_close.result.disk c.serve_first-said.new.gate c.serve_first-said.new.member c.open_and_settle.new.out)
-    g.K.Known.book _ c.serve_first-said.result c.settle_and_close.result.status c.in-Ok.archive c.serve_first-said.new.shelf
+    (objects_of c.settle_and_close.result.disk c.serve_watched-archive.new.gate c.serve_watched-archive.new.member c.open_and_settle.new.out)
+    g.K.Known.book _ said c.settle_and_close.result.status c.in-Ok.archive left
     (rw c.asked_of.ensures at c.in-Ok.ensures.opened) c.settle_and_close.ensures.closed c.settle_and_close.ensures.near
-    (λ t u. c.serve_first-said.ensures.serves t u) c.serve_first-said.ensures.goes_on
-    c.serve_first-said.ensures.ends c.serve_first-said.ensures.gate_failed c.in-Ok.ensures.prints_nothing)
+    (λ tells. record {
+      stood = stood;
+      on = subst (λ (disk : _). StoodOn g.D.Disk disk stood) c.told_by-given.ensures (c.stood_on-stood.ensures.on tells);
+      lasts = c.settle_and_close.ensures.lasts stood tells (c.serve_watched-archive.ensures.keeps tells);
+    })
+    (λ t u. c.serve_watched-archive.ensures.serves t u) c.serve_watched-archive.ensures.goes_on
+    c.serve_watched-archive.ensures.ends c.serve_watched-archive.ensures.gate_failed c.in-Ok.ensures.prints_nothing)

@@ -1,6 +1,7 @@
 -- The archive was refused, or there was no memory for its shelves, or it was served over.
-use Rattle.std.proofs.Common.{IsTrue, refl, ap, subst, ◌∙◌, inl, inr, arith}
+use Rattle.std.proofs.Common.{IsTrue, refl, sym, ap, subst, ◌∙◌, inl, inr, arith}
 use Rattle.archive_core.specs.Holdings.{Holdings, contents_of}
+use Rattle.archive_core.specs.Stood.{KeepsOn, KeepsStood, Stood, StoodOn}
 use Rattle.archive_volumes.specs.Volumes.{OpensNear}
 use Rattle.warc_journal.specs.Journals.{disk_of}
 use Rattle.command.specs.Objects.{kinds_of, objects_of}
@@ -9,6 +10,7 @@ use Rattle.proxy_run.specs.Serves.{Serves}
 use Rattle.command.specs.Words.{asked_of}
 use Rattle.command.specs.declared.status.Status.TheVariants.{Memory}
 use Rattle.proxy_run.specs.steps.Seating.{IsNameOf}
+use Rattle.vault.specs.Calm.{StillStands}
 use Rattle.vault.specs.declared.noted.Sure.{Sure}
 use Rattle.proxy_run.proofs.server.serve_many.Goals as goal
 
@@ -26,6 +28,14 @@ new-requires-clause-calm g c = λ sure. c.left_sure-sure.ensures.calm
 
 pub new-requires-clause-right : goal.new-requires-clause-right
 new-requires-clause-right g c = λ sure. c.left_sure-sure.ensures.right
+
+pub stood_on-stood-requires : goal.stood_on-stood-requires
+stood_on-stood-requires g c = λ tells.
+    subst (λ (disk : _). KeepsOn g.D.Disk disk c.in-Ok.archive.journal) (sym c.told_by-given.ensures) (c.in-Ok.ensures.stood tells)
+
+pub new-requires-clause-lasts : goal.new-requires-clause-lasts
+new-requires-clause-lasts g c = λ sure.
+    subst (λ (s : Sure). StillStands g.D.Disk s.stood c.in-Ok.archive) (sym c.left_sure-sure.ensures.value) c.stood_on-stood.ensures.keeps
 
 pub returns-in-Err : goal.returns-in-Err
 returns-in-Err g c = inr (inr (record { refused = rw c.asked_of.ensures at c.in-Err.ensures.refused; untouched = refl }))
@@ -45,16 +55,20 @@ returns-in-Ok-new g c =
       met = omega (arith, given.3);
       calm = ap (λ (s : Sure). s.calm) sure;
       right = ap (λ (s : Sure). s.right) sure;
+      lasts = ap (λ (s : Sure). s.lasts) sure;
     } in
+    let on : IsTrue g.D.Disk.tells → StoodOn g.D.Disk c.args.disk c.in-Ok-new.unnamed.sure.stood = λ tells.
+    subst (λ (s : Stood). StoodOn g.D.Disk c.args.disk s) (sym (ap (λ (s : Sure). s.stood) sure))
+    (subst (λ (disk : _). StoodOn g.D.Disk disk c.stood_on-stood.result.value) c.told_by-given.ensures (c.stood_on-stood.ensures.on tells)) in
     let served = c.serve_named.ensures known asked c.args.disk c.in-Ok.archive
-    (rw c.asked_of.ensures at c.in-Ok.ensures.opened) name in
+    (rw c.asked_of.ensures at c.in-Ok.ensures.opened) name on in
     inl (subst (λ n. Serves kinds known (record { asked = asked; site = c.args.service.site.now; workers = n }) (objects_of c.args.disk c.args.gate.now c.args.crew.now.items c.args.out.now) is c.serve_named.result.status)
     c.in-Ok-new.ensures.passes
     (subst (λ o. Serves kinds known (record { asked = asked; site = c.args.service.site.now; workers = c.in-Ok-new.unnamed.passes }) (objects_of c.args.disk c.args.gate.now c.args.crew.now.items o) is c.serve_named.result.status)
     c.in-Ok.ensures.prints_nothing served))
 
-pub returns-in-Err-new : goal.returns-in-Err-new
-returns-in-Err-new g c =
+pub returns : goal.returns
+returns g c =
     inr (inl (record {
       before = c.in-Ok.archive;
       opened = rw c.asked_of.ensures at c.in-Ok.ensures.opened;
@@ -62,5 +76,12 @@ returns-in-Err-new g c =
           c.in-Err-new.ensures.err c.settle_and_close.ensures.closed;
       near = subst (λ (h : Holdings g.row.D.Denot). IsTrue h.told → OpensNear g.D.Disk c.settle_and_close.result.disk h.book) c.in-Err-new.ensures.err
           c.settle_and_close.ensures.near;
+      bytes = λ tells. record {
+        stood = c.stood_on-stood.result.value;
+        on = subst (λ (disk : _). StoodOn g.D.Disk disk c.stood_on-stood.result.value) c.told_by-given.ensures (c.stood_on-stood.ensures.on tells);
+        lasts = c.settle_and_close.ensures.lasts c.stood_on-stood.result.value tells
+            (subst (λ (h : Holdings g.row.D.Denot). KeepsStood g.D.Disk c.stood_on-stood.result.value h.journal) (sym c.in-Err-new.ensures.err)
+            (c.stood_on-stood.ensures.keeps tells));
+      };
       untouched = ap (λ o. objects_of c.settle_and_close.result.disk c.args.gate.now c.args.crew.now.items o) c.in-Ok.ensures.prints_nothing;
     }))
