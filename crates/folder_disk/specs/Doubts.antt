@@ -77,11 +77,18 @@ AfterPart number at len old None = ⊤
 AfterPart number at len None (Some new) = ⊥
 AfterPart number at len (Some old) (Some new) = (new ≡ old) × IsUnharmed number at len old
 
--- after a cut
+-- After a cut that was done: it is forgotten only behind a write to the file.
 abbrev pub AfterCut : ℕ → Option Written → Option Written → Type 0
-AfterCut number old None = ⊤
+AfterCut number None None = ⊤
+AfterCut number (Some old) None = (old.number ≡ number) × (old.len ≢ 0)
 AfterCut number None (Some new) = ⊥
-AfterCut number (Some old) (Some new) = (new ≡ old) × (old.number ≢ number)
+AfterCut number (Some old) (Some new) = ((new ≡ old) × (old.number ≢ number)) ⊎ ((old.number ≡ number) × (old.len ≡ 0) × (new ≡ record old { at = 0 }))
+
+-- after one that failed
+abbrev pub AfterCutPart : ℕ → Option Written → Option Written → Type 0
+AfterCutPart number old None = ⊤
+AfterCutPart number None (Some new) = ⊥
+AfterCutPart number (Some old) (Some new) = (new ≡ old) × (old.number ≢ number)
 
 -- a file that is as it was synced
 abbrev pub clean : ℕ → Written
@@ -111,8 +118,12 @@ pub record SyncedTo (kind : Kind) (number : ℕ) (old new : Trust) : Type 0 wher
   pub after : AfterSync number (range_of old kind) range
   pub only : new ≡ with_range kind range old
 
--- after one that failed: the file is in doubt, or the disk gives up
+-- nothing is known of a file
+abbrev pub IsOtherRange : ℕ → Option Written → Type 0
+IsOtherRange number range = IfSome range (λ r. r.number ≢ number)
+
+-- after one that failed: the file is in doubt, or the disk gives up, where nothing is known of it
 abbrev pub AfterFailure : Kind → ℕ → Trust → Trust → Type 0
 AfterFailure kind number old new =
-    (new ≡ record old { gave_up = true })
+    ((new ≡ record old { gave_up = true }) × IsOtherRange number (range_of old kind))
     ⊎ ((range : Written) × (range_of old kind ≡ Some range) × (range.number ≡ number) × (new ≡ with_range kind (Some (record range { in_doubt = true })) old))

@@ -192,7 +192,7 @@ impl<F: Folder, N: FileNames> Held<F, N> {
             }
             Err(error) => {
                 self.timed.go_on();
-                self.trust.cut(kind, file);
+                self.trust.cut_part(kind, file);
                 self.files.close();
                 Err(error)
             }

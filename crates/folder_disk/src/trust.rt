@@ -2,12 +2,12 @@
 ghost use Rattle.std.specs.Prelude.{◌≡◌, ◌≢◌, ◌≤◌, ◌+◌, true, false, None, Some, IsTrue, IfSome};
 ghost use Rattle.folder_disk.specs.declared.trust.Further.TheVariants.{Absent, Unsettled};
 ghost use Rattle.folder_disk.specs.declared.trust.Written.{Written};
-ghost use Rattle.folder_disk.specs.Doubts.{range_of, doubt_in, with_range, AfterWhole, AfterPart, AfterCut, AfterSync, AfterFailure, KeepsDoubt, GoesOn, SyncedTo, further_of, with_further, unlisted, unlisted_all};
+ghost use Rattle.folder_disk.specs.Doubts.{range_of, doubt_in, with_range, AfterWhole, AfterPart, AfterCut, AfterCutPart, AfterSync, AfterFailure, KeepsDoubt, GoesOn, SyncedTo, IsOtherRange, further_of, with_further, unlisted, unlisted_all};
 
 use disk_model::Kind;
 
-/// The range of a file that was written since a sync of it was done, and nothing else was. An empty one at the start is a
-/// file that is as it was synced.
+/// The range of a file that was written since a sync of it was done, and nothing else was but cuts before that. An empty one is
+/// a file that is as it was synced, or was cut since.
 #[derive(Clone, Copy, Debug, PartialEq, Eq)]
 pub(crate) struct Written {
     pub(crate) number: u32,
@@ -167,11 +167,19 @@ impl Trust {
         self.go_on(kind, range);
     }
 
-    /// After a cut.
+    /// After a cut that was done.
     pub(crate) fn cut(&mut self, kind: Kind, number: u32)
         ensures { GoesOn kind (AfterCut number) self.old self.new }
     {
         let range = after_cut(self.of(kind), number);
+        self.go_on(kind, range);
+    }
+
+    /// After one that failed, which may have cut any of what it was to.
+    pub(crate) fn cut_part(&mut self, kind: Kind, number: u32)
+        ensures { GoesOn kind (AfterCutPart number) self.old self.new }
+    {
+        let range = after_cut_part(self.of(kind), number);
         self.go_on(kind, range);
     }
 
@@ -254,7 +262,7 @@ fn is_within(range: &Written, at: u64, len: u64) -> bool
     }
 }
 
-/// After a write of which all bytes may be torn: the same range, or the write's, where the file was as it was synced.
+/// After a write of which all bytes may be torn: the same range, or the write's, where nothing was written before.
 fn after_whole(before: Option<Written>, number: u32, at: u64, len: u64) -> Option<Written>
     ensures { AfterWhole number at len before result }
 {
@@ -290,9 +298,28 @@ fn after_part(before: Option<Written>, number: u32, at: u64, len: u64) -> Option
     None
 }
 
-/// After a cut.
+/// After a cut that was done. Where nothing was written before, it is done again behind a sync that failed.
 fn after_cut(before: Option<Written>, number: u32) -> Option<Written>
     ensures { AfterCut number before result }
+{
+    let range = before?;
+    if range.number != number {
+        return Some(range);
+    }
+    if range.len != 0 {
+        return None;
+    }
+    Some(Written {
+        number: range.number,
+        at: 0,
+        len: range.len,
+        in_doubt: range.in_doubt,
+    })
+}
+
+/// After a cut that failed.
+fn after_cut_part(before: Option<Written>, number: u32) -> Option<Written>
+    ensures { AfterCutPart number before result }
 {
     let range = before?;
     if range.number != number {
@@ -325,7 +352,8 @@ fn after_sync(before: Option<Written>, number: u32) -> Option<Written>
 
 /// The range of this file, in doubt.
 fn doubted(before: Option<Written>, number: u32) -> Option<Written>
-    ensures { IfSome result (λ new. (range : Written) × (before ≡ Some range) × (range.number ≡ number) × (new ≡ record range { in_doubt = true })) }
+    ensures some { IfSome result (λ new. (range : Written) × (before ≡ Some range) × (range.number ≡ number) × (new ≡ record range { in_doubt = true })) }
+    ensures none { result ≡ None → IsOtherRange number before }
 {
     let range = before?;
     if range.number != number {

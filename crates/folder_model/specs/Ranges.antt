@@ -1,19 +1,20 @@
--- A file that was written in one range alone since a sync of it was done.
+-- A file that was written in one range alone since a sync of it was done, or cut before that.
 use Rattle.std.specs.Prelude.{◌≡◌, ◌≤◌, ℕ, ◌+◌, false, Option, Some, List, [], ◌∷◌, length, take, drop, ⊤}
 use Rattle.disk_model.specs.Crash.{Torn}
 use Rattle.folder_model.specs.File.{FileDeed, Made, Wrote, Shortened, Synced, Listed, Crash, MayHold, read_of}
 use Rattle.folder_model.specs.Folder.{FolderPast, deeds_of}
 use Rattle.folder_model.specs.Whole.{done_to}
 
--- Of the file a crash may leave the bytes that stood there at that sync, torn by a write of so many bytes at a place: each such, and nothing else. Where it is none, at
--- the file's start, the file is as it was synced.
+-- Whatever a crash may leave of the file is what reads find, but for so many bytes at a place and for what stands behind its end. And with it a crash may leave all that a write of
+-- these bytes tears of it, and each front of it that isn't shorter than what reads find. Where it is no byte at all the file is as it was synced, or a cut of that.
 pub record IsTornIn (first : Option (List ℕ)) (deeds : List FileDeed) (at many : ℕ) : Type 0 where
-  pub base : List ℕ
-  pub inside : at ≤ length base
-  pub each : (bytes : List ℕ) → Torn at many base bytes → MayHold first deeds Crash bytes
-  pub only : (bytes : List ℕ) → MayHold first deeds Crash bytes → Torn at many base bytes
   pub reading : List ℕ
   pub is : read_of first deeds ≡ Some reading
+  pub inside : at ≤ length reading
+  pub before : (bytes : List ℕ) → MayHold first deeds Crash bytes → take at bytes ≡ take at reading
+  pub behind : (bytes : List ℕ) → MayHold first deeds Crash bytes → drop (at + many) (take (length reading) bytes) ≡ drop (at + many) reading
+  pub again : (old bytes : List ℕ) → MayHold first deeds Crash old → Torn at many old bytes → MayHold first deeds Crash bytes
+  pub fronts : (bytes : List ℕ) (len : ℕ) → length reading ≤ len → MayHold first deeds Crash bytes → MayHold first deeds Crash (take len bytes)
 
 -- the file of a name is so
 abbrev pub IsTornAt : FolderPast → List ℕ → ℕ → ℕ → Type 0

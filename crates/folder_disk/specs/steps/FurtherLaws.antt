@@ -2,10 +2,8 @@
 use Rattle.std.proofs.Common.{◌≡◌, ◌≢◌, ℕ, Bool, List, [], ◌∷◌, ◌++◌, arith, refl, sym, ap, ◌∙◌, subst, inl, inr, ⊎_elim}
 use Rattle.std.proofs.lemmas.Option.{none-some, same_Some}
 use Rattle.std.specs.Prelude.{Option, Some, None, IfSome}
-use Rattle.disk_model.specs.Crash.{Torn}
 use Rattle.disk_model.specs.declared.kind.Kind.{Kind}
 use Rattle.disk_model.specs.declared.kind.Kind.TheVariants.{Warc, Cdxj}
-use Rattle.disk_model.specs.steps.CrashLaws.{torn_none}
 use Rattle.folder_model.specs.File.{FileDeed, Made, Wrote, Shortened, Synced, Listed, Crash, MayHold, AreBytesLeft, IsNameSure}
 use Rattle.folder_model.specs.Folder.{Deed, Did, SyncedFolder, SyncedAround, FolderPast, did_to, deeds_of, contents_of, IsNameSureAt, AreBytesLeftAt}
 use Rattle.folder_model.specs.Known.{IsInDoubt}
@@ -13,10 +11,9 @@ use Rattle.folder_model.specs.Ranges.{IsTornAt}
 use Rattle.folder_model.specs.Whole.{done_to, AreSyncs, OnlySyncs, MakesInPart}
 use Rattle.folder_model.specs.steps.FileLaws.{sync_then_crash, read_is_held, held_is_read, bytes_left-made}
 use Rattle.folder_model.specs.steps.FolderLaws.{deeds_of-same, deeds_of-other, names_cases}
-use Rattle.folder_model.specs.steps.MendLaws.{torn_listed, torn_other}
+use Rattle.folder_model.specs.steps.MendLaws.{torn_left, torn_same, torn_listed, torn_other}
 use Rattle.folder_model.specs.steps.ReadingLaws.{contents_of-other}
 use Rattle.folder_model.specs.steps.SyncLaws.{syncs_left}
-use Rattle.folder_model.specs.steps.TornLaws.{torn_nothing}
 use Rattle.folder_disk.specs.Doubts.{range_of, with_range, doubt_in, doubts_of, IsTornTo, AreTorn, further_of, with_further, unlisted, unlisted_all, IsFurther}
 use Rattle.folder_disk.specs.steps.OpenLaws.{sync_all_same}
 use Rattle.folder_disk.specs.declared.trust.Further.{Further}
@@ -141,19 +138,13 @@ only_syncs_torn n old new only m at many apart torn =
 -- and so is one of which a crash leaves what reads find
 left_torn : (n : List ℕ) (old new : FolderPast) (at many : ℕ) → contents_of new n ≡ contents_of old n → AreBytesLeftAt old n → AreBytesLeftAt new n
     → IsTornAt old n at many → IsTornAt new n at many
-left_torn n old new at many same was is torn = record {
-  base = torn.base;
-  inside = torn.inside;
-  each = λ bytes step.
-      sync_then_crash (new.first n) (deeds_of n new.deeds) bytes
-      (read_is_held (new.first n) (deeds_of n new.deeds) bytes (same ∙ was bytes (torn.each bytes step)));
-  only = λ bytes holds.
-      torn.only bytes
-      (sync_then_crash (old.first n) (deeds_of n old.deeds) bytes
-      (read_is_held (old.first n) (deeds_of n old.deeds) bytes (sym same ∙ is bytes holds)));
-  reading = torn.reading;
-  is = same ∙ torn.is;
-}
+left_torn n old new at many same was is torn =
+    torn_same (old.first n) (deeds_of n old.deeds) (new.first n) (deeds_of n new.deeds) at many
+    (λ bytes holds.
+    sync_then_crash (old.first n) (deeds_of n old.deeds) bytes (read_is_held (old.first n) (deeds_of n old.deeds) bytes (sym same ∙ is bytes holds)))
+    (λ bytes holds.
+    sync_then_crash (new.first n) (deeds_of n new.deeds) bytes (read_is_held (new.first n) (deeds_of n new.deeds) bytes (same ∙ was bytes holds)))
+    same torn
 
 pub syncs_are_torn : (name : Kind → ℕ → List ℕ) (n : List ℕ) (old new : FolderPast) (trust : Trust) → OnlySyncs n old new → AreBytesLeftAt old n
     → AreTorn name old trust → AreTorn name new trust
@@ -173,16 +164,7 @@ syncs_are_torn name n old new trust only left torn k = each (range_of trust k) (
 
 -- a file of which a crash leaves what reads find is as it was synced
 pub left_clean : (n : List ℕ) (past : FolderPast) (bytes : List ℕ) → contents_of past n ≡ Some bytes → AreBytesLeftAt past n → IsTornAt past n 0 0
-left_clean n past bytes is left = record {
-  base = bytes;
-  inside = omega arith;
-  each = λ new step.
-      subst (MayHold (past.first n) (deeds_of n past.deeds) Crash) (sym (torn_nothing 0 bytes new (omega arith) step))
-      (sync_then_crash (past.first n) (deeds_of n past.deeds) bytes (read_is_held (past.first n) (deeds_of n past.deeds) bytes is));
-  only = λ new holds. subst (Torn 0 0 bytes) (same_Some bytes new (sym is ∙ left new holds)) (torn_none 0 0 bytes);
-  reading = bytes;
-  is = is;
-}
+left_clean n past bytes is left = torn_left (past.first n) (deeds_of n past.deeds) bytes left is
 
 -- ---- a file that wasn't there, and was to be made
 

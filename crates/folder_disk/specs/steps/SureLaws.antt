@@ -1,10 +1,8 @@
 -- Laws of syncs: of a file that isn't in doubt, and of one whose range is written anew.
 use Rattle.std.proofs.Common.{◌^◌, ◌≡◌, ◌≢◌, ◌<◌, ◌≤◌, ◌+◌, ℕ, Bool, true, false, IsTrue, List, [], ◌∷◌, length, take, drop, refl, sym, ap, ◌∙◌, subst, inl, inr, ⊎_elim, true≢false, arith, length-take, if◌then◌else◌, ◌-◌, ◌++◌, min, length-append, length-drop}
 use Rattle.std.proofs.lemmas.Bool.{cases_lt}
-use Rattle.disk_model.specs.Crash.{Torn}
 use Rattle.folder_model.specs.Calls.{CutsInPart}
-use Rattle.folder_model.specs.steps.FileLaws.{sync_then_crash, read_is_held}
-use Rattle.std.specs.Prelude.{Ok, Err, Option, Some, None, IfSome}
+use Rattle.std.specs.Prelude.{Ok, Err, Option, Some, None, is_some, IfSome}
 use Rattle.std.specs.Option.{option_map, unwrap_or}
 use Rattle.std.proofs.lemmas.List.{take_min, take_all}
 use Rattle.folder_model.specs.steps.ReadingLaws.{contents_of-same, contents_of-other}
@@ -23,15 +21,15 @@ use Rattle.folder_model.specs.Seen.{NamesApart}
 use Rattle.folder_model.specs.Whole.{done_to, WritesWithin, MakesInPart, made_durably, Covers}
 use Rattle.folder_model.specs.steps.FolderLaws.{deeds_of-same, names_cases}
 use Rattle.folder_model.specs.steps.KnownLaws.{sync_done, sync_failed, sync_doubted}
-use Rattle.folder_model.specs.steps.MendLaws.{written_again, torn_clean, torn_failed, torn_listed, torn_made, torn_did, torn_other, mending, mended_sync, range_anew_is_sure, front_of_range, torn_written, mended}
+use Rattle.folder_model.specs.steps.MendLaws.{written_again, torn_clean, torn_failed, torn_listed, torn_made, torn_did, torn_other, mending, mended_sync, range_anew_is_sure, front_of_range, torn_written, torn_cut_to, mended}
 use Rattle.folder_model.specs.steps.SyncLaws.{names_made, names_synced, names_listed, names_around}
 use Rattle.folder_disk.specs.Calls.{Syncs}
-use Rattle.folder_disk.specs.Doubts.{range_of, with_range, doubt_in, doubts_of, IsTornTo, AreTorn, AfterWhole, AfterPart, AfterCut, AfterFailure, GoesOn, SyncedTo, further_of, IsFurther}
+use Rattle.folder_disk.specs.Doubts.{range_of, with_range, doubt_in, doubts_of, IsTornTo, AreTorn, AfterWhole, AfterPart, AfterCut, AfterCutPart, AfterFailure, GoesOn, SyncedTo, further_of, IsFurther}
 use Rattle.folder_disk.specs.Mending.{range_in, written_anew}
 use Rattle.folder_disk.specs.State.{State, known_of, reading, IsKnown, next, grown, trusted}
 use Rattle.folder_disk.specs.steps.FurtherLaws.{further_gave, further_range, missed_same, missed_other}
 use Rattle.folder_disk.specs.steps.StateLaws.{TrustStays, further_stays, grown_kind, grown_other, synced, sync_missed, bytes_read}
-use Rattle.folder_disk.specs.steps.TrustLaws.{torn_done, torn_goes_on, torn_kept, after_part, after_whole, after_cut, after_sync, whole_stays, part_stays, cut_stays, doubts_go_on, doubts_after_sync, doubts_after_failure, not_in_doubt}
+use Rattle.folder_disk.specs.steps.TrustLaws.{torn_done, torn_goes_on, torn_kept, after_part, after_whole, after_cut, after_cut_part, after_sync, whole_stays, part_stays, cut_stays, cut_part_stays, doubts_go_on, doubts_after_sync, doubts_after_failure, not_in_doubt}
 use Rattle.folder_disk.specs.declared.trust.Further.{Further}
 use Rattle.folder_disk.specs.declared.trust.Further.TheVariants.{Absent}
 use Rattle.folder_disk.specs.declared.trust.Trust.{Trust}
@@ -60,10 +58,7 @@ deed_elsewhere old new n deed whole other at many apart torn =
 
 -- a torn range begins in its file
 pub torn_inside : (past : FolderPast) (n : List ℕ) (at many : ℕ) → IsTornAt past n at many → at ≤ length (bytes_of past n)
-torn_inside past n at many torn =
-    let read : Torn at many torn.base torn.reading =
-    torn.only torn.reading (sync_then_crash (past.first n) (deeds_of n past.deeds) torn.reading (read_is_held (past.first n) (deeds_of n past.deeds) torn.reading torn.is)) in
-    omega (arith, torn.inside, read.no_shorter, ap (λ (o : Option (List ℕ)). length (unwrap_or o [])) torn.is)
+torn_inside past n at many torn = omega (arith, torn.inside, ap (λ (o : Option (List ℕ)). length (unwrap_or o [])) torn.is)
 
 -- a range that is written anew leaves what is read of the file
 range_same : (past : FolderPast) (n : List ℕ) (at len : ℕ) → contents_of (did_to past n (Wrote at (range_in past n at len) 0)) n ≡ contents_of past n
@@ -252,12 +247,12 @@ module _ (tells : Bool) (name : Kind → ℕ → List ℕ) (apart : NamesApart n
       → (IsTrue tells → past ≡ did_to old.past (name kind file) (Synced false))
       → Syncs {E = E} tells name kind file old (trusted trust (next old past)) (Err e)
   sure_missed {E} trust e (inl is) whole =
-      let gone : trust.gave_up ≡ true = ap (λ (t : Trust). t.gave_up) is in
+      let gone : trust.gave_up ≡ true = ap (λ (t : Trust). t.gave_up) is.0 in
       sync_missed tells name kind file old past trust known
       (λ told. subst (λ (b : Bool). SyncsLeave name old.past past (known_of old.warc old.cdxj) b (doubts_of trust) old.times (reading name old)) (sym gone)
       (sync_failed name (name kind file) old.past past (known_of old.warc old.cdxj) false (doubts_of old.trust) (doubts_of trust) old.times (reading name old) (going told) (whole told)))
       (λ told still. absurd (true≢false (sym gone ∙ still)))
-      (λ told. further_now told trust (Synced false ∷ []) (whole told) (λ k. ap (λ (t : Trust). further_of t k) is ∙ further_gave true old.trust k))
+      (λ told. further_now told trust (Synced false ∷ []) (whole told) (λ k. ap (λ (t : Trust). further_of t k) is.0 ∙ further_gave true old.trust k))
       e
   sure_missed {E} trust e (inr (range, had, its, only)) whole =
       sync_missed tells name kind file old past trust known
@@ -367,56 +362,64 @@ module _ (tells : Bool) (name : Kind → ℕ → List ℕ) (apart : NamesApart n
 -- ---- what writes, cuts and a file that is made leave of the trust
 
 module _ (name : Kind → ℕ → List ℕ) (apart : NamesApart name) (kind : Kind) (file : ℕ) (small : file < 2 ^ 32) (old : State) (past : FolderPast) (now : Trust) (known : IsKnown name old) where
+  -- what is known of each file goes on, where it does of this one and of the others
+  goes_on : (After : Option Written → Option Written → Type 0) → ((was new : Option Written) → After was new → IsTrue (is_some new) → doubt_in new ≡ doubt_in was)
+      → ((n : List ℕ) (a many : ℕ) → (n ≡ name kind file → ⊥) → IsTornAt old.past n a many → IsTornAt past n a many)
+      → (on : GoesOn kind After old.trust now) → (IfSome (range_of old.trust kind) (IsTornTo name old.past kind) → IfSome on.range (IsTornTo name past kind))
+      → TrustStays name old.trust past now
+  goes_on After stays elsewhere on this = record {
+    same = goes_on_further kind After old.trust now on;
+    going = λ goes. (
+      on.going goes,
+      doubts_go_on name kind old.trust now After stays on goes,
+      torn_goes_on name apart kind file small old.past past elsewhere old.trust now on.range now.gave_up on.only this (known.torn (on.going goes)),
+    );
+  }
+
+  -- after writes other files are torn as they were
+  written_elsewhere : (at len : ℕ) → WritesWithin (name kind file) at len old.past past
+      → (n : List ℕ) (a many : ℕ) → (n ≡ name kind file → ⊥) → IsTornAt old.past n a many → IsTornAt past n a many
+  written_elsewhere at len within n a many differs torn =
+      subst (λ (p : FolderPast). IsTornAt p n a many) (sym within.whole) (torn_done old.past (name kind file) n within.deeds a many differs torn)
+
+  -- what is torn of the file isn't longer than the file
+  inside_torn : (place start many : ℕ) → file < file_count (reading name old) kind → place ≤ length (file_of (reading name old) kind file)
+      → (torn : IsTornAt old.past (name kind file) start many) → place ≤ length torn.reading
+  inside_torn place start many there inside torn =
+      omega (arith, inside, ap length (same_Some torn.reading (file_of (reading name old) kind file) (sym torn.is ∙ known.knows.is.seen.there kind file there)))
+
   -- writes within some bytes
   pub part_goes : (at len : ℕ) → WritesWithin (name kind file) at len old.past past → GoesOn kind (AfterPart file at len) old.trust now → TrustStays name old.trust past now
   part_goes at len within on =
-      let elsewhere : (n : List ℕ) (a many : ℕ) → (n ≡ name kind file → ⊥) → IsTornAt old.past n a many → IsTornAt past n a many =
-      λ n a many differs torn. subst (λ (p : FolderPast). IsTornAt p n a many) (sym within.whole) (torn_done old.past (name kind file) n within.deeds a many differs torn) in record {
-        same = goes_on_further kind (AfterPart file at len) old.trust now on;
-        going = λ goes. (
-          on.going goes,
-          doubts_go_on name kind old.trust now (AfterPart file at len) (part_stays file at len) on goes,
-          torn_goes_on name apart kind file small old.past past elsewhere old.trust now on.range now.gave_up on.only
-              (after_part name apart kind file small old.past past elsewhere at len within.deeds within.writes within.whole (range_of old.trust kind) on.range on.after)
-              (known.torn (on.going goes)),
-        );
-      }
+      goes_on (AfterPart file at len) (part_stays file at len) (written_elsewhere at len within) on
+      (after_part name apart kind file small old.past past (written_elsewhere at len within) at len within.deeds within.writes within.whole (range_of old.trust kind) on.range on.after)
 
   -- a write of which all bytes may be torn
   pub whole_goes : (at len : ℕ) → file < file_count (reading name old) kind → at ≤ length (file_of (reading name old) kind file)
       → WritesWithin (name kind file) at len old.past past → Covers (name kind file) at len old.past past
       → GoesOn kind (AfterWhole file at len) old.trust now → TrustStays name old.trust past now
   whole_goes at len there inside within covers on =
-      let n : List ℕ = name kind file in
-      let elsewhere : (m : List ℕ) (a many : ℕ) → (m ≡ n → ⊥) → IsTornAt old.past m a many → IsTornAt past m a many =
-      λ m a many differs torn. subst (λ (p : FolderPast). IsTornAt p m a many) (sym within.whole) (torn_done old.past n m within.deeds a many differs torn) in record {
-        same = goes_on_further kind (AfterWhole file at len) old.trust now on;
-        going = λ goes. (
-          on.going goes,
-          doubts_go_on name kind old.trust now (AfterWhole file at len) (whole_stays file at len) on goes,
-          torn_goes_on name apart kind file small old.past past elsewhere old.trust now on.range now.gave_up on.only
-              (after_whole name apart kind file small old.past past elsewhere at len within.deeds within.writes within.whole
-              (λ start torn. torn_written old.past past n start at len torn
-              (omega (arith, inside, ap length (same_Some torn.reading (file_of (reading name old) kind file) (sym torn.is ∙ known.knows.is.seen.there kind file there)))) within covers)
-              (range_of old.trust kind) on.range on.after)
-              (known.torn (on.going goes)),
-        );
-      }
+      goes_on (AfterWhole file at len) (whole_stays file at len) (written_elsewhere at len within) on
+      (after_whole name apart kind file small old.past past (written_elsewhere at len within) at len within.deeds within.writes within.whole
+      (λ start torn. torn_written old.past past (name kind file) start at len torn (inside_torn at start 0 there inside torn) within covers)
+      (range_of old.trust kind) on.range on.after)
 
-  -- a cut
-  pub cut_goes : (deed : FileDeed) → past ≡ did_to old.past (name kind file) deed → GoesOn kind (AfterCut file) old.trust now → TrustStays name old.trust past now
-  cut_goes deed whole on =
-      let elsewhere : (n : List ℕ) (a many : ℕ) → (n ≡ name kind file → ⊥) → IsTornAt old.past n a many → IsTornAt past n a many =
-      deed_elsewhere old.past past (name kind file) deed whole in record {
-        same = goes_on_further kind (AfterCut file) old.trust now on;
-        going = λ goes. (
-          on.going goes,
-          doubts_go_on name kind old.trust now (AfterCut file) (cut_stays file) on goes,
-          torn_goes_on name apart kind file small old.past past elsewhere old.trust now on.range now.gave_up on.only
-              (after_cut name apart kind file small old.past past elsewhere (range_of old.trust kind) on.range on.after)
-              (known.torn (on.going goes)),
-        );
-      }
+  -- a cut that was done
+  pub cut_goes : (len : ℕ) → file < file_count (reading name old) kind → len ≤ length (file_of (reading name old) kind file)
+      → past ≡ did_to old.past (name kind file) (Shortened len 0) → GoesOn kind (AfterCut file) old.trust now → TrustStays name old.trust past now
+  cut_goes len there inside whole on =
+      let elsewhere = deed_elsewhere old.past past (name kind file) (Shortened len 0) whole in
+      goes_on (AfterCut file) (cut_stays file) elsewhere on
+      (after_cut name apart kind file small old.past past elsewhere
+      (λ start torn. torn_cut_to old.past past (name kind file) start len torn (inside_torn len start 0 there inside torn) whole)
+      (range_of old.trust kind) on.range on.after)
+
+  -- one that failed
+  pub cut_part_goes : (deed : FileDeed) → past ≡ did_to old.past (name kind file) deed → GoesOn kind (AfterCutPart file) old.trust now → TrustStays name old.trust past now
+  cut_part_goes deed whole on =
+      let elsewhere = deed_elsewhere old.past past (name kind file) deed whole in
+      goes_on (AfterCutPart file) (cut_part_stays file) elsewhere on
+      (after_cut_part name apart kind file small old.past past elsewhere (range_of old.trust kind) on.range on.after)
 
   -- a file that was made
   pub made_goes : old.trust.gave_up ≡ false → contents_of old.past (name kind file) ≡ None → past ≡ made_durably (name kind file) old.past → SyncedTo kind file old.trust now

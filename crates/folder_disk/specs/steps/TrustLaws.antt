@@ -12,7 +12,7 @@ use Rattle.folder_model.specs.Ranges.{IsTornAt}
 use Rattle.folder_model.specs.Seen.{NamesApart}
 use Rattle.folder_model.specs.Whole.{done_to, AreWrites}
 use Rattle.folder_model.specs.steps.MendLaws.{torn_within, torn_did, torn_other}
-use Rattle.folder_disk.specs.Doubts.{range_of, with_range, doubt_in, doubts_of, IsTornTo, AreTorn, AfterWhole, AfterPart, AfterCut, AfterSync, GoesOn, SyncedTo}
+use Rattle.folder_disk.specs.Doubts.{range_of, with_range, doubt_in, doubts_of, IsTornTo, AreTorn, AfterWhole, AfterPart, AfterCut, AfterCutPart, AfterSync, GoesOn, SyncedTo}
 use Rattle.folder_disk.specs.declared.trust.Trust.{Trust}
 use Rattle.folder_disk.specs.declared.trust.Written.{Written}
 
@@ -151,11 +151,24 @@ module _ (name : Kind → ℕ → List ℕ) (apart : NamesApart name) (kind : Ki
       subst (IsTornTo name new kind) (sym after.2)
       (torn.0, subst (λ (f : ℕ). IsTornAt new (name kind f) at len) (sym after.0) (fresh w.at was))
 
-  -- after a cut
-  pub after_cut : (was now : Option Written) → AfterCut file was now → IfSome was (IsTornTo name old kind) → IfSome now (IsTornTo name new kind)
-  after_cut was None after torn = tt
-  after_cut None (Some x) after torn = absurd after
-  after_cut (Some w) (Some x) after torn = subst (IsTornTo name new kind) (sym after.0) (torn_apart kind w (inr after.1) torn)
+  -- after a cut that failed
+  pub after_cut_part : (was now : Option Written) → AfterCutPart file was now → IfSome was (IsTornTo name old kind) → IfSome now (IsTornTo name new kind)
+  after_cut_part was None after torn = tt
+  after_cut_part None (Some x) after torn = absurd after
+  after_cut_part (Some w) (Some x) after torn = subst (IsTornTo name new kind) (sym after.0) (torn_apart kind w (inr after.1) torn)
+
+  -- after a cut that was done
+  pub after_cut : ((start : ℕ) → IsTornAt old (name kind file) start 0 → IsTornAt new (name kind file) 0 0)
+      → (was now : Option Written) → AfterCut file was now → IfSome was (IsTornTo name old kind) → IfSome now (IsTornTo name new kind)
+  after_cut fresh was None after torn = tt
+  after_cut fresh None (Some x) after torn = absurd after
+  after_cut fresh (Some w) (Some x) (inl after) torn = after_cut_part (Some w) (Some x) after torn
+  after_cut fresh (Some w) (Some x) (inr after) torn =
+      let n : List ℕ = name kind file in
+      let was : IsTornAt old n w.at 0 =
+      subst (λ (l : ℕ). IsTornAt old n w.at l) after.1 (subst (λ (f : ℕ). IsTornAt old (name kind f) w.at w.len) after.0 torn.1) in
+      subst (IsTornTo name new kind) (sym after.2)
+      (torn.0, subst (λ (f : ℕ). IsTornAt new (name kind f) 0 w.len) (sym after.0) (subst (λ (l : ℕ). IsTornAt new n 0 l) (sym after.1) (fresh w.at was)))
 
   -- after a sync that was done
   pub after_sync : IsTornAt new (name kind file) 0 0
@@ -180,7 +193,13 @@ part_stays number at len (Some w) (Some x) after some = ap (λ (r : Written). do
 pub cut_stays : (number : ℕ) (was now : Option Written) → AfterCut number was now → IsTrue (is_some now) → doubt_in now ≡ doubt_in was
 cut_stays number was None after some = absurd (true≢false (sym some))
 cut_stays number None (Some x) after some = absurd after
-cut_stays number (Some w) (Some x) after some = ap (λ (r : Written). doubt_in (Some r)) after.0
+cut_stays number (Some w) (Some x) (inl after) some = ap (λ (r : Written). doubt_in (Some r)) after.0
+cut_stays number (Some w) (Some x) (inr after) some = ap (λ (r : Written). doubt_in (Some r)) after.2
+
+pub cut_part_stays : (number : ℕ) (was now : Option Written) → AfterCutPart number was now → IsTrue (is_some now) → doubt_in now ≡ doubt_in was
+cut_part_stays number was None after some = absurd (true≢false (sym some))
+cut_part_stays number None (Some x) after some = absurd after
+cut_part_stays number (Some w) (Some x) after some = ap (λ (r : Written). doubt_in (Some r)) after.0
 
 module _ (name : Kind → ℕ → List ℕ) (kind : Kind) (was now : Trust) where
   -- what is in doubt of the other kind stays in doubt

@@ -1,31 +1,31 @@
--- Laws of a file that was written in one range alone since a sync of it was done: what is in doubt of it, and how that is mended.
+-- Laws of a file that was written in one range alone since a sync of it was done, or cut before that: what is in doubt of it, and how that is mended.
 use Rattle.std.proofs.Common.{◌≡◌, ◌⊎◌, ◌<◌, ◌≤◌, ◌+◌, ◌-◌, ℕ, zero, suc, Bool, true, false, Option, Some, None, List, [], ◌∷◌, ◌++◌, map, length, take, drop, refl, sym, ap, ◌∙◌, subst, inl, inr, ⊎_elim, arith, length-take, length-drop, take-append-drop}
-use Rattle.std.proofs.lemmas.List.{take_all, take_min, take-take}
+use Rattle.std.proofs.lemmas.List.{take_all, take_min, take-take, drop_all, drop-take}
 use Rattle.std.proofs.lemmas.Bool.{cases_lt}
 use Rattle.std.proofs.lemmas.Option.{same_Some}
-use Rattle.std.proofs.Math.Seq.{take-add, take-append_seam}
+use Rattle.std.proofs.Math.Seq.{take-add, take-append_seam, take-append-add}
 use Rattle.std.specs.Option.{option_map}
 use Rattle.disk_model.specs.declared.kind.Kind.{Kind}
 use Rattle.disk_model.specs.Image.{Image, file_count, file_of, with_file, written}
 use Rattle.disk_model.specs.Crash.{Torn, Within, Elapses, Cut}
-use Rattle.disk_model.specs.steps.CrashLaws.{torn_none, cut_none}
+use Rattle.disk_model.specs.steps.CrashLaws.{torn_none, torn_written as write_torn, cut_none, cut_front}
 use Rattle.disk_model.specs.steps.ImageLaws.{with_file-file_of}
 use Rattle.folder_model.specs.DiskCalls.{SyncDone, SyncsLeave}
-use Rattle.folder_model.specs.File.{FileDeed, Made, Wrote, Shortened, Synced, Listed, Sync, Crash, read_of, MayHold, IsLeft, AreBytesSure}
-use Rattle.folder_model.specs.Folder.{Did, FolderPast, did_to, deeds_of, Contents, Deed, MayLeave}
+use Rattle.folder_model.specs.File.{FileDeed, Made, Wrote, Shortened, Synced, Listed, Sync, Crash, read_of, MayHold, IsLeft, AreBytesSure, AreBytesLeft}
+use Rattle.folder_model.specs.Folder.{Did, FolderPast, did_to, deeds_of, contents_of, Contents, Deed, MayLeave}
 use Rattle.folder_model.specs.Known.{IsInDoubt, Knows}
 use Rattle.folder_model.specs.Ranges.{IsTornIn, IsTornAt, AreMending, MendsIn}
 use Rattle.folder_model.specs.Whole.{done_to, AreWrites, WritesWithin, Covers}
 use Rattle.folder_model.specs.Seen.{NamesApart, images_of, FolderIs, IsNamed}
 use Rattle.folder_model.specs.Times.{Times, IsTimed, moment_of, goes_on, images_since_of}
-use Rattle.folder_model.specs.steps.FileLaws.{sync_then_crash, read_is_held, held_is_read, bytes_sure-made}
+use Rattle.folder_model.specs.steps.FileLaws.{sync_then_crash, read_is_held, bytes_sure-made}
 use Rattle.folder_model.specs.steps.FolderLaws.{synced_file, adds_none, deeds_of-same, deeds_of-other, names_cases}
 use Rattle.folder_model.specs.steps.KnownLaws.{or_still, done_deeds, drop_map, settled_sure}
-use Rattle.folder_model.specs.steps.ReadingLaws.{folder_is-changed, folder_is-synced, is_named-did}
+use Rattle.folder_model.specs.steps.ReadingLaws.{contents_of-same, folder_is-changed, folder_is-synced, is_named-did}
 use Rattle.folder_model.specs.steps.SeenLaws.{synced_within}
 use Rattle.folder_model.specs.steps.SureLaws.{file_sync_is_durable}
 use Rattle.folder_model.specs.steps.TimeLaws.{goes_on_timed, deeds_elapse}
-use Rattle.folder_model.specs.steps.TornLaws.{torn_wider, torn_again, torn_nothing, front_of_torn, torn_cut}
+use Rattle.folder_model.specs.steps.TornLaws.{torn_wider, torn_again, torn_nothing, front_of_torn, torn_taken, behind_torn, cut_taken}
 
 -- ---- torn bytes
 
@@ -43,12 +43,11 @@ front_of_range at many some rest reading whole fits =
     ∙ ap (take (length some)) whole
     ∙ take-take (length some) many (drop at reading) fits
 
--- the range of torn bytes, written over by what is read there, and the file cut where that ends
-mended_bytes : (at many : ℕ) (base old reading : List ℕ) → at ≤ length base → Torn at many base old → Torn at many base reading
+-- bytes that differ in the range and behind what is read, written over in the range by what is read there, and cut where that ends
+mended_bytes : (at many : ℕ) (old reading : List ℕ) → at ≤ length reading → take at old ≡ take at reading → drop (at + many) (take (length reading) old) ≡ drop (at + many) reading
     → take (length reading) (written old at (take many (drop at reading))) ≡ reading
-mended_bytes at many base old reading inside was now =
+mended_bytes at many old reading inside front behind =
     let some : List ℕ = take many (drop at reading) in
-    let front : take at old ≡ take at reading = front_of_torn at many base old inside was ∙ sym (front_of_torn at many base reading inside now) in
     let before : (take at old ++ some) ≡ take (at + many) reading = (λ i. front i ++ some) ∙ sym (take-add at many reading) in
     ⊎_elim
     (λ short.
@@ -58,47 +57,64 @@ mended_bytes at many base old reading inside was now =
     ∙ take-append_seam (take at old ++ some) (drop (at + length some) old)
     ∙ before ∙ all)
     (λ long.
+    let m : ℕ = length reading - (at + many) in
+    let sum : length reading ≡ at + many + m = omega (arith, long) in
     let len : length some ≡ many = omega (arith, length-take many (drop at reading), length-drop at reading, long) in
     let ends : at + length some ≡ at + many = omega (arith, len) in
-    let back : drop (at + length some) old ≡ drop (at + many) reading = ap (λ (k : ℕ). drop k old) ends ∙ was.after ∙ sym now.after in
-    let whole : written old at some ≡ reading = (λ i. before i ++ back i) ∙ take-append-drop (at + many) reading in
-    ap (take (length reading)) whole ∙ take_all (length reading) reading (omega arith))
+    let size : length (take at old ++ some) ≡ at + many = omega (arith, ap length before, length-take (at + many) reading, long) in
+    let whole : length reading ≡ length (take at old ++ some) + m = omega (arith, sum, size) in
+    let rest : take m (drop (at + many) old) ≡ drop (at + many) reading =
+    sym (drop-take (at + many) m old) ∙ ap (λ (k : ℕ). drop (at + many) (take k old)) (sym sum) ∙ behind in
+    ap (λ (k : ℕ). take k (written old at some)) whole
+    ∙ take-append-add (take at old ++ some) (drop (at + length some) old) m
+    ∙ (λ i. before i ++ take m (drop (ends i) old))
+    ∙ ap (λ (xs : List ℕ). take (at + many) reading ++ xs) rest
+    ∙ take-append-drop (at + many) reading)
     (cases_lt (length reading) (at + many))
 
 -- ---- one file
 
+-- a file of which a crash leaves what reads find
+pub torn_left : (first : Option (List ℕ)) (deeds : List FileDeed) (reading : List ℕ) → AreBytesLeft first deeds → read_of first deeds ≡ Some reading → IsTornIn first deeds 0 0
+torn_left first deeds reading left is =
+    let same : (bytes : List ℕ) → MayHold first deeds Crash bytes → bytes ≡ reading = λ bytes holds. same_Some bytes reading (sym (left bytes holds) ∙ is) in
+    record {
+      reading = reading;
+      is = is;
+      inside = omega arith;
+      before = λ bytes holds. refl;
+      behind = λ bytes holds. ap (take (length reading)) (same bytes holds) ∙ take_all (length reading) reading (omega arith);
+      again = λ old bytes holds torn. subst (MayHold first deeds Crash) (sym (torn_nothing 0 old bytes (omega arith) torn)) holds;
+      fronts = λ bytes len long holds. subst (MayHold first deeds Crash) (sym (take_all len bytes (omega (arith, long, ap length (same bytes holds))))) holds;
+    }
+
 -- a file that is as it was synced
 pub torn_clean : (first : Option (List ℕ)) (deeds : List FileDeed) (reading : List ℕ) → AreBytesSure first deeds → read_of first deeds ≡ Some reading
     → IsTornIn first (Synced true ∷ deeds) 0 0
-torn_clean first deeds reading sure is = record {
-  base = reading;
-  inside = omega arith;
-  each = λ bytes torn. subst (MayHold first deeds Sync) (sym (torn_nothing 0 reading bytes (omega arith) torn)) (read_is_held first deeds reading is);
-  only = λ bytes holds. subst (Torn 0 0 reading) (same_Some reading bytes (sym is ∙ sure bytes holds)) (torn_none 0 0 reading);
-  reading = reading;
-  is = is;
+torn_clean first deeds reading sure is = torn_left first (Synced true ∷ deeds) reading sure is
+
+-- where a crash may leave the same and reads find the same
+pub torn_same : (first : Option (List ℕ)) (deeds : List FileDeed) (since : Option (List ℕ)) (more : List FileDeed) (at many : ℕ)
+    → ((bytes : List ℕ) → MayHold since more Crash bytes → MayHold first deeds Crash bytes)
+    → ((bytes : List ℕ) → MayHold first deeds Crash bytes → MayHold since more Crash bytes)
+    → read_of since more ≡ read_of first deeds
+    → IsTornIn first deeds at many → IsTornIn since more at many
+torn_same first deeds since more at many to from same torn = record {
+  reading = torn.reading;
+  is = same ∙ torn.is;
+  inside = torn.inside;
+  before = λ bytes holds. torn.before bytes (to bytes holds);
+  behind = λ bytes holds. torn.behind bytes (to bytes holds);
+  again = λ old bytes holds is. from bytes (torn.again old bytes (to old holds) is);
+  fronts = λ bytes len long holds. from (take len bytes) (torn.fronts bytes len long (to bytes holds));
 }
 
 -- a sync that fails leaves the same in doubt
 pub torn_failed : (first : Option (List ℕ)) (deeds : List FileDeed) (at many : ℕ) → IsTornIn first deeds at many → IsTornIn first (Synced false ∷ deeds) at many
-torn_failed first deeds at many torn = record {
-  base = torn.base;
-  inside = torn.inside;
-  each = torn.each;
-  only = torn.only;
-  reading = torn.reading;
-  is = torn.is;
-}
+torn_failed first deeds at many torn = torn_same first deeds first (Synced false ∷ deeds) at many (λ bytes holds. holds) (λ bytes holds. holds) refl torn
 
 pub torn_listed : (first : Option (List ℕ)) (deeds : List FileDeed) (at many : ℕ) (done : Bool) → IsTornIn first deeds at many → IsTornIn first (Listed done ∷ deeds) at many
-torn_listed first deeds at many done torn = record {
-  base = torn.base;
-  inside = torn.inside;
-  each = torn.each;
-  only = torn.only;
-  reading = torn.reading;
-  is = torn.is;
-}
+torn_listed first deeds at many done torn = torn_same first deeds first (Listed done ∷ deeds) at many (λ bytes holds. holds) (λ bytes holds. holds) refl torn
 
 -- a file that was just made
 pub torn_made : (first : Option (List ℕ)) (deeds : List FileDeed) → IsTornIn first (Listed true ∷ Synced true ∷ Made ∷ deeds) 0 0
@@ -108,53 +124,96 @@ torn_made first deeds =
 -- a write within the range
 pub torn_within : (first : Option (List ℕ)) (deeds : List FileDeed) (at many place : ℕ) (some : List ℕ) (rest : ℕ) → IsTornIn first deeds at many
     → at ≤ place → place + (length some + rest) ≤ at + many → IsTornIn first (Wrote place some rest ∷ deeds) at many
-torn_within first deeds at many place some rest torn above below = record {
-  base = torn.base;
-  inside = torn.inside;
-  each = λ bytes is. (bytes, torn.each bytes is, torn_none place (length some + rest) bytes);
-  only = λ bytes holds.
-      torn_again at many torn.base holds.0 bytes (torn.only holds.0 holds.1) (torn_wider at many place (length some + rest) holds.0 bytes above below holds.2);
-  reading = written torn.reading place some;
-  is = ap (λ (o : Option (List ℕ)). option_map (λ old. written old place some) o) torn.is;
-}
+torn_within first deeds at many place some rest torn above below =
+    let reading : List ℕ = torn.reading in
+    let now : List ℕ = written reading place some in
+    let step : Torn at many reading now =
+    torn_wider at many place (length some + rest) reading now above below (write_torn place (length some + rest) reading some (omega arith)) in
+    let before : (bytes : List ℕ) → MayHold first (Wrote place some rest ∷ deeds) Crash bytes → MayHold first deeds Crash bytes =
+    λ bytes holds. torn.again holds.0 bytes holds.1 (torn_wider at many place (length some + rest) holds.0 bytes above below holds.2) in
+    record {
+      reading = now;
+      is = ap (λ (o : Option (List ℕ)). option_map (λ old. written old place some) o) torn.is;
+      inside = omega (arith, torn.inside, step.no_shorter);
+      before = λ bytes holds. torn.before bytes (before bytes holds) ∙ sym (front_of_torn at many reading now torn.inside step);
+      behind = λ bytes holds. behind_torn at many reading now bytes step (torn.behind bytes (before bytes holds));
+      again = λ old bytes holds is. (bytes, torn.again old bytes (before old holds) is, torn_none place (length some + rest) bytes);
+      fronts = λ bytes len long holds.
+          (take len bytes, torn.fronts bytes len (omega (arith, long, step.no_shorter)) (before bytes holds), torn_none place (length some + rest) (take len bytes));
+    }
 
--- a cut that isn't below what is read
+-- what a cut that isn't below what is read leaves was left before
+cut_held : (first : Option (List ℕ)) (deeds : List FileDeed) (at many : ℕ) (torn : IsTornIn first deeds at many) (old new : List ℕ)
+    → MayHold first deeds Crash old → Cut (length torn.reading) old new → MayHold first deeds Crash new
+cut_held first deeds at many torn old new holds cut =
+    let reading : List ℕ = torn.reading in
+    ⊎_elim
+    (λ longer.
+    let short : length reading ≤ at + many =
+    omega (
+      arith,
+      longer,
+      cut.no_longer,
+      ap length (torn.behind old holds),
+      length-drop (at + many) (take (length reading) old),
+      length-take (length reading) old,
+      length-drop (at + many) reading,
+    ) in
+    torn.again old new holds
+    (record {
+      no_shorter = omega (arith, longer);
+      no_longer = omega (arith, cut.no_longer, short);
+      before = ap (take at) (cut.same ∙ take_all (length new) old (omega (arith, longer)));
+      after =
+          drop_all (at + many) new (omega (arith, longer, cut.no_longer, short))
+          ∙ sym (drop_all (at + many) old (omega (arith, longer, cut.no_longer, short)));
+    }))
+    (λ within.
+    let front : new ≡ take (length new) old = sym (take_all (length old) new within) ∙ cut.same in
+    ⊎_elim
+    (λ more. subst (MayHold first deeds Crash) (sym front) (torn.fronts old (length new) (omega (arith, more, cut.no_shorter)) holds))
+    (λ few.
+    subst (MayHold first deeds Crash) (sym (take_all (length new) old (omega (arith, few, cut.no_shorter))) ∙ sym front) holds)
+    (cases_lt (length reading) (length old)))
+    (cases_lt (length old) (length new))
+
+-- such a cut
 torn_shortened : (first : Option (List ℕ)) (deeds : List FileDeed) (at many len rest : ℕ) → (torn : IsTornIn first deeds at many) → len ≡ length torn.reading + rest
     → IsTornIn first (Shortened len rest ∷ deeds) at many
 torn_shortened first deeds at many len rest torn is_len =
-    let read : Torn at many torn.base torn.reading = torn.only torn.reading (sync_then_crash first deeds torn.reading (read_is_held first deeds torn.reading torn.is)) in
     let asked : len - rest ≡ length torn.reading = omega (arith, is_len) in
-    record {
-      base = torn.base;
-      inside = torn.inside;
-      each = λ bytes is. (bytes, torn.each bytes is, cut_none (len - rest) bytes);
-      only = λ bytes holds.
-          torn_cut at many torn.base torn.reading holds.0 bytes torn.inside read (torn.only holds.0 holds.1) (subst (λ (k : ℕ). Cut k holds.0 bytes) asked holds.2);
-      reading = take len torn.reading;
-      is = ap (λ (o : Option (List ℕ)). option_map (take len) o) torn.is;
-    }
+    torn_same first deeds first (Shortened len rest ∷ deeds) at many
+    (λ bytes holds. cut_held first deeds at many torn holds.0 bytes holds.1 (subst (λ (k : ℕ). Cut k holds.0 bytes) asked holds.2))
+    (λ bytes holds. (bytes, holds, cut_none (len - rest) bytes))
+    (ap (λ (o : Option (List ℕ)). option_map (take len) o) torn.is
+    ∙ ap (λ (b : List ℕ). Some b) (take_all len torn.reading (omega (arith, is_len)))
+    ∙ sym torn.is)
+    torn
 
--- what such a cut leaves was left before
+-- what it leaves was left before
 cut_adds_none : (first : Option (List ℕ)) (deeds : List FileDeed) (at many len rest : ℕ) → (torn : IsTornIn first deeds at many) → len ≡ length torn.reading + rest
     → (left : Option (List ℕ)) → IsLeft first (Shortened len rest ∷ deeds) left → IsLeft first deeds left
 cut_adds_none first deeds at many len rest torn is_len None is = is
 cut_adds_none first deeds at many len rest torn is_len (Some bytes) is =
-    let read : Torn at many torn.base torn.reading = torn.only torn.reading (sync_then_crash first deeds torn.reading (read_is_held first deeds torn.reading torn.is)) in
     let asked : len - rest ≡ length torn.reading = omega (arith, is_len) in
-    torn.each bytes (torn_cut at many torn.base torn.reading is.0 bytes torn.inside read (torn.only is.0 is.1) (subst (λ (k : ℕ). Cut k is.0 bytes) asked is.2))
+    cut_held first deeds at many torn is.0 bytes is.1 (subst (λ (k : ℕ). Cut k is.0 bytes) asked is.2)
 
 -- Once the range is written anew as it is read, and the file cut where that ends, a sync answers for the file.
 pub range_anew_is_sure : (first : Option (List ℕ)) (deeds : List FileDeed) (at many : ℕ) (reading : List ℕ) → IsTornIn first deeds at many → read_of first deeds ≡ Some reading
     → AreBytesSure first (Shortened (length reading) 0 ∷ Wrote at (take many (drop at reading)) 0 ∷ deeds)
 range_anew_is_sure first deeds at many reading torn is bytes holds =
     let some : List ℕ = take many (drop at reading) in
+    let its : torn.reading ≡ reading = same_Some torn.reading reading (sym torn.is ∙ is) in
+    let anew : (held : List ℕ) → MayHold first deeds Sync held → take (length reading) (written held at some) ≡ reading =
+    λ held left.
+    let crash : MayHold first deeds Crash held = sync_then_crash first deeds held left in
+    mended_bytes at many held reading (omega (arith, torn.inside, ap length its)) (torn.before held crash ∙ ap (take at) its)
+    (subst (λ (r : List ℕ). drop (at + many) (take (length r) held) ≡ drop (at + many) r) its (torn.behind held crash)) in
     let cut = holds.1 in
-    let now : Torn at many torn.base reading = torn.only reading (sync_then_crash first deeds reading (read_is_held first deeds reading is)) in
-    let was : Torn at many torn.base cut.0 = torn.only cut.0 (sync_then_crash first deeds cut.0 cut.1) in
     ap (λ (o : Option (List ℕ)). option_map (take (length reading)) (option_map (λ old. written old at some) o)) is
     ∙ ap (λ (b : List ℕ). Some b)
-    (mended_bytes at many torn.base reading reading torn.inside now now
-    ∙ sym (mended_bytes at many torn.base cut.0 reading torn.inside was now)
+    (anew reading (read_is_held first deeds reading is)
+    ∙ sym (anew cut.0 cut.1)
     ∙ ap (take (length reading)) (sym cut.2)
     ∙ sym holds.2)
 
@@ -163,7 +222,53 @@ anew_adds_none : (first : Option (List ℕ)) (deeds : List FileDeed) (at many pl
     → (left : Option (List ℕ)) → IsLeft first (Wrote place some rest ∷ deeds) left → IsLeft first deeds left
 anew_adds_none first deeds at many place some rest torn here sum None is = is
 anew_adds_none first deeds at many place some rest torn here sum (Some bytes) is =
-    torn.each bytes (torn_again at many torn.base is.0 bytes (torn.only is.0 is.1) (torn_wider at many place (length some + rest) is.0 bytes (omega (arith, here)) (omega (arith, here, sum)) is.2))
+    torn.again is.0 bytes is.1 (torn_wider at many place (length some + rest) is.0 bytes (omega (arith, here)) (omega (arith, here, sum)) is.2)
+
+-- where nothing was written, what is read is a front of what a crash leaves
+front_held : (first : Option (List ℕ)) (deeds : List FileDeed) (at : ℕ) (torn : IsTornIn first deeds at 0) (bytes : List ℕ) → MayHold first deeds Crash bytes
+    → take (length torn.reading) bytes ≡ torn.reading
+front_held first deeds at torn bytes holds =
+    let all : List ℕ = take (length torn.reading) bytes in
+    let none : at + 0 ≡ at = omega arith in
+    let front : take at all ≡ take at torn.reading = take-take at (length torn.reading) bytes torn.inside ∙ torn.before bytes holds in
+    let back : drop at all ≡ drop at torn.reading =
+    ap (λ (k : ℕ). drop k all) (sym none) ∙ torn.behind bytes holds ∙ ap (λ (k : ℕ). drop k torn.reading) none in
+    sym (take-append-drop at all) ∙ (λ i. front i ++ back i) ∙ take-append-drop at torn.reading
+
+-- so it isn't longer
+front_short : (first : Option (List ℕ)) (deeds : List FileDeed) (at : ℕ) (torn : IsTornIn first deeds at 0) (bytes : List ℕ) → MayHold first deeds Crash bytes
+    → length torn.reading ≤ length bytes
+front_short first deeds at torn bytes holds = omega (arith, ap length (front_held first deeds at torn bytes holds), length-take (length torn.reading) bytes)
+
+-- and then a cut leaves the file so that nothing was written
+torn_cut : (first : Option (List ℕ)) (deeds : List FileDeed) (at len : ℕ) → (torn : IsTornIn first deeds at 0) → len ≤ length torn.reading → IsTornIn first (Shortened len 0 ∷ deeds) 0 0
+torn_cut first deeds at len torn inside =
+    let reading : List ℕ = torn.reading in
+    let all : len - 0 ≡ len = omega arith in
+    let size : length (take len reading) ≡ len = omega (arith, length-take len reading, inside) in
+    let cut : (bytes : List ℕ) (holds : MayHold first (Shortened len 0 ∷ deeds) Crash bytes) → Cut len holds.0 bytes = λ bytes holds. subst (λ (k : ℕ). Cut k holds.0 bytes) all holds.2 in
+    let long : (bytes : List ℕ) (holds : MayHold first (Shortened len 0 ∷ deeds) Crash bytes) → len ≤ length holds.0 =
+    λ bytes holds. omega (arith, inside, front_short first deeds at torn holds.0 holds.1) in
+    record {
+      reading = take len reading;
+      is = ap (λ (o : Option (List ℕ)). option_map (take len) o) torn.is;
+      inside = omega arith;
+      before = λ bytes holds. refl;
+      behind = λ bytes holds.
+          let was : List ℕ = holds.0 in
+          let front : bytes ≡ take (length bytes) was = cut_front len was bytes (long bytes holds) (cut bytes holds) in
+          ap (λ (k : ℕ). take k bytes) size
+          ∙ ap (take len) front
+          ∙ take-take len (length bytes) was (omega (arith, (cut bytes holds).no_shorter, long bytes holds))
+          ∙ sym (take-take len (length reading) was inside)
+          ∙ ap (take len) (front_held first deeds at torn was holds.1);
+      again = λ old bytes holds is. subst (MayHold first (Shortened len 0 ∷ deeds) Crash) (sym (torn_nothing 0 old bytes (omega arith) is)) holds;
+      fronts = λ bytes k enough holds. (
+        holds.0,
+        holds.1,
+        subst (λ (j : ℕ). Cut j holds.0 (take k bytes)) (sym all) (cut_taken len k holds.0 bytes (long bytes holds) (omega (arith, size, enough)) (cut bytes holds)),
+      );
+    }
 
 -- ---- in a folder
 
@@ -190,37 +295,65 @@ writes_back past n at many (Shortened len rest ∷ earlier) bytes writes holds =
 writes_back past n at many (Synced done ∷ earlier) bytes writes holds = absurd writes
 writes_back past n at many (Listed done ∷ earlier) bytes writes holds = absurd writes
 
--- of a file that a crash may leave reads find something
-some_read : (first : Option (List ℕ)) (deeds : List FileDeed) (bytes : List ℕ) → MayHold first deeds Crash bytes → (reading : List ℕ) × (read_of first deeds ≡ Some reading)
-some_read first deeds bytes holds = by (read_of first deeds) refl
-  where
-    by : (found : Option (List ℕ)) → read_of first deeds ≡ found → (reading : List ℕ) × (read_of first deeds ≡ Some reading)
-    by None is = absurd (held_is_read first deeds Crash bytes holds is)
-    by (Some reading) is = (reading, is)
+-- and what reads find is torn so
+writes_read : (past : FolderPast) (n : List ℕ) (at many : ℕ) (deeds : List FileDeed) (reading : List ℕ) → AreWrites at many deeds → contents_of past n ≡ Some reading
+    → (now : List ℕ) × (contents_of (done_to past n deeds) n ≡ Some now) × Torn at many reading now
+writes_read past n at many [] reading writes is = (reading, is, torn_none at many reading)
+writes_read past n at many (Made ∷ earlier) reading writes is = absurd writes
+writes_read past n at many (Wrote place some rest ∷ earlier) reading writes is =
+    let was = writes_read past n at many earlier reading writes.2 is in (
+      written was.0 place some,
+      contents_of-same (done_to past n earlier) n (Wrote place some rest) ∙ ap (λ (o : Option (List ℕ)). option_map (λ old. written old place some) o) was.1,
+      torn_again at many reading was.0 (written was.0 place some) was.2
+          (torn_wider at many place (length some) was.0 (written was.0 place some) writes.0 (omega (arith, writes.1)) (write_torn place (length some) was.0 some (omega arith))),
+    )
+writes_read past n at many (Shortened len rest ∷ earlier) reading writes is = absurd writes
+writes_read past n at many (Synced done ∷ earlier) reading writes is = absurd writes
+writes_read past n at many (Listed done ∷ earlier) reading writes is = absurd writes
 
--- the first write to a file that is as it was synced
+-- the first write to a file that is as it was synced, or a cut of that
 pub torn_written : (old new : FolderPast) (n : List ℕ) (start at many : ℕ) → (torn : IsTornAt old n start 0) → at ≤ length torn.reading
     → WritesWithin n at many old new → Covers n at many old new → IsTornAt new n at many
 torn_written old new n start at many torn inside within covers =
-    let held : MayHold (old.first n) (deeds_of n old.deeds) Crash torn.reading =
-    sync_then_crash (old.first n) (deeds_of n old.deeds) torn.reading (read_is_held (old.first n) (deeds_of n old.deeds) torn.reading torn.is) in
-    let its : torn.reading ≡ torn.base = torn_nothing start torn.base torn.reading torn.inside (torn.only torn.reading held) in
-    let same : (bytes : List ℕ) → MayHold (old.first n) (deeds_of n old.deeds) Crash bytes → bytes ≡ torn.reading =
-    λ bytes holds. torn_nothing start torn.base bytes torn.inside (torn.only bytes holds) ∙ sym its in
-    let each : (bytes : List ℕ) → Torn at many torn.reading bytes → MayHold (new.first n) (deeds_of n new.deeds) Crash bytes =
-    λ bytes is. covers torn.reading bytes inside held is in
-    let read = some_read (new.first n) (deeds_of n new.deeds) torn.reading (each torn.reading (torn_none at many torn.reading)) in
+    let reading : List ℕ = torn.reading in
+    let read = writes_read old n at many within.deeds reading within.writes torn.is in
+    let now : List ℕ = read.0 in
+    let step : Torn at many reading now = read.2 in
+    let back : (bytes : List ℕ) → MayHold (new.first n) (deeds_of n new.deeds) Crash bytes → (was : List ℕ) × MayHold (old.first n) (deeds_of n old.deeds) Crash was × Torn at many was bytes =
+    λ bytes holds. writes_back old n at many within.deeds bytes within.writes
+    (subst (λ (p : FolderPast). MayHold (p.first n) (deeds_of n p.deeds) Crash bytes) within.whole holds) in
+    let long : (was : List ℕ) → MayHold (old.first n) (deeds_of n old.deeds) Crash was → length reading ≤ length was = front_short (old.first n) (deeds_of n old.deeds) start torn in
+    let front : (was : List ℕ) → MayHold (old.first n) (deeds_of n old.deeds) Crash was → take (length reading) was ≡ reading = front_held (old.first n) (deeds_of n old.deeds) start torn in
     record {
-      base = torn.reading;
-      inside = inside;
-      each = each;
-      only = λ bytes holds.
-          let back = writes_back old n at many within.deeds bytes within.writes
-          (subst (λ (p : FolderPast). MayHold (p.first n) (deeds_of n p.deeds) Crash bytes) within.whole holds) in
-          subst (λ (was : List ℕ). Torn at many was bytes) (same back.0 back.1) back.2;
-      reading = read.0;
-      is = read.1;
+      reading = now;
+      is = ap (λ (p : FolderPast). contents_of p n) within.whole ∙ read.1;
+      inside = omega (arith, inside, step.no_shorter);
+      before = λ bytes holds.
+          let was = back bytes holds in
+          front_of_torn at many was.0 bytes (omega (arith, inside, long was.0 was.1)) was.2
+          ∙ sym (take-take at (length reading) was.0 inside)
+          ∙ ap (take at) (front was.0 was.1)
+          ∙ sym (front_of_torn at many reading now inside step);
+      behind = λ bytes holds.
+          let was = back bytes holds in
+          behind_torn at many reading now bytes step
+          ((torn_taken at many (length reading) was.0 bytes inside (omega (arith, inside, long was.0 was.1)) was.2).after
+          ∙ ap (drop (at + many)) (front was.0 was.1));
+      again = λ some bytes holds is.
+          let was = back some holds in
+          covers was.0 bytes (omega (arith, inside, long was.0 was.1)) was.1 (torn_again at many was.0 some bytes was.2 is);
+      fronts = λ bytes len enough holds.
+          let was = back bytes holds in
+          let within_was : at ≤ length was.0 = omega (arith, inside, long was.0 was.1) in
+          covers (take len was.0) (take len bytes) (omega (arith, length-take len was.0, within_was, inside, enough, step.no_shorter))
+          (torn.fronts was.0 len (omega (arith, enough, step.no_shorter)) was.1)
+          (torn_taken at many len was.0 bytes (omega (arith, inside, enough, step.no_shorter)) within_was was.2);
     }
+
+-- a cut of such a file
+pub torn_cut_to : (old new : FolderPast) (n : List ℕ) (start len : ℕ) → (torn : IsTornAt old n start 0) → len ≤ length torn.reading → new ≡ did_to old n (Shortened len 0) → IsTornAt new n 0 0
+torn_cut_to old new n start len torn inside whole =
+    subst (λ (p : FolderPast). IsTornAt p n 0 0) (sym whole) (torn_did old n (Shortened len 0) 0 0 (torn_cut (old.first n) (deeds_of n old.deeds) start len torn inside))
 
 -- fewer deeds of a mending
 fewer_mending : (at many k : ℕ) (reading : List ℕ) (deeds : List FileDeed) → AreMending at many reading deeds → AreMending at many reading (drop k deeds)

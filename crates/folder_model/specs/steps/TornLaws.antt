@@ -1,10 +1,9 @@
--- Writes that were done in two parts.
+-- Writes that were done in two parts, and fronts of what they and cuts leave.
 use Rattle.std.proofs.Common.{◌≡◌, ◌≤◌, ◌+◌, ◌-◌, ℕ, min, List, ◌++◌, length, take, drop, sym, ap, ◌∙◌, arith, ⊎_elim, length-take, length-drop, length-append, take-append-drop}
-use Rattle.std.specs.Prelude.{max}
 use Rattle.std.proofs.lemmas.Bool.{cases_lt}
-use Rattle.std.proofs.lemmas.List.{take-take, take_all, take_at, take-append-le, drop_at, drop_all, drop-drop}
+use Rattle.std.proofs.lemmas.List.{take-take, take_all, take_at, take-append-le, drop_at, drop_all, drop-drop, drop-take}
 use Rattle.disk_model.specs.Crash.{Torn, Cut}
-use Rattle.disk_model.specs.steps.CrashLaws.{torn_none}
+use Rattle.disk_model.specs.steps.CrashLaws.{torn_none, cut_front}
 
 -- a front of a front, whichever is longer
 front_of_front : (m n : ℕ) (xs : List ℕ) → take m (take n xs) ≡ take (min m n) xs
@@ -101,28 +100,55 @@ torn_split at n m old new inside torn =
     ))
     (cases_lt (length new) (at + n))
 
--- a cut, not below what is read, of torn bytes
-pub torn_cut : (at many : ℕ) (base reading old new : List ℕ) → at ≤ length base → Torn at many base reading → Torn at many base old → Cut (length reading) old new → Torn at many base new
-torn_cut at many base reading old new inside read torn cut =
-    let least : length base ≤ length new = omega (arith, cut.no_shorter, torn.no_shorter, read.no_shorter) in
-    let most : length new ≤ max (length base) (at + many) = omega (arith, cut.no_longer, torn.no_longer, read.no_longer) in
+-- fronts of torn bytes
+pub torn_taken : (at many k : ℕ) (old new : List ℕ) → at ≤ k → at ≤ length old → Torn at many old new → Torn at many (take k old) (take k new)
+torn_taken at many k old new within inside torn = record {
+  no_shorter = omega (arith, length-take k old, length-take k new, torn.no_shorter);
+  no_longer = omega (arith, length-take k old, length-take k new, torn.no_longer);
+  before =
+      take-take at (length (take k old)) (take k new) (omega (arith, length-take k old, within, inside))
+      ∙ take-take at k new within
+      ∙ front_of_torn at many old new inside torn
+      ∙ sym (take-take at k old within);
+  after =
+      ⊎_elim
+      (λ short.
+      drop_all (at + many) (take k new) (omega (arith, length-take k new, short)) ∙ sym (drop_all (at + many) (take k old) (omega (arith, length-take k old, short))))
+      (λ long.
+      let m : ℕ = k - (at + many) in
+      let sum : k ≡ at + many + m = omega (arith, long) in
+      ap (λ (j : ℕ). drop (at + many) (take j new)) sum
+      ∙ drop-take (at + many) m new
+      ∙ ap (take m) torn.after
+      ∙ sym (drop-take (at + many) m old)
+      ∙ ap (λ (j : ℕ). drop (at + many) (take j old)) (sym sum))
+      (cases_lt k (at + many));
+}
+
+-- What stands behind the range is the same, up to the end of what is read, also where that is torn in the range.
+pub behind_torn : (at many : ℕ) (reading now bytes : List ℕ) → Torn at many reading now → drop (at + many) (take (length reading) bytes) ≡ drop (at + many) reading
+    → drop (at + many) (take (length now) bytes) ≡ drop (at + many) now
+behind_torn at many reading now bytes torn is =
+    ⊎_elim
+    (λ long.
+    let same : length now ≡ length reading = omega (arith, long, torn.no_shorter, torn.no_longer) in
+    ap (λ (k : ℕ). drop (at + many) (take k bytes)) same ∙ is ∙ sym torn.after)
+    (λ short.
+    drop_all (at + many) (take (length now) bytes) (omega (arith, length-take (length now) bytes, short)) ∙ sym (drop_all (at + many) now (omega (arith, short))))
+    (cases_lt (at + many) (length now))
+
+-- a front of what a cut leaves, not shorter than it was to be
+pub cut_taken : (len k : ℕ) (old new : List ℕ) → len ≤ length old → len ≤ k → Cut len old new → Cut len old (take k new)
+cut_taken len k old new inside within cut =
+    let front : new ≡ take (length new) old = cut_front len old new inside cut in
+    let few : length new ≤ length old = omega (arith, cut.no_longer, inside) in
+    let size : length (take k new) ≡ min k (length new) = length-take k new in
     record {
-      no_shorter = least;
-      no_longer = most;
-      before =
-          take-take at (length base) new inside
-          ∙ sym (take-take at (length old) new (omega (arith, inside, torn.no_shorter)))
-          ∙ ap (take at) cut.same
-          ∙ take-take at (length new) old (omega (arith, inside, least))
-          ∙ front_of_torn at many base old inside torn;
-      after =
-          ⊎_elim
-          (λ short.
-          drop_all (at + many) new (omega (arith, short)) ∙ sym (drop_all (at + many) base (omega (arith, short, least))))
-          (λ long.
-          let same : length new ≡ length old = omega (arith, long, least, most, torn.no_shorter, torn.no_longer) in
-          let whole : new ≡ old =
-          sym (take_all (length old) new (omega (arith, same))) ∙ cut.same ∙ take_all (length new) old (omega (arith, same)) in
-          ap (drop (at + many)) whole ∙ torn.after)
-          (cases_lt (length new) (at + many + 1));
+      no_shorter = omega (arith, size, within, cut.no_shorter);
+      no_longer = omega (arith, size, few);
+      same =
+          take_all (length old) (take k new) (omega (arith, size, few))
+          ∙ ap (take k) front
+          ∙ front_of_front k (length new) old
+          ∙ ap (λ (j : ℕ). take j old) (sym size);
     }

@@ -11,8 +11,8 @@ use Rattle.folder_disk.specs.OpenFiles.{AreOpen}
 use Rattle.folder_disk.specs.State.{State, next, trusted}
 use Rattle.folder_disk.specs.steps.OpenLaws.{open_named, others_same, deed_others, cut_open, kept_after, none_open}
 use Rattle.folder_disk.specs.steps.StateLaws.{cut_ended, cut_not_begun, at_error}
-use Rattle.folder_disk.specs.steps.SureLaws.{cut_goes}
-use Rattle.folder_disk.specs.Doubts.{AfterCut, GoesOn}
+use Rattle.folder_disk.specs.steps.SureLaws.{cut_goes, cut_part_goes}
+use Rattle.folder_disk.specs.Doubts.{AfterCut, AfterCutPart, GoesOn}
 use Rattle.folder_disk.specs.declared.trust.Trust.{Trust}
 use Rattle.folder_disk.proofs.held.Held.cut.Goals as goal
 
@@ -75,8 +75,8 @@ returns-in-Ok-clause-cuts g c =
     subst (λ (s : State). Cuts {E = Error} tells name c.args.kind c.args.file c.args.len old s (Ok tt)) (sym went)
     (cut_ended tells name g.met.N.FileNames.apart c.args.kind c.args.file c.args.len old past trust
     (λ told. (c.requires.known told, c.is_unknown.ensures c.if-is_unknown.false))
-    (λ told. cut_goes name g.met.N.FileNames.apart c.args.kind c.args.file c.ranges.file.fits old past trust (c.requires.known told) (Shortened c.args.len 0)
-    (c.in-Ok.ensures.cut told ∙ (λ i. did_to (c.to_write.ensures.same told i) (named told i) (Shortened c.args.len 0))) on)
+    (λ told. cut_goes name g.met.N.FileNames.apart c.args.kind c.args.file c.ranges.file.fits old past trust (c.requires.known told) c.args.len (c.requires.there told)
+    (c.requires.in_range told) (c.in-Ok.ensures.cut told ∙ (λ i. did_to (c.to_write.ensures.same told i) (named told i) (Shortened c.args.len 0))) on)
     {E = Error} (Ok tt)
     (λ told. (
       0,
@@ -94,9 +94,9 @@ returns-in-Err-clause-cuts g c =
     let rest = c.to_write.ensures.rest in
     let past : FolderPast = past_of c.set_len.new.self in
     let times : times_of c.go_on-in-Err.new.self ≡ goes_on old.times past = c.go_on-in-Err.ensures.times ∙ (λ i. goes_on (times_of (rest i).timed) past) in
-    let trust : Trust = c.cut-in-Err.new.self in
-    let on : GoesOn c.args.kind (AfterCut c.args.file) old.trust trust =
-    subst (λ (t : Trust). GoesOn c.args.kind (AfterCut c.args.file) t trust) (λ i. (rest i).trust) c.cut-in-Err.ensures in
+    let trust : Trust = c.cut_part.new.self in
+    let on : GoesOn c.args.kind (AfterCutPart c.args.file) old.trust trust =
+    subst (λ (t : Trust). GoesOn c.args.kind (AfterCutPart c.args.file) t trust) (λ i. (rest i).trust) c.cut_part.ensures in
     let went : record { past = past_of c.go_on-in-Err.new.self.folder; warc = c.to_write.new.self.warc; cdxj = c.to_write.new.self.cdxj; trust = trust; times = times_of c.go_on-in-Err.new.self } ≡ trusted trust (next old past) =
     λ i. record {
       past = past_of (c.go_on-in-Err.ensures.folder i);
@@ -114,7 +114,7 @@ returns-in-Err-clause-cuts g c =
     (λ told. (c.requires.known told, c.is_unknown.ensures c.if-is_unknown.false))
     (λ told.
     let part = c.in-Err.ensures.partial told in
-    cut_goes name g.met.N.FileNames.apart c.args.kind c.args.file c.ranges.file.fits old past trust (c.requires.known told) (Shortened (c.args.len + part.rest) part.rest)
+    cut_part_goes name g.met.N.FileNames.apart c.args.kind c.args.file c.ranges.file.fits old past trust (c.requires.known told) (Shortened (c.args.len + part.rest) part.rest)
     (part.whole ∙ (λ i. did_to (c.to_write.ensures.same told i) (named told i) (Shortened (c.args.len + part.rest) part.rest))) on)
     {E = Error} (Err c.in-Err.error)
     (λ told.
