@@ -25,6 +25,10 @@ const OPENED: &str =
 const THIRD_MADE: &str =
     "look for folder;create vol-000002.warc;sync vol-000002.warc;sync folder;sync around;look for vol-000002.warc;";
 
+/// What cuts the second of two volumes of one byte once more, in which nothing was written, and syncs it.
+const CUT_AGAIN: &str =
+    "look for folder;open to write vol-000001.warc;length of vol-000001.warc;write 0 at 0 of vol-000001.warc;cut to 1 vol-000001.warc;sync vol-000001.warc;";
+
 /// Two volumes of one byte.
 const ONE_BYTE: Plan = Plan {
     len: 1,
@@ -44,7 +48,7 @@ const MOVES_AT_19: Plan = Plan {
 };
 
 /// What is asked of the files of two volumes.
-static OPEN: [Row; 11] = [
+static OPEN: [Row; 13] = [
     // Two files stay open with their lengths.
     (
         TWO_VOLUMES,
@@ -110,6 +114,36 @@ static OPEN: [Row; 11] = [
         &[
             "sync vol-000002.warc;look for folder;open to write vol-000002.warc;length of vol-000002.warc;read 3 at 0 of vol-000002.warc;write 3 at 0 of vol-000002.warc;",
             "cut to 3 vol-000002.warc;sync vol-000002.warc;look for vol-000002.warc;1",
+        ],
+    ),
+    // A cut behind which a sync failed is done again, however often that fails,
+    (
+        Plan {
+            from: 17,
+            fails: [(18, ErrorKind::StorageFull), (24, ErrorKind::StorageFull)],
+            ..ONE_BYTE
+        },
+        Lock::Alone,
+        &[FILES, CUT_1, SYNC_1, SYNC_1, SYNC_1, FILES],
+        &[
+            "cut to 1 vol-000001.warc;sync vol-000001.warc;",
+            CUT_AGAIN,
+            CUT_AGAIN,
+            "look for vol-000001.warc;look for folder;2",
+        ],
+    ),
+    // and not one that failed itself.
+    (
+        Plan {
+            from: 17,
+            fails: [(17, ErrorKind::Other), (21, ErrorKind::StorageFull)],
+            ..ONE_BYTE
+        },
+        Lock::Alone,
+        &[FILES, CUT_1, SYNC_1, SYNC_1, FILES],
+        &[
+            "cut to 1 vol-000001.warc;look for folder;open to read vol-000001.warc;length of vol-000001.warc;sync vol-000001.warc;",
+            "4",
         ],
     ),
     // A folder that is gone holds no files, which isn't said of one that this process has.
