@@ -306,7 +306,7 @@ fn after_cut(before: Option<Written>, number: u32) -> Option<Written>
     if range.number != number {
         return Some(range);
     }
-    if range.len != 0 {
+    if range.len > 0 {
         return None;
     }
     Some(Written {

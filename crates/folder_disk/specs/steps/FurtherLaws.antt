@@ -1,10 +1,10 @@
 -- Laws of a file that was to be made and may be there.
-use Rattle.std.proofs.Common.{◌≡◌, ◌≢◌, ℕ, Bool, List, [], ◌∷◌, ◌++◌, arith, refl, sym, ap, ◌∙◌, subst, inl, inr, ⊎_elim}
-use Rattle.std.proofs.lemmas.Option.{none-some, same_Some}
+use Rattle.std.proofs.Common.{◌≡◌, ◌≢◌, ℕ, Bool, List, [], ◌∷◌, ◌++◌, refl, sym, ap, ◌∙◌, subst, inl, inr, ⊎_elim}
+use Rattle.std.proofs.lemmas.Option.{none-some}
 use Rattle.std.specs.Prelude.{Option, Some, None, IfSome}
 use Rattle.disk_model.specs.declared.kind.Kind.{Kind}
 use Rattle.disk_model.specs.declared.kind.Kind.TheVariants.{Warc, Cdxj}
-use Rattle.folder_model.specs.File.{FileDeed, Made, Wrote, Shortened, Synced, Listed, Crash, MayHold, AreBytesLeft, IsNameSure}
+use Rattle.folder_model.specs.File.{FileDeed, Made, Wrote, Shortened, Synced, Listed, Crash, AreBytesLeft, IsNameSure}
 use Rattle.folder_model.specs.Folder.{Deed, Did, SyncedFolder, SyncedAround, FolderPast, did_to, deeds_of, contents_of, IsNameSureAt, AreBytesLeftAt}
 use Rattle.folder_model.specs.Known.{IsInDoubt}
 use Rattle.folder_model.specs.Ranges.{IsTornAt}

@@ -1,9 +1,9 @@
 -- Laws of a file that was to be made and is there: it, the folder and the folder around it are synced by a call that only looks.
 use Rattle.std.proofs.Common.{◌^◌, ◌≡◌, ◌≢◌, ◌⊎◌, ◌<◌, ◌+◌, ℕ, Bool, true, false, IsTrue, List, [], ◌∷◌, refl, sym, ap, ◌∙◌, subst, inl, inr, ⊎_elim, arith}
 use Rattle.std.proofs.lemmas.Bool.{cases_lt}
-use Rattle.std.specs.Prelude.{None}
+use Rattle.std.specs.Prelude.{None, Ok}
 use Rattle.disk_model.specs.Crash.{Elapses}
-use Rattle.disk_model.specs.Image.{file_count, file_of}
+use Rattle.disk_model.specs.Image.{Image, file_count, file_of}
 use Rattle.disk_model.specs.declared.kind.Kind.{Kind}
 use Rattle.disk_model.specs.declared.kind.Kind.TheVariants.{Warc, Cdxj}
 use Rattle.disk_model.specs.steps.ImageLaws.{same_kind_or_other}
@@ -14,18 +14,31 @@ use Rattle.folder_model.specs.Known.{IsInDoubt, Knows}
 use Rattle.folder_model.specs.Ranges.{IsTornAt}
 use Rattle.folder_model.specs.Seen.{NamesApart, images_of}
 use Rattle.folder_model.specs.Times.{Times, moment_of, goes_on, images_since_of}
-use Rattle.folder_model.specs.Whole.{OnlySyncs, MakesInPart, settled_durably}
+use Rattle.folder_model.specs.Whole.{OnlySyncs, MakesInPart, made_durably, settled_durably}
 use Rattle.folder_model.specs.steps.SettleLaws.{syncs_leave, settled_leaves}
-use Rattle.folder_disk.specs.Calls.{Looks}
+use Rattle.folder_disk.specs.Calls.{Creates, Looks}
 use Rattle.folder_disk.specs.Doubts.{range_of, doubts_of, AreTorn, SyncedTo, further_of, with_further, unlisted, unlisted_all, IsFurther}
 use Rattle.folder_disk.specs.State.{State, known_of, reading, IsKnown, images, next, grown, trusted}
 use Rattle.folder_disk.specs.steps.FurtherLaws.{further_keeps, further_gave, further_with, further_other, further_unlisted, further_syncs, unlisted_syncs, missed_further, missed_other, missed_unlisted, range_further, range_unlisted, same_doubts, same_torn, only_syncs_same, only_syncs_left, only_syncs_torn, syncs_are_torn, left_clean}
-use Rattle.folder_disk.specs.steps.StateLaws.{is_known, known_reading, as_within, as_elapses, looked_by, grown_kind, grown_other, grown_numbers, grown_times}
-use Rattle.folder_disk.specs.steps.SureLaws.{synced_further, synced_gave}
+use Rattle.folder_disk.specs.steps.StateLaws.{create_made, create_behind, absent_is_none, is_known, known_reading, as_within, as_elapses, looked_by, grown_kind, grown_other, grown_numbers, grown_times}
+use Rattle.folder_disk.specs.steps.SureLaws.{made_goes, synced_further, synced_gave}
 use Rattle.folder_disk.specs.steps.TrustLaws.{range_gave, torn_goes_on, after_sync, doubts_after_sync}
 use Rattle.folder_disk.specs.declared.trust.Further.{Further}
 use Rattle.folder_disk.specs.declared.trust.Further.TheVariants.{Absent, Unsettled}
 use Rattle.folder_disk.specs.declared.trust.Trust.{Trust}
+
+-- what the disk knows, where what is known of each file stays
+ranges_know : (name : Kind → ℕ → List ℕ) (past : FolderPast) (known : Kind → ℕ) (old new : Trust) (times : Times) (image : Image) → ((k : Kind) → range_of new k ≡ range_of old k)
+    → new.gave_up ≡ old.gave_up → Knows name past known old.gave_up (doubts_of old) times image → Knows name past known new.gave_up (doubts_of new) times image
+ranges_know name past known old new times image ranges gave knows = record {
+  is = knows.is;
+  timed = knows.timed;
+  numbers = knows.numbers;
+  no_fewer = knows.no_fewer;
+  one_more = knows.one_more;
+  named = knows.named;
+  sure = λ goes n. ⊎_elim (λ doubt. inl (same_doubts name old new ranges n doubt)) (λ sure. inr sure) (knows.sure (sym gave ∙ goes) n);
+}
 
 -- where it isn't there that is known
 pub none_further : (name : Kind → ℕ → List ℕ) (kind : Kind) (s : State) (past : FolderPast) (trust : Trust) → IsKnown name s → past ≡ s.past
@@ -37,16 +50,7 @@ none_further name kind s past trust known same none is =
     let gave : trust.gave_up ≡ s.trust.gave_up = ap (λ (t : Trust). t.gave_up) is ∙ further_keeps kind Absent s.trust in
     let knows : Knows name past (known_of s.warc s.cdxj) s.trust.gave_up (doubts_of s.trust) s.times (reading name s) =
     subst (λ (p : FolderPast). Knows name p (known_of s.warc s.cdxj) s.trust.gave_up (doubts_of s.trust) s.times (reading name s)) (sym same) known.knows in
-    is_known name s_now (reading name s)
-    (record {
-      is = knows.is;
-      timed = knows.timed;
-      numbers = knows.numbers;
-      no_fewer = knows.no_fewer;
-      one_more = knows.one_more;
-      named = knows.named;
-      sure = λ goes n. ⊎_elim (λ doubt. inl (same_doubts name s.trust trust ranges n doubt)) (λ sure. inr sure) (knows.sure (sym gave ∙ goes) n);
-    })
+    is_known name s_now (reading name s) (ranges_know name past (known_of s.warc s.cdxj) s.trust trust s.times (reading name s) ranges gave knows)
     (λ goes. same_torn name past s.trust trust ranges (subst (λ (p : FolderPast). AreTorn name p s.trust) (sym same) (known.torn (sym gave ∙ goes))))
     (λ k.
     ⊎_elim
@@ -171,17 +175,8 @@ module _ (tells : Bool) (name : Kind → ℕ → List ℕ) (kind : Kind) (old : 
 
     tried_known : (told : IsTrue tells) → IsKnown name (trusted trust (next old past))
     tried_known told =
-        let knows = (tried told).knows in
         is_known name (trusted trust (next old past)) (reading name old)
-        (record {
-          is = knows.is;
-          timed = knows.timed;
-          numbers = knows.numbers;
-          no_fewer = knows.no_fewer;
-          one_more = knows.one_more;
-          named = knows.named;
-          sure = λ goes n. ⊎_elim (λ doubt. inl (same_doubts name old.trust trust ranges n doubt)) (λ sure. inr sure) (knows.sure (sym gave ∙ goes) n);
-        })
+        (ranges_know name past (known_of old.warc old.cdxj) old.trust trust (goes_on old.times past) (reading name old) ranges gave (tried told).knows)
         (λ goes.
         same_torn name past old.trust trust ranges
         (syncs_are_torn name (name kind (known_of old.warc old.cdxj kind)) old.past past old.trust (only told) (its told).1 ((known told).torn (sym gave ∙ goes))))
@@ -288,6 +283,25 @@ module _ (tells : Bool) (name : Kind → ℕ → List ℕ) (kind : Kind) (old : 
         (λ told. (known told, is_known name (trusted trust (next (grown kind old) past)) (reading name old) (done_knows told) (λ still. torn told) (further told)))
         (λ told. known_reading name (trusted trust (next (grown kind old) past)) (reading name old) trust.gave_up (doubts_of trust) (done_knows told))
         (λ told. (done told).within) (omega (arith, ap (λ (t : Times). moment_of t) (grown_times kind old))) (λ told. done_time told)
+
+-- a file that was made
+pub made_told : {E : Type 0} (tells : Bool) (name : Kind → ℕ → List ℕ) → NamesApart name → (kind : Kind) (old : State) (asked : ℕ) (called : List ℕ) (first past last : FolderPast) (trust : Trust)
+    → (IsTrue tells → IsKnown name old) → old.trust.gave_up ≡ false → further_of old.trust kind ≡ Absent
+    → asked ≡ known_of old.warc old.cdxj kind → asked + 1 < 2 ^ 32 → called ≡ name kind asked → SyncedTo kind asked old.trust trust
+    → (IsTrue tells → first ≡ old.past) → (IsTrue tells → past ≡ made_durably called first) → (IsTrue tells → last ≡ past)
+    → Creates {E = E} tells name kind old (record (trusted trust (next (grown kind old) past)) { past = last }) (Ok asked)
+made_told {E} tells name apart kind old asked called first past last trust known goes absent number room named on checked made same =
+    let n : ℕ = known_of old.warc old.cdxj kind in
+    let is : called ≡ name kind n = named ∙ ap (name kind) number in
+    let whole : IsTrue tells → past ≡ made_durably (name kind n) old.past = λ told. made told ∙ (λ i. made_durably (is i) (checked told i)) in
+    let synced : SyncedTo kind n old.trust trust = subst (λ (k : ℕ). SyncedTo kind k old.trust trust) number on in
+    let few : n + 1 < 2 ^ 32 = omega (arith, room, number) in
+    subst (λ (k : ℕ). Creates {E = E} tells name kind old (record (trusted trust (next (grown kind old) past)) { past = last }) (Ok k)) (sym number)
+    (create_behind {E = E} tells name kind old (trusted trust (next (grown kind old) past)) last (Ok n) same
+    (create_made tells name apart kind old past trust (λ told. (known told, whole told)) goes absent few
+    (λ told.
+    made_goes name apart kind n ((known told).knows.numbers kind) old past trust (known told) goes (absent_is_none name old kind (known told) absent) (whole told) synced refl few absent)
+    {E = E}))
 
 -- a file more leaves the trust
 pub grown_trust : (kind : Kind) (s : State) → (grown kind s).trust ≡ s.trust

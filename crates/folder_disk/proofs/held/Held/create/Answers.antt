@@ -1,5 +1,5 @@
 -- The next file was made, or may have been, or nothing was done.
-use Rattle.std.proofs.Common.{◌≡◌, ℕ, Ok, Err, IsTrue, true, List, refl, sym, ap, ◌∙◌, subst, arith}
+use Rattle.std.proofs.Common.{◌≡◌, ℕ, Ok, Err, IsTrue, List, refl, sym, ap, ◌∙◌, subst, arith}
 use Rattle.std.specs.declared.io.Error.{Error}
 use Rattle.std.specs.Prelude.{None}
 use Rattle.folder_model.specs.Folder.{FolderPast, contents_of, IsNameSureAt}
@@ -9,13 +9,12 @@ use Rattle.folder_model.specs.Whole.{made_durably, MakesInPart, OnListed}
 use Rattle.folder_disk.specs.Calls.{Creates}
 use Rattle.folder_disk.specs.Held.{state_of}
 use Rattle.folder_disk.specs.State.{State, known_of, next, grown, trusted}
-use Rattle.folder_disk.specs.Doubts.{SyncedTo, further_of, with_further}
+use Rattle.folder_disk.specs.Doubts.{further_of, with_further}
 use Rattle.folder_disk.specs.declared.trust.Further.TheVariants.{Absent, Unsettled}
 use Rattle.folder_disk.specs.declared.trust.Trust.{Trust}
-use Rattle.folder_disk.specs.steps.SureLaws.{made_goes}
 use Rattle.folder_disk.specs.steps.OpenLaws.{all_same, same_contents, none_open, made_open}
-use Rattle.folder_disk.specs.steps.StateLaws.{create_made, create_missed, create_not_begun, create_behind, create_unacknowledged, nothing_made, absent_is_none, grown_trusted, at_error}
-use Rattle.folder_disk.specs.steps.SettleLaws.{missed_now, missed_list_now, missed_ranges, missed_list_ranges}
+use Rattle.folder_disk.specs.steps.StateLaws.{create_missed, create_not_begun, create_unacknowledged, nothing_made, grown_trusted, at_error}
+use Rattle.folder_disk.specs.steps.SettleLaws.{made_told, missed_now, missed_list_now, missed_ranges, missed_list_ranges}
 use Rattle.folder_disk.proofs.held.Held.create.Goals as goal
 
 pub returns-in_err-check_in_place-clause-creates : goal.returns-in_err-check_in_place-clause-creates
@@ -79,77 +78,48 @@ pub returns-in_err-keep_at_name-in-Ok-clause-creates : goal.returns-in_err-keep_
 returns-in_err-keep_at_name-in-Ok-clause-creates g c =
     let tells = g.F.Folder.tells in
     let name = g.N.FileNames.name in
-    let name_of = g.F.Folder.name_of in
     let past_of = g.F.Folder.past in
     let old : State = state_of past_of c.args.self.now in
     let first : FolderPast = past_of c.check_in_place.new.folder in
     let past : FolderPast = past_of c.make_durably.new.folder in
-    let number : c.known-number.result ≡ known_of old.warc old.cdxj c.args.kind = c.known-number.ensures in
-    let named : c.as_str.result.now ≡ name c.args.kind (known_of old.warc old.cdxj c.args.kind) =
-    c.as_str.ensures.value ∙ c.in_ok-name.ensures ∙ ap (name c.args.kind) number in
     let trust : Trust = c.synced.new.self in
-    let absent : further_of old.trust c.args.kind ≡ Absent = c.has_further.ensures c.if-has_further.false in
-    let on : SyncedTo c.args.kind (known_of old.warc old.cdxj c.args.kind) old.trust trust = subst (λ (k : ℕ). SyncedTo c.args.kind k old.trust trust) number c.synced.ensures in
-    let whole : IsTrue tells → past ≡ made_durably (name c.args.kind (known_of old.warc old.cdxj c.args.kind)) old.past =
-    λ told. c.in-Ok.ensures.made told ∙ (λ i. made_durably (named i) (c.check_in_place.ensures told i)) in
     let went : state_of past_of c.set_known.new.self ≡ trusted trust (next (grown c.args.kind old) past) =
     c.set_known.ensures.state
     ∙ (λ i. grown c.args.kind (record old { past = past_of (c.go_on.ensures.folder i); trust = trust; times = c.go_on.ensures.times i }))
     ∙ grown_trusted c.args.kind old past trust in
-    let made = create_made tells name g.met.N.FileNames.apart c.args.kind old past trust
-    (λ told. (c.requires.known told, whole told))
-    c.if-self.false absent (omega (arith, c.in-Some.ensures.0, number))
-    (λ told.
-    made_goes name g.met.N.FileNames.apart c.args.kind (known_of old.warc old.cdxj c.args.kind) ((c.requires.known told).knows.numbers c.args.kind) old past trust (c.requires.known told)
-    c.if-self.false (absent_is_none name old c.args.kind (c.requires.known told) absent) (whole told) on refl (omega (arith, c.in-Some.ensures.0, number)) absent)
-    {E = Error} in
     let last : FolderPast = past_of c.keep_at_name.new.self.timed.folder in
     let behind : state_of past_of c.keep_at_name.new.self ≡ record (trusted trust (next (grown c.args.kind old) past)) { past = last } =
     (λ i. record (state_of past_of (c.keep_at_name.ensures.rest i)) { past = last }) ∙ ap (λ (s : State). record s { past = last }) went in
-    let same : IsTrue tells → last ≡ past =
-    λ told. c.keep_at_name.ensures.same told ∙ (λ i. past_of (c.set_known.ensures.same i).folder) ∙ (λ i. past_of (c.go_on.ensures.folder i)) in
+    let made = made_told {E = Error} tells name g.met.N.FileNames.apart c.args.kind old c.known-number.result c.as_str.result.now first past last trust c.requires.known c.if-self.false
+    (c.has_further.ensures c.if-has_further.false) c.known-number.ensures (omega (arith, c.in-Some.ensures.0)) (c.as_str.ensures.value ∙ c.in_ok-name.ensures) c.synced.ensures
+    c.check_in_place.ensures (λ told. c.in-Ok.ensures.made told)
+    (λ told. c.keep_at_name.ensures.same told ∙ (λ i. past_of (c.set_known.ensures.same i).folder) ∙ (λ i. past_of (c.go_on.ensures.folder i))) in
     subst (λ (s : State). Creates {E = Error} tells name c.args.kind old s c.from_residual-in_err-keep_at_name-in-Ok.result) (sym behind)
     (at_error (λ r. Creates {E = Error} tells name c.args.kind old (record (trusted trust (next (grown c.args.kind old) past)) { past = last }) r)
     c.from_residual-in_err-keep_at_name-in-Ok.result c.from_residual-in_err-keep_at_name-in-Ok.ensures.0
-    (λ e. create_behind {E = Error} tells name c.args.kind old (trusted trust (next (grown c.args.kind old) past)) last (Err e) same
-    (create_unacknowledged {E = Error} tells name c.args.kind old (trusted trust (next (grown c.args.kind old) past)) (known_of old.warc old.cdxj c.args.kind) e made)))
+    (λ e. create_unacknowledged {E = Error} tells name c.args.kind old (record (trusted trust (next (grown c.args.kind old) past)) { past = last }) c.known-number.result e made))
 
 pub returns-in-Ok-clause-creates : goal.returns-in-Ok-clause-creates
 returns-in-Ok-clause-creates g c =
     let tells = g.F.Folder.tells in
     let name = g.N.FileNames.name in
-    let name_of = g.F.Folder.name_of in
     let past_of = g.F.Folder.past in
     let old : State = state_of past_of c.args.self.now in
     let first : FolderPast = past_of c.check_in_place.new.folder in
     let past : FolderPast = past_of c.make_durably.new.folder in
-    let number : c.known-number.result ≡ known_of old.warc old.cdxj c.args.kind = c.known-number.ensures in
-    let named : c.as_str.result.now ≡ name c.args.kind (known_of old.warc old.cdxj c.args.kind) =
-    c.as_str.ensures.value ∙ c.in_ok-name.ensures ∙ ap (name c.args.kind) number in
     let trust : Trust = c.synced.new.self in
-    let absent : further_of old.trust c.args.kind ≡ Absent = c.has_further.ensures c.if-has_further.false in
-    let on : SyncedTo c.args.kind (known_of old.warc old.cdxj c.args.kind) old.trust trust = subst (λ (k : ℕ). SyncedTo c.args.kind k old.trust trust) number c.synced.ensures in
-    let whole : IsTrue tells → past ≡ made_durably (name c.args.kind (known_of old.warc old.cdxj c.args.kind)) old.past =
-    λ told. c.in-Ok.ensures.made told ∙ (λ i. made_durably (named i) (c.check_in_place.ensures told i)) in
     let went : state_of past_of c.set_known.new.self ≡ trusted trust (next (grown c.args.kind old) past) =
     c.set_known.ensures.state
     ∙ (λ i. grown c.args.kind (record old { past = past_of (c.go_on.ensures.folder i); trust = trust; times = c.go_on.ensures.times i }))
     ∙ grown_trusted c.args.kind old past trust in
-    let made = create_made tells name g.met.N.FileNames.apart c.args.kind old past trust
-    (λ told. (c.requires.known told, whole told))
-    c.if-self.false absent (omega (arith, c.in-Some.ensures.0, number))
-    (λ told.
-    made_goes name g.met.N.FileNames.apart c.args.kind (known_of old.warc old.cdxj c.args.kind) ((c.requires.known told).knows.numbers c.args.kind) old past trust (c.requires.known told)
-    c.if-self.false (absent_is_none name old c.args.kind (c.requires.known told) absent) (whole told) on refl (omega (arith, c.in-Some.ensures.0, number)) absent)
-    {E = Error} in
     let last : FolderPast = past_of c.keep_at_name.new.self.timed.folder in
     let behind : state_of past_of c.keep_at_name.new.self ≡ record (trusted trust (next (grown c.args.kind old) past)) { past = last } =
     (λ i. record (state_of past_of (c.keep_at_name.ensures.rest i)) { past = last }) ∙ ap (λ (s : State). record s { past = last }) went in
-    let same : IsTrue tells → last ≡ past =
-    λ told. c.keep_at_name.ensures.same told ∙ (λ i. past_of (c.set_known.ensures.same i).folder) ∙ (λ i. past_of (c.go_on.ensures.folder i)) in
-    subst (λ (s : State). Creates {E = Error} tells name c.args.kind old s (Ok c.known-number.result)) (sym behind)
-    (subst (λ (n : ℕ). Creates {E = Error} tells name c.args.kind old (record (trusted trust (next (grown c.args.kind old) past)) { past = last }) (Ok n)) (sym number)
-    (create_behind {E = Error} tells name c.args.kind old (trusted trust (next (grown c.args.kind old) past)) last (Ok (known_of old.warc old.cdxj c.args.kind)) same made))
+    let made = made_told {E = Error} tells name g.met.N.FileNames.apart c.args.kind old c.known-number.result c.as_str.result.now first past last trust c.requires.known c.if-self.false
+    (c.has_further.ensures c.if-has_further.false) c.known-number.ensures (omega (arith, c.in-Some.ensures.0)) (c.as_str.ensures.value ∙ c.in_ok-name.ensures) c.synced.ensures
+    c.check_in_place.ensures (λ told. c.in-Ok.ensures.made told)
+    (λ told. c.keep_at_name.ensures.same told ∙ (λ i. past_of (c.set_known.ensures.same i).folder) ∙ (λ i. past_of (c.go_on.ensures.folder i))) in
+    subst (λ (s : State). Creates {E = Error} tells name c.args.kind old s (Ok c.known-number.result)) (sym behind) made
 
 pub returns-then-self-clause-creates : goal.returns-then-self-clause-creates
 returns-then-self-clause-creates g c =
