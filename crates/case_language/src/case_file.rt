@@ -5,7 +5,7 @@ use crate::names::{NamedText, Names};
 use std::alloc::{AllocError, Global};
 
 /// A case: its name, how often it is played, what it is given, and what it is to give.
-#[derive(Debug, Drop)]
+#[derive(Drop)]
 pub struct Case<'a> {
     pub name: &'a str,
     /// The line that says for which numbers the case is played; none where it is played once.
@@ -41,7 +41,7 @@ impl<'a> Case<'a> {
 }
 
 /// The cases of a file, and the texts that it names.
-#[derive(Debug, Drop)]
+#[derive(Drop)]
 pub struct CaseFile<'a> {
     pub texts: Vec<NamedText>,
     pub cases: Vec<Case<'a>>,
@@ -66,13 +66,18 @@ impl<'a> CaseFile<'a> {
     fn add(&mut self, alloc: Global, text: &'a str) -> Result<(), AllocError> {
         let line = Line::of(text);
         if line.word == "case" {
-            self.cases.push(Case::new(alloc, line.rest))?;
-            return Ok(());
+            return self.begin(alloc, line.rest);
         }
         if line.word == "text" && self.name_text(alloc, Line::of(line.rest))? {
             return Ok(());
         }
         self.add_line(alloc, text)
+    }
+
+    /// Begins a case of this name.
+    fn begin(&mut self, alloc: Global, name: &'a str) -> Result<(), AllocError> {
+        self.cases.push(Case::new(alloc, name))?;
+        Ok(())
     }
 
     /// Names a text, and says whether it is one.
@@ -92,8 +97,7 @@ impl<'a> CaseFile<'a> {
     /// Adds a line to the last case.
     fn add_line(&mut self, alloc: Global, text: &'a str) -> Result<(), AllocError> {
         if self.cases.is_empty() {
-            self.cases
-                .push(Case::new(alloc, "(before the first case)"))?;
+            self.begin(alloc, "(before the first case)")?;
         }
         match self.cases.last_mut() {
             Some(case) => case.add(text),

@@ -44,17 +44,32 @@ fn difference_from(
         let Some(wanted) = decode(alloc, text, names)? else {
             return Ok(Some(format!(in alloc; "no line: {text}")?));
         };
-        match given.split_first() {
-            Some((line, rest)) if meets(line.as_slice(), wanted.as_slice()) => given = rest,
-            _ if wanted.starts_with(MAYBE) => {}
-            _ if wanted.starts_with(ANY) => given = behind_all(given, wanted.as_slice()),
-            Some((line, _)) => return shown(alloc, text, line.as_slice()),
-            None => return Ok(Some(format!(in alloc; "missing: {text}")?)),
+        match behind(given, wanted.as_slice()) {
+            Some(rest) => given = rest,
+            None => return not_met(alloc, text, given),
         }
     }
     match given.first() {
         Some(line) => shown(alloc, "nothing more", line.as_slice()),
         None => Ok(None),
+    }
+}
+
+/// The lines behind those at the front that this line is met by. `None` where it isn't met.
+fn behind<'a>(given: &'a [Vec<u8>], wanted: &[u8]) -> Option<&'a [Vec<u8>]> {
+    match given.split_first() {
+        Some((line, rest)) if meets(line.as_slice(), wanted) => Some(rest),
+        _ if wanted.starts_with(MAYBE) => Some(given),
+        _ if wanted.starts_with(ANY) => Some(behind_all(given, wanted)),
+        _ => None,
+    }
+}
+
+/// What stands there in place of an expected line.
+fn not_met(alloc: Global, wanted: &str, given: &[Vec<u8>]) -> Result<Option<String>, AllocError> {
+    match given.first() {
+        Some(line) => shown(alloc, wanted, line.as_slice()),
+        None => Ok(Some(format!(in alloc; "missing: {wanted}")?)),
     }
 }
 

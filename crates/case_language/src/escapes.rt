@@ -8,20 +8,52 @@ use std::alloc::{AllocError, Global};
 /// bytes of it; `{12 ab}`, so many times the text, or the one that it names. `None` where braces hold something else.
 pub fn decode(alloc: Global, text: &str, names: Names) -> Result<Option<Vec<u8>>, AllocError> {
     let mut out = Vec::new(alloc);
+    if put_decoded(alloc, &mut out, text, names)? {
+        Ok(Some(out))
+    } else {
+        Ok(None)
+    }
+}
+
+/// Puts the bytes of a text, and says whether each of its braces holds something.
+fn put_decoded(
+    alloc: Global,
+    out: &mut Vec<u8>,
+    text: &str,
+    names: Names,
+) -> Result<bool, AllocError> {
     let mut pieces = text.split('{');
     if let Some(first) = pieces.next() {
         out.extend_from_slice(first.as_bytes())?;
     }
     for piece in pieces {
-        let Some((name, literal)) = piece.split_once('}') else {
-            return Ok(None);
-        };
-        if !put_named(alloc, &mut out, name, names)? {
-            return Ok(None);
+        if !put_piece(alloc, out, piece, names)? {
+            return Ok(false);
         }
-        out.extend_from_slice(literal.as_bytes())?;
     }
-    Ok(Some(out))
+    Ok(true)
+}
+
+/// Puts what the braces hold whose opening one stands before the piece, and what follows them.
+fn put_piece(
+    alloc: Global,
+    out: &mut Vec<u8>,
+    piece: &str,
+    names: Names,
+) -> Result<bool, AllocError> {
+    let Some((name, literal)) = piece.split_once('}') else {
+        return Ok(false);
+    };
+    if !put_named(alloc, out, name, names)? {
+        return Ok(false);
+    }
+    put_bytes(out, literal.as_bytes())
+}
+
+/// Puts bytes that are there.
+fn put_bytes(out: &mut Vec<u8>, bytes: &[u8]) -> Result<bool, AllocError> {
+    out.extend_from_slice(bytes)?;
+    Ok(true)
 }
 
 /// Puts what the braces hold, and says whether they hold something.
@@ -32,26 +64,23 @@ fn put_named(
     names: Names,
 ) -> Result<bool, AllocError> {
     match name {
-        "crlf" => out.extend_from_slice(b"\r\n")?,
-        "lf" => out.push(b'\n')?,
-        "cr" => out.push(b'\r')?,
-        "tab" => out.push(b'\t')?,
-        "open" => out.push(b'{')?,
-        "k" => out.extend_from_slice(names.k.to_string(alloc)?.as_bytes())?,
-        _ => return put_other(out, name, names),
+        "crlf" => put_bytes(out, b"\r\n"),
+        "lf" => put_bytes(out, b"\n"),
+        "cr" => put_bytes(out, b"\r"),
+        "tab" => put_bytes(out, b"\t"),
+        "open" => put_bytes(out, b"{"),
+        "k" => put_bytes(out, names.k.to_string(alloc)?.as_bytes()),
+        _ => put_other(out, name, names),
     }
-    Ok(true)
 }
 
 /// Puts a byte by its number, a text by its name, a front of one, or one so many times.
 fn put_other(out: &mut Vec<u8>, name: &str, names: Names) -> Result<bool, AllocError> {
     if let Some(byte) = byte_of(name) {
-        out.push(byte)?;
-        return Ok(true);
+        return put_bytes(out, &[byte]);
     }
     if let Some(text) = names.text_of(name) {
-        out.extend_from_slice(text)?;
-        return Ok(true);
+        return put_bytes(out, text);
     }
     match name.split_once(' ') {
         Some(("front", name)) => put_front(out, name, names),
@@ -69,8 +98,7 @@ fn put_front(out: &mut Vec<u8>, front: &str, names: Names) -> Result<bool, Alloc
         return Ok(false);
     };
     let (front, _) = text.split_at(text.len().min(length as usize));
-    out.extend_from_slice(front)?;
-    Ok(true)
+    put_bytes(out, front)
 }
 
 /// Puts a text, or the one that it names, so many times.
@@ -96,11 +124,16 @@ pub fn encode(alloc: Global, bytes: &[u8]) -> Result<String, AllocError> {
 
 fn put_byte(alloc: Global, out: &mut String, byte: u8) -> Result<(), AllocError> {
     match byte {
-        b'\n' => out.push_str("{lf}")?,
-        b'\r' => out.push_str("{cr}")?,
-        b'{' => out.push_str("{open}")?,
-        32..=126 => out.push(byte as char)?,
-        _ => out.push_str(format!(in alloc; "{{0x{byte:02x}}}")?.as_str())?,
+        b'\n' => out.push_str("{lf}"),
+        b'\r' => out.push_str("{cr}"),
+        b'{' => out.push_str("{open}"),
+        32..=126 => out.push(byte as char),
+        _ => put_number(alloc, out, byte),
     }
-    Ok(())
+}
+
+/// Puts a byte by its number.
+fn put_number(alloc: Global, out: &mut String, byte: u8) -> Result<(), AllocError> {
+    let text = format!(in alloc; "{{0x{byte:02x}}}")?;
+    out.push_str(text.as_str())
 }

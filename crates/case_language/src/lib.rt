@@ -8,6 +8,7 @@ mod escapes;
 mod line;
 mod names;
 mod numbers;
+mod text_words;
 mod words;
 
 pub use case_file::{Case, CaseFile};
@@ -16,4 +17,5 @@ pub use escapes::decode;
 pub use line::Line;
 pub use names::{NamedText, Names};
 pub use numbers::{number_of, numbers_of, plays_of};
+pub use text_words::TextWords;
 pub use words::{in_pieces, number_in, split_front, split_part, split_word};

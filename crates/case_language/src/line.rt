@@ -1,7 +1,7 @@
 //! A line of a case file.
 
 /// The first word of a line, and what follows the space behind it.
-#[derive(Clone, Copy, Debug)]
+#[derive(Clone, Copy)]
 pub struct Line<'a> {
     pub word: &'a str,
     pub rest: &'a str,

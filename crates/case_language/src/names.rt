@@ -2,7 +2,7 @@
 use std::alloc::{AllocError, Global};
 
 /// A text that a file names.
-#[derive(Debug, Drop)]
+#[derive(Drop)]
 pub struct NamedText {
     name: String,
     text: Vec<u8>,
@@ -19,7 +19,7 @@ impl NamedText {
 }
 
 /// The number for which a case is played, and the texts that its file names.
-#[derive(Clone, Copy, Debug)]
+#[derive(Clone, Copy)]
 pub struct Names<'a> {
     /// The number for which the case is played.
     pub k: u64,
