@@ -1,6 +1,6 @@
 //! Calls of `surt_key` and `capture`.
-use crate::words::{always, told};
-use capture::{Memory, accepted_uri, put_all};
+use crate::words::{always, put_next, told};
+use capture::{Memory, accepted_uri};
 use case_language::{number_in, split_word};
 use std::alloc::Global;
 use surt_key::{Key, KeyFault, KeyedUrl, key_of, key_of_address};
@@ -25,8 +25,7 @@ pub fn address_key(alloc: Global, text: &[u8]) -> Result<Vec<u8>, Memory> {
 
 fn keyed_text(alloc: Global, keyed: &KeyedUrl) -> Result<Vec<u8>, Memory> {
     let mut out = told(alloc, keyed.url.as_slice())?;
-    put_all(&mut out, b" ")?;
-    put_all(&mut out, keyed.key.as_slice())?;
+    put_next(&mut out, keyed.key.as_slice())?;
     Ok(out)
 }
 

@@ -13,10 +13,10 @@ mod words;
 use capture::Memory;
 pub use keys::key_in;
 use std::alloc::Global;
-pub use words::{always, number, put_next_number, site_of, told};
+pub use words::{always, number, put_next, put_next_number, site_of, told};
 
 /// A call of a case, and the text that it is given.
-#[derive(Debug, Drop)]
+#[derive(Drop)]
 pub struct Call<'a> {
     pub name: &'a str,
     pub text: Vec<u8>,

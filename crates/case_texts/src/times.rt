@@ -37,7 +37,7 @@ pub fn write_time_of(alloc: Global, text: &[u8]) -> Result<Option<Vec<u8>>, Memo
         return Ok(None);
     };
     match write_time(date) {
-        Ok(time) => Ok(Some(told(alloc, time.as_slice())?)),
+        Ok(time) => always(told(alloc, time.as_slice())),
         Err(Range) => out_of_range(alloc),
     }
 }
@@ -48,7 +48,7 @@ pub fn write_http_of(alloc: Global, text: &[u8]) -> Result<Option<Vec<u8>>, Memo
         return Ok(None);
     };
     match write_http(date) {
-        Ok(time) => Ok(Some(told(alloc, &time)?)),
+        Ok(time) => always(told(alloc, &time)),
         Err(Range) => out_of_range(alloc),
     }
 }
@@ -59,7 +59,7 @@ pub fn write_warc_of(alloc: Global, text: &[u8]) -> Result<Option<Vec<u8>>, Memo
         return Ok(None);
     };
     match write_warc(date) {
-        Ok(time) => Ok(Some(told(alloc, time.as_slice())?)),
+        Ok(time) => always(told(alloc, time.as_slice())),
         Err(Range) => out_of_range(alloc),
     }
 }
@@ -88,5 +88,5 @@ fn digits_written(alloc: Global, digits: usize, date: u64) -> Result<Vec<u8>, Me
 
 /// The answer for a date that has no text.
 fn out_of_range(alloc: Global) -> Result<Option<Vec<u8>>, Memory> {
-    Ok(Some(told(alloc, b"Range")?))
+    always(told(alloc, b"Range"))
 }

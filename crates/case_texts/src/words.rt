@@ -23,6 +23,14 @@ pub fn number(alloc: Global, value: u64) -> Result<Vec<u8>, Memory> {
     Ok(out)
 }
 
+/// Puts a text, behind a space where something stands before it.
+pub fn put_next(out: &mut Vec<u8>, text: &[u8]) -> Result<(), Memory> {
+    if !out.is_empty() {
+        put_all(out, b" ")?;
+    }
+    put_all(out, text)
+}
+
 /// Puts a number, behind a space where something stands before it.
 pub fn put_next_number(out: &mut Vec<u8>, value: u64) -> Result<(), Memory> {
     if !out.is_empty() {
