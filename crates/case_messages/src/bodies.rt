@@ -1,9 +1,9 @@
 //! Calls of `message_body` over bodies. Each text begins with what tells the body's length.
 use crate::faults::fault_text;
 use crate::framings::split_framing;
-use capture::{BODY_LIMIT, Bytes, Framing, Memory, put_all, put_number};
+use capture::{BODY_LIMIT, Bytes, Framing, Memory};
 use case_language::in_pieces;
-use case_texts::told;
+use case_texts::{always, put_next, put_next_number, told};
 use message_body::{BodyProgress, BodyReader, PayloadFault, payload_of, payload_of_cut};
 use std::alloc::Global;
 
@@ -17,7 +17,7 @@ pub fn body_stream(alloc: Global, text: &[u8]) -> Result<Option<Vec<u8>>, Memory
         return Ok(None);
     };
     match reader_of(alloc, framing)? {
-        Some(reader) => Ok(Some(fed(alloc, reader, stream, length)?)),
+        Some(reader) => always(fed(alloc, reader, stream, length)),
         None => Ok(None),
     }
 }
@@ -71,16 +71,14 @@ fn came(
     payload: Result<Bytes, PayloadFault>,
 ) -> Result<Vec<u8>, Memory> {
     let mut out = reached(alloc, word, wire)?;
-    put_all(&mut out, b" ")?;
-    put_all(&mut out, payload_shown(alloc, payload)?.as_slice())?;
+    put_next(&mut out, payload_shown(alloc, payload)?.as_slice())?;
     Ok(out)
 }
 
 /// The word, and how many bytes were taken.
 fn reached(alloc: Global, word: &[u8], wire: &[u8]) -> Result<Vec<u8>, Memory> {
     let mut out = told(alloc, word)?;
-    put_all(&mut out, b" ")?;
-    put_number(&mut out, wire.len() as u64)?;
+    put_next_number(&mut out, wire.len() as u64)?;
     Ok(out)
 }
 
@@ -89,7 +87,7 @@ pub fn whole_payload(alloc: Global, text: &[u8]) -> Result<Option<Vec<u8>>, Memo
     match split_framing(text) {
         Some((framing, wire)) => {
             let payload = payload_of(alloc, framing, wire);
-            Ok(Some(payload_shown(alloc, payload)?))
+            always(payload_shown(alloc, payload))
         }
         None => Ok(None),
     }
@@ -100,7 +98,7 @@ pub fn cut_payload(alloc: Global, text: &[u8]) -> Result<Option<Vec<u8>>, Memory
     match split_framing(text) {
         Some((framing, wire)) => {
             let payload = payload_of_cut(alloc, framing, wire);
-            Ok(Some(payload_shown(alloc, payload)?))
+            always(payload_shown(alloc, payload))
         }
         None => Ok(None),
     }

@@ -2,6 +2,7 @@
 use crate::faults::fault_shown;
 use capture::{Framing, Memory, put_all, put_number};
 use case_language::split_word;
+use case_texts::always;
 use http_head::{WireFault, read_head, read_request_head};
 use message_body::{framing_of, request_framing_of};
 use std::alloc::Global;
@@ -40,7 +41,7 @@ pub fn response_framing(alloc: Global, text: &[u8]) -> Result<Option<Vec<u8>>, M
         return Ok(None);
     };
     match read_head(alloc, text) {
-        Ok(head) => Ok(Some(framing_shown(alloc, framing_of(method == "HEAD", &head))?)),
+        Ok(head) => always(framing_shown(alloc, framing_of(method == "HEAD", &head))),
         Err(WireFault::Memory) => Err(Memory),
         Err(_) => Ok(None),
     }
@@ -49,7 +50,7 @@ pub fn response_framing(alloc: Global, text: &[u8]) -> Result<Option<Vec<u8>>, M
 /// What the head of a request tells.
 pub fn request_framing(alloc: Global, text: &[u8]) -> Result<Option<Vec<u8>>, Memory> {
     match read_request_head(alloc, text) {
-        Ok(head) => Ok(Some(framing_shown(alloc, request_framing_of(&head))?)),
+        Ok(head) => always(framing_shown(alloc, request_framing_of(&head))),
         Err(WireFault::Memory) => Err(Memory),
         Err(_) => Ok(None),
     }

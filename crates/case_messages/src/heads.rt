@@ -1,7 +1,7 @@
 //! Calls of `http_head`.
 use capture::{Items, Memory, put_all, put_number};
 use case_language::{in_pieces, split_front};
-use case_texts::told;
+use case_texts::{always, put_next, put_next_number, told};
 use http_head::{
     Field, HeadProgress, HeadReader, RequestHead, ResponseHead, Version, WireFault,
     find_section_end, first_value, read_head, read_request_head, read_section,
@@ -19,10 +19,8 @@ pub fn request_head(alloc: Global, text: &[u8]) -> Result<Vec<u8>, Memory> {
 
 fn request_parts(alloc: Global, head: &RequestHead) -> Result<Vec<u8>, Memory> {
     let mut out = told(alloc, head.method.as_slice())?;
-    put_all(&mut out, b" ")?;
-    put_all(&mut out, head.target.as_slice())?;
-    put_all(&mut out, b" ")?;
-    put_all(&mut out, version_text(head.version))?;
+    put_next(&mut out, head.target.as_slice())?;
+    put_next(&mut out, version_text(head.version))?;
     put_fields(&mut out, &head.fields)?;
     Ok(out)
 }
@@ -38,10 +36,8 @@ pub fn response_head(alloc: Global, text: &[u8]) -> Result<Vec<u8>, Memory> {
 
 fn response_parts(alloc: Global, head: &ResponseHead) -> Result<Vec<u8>, Memory> {
     let mut out = told(alloc, version_text(head.version))?;
-    put_all(&mut out, b" ")?;
-    put_number(&mut out, u64::from(head.status))?;
-    put_all(&mut out, b" ")?;
-    put_all(&mut out, head.reason.as_slice())?;
+    put_next_number(&mut out, u64::from(head.status))?;
+    put_next(&mut out, head.reason.as_slice())?;
     put_fields(&mut out, &head.fields)?;
     Ok(out)
 }
@@ -72,7 +68,7 @@ pub fn section_value(alloc: Global, text: &[u8]) -> Result<Option<Vec<u8>>, Memo
         return Ok(None);
     };
     match read_section(alloc, section) {
-        Ok(fields) => Ok(Some(value_shown(alloc, &fields, name)?)),
+        Ok(fields) => always(value_shown(alloc, &fields, name)),
         Err(WireFault::Malformed) => Ok(None),
         Err(_) => Err(Memory),
     }
@@ -112,7 +108,7 @@ fn put_fields(out: &mut Vec<u8>, fields: &Items<Field>) -> Result<(), Memory> {
 /// a limit is passed. The text is the length of a piece, a space, and the stream.
 pub fn head_stream(alloc: Global, text: &[u8]) -> Result<Option<Vec<u8>>, Memory> {
     match in_pieces(text) {
-        Some((length, stream)) => Ok(Some(collected(alloc, stream, length)?)),
+        Some((length, stream)) => always(collected(alloc, stream, length)),
         None => Ok(None),
     }
 }

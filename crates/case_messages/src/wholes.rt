@@ -7,7 +7,7 @@ use crate::faults::fault_shown;
 use crate::framings::put_framing;
 use capture::{Memory, put_all, put_number};
 use case_language::in_pieces;
-use case_texts::told;
+use case_texts::{always, told};
 use http_wire::{
     Progress, Received, RequestMessage, RequestReader, ResponseReader, WireFault, read_request,
 };
@@ -44,9 +44,9 @@ pub fn request_stream(alloc: Global, text: &[u8]) -> Result<Option<Vec<u8>>, Mem
     };
     let (front, back) = stream.split_at(stream.len().min(length));
     match first_request(alloc, front, back) {
-        Ok(Some(message)) => Ok(Some(request_shown(alloc, &message)?)),
-        Ok(None) => Ok(Some(told(alloc, b"More")?)),
-        Err(fault) => Ok(Some(fault_shown(alloc, fault)?)),
+        Ok(Some(message)) => always(request_shown(alloc, &message)),
+        Ok(None) => always(told(alloc, b"More")),
+        Err(fault) => always(fault_shown(alloc, fault)),
     }
 }
 
@@ -136,8 +136,8 @@ pub fn response_message(alloc: Global, text: &[u8]) -> Result<Option<Vec<u8>>, M
         return Ok(None);
     };
     match received(alloc, false, stream, length) {
-        Ok(response) => Ok(Some(response_shown(alloc, &response)?)),
-        Err(fault) => Ok(Some(fault_shown(alloc, fault)?)),
+        Ok(response) => always(response_shown(alloc, &response)),
+        Err(fault) => always(fault_shown(alloc, fault)),
     }
 }
 
