@@ -3,7 +3,7 @@
 use crate::entries::entry_of;
 use capture::{Memory, Text, put_all, put_number};
 use case_language::{number_in, split_word};
-use case_texts::{always, told};
+use case_texts::{always, put_next, put_next_number, told};
 use cdx_query::{MatchKind, Query, QueryFault, answer, read_query};
 use cdxj_index::{Entry, Index};
 use cdxj_line::read_line;
@@ -25,12 +25,12 @@ pub fn query_read(alloc: Global, text: &[u8]) -> Result<Vec<u8>, Memory> {
 /// The match type, the key, the start, the times, the limit and the output.
 fn query_text(alloc: Global, query: &Query) -> Result<Vec<u8>, Memory> {
     let mut out = told(alloc, kind_word(query.kind))?;
-    put_word(&mut out, query.key.as_slice())?;
-    put_word(&mut out, query.start.as_slice())?;
+    put_next(&mut out, query.key.as_slice())?;
+    put_next(&mut out, query.start.as_slice())?;
     put_time(&mut out, &query.from)?;
     put_time(&mut out, &query.to)?;
     put_limit(&mut out, query.limit)?;
-    put_word(&mut out, query.media_type())?;
+    put_next(&mut out, query.media_type())?;
     Ok(out)
 }
 
@@ -43,25 +43,17 @@ fn kind_word(kind: MatchKind) -> &'static [u8] {
     }
 }
 
-fn put_word(out: &mut Vec<u8>, word: &[u8]) -> Result<(), Memory> {
-    put_all(out, b" ")?;
-    put_all(out, word)
-}
-
 fn put_time(out: &mut Vec<u8>, time: &Option<Text>) -> Result<(), Memory> {
     match time {
-        Some(digits) => put_word(out, digits.as_slice()),
-        None => put_word(out, b"None"),
+        Some(digits) => put_next(out, digits.as_slice()),
+        None => put_next(out, b"None"),
     }
 }
 
 fn put_limit(out: &mut Vec<u8>, limit: Option<u32>) -> Result<(), Memory> {
     match limit {
-        Some(count) => {
-            put_all(out, b" ")?;
-            put_number(out, u64::from(count))
-        }
-        None => put_word(out, b"None"),
+        Some(count) => put_next_number(out, u64::from(count)),
+        None => put_next(out, b"None"),
     }
 }
 
@@ -156,7 +148,7 @@ fn answer_size(alloc: Global, text: &[u8], count: u32) -> Result<Vec<u8>, Memory
     let answer = answer(alloc, &query, entries.as_slice())?;
     let mut out = Vec::new(alloc);
     put_number(&mut out, answer.as_slice().len() as u64)?;
-    put_word(&mut out, &base32_of(&payload_digest(answer.as_slice())))?;
+    put_next(&mut out, &base32_of(&payload_digest(answer.as_slice())))?;
     Ok(out)
 }
 
