@@ -3,10 +3,10 @@ ghost use Rattle.std.specs.Prelude.{IfOk};
 ghost use Rattle.capture.specs.Payload.{IsPayload};
 ghost use Rattle.http_wire.specs.Messages.{IsOneResponse};
 
-use capture::{Bytes, Memory, put_all, put_number};
-use case_language::split_word;
+use capture::{Bytes, Memory, put_all};
+use case_language::TextWords;
 use case_messages::{fault_shown, received};
-use case_texts::{site_of, told};
+use case_texts::{always, put_next, put_next_number, site_of, told};
 use exchange::{Aim, AimFault, Target, aim_of, forward_text, put_client_head};
 use http_head::{RequestHead, read_request_head};
 use http_wire::{Received, RequestMessage, read_request};
@@ -45,14 +45,11 @@ fn target_text(alloc: Global, target: &Target) -> Result<Vec<u8>, Memory> {
 }
 
 fn put_target(out: &mut Vec<u8>, target: &Target) -> Result<(), Memory> {
-    put_all(out, b"origin ")?;
-    put_all(out, target.uri.as_slice())?;
-    put_all(out, b" ")?;
-    put_all(out, target.host.as_slice())?;
-    put_all(out, b" ")?;
-    put_number(out, u64::from(target.port))?;
-    put_all(out, b" ")?;
-    put_all(out, target.path.as_slice())
+    put_all(out, b"origin")?;
+    put_next(out, target.uri.as_slice())?;
+    put_next(out, target.host.as_slice())?;
+    put_next_number(out, u64::from(target.port))?;
+    put_next(out, target.path.as_slice())
 }
 
 /// The origin that a request of this head is aimed at. `None` where it is aimed at none.
@@ -88,16 +85,15 @@ pub fn forwarded_for(alloc: Global, message: &RequestMessage) -> Result<Option<B
 /// What a client gets of the first response of a stream that ends, or the fault. The text is the method of the request,
 /// `closes` or `stays`, and the stream, each behind a space.
 pub fn passed_on(alloc: Global, text: &[u8]) -> Result<Option<Vec<u8>>, Memory> {
-    let Some((method, rest)) = split_word(text) else {
+    let mut words = TextWords::of(text);
+    let (Some(method), Some(word)) = (words.word(), words.word()) else {
         return Ok(None);
     };
-    let Some((word, stream)) = split_word(rest) else {
-        return Ok(None);
-    };
+    let stream = words.rest;
     let answers_head = method == "HEAD";
     match received(alloc, answers_head, stream, stream.len()) {
-        Ok(response) => Ok(Some(client_shown(alloc, &response, answers_head, word == "closes")?)),
-        Err(fault) => Ok(Some(fault_shown(alloc, fault)?)),
+        Ok(response) => always(client_shown(alloc, &response, answers_head, word == "closes")),
+        Err(fault) => always(fault_shown(alloc, fault)),
     }
 }
 

@@ -2,7 +2,7 @@
 use crate::exchanges::aimed_at;
 use capture::Memory;
 use case_messages::response_shown;
-use case_texts::told;
+use case_texts::{always, told};
 use exchange::{FetchFault, Target, Window, fetch, forward_text};
 use http_wire::{Received, RequestMessage, WireFault, read_request};
 use outside::Dialer;
@@ -20,7 +20,7 @@ pub fn fetched<D: Dialer>(
         Err(_) => return Ok(None),
     };
     match aimed_at(alloc, &message.head)? {
-        Some(target) => Ok(Some(fetched_from(alloc, dialer, &message, &target)?)),
+        Some(target) => always(fetched_from(alloc, dialer, &message, &target)),
         None => Ok(None),
     }
 }

@@ -1,15 +1,15 @@
 //! Calls of `warc_scan` and of `warc_text`.
 use crate::exchanges::{forwarded_for, payload_of_response};
 use capture::{Bytes, Kept, Memory, Taken, Text, put_all, put_number};
-use case_language::{number_in, split_word};
+use case_language::{TextWords, number_in};
 use case_messages::received;
-use case_texts::{number, told};
+use case_texts::{always, number, put_next, put_next_number, told};
 use digest32::{base32_of, payload_digest};
 use http_wire::{Received, read_request};
 use std::alloc::Global;
 use time_text::LATEST;
 use uuid::Uuid;
-use warc_scan::{Group, GroupStep, InfoStep, next_group, next_info};
+use warc_scan::{Group, GroupStep, InfoStep, Revisited, next_group, next_info};
 use warc_text::{SameOf, group_text, info_text};
 
 /// The namespace of the records.
@@ -23,33 +23,29 @@ const SAME_DATE: u64 = 1_706_702_400_000;
 /// The length of a text, and its SHA-1 in base32.
 fn length_and_digest(alloc: Global, text: &[u8]) -> Result<Vec<u8>, Memory> {
     let mut out = number(alloc, text.len() as u64)?;
-    put_all(&mut out, b" ")?;
-    put_all(&mut out, &base32_of(&payload_digest(text)))?;
+    put_next(&mut out, &base32_of(&payload_digest(text)))?;
     Ok(out)
 }
 
 /// The length and the digest of the warcinfo of a volume, which the text names by its number and its birth in
 /// milliseconds.
 pub fn info_of(alloc: Global, text: &[u8]) -> Result<Option<Vec<u8>>, Memory> {
-    let mut words = text.split(|byte| *byte == b' ');
-    let (Some(volume), Some(born)) = (words.next(), words.next()) else {
+    let mut words = TextWords::of(text);
+    let (Some(volume), Some(born)) = (words.small_number(), number_in(words.rest)) else {
         return Ok(None);
     };
-    let (Some(volume), Some(born)) = (number_in(volume), number_in(born)) else {
-        return Ok(None);
-    };
-    let (Ok(volume), Ok(namespace)) = (u32::try_from(volume), Uuid::parse_str(NAMESPACE)) else {
+    let Ok(namespace) = Uuid::parse_str(NAMESPACE) else {
         return Ok(None);
     };
     if born > LATEST {
         return Ok(None);
     }
     let info = info_text(alloc, &namespace, volume, born)?;
-    Ok(Some(length_and_digest(alloc, info.as_slice())?))
+    always(length_and_digest(alloc, info.as_slice()))
 }
 
 /// A text that is scanned.
-#[derive(Clone, Copy, Debug)]
+#[derive(Clone, Copy)]
 pub struct Scanned<'a> {
     pub bytes: &'a [u8],
     /// Whether it is said that the file goes on behind them.
@@ -62,14 +58,12 @@ pub struct Scanned<'a> {
 
 /// `more` or `last`, a number, how many bytes may be asked for at most, and the text, each behind a space.
 pub fn scanned_in(text: &[u8]) -> Option<Scanned<'_>> {
-    let (word, rest) = split_word(text)?;
-    let (number, rest) = split_word(rest)?;
-    let (most, bytes) = split_word(rest)?;
+    let mut words = TextWords::of(text);
     Some(Scanned {
-        bytes,
-        more: word == "more",
-        number: number.parse::<u32>().ok()?,
-        most: most.parse::<u64>().ok()?,
+        more: words.word()? == "more",
+        number: words.small_number()?,
+        most: words.number()?,
+        bytes: words.rest,
     })
 }
 
@@ -78,21 +72,20 @@ pub fn group_step(alloc: Global, text: &[u8]) -> Result<Option<Vec<u8>>, Memory>
     let (Some(scanned), Ok(namespace)) = (scanned_in(text), Uuid::parse_str(NAMESPACE)) else {
         return Ok(None);
     };
-    let shown = match next_group(
-        alloc,
-        scanned.bytes,
-        scanned.more,
-        &namespace,
-        scanned.number,
-    ) {
-        GroupStep::Group(group) => group_shown(alloc, &group)?,
-        GroupStep::End => told(alloc, b"End")?,
-        GroupStep::Unfinished => told(alloc, b"Unfinished")?,
-        GroupStep::Damaged => told(alloc, b"Damaged")?,
-        GroupStep::Need(wanted) => need_shown(alloc, &scanned, wanted)?,
-        GroupStep::Memory => return Err(Memory),
-    };
-    Ok(Some(shown))
+    let (bytes, more) = (scanned.bytes, scanned.more);
+    let step = next_group(alloc, bytes, more, &namespace, scanned.number);
+    always(group_step_shown(alloc, &scanned, step))
+}
+
+fn group_step_shown(alloc: Global, scanned: &Scanned, step: GroupStep) -> Result<Vec<u8>, Memory> {
+    match step {
+        GroupStep::Group(group) => group_shown(alloc, &group),
+        GroupStep::End => told(alloc, b"End"),
+        GroupStep::Unfinished => told(alloc, b"Unfinished"),
+        GroupStep::Damaged => told(alloc, b"Damaged"),
+        GroupStep::Need(wanted) => need_shown(alloc, scanned, wanted),
+        GroupStep::Memory => Err(Memory),
+    }
 }
 
 /// What stands where a volume may begin.
@@ -100,19 +93,23 @@ pub fn info_step(alloc: Global, text: &[u8]) -> Result<Option<Vec<u8>>, Memory> 
     let Some(scanned) = scanned_in(text) else {
         return Ok(None);
     };
-    let shown = match next_info(alloc, scanned.bytes, scanned.more, scanned.number) {
+    let step = next_info(alloc, scanned.bytes, scanned.more, scanned.number);
+    always(info_step_shown(alloc, &scanned, step))
+}
+
+fn info_step_shown(alloc: Global, scanned: &Scanned, step: InfoStep) -> Result<Vec<u8>, Memory> {
+    match step {
         InfoStep::Info {
             namespace,
             born,
             len,
-        } => info_shown(alloc, &namespace, born, len)?,
-        InfoStep::End => told(alloc, b"End")?,
-        InfoStep::Unfinished => told(alloc, b"Unfinished")?,
-        InfoStep::Damaged => told(alloc, b"Damaged")?,
-        InfoStep::Need(wanted) => need_shown(alloc, &scanned, wanted)?,
-        InfoStep::Memory => return Err(Memory),
-    };
-    Ok(Some(shown))
+        } => info_shown(alloc, &namespace, born, len),
+        InfoStep::End => told(alloc, b"End"),
+        InfoStep::Unfinished => told(alloc, b"Unfinished"),
+        InfoStep::Damaged => told(alloc, b"Damaged"),
+        InfoStep::Need(wanted) => need_shown(alloc, scanned, wanted),
+        InfoStep::Memory => Err(Memory),
+    }
 }
 
 fn info_shown(alloc: Global, namespace: &Uuid, born: u64, len: u64) -> Result<Vec<u8>, Memory> {
@@ -124,8 +121,7 @@ fn info_shown(alloc: Global, namespace: &Uuid, born: u64, len: u64) -> Result<Ve
 pub fn need_shown(alloc: Global, scanned: &Scanned, wanted: u64) -> Result<Vec<u8>, Memory> {
     let mut out = told(alloc, b"Need")?;
     if wanted <= scanned.bytes.len() as u64 || wanted > scanned.most {
-        put_all(&mut out, b" ")?;
-        put_number(&mut out, wanted)?;
+        put_next_number(&mut out, wanted)?;
     }
     Ok(out)
 }
@@ -135,38 +131,46 @@ pub fn need_shown(alloc: Global, scanned: &Scanned, wanted: u64) -> Result<Vec<u
 fn group_shown(alloc: Global, group: &Group) -> Result<Vec<u8>, Memory> {
     let mut out = Vec::new(alloc);
     put_parts(&mut out, group)?;
-    match &group.same {
+    put_same(alloc, &mut out, &group.same)?;
+    Ok(out)
+}
+
+/// Puts what a revisit refers to.
+pub fn put_same(alloc: Global, out: &mut Vec<u8>, same: &Option<Revisited>) -> Result<(), Memory> {
+    match same {
         Some(same) => {
             let (id, uri, date) = (&same.id, same.uri.as_str(), same.date);
             let text = format!(in alloc; " of {id} {uri} {date}")?;
-            put_all(&mut out, text.as_bytes())?;
-            Ok(out)
+            put_all(out, text.as_bytes())
         }
-        None => Ok(out),
+        None => Ok(()),
     }
 }
 
 fn put_parts(out: &mut Vec<u8>, group: &Group) -> Result<(), Memory> {
     let stored = &group.stored;
     put_number(out, u64::from(group.number))?;
-    put_all(out, b" ")?;
-    put_all(out, stored.method.as_slice())?;
-    put_all(out, b" ")?;
-    put_all(out, stored.uri.as_slice())?;
-    put_all(out, b" ")?;
-    put_number(out, stored.date)?;
-    put_all(out, b" ")?;
-    put_all(out, &base32_of(&group.digest))?;
+    put_next(out, stored.method.as_slice())?;
+    put_next(out, stored.uri.as_slice())?;
+    put_next_number(out, stored.date)?;
+    put_next(out, &base32_of(&group.digest))?;
     put_all(out, kept_text(&stored.kept))?;
-    for value in [
-        group.payload_len,
-        group.head_at,
-        group.body_at,
-        group.first_len,
-        group.len,
-    ] {
-        put_all(out, b" ")?;
-        put_number(out, value)?;
+    put_numbers(
+        out,
+        &[
+            group.payload_len,
+            group.head_at,
+            group.body_at,
+            group.first_len,
+            group.len,
+        ],
+    )
+}
+
+/// Puts numbers behind others.
+pub fn put_numbers(out: &mut Vec<u8>, values: &[u64]) -> Result<(), Memory> {
+    for value in values {
+        put_next_number(out, *value)?;
     }
     Ok(())
 }
@@ -180,7 +184,7 @@ fn kept_text(kept: &Kept) -> &'static [u8] {
 }
 
 /// A capture whose group is composed.
-#[derive(Clone, Copy, Debug)]
+#[derive(Clone, Copy)]
 struct Asked<'a> {
     number: u32,
     date: u64,
@@ -193,16 +197,13 @@ struct Asked<'a> {
 
 /// A number, a date in milliseconds, the number of another capture or `-`, a target, and the stream, each behind a space.
 fn asked_in(text: &[u8]) -> Option<Asked<'_>> {
-    let (number, rest) = split_word(text)?;
-    let (date, rest) = split_word(rest)?;
-    let (same, rest) = split_word(rest)?;
-    let (uri, stream) = split_word(rest)?;
+    let mut words = TextWords::of(text);
     Some(Asked {
-        number: number.parse::<u32>().ok()?,
-        date: number_in(date.as_bytes())?,
-        same: same.parse::<u32>().ok(),
-        uri,
-        stream,
+        number: words.small_number()?,
+        date: words.number()?,
+        same: words.word()?.parse::<u32>().ok(),
+        uri: words.word()?,
+        stream: words.rest,
     })
 }
 
@@ -211,17 +212,30 @@ pub fn group_of(alloc: Global, text: &[u8]) -> Result<Option<Vec<u8>>, Memory> {
     let Some(asked) = asked_in(text) else {
         return Ok(None);
     };
-    let Ok(response) = received(alloc, false, asked.stream, asked.stream.len()) else {
+    match received(alloc, false, asked.stream, asked.stream.len()) {
+        Ok(response) => group_with(alloc, &asked, &response),
+        Err(_) => Ok(None),
+    }
+}
+
+fn group_with(
+    alloc: Global,
+    asked: &Asked,
+    response: &Received,
+) -> Result<Option<Vec<u8>>, Memory> {
+    let Ok(payload) = payload_of_response(alloc, response) else {
         return Ok(None);
     };
-    let Ok(payload) = payload_of_response(alloc, &response) else {
-        return Ok(None);
-    };
-    let Some(request) = request_for(alloc, asked.uri)? else {
-        return Ok(None);
-    };
-    match taken_of(alloc, &asked, request, &response)? {
-        Some(taken) => composed(alloc, &asked, &taken, payload.as_slice()),
+    match capture_of(alloc, asked, response)? {
+        Some(taken) => composed(alloc, asked, &taken, payload.as_slice()),
+        None => Ok(None),
+    }
+}
+
+/// `None` where no origin is asked for the target.
+fn capture_of(alloc: Global, asked: &Asked, response: &Received) -> Result<Option<Taken>, Memory> {
+    match request_for(alloc, asked.uri)? {
+        Some(request) => taken_of(alloc, asked, request, response),
         None => Ok(None),
     }
 }
@@ -281,5 +295,5 @@ fn composed(
         }
         None => group_text(alloc, &namespace, asked.number, taken, &digest, None)?,
     };
-    Ok(Some(length_and_digest(alloc, text.as_slice())?))
+    always(length_and_digest(alloc, text.as_slice()))
 }

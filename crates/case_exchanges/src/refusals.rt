@@ -1,24 +1,22 @@
 //! The texts that `exchange` has for requests without a response.
 use capture::{Memory, Refusal};
-use case_language::split_word;
-use case_texts::told;
+use case_language::TextWords;
+use case_texts::{always, told};
 use exchange::{memory_text, refusal_text};
 use std::alloc::Global;
 
 /// What a client gets of a refusal. The text is the method of the request, `closes` or `stays`, the refusal's name, and its
 /// numbers, each behind a space.
 pub fn refused(alloc: Global, text: &[u8]) -> Result<Option<Vec<u8>>, Memory> {
-    let Some((method, rest)) = split_word(text) else {
+    let mut words = TextWords::of(text);
+    let (Some(method), Some(word)) = (words.word(), words.word()) else {
         return Ok(None);
     };
-    let Some((word, rest)) = split_word(rest) else {
-        return Ok(None);
-    };
-    let Some(refusal) = refusal_in(rest) else {
+    let Some(refusal) = refusal_in(words.rest) else {
         return Ok(None);
     };
     let text = refusal_text(alloc, &refusal, method == "HEAD", word == "closes")?;
-    Ok(Some(told(alloc, text.as_slice())?))
+    always(told(alloc, text.as_slice()))
 }
 
 /// What a client gets where memory ran out.
@@ -37,16 +35,22 @@ fn refusal_in(text: &[u8]) -> Option<Refusal> {
 }
 
 fn refusal_with(name: &str, numbers: &str) -> Option<Refusal> {
-    let mut numbers = numbers.split(' ');
-    let first = numbers.next()?.parse::<u64>().ok()?;
-    let second = match numbers.next() {
-        Some(number) => number.parse::<u32>().ok()?,
-        None => 0,
-    };
-    if name == "ClockRange" {
-        return Some(Refusal::ClockRange { now: first });
+    match numbers.split_once(' ') {
+        Some((first, second)) => refusal_by(name, first, second),
+        None => refusal_by(name, numbers, "0"),
     }
-    let first = u32::try_from(first).ok()?;
+}
+
+/// The refusal with these numbers.
+fn refusal_by(name: &str, first: &str, second: &str) -> Option<Refusal> {
+    match (first.parse::<u64>(), second.parse::<u32>()) {
+        (Ok(now), Ok(_)) if name == "ClockRange" => Some(Refusal::ClockRange { now }),
+        (Ok(first), Ok(second)) => counted_refusal(name, u32::try_from(first).ok()?, second),
+        _ => None,
+    }
+}
+
+fn counted_refusal(name: &str, first: u32, second: u32) -> Option<Refusal> {
     match name {
         "NoSuch" => Some(Refusal::NoSuch {
             number: first,
