@@ -1,5 +1,5 @@
 //! A call of a disk, as a step of a case names it.
-use case_language::{number_in, split_front};
+use case_language::{TextWords, number_in};
 use disk_model::Kind;
 
 /// A call of a disk and what it is given, or what is done with the disk between two calls.
@@ -68,51 +68,50 @@ impl<'a> Call<'a> {
 
 /// A checkpoint that is written: the number of its volume, and its text.
 fn checkpoint_in<'a>(text: &'a [u8]) -> Option<Call<'a>> {
-    let (volume, rest) = split_front(text)?;
-    Some(Call::WriteCheckpoint(small_in(volume)?, rest))
+    let mut words = TextWords::of(text);
+    match words.small_number() {
+        Some(volume) => Some(Call::WriteCheckpoint(volume, words.rest)),
+        None => None,
+    }
 }
 
 /// What is due in a volume, the last one or another: the text is `WORKERS VOLUME FIRST COUNT NAMESPACE`.
 fn due_in<'a>(text: &'a [u8], last: bool) -> Option<Due<'a>> {
-    let (workers, rest) = split_front(text)?;
-    let (volume, rest) = split_front(rest)?;
-    let (first, rest) = split_front(rest)?;
-    let (count, namespace) = split_front(rest)?;
+    let mut words = TextWords::of(text);
     Some(Due {
-        workers: small_in(workers)?,
-        volume: small_in(volume)?,
-        first: small_in(first)?,
-        count: small_in(count)?,
+        workers: words.small_number()?,
+        volume: words.small_number()?,
+        first: words.small_number()?,
+        count: words.small_number()?,
         last,
-        namespace,
+        namespace: words.rest,
     })
 }
 
 /// A call of a file, or a file that is put.
 fn call_of_file<'a>(name: &str, text: &'a [u8]) -> Option<Call<'a>> {
-    let (kind, rest) = split_front(text)?;
-    let kind = kind_in(kind)?;
+    let mut words = TextWords::of(text);
+    let kind = kind_in(words.bytes()?)?;
     match name {
-        "put" => Some(Call::Put(kind, rest)),
-        "len" => Some(Call::Len(kind, small_in(rest)?)),
-        "sync" => Some(Call::Sync(kind, small_in(rest)?)),
-        _ => call_at(name, kind, rest),
+        "put" => Some(Call::Put(kind, words.rest)),
+        "len" => Some(Call::Len(kind, small_in(words.rest)?)),
+        "sync" => Some(Call::Sync(kind, small_in(words.rest)?)),
+        _ => call_at(name, kind, words.rest),
     }
 }
 
 /// A call of a place in a file.
 fn call_at<'a>(name: &str, kind: Kind, text: &'a [u8]) -> Option<Call<'a>> {
-    let (file, rest) = split_front(text)?;
-    let file = small_in(file)?;
+    let mut words = TextWords::of(text);
+    let file = words.small_number()?;
     if name == "cut" {
-        return Some(Call::Cut(kind, file, number_in(rest)?));
+        return Some(Call::Cut(kind, file, number_in(words.rest)?));
     }
-    let (at, rest) = split_front(rest)?;
-    let at = number_in(at)?;
+    let at = words.number()?;
     match name {
-        "read" => Some(Call::Read(kind, file, at, number_in(rest)?)),
-        "write" => Some(Call::Write(kind, file, at, rest)),
-        "write-each" => Some(Call::WriteEach(kind, file, at, rest)),
+        "read" => Some(Call::Read(kind, file, at, number_in(words.rest)?)),
+        "write" => Some(Call::Write(kind, file, at, words.rest)),
+        "write-each" => Some(Call::WriteEach(kind, file, at, words.rest)),
         _ => None,
     }
 }

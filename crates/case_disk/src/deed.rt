@@ -2,7 +2,7 @@
 use crate::outcome::Outcome;
 
 /// What is done with an archive or with a disk, by its name, and the text that it is given.
-#[derive(Debug, Drop)]
+#[derive(Drop)]
 pub struct Deed<'a> {
     pub name: &'a str,
     pub text: Vec<u8>,

@@ -4,7 +4,7 @@ use disk_model::{Disk, Kind, MemoryDisk};
 use std::alloc::{AllocError, Global};
 
 /// What stands on a disk, and which of its calls are to fail.
-#[derive(Clone, Copy, Debug)]
+#[derive(Clone, Copy)]
 pub struct DiskSetting<'a> {
     /// The volumes that stand on the disk.
     pub volumes: &'a [Vec<u8>],

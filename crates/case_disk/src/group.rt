@@ -7,7 +7,7 @@ ghost use Rattle.volume_scan.specs.Unread.{file_at};
 use crate::opening::{group_told, put_fault};
 use crate::outcome::Outcome;
 use capture::Memory;
-use case_language::{number_in, split_front};
+use case_language::TextWords;
 use disk_model::Disk;
 use std::alloc::Global;
 use uuid::Uuid;
@@ -103,21 +103,16 @@ fn has_place<D: Disk>(journal: &mut Journal<D>, place: Place) -> Result<bool, Di
 
 /// What a text asks for.
 fn asked_in(text: &[u8]) -> Option<Asked> {
-    let (volume, rest) = split_front(text)?;
-    let (at, rest) = split_front(rest)?;
-    let (len, rest) = split_front(rest)?;
-    let (number, namespace) = split_front(rest)?;
+    let mut words = TextWords::of(text);
     let place = Place {
-        volume: u32::try_from(number_in(volume)?).ok()?,
-        at: number_in(at)?,
-        len: number_in(len)?,
+        volume: words.small_number()?,
+        at: words.number()?,
+        len: words.number()?,
     };
-    let number = u32::try_from(number_in(number)?).ok()?;
-    let namespace = namespace_in(namespace)?;
     Some(Asked {
         place,
-        number,
-        namespace,
+        number: words.small_number()?,
+        namespace: namespace_in(words.rest)?,
     })
 }
 

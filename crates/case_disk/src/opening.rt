@@ -18,7 +18,7 @@ use warc_journal::{Journal, Place};
 const MOST: u32 = 1_000_000;
 
 /// A step of the journal of the volumes that were opened.
-#[derive(Debug, Drop)]
+#[derive(Drop)]
 pub struct Step {
     pub work: Work,
     /// Whether it is done only where the step before it was refused.
@@ -26,7 +26,7 @@ pub struct Step {
 }
 
 /// What a step does.
-#[derive(Debug, Drop)]
+#[derive(Drop)]
 pub enum Work {
     /// A group is added.
     Append(Vec<u8>),

@@ -20,7 +20,7 @@ enum Part {
 }
 
 /// The lines of an outcome, in the order in which they are put.
-#[derive(Debug, Drop)]
+#[derive(Drop)]
 pub struct Outcome {
     pub lines: Vec<Vec<u8>>,
 }
