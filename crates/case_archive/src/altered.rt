@@ -9,7 +9,7 @@ use case_disk::reach;
 use disk_model::{Disk, Kind, MemoryDisk};
 
 /// Which byte of a volume's file reads as which.
-#[derive(Clone, Copy, Debug)]
+#[derive(Clone, Copy)]
 pub struct Change {
     pub file: u32,
     /// The place in the file, in bytes.

@@ -19,7 +19,7 @@ use time_text::LATEST;
 use uuid::Uuid;
 
 /// How the archive of a run is opened.
-#[derive(Clone, Copy, Debug)]
+#[derive(Clone, Copy)]
 pub struct Listing {
     pub namespace: Uuid,
     pub limits: Limits,

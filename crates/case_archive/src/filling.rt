@@ -8,13 +8,13 @@ use archive_core::Archive;
 use archive_shelf::Shelf;
 use capture::Memory;
 use case_captures::{Exchanged, Prepared, prepared_of};
-use case_language::{number_in, split_word};
+use case_language::{TextWords, number_in};
 use disk_model::Disk;
 use load_maker::{date, origin, uri};
 use std::alloc::Global;
 
 /// The exchanges of a load from one number up to another, which isn't among them.
-#[derive(Clone, Copy, Debug)]
+#[derive(Clone, Copy)]
 pub struct Load {
     seed: u64,
     from: u32,
@@ -23,12 +23,11 @@ pub struct Load {
 
 /// A load's number, the first exchange's and that behind the last one's.
 pub fn load_in(text: &[u8]) -> Option<Load> {
-    let (seed, rest) = split_word(text)?;
-    let (from, to) = split_word(rest)?;
+    let mut words = TextWords::of(text);
     Some(Load {
-        seed: number_in(seed.as_bytes())?,
-        from: u32::try_from(number_in(from.as_bytes())?).ok()?,
-        to: u32::try_from(number_in(to)?).ok()?,
+        seed: words.number()?,
+        from: words.small_number()?,
+        to: u32::try_from(number_in(words.rest)?).ok()?,
     })
 }
 

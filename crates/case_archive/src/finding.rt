@@ -2,9 +2,9 @@
 use crate::storing::{damage_text, put_digest};
 use crate::words;
 use archive_shelf::{BringFault, Finder, Shelf};
-use capture::{Brought, Memory, put_all, put_number};
+use capture::{Brought, Memory, put_all};
 use case_language::{number_in, split_word};
-use case_texts::key_in;
+use case_texts::{key_in, put_next, put_next_number};
 use cdxj_index::Entry;
 use std::alloc::Global;
 use surt_key::Key;
@@ -25,12 +25,9 @@ pub(crate) fn brought_text(alloc: Global, brought: &Brought) -> Result<Vec<u8>, 
 
 fn put_brought(out: &mut Vec<u8>, brought: &Brought) -> Result<(), Memory> {
     put_all(out, brought.method.as_slice())?;
-    put_all(out, b" ")?;
-    put_all(out, brought.uri.as_slice())?;
-    put_all(out, b" ")?;
-    put_number(out, brought.date)?;
-    put_all(out, b" ")?;
-    put_all(out, brought.head.as_slice())?;
+    put_next(out, brought.uri.as_slice())?;
+    put_next_number(out, brought.date)?;
+    put_next(out, brought.head.as_slice())?;
     put_all(out, brought.payload.as_slice())
 }
 
@@ -130,17 +127,9 @@ pub(crate) fn numbers_of(alloc: Global, entries: &[Entry]) -> Result<Vec<u8>, Me
 
 fn put_numbers(out: &mut Vec<u8>, entries: &[Entry]) -> Result<(), Memory> {
     for entry in entries {
-        put_entry(out, entry)?;
+        put_next_number(out, u64::from(entry.number))?;
     }
     Ok(())
-}
-
-/// Puts the number of an entry, behind a space where it isn't the first.
-fn put_entry(out: &mut Vec<u8>, entry: &Entry) -> Result<(), Memory> {
-    if !out.is_empty() {
-        put_all(out, b" ")?;
-    }
-    put_number(out, u64::from(entry.number))
 }
 
 /// What the index knows of a capture: its volume, and the place and the length of its first record there, its date, status, media

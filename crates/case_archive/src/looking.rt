@@ -18,7 +18,7 @@ use disk_model::{Disk, MemoryDisk};
 use std::alloc::Global;
 
 /// A capture, and how many calls of the disk pass between the look for its payload and the first that fails.
-#[derive(Debug, Drop)]
+#[derive(Drop)]
 pub struct Timed {
     pub calls: u64,
     pub prepared: Prepared,

@@ -15,7 +15,7 @@ use std::alloc::Global;
 use uuid::Uuid;
 
 /// How an archive is opened.
-#[derive(Clone, Copy, Debug)]
+#[derive(Clone, Copy)]
 pub struct Opening {
     pub limits: Limits,
     /// The namespace that is asked for, if any is.

@@ -4,6 +4,7 @@ use archive_core::Archive;
 use archive_shelf::Shelf;
 use archive_volumes::VolumeFacts;
 use capture::{Memory, put_all, put_number};
+use case_texts::put_next_number;
 use disk_model::Disk;
 use std::alloc::Global;
 
@@ -36,8 +37,6 @@ fn put_facts(out: &mut Vec<u8>, facts: &VolumeFacts) -> Result<(), Memory> {
         put_all(out, b", ")?;
     }
     put_number(out, u64::from(facts.volume))?;
-    put_all(out, b" ")?;
-    put_number(out, u64::from(facts.first))?;
-    put_all(out, b" ")?;
-    put_number(out, u64::from(facts.count))
+    put_next_number(out, u64::from(facts.first))?;
+    put_next_number(out, u64::from(facts.count))
 }

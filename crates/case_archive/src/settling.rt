@@ -2,7 +2,7 @@
 use archive_core::Archive;
 use capture::{Failed, Memory};
 use case_disk::reach;
-use case_language::{number_in, split_word};
+use case_language::TextWords;
 use checkpoint::CheckpointFault;
 use disk_model::{Disk, Kind, MemoryDisk};
 use std::alloc::Global;
@@ -18,9 +18,11 @@ pub fn settled<D: Disk>(alloc: Global, archive: &mut Archive<D>) -> Result<Strin
 
 /// The number of a checkpoint's file, and behind a space its text.
 pub fn checkpoint_in(text: &[u8]) -> Option<(u32, &[u8])> {
-    let (file, text) = split_word(text)?;
-    let file = u32::try_from(number_in(file.as_bytes())?).ok()?;
-    Some((file, text))
+    let mut words = TextWords::of(text);
+    match words.small_number() {
+        Some(file) => Some((file, words.rest)),
+        None => None,
+    }
 }
 
 /// Lets a checkpoint's file hold this text alone, durably. The file is made where it is the next one.
