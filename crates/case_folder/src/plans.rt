@@ -1,7 +1,7 @@
 //! Steps that say how calls of the file system go, and who else comes. They tell nothing.
 use crate::quiet::Quiet;
 use capture::Memory;
-use case_language::{number_in, split_word};
+use case_language::{TextWords, number_in};
 use memory_folder::Visit;
 use std::alloc::Global;
 
@@ -62,7 +62,7 @@ fn visit_in(alloc: Global, calls: u64, text: &[u8], synced: bool) -> Result<Opti
 }
 
 /// What a text tells of who comes.
-#[derive(Clone, Copy, Debug)]
+#[derive(Clone, Copy)]
 struct ToldVisit<'a> {
     number: u64,
     name: &'a str,
@@ -71,12 +71,11 @@ struct ToldVisit<'a> {
 
 /// A call's number, a file's name, and what it is to hold, each behind a space.
 fn told_of(text: &[u8]) -> Option<ToldVisit<'_>> {
-    let (number, rest) = split_word(text)?;
-    let (name, bytes) = split_word(rest)?;
+    let mut words = TextWords::of(text);
     Some(ToldVisit {
-        number: number_in(number.as_bytes())?,
-        name,
-        bytes,
+        number: words.number()?,
+        name: words.word()?,
+        bytes: words.rest,
     })
 }
 

@@ -4,7 +4,7 @@ use memory_folder::Plan;
 use std::alloc::Global;
 
 /// Which calls of the file system are to fail, and how.
-#[derive(Clone, Copy, Debug)]
+#[derive(Clone, Copy)]
 pub struct FolderSetting<'a> {
     /// The numbers of the calls that are to fail, from 0.
     pub fails: &'a [u64],
