@@ -6,7 +6,7 @@ use case_texts::told;
 use std::alloc::Global;
 
 /// What the parts of a call's text say of the object.
-#[derive(Debug, Drop)]
+#[derive(Drop)]
 pub struct Given {
     /// `gives TEXT`: what its links give, one behind the other.
     pub texts: Vec<Vec<u8>>,
