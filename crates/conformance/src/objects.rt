@@ -6,7 +6,7 @@ use proxy_run::{CREW, Crew};
 use std::alloc::{AllocError, Global};
 
 /// The objects that a run is given beside the disk.
-#[derive(Debug, Drop)]
+#[derive(Drop)]
 pub struct Objects {
     pub gate: MemoryGate,
     pub crew: Crew<MemoryDialer, MemoryClock>,

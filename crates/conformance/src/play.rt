@@ -19,7 +19,7 @@ use std::thread::Threads;
 use std::{fmt, io};
 
 /// How many cases a file has, and how many of their plays gave something else than was expected.
-#[derive(Clone, Copy, Debug)]
+#[derive(Clone, Copy)]
 pub struct Tally {
     pub cases: u64,
     pub differences: u64,

@@ -1,7 +1,8 @@
 //! What a run gives, as lines of a case.
 use crate::objects::Objects;
-use capture::{Memory, put_all, put_number};
+use capture::{Memory, put_number};
 use case_disk::Outcome;
+use case_texts::{put_next, put_next_number};
 use command::Status;
 use outside::{Heard, Transcript};
 use std::alloc::Global;
@@ -67,9 +68,7 @@ pub fn put_sent(
 /// `HOST PORT TEXT`
 fn sent_text(alloc: Global, transcript: &Transcript) -> Result<Vec<u8>, Memory> {
     let mut text = Vec::from_slice(alloc, transcript.host.as_slice())?;
-    put_all(&mut text, b" ")?;
-    put_number(&mut text, u64::from(transcript.port))?;
-    put_all(&mut text, b" ")?;
-    put_all(&mut text, transcript.sent.as_slice())?;
+    put_next_number(&mut text, u64::from(transcript.port))?;
+    put_next(&mut text, transcript.sent.as_slice())?;
     Ok(text)
 }

@@ -4,7 +4,7 @@ use case_language::{Line, Names};
 use std::alloc::{AllocError, Global};
 
 /// What is played first, and the runs behind it.
-#[derive(Debug, Drop)]
+#[derive(Drop)]
 pub struct Script<'a> {
     pub first: Setting<'a>,
     /// Each is a run over the disk that the stop behind the one before it leaves.

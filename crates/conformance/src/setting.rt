@@ -14,7 +14,7 @@ const READING: u32 = 1;
 const NAMESPACE: &str = "6ba7b810-9dad-11d1-80b4-00c04fd430c8";
 
 /// What a case plays.
-#[derive(Debug, Drop)]
+#[derive(Drop)]
 pub enum Played<'a> {
     /// A run of the program.
     Program,
@@ -41,7 +41,7 @@ pub enum Played<'a> {
 }
 
 /// The numbers of the calls that are to fail, of each object.
-#[derive(Debug, Drop)]
+#[derive(Drop)]
 pub struct Fails {
     pub client: Vec<u64>,
     pub gate: Vec<u64>,
@@ -52,7 +52,7 @@ pub struct Fails {
 }
 
 /// The choices of the stops for each of which a case is played.
-#[derive(Clone, Copy, Debug)]
+#[derive(Clone, Copy)]
 pub struct Stops {
     /// The first choice.
     pub from: u32,
@@ -74,7 +74,7 @@ impl Stops {
 }
 
 /// The words, what client, origins and clock give, what stands on the disk, and which calls are to fail.
-#[derive(Debug, Drop)]
+#[derive(Drop)]
 pub struct Setting<'a> {
     pub played: Played<'a>,
     pub words: Vec<&'a str>,
@@ -215,43 +215,28 @@ impl<'a> Setting<'a> {
         match line.word {
             "call" => self.take_call(alloc, Line::of(line.rest), names),
             "fetch" => self.take_fetch(alloc, line.rest, names),
-            "open" => {
-                self.played = Played::Opening(None);
-                Ok(true)
-            }
-            "files" => {
-                self.played = Played::Files;
-                Ok(true)
-            }
-            "receive" => {
-                self.played = Played::Requests;
-                Ok(true)
-            }
+            "open" => Ok(self.plays(Played::Opening(None))),
+            "files" => Ok(self.plays(Played::Files)),
+            "receive" => Ok(self.plays(Played::Requests)),
+            "archive" => Ok(self.plays(Played::Archive)),
+            "events" => Ok(self.plays(Played::Events)),
+            "disk" => Ok(self.plays(Played::Disk)),
+            "folder" => Ok(self.plays(Played::Folder)),
             "open-skipping" => Ok(self.take_skip(line.rest, names.k)),
             "disk-half-makes" => {
                 self.disk_half_makes = true;
-                Ok(true)
-            }
-            "archive" => {
-                self.played = Played::Archive;
-                Ok(true)
-            }
-            "events" => {
-                self.played = Played::Events;
-                Ok(true)
-            }
-            "disk" => {
-                self.played = Played::Disk;
-                Ok(true)
-            }
-            "folder" => {
-                self.played = Played::Folder;
                 Ok(true)
             }
             "altered" => self.take_change(alloc, line.rest, names.k),
             "do" => self.take_deed(alloc, Line::of(line.rest), names, false),
             _ => self.take_step(alloc, line, names),
         }
+    }
+
+    /// Plays this.
+    fn plays(&mut self, played: Played<'a>) -> bool {
+        self.played = played;
+        true
     }
 
     fn take_call(
@@ -263,27 +248,22 @@ impl<'a> Setting<'a> {
         let Some(text) = decode(alloc, line.rest, names)? else {
             return Ok(false);
         };
-        self.played = Played::Call(Call {
+        Ok(self.plays(Played::Call(Call {
             name: line.word,
             text,
-        });
-        Ok(true)
+        })))
     }
 
     fn take_fetch(&mut self, alloc: Global, text: &str, names: Names) -> Result<bool, AllocError> {
         let Some(text) = decode(alloc, text, names)? else {
             return Ok(false);
         };
-        self.played = Played::Fetch(text);
-        Ok(true)
+        Ok(self.plays(Played::Fetch(text)))
     }
 
     fn take_skip(&mut self, text: &str, k: u64) -> bool {
         match small_of(text, k) {
-            Some(captures) => {
-                self.played = Played::Opening(Some(captures));
-                true
-            }
+            Some(captures) => self.plays(Played::Opening(Some(captures))),
             None => false,
         }
     }
@@ -294,10 +274,7 @@ impl<'a> Setting<'a> {
             return Ok(false);
         };
         match change_of(numbers.as_slice()) {
-            Some(change) => {
-                self.played = Played::Altered(change);
-                Ok(true)
-            }
+            Some(change) => Ok(self.plays(Played::Altered(change))),
             None => Ok(false),
         }
     }
@@ -340,13 +317,10 @@ impl<'a> Setting<'a> {
         let Some(text) = decode(alloc, step.rest, names)? else {
             return Ok(false);
         };
-        let work = match step.word {
-            "append" => Work::Append(text),
-            "roll" => Work::Roll(text),
-            "group" => Work::Group(text),
-            _ => Work::Repair,
-        };
-        self.steps.push(Step { work, again })?;
+        self.steps.push(Step {
+            work: work_of(step.word, text),
+            again,
+        })?;
         Ok(true)
     }
 
@@ -397,6 +371,16 @@ impl<'a> Setting<'a> {
     fn take_fuse(&mut self, text: &str, k: u64) -> bool {
         self.disk_fuse = number_of(text, k);
         self.disk_fuse.is_some()
+    }
+}
+
+/// What a step of the journal does, by its word, with this text.
+fn work_of(word: &str, text: Vec<u8>) -> Work {
+    match word {
+        "append" => Work::Append(text),
+        "roll" => Work::Roll(text),
+        "group" => Work::Group(text),
+        _ => Work::Repair,
     }
 }
 
