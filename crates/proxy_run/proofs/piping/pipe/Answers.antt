@@ -23,8 +23,8 @@ pub stood_on-stood-requires : goal.stood_on-stood-requires
 stood_on-stood-requires g c = λ tells.
     subst (λ (disk : _). KeepsOn g.D.Disk disk c.in-Ok.archive.journal) (sym c.told_by-given.ensures) (c.in-Ok.ensures.stood tells)
 
-pub serve_watched-requires : goal.serve_watched-requires
-serve_watched-requires g c = c.stood_on-stood.ensures.keeps
+pub serve_watched-archive-requires : goal.serve_watched-archive-requires
+serve_watched-archive-requires g c = c.stood_on-stood.ensures.keeps
 
 pub returns : goal.returns
 returns g c =
