@@ -37,6 +37,15 @@ pub struct RequestHead {
     pub text: Bytes,
 }
 
+/// What of a request's head tells its method, and whether a body may stand behind it.
+#[derive(Drop)]
+pub struct RequestOutline {
+    /// The method.
+    pub method: Text,
+    /// Whether a field Transfer-Encoding or Content-Length is there. Without one no body follows (RFC 9112, section 6.3).
+    pub is_framed: bool,
+}
+
 /// The head of a response (RFC 9112, section 4).
 #[derive(Debug, PartialEq, Eq, Drop)]
 pub struct ResponseHead {

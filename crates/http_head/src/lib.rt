@@ -12,10 +12,12 @@ mod section;
 mod seek;
 
 pub use fields::first_value;
-pub use head::{Field, Received, RequestHead, RequestMessage, ResponseHead, Version, WireFault};
+pub use head::{
+    Field, Received, RequestHead, RequestMessage, RequestOutline, ResponseHead, Version, WireFault,
+};
 pub use head_reader::{HeadFed, HeadProgress, HeadReader};
 pub use laws::fronts_stay;
 pub use lines::{count_line_feeds, is_short_head};
-pub use parse::{read_head, read_request_head};
+pub use parse::{read_head, read_request_head, read_request_outline};
 pub use section::{find_section_end, is_section, read_section};
 pub use seek::find_head_end;

@@ -4,10 +4,11 @@ ghost use Rattle.httparse.specs.Ascii.{line_feed};
 ghost use Rattle.httparse.specs.Grammar.{RequestHead as RequestForm, ResponseHead as ResponseForm};
 ghost use Rattle.httparse.specs.Spans.{IsRequestWithin, IsResponseWithin};
 ghost use Rattle.capture.specs.Message.{IsRequestHeadText, IsResponseHeadText};
-ghost use Rattle.http_head.specs.Heads.{HoldsRequest, HoldsResponse, IsHeadFault};
+ghost use Rattle.http_head.specs.Heads.{HoldsRequest, HoldsOutline, HoldsResponse, IsHeadFault};
 ghost use Rattle.http_head.specs.steps.HeadSpans.{SpansRequest, SpansResponse};
 
-use super::head::{RequestHead, ResponseHead, WireFault};
+use super::fields::has_framing;
+use super::head::{RequestHead, RequestOutline, ResponseHead, WireFault};
 use super::lines::line_ends_len;
 use super::parts::{copy_bytes, copy_fields, copy_text, version_of};
 use super::section::make_headers;
@@ -32,6 +33,20 @@ pub fn read_request_head(alloc: Global, text: &[u8]) -> Result<RequestHead, Wire
     let mut headers = make_headers(alloc, text)?;
     match find_request(text, headers.as_mut_slice()) {
         Some(spans) => Ok(copy_request(alloc, text, headers.as_slice(), spans)?),
+        None => Err(WireFault::Malformed),
+    }
+}
+
+/// The method of a request head (RFC 9112, section 3), and whether a body may stand behind it. Of its parts the method
+/// alone is copied. Malformed: the text isn't one whole request head that begins with its first line. There is no limit.
+pub fn read_request_outline(alloc: Global, text: &[u8]) -> Result<RequestOutline, WireFault>
+    ensures ok { IfOk result (λ outline. HoldsOutline text.now outline) }
+    ensures malformed { IsErrOf result WireFault.Malformed → (h : RequestForm) → ¬ (IsRequestHeadText text.now h) }
+    ensures faults { IfErr result IsHeadFault }
+{
+    let mut headers = make_headers(alloc, text)?;
+    match find_request(text, headers.as_mut_slice()) {
+        Some(spans) => Ok(copy_outline(alloc, text, headers.as_slice(), spans)?),
         None => Err(WireFault::Malformed),
     }
 }
@@ -117,6 +132,24 @@ fn copy_request(
         version: version_of(spans.version),
         fields: copy_fields(alloc, text, used)?,
         text: copy_bytes(alloc, text)?,
+    })
+}
+
+/// A copy of the method that the spans cover, and whether a header of theirs tells a length of the body.
+fn copy_outline(
+    alloc: Global,
+    text: &[u8],
+    headers: &[HeaderSpan],
+    spans: RequestSpans,
+) -> Result<RequestOutline, Memory>
+    requires within { IsRequestWithin text.now headers.now spans }
+    requires spans { SpansRequest text.now headers.now spans }
+    ensures { IfOk result (λ outline. HoldsOutline text.now outline) }
+{
+    let (used, _) = headers.split_at(spans.headers);
+    Ok(RequestOutline {
+        method: copy_text(alloc, spans.method.of(text))?,
+        is_framed: has_framing(text, used),
     })
 }
 
