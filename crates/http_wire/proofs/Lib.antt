@@ -5,9 +5,9 @@ mod Exits
 mod FramingLaws
 pub mod FrontParts
 pub mod HeadEnds
-mod HeadsInLaws
 mod HeldLaws
 pub mod LineFronts
+mod MethodLaws
 pub mod OneArrival
 pub mod OneBody
 pub mod OneFirst

@@ -66,7 +66,7 @@ none_is_not_some : (n : ℕ) → None ≡ Some n → ⊥
 none_is_not_some n e = cc
 
 -- one head has one reading
-same_head : (front : List ℕ) (h k : grammar.RequestHead) → IsRequestHeadText front h → IsRequestHeadText front k → h ≡ k
+pub same_head : (front : List ℕ) (h k : grammar.RequestHead) → IsRequestHeadText front h → IsRequestHeadText front k → h ≡ k
 same_head front h k x y = (request_unique front h k [] [] x.reads y.reads).0
 
 abbrev told_framing : Framing → Result Framing WireFault
@@ -104,7 +104,7 @@ untold front wire head fault h framing holds answer short reads told body =
 abbrev tells_framing : Framing → Result Framing FramingFault
 tells_framing framing = Ok framing
 
-one_framing : (a b : Framing) → tells_framing a ≡ tells_framing b → a ≡ b
+pub one_framing : (a b : Framing) → tells_framing a ≡ tells_framing b → a ≡ b
 one_framing a b e = cc
 
 pub bodiless : (front wire : List ℕ) (head : RequestHead) (read : Framing) (h : grammar.RequestHead) (framing : Framing)

@@ -1,7 +1,6 @@
 pub mod Answers
 pub mod Decisions
 pub mod Heads
-pub mod HeadsIn
 pub mod HeldBodies
 pub mod Messages
 pub mod Parts

@@ -3,17 +3,16 @@
 #![tactic(auto)]
 
 mod framing;
-mod heads_in;
 mod held;
 mod laws;
 mod progress;
+mod request_method;
 mod request_parts;
 mod request_reader;
 mod response_parts;
 mod response_reader;
 mod whole_request;
 
-pub use heads_in::request_head_in;
 pub use http_head::{
     Field, HeadFed, HeadProgress, HeadReader, Received, RequestHead, RequestMessage, ResponseHead,
     Version, WireFault, find_head_end, find_section_end, first_value, fronts_stay, read_head,
@@ -26,6 +25,7 @@ pub use message_body::{
     request_framing_of, split_member,
 };
 pub use progress::{Fed, Progress};
+pub use request_method::request_method_in;
 pub use request_reader::RequestReader;
 pub use response_reader::ResponseReader;
 pub use whole_request::read_request;

@@ -1,7 +1,7 @@
 use Rattle.std.proofs.Common.{Err, ap, arith}
 use Rattle.http_wire.proofs.WholeLaws.{untold, bodiless}
-use Rattle.http_wire.proofs.HeadsInLaws.{head_text, same_err}
-use Rattle.http_wire.proofs.heads_in.head_before.Goals as goal
+use Rattle.http_wire.proofs.MethodLaws.{method_of, same_err}
+use Rattle.http_wire.proofs.request_method.framed_method.Goals as goal
 
 pub returns-in-Err-request_framing_of-clause-malformed :
     goal.returns-in-Err-request_framing_of-clause-malformed
@@ -18,4 +18,4 @@ returns-in-Err-check_body-clause-malformed c = λ is h framing reads told body.
 
 pub returns-in-Ok-check_body-clause-ok : goal.returns-in-Ok-check_body-clause-ok
 returns-in-Ok-check_body-clause-ok c =
-    head_text c.args.front.now c.args.wire.now c.in-Ok.head c.in-Ok-request_framing_of.framing c.in-Ok.ensures.ok c.in-Ok-request_framing_of.ensures c.in-Ok-check_body.ensures.body
+    method_of c.args.front.now c.args.wire.now c.in-Ok.head c.in-Ok-request_framing_of.framing c.in-Ok.ensures.ok c.in-Ok-request_framing_of.ensures c.in-Ok-check_body.ensures.body
