@@ -26,7 +26,6 @@ pub mod Pieces
 pub mod ReadLaws
 pub mod RecordTexts
 pub mod Refusals
-pub mod RequestLaws
 pub mod RevisitEnds
 pub mod Samples
 pub mod StepLaws

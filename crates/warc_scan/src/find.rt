@@ -18,7 +18,7 @@ use crate::opening::{Opening, read_opening};
 use crate::opening_parts::strip_request_opening;
 use crate::stop::Stop;
 use capture::Text;
-use http_wire::{WireFault, request_head_in};
+use http_wire::{WireFault, request_method_in};
 use std::alloc::Global;
 use uuid::Uuid;
 use warc_text::{IdKind, id_of};
@@ -139,13 +139,12 @@ fn read_messages<'b>(alloc: Global, found: &Found<'b>) -> Result<(Text, Answer<'
         → ¬ (IsAnswerOf method found.now.answer.now found.now.opening head kept) }
     ensures stops { IfErr result IsMessageStop }
 {
-    let head = match request_head_in(alloc, found.request) {
-        Ok(head) => head,
+    let method = match request_method_in(alloc, found.request) {
+        Ok(method) => method,
         Err(WireFault::Malformed) => return Err(Stop::Wrong),
         // A request without limits has no other fault.
         Err(_) => return Err(Stop::Memory),
     };
-    let method = head.method;
     let answer = read_answer(alloc, method.as_slice(), found.answer, &found.opening)?;
     Ok((method, answer))
 }
