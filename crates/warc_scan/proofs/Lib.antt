@@ -28,6 +28,7 @@ pub mod RecordTexts
 pub mod Refusals
 pub mod RevisitEnds
 pub mod Samples
+pub mod StartLaws
 pub mod StepLaws
 pub mod StopLaws
 pub mod TargetAscii

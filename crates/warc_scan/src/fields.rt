@@ -1,12 +1,12 @@
 //! Fields of a record (ISO 28500, WARC 1.1, sections 4 and 5), and the values in them.
-ghost use Rattle.std.specs.Prelude.{◌≡◌, ◌+◌, ◌<◌, ◌++◌, length, codes, IfOk, IfErr, IfSome, IfNone, IsErrOf};
+ghost use Rattle.std.specs.Prelude.{◌≡◌, ◌+◌, ◌<◌, ◌++◌, length, IfOk, IfErr, IfSome, IfNone, IsErrOf};
 ghost use Rattle.httparse.specs.Ascii.{crlf_bytes};
 ghost use Rattle.capture.specs.Target.{IsAcceptedAs};
 ghost use Rattle.time_text.specs.Texts.{InRange, warc_date};
 ghost use Rattle.warc_text.specs.Groups.{IsOneLine};
-ghost use Rattle.warc_text.specs.Ids.{IsUuid, id_text, uuid_text};
-ghost use Rattle.warc_text.specs.Lines.{date_field, field, id_field};
+ghost use Rattle.warc_text.specs.Ids.{IsUuid, uuid_text};
 ghost use Rattle.warc_scan.specs.steps.Dates.{IsDateLen};
+ghost use Rattle.warc_scan.specs.steps.OpeningFronts.{marked};
 ghost use Rattle.warc_scan.specs.OpenValues.{IsDateMark, IsPartOfDate, IsPartOfTarget, IsPartOfUuid, IsTargetMark};
 ghost use Rattle.warc_scan.specs.Openings.{IsTarget};
 ghost use Rattle.warc_scan.specs.steps.SplitLines.{IsSplitLine};
@@ -34,47 +34,24 @@ const FRACTION_LEN: usize = 24;
 /// The length of a UUID's text.
 const UUID_LEN: usize = 36;
 
-/// What stands behind a field with this value.
-pub fn strip_field<'b>(bytes: &'b [u8], name: &[u8], value: &[u8]) -> Result<&'b [u8], Stop>
-    ensures ok { IfOk result (λ rest. bytes.now ≡ field name.now value.now ++ rest.now) }
-    ensures err { IfErr result (λ stop. Differs stop bytes.now (field name.now value.now)) }
+/// What stands behind the field with this mark, its name and what follows that, and this value.
+pub fn strip_field<'b>(bytes: &'b [u8], mark: &[u8], value: &[u8]) -> Result<&'b [u8], Stop>
+    ensures ok { IfOk result (λ rest. bytes.now ≡ marked mark.now value.now ++ rest.now) }
+    ensures err { IfErr result (λ stop. Differs stop bytes.now (marked mark.now value.now)) }
 {
-    let mark = strip(bytes, name)?;
-    let given = strip(mark, b": ")?;
+    let given = strip(bytes, mark)?;
     let end = strip(given, value)?;
     strip(end, b"\r\n")
 }
 
-/// What stands behind an id (RFC 9562, section 4).
-pub fn strip_id<'b>(bytes: &'b [u8], id: &Uuid) -> Result<&'b [u8], Stop>
-    ensures ok { IfOk result (λ rest. bytes.now ≡ id_text id.now ++ rest.now) }
-    ensures err { IfErr result (λ stop. Differs stop bytes.now (id_text id.now)) }
+/// What stands behind the text of a UUID (RFC 9562, section 4), in lower case and with hyphens.
+pub fn strip_uuid<'b>(bytes: &'b [u8], id: &Uuid) -> Result<&'b [u8], Stop>
+    ensures ok { IfOk result (λ rest. bytes.now ≡ uuid_text id.now ++ rest.now) }
+    ensures err { IfErr result (λ stop. Differs stop bytes.now (uuid_text id.now)) }
 {
     let mut buffer = Uuid::encode_buffer();
     let text = id.hyphenated().encode_lower(&mut buffer);
-    let given = strip(bytes, b"<urn:uuid:")?;
-    let end = strip(given, text.as_bytes())?;
-    strip(end, b">")
-}
-
-/// What stands behind a field whose value is this id.
-pub fn strip_id_field<'b>(bytes: &'b [u8], name: &[u8], id: &Uuid) -> Result<&'b [u8], Stop>
-    ensures ok { IfOk result (λ rest. bytes.now ≡ id_field name.now id.now ++ rest.now) }
-    ensures err { IfErr result (λ stop. Differs stop bytes.now (id_field name.now id.now)) }
-{
-    let mark = strip(bytes, name)?;
-    let given = strip(mark, b": ")?;
-    let end = strip_id(given, id)?;
-    strip(end, b"\r\n")
-}
-
-/// What stands behind a field's name.
-fn strip_name<'b>(bytes: &'b [u8], name: &[u8]) -> Result<&'b [u8], Stop>
-    ensures ok { IfOk result (λ rest. bytes.now ≡ (name.now ++ codes ": ") ++ rest.now) }
-    ensures err { IfErr result (λ stop. Differs stop bytes.now (name.now ++ codes ": ")) }
-{
-    let mark = strip(bytes, name)?;
-    strip(mark, b": ")
+    strip(bytes, text.as_bytes())
 }
 
 /// Reads a date off the front.
@@ -108,14 +85,14 @@ fn date_len(bytes: &[u8]) -> usize
     }
 }
 
-/// Reads a field whose value is a date.
-pub fn read_date_field<'b>(bytes: &'b [u8], name: &[u8]) -> Result<(u64, &'b [u8]), Stop>
-    requires { IsDateMark (name.now ++ codes ": ") }
-    ensures ok { IfOk result (λ read. InRange read.0 × (bytes.now ≡ date_field name.now read.0 ++ read.1.now)) }
-    ensures err { IfErr result (λ stop. NoneStands InRange (λ date. date_field name.now date) stop bytes.now) }
-    ensures ends { IsErrOf result Stop.Open → length bytes.now < length name.now + 28 }
+/// Reads the field with this mark, whose value is a date.
+pub fn read_date_field<'b>(bytes: &'b [u8], mark: &[u8]) -> Result<(u64, &'b [u8]), Stop>
+    requires { IsDateMark mark.now }
+    ensures ok { IfOk result (λ read. InRange read.0 × (bytes.now ≡ marked mark.now (warc_date read.0) ++ read.1.now)) }
+    ensures err { IfErr result (λ stop. NoneStands InRange (λ date. marked mark.now (warc_date date)) stop bytes.now) }
+    ensures ends { IsErrOf result Stop.Open → length bytes.now < length mark.now + 26 }
 {
-    let given = strip_name(bytes, name)?;
+    let given = strip(bytes, mark)?;
     let (date, end) = read_date(given)?;
     let rest = strip(end, b"\r\n")?;
     Ok((date, rest))
@@ -164,19 +141,19 @@ pub fn split_line(bytes: &[u8]) -> Option<(&[u8], &[u8])>
     }
 }
 
-/// Reads a field whose value is a target, with the URL that this is parsed to.
+/// Reads the field with this mark, whose value is a target, with the URL that this is parsed to.
 pub fn read_target_field<'b>(
     alloc: Global,
     bytes: &'b [u8],
-    name: &[u8],
+    mark: &[u8],
 ) -> Result<(&'b [u8], Url, &'b [u8]), Stop>
-    requires { IsTargetMark (name.now ++ codes ": ") }
+    requires { IsTargetMark mark.now }
     ensures ok { IfOk result (λ read. IsTarget read.0.now
-        × (bytes.now ≡ field name.now read.0.now ++ read.2.now)) }
+        × (bytes.now ≡ marked mark.now read.0.now ++ read.2.now)) }
     ensures url { IfOk result (λ read. IsAcceptedAs read.0.now read.1) }
-    ensures err { IfErr result (λ stop. NoneStands IsTarget (λ uri. field name.now uri) stop bytes.now) }
+    ensures err { IfErr result (λ stop. NoneStands IsTarget (λ uri. marked mark.now uri) stop bytes.now) }
 {
-    let given = strip_name(bytes, name)?;
+    let given = strip(bytes, mark)?;
     read_target(alloc, given)
 }
 

@@ -4,14 +4,14 @@ ghost use Rattle.capture.specs.Target.{IsAcceptedAs};
 ghost use Rattle.digest32.specs.Base32.{IsDigest};
 ghost use Rattle.time_text.specs.Texts.{InRange};
 ghost use Rattle.warc_text.specs.Ids.{IsUuid};
-ghost use Rattle.warc_text.specs.Lines.{cut_line, content_line, date_line, digest_line, profile_lines, refers_line};
+ghost use Rattle.warc_text.specs.Lines.{concurrent_line, cut_line, content_line, date_line, digest_line, profile_lines, refers_line};
 ghost use Rattle.warc_text.specs.Records.{request_opening, revisit_end};
 ghost use Rattle.warc_text.specs.declared.kind.RecordKind.TheVariants as kinds;
 ghost use Rattle.warc_scan.specs.Openings.{IsOpening, IsRevisited, IsTarget, reference_of};
 ghost use Rattle.warc_scan.specs.steps.OpeningFronts.{front_text, start_text};
 ghost use Rattle.warc_scan.specs.steps.Stops.{Differs, NoneStands};
 
-use crate::fields::{read_date_field, read_target_field, read_uuid, strip_field, strip_id_field};
+use crate::fields::{read_date_field, read_target_field, read_uuid, strip_field, strip_uuid};
 use crate::form::{DIGEST_FORM, open_form};
 use crate::stop::Stop;
 use crate::strip::strip;
@@ -56,9 +56,11 @@ pub fn strip_start<'b>(bytes: &'b [u8], word: &[u8], id: &Uuid) -> Result<&'b [u
     ensures ok { IfOk result (λ rest. bytes.now ≡ start_text word.now id.now ++ rest.now) }
     ensures err { IfErr result (λ stop. Differs stop bytes.now (start_text word.now id.now)) }
 {
-    let typed = strip(bytes, b"WARC/1.1\r\n")?;
-    let named = strip_field(typed, b"WARC-Type", word)?;
-    strip_id_field(named, b"WARC-Record-ID", id)
+    let typed = strip(bytes, b"WARC/1.1\r\nWARC-Type: ")?;
+    let named = strip(typed, word)?;
+    let given = strip(named, b"\r\nWARC-Record-ID: <urn:uuid:")?;
+    let end = strip_uuid(given, id)?;
+    strip(end, b">\r\n")
 }
 
 /// Reads the digest of a payload.
@@ -101,8 +103,8 @@ pub fn read_common<'b>(
     ensures err { IfErr result (λ stop. NoneStands IsOpening (λ o. front_text word.now id.now o.date o.uri o.digest) stop bytes.now) }
 {
     let dated = strip_start(bytes, word, id)?;
-    let (date, aimed) = read_date_field(dated, b"WARC-Date")?;
-    let (uri, url, digested) = read_target_field(alloc, aimed, b"WARC-Target-URI")?;
+    let (date, aimed) = read_date_field(dated, b"WARC-Date: ")?;
+    let (uri, url, digested) = read_target_field(alloc, aimed, b"WARC-Target-URI: ")?;
     let (digest, rest) = read_digest_line(digested)?;
     Ok(Common {
         date,
@@ -137,7 +139,10 @@ fn strip_content(bytes: &[u8]) -> Result<&[u8], Stop>
     ensures ok { IfOk result (λ rest. bytes.now ≡ content_line kinds.Response ++ rest.now) }
     ensures err { IfErr result (λ stop. Differs stop bytes.now (content_line kinds.Response)) }
 {
-    strip_field(bytes, b"Content-Type", b"application/http;msgtype=response")
+    strip(
+        bytes,
+        b"Content-Type: application/http;msgtype=response\r\n",
+    )
 }
 
 /// Reads what a revisit says of the record that it refers to, its profile and the type of its block.
@@ -150,8 +155,8 @@ pub fn read_revisit_end(alloc: Global, bytes: &[u8]) -> Result<(Refers<'_>, &[u8
         Ok(read) => read,
         Err(stop) => return Err(stop),
     };
-    let (uri, _, dated) = read_target_field(alloc, aimed, b"WARC-Refers-To-Target-URI")?;
-    let (date, profiled) = read_date_field(dated, b"WARC-Refers-To-Date")?;
+    let (uri, _, dated) = read_target_field(alloc, aimed, b"WARC-Refers-To-Target-URI: ")?;
+    let (date, profiled) = read_date_field(dated, b"WARC-Refers-To-Date: ")?;
     let typed = strip_profile(profiled)?;
     let rest = strip_content(typed)?;
     Ok((Refers { id, uri, date }, rest))
@@ -176,12 +181,10 @@ fn strip_profile(bytes: &[u8]) -> Result<&[u8], Stop>
     ensures ok { IfOk result (λ rest. bytes.now ≡ profile_lines ++ rest.now) }
     ensures err { IfErr result (λ stop. Differs stop bytes.now profile_lines) }
 {
-    let truncated = strip_field(
+    strip(
         bytes,
-        b"WARC-Profile",
-        b"http://netpreserve.org/warc/1.1/revisit/identical-payload-digest",
-    )?;
-    strip_field(truncated, b"WARC-Truncated", b"length")
+        b"WARC-Profile: http://netpreserve.org/warc/1.1/revisit/identical-payload-digest\r\nWARC-Truncated: length\r\n",
+    )
 }
 
 /// What stands behind the opening of a request record beside the response with `answer_id`, all of which is known.
@@ -198,9 +201,27 @@ pub fn strip_request_opening<'b>(
 {
     let dated = strip_start(bytes, b"request", id)?;
     let aimed = strip_date_line(dated, date)?;
-    let joined = strip_field(aimed, b"WARC-Target-URI", uri)?;
-    let typed = strip_id_field(joined, b"WARC-Concurrent-To", answer_id)?;
-    strip_field(typed, b"Content-Type", b"application/http;msgtype=request")
+    let joined = strip_field(aimed, b"WARC-Target-URI: ", uri)?;
+    let typed = strip_concurrent_line(joined, answer_id)?;
+    strip_request_content(typed)
+}
+
+/// What stands behind the id of the response that goes with a request.
+fn strip_concurrent_line<'b>(bytes: &'b [u8], id: &Uuid) -> Result<&'b [u8], Stop>
+    ensures ok { IfOk result (λ rest. bytes.now ≡ concurrent_line id.now ++ rest.now) }
+    ensures err { IfErr result (λ stop. Differs stop bytes.now (concurrent_line id.now)) }
+{
+    let given = strip(bytes, b"WARC-Concurrent-To: <urn:uuid:")?;
+    let end = strip_uuid(given, id)?;
+    strip(end, b">\r\n")
+}
+
+/// What stands behind the type of a request's block.
+fn strip_request_content(bytes: &[u8]) -> Result<&[u8], Stop>
+    ensures ok { IfOk result (λ rest. bytes.now ≡ content_line kinds.Request ++ rest.now) }
+    ensures err { IfErr result (λ stop. Differs stop bytes.now (content_line kinds.Request)) }
+{
+    strip(bytes, b"Content-Type: application/http;msgtype=request\r\n")
 }
 
 /// What stands behind the date of a record, which is known.
@@ -212,5 +233,5 @@ fn strip_date_line(bytes: &[u8], date: u64) -> Result<&[u8], Stop>
     let Ok(text) = write_warc(date) else {
         unreachable!();
     };
-    strip_field(bytes, b"WARC-Date", text.as_slice())
+    strip_field(bytes, b"WARC-Date: ", text.as_slice())
 }

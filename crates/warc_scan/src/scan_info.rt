@@ -107,7 +107,7 @@ fn read_front(bytes: &[u8]) -> Result<InfoFront<'_>, Stop>
         Err(stop) => return Err(stop),
     };
     let dated = strip(read.1, b">\r\n")?;
-    let (born, rest) = read_date_field(dated, b"WARC-Date")?;
+    let (born, rest) = read_date_field(dated, b"WARC-Date: ")?;
     Ok(InfoFront {
         id: read.0,
         born,

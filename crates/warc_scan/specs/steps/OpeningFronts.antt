@@ -1,6 +1,11 @@
--- What the openings of records begin with.
+-- What the openings of records begin with, and the lines of which they are.
 use Rattle.std.specs.Prelude.{ℕ, List, ◌++◌, codes}
+use Rattle.httparse.specs.Ascii.{crlf_bytes}
 use Rattle.warc_text.specs.Lines.{date_line, digest_line, field, id_line, target_line, version_line}
+
+-- a line of a mark, which is a name and what follows it, and a value
+unfoldable pub marked : List ℕ → List ℕ → List ℕ
+marked mark value = mark ++ value ++ crlf_bytes
 
 -- what each record begins with, before its date
 abbrev pub start_text : List ℕ → List ℕ → List ℕ

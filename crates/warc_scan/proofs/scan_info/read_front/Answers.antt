@@ -1,11 +1,12 @@
 use Rattle.std.proofs.Common.{[], inl, inr, length, length-append, refl, ap, Err, arith}
 use Rattle.std.specs.Prelude.{codes}
 use Rattle.warc_text.specs.Ids.{IsUuid, id_of, uuid_text}
-use Rattle.warc_text.specs.Lines.{date_line}
+use Rattle.warc_text.specs.Lines.{date_field, date_line, field}
 use Rattle.warc_text.specs.declared.id.IdKind.TheVariants.{Info}
 use Rattle.warc_text.proofs.LengthLaws.{length-uuid_text}
 use Rattle.warc_scan.specs.steps.InfoFronts.{IsInfoFront, front_of_info}
 use Rattle.warc_scan.specs.OpenValues.{IsPartOfUuid, info_mark}
+use Rattle.warc_scan.specs.steps.OpeningFronts.{marked}
 use Rattle.warc_scan.specs.steps.Stops.{NoneStands}
 use Rattle.warc_scan.proofs.Exits.{at_exit, at_open_exit}
 use Rattle.warc_scan.proofs.InfoFronts.{date_refused, front_stands, id_refused}
@@ -57,7 +58,7 @@ returns-in_err-dated-clause-ends c =
     ))
 
 pub returns-in_err-born-clause-err : goal.returns-in_err-born-clause-err
-unfolding date_line
+unfolding date_line date_field field marked
 returns-in_err-born-clause-err c =
     let read = c.in-Ok.ensures.ok in
     at_exit (λ s. NoneStands IsInfoFront front_of_info s c.args.bytes.now) _ c.from_residual-in_err-born.result c.from_residual-in_err-born.ensures.1
@@ -84,7 +85,7 @@ returns-in_err-born-clause-ends c =
     ))
 
 pub returns-clause-ok : goal.returns-clause-ok
-unfolding date_line
+unfolding date_line date_field field marked
 returns-clause-ok c =
     let read = c.in-Ok.ensures.ok in
     front_stands c.args.bytes.now c.in_ok-dated.dated.now c.in_ok-born.rest.now c.in-Ok.read.0 c.in_ok-born.born
