@@ -1,5 +1,5 @@
 -- What was written is the memento.
-use Rattle.std.proofs.Common.{◌≡◌, ℕ, Bool, List, [], ◌++◌, map, ap, sym, ◌∙◌, subst}
+use Rattle.std.proofs.Common.{◌≡◌, ℕ, Bool, List, ◌++◌, map, ap, sym, ◌∙◌, subst}
 use Rattle.httparse.specs.Grammar as grammar
 use Rattle.capture.specs.Fields.{NamedValue, named_values}
 use Rattle.capture.specs.declared.captured.Brought.{Brought}
@@ -12,8 +12,8 @@ use Rattle.replay_answer.specs.Mementos.{IsMemento, Parts, answer_rest, capture_
 same_parts : (text : List ℕ) (h : grammar.ResponseHead) (head : ResponseHead) → HoldsResponseParts text h head → parts_in head ≡ parts_of h
 same_parts text h head is = λ i. record { status = is.status i; reason = is.reason i; fields = is.fields i }
 
-pub is_memento : (base : List ℕ) (capture : Brought) (raw answers_head closes : Bool) (head : ResponseHead) (fields : List Field) (body shown o0 o1 o2 text : List ℕ) → HoldsResponse capture.head head → fields ≡ head.fields → IsBody base capture raw (map named_value fields) shown → body ≡ shown → o0 ≡ [] → o1 ≡ o0 ++ capture_lines base capture raw (parts_in head) → o2 ≡ o1 ++ answer_rest head.status answers_head closes body → text ≡ o2 → IsMemento base capture (delivery_of raw answers_head closes) text
-is_memento base capture raw answers_head closes head fields body shown o0 o1 o2 text holds of_head given is_shown h0 h1 h2 h3 =
+pub is_memento : (base : List ℕ) (capture : Brought) (raw answers_head closes : Bool) (head : ResponseHead) (fields : List Field) (body shown text : List ℕ) → HoldsResponse capture.head head → fields ≡ head.fields → IsBody base capture raw (map named_value fields) shown → body ≡ shown → text ≡ capture_lines base capture raw (parts_in head) ++ answer_rest head.status answers_head closes body → IsMemento base capture (delivery_of raw answers_head closes) text
+is_memento base capture raw answers_head closes head fields body shown text holds of_head given is_shown text_is =
     let h = holds.0 in
     let is = holds.1 in
     let named : map named_value fields ≡ named_values h.fields = ap (map named_value) of_head ∙ is.fields in
@@ -26,7 +26,5 @@ is_memento base capture raw answers_head closes head fields body shown o0 o1 o2 
       read = is.reads;
       body = body;
       given = subst (λ (xs : List NamedValue). IsBody base capture raw xs body) named here;
-      whole =
-          h3 ∙ h2 ∙ ap (λ t. t ++ rest head.status) (h1 ∙ ap (λ t. t ++ lines (parts_in head)) h0)
-          ∙ ap (λ parts. lines parts ++ rest parts.status) same;
+      whole = text_is ∙ ap (λ parts. lines parts ++ rest parts.status) same;
     }

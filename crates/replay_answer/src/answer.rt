@@ -46,10 +46,36 @@ pub fn memento(
         raw,
     };
     let page = page_of(alloc, &replay, head.fields.as_slice())?;
-    let body = body_in(&page, &brought.payload);
-    let mut out = Vec::with_capacity(alloc, room(&replay, &head, body))?;
-    put_capture_lines(&mut out, &replay, &head)?;
-    put_rest(&mut out, head.status, answers_head, closes, body)?;
+    let sent = Sent {
+        body: body_in(&page, &brought.payload),
+        answers_head,
+        closes,
+    };
+    memento_with(alloc, &replay, &head, &sent)
+}
+
+/// How a body is sent.
+#[derive(Clone, Copy)]
+struct Sent<'b> {
+    body: &'b [u8],
+    answers_head: bool,
+    closes: bool,
+}
+
+/// The memento with this body.
+fn memento_with(
+    alloc: Global,
+    replay: &Replay,
+    head: &ResponseHead,
+    sent: &Sent,
+) -> Result<Bytes, Memory>
+    requires { InRange replay.now.capture.now.date }
+    ensures { IfOk result (λ text. text ≡ capture_lines replay.now.site.now.base replay.now.capture.now replay.now.raw (parts_in head.now)
+        ++ answer_rest head.now.status sent.now.answers_head sent.now.closes sent.now.body.now) }
+{
+    let mut out = Vec::with_capacity(alloc, room(replay, head, sent.body))?;
+    put_capture_lines(&mut out, replay, head)?;
+    put_rest(&mut out, head.status, sent)?;
     Ok(Bytes::of(out))
 }
 
@@ -94,19 +120,14 @@ fn put_capture_lines(out: &mut Vec<u8>, replay: &Replay, head: &ResponseHead) ->
 
 /// Puts what is told of the answer itself, and the body where it is sent.
 #[tactic(auto, unfolding(crate::specs::Mementos::answer_rest))]
-fn put_rest(
-    out: &mut Vec<u8>,
-    status: u16,
-    answers_head: bool,
-    closes: bool,
-    body: &[u8],
-) -> Result<(), Memory>
-    ensures { OnOk result (out.new.items ≡ out.old.items ++ answer_rest status answers_head closes body.now) }
+fn put_rest(out: &mut Vec<u8>, status: u16, sent: &Sent) -> Result<(), Memory>
+    ensures { OnOk result (out.new.items ≡ out.old.items
+        ++ answer_rest status sent.now.answers_head sent.now.closes sent.now.body.now) }
 {
-    put_length_where(out, status, body.len())?;
-    put_close_line_where(out, closes)?;
+    put_length_where(out, status, sent.body.len())?;
+    put_close_line_where(out, sent.closes)?;
     put_line_end(out)?;
-    put_body(out, answers_head, status, body)
+    put_body(out, sent.answers_head, status, sent.body)
 }
 
 /// Puts the body, where the answer has one.
