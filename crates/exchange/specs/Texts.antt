@@ -110,16 +110,21 @@ unfoldable pub length_line_unless : Bool → Bool → Framing → ℕ → List �
 length_line_unless without cut framing len =
     if without then [] else (if cut then told_length_line framing else length_line len)
 
+-- what stands in the head that the client gets behind the fields that came
+unfoldable pub answered_head_end : Received → ℕ → Bool → Bool → List ℕ
+answered_head_end received len answers_head closes =
+    cut_line_where received.cut
+    ++ length_line_unless (has_no_length answers_head received.head.status) received.cut received.framing len
+    ++ close_line_where (received.cut || closes)
+    ++ crlf_bytes
+
 -- the head of what the client gets of an origin's response, whose payload is so long; one that was cut closes the connection
 unfoldable pub answered_head : Received → ℕ → Bool → Bool → List ℕ
 answered_head received len answers_head closes =
     status_line received.head.status received.head.reason
     ++ client_lines (keeps_length answers_head received.head.status) (map named_value received.head.fields)
     ++ via_line (minor_of received.head.version)
-    ++ cut_line_where received.cut
-    ++ length_line_unless (has_no_length answers_head received.head.status) received.cut received.framing len
-    ++ close_line_where (received.cut || closes)
-    ++ crlf_bytes
+    ++ answered_head_end received len answers_head closes
 
 -- what the client gets of it: the payload stands behind the head
 abbrev pub answered : Received → List ℕ → Bool → Bool → List ℕ

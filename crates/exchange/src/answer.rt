@@ -2,7 +2,7 @@
 ghost use Rattle.std.specs.Prelude.{◌≡◌, ◌++◌, OnOk};
 ghost use Rattle.http_wire.specs.Messages.{IsOneResponse};
 ghost use Rattle.exchange.specs.Texts as spec;
-ghost use Rattle.exchange.specs.Texts.{answered_head, length_line_unless, told_length_line};
+ghost use Rattle.exchange.specs.Texts.{answered_head, answered_head_end, length_line_unless, told_length_line};
 
 use crate::filter::put_client_fields;
 use crate::lines::{put_cut_line, put_via_line};
@@ -36,8 +36,23 @@ pub fn put_client_head(
         keeps_length(answers_head, head.status),
     )?;
     put_via_line(out, head.version)?;
+    put_head_end(out, received, len, answers_head, closes)
+}
+
+/// Puts what stands in that head behind the fields that came.
+#[tactic(auto, unfolding(crate::specs::Texts::answered_head_end))]
+fn put_head_end(
+    out: &mut Vec<u8>,
+    received: &Received,
+    len: u64,
+    answers_head: bool,
+    closes: bool,
+) -> Result<(), Memory>
+    ensures { OnOk result (out.new.items ≡ out.old.items ++ answered_head_end received.now len answers_head closes) }
+{
+    let without = has_no_length(answers_head, received.head.status);
     put_cut_line(out, received.cut)?;
-    put_length_unless(out, has_no_length(answers_head, head.status), received, len)?;
+    put_length_unless(out, without, received, len)?;
     put_close_line_where(out, received.cut || closes)?;
     put_line_end(out)
 }

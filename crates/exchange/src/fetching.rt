@@ -125,10 +125,31 @@ fn receive<L: Link>(
     ensures gives { IsTrue L.tells → Gives (L.traffic link.old) (L.traffic link.new) }
 {
     let mut reader = ResponseReader::new(alloc, answers_head);
+    receive_with(alloc, link, window, &mut reader, answers_head)
+}
+
+/// The same with this reader, which has read nothing yet.
+fn receive_with<L: Link>(
+    alloc: Global,
+    link: &mut L,
+    window: &mut Window,
+    reader: &mut ResponseReader,
+    answers_head: bool,
+) -> Result<Received, FetchFault>
+    requires nothing { IsTrue L.tells → (L.traffic link.old).given ≡ [] }
+    requires empty { window.old ≡ [] }
+    requires reader { reader.old ≡ new_response answers_head }
+    ensures receives { IsTrue L.tells → Receives answers_head result (L.traffic link.new).given (L.traffic link.new).ended }
+    ensures response { IfOk result (IsOneResponse answers_head) }
+    ensures final_status { IfOk result (λ received. 200 ≤ received.head.status) }
+    ensures within { IfOk result (λ received. length received.wire ≤ BODY_LIMIT) }
+    ensures counts { CountsFetch (L.faults link.old) (L.faults link.new) result }
+    ensures gives { IsTrue L.tells → Gives (L.traffic link.old) (L.traffic link.new) }
+{
     let mut interims = 0;
     'receiving: loop {
         // No `?`: the proof of this exit names the fault.
-        let received = match next_response(alloc, link, window, &mut reader) {
+        let received = match next_response(alloc, link, window, reader) {
             Ok(received) => received,
             Err(fault) => return Err(fault),
         };

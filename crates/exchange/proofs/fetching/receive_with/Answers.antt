@@ -4,7 +4,7 @@ use Rattle.http_head.proofs.FrontLaws.{heads_stay}
 use Rattle.http_wire.specs.ResponseReading.{ResponseReading, new_response}
 use Rattle.exchange.proofs.ArrivalLaws.{further_from, fails, arrives, too_many, awaits_next}
 use Rattle.exchange.proofs.TrafficLaws.{gives_on}
-use Rattle.exchange.proofs.fetching.receive.Goals as goal
+use Rattle.exchange.proofs.fetching.receive_with.Goals as goal
 
 pub returns-in-Err-clause-receives : goal.returns-in-Err-clause-receives
 returns-in-Err-clause-receives g c t =

@@ -4,7 +4,7 @@ use Rattle.capture.specs.declared.limits.TheConstants.{INTERIM_LIMIT}
 use Rattle.http_wire.specs.ResponseReading.{new_response}
 use Rattle.exchange.proofs.ArrivalLaws.{Awaits}
 use Rattle.exchange.specs.Receiving.{Gives}
-use Rattle.exchange.proofs.fetching.receive.Given as goal
+use Rattle.exchange.proofs.fetching.receive_with.Given as goal
 
 abbrev pub invariant-receiving : goal.invariant-receiving
 invariant-receiving g l = record {
