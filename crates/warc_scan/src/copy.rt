@@ -1,25 +1,61 @@
 //! What is kept of a group, in memory of its own.
 ghost use Rattle.std.specs.Prelude.{◌≡◌, option_map, IfOk, IfSome, IsTrue};
 ghost use Rattle.capture.specs.Target.{is_accepted_uri};
+ghost use Rattle.warc_scan.specs.steps.Founds.{AreCopies, IsFound};
 ghost use Rattle.warc_scan.specs.steps.Responses.{kept_by};
 ghost use Rattle.warc_scan.specs.Groups.{reference_in};
 ghost use Rattle.warc_scan.specs.Openings.{reference_of};
 
 use crate::Revisited;
 use crate::answer::{Answer, Form};
+use crate::find::Found;
 use crate::opening_parts::Refers;
 use capture::{Bytes, Kept, Memory, Text};
 use std::alloc::Global;
 
+/// What a group keeps of its parts.
+#[derive(Drop)]
+pub struct Copies {
+    /// The target.
+    pub uri: Text,
+    /// The request.
+    pub request: Bytes,
+    /// The response's head.
+    pub head: Bytes,
+    /// The record that a revisit refers to.
+    pub same: Option<Revisited>,
+    /// What is kept of the response.
+    pub kept: Kept,
+}
+
+/// Copies of these parts, of which this is the response.
+pub fn copy_parts(alloc: Global, found: &Found<'_>, answer: &Answer<'_>) -> Result<Copies, Memory>
+    requires { IsFound found.now }
+    ensures { IfOk result (AreCopies found.now answer.now) }
+{
+    let uri = copy_target(alloc, found.opening.uri)?;
+    let request = copy_bytes(alloc, found.request)?;
+    let head = copy_bytes(alloc, answer.head)?;
+    let same = copy_revisited(alloc, &found.opening.same)?;
+    let kept = copy_kept(alloc, answer)?;
+    Ok(Copies {
+        uri,
+        request,
+        head,
+        same,
+        kept,
+    })
+}
+
 /// A copy of bytes.
-pub fn copy_bytes(alloc: Global, bytes: &[u8]) -> Result<Bytes, Memory>
+fn copy_bytes(alloc: Global, bytes: &[u8]) -> Result<Bytes, Memory>
     ensures { IfOk result (λ copy. copy ≡ bytes.now) }
 {
     Ok(Bytes::of(Vec::from_slice(alloc, bytes)?))
 }
 
 /// What is kept of a response. Which capture a revisit is of isn't known yet.
-pub fn copy_kept(alloc: Global, answer: &Answer<'_>) -> Result<Kept, Memory>
+fn copy_kept(alloc: Global, answer: &Answer<'_>) -> Result<Kept, Memory>
     ensures { IfOk result (λ kept. kept ≡ kept_by answer.now.form answer.now.wire.now) }
 {
     match answer.form {

@@ -1,15 +1,14 @@
 //! Finds the group of a capture in a volume.
 ghost use Rattle.std.specs.Prelude.{◌≡◌, IfErr, IfOk};
 ghost use Rattle.warc_scan.specs.Asking.{AsksForGroup, AsksForMore};
-ghost use Rattle.warc_scan.specs.steps.Founds.{HasMessages, IsFound, IsGroupIn, no_group_by};
+ghost use Rattle.warc_scan.specs.steps.Founds.{AreCopies, HasMessages, IsFound, IsGroupIn, no_group_by};
 ghost use Rattle.warc_scan.specs.Answers.{BeginsWithGroup, TellsGroup, TellsNoGroup};
 ghost use Rattle.warc_scan.specs.Headed.{HasItsParts};
 
-use crate::answer::Answer;
-use crate::copy::{copy_bytes, copy_kept, copy_revisited, copy_target};
-use crate::find::{Found, RECORD_END, Read, read_first};
+use crate::copy::{Copies, copy_parts};
+use crate::find::{RECORD_END, Read, read_first};
 use crate::{Group, GroupStep, HeadedGroup, NoRecord};
-use capture::{Memory, Stored, Text};
+use capture::Stored;
 use std::alloc::Global;
 use uuid::Uuid;
 
@@ -57,12 +56,8 @@ pub fn next_headed_group(
         Ok(read) => read,
         Err(why) => return Err(why),
     };
-    let Read {
-        found,
-        method,
-        answer,
-    } = read;
-    Ok(group_of(alloc, number, found, method, answer)?)
+    let copies = copy_parts(alloc, &read.found, &read.answer)?;
+    Ok(group_of(number, read, copies))
 }
 
 /// The step that tells no group.
@@ -78,37 +73,40 @@ fn no_group(why: NoRecord) -> GroupStep
     }
 }
 
-/// The group of these parts, with these messages.
-fn group_of(
-    alloc: Global,
-    number: u32,
-    found: Found<'_>,
-    method: Text,
-    answer: Answer<'_>,
-) -> Result<HeadedGroup, Memory>
-    requires found { IsFound found }
-    requires messages { HasMessages found method answer }
-    ensures group { IfOk result (λ read. IsGroupIn number found.entry read.group) }
-    ensures parts { IfOk result HasItsParts }
+/// The group that was read, with these copies of its parts.
+fn group_of(number: u32, read: Read<'_>, copies: Copies) -> HeadedGroup
+    requires found { IsFound read.found }
+    requires messages { HasMessages read.found read.method read.answer }
+    requires copies { AreCopies read.found read.answer copies }
+    ensures group { IsGroupIn number read.entry.found result.group }
+    ensures parts { HasItsParts result }
 {
+    let Read {
+        found,
+        method,
+        answer,
+    } = read;
+    let Copies {
+        uri,
+        request,
+        head,
+        same,
+        kept,
+    } = copies;
     let head_at = found.first_len - RECORD_END - found.answer.len() as u64;
     let body_at = head_at + answer.head.len() as u64;
-    let same = copy_revisited(alloc, &found.opening.same)?;
-    let uri = copy_target(alloc, found.opening.uri)?;
-    let request = copy_bytes(alloc, found.request)?;
-    let kept = copy_kept(alloc, &answer)?;
-    let head = copy_bytes(alloc, answer.head)?;
+    let opening = found.opening;
     let group = Group {
         number,
         stored: Stored {
             method,
             uri,
-            date: found.opening.date,
+            date: opening.date,
             request,
             head,
             kept,
         },
-        digest: found.opening.digest,
+        digest: opening.digest,
         payload_len: answer.payload_len,
         same,
         head_at,
@@ -116,10 +114,9 @@ fn group_of(
         first_len: found.first_len,
         len: found.len,
     };
-    let opening = found.opening;
-    Ok(HeadedGroup {
+    HeadedGroup {
         group,
         head: answer.parsed,
         url: opening.url,
-    })
+    }
 }

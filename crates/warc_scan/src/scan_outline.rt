@@ -52,8 +52,8 @@ fn outline_of(
     ensures { IfOk result (MakesOutline number found.now) }
 {
     let head_at = found.first_len - RECORD_END - found.answer.len() as u64;
-    let same = copy_revisited(alloc, &found.opening.same)?;
     let uri = copy_target(alloc, found.opening.uri)?;
+    let same = copy_revisited(alloc, &found.opening.same)?;
     Ok(Outline {
         number,
         method,

@@ -6,11 +6,12 @@ use Rattle.warc_text.specs.Ids.{id_of}
 use Rattle.warc_text.specs.Lines.{ended}
 use Rattle.warc_text.specs.Records.{request_opening}
 use Rattle.warc_text.specs.declared.id.IdKind.TheVariants as ids
-use Rattle.warc_scan.specs.steps.Responses.{IsAnswerOf, IsRead}
+use Rattle.warc_scan.specs.steps.Responses.{IsAnswerOf, IsRead, kept_by}
 use Rattle.warc_scan.specs.Groups.{HasPayloadLen, reference_in}
 use Rattle.warc_scan.specs.Openings.{IsOpening, opening_of, opening_text}
 use Rattle.warc_scan.specs.declared.group.Group.{Group}
 use Rattle.warc_scan.specs.declared.answer.Answer.{Answer}
+use Rattle.warc_scan.specs.declared.copy.Copies.{Copies}
 use Rattle.warc_scan.specs.declared.find.Found.{Found}
 use Rattle.warc_scan.specs.declared.find.Read.{Read}
 use Rattle.warc_text.specs.declared.id.IdKind.TheVariants as ids
@@ -76,6 +77,14 @@ pub record IsGroupIn (number : ℕ) (found : Found) (group : Group) : Type 0 whe
 pub record HasMessages (found : Found) (method : List ℕ) (answer : Answer) : Type 0 where
   pub request : IsRequestOf method found.request.now
   pub answer_is : IsRead method found.answer.now found.opening answer
+
+-- what a group keeps of these parts, of which this is the response
+pub record AreCopies (found : Found) (answer : Answer) (copies : Copies) : Type 0 where
+  pub uri : copies.uri ≡ found.opening.uri.now
+  pub request : copies.request ≡ found.request.now
+  pub head : copies.head ≡ answer.head.now
+  pub same : reference_in copies.same ≡ (opening_of found.opening).same
+  pub kept : copies.kept ≡ kept_by answer.form answer.wire.now
 
 -- the bytes begin with a group that was read
 pub record IsReadIn (namespace : List ℕ) (number : ℕ) (bytes : List ℕ) (read : Read) : Type 0 where
