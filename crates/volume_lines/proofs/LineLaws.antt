@@ -44,7 +44,7 @@ use Rattle.archive_volumes.specs.declared.entry.RecordAt.{RecordAt}
 use Rattle.archive_volumes.specs.Spots.{IsPlaced, IsSpotOf, form_of, is_same_form}
 use Rattle.archive_volumes.specs.declared.spot.Spot.{Spot}
 use Rattle.checkpoint.specs.OfVolume.{IsLineOf}
-use Rattle.volume_lines.specs.OfGroups.{GoesOnBy, IsLineAt, front_of, record_at}
+use Rattle.volume_lines.specs.OfGroups.{GoesOnBy, IsLineAt, front_of, record_at, record_in}
 use Rattle.volume_lines.specs.OfSpots.{TellsSpot}
 
 -- ---- whether a capture is a revisit
@@ -240,7 +240,7 @@ asked_of namespace number bytes group is outline of method same revisit some = r
 
 -- its record stands there
 pub record_of_outline : (group : Group) (outline : Outline) → IsOutlineOf group outline → (volume at : ℕ)
-    → record { number = outline.number; digest = outline.digest; volume = volume; offset = at; len = outline.first_len } ≡ record_at group volume at
+    → record_in outline volume at ≡ record_at group volume at
 record_of_outline group outline of volume at i = record {
   number = of.number_is i;
   digest = of.digest_is i;

@@ -12,6 +12,7 @@ use Rattle.cdxj_line.specs.Lines.{IsWritable}
 use Rattle.cdxj_line.specs.declared.line.Line.{Line}
 use Rattle.cdxj_index.specs.OfLine.{line_at}
 use Rattle.warc_scan.specs.declared.group.Group.{Group}
+use Rattle.warc_scan.specs.declared.outline.Outline.{Outline}
 use Rattle.warc_text.specs.Books.{IsVolumeText, joined}
 use Rattle.warc_text.specs.Records.{info_text}
 use Rattle.archive_volumes.specs.Entries.{told_facts}
@@ -32,6 +33,10 @@ pub record CanBeIn (volume number : ℕ) (line : Line) : Type 0 where
 -- which record is a group's first one, where the group begins there
 abbrev pub record_at : Group → ℕ → ℕ → RecordAt
 record_at group volume at = record { number = group.number; digest = group.digest; volume = volume; offset = at; len = group.first_len }
+
+-- the same as an outline of the group tells it
+abbrev pub record_in : Outline → ℕ → ℕ → RecordAt
+record_in outline volume at = record { number = outline.number; digest = outline.digest; volume = volume; offset = at; len = outline.first_len }
 
 -- the line is that of a group's capture, where the group begins there
 pub record IsLineAt (group : Group) (volume at : ℕ) (line : Line) : Type 0 where

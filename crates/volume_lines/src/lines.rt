@@ -59,12 +59,11 @@ fn line_at<D: Disk>(
     ensures faults { CountsIf (is_read_fault result) (D.faults (disk_of volumes.old.journal)) (D.faults (disk_of volumes.new.journal)) }
 {
     accepted_targets_have_keys();
-    let KeptGroup::Right { bytes: _, outline } = volumes.read_group(
-        told, alloc, walk.spots, number,
-    )?
+    let KeptGroup::Right { bytes, outline } = volumes.read_group(told, alloc, walk.spots, number)?
     else {
         return Ok(None);
     };
+    drop(bytes);
     let len = outline.len;
     if at > walk.end || len > walk.end - at {
         return Ok(None);

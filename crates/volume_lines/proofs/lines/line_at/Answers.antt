@@ -13,8 +13,8 @@ use Rattle.volume_lines.proofs.lines.line_at.Goals.{then-at-walk-via-then-at-wal
 
 pub returns-then-at-walk-clause-exact : goal.returns-then-at-walk-clause-exact
 returns-then-at-walk-clause-exact g c = λ tells place text is number_is within here ends.
-    let group = rw c.in-Right.is at c.in_ok-outline.ensures.some in
-    let own = rw c.in-Right.is at (c.in_ok-outline.ensures.exact tells) in
+    let group = rw c.in-Right.is at c.in_ok-bytes.ensures.some in
+    let own = rw c.in-Right.is at (c.in_ok-bytes.ensures.exact tells) in
     let fits : c.args.at + length c.in-Right.bytes ≤ length text = ends_within is place c.args.at c.args.number within number_is here c.in-Right.bytes own.is in
     let long = group.told.len_is ∙ group.is.places.len in
     elim c.then-at-walk.branch [
@@ -24,8 +24,8 @@ returns-then-at-walk-clause-exact g c = λ tells place text is number_is within 
 
 pub returns-in-Some-clause-exact : goal.returns-in-Some-clause-exact
 returns-in-Some-clause-exact g c = λ tells place text is number_is within here ends.
-    let group = rw c.in-Right.is at c.in_ok-outline.ensures.some in
-    let own = rw c.in-Right.is at (c.in_ok-outline.ensures.exact tells) in
+    let group = rw c.in-Right.is at c.in_ok-bytes.ensures.some in
+    let own = rw c.in-Right.is at (c.in_ok-bytes.ensures.exact tells) in
     let line = rw c.in-Some.is at (c.in_ok-line.ensures.line _ c.args.number c.in-Right.bytes group.group group.is group.told) in
     let book : Book = book_of c.args.volumes.now.held in
     let goes : GoesOnBy is place c.in-Some.line (c.args.at + c.in-Right.outline.len) =
@@ -39,13 +39,13 @@ returns-in-Some-clause-exact g c = λ tells place text is number_is within here 
 
 pub returns-in-None-clause-exact : goal.returns-in-None-clause-exact
 returns-in-None-clause-exact g c = λ tells place text is number_is within here ends.
-    let group = rw c.in-Right.is at c.in_ok-outline.ensures.some in
+    let group = rw c.in-Right.is at c.in_ok-bytes.ensures.some in
     let none = rw c.in-None.is at (c.in_ok-line.ensures.line _ c.args.number c.in-Right.bytes group.group group.is group.told) in
     has_key c.accepted_targets_have_keys.ensures _ c.args.number c.in-Right.bytes group.group group.is none
 
 pub returns-in-Some-clause-fit : goal.returns-in-Some-clause-fit
 returns-in-Some-clause-fit g c =
-    let group = rw c.in-Right.is at c.in_ok-outline.ensures.some in
+    let group = rw c.in-Right.is at c.in_ok-bytes.ensures.some in
     let number : c.in-Right.outline.number ≡ c.args.number = group.told.number_is ∙ group.is.number_is in
     kept_can (λ f. f.0) (CanBeIn c.args.walk.volume c.args.number) (TellsKept c.args.walk.spots.now c.args.number) c.if_kept.result c.in-Some.line
     c.if_kept.ensures.some
