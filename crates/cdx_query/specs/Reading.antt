@@ -60,13 +60,17 @@ IsOutput [] json = json ≡ false
 IsOutput (value ∷ []) json = value ≡ output_text json
 IsOutput (value ∷ other ∷ values) json = ⊥
 
--- the text is this query
-pub record IsQuery (text : List ℕ) (query : Query) : Type 0 where
-  pub known : IsTrue (are_known (parts_of text))
-  pub key : IsKeyOf (values_of url_name (parts_of text)) query.key
-  pub kind : IsKind (values_of match_type_name (parts_of text)) query.kind
-  pub from : IsTime (values_of from_name (parts_of text)) query.from
-  pub to : IsTime (values_of to_name (parts_of text)) query.to
-  pub limit : IsLimit (values_of limit_name (parts_of text)) query.limit
-  pub output : IsOutput (values_of output_name (parts_of text)) query.json
+-- the parts are those of this query
+pub record IsQueryOf (parts : List (List ℕ)) (query : Query) : Type 0 where
+  pub known : IsTrue (are_known parts)
+  pub key : IsKeyOf (values_of url_name parts) query.key
+  pub kind : IsKind (values_of match_type_name parts) query.kind
+  pub from : IsTime (values_of from_name parts) query.from
+  pub to : IsTime (values_of to_name parts) query.to
+  pub limit : IsLimit (values_of limit_name parts) query.limit
+  pub output : IsOutput (values_of output_name parts) query.json
   pub start : query.start ≡ start_of query.kind query.key
+
+-- the text is this query
+abbrev pub IsQuery : List ℕ → Query → Type 0
+IsQuery text query = IsQueryOf (parts_of text) query

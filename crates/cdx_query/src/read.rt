@@ -1,9 +1,9 @@
 //! Reading a query.
-ghost use Rattle.std.specs.Prelude.{◌≡◌, ◌≤◌, length, Err, IfOk};
+ghost use Rattle.std.specs.Prelude.{◌≡◌, ◌≤◌, length, map, Err, IfOk};
 ghost use Rattle.std.specs.List.{prefix_len};
 ghost use Rattle.cdx_query.specs.Picking as spec;
 ghost use Rattle.cdx_query.specs.Picking.{is_of_host};
-ghost use Rattle.cdx_query.specs.Reading.{IsQuery};
+ghost use Rattle.cdx_query.specs.Reading.{IsQuery, IsQueryOf};
 ghost use Rattle.cdx_query.specs.declared.query.Query.{Query};
 
 use crate::parts::{FROM, TO, are_known, parts_of};
@@ -30,7 +30,14 @@ pub fn read_query(alloc: Global, text: &[u8]) -> Result<Query, QueryFault>
     ensures bad { result ≡ Err QueryFault.BadQuery → (query : Query) → ¬ IsQuery text.now query }
 {
     let parts = parts_of(alloc, text)?;
-    let parts = parts.as_slice();
+    query_of(alloc, parts.as_slice())
+}
+
+/// The query that these parts make.
+fn query_of(alloc: Global, parts: &[&[u8]]) -> Result<Query, QueryFault>
+    ensures query { IfOk result (IsQueryOf (map (λ p. p.now) parts.now)) }
+    ensures bad { result ≡ Err QueryFault.BadQuery → (query : Query) → ¬ IsQueryOf (map (λ p. p.now) parts.now) query }
+{
     if !are_known(parts) {
         return Err(QueryFault::BadQuery);
     }
@@ -38,9 +45,9 @@ pub fn read_query(alloc: Global, text: &[u8]) -> Result<Query, QueryFault>
     let limit = limit_in(alloc, parts)?;
     let json = output_in(alloc, parts)?;
     let key = key_in(alloc, parts)?;
+    let start = start_of(&key, kind)?;
     let from = time_in(alloc, parts, FROM)?;
     let to = time_in(alloc, parts, TO)?;
-    let start = start_of(&key, kind)?;
     Ok(Query {
         key,
         start,
