@@ -22,7 +22,7 @@ use Rattle.std.proofs.lemmas.Map.Views.{btree_map_len-from_list, lookup-from_Con
 use Rattle.std.proofs.lemmas.Option.{get_or_from_slice_get, slice_get_within}
 use Rattle.cdxj_index.specs.Facts.{Facts}
 use Rattle.cdxj_index.specs.Groups.{AreGroups, Group}
-use Rattle.cdxj_index.specs.Maps.{AreKeys, AreMaps, AreNumbers, AreOfKey, Captures, Keys, Shared, entries_of, entry_of, numbered, shown_all}
+use Rattle.cdxj_index.specs.Maps.{AreKeys, AreMaps, AreNumbers, AreOfKey, Captures, Keys, Shared, by_numbers, entries_of, entry_of, numbered, shown_all, values_shown}
 use Rattle.cdxj_index.specs.Order.{order}
 use Rattle.cdxj_index.specs.Queries.{IsIndex}
 use Rattle.cdxj_index.proofs.Orders.{equal_from_is_eq, key_tied, order_total}
@@ -69,14 +69,6 @@ keys_made groups keys are is = (record { ordered = is.1; each = each }, ap shown
         subst (AreOfKey key) at.3 (subst (λ k. AreOfKey k at.0.1) keyed of)
 
 -- ---- entries by number
-
--- each entry under its number
-abbrev pub by_numbers : List Facts → List (ℕ × Facts)
-by_numbers entries = map (λ (e : Facts). (e.number, e)) entries
-
--- the entries behind the pointers
-abbrev pub values_shown : List (ℕ × Shared) → List (ℕ × Facts)
-values_shown numbers = map (λ (p : ℕ × Shared). (p.0, entry_of p.1)) numbers
 
 map_push : {A X : Type 0} (f : A → X) (list : List A) (a : A) → map f (list ++ a ∷ []) ≡ map f list ++ f a ∷ []
 map_push f [] a = refl
@@ -231,15 +223,17 @@ pub made_from : {S A V : Type 0} (steps : S → Option A → S → Type 0) (Give
     → ((it : S) × (xs : List A) × Gives it × DrainsIf steps (Unit {0}) it xs × Q xs v) → ((it : S) → Gives it → YieldsList steps (λ x. x) it items) → Q items v
 made_from steps Gives Q items v ran gives = subst (λ xs. Q xs v) (sym (map_itself ran.1) ∙ items_from_drains ran.1 ran.3 (gives ran.0 ran.2)) ran.4
 
--- the maps that are made once all were taken
-pub all_made : (groups : List Group) (numbers settled : List (ℕ × Shared)) (left all : List Facts) (keys : Keys) (made : BTreeMap ℕ Shared) → IsIndex all → AreGroups groups → values_shown numbers ≡ by_numbers (shown_all groups) → shown_all groups ++ left ≡ all → left ≡ []
-    → IsPermutation numbers settled → IsFromIterResult (slice_cmp nat_cmp) groups keys → IsFromIterResult nat_cmp settled made → AreMaps keys made × (entries_of keys ≡ all)
-all_made groups numbers settled left all keys made index are same whole none moved is is₂ =
+-- once nothing is left, all were taken
+pub all_taken : (done left all : List Facts) → done ++ left ≡ all → left ≡ [] → done ≡ all
+all_taken done left all whole none = append_none done left none ∙ whole
+
+-- the maps that are made of them
+pub all_made : (groups : List Group) (numbers settled : List (ℕ × Shared)) (keys : Keys) (made : BTreeMap ℕ Shared) → IsIndex (shown_all groups) → AreGroups groups → values_shown numbers ≡ by_numbers (shown_all groups)
+    → IsPermutation numbers settled → IsFromIterResult (slice_cmp nat_cmp) groups keys → IsFromIterResult nat_cmp settled made → AreMaps keys made × (entries_of keys ≡ shown_all groups)
+all_made groups numbers settled keys made index are same moved is is₂ =
     let both = keys_made groups keys are is in
-    let list : shown_all groups ≡ all = append_none (shown_all groups) left none ∙ whole in
-    let listed : entries_of keys ≡ all = both.1 ∙ list in
-    let of_all : AreNumbers all made = numbers_made numbers settled made all index (same ∙ ap by_numbers list) moved is₂ in
-    (record { of_keys = both.0; of_numbers = subst (λ es. AreNumbers es made) (sym listed) of_all }, listed)
+    let of_all : AreNumbers (shown_all groups) made = numbers_made numbers settled made (shown_all groups) index same moved is₂ in
+    (record { of_keys = both.0; of_numbers = subst (λ es. AreNumbers es made) (sym both.1) of_all }, both.1)
 
 -- what stands under the number of an entry that is left is that entry
 pub held_next : (all : List Facts) (numbers : BTreeMap ℕ Shared) (done left rest : List Facts) (e : Facts) (s : Shared) → AreNumbers all numbers → done ++ left ≡ all → left ≡ e ∷ rest → get nat_cmp numbers e.number ≡ Some s → entry_of s ≡ e

@@ -34,6 +34,14 @@ shown_all keys = flat_map (λ e. shown e.1) keys
 abbrev pub entries_of : Keys → List Facts
 entries_of keys = shown_all keys.entries
 
+-- each entry under its number
+abbrev pub by_numbers : List Facts → List (ℕ × Facts)
+by_numbers entries = map (λ (e : Facts). (e.number, e)) entries
+
+-- the entries behind the pointers
+abbrev pub values_shown : List (ℕ × Shared) → List (ℕ × Facts)
+values_shown numbers = map (λ (p : ℕ × Shared). (p.0, entry_of p.1)) numbers
+
 -- the entry at a date and number
 abbrev pub held : Captures → Moment → Option Facts
 held captures moment = option_map entry_of (lookup (is_at (moment_cmp moment)) (placed captures))

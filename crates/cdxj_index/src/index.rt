@@ -1,11 +1,15 @@
 //! The index.
-ghost use Rattle.std.specs.Prelude.{◌≡◌, ◌↔◌, ◌+◌, ◌≤◌, [], length, None, IsTrue, IfOk, OnOk, OnErr, IfSome, IfNone, option_copied};
-ghost use Rattle.cdxj_index.specs.Order.{with_entry, without};
+ghost use Rattle.std.specs.Prelude.{◌≡◌, ◌↔◌, ◌+◌, ◌≤◌, [], ◌∷◌, ◌++◌, length, Contains, None, IsTrue, IfOk, OnOk, OnErr, IfSome, IfNone, option_copied};
+ghost use Rattle.std.specs.declared.cmp.Ordering.TheVariants.{Less};
+ghost use Rattle.cdxj_index.specs.Facts.{Facts};
+ghost use Rattle.cdxj_index.specs.Groups.{AreGroups};
+ghost use Rattle.cdxj_index.specs.Maps.{by_numbers, entry_of, shown_all, values_shown};
+ghost use Rattle.cdxj_index.specs.Order.{order, with_entry, without};
 ghost use Rattle.cdxj_index.specs.Queries.{HasNone, IsIndex, IsNearest, of_key, starting_with, with_number};
 
 use crate::entry::number_of;
-use crate::entry_map::{EntryMap, append, first_after, first_from, last_until};
-use crate::settle::settle;
+use crate::entry_map::{EntryMap, Group, append, first_after, first_from, last_until};
+use crate::settle::{Numbered, settle};
 use crate::shared::Shared;
 use crate::{Entry, Range, SharedEntry, Starting, Steps};
 use capture::Memory;
@@ -37,6 +41,25 @@ impl Model for Index {
     ghost invariant = { λ index. AreMaps index.map.keys index.numbers };
 }
 
+/// Puts an entry that comes after all others behind them, and under its number.
+fn put_last(
+    alloc: Global,
+    entry: Shared,
+    numbers: &mut Vec<Numbered>,
+    groups: &mut Vec<Group>,
+) -> Result<(), Memory>
+    requires groups { AreGroups groups.old.items }
+    requires last { (other : Facts) → Contains (shown_all groups.old.items) other → order other (entry_of entry) ≡ Less }
+    requires numbers { values_shown numbers.old.items ≡ by_numbers (shown_all groups.old.items) }
+    ensures groups { OnOk result (AreGroups groups.new.items) }
+    ensures shown { OnOk result (shown_all groups.new.items ≡ shown_all groups.old.items ++ entry_of entry ∷ []) }
+    ensures numbers { OnOk result (values_shown numbers.new.items ≡ by_numbers (shown_all groups.new.items)) }
+{
+    let facts = entry.facts();
+    numbers.push((facts.number, entry.share()?))?;
+    append(alloc, groups, entry)
+}
+
 impl Index {
     /// No entries. Takes no memory.
     pub fn new(alloc: Global) -> Index
@@ -62,10 +85,22 @@ impl Index {
         let all = Arc::new(alloc, entries)?;
         for place in 0..count {
             let entry = Shared::among(alloc, &all, place)?;
-            let facts = entry.facts();
-            numbers.push((facts.number, entry.share()?))?;
-            append(alloc, &mut groups, entry)?;
+            put_last(alloc, entry, &mut numbers, &mut groups)?;
         }
+        Index::of_parts(alloc, numbers, groups)
+    }
+
+    /// The index of the entries in these groups, which stand under their numbers too.
+    fn of_parts(
+        alloc: Global,
+        mut numbers: Vec<Numbered>,
+        groups: Vec<Group>,
+    ) -> Result<Index, Memory>
+        requires index { IsIndex (shown_all groups.items) }
+        requires groups { AreGroups groups.items }
+        requires numbers { values_shown numbers.items ≡ by_numbers (shown_all groups.items) }
+        ensures { IfOk result (λ index. index ≡ shown_all groups.items) }
+    {
         settle(alloc, &mut numbers);
         Ok(Index {
             map: EntryMap::of_groups(alloc, groups)?,
@@ -83,14 +118,9 @@ impl Index {
             let Some(shared) = self.numbers.get(&entry.number) else {
                 unreachable!()
             };
-            numbers.push((entry.number, shared.share()?))?;
-            append(alloc, &mut groups, shared.share()?)?;
+            put_last(alloc, shared.share()?, &mut numbers, &mut groups)?;
         }
-        settle(alloc, &mut numbers);
-        Ok(Index {
-            map: EntryMap::of_groups(alloc, groups)?,
-            numbers: BTreeMap::from_iter(alloc, numbers)?,
-        })
+        Index::of_parts(alloc, numbers, groups)
     }
 
     /// Puts an entry in its place. After `Memory` the index is as it was.

@@ -1,7 +1,6 @@
 use Rattle.std.proofs.Common.{◌≡◌, ◌++◌}
 use Rattle.cdxj_index.specs.Groups.{AreGroups}
-use Rattle.cdxj_index.specs.Maps.{shown_all}
-use Rattle.cdxj_index.proofs.Built.{by_numbers, values_shown}
+use Rattle.cdxj_index.specs.Maps.{by_numbers, shown_all, values_shown}
 use Rattle.cdxj_index.proofs.index.Index.again.Given as goal
 
 abbrev pub invariant-loop-entry : goal.invariant-loop-entry
