@@ -14,7 +14,6 @@ use std::alloc::Global;
 const ADDED: usize = 256;
 
 /// The text that is sent to the origin for this request (RFC 9110, section 7.6; RFC 9112, section 3.2).
-#[tactic(auto, unfolding(crate::specs::Texts::forwarded))]
 pub fn forward_text(
     alloc: Global,
     message: &RequestMessage,
@@ -22,22 +21,36 @@ pub fn forward_text(
 ) -> Result<Bytes, Memory>
     ensures { IfOk result (λ text. text ≡ forwarded message.now target.now) }
 {
-    let head = &message.head;
-    let payload = message.payload.as_slice();
-    let capacity = head.text.as_slice().len().saturating_add(payload.len());
+    let len = message.payload.as_slice().len();
+    let capacity = message.head.text.as_slice().len().saturating_add(len);
     let mut out = Vec::with_capacity(
         alloc,
         capacity.saturating_add(target.host.as_slice().len() + ADDED),
     )?;
-    put_request_line(&mut out, head.method.as_slice(), target.path.as_slice())?;
-    put_host_line(&mut out, target.host.as_slice(), target.port)?;
-    put_origin_fields(alloc, &mut out, head.fields.as_slice())?;
-    put_via_line(&mut out, head.version)?;
-    put_framed_length(&mut out, message.framing, payload)?;
-    put_close_line(&mut out)?;
-    put_line_end(&mut out)?;
-    put_all(&mut out, payload)?;
+    put_forwarded(alloc, &mut out, message, target)?;
     Ok(Bytes::of(out))
+}
+
+/// Puts that text.
+#[tactic(auto, unfolding(crate::specs::Texts::forwarded))]
+fn put_forwarded(
+    alloc: Global,
+    out: &mut Vec<u8>,
+    message: &RequestMessage,
+    target: &Target,
+) -> Result<(), Memory>
+    ensures { OnOk result (out.new.items ≡ out.old.items ++ forwarded message.now target.now) }
+{
+    let head = &message.head;
+    let payload = message.payload.as_slice();
+    put_request_line(out, head.method.as_slice(), target.path.as_slice())?;
+    put_host_line(out, target.host.as_slice(), target.port)?;
+    put_origin_fields(alloc, out, head.fields.as_slice())?;
+    put_via_line(out, head.version)?;
+    put_framed_length(out, message.framing, payload)?;
+    put_close_line(out)?;
+    put_line_end(out)?;
+    put_all(out, payload)
 }
 
 /// Puts the length of the payload, where there is a body.

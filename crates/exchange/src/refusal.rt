@@ -20,7 +20,6 @@ pub fn memory_text() -> &'static [u8]
 
 /// The answer to a request that is refused, after which the connection closes or not. One to HEAD has no body, and the
 /// length that the body of an answer to GET has (RFC 9110, section 9.3.2).
-#[tactic(auto, unfolding(crate::specs::Refusals::refusal_text))]
 pub fn refusal_text(
     alloc: Global,
     refusal: &Refusal,
@@ -31,11 +30,26 @@ pub fn refusal_text(
 {
     let body = body_of(alloc, refusal)?;
     let mut out = Vec::with_capacity(alloc, LONGEST)?;
-    put_start(&mut out, refusal)?;
-    put_allow_line(&mut out, refusal)?;
-    put_head_end(&mut out, body.len() as u64, closes)?;
-    put_body_unless(&mut out, answers_head, body.as_slice())?;
+    put_refusal(&mut out, refusal, body.as_slice(), answers_head, closes)?;
     Ok(Bytes::of(out))
+}
+
+/// Puts that answer, of which this is the body.
+#[tactic(auto, unfolding(crate::specs::Refusals::refusal_text))]
+fn put_refusal(
+    out: &mut Vec<u8>,
+    refusal: &Refusal,
+    body: &[u8],
+    answers_head: bool,
+    closes: bool,
+) -> Result<(), Memory>
+    requires { body.now ≡ spec.refusal_body refusal.now }
+    ensures { OnOk result (out.new.items ≡ out.old.items ++ spec.refusal_text refusal.now answers_head closes) }
+{
+    put_start(out, refusal)?;
+    put_allow_line(out, refusal)?;
+    put_head_end(out, body.len() as u64, closes)?;
+    put_body_unless(out, answers_head, body)
 }
 
 /// Puts the status line, and the type of what follows.
