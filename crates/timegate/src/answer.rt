@@ -1,6 +1,7 @@
 //! Redirects to a memento.
-ghost use Rattle.std.specs.Prelude.{◌≡◌, IfOk};
-ghost use Rattle.timegate.specs.Redirect.{redirect_text};
+ghost use Rattle.std.specs.Prelude.{◌≡◌, ◌++◌, IfOk, OnOk};
+ghost use Rattle.head_lines.specs.Lines.{head_end, link_line};
+ghost use Rattle.timegate.specs.Redirect.{redirect_links, redirect_text, vary_line_where};
 
 use crate::lines::{put_links, put_location_line, put_vary_line};
 use capture::{Bytes, Memory, Site};
@@ -31,10 +32,23 @@ pub fn redirect(
     let mut out = Vec::with_capacity(alloc, room(site, url, entry))?;
     put_own_status_line(&mut out, Status::Found)?;
     put_location_line(&mut out, site, entry.date, raw, entry.uri.as_slice())?;
-    put_vary_line(&mut out, by_gate)?;
-    put_links(&mut out, site, url)?;
-    put_head_end(&mut out, 0, closes)?;
+    put_rest(&mut out, site, url, by_gate, closes)?;
     Ok(Bytes::of(out))
+}
+
+/// Puts what stands behind the line that leads to the capture.
+fn put_rest(
+    out: &mut Vec<u8>,
+    site: &Site,
+    url: &[u8],
+    by_gate: bool,
+    closes: bool,
+) -> Result<(), Memory>
+    ensures { OnOk result (out.new.items ≡ out.old.items ++ vary_line_where by_gate ++ link_line (redirect_links site.now.base url.now) ++ head_end 0 closes) }
+{
+    put_vary_line(out, by_gate)?;
+    put_links(out, site, url)?;
+    put_head_end(out, 0, closes)
 }
 
 /// As much as the answer takes, or a little more.
