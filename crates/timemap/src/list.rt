@@ -1,5 +1,5 @@
 //! The list itself.
-ghost use Rattle.std.specs.Prelude.{◌≡◌, ◌++◌, ◌<◌, length, IfOk, OnOk};
+ghost use Rattle.std.specs.Prelude.{◌≡◌, [], ◌++◌, ◌<◌, length, IfOk, OnOk};
 ghost use Rattle.std.specs.List.Sorted.{IsNonDecreasingBy};
 ghost use Rattle.time_text.specs.Texts.{InRange};
 ghost use Rattle.replay_url.specs.Links.{gate_link};
@@ -20,25 +20,36 @@ const ADDED: usize = 128;
 /// URL itself, the list, the gate, and to each entry's capture, one for each date. Of entries of one date the first counts.
 ///
 /// The entries are those of the URL's key, in order of their dates. The time grows with their number.
-#[tactic(auto, unfolding(crate::specs::LinkList::timemap_text))]
 pub fn body(alloc: Global, site: &Site, url: &[u8], entries: &[Entry]) -> Result<Bytes, Memory>
     requires some { 0 < length entries.now }
     requires in_order { IsNonDecreasingBy (λ e. e.date) entries.now }
     ensures { IfOk result (λ text. text ≡ timemap_text site.now.base url.now entries.now) }
+{
+    let mut out = Vec::with_capacity(alloc, room(site, url, entries.len()))?;
+    put_list(&mut out, site, url, entries)?;
+    Ok(Bytes::of(out))
+}
+
+/// Puts that list into an empty text.
+#[tactic(auto, unfolding(crate::specs::LinkList::timemap_text))]
+fn put_list(out: &mut Vec<u8>, site: &Site, url: &[u8], entries: &[Entry]) -> Result<(), Memory>
+    requires empty { out.old.items ≡ [] }
+    requires some { 0 < length entries.now }
+    requires in_order { IsNonDecreasingBy (λ e. e.date) entries.now }
+    ensures { OnOk result (out.new.items ≡ timemap_text site.now.base url.now entries.now) }
 {
     let Some((first, others)) = entries.split_first() else {
         unreachable!()
     };
     let from = date_of(first);
     let until = last_date(entries);
-    let mut out = Vec::with_capacity(alloc, room(site, url, entries.len()))?;
-    put_original_link(&mut out, url)?;
-    put_self_item(&mut out, site, url, from, until)?;
-    put_gate_item(&mut out, site, url)?;
-    put_memento_item(&mut out, site, true, from == until, first)?;
-    put_later_mementos(&mut out, site, until, from, others)?;
-    put_all(&mut out, b"\n")?;
-    Ok(Bytes::of(out))
+    put_original_link(out, url)?;
+    put_self_item(out, site, url, from, until)?;
+    put_gate_item(out, site, url)?;
+    put_memento_item(out, site, true, from == until, first)?;
+    put_later_mementos(out, site, until, from, others)?;
+    put_all(out, b"\n")?;
+    Ok(())
 }
 
 /// Puts the link to the list itself on a line of its own.
