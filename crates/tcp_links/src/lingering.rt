@@ -20,16 +20,26 @@ fn drain<S: Socket>(socket: &mut S, millis: u64) -> io::Result<()> {
     let start = socket.time()?;
     let mut unread = [0u8; PIECE];
     for _ in 0..u64::MAX {
-        let left = millis.saturating_sub(millis_since(socket, start)?);
-        if left == 0 {
-            return Ok(());
-        }
-        socket.limit_reads(left)?;
-        if read_some(socket, &mut unread)? == 0 {
+        if !read_on(socket, millis, start, &mut unread)? {
             return Ok(());
         }
     }
     Ok(())
+}
+
+/// Reads once within what is left of the limit since then, and answers whether more may come.
+fn read_on<S: Socket>(
+    socket: &mut S,
+    millis: u64,
+    start: Duration,
+    unread: &mut [u8],
+) -> io::Result<bool> {
+    let left = millis.saturating_sub(millis_since(socket, start)?);
+    if left == 0 {
+        return Ok(false);
+    }
+    socket.limit_reads(left)?;
+    Ok(read_some(socket, unread)? > 0)
 }
 
 /// How many whole milliseconds have gone by since a time of this socket.
