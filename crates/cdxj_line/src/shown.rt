@@ -15,7 +15,7 @@ use std::alloc::Global;
 use surt_key::{KeyFault, key_of};
 
 /// The numbers of a line, but for its date.
-#[derive(Drop)]
+#[derive(Clone, Copy)]
 struct Numbers {
     volume: u32,
     length: u64,
