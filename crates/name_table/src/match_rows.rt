@@ -29,8 +29,8 @@ mod tests {
     // No case can say it: a case has no enum of its own.
     #[test]
     fn gives_the_row_of_a_variant(rt: HostRuntime) {
-        assert_eq!(rt; status(&Fault::Closed), (502, "Bad Gateway"));
-        assert_eq!(rt; status(&Fault::Full { count: 3, limit: 3 }).0, 507);
-        assert_eq!(rt; status(&Fault::Late(1)).0, 507);
+        assert!(rt; status(&Fault::Closed) == (502, "Bad Gateway"));
+        assert!(rt; status(&Fault::Full { count: 3, limit: 3 }).0 == 507);
+        assert!(rt; status(&Fault::Late(1)).0 == 507);
     }
 }
