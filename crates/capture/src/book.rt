@@ -3,7 +3,7 @@ use crate::{Items, Stored};
 use uuid::Uuid;
 
 /// A run of captures that share one file.
-#[derive(Debug, PartialEq, Eq, Drop)]
+#[derive(Drop)]
 pub struct Volume {
     /// When the volume was begun, as the clock told it, in milliseconds since 1970.
     pub born: u64,
@@ -12,7 +12,7 @@ pub struct Volume {
 }
 
 /// An archive's contents. A capture's number is its place among all captures, from 0.
-#[derive(Debug, PartialEq, Eq, Drop)]
+#[derive(Drop)]
 pub struct Book {
     /// The namespace of the ids of its records (RFC 9562, section 5.5).
     pub namespace: Uuid,

@@ -7,7 +7,7 @@ use crate::Memory;
 use std::marker::Model;
 
 /// Bytes of a message, in order. A contract sees the list of them.
-#[derive(Debug, Drop)]
+#[derive(Drop)]
 pub struct Bytes {
     list: Vec<u8>,
 }

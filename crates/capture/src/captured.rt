@@ -7,7 +7,7 @@ use crate::{Bytes, Memory, Text};
 pub type Digest = [u8; 20];
 
 /// An exchange as it was received, to be stored.
-#[derive(Debug, PartialEq, Eq, Drop)]
+#[derive(Drop)]
 pub struct Taken {
     /// The request's method.
     pub method: Text,
@@ -48,7 +48,7 @@ impl Taken {
 }
 
 /// What a capture keeps of its body.
-#[derive(Debug, PartialEq, Eq, Drop)]
+#[derive(Drop)]
 pub enum Kept {
     /// The body as it stood on the wire, whole.
     Wire(Bytes),
@@ -59,7 +59,7 @@ pub enum Kept {
 }
 
 /// A capture in an archive.
-#[derive(Debug, PartialEq, Eq, Drop)]
+#[derive(Drop)]
 pub struct Stored {
     /// The request's method.
     pub method: Text,
@@ -76,7 +76,7 @@ pub struct Stored {
 }
 
 /// A capture as it is replayed.
-#[derive(Debug, PartialEq, Eq, Drop)]
+#[derive(Drop)]
 pub struct Brought {
     /// The request's method.
     pub method: Text,

@@ -2,7 +2,7 @@
 use thiserror::Error;
 
 /// What tells a body's length (RFC 9112, section 6.3).
-#[derive(Clone, Copy, Debug, PartialEq, Eq)]
+#[derive(Clone, Copy)]
 pub enum Framing {
     /// There is no body.
     Empty,
@@ -15,7 +15,7 @@ pub enum Framing {
 }
 
 /// Why a head tells no framing.
-#[derive(Clone, Copy, Debug, PartialEq, Eq, Error)]
+#[derive(Clone, Copy, Debug, Error)]
 pub enum FramingFault {
     /// The fields contradict one another or the version, or a length is no number.
     #[error("the fields tell no length of a body")]
@@ -26,7 +26,7 @@ pub enum FramingFault {
 }
 
 /// Why no message can stand at the front of a stream.
-#[derive(Clone, Copy, Debug, PartialEq, Eq, Error)]
+#[derive(Clone, Copy, Debug, Error)]
 pub enum MessageFault {
     /// A head, a size line, the end of a chunk or a trailer isn't one of HTTP/1.1, or a head tells no framing.
     #[error("no message of HTTP/1.1")]

@@ -1,11 +1,10 @@
 //! A list of values that owns its memory.
 ghost use Rattle.std.specs.Prelude.{◌≡◌};
-ghost use Rattle.std.specs.Cmp.Lexicographic.{pointwise, lists_per, lists_equiv};
 
 use std::marker::Model;
 
 /// Values in order. A contract sees the list of them.
-#[derive(Debug, Drop)]
+#[derive(Drop)]
 pub struct Items<X> {
     list: Vec<X>,
 }
@@ -32,18 +31,4 @@ impl<X> Items<X> {
     {
         self.list.as_slice()
     }
-}
-
-impl<X: PartialEq> PartialEq for Items<X> {
-    ghost eq = { λ a b. pointwise X.eq a b };
-
-    ghost laws = { lists_per X.laws };
-
-    fn eq(&self, other: &Items<X>) -> bool {
-        self.list == other.list
-    }
-}
-
-impl<X: Eq> Eq for Items<X> {
-    ghost laws = { lists_equiv X.Eq.laws };
 }

@@ -1,7 +1,7 @@
 //! The bounds of an archive.
 
 /// How much an archive takes.
-#[derive(Clone, Copy, Debug, PartialEq, Eq)]
+#[derive(Clone, Copy)]
 pub struct Limits {
     /// The length in bytes past which a volume that holds a capture takes no further one.
     pub volume_bytes: u64,

@@ -2,7 +2,7 @@
 use crate::Digest;
 
 /// A refusal, with what its text names. A fault of the outside is one too; want of memory isn't.
-#[derive(Clone, Copy, Debug, PartialEq, Eq)]
+#[derive(Clone, Copy)]
 pub enum Refusal {
     /// The request's head or body isn't one of HTTP/1.1.
     Malformed,

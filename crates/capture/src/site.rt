@@ -2,7 +2,7 @@
 use crate::Text;
 
 /// The address under which captures are replayed.
-#[derive(Debug, PartialEq, Eq, Drop)]
+#[derive(Drop)]
 pub struct Site {
     /// The prefix of its URLs, without a final slash.
     pub base: Text,

@@ -13,7 +13,7 @@ use std::marker::Model;
 ///
 /// The rows are of a type that lends text: those of a `NameTable<N>` are `&'static str`.
 // Rows of `[&'static str; N]` would get no generated proof, and `[T; N]` does.
-#[derive(Debug, Drop)]
+#[derive(Drop)]
 pub struct NameTable<const N: usize, T: AsStr = &'static str> {
     rows: [T; N],
 }

@@ -12,13 +12,13 @@ use std::marker::Model;
 const SHORT: usize = 16;
 
 /// A text of ASCII that takes memory of its own only where it has more than 16 bytes. A contract sees the list of its bytes.
-#[derive(Debug, Drop)]
+#[derive(Drop)]
 pub struct ShortText {
     kept: Kept,
 }
 
 /// Where the bytes lie.
-#[derive(Debug, Drop)]
+#[derive(Drop)]
 pub(crate) enum Kept {
     Here(ArrayString<SHORT>),
     Apart(Text),

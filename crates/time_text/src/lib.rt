@@ -26,11 +26,11 @@ pub use warc::{WarcTime, read_warc, warc_len, write_warc};
 pub const LATEST: u64 = 253_402_300_799_999;
 
 /// The text names no date.
-#[derive(Clone, Copy, Debug, PartialEq, Eq, Error)]
+#[derive(Clone, Copy, Debug, Error)]
 #[error("no date from 1970 to 9999")]
 pub struct NotATime;
 
 /// The date is later than [`LATEST`].
-#[derive(Clone, Copy, Debug, PartialEq, Eq, Error)]
+#[derive(Clone, Copy, Debug, Error)]
 #[error("a date past the year 9999")]
 pub struct Range;
