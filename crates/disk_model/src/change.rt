@@ -3,7 +3,7 @@ use crate::Kind;
 use capture::Bytes;
 
 /// A change of a disk in memory, or a sync, as data.
-#[derive(Debug, Drop)]
+#[derive(Drop)]
 pub enum Change {
     /// Bytes were written into a file at an offset.
     Wrote {

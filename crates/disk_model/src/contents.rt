@@ -12,7 +12,7 @@ use std::alloc::Global;
 use std::marker::Model;
 
 /// The files of a disk in memory, fewer than 2^32 of each kind, which a contract sees as an image.
-#[derive(Debug, Drop)]
+#[derive(Drop)]
 pub struct Contents {
     warc: Vec<File>,
     cdxj: Vec<File>,

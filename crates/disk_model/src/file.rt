@@ -7,7 +7,7 @@ use std::alloc::Global;
 use std::marker::Model;
 
 /// A file in memory, which a contract sees as the list of its bytes.
-#[derive(Debug, Drop)]
+#[derive(Drop)]
 pub struct File {
     bytes: Vec<u8>,
 }

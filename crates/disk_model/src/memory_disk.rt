@@ -23,7 +23,7 @@ use std::marker::Model;
 /// call that changes the disk, or a sync, also fails where memory for it was refused. A call that fails changes
 /// nothing but the counts; but a `create` that is to fail may be asked to leave its file half made
 /// (`with_half_made_files`).
-#[derive(Debug, Drop)]
+#[derive(Drop)]
 pub struct MemoryDisk {
     alloc: Global,
     first: Contents,

@@ -18,7 +18,7 @@ pub const FOLDER: &str = "archive";
 pub struct ArchiveNames;
 
 /// A file of the archive, which is printed as its path.
-#[derive(Clone, Copy, Debug)]
+#[derive(Clone, Copy)]
 pub struct ArchiveFile {
     kind: Kind,
     number: u32,

@@ -15,7 +15,7 @@ use std::io::ErrorKind;
 use std::marker::{Model, PhantomData};
 
 /// How many files of each kind there are.
-#[derive(Clone, Copy, Debug, PartialEq, Eq)]
+#[derive(Clone, Copy)]
 pub(crate) struct Counts {
     pub(crate) warc: u32,
     pub(crate) cdxj: u32,

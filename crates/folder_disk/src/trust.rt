@@ -8,7 +8,7 @@ use disk_model::Kind;
 
 /// The range of a file that was written since a sync of it was done, and nothing else was but cuts before that. An empty one is
 /// a file that is as it was synced, or was cut since.
-#[derive(Clone, Copy, Debug, PartialEq, Eq)]
+#[derive(Clone, Copy)]
 pub(crate) struct Written {
     pub(crate) number: u32,
     pub(crate) at: u64,
@@ -18,7 +18,7 @@ pub(crate) struct Written {
 }
 
 /// Whether a file that a disk doesn't know of yet may stand behind those of a kind that it knows.
-#[derive(Clone, Copy, Debug, PartialEq, Eq)]
+#[derive(Clone, Copy)]
 pub(crate) enum Further {
     /// There is none.
     Absent,
@@ -30,7 +30,7 @@ pub(crate) enum Further {
 
 /// Whether syncs are still trusted, and what is known of the file of each kind that was synced or written last, and of one that
 /// was to be made.
-#[derive(Clone, Copy, Debug, PartialEq, Eq)]
+#[derive(Clone, Copy)]
 pub(crate) struct Trust {
     /// A sync failed and can't be mended, or a file of others has the name of one that was to be made.
     pub(crate) gave_up: bool,

@@ -1,7 +1,7 @@
 //! How a file is opened.
 
 /// How a file that is there is opened.
-#[derive(Clone, Copy, Debug, PartialEq, Eq)]
+#[derive(Clone, Copy, PartialEq, Eq)]
 pub enum Access {
     /// To be read alone.
     Read,

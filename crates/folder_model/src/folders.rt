@@ -9,7 +9,7 @@ use crate::folder::Folder;
 use std::io;
 
 /// Who else may hold a folder.
-#[derive(Clone, Copy, Debug, PartialEq, Eq)]
+#[derive(Clone, Copy, PartialEq, Eq)]
 pub enum Lock {
     /// Nobody. Who has it may write.
     Alone,

@@ -3,7 +3,7 @@ ghost use Rattle.std.specs.Prelude.{◌≡◌};
 ghost use Rattle.memory_folder.specs.Entry.{budget_of, leaves_names};
 
 /// How much of the writes and cuts of one file that aren't sure to be on the disk is there.
-#[derive(Clone, Copy, Debug, PartialEq, Eq)]
+#[derive(Clone, Copy)]
 pub enum Budget {
     /// All of them, as reads find it.
     All,

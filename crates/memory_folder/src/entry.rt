@@ -12,7 +12,7 @@ use std::alloc::Global;
 use std::marker::Model;
 
 /// A file of a folder in memory, by what the disk had of it first and what was done since.
-#[derive(Debug, Drop)]
+#[derive(Drop)]
 pub struct MemoryEntry {
     name: String,
     base: Vec<u8>,

@@ -6,7 +6,7 @@ ghost use Rattle.disk_model.specs.Device.{is_burnt_down};
 use std::alloc::Global;
 
 /// Which calls fail, and how much each of them does. Calls are numbered from 0, those of the folder and those that find it.
-#[derive(Debug, Drop)]
+#[derive(Drop)]
 pub struct Plan {
     /// The numbers of the calls that fail.
     pub fails: Vec<u64>,

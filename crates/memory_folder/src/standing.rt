@@ -4,7 +4,7 @@ ghost use Rattle.memory_folder.specs.Standing.{is_sure, after_sync};
 ghost use Rattle.memory_folder.specs.declared.standing.Standing.TheVariants.{Fresh};
 
 /// How sure it is that a write, a cut or a name is on the disk.
-#[derive(Clone, Copy, Debug, PartialEq, Eq)]
+#[derive(Clone, Copy)]
 pub enum Standing {
     /// It wasn't synced yet.
     Fresh,

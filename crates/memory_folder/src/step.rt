@@ -9,7 +9,7 @@ use capture::{Bytes, Memory};
 use std::alloc::Global;
 
 /// A write or a cut, and how sure it is on the disk.
-#[derive(Debug, Drop)]
+#[derive(Drop)]
 pub enum Step {
     /// These bytes were written at a place.
     Write {

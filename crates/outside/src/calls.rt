@@ -5,7 +5,7 @@ use capture::Items;
 
 /// How many calls an object has had, which are to fail by their number, and how many have failed. Both
 /// counts stand still at their greatest value.
-#[derive(Debug, Drop)]
+#[derive(Drop)]
 pub(crate) struct Calls {
     fails: Items<u64>,
     made: u64,

@@ -21,7 +21,7 @@ pub enum DialError {
 }
 
 /// What went over one link: where it led, what was sent there, and what came back.
-#[derive(Debug, Drop, PartialEq, Eq)]
+#[derive(Drop)]
 pub struct Transcript {
     /// The host that was dialled.
     pub host: Text,

@@ -13,7 +13,7 @@ use std::marker::Model;
 
 /// A dialer whose links all lead to one origin, which answers each request's head with the head's target.
 /// A dial never fails but for memory.
-#[derive(Debug, Drop)]
+#[derive(Drop)]
 pub struct EchoDialer {
     alloc: Global,
     transcripts: Records<Transcript>,

@@ -14,7 +14,7 @@ use std::marker::Model;
 
 /// A link that gives the answers to the heads that it took. A read that finds no answer meets the end, which
 /// stays. A write fails only where there is no memory for its first byte.
-#[derive(Debug, Drop)]
+#[derive(Drop)]
 pub struct EchoLink {
     alloc: Global,
     taken: Vec<u8>,

@@ -8,7 +8,7 @@ use crate::Link;
 use capture::Bytes;
 
 /// What a gate answers.
-#[derive(Debug, Drop)]
+#[derive(Drop)]
 pub enum Accepted<L> {
     /// A connection came.
     Connection(L),
@@ -21,7 +21,7 @@ pub enum Accepted<L> {
 }
 
 /// What went over one connection.
-#[derive(Debug, Drop, PartialEq, Eq)]
+#[derive(Drop)]
 pub struct Heard {
     /// The bytes that the client gave.
     pub given: Bytes,

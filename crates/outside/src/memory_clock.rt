@@ -8,7 +8,7 @@ use capture::Items;
 use std::marker::Model;
 
 /// A clock that answers a list in order, and then its last answer again, or 0 where the list is empty.
-#[derive(Debug, Drop)]
+#[derive(Drop)]
 pub struct MemoryClock {
     list: Items<u64>,
     // How often it was asked. The count stands still at its greatest value.

@@ -14,7 +14,7 @@ use std::vec::IntoIter;
 
 /// A dialer that gives out links in order, whatever the host, and then links without input. It fails at
 /// listed dials.
-#[derive(Debug, Drop)]
+#[derive(Drop)]
 pub struct MemoryDialer {
     alloc: Global,
     links: IntoIter<MemoryLink>,

@@ -13,7 +13,7 @@ use std::marker::Model;
 use std::vec::IntoIter;
 
 /// A gate that gives connections in order and then is closed. It fails at listed accepts.
-#[derive(Debug, Drop)]
+#[derive(Drop)]
 pub struct MemoryGate {
     links: IntoIter<MemoryLink>,
     gave: usize,

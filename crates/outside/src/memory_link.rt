@@ -14,7 +14,7 @@ use std::marker::Model;
 
 /// A link that gives its input and then its end, takes all that is written, and fails at listed calls.
 /// Reads and writes are numbered together, from 0.
-#[derive(Debug, Drop)]
+#[derive(Drop)]
 pub struct MemoryLink {
     input: Source,
     taken: Vec<u8>,

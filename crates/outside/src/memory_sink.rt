@@ -10,7 +10,7 @@ use std::alloc::Global;
 use std::marker::Model;
 
 /// A sink that keeps what is written, in whole pieces, and fails at listed calls.
-#[derive(Debug, Drop)]
+#[derive(Drop)]
 pub struct MemorySink {
     written: Vec<u8>,
     calls: Calls,

@@ -8,7 +8,7 @@ use std::marker::Model;
 
 /// A record of each connection that was hung up, and the room for one of each that is out. So hanging up
 /// takes no memory.
-#[derive(Debug, Drop)]
+#[derive(Drop)]
 pub(crate) struct Records<T> {
     list: Vec<T>,
     out: usize,

@@ -6,7 +6,7 @@ use capture::{Bytes, Memory};
 use std::marker::Model;
 
 /// Gives its bytes once, in order, and then their end, which stays.
-#[derive(Debug, Drop)]
+#[derive(Drop)]
 pub(crate) struct Source {
     bytes: Vec<u8>,
     at: usize,

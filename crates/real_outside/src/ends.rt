@@ -5,7 +5,7 @@ ghost use Rattle.real_outside.specs.Ends as spec;
 use capture::Site;
 
 /// Where a run meets its clients and its origins.
-#[derive(Debug, Drop)]
+#[derive(Drop)]
 pub enum Ends {
     /// One client at the standard streams, and the trial origin in this process.
     Streams,

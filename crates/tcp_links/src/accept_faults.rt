@@ -3,7 +3,7 @@ use std::io;
 use std::io::ErrorKind;
 
 /// What an accept that failed means for the next.
-#[derive(Clone, Copy, Debug, PartialEq, Eq)]
+#[derive(Clone, Copy)]
 pub(crate) enum AcceptFault {
     /// One connection failed before it was given. Others come.
     Connection,

@@ -1,7 +1,7 @@
 //! How long the program waits for others, in milliseconds.
 
 /// Limits of time for connections.
-#[derive(Clone, Copy, Debug, PartialEq, Eq)]
+#[derive(Clone, Copy)]
 pub struct Limits {
     /// For the first byte on a client's new connection.
     pub fresh: u64,

@@ -12,7 +12,7 @@ use std::{env, fmt};
 pub const LISTEN: &str = "MEMPROXY_LISTEN";
 
 /// A host, an IPv6 address without brackets, and a port.
-#[derive(Debug, Drop, PartialEq, Eq)]
+#[derive(Drop)]
 pub struct Address {
     host: String,
     port: u16,

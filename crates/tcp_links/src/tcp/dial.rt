@@ -99,7 +99,7 @@ impl<N: Network> TcpDialer<N> {
 }
 
 /// A host, an IPv6 address in brackets, and a port.
-#[derive(Clone, Copy, Debug)]
+#[derive(Clone, Copy)]
 struct Origin<'a> {
     host: &'a str,
     port: u16,
