@@ -6,7 +6,7 @@ use thiserror::Error;
 pub const HTTP_PORT: u16 = 80;
 
 /// An origin that is asked.
-#[derive(Debug, PartialEq, Eq, Drop)]
+#[derive(Drop)]
 pub struct Target {
     /// The target as the client sent it.
     pub uri: Text,
@@ -19,7 +19,7 @@ pub struct Target {
 }
 
 /// Where a request goes.
-#[derive(Debug, PartialEq, Eq, Drop)]
+#[derive(Drop)]
 pub enum Aim {
     /// To an origin.
     Origin(Target),
@@ -28,7 +28,7 @@ pub enum Aim {
 }
 
 /// Why a request is aimed nowhere.
-#[derive(Clone, Copy, Debug, PartialEq, Eq, Error)]
+#[derive(Clone, Copy, Debug, Error)]
 pub enum AimFault {
     /// The method is CONNECT.
     #[error("the method is CONNECT")]

@@ -23,7 +23,7 @@ use thiserror::Error;
 const FINAL_STATUS: u16 = 200;
 
 /// Why a fetch gave no response.
-#[derive(Clone, Copy, Debug, PartialEq, Eq, Error)]
+#[derive(Clone, Copy, Debug, Error)]
 pub enum FetchFault {
     /// The origin wasn't reached: the dialer's count of faults rose.
     #[error("the origin wasn't reached")]

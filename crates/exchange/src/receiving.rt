@@ -12,7 +12,7 @@ use outside::Link;
 use std::alloc::Global;
 
 /// What came of reading a message.
-#[derive(Clone, Copy, Debug, PartialEq, Eq)]
+#[derive(Clone, Copy)]
 pub enum Came {
     /// The head, which the reader holds. This is answered once.
     Head,

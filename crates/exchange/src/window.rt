@@ -12,7 +12,7 @@ const WINDOW_LEN: usize = 32_768;
 
 /// A buffer between a link and what reads it, which serves one message after the other. A contract sees the bytes that
 /// nobody has used yet.
-#[derive(Debug, Drop)]
+#[derive(Drop)]
 pub struct Window {
     buffer: Vec<u8>,
     at: usize,

@@ -4,7 +4,7 @@ ghost use Rattle.head_lines.specs.Lines as spec;
 ghost use Rattle.head_lines.specs.Statuses.{reason_phrase, status_code};
 
 /// A status that the program answers with by itself (RFC 9110, section 15).
-#[derive(Clone, Copy, Debug, PartialEq, Eq)]
+#[derive(Clone, Copy)]
 pub enum Status {
     /// 200: what was asked for follows.
     Ok,

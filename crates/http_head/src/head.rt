@@ -5,7 +5,7 @@ use capture::{Bytes, Framing, Items, Memory, Text};
 use thiserror::Error;
 
 /// The minor version of HTTP/1.
-#[derive(Clone, Copy, Debug, PartialEq, Eq)]
+#[derive(Clone, Copy)]
 pub enum Version {
     /// HTTP/1.0
     Http10,
@@ -14,7 +14,7 @@ pub enum Version {
 }
 
 /// A field line (RFC 9112, section 5).
-#[derive(Debug, PartialEq, Eq, Drop)]
+#[derive(Drop)]
 pub struct Field {
     /// The name, in the case in which it came.
     pub name: Text,
@@ -23,7 +23,7 @@ pub struct Field {
 }
 
 /// The head of a request (RFC 9112, section 3).
-#[derive(Debug, PartialEq, Eq, Drop)]
+#[derive(Drop)]
 pub struct RequestHead {
     /// The method.
     pub method: Text,
@@ -47,7 +47,7 @@ pub struct RequestOutline {
 }
 
 /// The head of a response (RFC 9112, section 4).
-#[derive(Debug, PartialEq, Eq, Drop)]
+#[derive(Drop)]
 pub struct ResponseHead {
     /// The version in which it came.
     pub version: Version,
@@ -62,7 +62,7 @@ pub struct ResponseHead {
 }
 
 /// A whole request.
-#[derive(Debug, PartialEq, Eq, Drop)]
+#[derive(Drop)]
 pub struct RequestMessage {
     pub head: RequestHead,
     /// What told the body's length.
@@ -72,7 +72,7 @@ pub struct RequestMessage {
 }
 
 /// A response, whole or cut.
-#[derive(Debug, PartialEq, Eq, Drop)]
+#[derive(Drop)]
 pub struct Received {
     pub head: ResponseHead,
     /// What told the body's length.
@@ -84,7 +84,7 @@ pub struct Received {
 }
 
 /// Why bytes are no message.
-#[derive(Clone, Copy, Debug, PartialEq, Eq, Error)]
+#[derive(Clone, Copy, Debug, Error)]
 pub enum WireFault {
     /// They aren't in the grammar of HTTP/1.1.
     #[error("not in the grammar of HTTP/1.1")]

@@ -11,7 +11,7 @@ use std::alloc::Global;
 use std::marker::Model;
 
 /// How far a stream has come.
-#[derive(Clone, Copy, Debug, PartialEq, Eq)]
+#[derive(Clone, Copy)]
 pub enum HeadProgress {
     /// The head hasn't ended.
     More,
@@ -23,7 +23,7 @@ pub enum HeadProgress {
 }
 
 /// What a reader took of a piece.
-#[derive(Clone, Copy, Debug, PartialEq, Eq)]
+#[derive(Clone, Copy)]
 pub struct HeadFed {
     /// How many bytes, from the piece's front.
     pub used: usize,
@@ -33,7 +33,7 @@ pub struct HeadFed {
 
 /// Collects a stream from its first byte up to the end of its head (RFC 9112, section 2.1). Nothing is refused
 /// for its grammar. A contract sees the stream so far, the line ends at its front with it.
-#[derive(Debug, Drop)]
+#[derive(Drop)]
 pub struct HeadReader {
     bytes: Vec<u8>,
     seek: Seek,

@@ -6,7 +6,7 @@ ghost use Rattle.http_head.specs.steps.HeadSeek.{next_seek, seek_after};
 use memchr::memchr;
 
 /// Where the stream so far stands.
-#[derive(Clone, Copy, Debug, PartialEq, Eq)]
+#[derive(Clone, Copy, PartialEq, Eq)]
 pub enum Seek {
     /// Nothing but line ends came.
     Before,
@@ -23,7 +23,7 @@ pub enum Seek {
 }
 
 /// How much of a piece was looked at, and where the stream stands then.
-#[derive(Clone, Copy, Debug, PartialEq, Eq)]
+#[derive(Clone, Copy)]
 pub struct Sought {
     /// How many bytes, from the piece's front.
     pub used: usize,

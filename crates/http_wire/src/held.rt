@@ -12,7 +12,7 @@ use message_body::{BodyProgress, BodyReader, payload_of};
 use std::alloc::Global;
 
 /// A body that has come to its end.
-#[derive(Debug, Drop)]
+#[derive(Drop)]
 pub struct ClosedBody {
     /// What told its length.
     pub framing: Framing,
@@ -23,7 +23,7 @@ pub struct ClosedBody {
 }
 
 /// What came of a body.
-#[derive(Debug, Drop)]
+#[derive(Drop)]
 pub enum Held {
     /// Nothing: its head is to come.
     Before,
@@ -34,7 +34,7 @@ pub enum Held {
 }
 
 /// What feeding a body leaves, and what is answered.
-#[derive(Debug, Drop)]
+#[derive(Drop)]
 pub struct BodyStep {
     pub held: Held,
     pub came: Result<Fed, WireFault>,

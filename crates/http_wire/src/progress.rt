@@ -1,7 +1,7 @@
 //! What a reader answers.
 
 /// How far a stream has come.
-#[derive(Clone, Copy, Debug, PartialEq, Eq)]
+#[derive(Clone, Copy)]
 pub enum Progress {
     /// More of a message is to come.
     More,
@@ -12,7 +12,7 @@ pub enum Progress {
 }
 
 /// What a reader took of a piece.
-#[derive(Clone, Copy, Debug, PartialEq, Eq)]
+#[derive(Clone, Copy)]
 pub struct Fed {
     /// How many bytes, from the piece's front.
     pub used: usize,

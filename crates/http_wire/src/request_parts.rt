@@ -17,7 +17,7 @@ use std::alloc::Global;
 use std::mem;
 
 /// The parts of a reader of requests.
-#[derive(Debug, Drop)]
+#[derive(Drop)]
 pub struct RequestParts {
     /// The stream up to the end of its head.
     pub front: HeadReader,

@@ -18,7 +18,7 @@ use std::marker::Model;
 /// Reads requests from a stream, one after the other, within the limits (RFC 9112). A contract sees the bytes that came
 /// since the last request was taken, the head once it has come, and what the reader has come to. What each answer says
 /// of these bytes is what stands first in them, however they were cut into pieces.
-#[derive(Debug, Drop)]
+#[derive(Drop)]
 pub struct RequestReader {
     parts: RequestParts,
     fault: Option<WireFault>,

@@ -15,7 +15,7 @@ use std::alloc::Global;
 use std::mem;
 
 /// The parts of a reader of responses.
-#[derive(Debug, Drop)]
+#[derive(Drop)]
 pub struct ResponseParts {
     /// The stream up to the end of its head.
     pub front: HeadReader,

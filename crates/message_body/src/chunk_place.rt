@@ -4,7 +4,7 @@ use crate::trailer::TrailerPlace;
 use capture::MessageFault;
 
 /// Where a chunked body so far stands (RFC 9112, section 7.1).
-#[derive(Clone, Copy, Debug, PartialEq, Eq)]
+#[derive(Clone, Copy)]
 pub enum ChunkPlace {
     /// Inside a size line, which begins behind so many bytes.
     Line(usize),
@@ -23,7 +23,7 @@ pub enum ChunkPlace {
 }
 
 /// How far a text was read.
-#[derive(Clone, Copy, Debug, PartialEq, Eq)]
+#[derive(Clone, Copy)]
 pub struct ChunkStep {
     /// Where the body stands then.
     pub place: ChunkPlace,

@@ -8,7 +8,7 @@ use http_head::{find_section_end, is_section};
 use std::alloc::Global;
 
 /// What a text is that was decoded as a chunked body.
-#[derive(Debug, PartialEq, Eq, Drop)]
+#[derive(Drop)]
 pub enum Decoded {
     /// A whole body, with its data.
     Whole(Bytes),
@@ -19,7 +19,7 @@ pub enum Decoded {
 }
 
 /// What stands behind the size line of 0.
-#[derive(Clone, Copy, Debug, PartialEq, Eq)]
+#[derive(Clone, Copy)]
 pub enum TrailerSeen {
     /// One trailer section.
     Whole,

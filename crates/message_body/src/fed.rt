@@ -3,7 +3,7 @@
 use capture::MessageFault;
 
 /// How far a body has come.
-#[derive(Clone, Copy, Debug, PartialEq, Eq)]
+#[derive(Clone, Copy)]
 pub enum BodyProgress {
     /// More is to come.
     More,
@@ -14,7 +14,7 @@ pub enum BodyProgress {
 }
 
 /// What a reader took of a piece.
-#[derive(Clone, Copy, Debug, PartialEq, Eq)]
+#[derive(Clone, Copy)]
 pub struct BodyFed {
     /// How many bytes, from the piece's front.
     pub used: usize,

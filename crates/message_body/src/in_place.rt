@@ -15,7 +15,7 @@ use httparse::spans::Span;
 use std::alloc::Global;
 
 /// What a text was whose data were moved to its front.
-#[derive(Clone, Copy, Debug, PartialEq, Eq)]
+#[derive(Clone, Copy)]
 pub enum Gathered {
     /// So many bytes of data, up to a line of size 0, which ends at this place.
     Last(usize, usize),

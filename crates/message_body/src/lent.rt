@@ -6,7 +6,7 @@ use std::alloc::Global;
 use std::marker::Model;
 
 /// A payload. Where no coding stands round it, it is the wire itself and takes no memory. A contract sees its bytes.
-#[derive(Debug, Drop)]
+#[derive(Drop)]
 pub struct Payload<'w> {
     wire: &'w [u8],
     /// The data of a chunked wire.

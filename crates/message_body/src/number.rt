@@ -9,7 +9,7 @@ ghost use Rattle.capture.specs.Framing.{is_number};
 use std::marker::Model;
 
 /// A number that digits write, of any size. A contract sees the number.
-#[derive(Debug, Drop)]
+#[derive(Drop)]
 pub struct Number<'t> {
     /// Its digits, without the zeros at their front.
     digits: &'t [u8],

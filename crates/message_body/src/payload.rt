@@ -11,7 +11,7 @@ use std::alloc::{AllocError, Global};
 use thiserror::Error;
 
 /// Why there is no payload.
-#[derive(Clone, Copy, Debug, PartialEq, Eq, Error)]
+#[derive(Clone, Copy, Debug, Error)]
 pub enum PayloadFault {
     /// The wire isn't a body of its framing, or one that was cut, whichever was asked for.
     #[error("not a body of its framing")]

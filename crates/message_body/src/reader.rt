@@ -16,7 +16,7 @@ const FIRST_RESERVE: u64 = 1_048_576;
 
 /// Collects a body behind its head (RFC 9112, sections 6 and 7.1). A contract sees the framing and the bytes of the
 /// body that came.
-#[derive(Debug, Drop)]
+#[derive(Drop)]
 pub struct BodyReader {
     reading: Reading,
     wire: Vec<u8>,

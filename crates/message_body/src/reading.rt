@@ -3,7 +3,7 @@
 use crate::chunk_place::ChunkPlace;
 
 /// How a body is read, by what tells its length.
-#[derive(Clone, Copy, Debug, PartialEq, Eq)]
+#[derive(Clone, Copy)]
 pub enum Reading {
     /// There is no body.
     Empty,

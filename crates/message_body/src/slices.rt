@@ -7,7 +7,7 @@ use crate::split::{Split, split_chunk};
 use capture::Framing;
 
 /// What is left of a payload that is walked over slice by slice, where it lies in its wire. It takes no memory.
-#[derive(Debug, Drop)]
+#[derive(Drop)]
 pub struct Slices<'w> {
     /// What is left of the wire.
     pub rest: &'w [u8],

@@ -8,7 +8,7 @@ use httparse::{Status, parse_chunk_size};
 use memchr::memchr;
 
 /// What stands at the front of a text that is to be a chunked body, or what is left of one.
-#[derive(Clone, Copy, Debug, PartialEq, Eq)]
+#[derive(Clone, Copy)]
 pub enum Split {
     /// A chunk. It has this data, and ends two bytes behind it.
     Piece(Span),
@@ -21,7 +21,7 @@ pub enum Split {
 }
 
 /// What stands behind a chunk's data.
-#[derive(Clone, Copy, Debug, PartialEq, Eq)]
+#[derive(Clone, Copy)]
 enum LineEndSeen {
     /// CR LF.
     Whole,

@@ -3,7 +3,7 @@ ghost use Rattle.std.specs.Prelude.{◌≡◌};
 ghost use Rattle.message_body.specs.steps.TrailerPlaces.{next_place};
 
 /// Where a trailer section so far stands.
-#[derive(Clone, Copy, Debug, PartialEq, Eq)]
+#[derive(Clone, Copy)]
 pub enum TrailerPlace {
     /// At the beginning of a line.
     LineStart,
