@@ -9,7 +9,7 @@ use surt_key::Key;
 /// What a line says of a capture.
 ///
 /// It has a text where the date has one, the status is of three digits and the key is the url's.
-#[derive(Debug, PartialEq, Eq, Drop)]
+#[derive(PartialEq, Eq, Drop)]
 pub struct Line {
     /// The look-up key of the url.
     pub key: Key,

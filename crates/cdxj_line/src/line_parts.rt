@@ -2,7 +2,7 @@
 use capture::Digest;
 
 /// What a line says of a capture, lent by those who hold it, so that a line is put without copies.
-#[derive(Clone, Copy, Debug)]
+#[derive(Clone, Copy)]
 pub struct LineParts<'a> {
     /// The look-up key of the url.
     pub key: &'a [u8],

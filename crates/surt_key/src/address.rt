@@ -10,7 +10,7 @@ use capture::{Memory, Text};
 use std::alloc::Global;
 
 /// A URL with its look-up key.
-#[derive(Debug, PartialEq, Eq, Drop)]
+#[derive(Drop)]
 pub struct KeyedUrl {
     /// The URL, with its scheme.
     pub url: Text,

@@ -6,7 +6,7 @@ use std::alloc::AllocError;
 use thiserror::Error;
 
 /// Why `key_of` or `key_of_address` gave no key.
-#[derive(Clone, Copy, Debug, PartialEq, Eq, Error)]
+#[derive(Clone, Copy, Debug, Error)]
 pub enum KeyFault {
     /// The text isn't a URL of ASCII with the scheme http or https.
     #[error("no URL of ASCII with the scheme http or https")]

@@ -9,7 +9,7 @@ use std::cmp::Ordering;
 use std::marker::Model;
 
 /// The key of a URL. A contract sees the list of its bytes; keys are ordered by their bytes.
-#[derive(Debug, Drop)]
+#[derive(Drop)]
 pub struct Key {
     bytes: Vec<u8>,
 }

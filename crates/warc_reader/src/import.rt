@@ -6,7 +6,7 @@ use capture::Taken;
 use thiserror::Error;
 
 /// Why a record of type `response` or `revisit` gives no capture. The first reason that applies is told.
-#[derive(Clone, Copy, Debug, PartialEq, Eq)]
+#[derive(Clone, Copy)]
 pub enum Reason {
     /// It is of type `revisit`.
     Revisit,
@@ -22,7 +22,7 @@ pub enum Reason {
 }
 
 /// A record that gives no capture.
-#[derive(Clone, Copy, Debug, PartialEq, Eq)]
+#[derive(Clone, Copy)]
 pub struct Skipped {
     /// The place of its first byte in the file.
     pub at: u64,
@@ -31,7 +31,7 @@ pub struct Skipped {
 }
 
 /// What a record gives.
-#[derive(Debug, Drop)]
+#[derive(Drop)]
 pub enum Outcome {
     /// A capture.
     Taken(Taken),
@@ -42,7 +42,7 @@ pub enum Outcome {
 }
 
 /// Why a file isn't imported.
-#[derive(Clone, Copy, Debug, PartialEq, Eq, Error)]
+#[derive(Clone, Copy, Debug, Error)]
 pub enum ImportFault {
     /// At this place no record stands, and whole records stand before it.
     #[error("no WARC record at byte {0}")]

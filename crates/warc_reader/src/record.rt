@@ -9,7 +9,7 @@ use thiserror::Error;
 pub const BLOCK_LIMIT: u64 = 268_435_456;
 
 /// A record at the front of a text (ISO 28500:2017, sections 4 and 5).
-#[derive(Debug, Drop)]
+#[derive(Drop)]
 pub struct Record<'b> {
     /// Its fields, in order.
     pub fields: Items<Field>,
@@ -20,7 +20,7 @@ pub struct Record<'b> {
 }
 
 /// Why a text gives no record.
-#[derive(Clone, Copy, Debug, PartialEq, Eq, Error)]
+#[derive(Clone, Copy, Debug, Error)]
 pub enum RecordFault {
     /// No record stands at its front.
     #[error("no WARC record")]

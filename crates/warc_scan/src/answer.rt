@@ -28,7 +28,7 @@ const LEAST_FINAL: u16 = 200;
 const HEAD: &[u8] = b"HEAD";
 
 /// In which form a response stands in a group.
-#[derive(Clone, Copy, Debug, PartialEq, Eq)]
+#[derive(Clone, Copy)]
 pub enum Form {
     /// Whole.
     Whole,
@@ -39,7 +39,7 @@ pub enum Form {
 }
 
 /// A response in a block, no byte of which is copied but its head's parts.
-#[derive(Debug, Drop)]
+#[derive(Drop)]
 pub struct Answer<'b> {
     /// Its head.
     pub head: &'b [u8],
@@ -54,7 +54,7 @@ pub struct Answer<'b> {
 }
 
 /// A block, split behind the head of a final response.
-#[derive(Debug, Drop)]
+#[derive(Drop)]
 struct Parts<'b> {
     head: &'b [u8],
     wire: &'b [u8],
@@ -62,7 +62,7 @@ struct Parts<'b> {
 }
 
 /// What the parts of a block are.
-#[derive(Clone, Copy, Debug, PartialEq, Eq)]
+#[derive(Clone, Copy)]
 struct Told {
     form: Form,
     payload_len: u64,

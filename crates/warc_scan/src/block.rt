@@ -20,7 +20,7 @@ const TOO_LONG: u64 = 1 << 63;
 const RECORD_END: &[u8] = b"\r\n\r\n";
 
 /// A block, and what stands behind its record.
-#[derive(Clone, Copy, Debug)]
+#[derive(Clone, Copy)]
 pub struct Block<'b> {
     /// The block.
     pub block: &'b [u8],

@@ -27,7 +27,7 @@ use warc_text::{IdKind, id_of};
 pub const RECORD_END: u64 = 4;
 
 /// The parts of a group, before its messages are read.
-#[derive(Debug, Drop)]
+#[derive(Drop)]
 pub struct Found<'b> {
     /// What the opening of the response or revisit says.
     pub opening: Opening<'b>,
@@ -42,7 +42,7 @@ pub struct Found<'b> {
 }
 
 /// A group that was read.
-#[derive(Debug, Drop)]
+#[derive(Drop)]
 pub struct Read<'b> {
     /// Its parts.
     pub found: Found<'b>,

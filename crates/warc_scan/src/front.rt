@@ -6,7 +6,7 @@ ghost use Rattle.warc_scan.specs.steps.Fronts.{IsFront};
 const COMMIT_BYTE: u8 = b'W';
 
 /// What the rest of a volume's file is by its first bytes.
-#[derive(Clone, Copy, Debug, PartialEq, Eq)]
+#[derive(Clone, Copy)]
 pub enum Front {
     /// Nothing.
     Nothing,

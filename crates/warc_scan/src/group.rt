@@ -5,7 +5,7 @@ use url::Url;
 use uuid::Uuid;
 
 /// The record that a revisit refers to, as its fields tell (ISO 28500, sections 5.11 and 6.7.2).
-#[derive(Debug, PartialEq, Eq, Drop)]
+#[derive(Drop)]
 pub struct Revisited {
     /// The record's id.
     pub id: Uuid,
@@ -17,7 +17,7 @@ pub struct Revisited {
 
 /// A capture's two records: its response or revisit, and its request. Places and lengths are in bytes, from the group's
 /// first byte on.
-#[derive(Debug, PartialEq, Eq, Drop)]
+#[derive(Drop)]
 pub struct Group {
     /// The capture's number.
     pub number: u32,
@@ -40,7 +40,7 @@ pub struct Group {
 }
 
 /// A group, with what is parsed to find it: its response's head, and its target.
-#[derive(Debug, PartialEq, Eq, Drop)]
+#[derive(Drop)]
 pub struct HeadedGroup {
     /// The group.
     pub group: Group,

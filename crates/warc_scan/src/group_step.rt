@@ -2,7 +2,7 @@
 use crate::Group;
 
 /// What the rest of a volume, behind its warcinfo or a group, begins with.
-#[derive(Debug, PartialEq, Eq, Drop)]
+#[derive(Drop)]
 pub enum GroupStep {
     /// This group.
     Group(Group),

@@ -2,7 +2,7 @@
 use uuid::Uuid;
 
 /// What a volume's file begins with.
-#[derive(Debug, PartialEq, Eq, Drop)]
+#[derive(Drop)]
 pub enum InfoStep {
     /// A warcinfo.
     Info {

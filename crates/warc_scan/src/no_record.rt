@@ -6,7 +6,7 @@ use capture::Memory;
 use thiserror::Error;
 
 /// Why no record is told, where one may begin.
-#[derive(Clone, Copy, Debug, PartialEq, Eq, Error)]
+#[derive(Clone, Copy, Debug, Error)]
 pub enum NoRecord {
     /// Nothing is there: the volume ends.
     #[error("the volume ends")]

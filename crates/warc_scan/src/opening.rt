@@ -14,7 +14,7 @@ use url::Url;
 use uuid::Uuid;
 
 /// What the opening of a response or revisit record says.
-#[derive(Debug, Drop)]
+#[derive(Drop)]
 pub struct Opening<'b> {
     /// The capture's date.
     pub date: u64,
@@ -33,7 +33,7 @@ pub struct Opening<'b> {
 }
 
 /// Which of the two records stands there.
-#[derive(Clone, Copy, Debug, PartialEq, Eq)]
+#[derive(Clone, Copy)]
 enum AnswerKind {
     /// A response, whole or cut.
     Response,

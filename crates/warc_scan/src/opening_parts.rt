@@ -26,7 +26,7 @@ use uuid::Uuid;
 const DIGEST_LEN: usize = 32;
 
 /// The record that a revisit refers to.
-#[derive(Clone, Copy, Debug)]
+#[derive(Clone, Copy)]
 pub struct Refers<'b> {
     /// Its id.
     pub id: Uuid,
@@ -37,7 +37,7 @@ pub struct Refers<'b> {
 }
 
 /// What the openings of responses and revisits have in common.
-#[derive(Debug, Drop)]
+#[derive(Drop)]
 pub struct Common<'b> {
     /// The capture's date.
     pub date: u64,

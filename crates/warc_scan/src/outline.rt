@@ -5,7 +5,7 @@ use http_wire::ResponseHead;
 
 /// A capture's two records, without the bodies of their messages. Places and lengths are in bytes, from the group's first byte
 /// on.
-#[derive(Debug, Drop)]
+#[derive(Drop)]
 pub struct Outline {
     /// The capture's number.
     pub number: u32,

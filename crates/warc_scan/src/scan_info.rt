@@ -22,7 +22,7 @@ use warc_text::{info_len, info_text};
 const INFO_BLOCK: u64 = 115;
 
 /// The lines of a warcinfo up to its date.
-#[derive(Clone, Copy, Debug)]
+#[derive(Clone, Copy)]
 struct InfoFront<'b> {
     /// Its id, which hangs on the namespace behind it.
     id: Uuid,

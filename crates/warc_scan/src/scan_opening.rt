@@ -15,7 +15,7 @@ use uuid::Uuid;
 use warc_text::{IdKind, id_of};
 
 /// The opening of a capture's first record, and where its block stands, in bytes from the record's first byte on.
-#[derive(Debug, Drop)]
+#[derive(Drop)]
 pub struct FirstOpening<'b> {
     /// What it says.
     pub opening: Opening<'b>,

@@ -2,22 +2,17 @@
 ghost use Rattle.std.specs.Prelude.{◌≡◌};
 
 use capture::Memory;
-use thiserror::Error;
 
 /// Why bytes don't begin with a text, whatever follows them.
-#[derive(Clone, Copy, Debug, PartialEq, Eq, Error)]
+#[derive(Clone, Copy)]
 pub enum Stop {
     /// They may: they end inside it.
-    #[error("the bytes end inside the text")]
     Open,
     /// They may: they end inside a block, and the text has at least so many bytes.
-    #[error("the text has at least {0} bytes")]
     Until(u64),
     /// They don't.
-    #[error("another text")]
     Wrong,
     /// There was no memory.
-    #[error("no memory")]
     Memory,
 }
 

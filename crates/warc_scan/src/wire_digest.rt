@@ -12,7 +12,7 @@ use http_wire::{PayloadFault, payload_in};
 use std::alloc::Global;
 
 /// What is told of a payload.
-#[derive(Clone, Copy, Debug, PartialEq, Eq)]
+#[derive(Clone, Copy)]
 pub struct Summary {
     /// Its digest.
     pub digest: Digest,

@@ -9,7 +9,7 @@ use itoa::Buffer;
 use uuid::Uuid;
 
 /// Which record an id is of.
-#[derive(Clone, Copy, Debug, PartialEq, Eq)]
+#[derive(Clone, Copy)]
 pub enum IdKind {
     /// The `warcinfo` record of a volume.
     Info,

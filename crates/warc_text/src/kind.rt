@@ -1,7 +1,7 @@
 //! The types of record that an archive has.
 
 /// The type of a record (ISO 28500, section 5.5).
-#[derive(Clone, Copy, Debug, PartialEq, Eq)]
+#[derive(Clone, Copy)]
 pub enum RecordKind {
     /// What a volume begins with.
     Info,

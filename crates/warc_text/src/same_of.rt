@@ -2,7 +2,7 @@
 use capture::Text;
 
 /// What a revisit record says of the capture whose payload it has.
-#[derive(Debug, PartialEq, Eq, Drop)]
+#[derive(Drop)]
 pub struct SameOf {
     /// That capture's number.
     pub number: u32,
