@@ -47,7 +47,7 @@ use warc_journal::Place;
 use warc_scan::{Group, HeadedGroup};
 
 /// Why what was found isn't gathered.
-#[derive(Clone, Copy, Debug, PartialEq, Eq)]
+#[derive(Clone, Copy)]
 pub(crate) enum Refusal {
     /// No sound book goes on with it.
     Damaged,

@@ -10,7 +10,7 @@ use http_head::{ResponseHead, WireFault};
 use message_body::framing_of;
 
 /// What a head tells of the length of a payload.
-#[derive(Clone, Copy, Debug, PartialEq, Eq)]
+#[derive(Clone, Copy)]
 pub(crate) enum Told {
     /// Nothing.
     Any,

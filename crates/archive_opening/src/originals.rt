@@ -9,7 +9,7 @@ use warc_scan::Revisited;
 use warc_text::{IdKind, id_of};
 
 /// What a revisit tells of the capture that it refers to.
-#[derive(Clone, Copy, Debug)]
+#[derive(Clone, Copy)]
 pub(crate) struct Sought<'a> {
     /// The namespace of the archive.
     pub(crate) namespace: &'a Uuid,

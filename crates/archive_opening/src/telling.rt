@@ -39,7 +39,7 @@ use volume_scan::{
 use warc_text::files_stand_for_one_book;
 
 /// What was read in one step.
-#[derive(Clone, Copy, Debug, PartialEq, Eq)]
+#[derive(Clone, Copy)]
 pub(crate) enum Step {
     /// The warcinfo of the volume with this number.
     Begun(u32),

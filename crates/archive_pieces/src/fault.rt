@@ -6,7 +6,7 @@ use capture::{Digest, Memory};
 use thiserror::Error;
 
 /// Why a piece wasn't taken.
-#[derive(Clone, Copy, Debug, PartialEq, Eq, Error)]
+#[derive(Clone, Copy, Debug, Error)]
 pub enum PieceFault {
     /// The archive holds as many captures as it may: `count` is how many it holds, `limit` its limit.
     #[error("the archive is full: it holds {count} captures, and its limit is {limit}")]

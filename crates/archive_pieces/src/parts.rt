@@ -13,7 +13,7 @@ use uuid::Uuid;
 use warc_scan::{Group, GroupStep, InfoStep, next_group, next_info};
 
 /// The warcinfo with which a piece begins.
-#[derive(Clone, Copy, Debug)]
+#[derive(Clone, Copy)]
 pub(crate) struct Front {
     /// When its volume was born.
     pub(crate) born: u64,

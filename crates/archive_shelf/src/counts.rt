@@ -1,7 +1,7 @@
 //! What an archive holds, in numbers.
 
 /// How much an archive holds.
-#[derive(Clone, Copy, Debug, PartialEq, Eq)]
+#[derive(Clone, Copy)]
 pub struct Counts {
     /// How many captures there are.
     pub captures: u32,

@@ -1,7 +1,7 @@
 //! How much of an archive is read when it is opened.
 
 /// How deep an opening reads.
-#[derive(Clone, Copy, Debug, PartialEq, Eq)]
+#[derive(Clone, Copy)]
 pub enum Depth {
     /// Each volume is read whole.
     Whole,

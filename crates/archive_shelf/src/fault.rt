@@ -9,7 +9,7 @@ use uuid::Uuid;
 use warc_journal::DiskFault;
 
 /// Why a capture wasn't stored.
-#[derive(Clone, Copy, Debug, PartialEq, Eq, Error)]
+#[derive(Clone, Copy, Debug, Error)]
 pub enum StoreFault {
     /// The archive holds as many captures as it may: `count` is how many it holds, `limit` its limit.
     #[error("the archive is full: it holds {count} captures, and its limit is {limit}")]
@@ -64,7 +64,7 @@ impl From<DiskFault> for StoreFault {
 }
 
 /// Why a capture wasn't brought.
-#[derive(Clone, Copy, Debug, PartialEq, Eq, Error)]
+#[derive(Clone, Copy, Debug, Error)]
 pub enum BringFault {
     /// There is no capture of that number: `count` is how many there are.
     #[error("there are {count} captures, and none of this number")]
@@ -118,7 +118,7 @@ impl From<DiskFault> for BringFault {
 }
 
 /// Why no volume was begun.
-#[derive(Clone, Copy, Debug, PartialEq, Eq, Error)]
+#[derive(Clone, Copy, Debug, Error)]
 pub enum RollFault {
     /// The disk failed: its count of faults rose.
     #[error("the disk failed")]
@@ -149,7 +149,7 @@ impl From<DiskFault> for RollFault {
 }
 
 /// Why an archive wasn't opened. Nothing on the disk was changed.
-#[derive(Clone, Copy, Debug, PartialEq, Eq, Error)]
+#[derive(Clone, Copy, Debug, Error)]
 pub enum ReopenFault {
     /// The files stand for no sound book: `place` is where in `file` the first group, warcinfo or remainder stands with
     /// which none goes on, in bytes.

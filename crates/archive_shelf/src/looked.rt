@@ -4,7 +4,7 @@ ghost use Rattle.capture.specs.declared.book.Book.{Book};
 ghost use Rattle.archive_shelf.specs.Comparing.{IsRight};
 
 /// What was found of a payload among the captures below a number.
-#[derive(Clone, Copy, Debug, PartialEq, Eq)]
+#[derive(Clone, Copy)]
 pub struct Looked {
     /// The number of captures that were looked at: those below it.
     pub upto: u32,

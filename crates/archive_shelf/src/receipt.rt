@@ -1,7 +1,7 @@
 //! What a store that succeeded answers.
 
 /// That a capture was stored, and as which one.
-#[derive(Clone, Copy, Debug, PartialEq, Eq)]
+#[derive(Clone, Copy)]
 pub struct Receipt {
     /// The capture's number.
     pub number: u32,

@@ -36,7 +36,7 @@ use warc_journal::Place;
 const PIECE_LEN: usize = 65_536;
 
 /// How the payload of a capture compares with another one.
-#[derive(Clone, Copy, Debug, PartialEq, Eq)]
+#[derive(Clone, Copy)]
 pub(crate) enum Compared {
     /// It is the same, byte for byte.
     Same,

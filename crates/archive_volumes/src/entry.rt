@@ -33,7 +33,7 @@ use url::Url;
 const NOT_MODIFIED: u16 = 304;
 
 /// Which capture a record is of, and where it stands.
-#[derive(Clone, Copy, Debug, PartialEq, Eq)]
+#[derive(Clone, Copy)]
 pub struct RecordAt {
     /// The capture's number.
     pub number: u32,
@@ -48,7 +48,7 @@ pub struct RecordAt {
 }
 
 /// What an entry tells of a capture itself.
-#[derive(Clone, Copy, Debug)]
+#[derive(Clone, Copy)]
 pub struct Asked<'s> {
     /// The request's method.
     pub method: &'s [u8],

@@ -79,7 +79,7 @@ fn block_len(taken: &Taken, same: Option<u32>) -> u64
 }
 
 /// How a capture's group is laid out.
-#[derive(Clone, Copy, Debug, PartialEq, Eq)]
+#[derive(Clone, Copy)]
 pub struct Layout {
     /// The length of its first record, a response or a revisit, in bytes.
     pub record_len: u64,

@@ -24,7 +24,7 @@ use warc_journal::{DiskFault, Place};
 use warc_scan::{NoRecord, Outline, next_outline};
 
 /// The group of a capture, as it was read.
-#[derive(Debug, Drop)]
+#[derive(Drop)]
 pub enum KeptGroup {
     /// A group with the capture's number: its bytes, and what they tell.
     Right { bytes: Bytes, outline: Outline },

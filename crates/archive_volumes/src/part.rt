@@ -14,7 +14,7 @@ use std::alloc::{AllocError, Global};
 use warc_journal::{DiskFault, Place};
 
 /// Why bytes weren't read.
-#[derive(Clone, Copy, Debug, PartialEq, Eq)]
+#[derive(Clone, Copy)]
 pub enum ReadFault {
     /// The disk failed: its count of faults rose.
     DiskFault,

@@ -17,7 +17,7 @@ use disk_model::Disk;
 use std::alloc::Global;
 
 /// A capture that keeps its wire, as it was read.
-#[derive(Debug, Drop)]
+#[derive(Drop)]
 pub(crate) enum ReadBack {
     /// Its head, and its payload, which has the digest that is kept.
     Right { head: Bytes, payload: Bytes },

@@ -26,7 +26,7 @@ use uuid::Uuid;
 use warc_scan::{Group, GroupStep, Revisited, next_group};
 
 /// A capture, as its group tells it.
-#[derive(Debug, Drop)]
+#[derive(Drop)]
 pub(crate) enum Reread {
     /// It keeps its wire: its head, and its payload, which has the digest that is kept; and whether the response was cut.
     Own {

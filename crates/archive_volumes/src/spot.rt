@@ -14,7 +14,7 @@ use std::alloc::Global;
 use warc_journal::Place;
 
 /// In which form a capture is kept.
-#[derive(Clone, Copy, Debug, PartialEq, Eq)]
+#[derive(Clone, Copy)]
 pub enum Form {
     /// With its whole wire.
     Whole,
@@ -67,7 +67,7 @@ impl Form {
 
 /// What is kept of a capture in memory: what it is, and where its head and its wire stand. They are read where they are
 /// needed, so that its size doesn't grow with them.
-#[derive(Debug, Drop)]
+#[derive(Drop)]
 pub struct Spot {
     /// The request's method.
     pub method: ShortText,

@@ -17,7 +17,7 @@ use surt_key::Key;
 /// A capture in the index. A clause sees its parts.
 ///
 /// The date has a text, the status is of three digits, and the key is that of the uri.
-#[derive(Debug, PartialEq, Eq, Drop)]
+#[derive(Drop)]
 pub struct Entry {
     /// The look-up key of the uri.
     pub key: Key,

@@ -3,7 +3,7 @@ use capture::Taken;
 use surt_key::Key;
 
 /// What is asked of an archive, or what happens to its disk.
-#[derive(Debug, Drop)]
+#[derive(Drop)]
 pub enum Event {
     /// A capture is stored.
     Store(Taken),

@@ -5,7 +5,7 @@ use cdxj_index::Entry;
 use checkpoint::CheckpointFault;
 
 /// Why an event was refused.
-#[derive(Clone, Copy, Debug, PartialEq, Eq)]
+#[derive(Clone, Copy)]
 pub enum EventFault {
     /// A capture wasn't stored.
     Store(StoreFault),
@@ -20,7 +20,7 @@ pub enum EventFault {
 }
 
 /// What an event answers.
-#[derive(Debug, Drop)]
+#[derive(Drop)]
 pub enum Reply {
     /// The capture was stored, as this one.
     Stored(Receipt),

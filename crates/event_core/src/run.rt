@@ -24,7 +24,7 @@ use std::alloc::Global;
 use uuid::Uuid;
 
 /// How a run of events ended.
-#[derive(Clone, Copy, Debug, PartialEq, Eq)]
+#[derive(Clone, Copy)]
 pub enum RanEnd {
     /// Each event came.
     All,
@@ -35,7 +35,7 @@ pub enum RanEnd {
 }
 
 /// The replies to the events that came, how the run ended, and the disk as it was left.
-#[derive(Debug, Drop)]
+#[derive(Drop)]
 pub struct Ran {
     /// A reply for each event that came, in their order.
     pub replies: Items<Reply>,

@@ -21,7 +21,7 @@ const GROUPS: u64 = 32;
 const MOST_BYTES: u64 = 67_108_864;
 
 /// A place in a volume where a group is due.
-#[derive(Clone, Copy, Debug)]
+#[derive(Clone, Copy)]
 pub struct Spot {
     /// Where it is, in bytes from the volume's first byte on.
     pub place: u64,

@@ -1,7 +1,7 @@
 //! What is due in a volume's file.
 
 /// A volume's file, and the captures whose groups are due in it.
-#[derive(Clone, Copy, Debug)]
+#[derive(Clone, Copy)]
 pub struct Due {
     /// The number of the volume, which is that of its file.
     pub volume: u32,

@@ -22,7 +22,7 @@ use uuid::Uuid;
 const SHARES: usize = 4;
 
 /// How far the groups of a volume stand.
-#[derive(Clone, Copy, Debug)]
+#[derive(Clone, Copy)]
 pub struct Found {
     /// How many of them stand.
     pub groups: u32,

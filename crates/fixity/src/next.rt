@@ -8,7 +8,7 @@ use uuid::Uuid;
 use warc_scan::{NoRecord, next_outline};
 
 /// What stands where a group is due.
-#[derive(Clone, Copy, Debug, PartialEq, Eq)]
+#[derive(Clone, Copy)]
 pub enum Next {
     /// The group, of so many bytes.
     Stands(u64),

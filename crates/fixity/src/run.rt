@@ -19,7 +19,7 @@ use std::thread::Threads;
 use uuid::Uuid;
 
 /// Why no further group of a run is told.
-#[derive(Clone, Copy, Debug, PartialEq, Eq)]
+#[derive(Clone, Copy)]
 pub enum RunEnd {
     /// No further one is due.
     Whole,
@@ -30,7 +30,7 @@ pub enum RunEnd {
 }
 
 /// Groups that stand one behind the other.
-#[derive(Clone, Copy, Debug)]
+#[derive(Clone, Copy)]
 pub struct Run {
     /// How many they are.
     pub groups: u32,

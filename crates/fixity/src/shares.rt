@@ -9,7 +9,7 @@ use warc_scan::told_len;
 
 /// A part of a batch that is whole groups, by the lengths which their records tell, and that one worker reads. Places and lengths
 /// are in bytes, from the batch's first byte on.
-#[derive(Clone, Copy, Debug)]
+#[derive(Clone, Copy)]
 pub struct Share {
     /// Where it begins.
     pub at: usize,
@@ -22,7 +22,7 @@ pub struct Share {
 }
 
 /// Groups at the front of bytes.
-#[derive(Clone, Copy, Debug)]
+#[derive(Clone, Copy)]
 pub struct Front {
     /// How many they are.
     pub groups: u32,

@@ -1,7 +1,7 @@
 //! What a check of a volume's bytes finds.
 
 /// What the bytes of a volume are. Places and lengths are in bytes, from the volume's first byte on.
-#[derive(Clone, Copy, Debug, PartialEq, Eq)]
+#[derive(Clone, Copy)]
 pub enum Verdict {
     /// The volume's warcinfo, the groups of all its captures, and nothing behind them, or in the last volume an unfinished tail.
     Sound {

@@ -18,7 +18,7 @@ const CLOSED: u8 = b'-';
 /// that a stop cut short is an unfinished tail behind the finished ones.
 ///
 /// The disk isn't part of it: each call is lent the disk.
-#[derive(Clone, Copy, Debug, PartialEq, Eq)]
+#[derive(Clone, Copy, PartialEq, Eq)]
 pub struct GatedFile {
     /// The kind of the file.
     pub kind: Kind,

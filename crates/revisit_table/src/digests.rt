@@ -15,7 +15,7 @@ use std::marker::Model;
 /// each digest with a capture's number, and the digest for which room is reserved.
 ///
 /// The numbers of that list rise strictly. Only `of`, `reserve` and `put` take memory.
-#[derive(Debug, Drop)]
+#[derive(Drop)]
 pub struct Digests {
     kept: Vec<(Digest, u32)>,
     lists: BTreeMap<Digest, Numbers>,

@@ -11,7 +11,7 @@ use std::mem::replace;
 
 /// Captures by digest, as they are read from a disk, which wait in a list until the table is asked. A clause sees all of them, and
 /// those that wait. Their numbers rise strictly.
-#[derive(Debug, Drop)]
+#[derive(Drop)]
 pub struct LazyDigests {
     table: Digests,
     waiting: Vec<(Digest, u32)>,

@@ -9,7 +9,7 @@ use std::alloc::Global;
 use std::slice::from_ref;
 
 /// The numbers of the captures with one digest, which rise. Most digests have one, which takes no memory of its own.
-#[derive(Debug, Drop)]
+#[derive(Drop)]
 pub(crate) enum Numbers {
     /// None, and room for one.
     Empty,

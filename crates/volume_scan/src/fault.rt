@@ -6,7 +6,7 @@ use thiserror::Error;
 use warc_journal::DiskFault;
 
 /// Why a step answers no Ok.
-#[derive(Clone, Copy, Debug, PartialEq, Eq, Error)]
+#[derive(Clone, Copy, Debug, Error)]
 pub enum ScanFault {
     /// The files hold no archive: in this file, from this place on, stands nothing with which what was read goes on.
     #[error("damaged in file {file} at byte {place}")]

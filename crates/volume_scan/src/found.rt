@@ -4,7 +4,7 @@ use warc_journal::Place;
 use warc_scan::HeadedGroup;
 
 /// What stands next in the volumes.
-#[derive(Debug, PartialEq, Eq, Drop)]
+#[derive(Drop)]
 pub enum Found {
     /// A volume begins.
     Info {

@@ -7,7 +7,7 @@ use uuid::Uuid;
 use warc_scan::{HeadedGroup, InfoStep, NoRecord, next_headed_group, next_info};
 
 /// What stands behind the text that was read of a volume.
-#[derive(Debug, Drop)]
+#[derive(Drop)]
 pub enum NextGroup {
     /// This group.
     Group(HeadedGroup),
@@ -20,7 +20,7 @@ pub enum NextGroup {
 }
 
 /// What a file holds.
-#[derive(Debug, Drop)]
+#[derive(Drop)]
 pub enum NextInfo {
     /// A warcinfo, with what it says and its length.
     Info {
@@ -37,7 +37,7 @@ pub enum NextInfo {
 }
 
 /// Why nothing can be said yet.
-#[derive(Clone, Copy, Debug, PartialEq, Eq)]
+#[derive(Clone, Copy)]
 pub enum Unsaid {
     /// So many bytes are needed, more than were read and no more than there are.
     Need(u64),

@@ -3,7 +3,7 @@ use uuid::Uuid;
 use warc_journal::Extent;
 
 /// What was answered last.
-#[derive(Clone, Copy, Debug, PartialEq, Eq)]
+#[derive(Clone, Copy)]
 pub enum Stage {
     /// Nothing, or a group of the last volume.
     Within,
@@ -16,7 +16,7 @@ pub enum Stage {
 }
 
 /// How far the volumes were read.
-#[derive(Clone, Copy, Debug, PartialEq, Eq)]
+#[derive(Clone, Copy)]
 pub struct Position {
     /// The volumes whose warcinfo was read, and where what was read ends in the last one's file. What stands behind that is
     /// told once the end was answered.

@@ -21,7 +21,7 @@ use uuid::Uuid;
 use warc_journal::{DiskFault, Extent, Further, Journal, sync_volumes};
 
 /// The volumes of an archive on a disk, as they are read: one warcinfo or group after another, from the first file on.
-#[derive(Debug, Drop)]
+#[derive(Drop)]
 pub struct Scanning<D> {
     disk: D,
     /// How many Warc files there are.

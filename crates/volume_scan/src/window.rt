@@ -13,7 +13,7 @@ use std::alloc::{AllocError, Global};
 use warc_journal::DiskFault;
 
 /// The bytes of a file from a place on, as far as they were read.
-#[derive(Debug, Drop)]
+#[derive(Drop)]
 pub struct Window {
     /// The number of the file, and its length in bytes.
     file: u32,

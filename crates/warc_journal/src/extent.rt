@@ -8,7 +8,7 @@ use gated_file::GatedFile;
 const COMMIT_BYTE: u8 = b'W';
 
 /// What stands in the file behind the last volume's.
-#[derive(Clone, Copy, Debug, PartialEq, Eq)]
+#[derive(Clone, Copy)]
 pub enum Further {
     /// There is no such file.
     Absent,
@@ -19,7 +19,7 @@ pub enum Further {
 }
 
 /// How far the finished texts of the volumes reach, and what may stand behind them.
-#[derive(Clone, Copy, Debug, PartialEq, Eq)]
+#[derive(Clone, Copy)]
 pub struct Extent {
     /// How many volumes there are.
     pub volumes: u32,

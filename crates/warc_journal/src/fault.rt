@@ -4,7 +4,7 @@ use capture::Failed;
 use thiserror::Error;
 
 /// A call of the disk failed.
-#[derive(Clone, Copy, Debug, PartialEq, Eq, Error)]
+#[derive(Clone, Copy, Debug, Error)]
 #[error("the disk failed")]
 pub struct DiskFault;
 

@@ -17,7 +17,7 @@ use crate::{DiskFault, Extent, Place};
 use disk_model::{Disk, Kind, MemoryDisk};
 
 /// The volumes of an archive on a disk.
-#[derive(Debug, Drop)]
+#[derive(Drop)]
 pub struct Journal<D> {
     disk: D,
     extent: Extent,

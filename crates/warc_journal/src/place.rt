@@ -1,7 +1,7 @@
 //! Where a text stands.
 
 /// The place of a text in the volumes.
-#[derive(Clone, Copy, Debug, PartialEq, Eq)]
+#[derive(Clone, Copy)]
 pub struct Place {
     /// The number of the volume.
     pub volume: u32,
