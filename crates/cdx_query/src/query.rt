@@ -6,7 +6,7 @@ use capture::Text;
 use surt_key::Key;
 
 /// How the key of an entry stands to that of the query's URL.
-#[derive(Clone, Copy, Debug, PartialEq, Eq)]
+#[derive(Clone, Copy)]
 pub enum MatchKind {
     /// It is the same key.
     Exact,
@@ -19,7 +19,7 @@ pub enum MatchKind {
 }
 
 /// What is asked of an index.
-#[derive(Debug, PartialEq, Eq, Drop)]
+#[derive(Drop)]
 pub struct Query {
     /// The look-up key of the URL.
     pub key: Key,

@@ -16,7 +16,7 @@ pub enum Status {
 }
 
 /// A run's status, and its disk again.
-#[derive(Debug, Drop)]
+#[derive(Drop)]
 pub struct Ran<D> {
     pub status: Status,
     pub disk: D,

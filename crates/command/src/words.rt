@@ -18,7 +18,7 @@ const EXCHANGES: u32 = 20_000;
 const WORKERS: u32 = 16;
 
 /// What the words ask for.
-#[derive(Clone, Copy, Debug, PartialEq, Eq)]
+#[derive(Clone, Copy)]
 pub enum Command {
     /// Say how much the archive holds.
     Check,

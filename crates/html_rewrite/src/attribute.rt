@@ -8,7 +8,7 @@ ghost use Rattle.html_rewrite.specs.steps.Reading.{IsFound, IsNext, sign_len};
 use crate::bytes::{blank_len, gap_len, is_blank, is_name_end, place_of};
 
 /// The quotes round a value.
-#[derive(Clone, Copy, Debug, PartialEq, Eq)]
+#[derive(Clone, Copy)]
 pub enum Quote {
     /// `"`
     Double,

@@ -5,7 +5,7 @@ ghost use Rattle.html_rewrite.specs.Bytes.{begins};
 ghost use Rattle.html_rewrite.specs.Split as spec;
 
 /// What opens at a place.
-#[derive(Clone, Copy, Debug, PartialEq, Eq)]
+#[derive(Clone, Copy)]
 pub enum Opening {
     /// `<!--`
     Comment,

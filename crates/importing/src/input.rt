@@ -17,7 +17,7 @@ use std::alloc::Global;
 pub const INPUT_LIMIT: usize = 268_435_456;
 
 /// Why there is no input.
-#[derive(Clone, Copy, Debug, PartialEq, Eq)]
+#[derive(Clone, Copy)]
 pub enum InputFault {
     /// It went on past the limit.
     TooLong,

@@ -10,7 +10,7 @@ use std::alloc::Global;
 use warc_reader::{Reason, Skipped};
 
 /// What an import has made so far.
-#[derive(Debug, Drop)]
+#[derive(Drop)]
 pub struct Tally {
     /// A line for each record that was skipped.
     pub lines: Vec<u8>,

@@ -9,7 +9,7 @@ use capture::{Brought, Bytes, Memory, Taken, Text, put_all, put_number};
 use std::alloc::Global;
 
 /// Why something isn't known to be what is made of an exchange.
-#[derive(Clone, Copy, Debug, PartialEq, Eq)]
+#[derive(Clone, Copy)]
 pub enum CheckFault {
     /// It is another.
     Differs,

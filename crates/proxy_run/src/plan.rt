@@ -3,7 +3,7 @@ use archive_volumes::VolumeFacts;
 use uuid::Uuid;
 
 /// The volumes of an archive, and how many workers check one.
-#[derive(Debug, Drop)]
+#[derive(Drop)]
 pub struct Plan {
     /// The archive's namespace.
     pub namespace: Uuid,

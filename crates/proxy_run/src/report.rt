@@ -9,7 +9,7 @@ use fixity::Verdict;
 use std::alloc::Global;
 
 /// What a check has found so far.
-#[derive(Debug, Drop)]
+#[derive(Drop)]
 pub struct Report {
     /// A line for each volume that was checked.
     pub lines: Vec<u8>,

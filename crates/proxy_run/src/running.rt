@@ -28,7 +28,7 @@ const USAGE: &[u8] =
     b"usage: memproxy pipe NS, serve NS BASE WORKERS, check, trial COUNT NUMBER, import NS, verify WORKERS, follow NS BASE\n";
 
 /// Dialers, each with a clock of its own. `pipe` uses the first, `serve` as many as it has workers.
-#[derive(Debug, Drop)]
+#[derive(Drop)]
 pub struct Crew<N, C> {
     pub members: Vec<(N, C)>,
 }

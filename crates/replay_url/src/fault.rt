@@ -6,7 +6,7 @@ use std::alloc::AllocError;
 use thiserror::Error;
 
 /// Why `read_form` or `read_keyed_form` gave no form.
-#[derive(Clone, Copy, Debug, PartialEq, Eq, Error)]
+#[derive(Clone, Copy, Debug, Error)]
 pub enum FormFault {
     /// The address is none of the forms.
     #[error("no address of the archive")]

@@ -6,7 +6,7 @@ use capture::{Bytes, Text};
 use surt_key::KeyedUrl;
 
 /// What an address asks for.
-#[derive(Debug, PartialEq, Eq, Drop)]
+#[derive(Drop)]
 pub enum Form {
     /// The capture of a URL that is nearest to a time (RFC 7089, section 4.1.1: a memento).
     Memento {
@@ -41,7 +41,7 @@ pub enum Form {
 }
 
 /// A form with the look-up key of its URL, so that who answers it needn't make the key again.
-#[derive(Debug, PartialEq, Eq, Drop)]
+#[derive(Drop)]
 pub enum KeyedForm {
     /// As `Form::Memento`.
     Memento {

@@ -19,7 +19,7 @@ const OK: u16 = 200;
 const NO_CONTENT: u16 = 204;
 
 /// Why a source gave neither a piece nor its end.
-#[derive(Clone, Copy, Debug, PartialEq, Eq)]
+#[derive(Clone, Copy)]
 pub enum SourceFault {
     /// It wasn't reached: the dialer's count of faults rose.
     DialFault,

@@ -2,7 +2,7 @@
 use capture::Refusal;
 
 /// How a connection ended.
-#[derive(Clone, Copy, Debug, PartialEq, Eq)]
+#[derive(Clone, Copy)]
 pub enum Served {
     /// The client ended between messages, or an answer that is no refusal of its bytes closed the connection.
     Done,
