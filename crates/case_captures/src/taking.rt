@@ -20,7 +20,7 @@ use std::alloc::Global;
 use time_text::LATEST;
 
 /// A date in milliseconds, a method, a target, and what the origin sends up to its end, each behind a space.
-#[derive(Clone, Copy, Debug)]
+#[derive(Clone, Copy)]
 pub struct Exchanged<'a> {
     pub date: u64,
     pub method: &'a str,
@@ -42,7 +42,7 @@ pub fn exchanged_in(text: &[u8]) -> Option<Exchanged<'_>> {
 }
 
 /// A capture that is to be stored.
-#[derive(Debug, Drop)]
+#[derive(Drop)]
 pub struct Prepared {
     pub taken: Taken,
     /// Its payload, as the wire has it.

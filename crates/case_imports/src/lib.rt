@@ -10,7 +10,7 @@ use std::alloc::Global;
 use warc_reader::{Record, RecordFault, read_record};
 
 /// What a file holds: how many records, fields of these and bytes of their blocks.
-#[derive(Clone, Copy, Debug)]
+#[derive(Clone, Copy)]
 struct Counts {
     records: u64,
     fields: u64,

@@ -5,7 +5,7 @@ use std::rt::Clock;
 use std::time::Instant;
 
 /// A loop whose time is being taken.
-#[derive(Debug, Drop)]
+#[derive(Drop)]
 pub struct Measured {
     start: Instant,
 }

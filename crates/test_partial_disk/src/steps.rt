@@ -6,7 +6,7 @@ use std::test::Fail;
 use warc_journal::{Extent, Further, Journal};
 
 /// What is done to a journal: a text is added, a volume is begun, or it is repaired.
-#[derive(Clone, Copy, Debug, PartialEq, Eq)]
+#[derive(Clone, Copy, Debug)]
 enum Step {
     Append,
     Roll,
