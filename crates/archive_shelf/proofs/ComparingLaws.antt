@@ -9,7 +9,7 @@ use Rattle.capture.specs.declared.book.Book.{Book}
 use Rattle.capture.specs.declared.captured.Kept.{Kept}
 use Rattle.capture.specs.declared.captured.Kept.TheVariants.{Wire, Same, Cut}
 use Rattle.capture.specs.declared.captured.Stored.{Stored}
-use Rattle.archive_shelf.specs.Comparing.{Finds, HasWhole, IsFirstWith, IsRight, KeepsWire}
+use Rattle.archive_shelf.specs.Comparing.{Finds, HasWhole, IsRight, KeepsWire}
 use Rattle.archive_shelf.specs.Laws.{FirstKeepsItsWire, IsOriginal, LookedStaysRight}
 
 -- what stands in a list stands there when the list goes on
@@ -87,13 +87,11 @@ module _ (old new : Book) (added : List Stored) (is : captures new ≡ captures 
   finds_later upto payload (Some number) sound within found = (
     found.0,
     found.1,
-    record {
-      does = whole_later number payload found.2.does;
-      first = λ other does. ⊎_elim
-          (λ (less : other < number). found.2.first other (whole_before other payload sound (omega (arith, less, within, found.1)) does))
-          (λ (le : number ≤ other). le)
-          (cases_lt other number);
-    },
+    whole_later number payload found.2,
+    λ other does. ⊎_elim
+        (λ (less : other < number). found.3 other (whole_before other payload sound (omega (arith, less, within, found.1)) does))
+        (λ (le : number ≤ other). le)
+        (cases_lt other number),
   )
   finds_later upto payload None sound within found =
       λ some number less does. found some number less (whole_before number payload sound (omega (arith, less, within)) does)
@@ -126,7 +124,7 @@ original_by book number payload stored sound first placed (Same earlier) is good
 original_by book number payload stored sound first placed (Cut wire) is good has whole = cc
 
 pub first_keeps_its_wire : FirstKeepsItsWire
-first_keeps_its_wire book number payload sound is =
-    let has = is.does.has in
-    original_by book number payload has.stored sound is.first has.placed has.stored.kept refl
-    (sound.each number has.stored has.placed).kept has.by_kept is.does.whole
+first_keeps_its_wire book number payload sound is first =
+    let has = is.has in
+    original_by book number payload has.stored sound first has.placed has.stored.kept refl
+    (sound.each number has.stored has.placed).kept has.by_kept is.whole

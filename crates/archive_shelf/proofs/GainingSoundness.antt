@@ -35,7 +35,7 @@ use Rattle.archive_shelf.proofs.ShortTexts.{short_group, short_info}
 use Rattle.archive_shelf.proofs.StoringLaws.{captures_more, captures_stay, capture_grows, kept_before}
 use Rattle.archive_shelf.specs.Comparing.{Finds, IsSameAs, RefersBy}
 use Rattle.archive_shelf.specs.Gaining.{AreFilled, StoringKeepsSoundness, VolumesKeepSoundness}
-use Rattle.archive_shelf.specs.Storing.{HasLast, HasRoom, IsTextWithin, IsUnfilled, NeedsVolume, Storing, add_to_last, as_stored, kept_of, new_volume, stored_by, with_capture, with_volume}
+use Rattle.archive_shelf.specs.Storing.{HasLast, HasRoom, NeedsVolume, Storing, add_to_last, as_stored, kept_of, new_volume, stored_by, with_capture, with_volume}
 
 -- ---- what is sound stays so when captures come behind
 

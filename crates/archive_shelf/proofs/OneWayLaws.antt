@@ -15,7 +15,8 @@ use Rattle.warc_text.specs.Records.{info_text}
 use Rattle.archive_shelf.specs.Comparing.{Finds, IsSameAs, RefersBy}
 use Rattle.archive_shelf.specs.Laws.{CapturesAreStoredOneWay, IsOneWay, StoringLeavesNext}
 use Rattle.archive_shelf.specs.Openings.{IsNext, MayLeave, SameBook}
-use Rattle.archive_shelf.specs.Storing.{HasLast, HasRoom, IsTextPast, IsTextWithin, IsUnfilled, NeedsVolume, Storing, as_stored, kept_of, stored_by, with_capture, with_volume}
+use Rattle.archive_shelf.specs.Storing.{HasLast, HasRoom, NeedsVolume, Storing, as_stored, kept_of, stored_by, with_capture, with_volume}
+use Rattle.archive_shelf.proofs.StoringLaws.{IsUnfilled}
 
 -- one element at one place
 one_at : {X : Type 0} (o : Option X) (x y : X) → o ≡ Some x → o ≡ Some y → x ≡ y
@@ -54,12 +55,12 @@ one_payload one cut method head wire payload other has has₂ =
 
 finds_one : (book : Book) (upto : ℕ) (payload : List ℕ) (s t : Option ℕ) → Finds book upto payload s → Finds book upto payload t → s ≡ t
 finds_one book upto payload (Some n) (Some m) found found₂ =
-    let le : n ≤ m = found.2.first m found₂.2.does in
-    let ge : m ≤ n = found₂.2.first n found.2.does in
+    let le : n ≤ m = found.3 m found₂.2 in
+    let ge : m ≤ n = found₂.3 n found.2 in
     let same : n ≡ m = omega (arith, le, ge) in
     ap Some same
-finds_one book upto payload (Some n) None found none = absurd (none found.0 n found.1 found.2.does)
-finds_one book upto payload None (Some m) none found = absurd (none found.0 m found.1 found.2.does)
+finds_one book upto payload (Some n) None found none = absurd (none found.0 n found.1 found.2)
+finds_one book upto payload None (Some m) none found = absurd (none found.0 m found.1 found.2)
 finds_one book upto payload None None none none₂ = refl
 
 refers_one : (cut : Bool) (book : Book) (payload : List ℕ) (s t : Option ℕ) → RefersBy cut book payload s → RefersBy cut book payload t → s ≡ t
@@ -82,19 +83,19 @@ last_volume book a b =
     (ap (λ (k : ℕ). slice_get book.volumes k) (last_number book a b) ∙ b.placed)
 
 too_long : NumbersHaveOneGroup → (limit : ℕ) (book : Book) (stored : Stored) (last last₂ : HasLast book)
-    → (last.volume.captures ≡ []) ⊎ IsTextWithin limit (with_capture book stored) last.number
-    → last₂.volume.captures ≢ [] → IsTextPast limit (with_capture book stored) last₂.number → ⊥
-too_long one limit book stored last last₂ (inl empty) some past =
+    → (last.volume.captures ≡ []) ⊎ ((text : List ℕ) × IsVolumeText (with_capture book stored) last.number text × (length text ≤ limit))
+    → last₂.volume.captures ≢ [] → (text : List ℕ) → IsVolumeText (with_capture book stored) last₂.number text → limit < length text → ⊥
+too_long one limit book stored last last₂ (inl empty) some text of past =
     some (ap (λ (v : Volume). v.captures) (sym (last_volume book last last₂)) ∙ empty)
-too_long one limit book stored last last₂ (inr within) some past =
-    let is : IsVolumeText (with_capture book stored) last₂.number within.text =
-    subst (λ (k : ℕ). IsVolumeText (with_capture book stored) k within.text) (last_number book last last₂) within.is in
-    let same : within.text ≡ past.text = one_text one (with_capture book stored) last₂.number within.text past.text is past.is in
-    omega (arith, within.within, past.past, ap length same)
+too_long one limit book stored last last₂ (inr within) some text of past =
+    let is : IsVolumeText (with_capture book stored) last₂.number within.0 =
+    subst (λ (k : ℕ). IsVolumeText (with_capture book stored) k within.0) (last_number book last last₂) within.1 in
+    let same : within.0 ≡ text = one_text one (with_capture book stored) last₂.number within.0 text is of in
+    omega (arith, within.2, past, ap length same)
 
 not_both : NumbersHaveOneGroup → (limit : ℕ) (book : Book) (stored : Stored) → HasRoom limit book stored → NeedsVolume limit book stored → ⊥
 not_both one limit book stored room (inl none) = omega (arith, room.0.is_last, ap length none)
-not_both one limit book stored room (inr needs) = too_long one limit book stored room.0 needs.0 room.1 needs.1 needs.2
+not_both one limit book stored room (inr needs) = too_long one limit book stored room.0 needs.0 room.1 needs.1 needs.2 needs.3 needs.4
 
 unfilled_one : NumbersHaveOneGroup → (limit : ℕ) (book : Book) (stored : Stored) (a b : Book)
     → IsUnfilled limit book stored a → IsUnfilled limit book stored b → a ≡ b

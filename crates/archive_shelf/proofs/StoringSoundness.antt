@@ -31,10 +31,10 @@ use Rattle.archive_shelf.proofs.GainingSoundness.{captures_keep_soundness, keeps
 use Rattle.archive_shelf.proofs.GainingTexts.{last_placed, number_in_last, same_length}
 use Rattle.archive_shelf.proofs.OneWayLaws.{last_volume, one_text}
 use Rattle.archive_shelf.proofs.ShortTexts.{short_group, short_info}
-use Rattle.archive_shelf.proofs.StoringLaws.{captures_more, captures_stay}
+use Rattle.archive_shelf.proofs.StoringLaws.{captures_more, captures_stay, IsUnfilled}
 use Rattle.archive_shelf.specs.Comparing.{Finds, IsSameAs, RefersBy}
 use Rattle.archive_shelf.specs.Gaining.{AreFilled, StoringKeepsSoundness}
-use Rattle.archive_shelf.specs.Storing.{HasLast, HasRoom, IsTextWithin, IsUnfilled, NeedsVolume, Storing, add_to_last, as_stored, kept_of, new_volume, stored_by, with_capture, with_volume}
+use Rattle.archive_shelf.specs.Storing.{HasLast, HasRoom, NeedsVolume, Storing, add_to_last, as_stored, kept_of, new_volume, stored_by, with_capture, with_volume}
 
 -- ---- what is kept is sound
 
@@ -75,7 +75,7 @@ kept_sound book new added is method uri date request head wire payload true same
 kept_sound book new added is method uri date request head wire payload false None sound responds has finds = responds
 kept_sound book new added is method uri date request head wire payload false (Some first) sound responds has finds =
     let found = finds first refl refl in
-    let original = first_keeps_its_wire book first payload sound.sound found.2 in
+    let original = first_keeps_its_wire book first payload sound.sound found.2 found.3 in
     record {
       earlier = found.1;
       original = original.stored;
@@ -212,10 +212,10 @@ room_short one has limit book stored sound below few earlier short room k text i
     last_short one has book stored k text last.volume sound (omega (arith, few_volumes book sound, few)) is_last
     (ap (slice_get book.volumes) at ∙ last.placed) empty
     (captures_more book.volumes stored (no_volumes book.volumes (omega (arith, is_last)))) earlier short of)
-    (λ (within : IsTextWithin limit (with_capture book stored) last.number).
+    (λ (within : (other : List ℕ) × IsVolumeText (with_capture book stored) last.number other × (length other ≤ limit)).
     let here : IsVolumeText (with_capture book stored) last.number text = subst (λ (n : ℕ). IsVolumeText (with_capture book stored) n text) at of in
-    let same : text ≡ within.text = one_text one (with_capture book stored) last.number text within.text here within.is in
-    omega (arith, ap length same, within.within, below))
+    let same : text ≡ within.0 = one_text one (with_capture book stored) last.number text within.0 here within.1 in
+    omega (arith, ap length same, within.2, below))
     room.1
 
 -- and in one that got a new volume

@@ -12,19 +12,11 @@ pub record HasWhole (book : Book) (number : ℕ) (payload : List ℕ) : Type 0 w
   pub has : IsPayloadOf book number payload
   pub whole : is_cut has.stored.kept ≡ false
 
--- it is the first that does
-pub record IsFirstWith (book : Book) (number : ℕ) (payload : List ℕ) : Type 0 where
-  pub does : HasWhole book number payload
-  pub first : (other : ℕ) → HasWhole book other payload → number ≤ other
-
--- no capture below a number does
-abbrev pub HasNoneBelow : Book → ℕ → List ℕ → Type 0
-HasNoneBelow book upto payload = (number : ℕ) → number < upto → HasWhole book number payload → ⊥
-
 -- among the captures below a number this is the first with the payload, or there is none. An empty payload isn't looked for
 abbrev pub Finds : Book → ℕ → List ℕ → Option ℕ → Type 0
-Finds book upto payload (Some number) = (payload ≢ []) × (number < upto) × IsFirstWith book number payload
-Finds book upto payload None = payload ≢ [] → HasNoneBelow book upto payload
+Finds book upto payload (Some number) =
+    (payload ≢ []) × (number < upto) × HasWhole book number payload × ((other : ℕ) → HasWhole book other payload → number ≤ other)
+Finds book upto payload None = payload ≢ [] → (number : ℕ) → number < upto → HasWhole book number payload → ⊥
 
 -- the capture with this number keeps its whole wire
 pub record KeepsWire (book : Book) (number : ℕ) : Type 0 where

@@ -1,5 +1,5 @@
 -- What storing promises to those who build on it.
-use Rattle.std.specs.Prelude.{◌≡◌, ℕ, Bool, IsTrue, List, [], ◌∷◌, ◌++◌, Result}
+use Rattle.std.specs.Prelude.{◌≡◌, ℕ, Bool, IsTrue, List, [], ◌∷◌, ◌++◌, Result, ◌≤◌}
 use Rattle.capture.specs.Captures.{captures, KeepsPayload}
 use Rattle.capture.specs.Growth.{Grows}
 use Rattle.capture.specs.Soundness.{HasSoundCaptures}
@@ -7,7 +7,7 @@ use Rattle.capture.specs.declared.book.Book.{Book}
 use Rattle.capture.specs.declared.captured.Stored.{Stored}
 use Rattle.capture.specs.declared.captured.Taken.{Taken}
 use Rattle.archive_shelf.specs.Answers.{StoreLeaves}
-use Rattle.archive_shelf.specs.Comparing.{IsFirstWith, IsRight}
+use Rattle.archive_shelf.specs.Comparing.{IsRight, HasWhole}
 use Rattle.archive_shelf.specs.Contents.{Contents, Leads}
 use Rattle.archive_shelf.specs.Openings.{IsNext, MayLeave}
 use Rattle.archive_shelf.specs.Storing.{Gains, Storing, as_stored, stored_by}
@@ -58,8 +58,8 @@ pub record IsOriginal (book : Book) (number : ℕ) (payload : List ℕ) : Type 0
 -- the first capture with a payload, of those that weren't cut, is one
 abbrev pub FirstKeepsItsWire : Type 0
 FirstKeepsItsWire =
-    (book : Book) (number : ℕ) (payload : List ℕ) → HasSoundCaptures book → IsFirstWith book number payload
-    → IsOriginal book number payload
+    (book : Book) (number : ℕ) (payload : List ℕ) → HasSoundCaptures book → HasWhole book number payload
+    → ((other : ℕ) → HasWhole book other payload → number ≤ other) → IsOriginal book number payload
 
 -- two ways in which a book takes a capture are one
 pub record IsOneWay {limit : ℕ} {book : Book} {taken : Taken} (a b : Storing limit book taken) : Type 0 where

@@ -32,13 +32,9 @@ as_stored taken same = record {
 abbrev pub empty_book : List ℕ → Book
 empty_book namespace = record { namespace = namespace; volumes = [] }
 
--- a volume without captures
-abbrev pub new_volume : ℕ → Volume
-new_volume born = record { born = born; captures = [] }
-
--- the book with a new volume
+-- the book with a new volume, without captures
 abbrev pub with_volume : Book → ℕ → Book
-with_volume book born = record { namespace = book.namespace; volumes = book.volumes ++ new_volume born ∷ [] }
+with_volume book born = record { namespace = book.namespace; volumes = book.volumes ++ record { born = born; captures = [] } ∷ [] }
 
 -- the volumes with a capture more in the last one
 abbrev pub add_to_last : List Volume → Stored → List Volume
@@ -57,39 +53,26 @@ pub record HasLast (book : Book) : Type 0 where
   pub is_last : number + 1 ≡ length book.volumes
   pub placed : slice_get book.volumes number ≡ Some volume
 
--- the text of a volume is so long at most, or longer
-pub record IsTextWithin (limit : ℕ) (book : Book) (k : ℕ) : Type 0 where
-  pub text : List ℕ
-  pub is : IsVolumeText book k text
-  pub within : length text ≤ limit
-
-pub record IsTextPast (limit : ℕ) (book : Book) (k : ℕ) : Type 0 where
-  pub text : List ℕ
-  pub is : IsVolumeText book k text
-  pub past : limit < length text
-
 -- a capture needs a new volume: there is none, or the last one holds a capture and its text would pass the limit with this one
 abbrev pub NeedsVolume : ℕ → Book → Stored → Type 0
 NeedsVolume limit book stored =
     (book.volumes ≡ [])
-    ⊎ ((last : HasLast book) × (last.volume.captures ≢ []) × IsTextPast limit (with_capture book stored) last.number)
+    ⊎ ((last : HasLast book) × (last.volume.captures ≢ [])
+    × (text : List ℕ) × IsVolumeText (with_capture book stored) last.number text × (limit < length text))
 
 -- it doesn't: the last volume holds no capture, or its text stays within the limit with this one
 abbrev pub HasRoom : ℕ → Book → Stored → Type 0
 HasRoom limit book stored =
-    (last : HasLast book) × ((last.volume.captures ≡ []) ⊎ IsTextWithin limit (with_capture book stored) last.number)
+    (last : HasLast book) × ((last.volume.captures ≡ [])
+    ⊎ ((text : List ℕ) × IsVolumeText (with_capture book stored) last.number text × (length text ≤ limit)))
 
--- the book with room for the capture: with a new volume, born at its date, exactly where it needs one
-abbrev pub IsUnfilled : ℕ → Book → Stored → Book → Type 0
-IsUnfilled limit book stored room =
-    (HasRoom limit book stored × (room ≡ book)) ⊎ (NeedsVolume limit book stored × (room ≡ with_volume book stored.date))
-
--- how a book takes a capture: what that refers to, and the book with room for it
+-- how a book takes a capture: what that refers to, and the book with room for it: with a new volume, born at its date, exactly where it needs one
 pub record Storing (limit : ℕ) (book : Book) (taken : Taken) : Type 0 where
   pub same : Option ℕ
   pub unfilled : Book
   pub refers : IsSameAs book taken same
-  pub roomy : IsUnfilled limit book (as_stored taken same) unfilled
+  pub roomy : (HasRoom limit book (as_stored taken same) × (unfilled ≡ book))
+      ⊎ (NeedsVolume limit book (as_stored taken same) × (unfilled ≡ with_volume book taken.date))
 
 -- the book after it
 abbrev pub stored_by : {limit : ℕ} {book : Book} {taken : Taken} → Storing limit book taken → Book
@@ -100,6 +83,10 @@ pub record Gains (old : Book) (stored : Stored) (new : Book) : Type 0 where
   pub room : Book
   pub roomy : ((old.volumes ≢ []) × (room ≡ old)) ⊎ (room ≡ with_volume old stored.date)
   pub gained : new ≡ with_capture room stored
+
+-- a volume without captures
+abbrev pub new_volume : ℕ → Volume
+new_volume born = record { born = born; captures = [] }
 
 -- the volumes with a new one behind, where the last holds a capture
 abbrev pub rolled_in : List Volume → ℕ → List Volume

@@ -19,7 +19,7 @@ use Rattle.capture.specs.declared.framing.Framing.{Framing}
 use Rattle.capture.specs.declared.framing.Framing.TheVariants.{Empty, Length, Chunked, ToEnd}
 use Rattle.revisit_table.specs.Table.{numbers_of}
 use Rattle.warc_text.specs.Sound.{IsSound}
-use Rattle.archive_shelf.specs.Comparing.{Finds, HasNoneBelow, HasWhole, IsRight, KeepsWire}
+use Rattle.archive_shelf.specs.Comparing.{Finds, HasWhole, IsRight, KeepsWire}
 use Rattle.archive_shelf.specs.declared.fault.StoreFault.{StoreFault}
 use Rattle.archive_shelf.specs.declared.fault.StoreFault.TheVariants as stores
 use Rattle.archive_shelf.specs.declared.looked.Looked.{Looked}
@@ -291,6 +291,10 @@ whole_kept (Wire wire) e = (wire, refl)
 whole_kept (Same first) e = absurd (false≢true e)
 whole_kept (Cut wire) e = absurd (false≢true e)
 
+-- no capture below a number has the payload
+abbrev NoneBelow : Book → ℕ → List ℕ → Type 0
+NoneBelow book upto payload = (number : ℕ) → number < upto → HasWhole book number payload → ⊥
+
 module _ (one : CapturesHaveOnePayload) (book : Book) (spots : List Spot) (are : AreSpotsOf book spots) (texts : List (List ℕ)) (placed : ArePlaced texts book spots)
     (sound : IsSound book) (payload : List ℕ) (upto : ℕ) where
   abbrev candidates : List ℕ
@@ -315,19 +319,19 @@ module _ (one : CapturesHaveOnePayload) (book : Book) (spots : List Spot) (are :
       none m = omega arith
 
   -- nobody who was looked at keeps it
-  holder_past : HasNoneBelow book upto payload → (other : ℕ) (h : Holder book other payload) → upto ≤ h.number
+  holder_past : NoneBelow book upto payload → (other : ℕ) (h : Holder book other payload) → upto ≤ h.number
   holder_past below other h = ⊎_elim
       (λ (less : h.number < upto). absurd (below h.number less (record { has = h.has; whole = ap is_cut h.keeps })))
       (λ (le : upto ≤ h.number). le)
       (cases_lt h.number upto)
 
-  none_below : HasNoneBelow book upto payload → NoneHas book candidates (length candidates) payload → (bound : ℕ) → HasNoneBelow book bound payload
+  none_below : NoneBelow book upto payload → NoneHas book candidates (length candidates) payload → (bound : ℕ) → NoneBelow book bound payload
   none_below below none bound number less does =
       let h : Holder book number payload = holder_of book number payload sound does in
       let s : Stands candidates h.number = holder_stands number h (holder_past below number h) in
       none s.place s.within (subst (λ (m : ℕ). HasWhole book m payload) s.is (record { has = h.has; whole = ap is_cut h.keeps }))
 
-  first_below : HasNoneBelow book upto payload → IsStrictlyIncreasing candidates → (found place : ℕ) → found ≡ get_or candidates place 0
+  first_below : NoneBelow book upto payload → IsStrictlyIncreasing candidates → (found place : ℕ) → found ≡ get_or candidates place 0
       → NoneHas book candidates place payload → (other : ℕ) → HasWhole book other payload → found ≤ other
   first_below below rising found place is before other does = ⊎_elim
       (λ (less : other < found).
@@ -376,13 +380,13 @@ module _ (tells : Bool) (book : Book) (spots : List Spot) (are : AreSpotsOf book
         earlier = (omega (arith, was.0, right.within, are.count), was.1);
         finds = λ told.
             let found : Finds book looked.upto payload (Some same) = subst (λ (s : Option ℕ). Finds book looked.upto payload s) is (right.finds told) in
-            (found.0, omega (arith, was.0, right.within, are.count), found.2);
+            (found.0, omega (arith, was.0, right.within, are.count), found.2, found.3);
       }
 
   module _ (one : CapturesHaveOnePayload) (texts : List (List ℕ)) (placed : IsTrue tells → ArePlaced texts book spots) (sound : IsTrue tells → IsSound book)
       (candidates : List ℕ) (is : candidates ≡ candidates_of looked.upto payload spots) (rising : IsStrictlyIncreasing candidates)
       (some : payload ≢ []) (none : looked.same ≡ None) where
-    none_before : IsTrue tells → HasNoneBelow book looked.upto payload
+    none_before : IsTrue tells → NoneBelow book looked.upto payload
     none_before told = subst (λ (s : Option ℕ). Finds book looked.upto payload s) none (right.finds told) some
 
     -- no candidate has it
@@ -406,12 +410,10 @@ module _ (tells : Bool) (book : Book) (spots : List Spot) (are : AreSpotsOf book
           finds = λ told. (
             some,
             less,
-            record {
-              does = first.has told;
-              first = first_below one book spots are texts (placed told) (sound told) payload looked.upto (none_before told)
-                  (subst IsStrictlyIncreasing is rising) found first.place (first.is ∙ ap (λ (l : List ℕ). get_or l first.place 0) is)
-                  (subst (λ (l : List ℕ). NoneHas book l first.place payload) is (first.before told));
-            },
+            first.has told,
+            first_below one book spots are texts (placed told) (sound told) payload looked.upto (none_before told)
+                (subst IsStrictlyIncreasing is rising) found first.place (first.is ∙ ap (λ (l : List ℕ). get_or l first.place 0) is)
+                (subst (λ (l : List ℕ). NoneHas book l first.place payload) is (first.before told)),
           );
         }
 

@@ -117,7 +117,7 @@ module _ (old new : Book) (taken : Taken) (same : Option ℕ) (gains : captures 
       subst (λ (m : List ℕ). HasPayload false m stored.head wire payload) (sym is_method)
       (subst (λ (h : List ℕ). HasPayload false method h wire payload) (sym is_head) has)
   payload_by method head wire payload false (Some first) stored is_method is_head sound has refers =
-      let is : IsOriginal old first payload = first_keeps_its_wire old first payload sound.sound refers.2 in (
+      let is : IsOriginal old first payload = first_keeps_its_wire old first payload sound.sound refers.2 refers.3 in (
         is.stored,
         is.wire,
         record {

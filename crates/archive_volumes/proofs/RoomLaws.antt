@@ -153,7 +153,7 @@ module _ {D : Type 0} (d : Ghosts D) (journal : Journal D) (book : Book) (stored
     last,
     ⊎_elim
         (λ (empty : is_filled book.volumes ≡ false). inl (none_by last.volume.captures (sym is_last_of ∙ empty)))
-        (λ (within : last_len journal + length group ≤ limit). inr (record { text = text; is = is_text; within = omega (arith, within, text_long) }))
+        (λ (within : last_len journal + length group ≤ limit). inr (text, is_text, omega (arith, within, text_long)))
         which,
   )
 
@@ -161,5 +161,7 @@ module _ {D : Type 0} (d : Ghosts D) (journal : Journal D) (book : Book) (stored
   room_past limit full past = inr (
     last,
     (λ none. absurd (omega (arith, some_by last.volume.captures (sym is_last_of ∙ full), ap length none))),
-    record { text = text; is = is_text; past = omega (arith, past, text_long) },
+    text,
+    is_text,
+    omega (arith, past, text_long),
   )

@@ -80,7 +80,7 @@ module _ (book new : Book) (method uri : List ℕ) (date : ℕ) (request head wi
   group_by false (Some first) other group gains has refers tells composed =
       let number : ℕ = length (captures book) in
       let stored : Stored = as_stored (of_cut false) (Some first) in
-      let is : IsOriginal book first payload = first_keeps_its_wire book first payload sound.sound refers.2 in
+      let is : IsOriginal book first payload = first_keeps_its_wire book first payload sound.sound refers.2 refers.3 in
       let keeps : KeepsPayload book first is.stored is.wire payload = is.keeps in
       record {
         payload_is = refl;

@@ -14,11 +14,11 @@ use Rattle.warc_text.specs.Books.{IsGroupText}
 use Rattle.warc_text.specs.Fits.{Fits}
 use Rattle.warc_text.specs.Sound.{IsSound}
 use Rattle.archive_shelf.proofs.GainingSoundness.{no_volumes}
-use Rattle.archive_shelf.proofs.StoringLaws.{captures_more, captures_stay}
+use Rattle.archive_shelf.proofs.StoringLaws.{captures_more, captures_stay, IsUnfilled}
 use Rattle.archive_shelf.specs.Comparing.{IsSameAs, RefersBy}
 use Rattle.archive_shelf.specs.Gaining.{CapturesAddTheirGroup, StoringKeepsSoundness}
 use Rattle.archive_shelf.specs.Answers.{IsByRule}
-use Rattle.archive_shelf.specs.Storing.{IsUnfilled, NeedsVolume, as_stored, new_volume, with_capture, with_volume}
+use Rattle.archive_shelf.specs.Storing.{NeedsVolume, as_stored, new_volume, with_capture, with_volume}
 use Rattle.archive_shelf.specs.declared.receipt.Receipt.{Receipt}
 use Rattle.archive_volumes.proofs.ChangeLaws.{no_volumes_by}
 use Rattle.archive_volumes.proofs.RoomLaws.{room_past, room_within}

@@ -1,7 +1,7 @@
 -- Books that took the exchanges of a load.
-use Rattle.std.specs.Prelude.{◌≡◌, ℕ, zero, suc, ◌<◌, Bool, IsTrue, List}
+use Rattle.std.specs.Prelude.{◌≡◌, ℕ, zero, suc, ◌<◌, Bool, IsTrue, List, []}
 use Rattle.archive_shelf.specs.Openings.{HasJust}
-use Rattle.archive_shelf.specs.Storing.{Storing, empty_book, stored_by}
+use Rattle.archive_shelf.specs.Storing.{Storing, stored_by}
 use Rattle.archive_shelf.specs.Told.{Told}
 use Rattle.capture.specs.Captures.{IsPayloadOf}
 use Rattle.capture.specs.declared.book.Book.{Book}
@@ -9,7 +9,7 @@ use Rattle.load_maker.specs.Load.{payload, taken_of}
 
 -- the book of this namespace that took the first so many exchanges of a load, one after the other, each by the rule of storing
 abbrev pub HoldsFirst : (limit : ℕ) (namespace : List ℕ) (seed count : ℕ) → Book → Type 0
-HoldsFirst limit namespace seed zero book = book ≡ empty_book namespace
+HoldsFirst limit namespace seed zero book = book ≡ record { namespace = namespace; volumes = [] }
 HoldsFirst limit namespace seed (suc count) book =
     (before : Book) × HoldsFirst limit namespace seed count before
     × (storing : Storing limit before (taken_of seed count)) × (book ≡ stored_by storing)

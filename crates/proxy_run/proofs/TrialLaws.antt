@@ -2,9 +2,10 @@
 use Rattle.std.proofs.Common.{◌≡◌, ℕ, zero, suc, ◌+◌, List, [], ◌∷◌, ◌++◌, length, sum_by, min, refl, sym, ap, subst, ◌∙◌, inl, inr, arith}
 use Rattle.std.proofs.lemmas.List.Sums.{sum_by-append}
 use Rattle.archive_shelf.specs.Openings.{HasJust}
-use Rattle.archive_shelf.specs.Storing.{IsUnfilled, counts_of, empty_book}
+use Rattle.archive_shelf.specs.Storing.{counts_of, empty_book}
 use Rattle.archive_shelf.specs.Told.{Told}
 use Rattle.archive_shelf.specs.declared.counts.Counts.{Counts}
+use Rattle.archive_shelf.proofs.StoringLaws.{IsUnfilled}
 use Rattle.capture.specs.declared.book.Book.{Book}
 use Rattle.capture.specs.declared.book.Volume.{Volume}
 use Rattle.capture.specs.declared.captured.Stored.{Stored}

@@ -89,7 +89,7 @@ kept_has : Storage → (book after : Book) (taken : Taken) (cut : Bool) (same : 
 kept_has laws book after taken true same payload known e grown sound placed has_known refers has = has
 kept_has laws book after taken false None payload known e grown sound placed has_known refers has = has
 kept_has laws book after taken false (Some first) payload known e grown sound placed has_known refers has =
-    revisit_has laws book after taken first payload grown sound placed known has_known refers.2.does.has has
+    revisit_has laws book after taken first payload grown sound placed known has_known refers.2.has has
 
 by_rule : Storage → (limit : ℕ) (book : Book) (taken : Taken) (storing : Storing limit book taken) (after : Book) (payload : List ℕ)
     → after ≡ stored_by storing → HasPayload taken.cut taken.method taken.head taken.wire payload → HasSoundCaptures after
