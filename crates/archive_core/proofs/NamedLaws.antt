@@ -10,7 +10,7 @@ use Rattle.disk_model.specs.declared.disk.Disk.{Ghosts}
 use Rattle.httparse.specs.Grammar.{ResponseHead}
 use Rattle.warc_text.proofs.BookLaws.{get_behind}
 use Rattle.archive_shelf.proofs.EntryLaws.{contains_entry}
-use Rattle.archive_shelf.specs.Answers.{BringsAsShown, IsNamed, TellDigest}
+use Rattle.archive_shelf.specs.Answers.{BringsAsShown, IsNamed}
 use Rattle.archive_volumes.proofs.ChooseLaws.{there_is}
 use Rattle.archive_volumes.specs.Digests.{BringsDigest}
 use Rattle.archive_volumes.specs.Entries.{EntersAs, entered}
@@ -96,12 +96,12 @@ module _ {D : Type 0} (d : Ghosts D) (held : Holdings D) (number : ℕ) (is : Is
       let one = told_by entry has at in
       let its = is.spots.each number one.0 one.1 in
       let same : its.stored ≡ names.stored = same_Some its.stored names.stored (sym its.placed ∙ names.placed) in
-      record {
-        uri = one.2.uri ∙ its.uri ∙ ap (λ (s : Stored). s.uri) same ∙ sym names.uri;
-        date = one.2.date ∙ its.date ∙ ap (λ (s : Stored). s.date) same ∙ sym names.date;
-        digest = one.2.digest ∙ sym (own one.0 one.1);
-      }
+      (
+        one.2.uri ∙ its.uri ∙ ap (λ (s : Stored). s.uri) same ∙ sym names.uri,
+        one.2.date ∙ its.date ∙ ap (λ (s : Stored). s.date) same ∙ sym names.date,
+        one.2.digest ∙ sym (own one.0 one.1),
+      )
 
   pub digest_shown : (digest : List ℕ) → ((spot : Spot) → slice_get held.spots number ≡ Some spot → digest ≡ spot.digest)
-      → TellDigest (numbered held.index) number digest
+      → (entry : Facts) → Contains (numbered held.index) entry → entry.number ≡ number → entry.digest ≡ digest
   digest_shown digest own entry has at = let one = told_by entry has at in one.2.digest ∙ sym (own one.0 one.1)

@@ -134,19 +134,11 @@ AgreesAt shelf number = (entry : Facts) → Contains shelf.shown entry → entry
 abbrev pub ShowsNone : Contents → ℕ → Type 0
 ShowsNone shelf number = (entry : Facts) → Contains shelf.shown entry → entry.number ≢ number
 
--- what is brought is what an entry tells: its target, its date, and the digest of its payload
-pub record IsAsShown (entry : Facts) (brought : Brought) : Type 0 where
-  pub uri : entry.uri ≡ brought.uri
-  pub date : entry.date ≡ brought.date
-  pub digest : entry.digest ≡ sha1 brought.payload
-
--- so it is by each of these entries under the number
+-- what is brought is what each of these entries under the number tells: its target, its date, and the digest of its payload
 abbrev pub BringsAsShown : List Facts → ℕ → Brought → Type 0
-BringsAsShown entries number brought = (entry : Facts) → Contains entries entry → entry.number ≡ number → IsAsShown entry brought
-
--- each of these entries under the number tells this digest
-abbrev pub TellDigest : List Facts → ℕ → List ℕ → Type 0
-TellDigest entries number digest = (entry : Facts) → Contains entries entry → entry.number ≡ number → entry.digest ≡ digest
+BringsAsShown entries number brought =
+    (entry : Facts) → Contains entries entry → entry.number ≡ number
+    → (entry.uri ≡ brought.uri) × (entry.date ≡ brought.date) × (entry.digest ≡ sha1 brought.payload)
 
 -- What bringing a capture answers, by what is seen and shown after it. There is none exactly where the number isn't below the
 -- count; want of memory may be answered anywhere. Whatever is told, what is brought is what the entry tells that is shown.

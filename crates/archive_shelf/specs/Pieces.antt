@@ -1,5 +1,5 @@
 -- The piece of a capture: its group, and the warcinfo of its volume before it where it is the first of that.
-use Rattle.std.specs.Prelude.{◌≡◌, ◌≢◌, ◌⊎◌, ℕ, ◌<◌, ◌≤◌, IsTrue, List, [], ◌++◌, length, slice_get, Option, Some, Result, Ok, Err, ⊤}
+use Rattle.std.specs.Prelude.{◌≡◌, ◌≢◌, ◌⊎◌, ℕ, ◌<◌, ◌≤◌, IsTrue, List, [], ◌++◌, length, slice_get, Option, Some, Result, Ok, Err, ⊤, Contains}
 use Rattle.capture.specs.Captures.{captures, first_number}
 use Rattle.capture.specs.declared.book.Book.{Book}
 use Rattle.capture.specs.declared.book.Volume.{Volume}
@@ -8,7 +8,7 @@ use Rattle.cdxj_index.specs.Facts.{Facts}
 use Rattle.warc_text.specs.Books.{IsGroupText}
 use Rattle.warc_text.specs.Records.{group_text, info_text}
 use Rattle.warc_text.specs.References.{Reference}
-use Rattle.archive_shelf.specs.Answers.{IsDamaged, ShowsNone, TellDigest}
+use Rattle.archive_shelf.specs.Answers.{IsDamaged, ShowsNone}
 use Rattle.archive_shelf.specs.Contents.{Contents}
 use Rattle.archive_shelf.specs.declared.fault.BringFault.{BringFault}
 use Rattle.archive_shelf.specs.declared.fault.BringFault.TheVariants as brings
@@ -21,14 +21,10 @@ pub record IsFirstOf (book : Book) (number k : ℕ) : Type 0 where
   pub first : number ≡ first_number book k
 
 -- the warcinfo of the volume of which the capture is the first; or nothing, where it is the first of none
-pub record BeginsVolume (book : Book) (number : ℕ) (front : List ℕ) : Type 0 where
-  pub k : ℕ
-  pub is : IsFirstOf book number k
-  pub info : front ≡ info_text book.namespace k is.volume.born
-
 abbrev pub IsFront : Book → ℕ → List ℕ → Type 0
 IsFront book number front =
-    BeginsVolume book number front ⊎ (((k : ℕ) → IsFirstOf book number k → ⊥) × (front ≡ []))
+    ((k : ℕ) × (is : IsFirstOf book number k) × (front ≡ info_text book.namespace k is.volume.born))
+    ⊎ (((k : ℕ) → IsFirstOf book number k → ⊥) × (front ≡ []))
 
 -- the piece of the capture with this number
 pub record IsPiece (book : Book) (number : ℕ) (bytes : List ℕ) : Type 0 where
@@ -50,7 +46,7 @@ pub record IsSomePiece (book : Book) (number : ℕ) (bytes : List ℕ) : Type 0 
 -- and its group tells the digest of each of these entries under the number
 pub record IsShownPiece (book : Book) (entries : List Facts) (number : ℕ) (bytes : List ℕ) : Type 0 where
   pub piece : IsSomePiece book number bytes
-  pub digest : TellDigest entries number piece.digest
+  pub digest : (entry : Facts) → Contains entries entry → entry.number ≡ number → entry.digest ≡ piece.digest
 
 -- What asking for a piece answers, by what is seen and shown after it. There is none exactly where the number isn't below the
 -- count; want of memory may be answered anywhere.
