@@ -1,8 +1,10 @@
 -- What opening an archive gives where its book may be known: to somebody who kept the disk. By checkpoints only such a book is told, since a
 -- checkpoint may say something else than its volume holds.
-use Rattle.std.specs.Prelude.{◌≡◌, ◌⊎◌, Bool, false, Contains, IsTrue, IfSome, List, ℕ, [], slice_get, Option, Some, None}
+use Rattle.std.specs.Prelude.{◌≡◌, ◌⊎◌, Bool, false, Contains, IsTrue, IfSome, List, ℕ, [], slice_get, Option, Some, None, ◌≢◌}
 use Rattle.capture.specs.declared.book.Book.{Book}
 use Rattle.capture.specs.declared.limits.Limits.{Limits}
+use Rattle.capture.specs.Captures.{captures}
+use Rattle.capture.specs.declared.captured.Stored.{Stored}
 use Rattle.cdxj_index.specs.Facts.{Facts}
 use Rattle.disk_model.specs.declared.disk.Disk.{Ghosts}
 use Rattle.warc_journal.specs.Extents.{warc_files}
@@ -18,7 +20,6 @@ use Rattle.archive_opening.specs.Opening.{CountsFault, IsCause, IsDamageIn, IsIn
 use Rattle.archive_opening.specs.Refusing.{IsBorneOut}
 use Rattle.archive_opening.specs.Telling.{AreCheckpointsSynced, AreReadOrTold, HasCheckpointsOf, IsAskedFor, IsReadWhole}
 use Rattle.archive_core.specs.Reopening.{IsNotOpened, IsReopened, NamesCapture}
-use Rattle.archive_shelf.specs.Digests.{HasRequest}
 use Rattle.archive_volumes.specs.Spots.{is_told_form}
 use Rattle.archive_volumes.specs.Volumes.{IsQuiet}
 use Rattle.archive_volumes.specs.declared.spot.Spot.{Spot}
@@ -61,7 +62,8 @@ told_at depths.Checkpoints tells (Some book) = tells
 -- Where the disk tells, a line of its volume's finished checkpoint told of each other one; its volumes are those that stand there, each with as many
 -- captures as its groups are or its checkpoint tells; and all files of checkpoints are synced, so a crash leaves those that a read gives.
 pub record IsLined {D : Type 0} (d : Ghosts D) (disk : D) (held : Holdings D) : Type 0 where
-  pub requested : (number : ℕ) (spot : Spot) → slice_get held.spots number ≡ Some spot → is_told_form spot.form ≡ false → HasRequest held.book number
+  pub requested : (number : ℕ) (spot : Spot) → slice_get held.spots number ≡ Some spot → is_told_form spot.form ≡ false
+      → (stored : Stored) × (slice_get (captures held.book) number ≡ Some stored) × (stored.request ≢ [])
   pub read : IsTrue d.tells → AreReadOrTold (d.reading disk) held.spots
   pub counts : IsTrue d.tells → HasCountsOf (d.reading disk) held.book
   pub synced : IsTrue d.tells → AreCheckpointsSynced (d.reading disk) (d.images (disk_of held.journal))

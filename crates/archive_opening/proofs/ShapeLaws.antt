@@ -201,11 +201,7 @@ module _ (was is : Gathered) (stored : Stored) (spot : Spot) (steady : IsSteady 
       ∙ get_behind (captures (book_of was.held) ++ stored ∷ []) (captures (book_of was.held)) stored [] number refl refl
 
   request_stays : (k : ℕ) → HasRequest (book_of was.held) k → HasRequest (book_of is.held) k
-  request_stays k has = record {
-    stored = has.stored;
-    placed = placed_later (book_of was.held) (book_of is.held) (stored ∷ []) gains k has.stored has.placed;
-    some = has.some;
-  }
+  request_stays k has = (has.0, placed_later (book_of was.held) (book_of is.held) (stored ∷ []) gains k has.0 has.1, has.2)
 
   pub requested_with : (is_told_form spot.form ≡ false → stored.request ≢ []) → AreRequested is
   requested_with some = record {
@@ -216,12 +212,11 @@ module _ (was is : Gathered) (stored : Stored) (spot : Spot) (steady : IsSteady 
         (λ (behind : length was.spots.items ≤ k).
         let last : length was.spots.items ≡ k =
         omega (arith, behind, slice_get_within (was.spots.items ++ spot ∷ []) k s here, length-append was.spots.items (spot ∷ [])) in
-        let same : spot ≡ s = same_Some spot s (sym (get_behind (was.spots.items ++ spot ∷ []) was.spots.items spot [] k refl last) ∙ here) in
-        record {
-          stored = stored;
-          placed = subst (λ (n : ℕ). slice_get (captures (book_of is.held)) n ≡ Some stored) (sym steady.count ∙ last) placed_here;
-          some = some (subst (λ (x : Spot). is_told_form x.form ≡ false) (sym same) read);
-        })
+        let same : spot ≡ s = same_Some spot s (sym (get_behind (was.spots.items ++ spot ∷ []) was.spots.items spot [] k refl last) ∙ here) in (
+          stored,
+          subst (λ (n : ℕ). slice_get (captures (book_of is.held)) n ≡ Some stored) (sym steady.count ∙ last) placed_here,
+          some (subst (λ (x : Spot). is_told_form x.form ≡ false) (sym same) read),
+        ))
         (cases_lt k (length was.spots.items));
   }
 

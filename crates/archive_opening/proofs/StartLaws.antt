@@ -56,7 +56,7 @@ begun_one was is born filled more =
       requested = λ are. record {
         each = λ number spot at read.
             let has = are.each number spot (sym (ap (λ (l : List Spot). slice_get l number) more.spots) ∙ at) read in
-            record { stored = has.stored; placed = ap (λ (l : List Stored). slice_get l number) same_is ∙ has.placed; some = has.some };
+            (has.0, ap (λ (l : List Stored). slice_get l number) same_is ∙ has.1, has.2);
       };
       made = λ made. record {
         spots = subst (λ (b : Book). AreSpotsOf b is.spots.items) (sym more.book)

@@ -349,7 +349,7 @@ module _ (laws : Laws) (b : Book) (sound : IsSound b) (ids : IdsDifferIn b) (boo
     form = λ read. absurd (false≢true (sym read));
     revisit = ap (λ (m : List ℕ). bytes_eq m (codes "warc/revisit")) of.entry.mime_is ∙ revisit_by stored.kept (named_values of.entry.head.fields);
     digest = λ read. absurd (false≢true (sym read));
-    line = λ told request. record { payload = group.payload; has = has; is = of.entry.digest_is };
+    line = λ told request. (group.payload, has, of.entry.digest_is);
     refers = tt;
     inside = subst (IsInVolume new number) (sym in_the_last) (in_last_volume book stored volumes);
     in_range = subst InRange (sym of.entry.date_is) date_good;

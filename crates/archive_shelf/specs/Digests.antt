@@ -11,16 +11,12 @@ use Rattle.archive_shelf.specs.declared.fault.BringFault.{BringFault}
 use Rattle.archive_shelf.specs.declared.fault.BringFault.TheVariants as brings
 
 -- the digest is that of the payload which the capture with this number has in the book
-pub record HasDigestOf (book : Book) (number : ℕ) (digest : List ℕ) : Type 0 where
-  pub payload : List ℕ
-  pub has : IsPayloadOf book number payload
-  pub is : digest ≡ sha1 payload
+abbrev pub HasDigestOf : Book → ℕ → List ℕ → Type 0
+HasDigestOf book number digest = (payload : List ℕ) × IsPayloadOf book number payload × (digest ≡ sha1 payload)
 
 -- the book has the request of the capture with this number: it has none of one of which a line of a checkpoint alone told
-pub record HasRequest (book : Book) (number : ℕ) : Type 0 where
-  pub stored : Stored
-  pub placed : slice_get (captures book) number ≡ Some stored
-  pub some : stored.request ≢ []
+abbrev pub HasRequest : Book → ℕ → Type 0
+HasRequest book number = (stored : Stored) × (slice_get (captures book) number ≡ Some stored) × (stored.request ≢ [])
 
 -- the records of the capture, and of the one that keeps its payload, were read or written
 pub record WasRead (book : Book) (number : ℕ) : Type 0 where

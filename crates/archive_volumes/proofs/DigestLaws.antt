@@ -57,7 +57,7 @@ by_own book stored (Cut wire) digest own has = has
 module _ (book : Book) (number : ℕ) (spot : Spot) (is : IsSpotOf book number spot) where
   -- the book has its request
   asked_here : HasRequest book number → is.stored.request ≢ []
-  asked_here asked none = asked.some (ap (λ (s : Stored). s.request) (same_Some asked.stored is.stored (sym asked.placed ∙ is.placed)) ∙ none)
+  asked_here asked none = asked.2 (ap (λ (s : Stored). s.request) (same_Some asked.0 is.stored (sym asked.1 ∙ is.placed)) ∙ none)
 
   -- one that a line alone told of
   pub has_told : is_told_form spot.form ≡ true → HasRequest book number → HasDigestOf book number spot.digest
@@ -84,11 +84,7 @@ module _ (book : Book) (number : ℕ) (spot : Spot) (is : IsSpotOf book number s
     has_read : is_told_form spot.form ≡ false → HasDigestOf book number spot.digest
     has_read read =
         let found = by_own book is.stored is.stored.kept spot.digest own_form (is.digest read) in
-        record {
-          payload = found.0;
-          has = record { stored = is.stored; placed = is.placed; by_kept = found.1 };
-          is = found.2;
-        }
+        (found.0, record { stored = is.stored; placed = is.placed; by_kept = found.1 }, found.2)
 
     pub has_own : HasRequest book number → HasDigestOf book number spot.digest
     has_own asked = by_told asked has_read (is_told_form spot.form) refl
@@ -152,16 +148,16 @@ module _ (book : Book) (number : ℕ) (spot : Spot) (is : IsSpotOf book number s
       has_same read =
           let kept : HasDigestOf book first keeper.digest =
           has_own book first keeper its (keeper_keeps book number spot is first form keeper its) (keeper_asked read) in
-          record {
-            payload = kept.payload;
-            has = record {
+          (
+            kept.0,
+            record {
               stored = is.stored;
               placed = is.placed;
-              by_kept = subst (λ (k : Kept). IsPayloadBy book is.stored k kept.payload) (sym (keeps_same book number spot is first form))
-                  (same_payload kept.payload kept.has);
-            };
-            is = kept.is;
-          }
+              by_kept = subst (λ (k : Kept). IsPayloadBy book is.stored k kept.0) (sym (keeps_same book number spot is first form))
+                  (same_payload kept.0 kept.1);
+            },
+            kept.2,
+          )
 
       pub same_digests : (result : Result Brought BringFault) → GoesByKeeper number first keeper.digest result → GoesByDigest book number result
       same_digests (Ok brought) by = λ read. subst (λ (d : List ℕ). HasDigestOf book number d) (sym by) (has_same read)

@@ -72,7 +72,7 @@ module _ (old new : Book) (added : List Stored) (gains : captures new ≡ captur
   }
 
   digest_stays : (number : ℕ) (digest : List ℕ) → HasDigestOf old number digest → HasDigestOf new number digest
-  digest_stays number digest is = record { payload = is.payload; has = payload_stays number is.payload is.has; is = is.is }
+  digest_stays number digest is = (is.0, payload_stays number is.0 is.1, is.2)
 
   pub spot_stays : (number : ℕ) (spot : Spot) → IsSpotOf old number spot → IsSpotOf new number spot
   spot_stays number spot is = record {

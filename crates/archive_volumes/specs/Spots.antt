@@ -13,7 +13,6 @@ use Rattle.warc_text.specs.Books.{IsGroupText}
 use Rattle.warc_text.specs.Ids.{id_of}
 use Rattle.warc_text.specs.declared.id.IdKind.TheVariants.{Response}
 use Rattle.archive_shelf.specs.Comparing.{KeepsWire}
-use Rattle.archive_shelf.specs.Digests.{HasDigestOf}
 use Rattle.archive_volumes.specs.declared.spot.Form.{Form}
 use Rattle.archive_volumes.specs.declared.spot.Form.TheVariants as forms
 use Rattle.archive_volumes.specs.declared.spot.Spot.{Spot}
@@ -95,7 +94,8 @@ pub record IsSpotOf (book : Book) (number : ℕ) (spot : Spot) : Type 0 where
   pub form : is_told_form spot.form ≡ false → spot.form ≡ form_of stored.kept
   pub revisit : is_same_form spot.form ≡ is_same_form (form_of stored.kept)
   pub digest : is_told_form spot.form ≡ false → HasOwnDigest stored stored.kept spot.digest
-  pub line : is_told_form spot.form ≡ true → stored.request ≢ [] → HasDigestOf book number spot.digest
+  pub line : is_told_form spot.form ≡ true → stored.request ≢ []
+      → (payload : List ℕ) × IsPayloadOf book number payload × (spot.digest ≡ sha1 payload)
   pub refers : RefersBack book number spot.form
   pub inside : IsInVolume book number spot.volume
   pub in_range : InRange spot.date
