@@ -70,14 +70,14 @@ module _ {D : Type 0} (d : Ghosts D) where
     opens_beside old new stays = record {
       later = later_by d old new d.tells (λ told. (stays told).leaves.later);
       moves = λ t x le o. ⊎_elim
-          (λ was. inl (record { told = o.told; image = o.image; left = was; stands = o.stands }))
-          (λ has. inl (record {
-            told = o.told;
-            image = has.before;
-            left = laws.now_counts old t has.before (omega (arith, le, moment_told d old o.told)) has.was;
-            stands = stands_beside o.image has.before x has.same o.stands;
-          }))
-          ((stays o.told).leaves.adds t o.image (omega (arith, le, moment_told d old o.told)) o.left);
+          (λ was. inl (o.0, o.1, was, o.3))
+          (λ has. inl (
+            o.0,
+            has.before,
+            laws.now_counts old t has.before (omega (arith, le, moment_told d old o.0)) has.was,
+            stands_beside o.1 has.before x has.same o.3,
+          ))
+          ((stays o.0).leaves.adds t o.1 (omega (arith, le, moment_told d old o.0)) o.2);
       covered = λ t le all told image left. ⊎_elim
           (all told image)
           (λ has.
@@ -183,7 +183,7 @@ opens_told {D} d told only old new opens = by told only
     by true tells = subst (λ (b : Bool). OpensNoMore (crash_of (muted b d) old) (crash_of (muted b d) new)) (tells refl) opens
     by false tells = record {
       later = omega arith;
-      moves = λ t x le o. absurd (false≢true o.told);
+      moves = λ t x le o. absurd (false≢true o.0);
       covered = λ t le all so. absurd (false≢true so);
     }
 
@@ -195,7 +195,7 @@ quiet_told {D} d told only old new quiet = by told only
     by true tells = subst (λ (b : Bool). IsQuiet (muted b d) old new) (tells refl) (quiet (tells refl))
     by false tells = record {
       later = omega arith;
-      moves = λ t x le o. absurd (false≢true o.told);
+      moves = λ t x le o. absurd (false≢true o.0);
       covered = λ t le all so. absurd (false≢true so);
       kept = λ files has. absurd (false≢true has.told);
     }

@@ -103,8 +103,8 @@ next_by image seen y x ids next for_y for_x = ⊎_elim
 pub opens_next : {D : Type 0} (d : Ghosts D) (laws : DiskLaws d) (disk : D) (seen : Book) → (IsTrue d.tells → OpensNear d disk seen)
     → HasIds seen → OpensNext (crash_of d disk) seen
 opens_next d laws disk seen near ids x o =
-    let y = near o.told o.image (now_image d laws disk x o) in
-    next_by o.image seen y.0 x ids y.2 y.1 o.stands
+    let y = near o.0 o.1 (now_image d laws disk x o) in
+    next_by o.1 seen y.0 x ids y.2 y.1 o.3
 
 -- ---- books that grow
 

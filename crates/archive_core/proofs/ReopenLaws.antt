@@ -118,8 +118,8 @@ module _ {D : Type 0} (d : Ghosts D) (laws : DiskLaws d) (disk : D) (asked : Opt
       )
 
       state_by : IdsDifferIn held.book → IsState (told_of d held).crash held.book None
-      state_by ids x o = inl (one_of o.image x held.book o.stands
-          (for_book (sym made.told_is ∙ o.told) o.image (now_image (muted held.told d) (laws_muted d held.told laws) (disk_of held.journal) x o)) ids)
+      state_by ids x o = inl (one_of o.1 x held.book o.3
+          (for_book (sym made.told_is ∙ o.0) o.1 (now_image (muted held.told d) (laws_muted d held.told laws) (disk_of held.journal) x o)) ids)
 
       in_it : IsIn asked held.book
       in_it = subst (IsIn asked) (sym made.book_is) is.in_namespace

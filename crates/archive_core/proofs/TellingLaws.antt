@@ -13,7 +13,7 @@ quiet_muted {D} d told only old new quiet = by told only
     by true tells = subst (λ (b : Bool). IsQuiet (muted b d) old new) (tells refl) quiet
     by false tells = record {
       later = omega arith;
-      moves = λ t x le o. absurd (false≢true o.told);
+      moves = λ t x le o. absurd (false≢true o.0);
       covered = λ t le all told. absurd (false≢true told);
       kept = λ files has. absurd (false≢true has.told);
     }

@@ -28,17 +28,6 @@ pub record ImageStandsFor (image : Image) (book : Book) : Type 0 where
   pub for : StandsFor (warc_files image) book
   pub sound : IsSound book
 
--- what is told of the disk: an image that a crash since a moment might have left stands for the book
-pub record Opens {D : Type 0} (tells : Bool) (d : Ghosts D) (disk : D) (t : ℕ) (book : Book) : Type 0 where
-  pub told : IsTrue tells
-  pub image : Image
-  pub left : d.images_since disk t image
-  pub stands : ImageStandsFor image book
-
--- where the disk is told, each image that a crash since a moment might have left stands for a sound book
-abbrev pub Covers : {D : Type 0} → Bool → Ghosts D → D → ℕ → Type 0
-Covers tells d disk t = IsTrue tells → (image : Image) → d.images_since disk t image → (book : Book) × ImageStandsFor image book
-
 -- what is told of the disk: a crash now may leave these files of checkpoints
 pub record MayHaveCheckpoints {D : Type 0} (tells : Bool) (d : Ghosts D) (disk : D) (files : List (List ℕ)) : Type 0 where
   pub told : IsTrue tells

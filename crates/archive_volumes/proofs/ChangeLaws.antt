@@ -72,31 +72,31 @@ laws_muted d told laws = record { earlier = laws.earlier; now_counts = laws.now_
 
 module _ {D : Type 0} (d : Ghosts D) (laws : DiskLaws d) where
   -- what may be opened now, an image now stands for
-  pub now_image : (disk : D) (x : Book) (o : (crash_of d disk).openings (crash_of d disk).moment x) → d.images disk o.image
+  pub now_image : (disk : D) (x : Book) (o : (crash_of d disk).openings (crash_of d disk).moment x) → d.images disk o.1
   now_image disk x o =
-      laws.now_only disk o.image (subst (λ (t : ℕ). d.images_since disk t o.image) (moment_told d disk o.told) o.left)
+      laws.now_only disk o.1 (subst (λ (t : ℕ). d.images_since disk t o.1) (moment_told d disk o.0) o.2)
 
   -- what an image now stands for may be opened now
   pub opens_now : (disk : D) (x : Book) (image : Image) → IsTrue d.tells → d.images disk image → ImageStandsFor image x → (crash_of d disk).openings (crash_of d disk).moment x
-  opens_now disk x image told now stands_for = record {
-    told = told;
-    image = image;
-    left = laws.now_counts disk (crash_of d disk).moment image (omega (arith, moment_told d disk told)) now;
-    stands = stands_for;
-  }
+  opens_now disk x image told now stands_for = (
+    told,
+    image,
+    laws.now_counts disk (crash_of d disk).moment image (omega (arith, moment_told d disk told)) now,
+    stands_for,
+  )
 
   -- ---- a call that only reads
 
   pub quiet_by : (old new : D) → (IsTrue d.tells → Rests d old new) → IsQuiet d old new
   quiet_by old new rests = record {
     later = later_by d old new d.tells (λ told. (rests told).leaves.later);
-    moves = λ t x le o. inl (record {
-      told = o.told;
-      image = o.image;
-      left = ⊎_elim (λ was. was) (λ none. absurd none)
-          ((rests o.told).leaves.adds t o.image (omega (arith, le, moment_told d old o.told)) o.left);
-      stands = o.stands;
-    });
+    moves = λ t x le o. inl (
+      o.0,
+      o.1,
+      ⊎_elim (λ was. was) (λ none. absurd none)
+          ((rests o.0).leaves.adds t o.1 (omega (arith, le, moment_told d old o.0)) o.2),
+      o.3,
+    );
     covered = λ t le all told image left. all told image
         (⊎_elim (λ was. was) (λ none. absurd none) ((rests told).leaves.adds t image (omega (arith, le, moment_told d old told)) left));
     kept = λ files has. record { told = has.told; image = has.image; left = (rests has.told).crash has.image has.left; are = has.are };
@@ -128,10 +128,10 @@ module _ {D : Type 0} (d : Ghosts D) (laws : DiskLaws d) where
 
     moved : HasIds before → Moves (crash_of d old.disk) (crash_of d new.disk) (λ x. SameBook x before ⊎ (x ≡ after))
     moved ids t x le o = ⊎_elim
-        (λ (was : d.images_since old.disk t o.image). inl (record { told = o.told; image = o.image; left = was; stands = o.stands }))
-        (λ (left : IsLeft (d.images old.disk) (HoldEither (texts d old) texts_after) o.image).
-        inr (either ids o.image x o.stands (fors o.told o.image left)))
-        ((change o.told).leaves.adds t o.image (omega (arith, le, moment_told d old.disk o.told)) o.left)
+        (λ (was : d.images_since old.disk t o.1). inl (o.0, o.1, was, o.3))
+        (λ (left : IsLeft (d.images old.disk) (HoldEither (texts d old) texts_after) o.1).
+        inr (either ids o.1 x o.3 (fors o.0 o.1 left)))
+        ((change o.0).leaves.adds t o.1 (omega (arith, le, moment_told d old.disk o.0)) o.2)
 
     covered_on : StaysCovered (crash_of d old.disk) (crash_of d new.disk)
     covered_on t le all told image left = ⊎_elim
@@ -169,8 +169,8 @@ module _ {D : Type 0} (d : Ghosts D) (laws : DiskLaws d) where
 
     only_by : HasIds before → (r : Result T E) → (IsTrue d.tells → OnOk r ((image : Image) → d.images new.disk image → IsLeft (d.images old.disk) (AreJust texts_after) image))
         → OnOk r (IsState (crash_of d new.disk) after None)
-    only_by ids (Ok v) only = λ x o. inl (inl (one_with o.image x after o.stands
-        (for_after o.told o.image (only o.told o.image (now_image new.disk x o))) (ids_after before after step ids) step.some))
+    only_by ids (Ok v) only = λ x o. inl (inl (one_with o.1 x after o.3
+        (for_after o.0 o.1 (only o.0 o.1 (now_image new.disk x o))) (ids_after before after step ids) step.some))
     only_by ids (Err e) only = tt
 
     refused_told : HasIds before → IsTrue d.tells
@@ -178,14 +178,14 @@ module _ {D : Type 0} (d : Ghosts D) (laws : DiskLaws d) where
         ⊎ ((image : Image) → d.images new.disk image → IsLeft (d.images old.disk) (HoldEither (texts d old) texts_after) image)
         → Keeps (crash_of d old.disk) (crash_of d new.disk) before ⊎ IsState (crash_of d new.disk) before (Some after)
     refused_told ids told (inl kept) = inl (λ x o. ⊎_elim
-        (λ (was : d.images old.disk o.image). inl (opens_now old.disk x o.image told was o.stands))
-        (λ (left : IsLeft (d.images old.disk) (Hold (texts d old)) o.image).
-        inr (one_of o.image x before o.stands (stands before (texts d old) o.image (are told) (sound told) left.described) (ids_before before ids)))
-        (kept o.image (now_image new.disk x o)))
+        (λ (was : d.images old.disk o.1). inl (opens_now old.disk x o.1 told was o.3))
+        (λ (left : IsLeft (d.images old.disk) (Hold (texts d old)) o.1).
+        inr (one_of o.1 x before o.3 (stands before (texts d old) o.1 (are told) (sound told) left.described) (ids_before before ids)))
+        (kept o.1 (now_image new.disk x o)))
     refused_told ids told (inr left) = inr (λ x o. ⊎_elim
         (λ (same : SameBook x before). inl same)
         (λ (is : x ≡ after). inr (ap Some (sym is)))
-        (either ids o.image x o.stands (fors told o.image (left o.image (now_image new.disk x o)))))
+        (either ids o.1 x o.3 (fors told o.1 (left o.1 (now_image new.disk x o)))))
 
     refused_by : HasIds before → (b : Bool) → b ≡ d.tells → (r : Result T E)
         → (IsTrue d.tells → OnErr r
@@ -193,7 +193,7 @@ module _ {D : Type 0} (d : Ghosts D) (laws : DiskLaws d) where
         ⊎ ((image : Image) → d.images new.disk image → IsLeft (d.images old.disk) (HoldEither (texts d old) texts_after) image)))
         → OnErr r (Keeps (crash_of d old.disk) (crash_of d new.disk) before ⊎ IsState (crash_of d new.disk) before (Some after))
     refused_by ids b at (Ok v) refused = tt
-    refused_by ids false at (Err e) refused = inl (λ x o. absurd (false≢true (at ∙ o.told)))
+    refused_by ids false at (Err e) refused = inl (λ x o. absurd (false≢true (at ∙ o.0)))
     refused_by ids true at (Err e) refused = refused_told ids (sym at) (refused (sym at))
 
     -- an image now has the checkpoints of one from before

@@ -30,7 +30,7 @@ module _ {D : Type 0} (d : Ghosts D) (laws : DiskLaws d) where
 
   -- what may be opened since a moment may be since an earlier one
   pub opens_earlier : (disk : D) → IsEarlier (crash_of d disk)
-  opens_earlier disk t s book le o = record { told = o.told; image = o.image; left = laws.earlier disk t s o.image le o.left; stands = o.stands }
+  opens_earlier disk t s book le o = (o.0, o.1, laws.earlier disk t s o.1 le o.2, o.3)
 
   -- what may be opened after a quiet call might have been before it
   pub quiet_keeps : (old new : D) (book : Book) → IsQuiet d old new → Keeps (crash_of d old) (crash_of d new) book
@@ -164,10 +164,10 @@ module _ {D : Type 0} (d : Ghosts D) (laws : DiskLaws d) where
         (λ which. inr (⊎_elim
         (λ (same : SameBook x was.seen). inl same)
         (λ other. inr (
-          (takes o.told).storing,
+          (takes o.0).storing,
           ⊎_elim
-              (λ (e : x ≡ room). inl (e ∙ (takes o.told).unfilled))
-              (λ (e : x ≡ after). inr (e ∙ (takes o.told).stored))
+              (λ (e : x ≡ room). inl (e ∙ (takes o.0).unfilled))
+              (λ (e : x ≡ after). inr (e ∙ (takes o.0).stored))
               other,
         ))
         which))

@@ -10,7 +10,7 @@ use Rattle.warc_journal.specs.declared.journal.Journal.{Journal}
 use Rattle.warc_text.specs.Books.{AreVolumeTexts}
 use Rattle.warc_text.specs.Records.{info_text}
 use Rattle.warc_text.specs.Sound.{IsSound}
-use Rattle.archive_shelf.specs.Openings.{Covers, CrashStates, HasIds, HasJust, ImageStandsFor, IsNext, IsState, Keeps, KeepsCheckpoints, LeavesNoMore, MayHaveCheckpoints, Moves, Opens, SameBook, StaysCovered}
+use Rattle.archive_shelf.specs.Openings.{CrashStates, HasIds, HasJust, ImageStandsFor, IsNext, IsState, Keeps, KeepsCheckpoints, LeavesNoMore, MayHaveCheckpoints, Moves, SameBook, StaysCovered}
 use Rattle.archive_shelf.specs.Storing.{new_volume}
 use Rattle.archive_volumes.specs.Held.{HasSpace, volume_of}
 use Rattle.archive_volumes.specs.declared.room.Prepared.{Prepared}
@@ -57,8 +57,8 @@ muted told d = record d { tells = told }
 abbrev pub crash_of : {D : Type 0} → Ghosts D → D → CrashStates
 crash_of d disk = record {
   moment = if d.tells then d.moment disk else 0;
-  openings = λ t book. Opens d.tells d disk t book;
-  covered = λ t. Covers d.tells d disk t;
+  openings = λ t book. IsTrue d.tells × (image : Image) × d.images_since disk t image × ImageStandsFor image book;
+  covered = λ t. IsTrue d.tells → (image : Image) → d.images_since disk t image → (book : Book) × ImageStandsFor image book;
   checkpoints = λ files. MayHaveCheckpoints d.tells d disk files;
 }
 

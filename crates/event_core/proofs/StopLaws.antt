@@ -376,7 +376,7 @@ fused held calls = record held { journal = record held.journal { disk = record h
 module _ (limits : Limits) (namespace : List ℕ) (held : Holdings MemoryDisk) (calls : ℕ) where
   still_may : (x : Book) → (told_of ghosts (fused held calls)).crash.openings (told_of ghosts (fused held calls)).crash.moment x
       → (told_of ghosts held).crash.openings (told_of ghosts held).crash.moment x
-  still_may x o = record { told = o.told; image = o.image; left = o.left; stands = o.stands }
+  still_may x o = (o.0, o.1, o.2, o.3)
 
   -- the archive whose disk has a fuse stands where it stood
   pub fused_stands : (s : Standing) → Stands limits namespace (told_of ghosts held) s → Stands limits namespace (told_of ghosts (fused held calls)) s

@@ -225,9 +225,9 @@ imports_left disks gates sinks clients_tell laws asked was is status held left k
       near = λ told. near (so told);
       bytes = bytes;
       right = λ told image now.
-          let before = k.goes_on.kept (cdxj_files image) (record { told = so told; image = image; left = now; are = refl }) in
+          let before = k.goes_on.kept (cdxj_files image) (so told, image, now, refl) in
           checkpoints_later held.book left.book image k.goes_on.grows
-          (same_checkpoints_of image before.image held.book (sym before.are) (are told before.image before.left).checkpoints);
+          (same_checkpoints_of image before.1 held.book (sym before.3) (are told before.1 before.2).checkpoints);
       left = λ told ids have last image x now stands. last_by first.imported.intake.refused k.rest k.steps k.reached (contents_of left)
           (λ b. (told_of disks held).crash.openings (told_of disks held).crash.moment b) (λ b. SameBook b held.book) x
           (λ b o. only_one ((opened.is.whole told).state (ids_differ held.book ids) b o))

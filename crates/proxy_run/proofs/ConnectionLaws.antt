@@ -30,8 +30,8 @@ pub leaves_just : {D : Type 0} (disks : Disks D) → DiskLaws disks → (rounds 
 leaves_just disks laws rounds was is same stood k told ids all image x now stands =
     opens_more (terms_of pipe_site true (contents_of was)) rounds
     (λ b. (told_of disks was).crash.openings (told_of disks was).crash.moment b) (λ b. SameBook b was.book)
-    (λ b o. one_of o.image b was.book o.stands
-    (stood told o.image (now_image (muted was.told disks) (laws_muted disks was.told laws) (disk_of was.journal) b o)) (ids_differ was.book ids)) x
+    (λ b o. one_of o.1 b was.book o.3
+    (stood told o.1 (now_image (muted was.told disks) (laws_muted disks was.told laws) (disk_of was.journal) b o)) (ids_differ was.book ids)) x
     (k.left refl told all x
     (opens_now (muted is.told disks) (laws_muted disks is.told laws) (disk_of is.journal) x image (same ∙ told) now stands))
 

@@ -66,8 +66,8 @@ number_of pass = pass.known.number
 pub settled_calm : {D : Type 0} (disks : Disks D) → DiskLaws disks → (held : Holdings D)
     → (IsTrue held.told → Leaves (disks.images (disk_of held.journal)) (IsOf held.book)) → IsCalm disks held
 settled_calm disks laws held left ids x o =
-    inl (one_of o.image x held.book o.stands
-    (left o.told o.image (now_image (muted held.told disks) (laws_muted disks held.told laws) (disk_of held.journal) x o)).stands
+    inl (one_of o.1 x held.book o.3
+    (left o.0 o.1 (now_image (muted held.told disks) (laws_muted disks held.told laws) (disk_of held.journal) x o)).stands
     (ids_differ held.book ids))
 
 module _ (vault : VaultName) (now : Contents) (faults : ℕ) (name : IsNameOf vault now faults) (none : now.mine ≡ []) where

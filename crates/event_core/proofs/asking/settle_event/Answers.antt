@@ -7,12 +7,12 @@ returns-in-Ok-clause-goes_on g c = λ limits namespace was stands.
     settle_done g.D.Disk c.args.archive.now c.settle-answer.new.self (Ok c.in-Ok.written) (record {
       one = c.volumes_have_one_list_of_lines.ensures.one;
       stays = c.settling_keeps_checkpoints_right.ensures;
-      earlier = λ t s book le o. record {
-        told = o.told;
-        image = o.image;
-        left = g.met.D.Disk.earlier _ t s o.image le o.left;
-        stands = o.stands;
-      };
+      earlier = λ t s book le o. (
+        o.0,
+        o.1,
+        g.met.D.Disk.earlier _ t s o.1 le o.2,
+        o.3,
+      );
       reads = g.met.D.Disk.reading_is_image _;
       reads_new = g.met.D.Disk.reading_is_image _;
       tells = c.shows_its_book.ensures.tells;
@@ -24,12 +24,12 @@ returns-in-Err-clause-goes_on g c = λ limits namespace was stands.
     settle_refused g.D.Disk c.args.archive.now c.settle-answer.new.self (Err c.in-Err.fault) (record {
       one = c.volumes_have_one_list_of_lines.ensures.one;
       stays = c.settling_keeps_checkpoints_right.ensures;
-      earlier = λ t s book le o. record {
-        told = o.told;
-        image = o.image;
-        left = g.met.D.Disk.earlier _ t s o.image le o.left;
-        stands = o.stands;
-      };
+      earlier = λ t s book le o. (
+        o.0,
+        o.1,
+        g.met.D.Disk.earlier _ t s o.1 le o.2,
+        o.3,
+      );
       reads = g.met.D.Disk.reading_is_image _;
       reads_new = g.met.D.Disk.reading_is_image _;
       tells = c.shows_its_book.ensures.tells;
