@@ -1,8 +1,9 @@
 -- How a comparison ends: full, or with what looking among all captures answers.
 use Rattle.std.proofs.Common.{◌≡◌, ℕ, List, Result, Ok, Err, refl, sym, subst}
-use Rattle.std.specs.Prelude.{IsErrAnd, OnOk, ⊤}
+use Rattle.capture.specs.Captures.{captures}
+use Rattle.std.specs.Prelude.{length, ◌<◌, IsErrAnd, OnOk, ⊤}
 use Rattle.disk_model.specs.declared.disk.Disk.{Ghosts}
-use Rattle.archive_shelf.specs.Answers.{CountsIf, IsNotFull}
+use Rattle.archive_shelf.specs.Answers.{CountsIf}
 use Rattle.archive_shelf.specs.Contents.{Contents}
 use Rattle.archive_shelf.specs.declared.fault.StoreFault.{StoreFault}
 use Rattle.archive_shelf.specs.declared.fault.StoreFault.TheVariants as stores
@@ -39,7 +40,7 @@ full_steady now fault (Ok looked) faults is full = absurd is
 full_steady now fault (Err other) faults is full =
     subst (λ (f : StoreFault). CountsIf (is_look_fault {T = Looked} (Err f)) faults faults) (sym is) (full_counts now fault faults full)
 
-looks_by : (now : Contents) (payload : List ℕ) (answer : Result Looked StoreFault) → IsNotFull now now.seen
+looks_by : (now : Contents) (payload : List ℕ) (answer : Result Looked StoreFault) → length (captures now.seen) < now.limits.captures
     → LooksOn now.tells now.seen payload answer → Looks now payload answer
 looks_by now payload (Ok looked) not_full looks = (not_full, looks.0, looks.1)
 looks_by now payload (Err (stores.Full count limit)) not_full looks = absurd looks
@@ -49,10 +50,10 @@ looks_by now payload (Err stores.Memory) not_full looks = tt
 
 -- it wasn't full before the call that looked
 pub looks_after : {D : Type 0} (d : Ghosts D) (was is : Holdings D) (payload : List ℕ) (answer : Result Looked StoreFault) → OnlyLooks d was is
-    → IsNotFull (contents_of was) was.book → LooksOn is.told is.book payload answer → Looks (contents_of is) payload answer
+    → length (captures was.book) < was.limits.captures → LooksOn is.told is.book payload answer → Looks (contents_of is) payload answer
 looks_after {D} d was is payload answer only not_full looks =
     looks_by (contents_of is) payload answer
-    (subst (λ (held : Holdings D). IsNotFull (contents_of held) held.book) (sym only.others) not_full) looks
+    (subst (λ (held : Holdings D). length (captures held.book) < held.limits.captures) (sym only.others) not_full) looks
 
 -- nothing is promised of an answer that a `?` hands out
 pub on_no_ok : (fault : StoreFault) (answer : Result Looked StoreFault) (P : Type 0) → IsErrAnd answer (λ other. other ≡ fault) → OnOk answer P

@@ -31,7 +31,7 @@ use Rattle.warc_text.specs.Fits.{Fits}
 use Rattle.warc_text.specs.Lengths.{request_length}
 use Rattle.archive_shelf.proofs.GainingSoundness.{no_volumes}
 use Rattle.archive_shelf.proofs.StoringLaws.{captures_more}
-use Rattle.archive_shelf.specs.Answers.{HasStored, HasVolumeAlone, IsNotFull}
+use Rattle.archive_shelf.specs.Answers.{HasStored, HasVolumeAlone}
 use Rattle.archive_shelf.specs.Comparing.{CanRefer, RefersBy}
 use Rattle.archive_shelf.specs.Contents.{Contents}
 use Rattle.archive_shelf.specs.Entering.{TellsOfNew}
@@ -186,7 +186,7 @@ pub record IsUnderWay {D : Type 0} (d : Ghosts D) (was : Holdings D) (now : Volu
 
 under_way_from : {D : Type 0} (d : Ghosts D) → StoringBasis → (was : Holdings D) (old now : Volumes D) (incoming : Incoming) (ready : Ready)
     → was.journal ≡ old.journal → was.book ≡ book_of old.held → IsArchive d was → Fits incoming.taken
-    → IsNotFull (contents_of was) was.book → IsDigestOf incoming.taken incoming.digest
+    → length (captures was.book) < was.limits.captures → IsDigestOf incoming.taken incoming.digest
     → RefersTo (contents_of was) incoming.taken incoming.same
     → now.journal ≡ old.journal → book_of now.held ≡ book_of old.held
     → ((payload : List ℕ) → incoming.digest ≡ sha1 payload → IsReady old now was.limits.volume_bytes incoming payload ready)
@@ -216,14 +216,14 @@ under_way_from {D} d basis was old now incoming ready old_journal old_book archi
 -- and the same by what clauses see of the archive
 pub under_way : {D : Type 0} (d : Ghosts D) → StoringBasis → (seen was : Holdings D) (old now : Volumes D) (incoming : Incoming) (ready : Ready)
     → was ≡ seen → was.journal ≡ old.journal → was.book ≡ book_of old.held → IsArchive d was → Fits incoming.taken
-    → IsNotFull (contents_of seen) seen.book → IsDigestOf incoming.taken incoming.digest
+    → length (captures seen.book) < seen.limits.captures → IsDigestOf incoming.taken incoming.digest
     → RefersTo (contents_of seen) incoming.taken incoming.same
     → now.journal ≡ old.journal → book_of now.held ≡ book_of old.held
     → ((payload : List ℕ) → incoming.digest ≡ sha1 payload → IsReady old now was.limits.volume_bytes incoming payload ready)
     → IsUnderWay d was now incoming ready
 under_way {D} d basis seen was old now incoming ready seen_is old_journal old_book archive fits not_full digest refers =
     under_way_from d basis was old now incoming ready old_journal old_book archive fits
-    (subst (λ (held : Holdings D). IsNotFull (contents_of held) held.book) (sym seen_is) not_full) digest
+    (subst (λ (held : Holdings D). length (captures held.book) < held.limits.captures) (sym seen_is) not_full) digest
     (subst (λ (held : Holdings D). RefersTo (contents_of held) incoming.taken incoming.same) (sym seen_is) refers)
 
 -- the texts of the volumes with room

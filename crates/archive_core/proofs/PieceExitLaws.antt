@@ -34,7 +34,7 @@ use Rattle.warc_scan.specs.declared.group.Group.{Group}
 use Rattle.warc_scan.specs.declared.group.Revisited.{Revisited}
 use Rattle.archive_shelf.proofs.GainingSoundness.{no_volumes}
 use Rattle.archive_shelf.proofs.StoringLaws.{captures_more}
-use Rattle.archive_shelf.specs.Answers.{CountsIf, IsNotFull}
+use Rattle.archive_shelf.specs.Answers.{CountsIf}
 use Rattle.archive_shelf.specs.Entering.{TellsOfNew}
 use Rattle.archive_shelf.specs.Storing.{is_revisit, new_volume, with_capture}
 use Rattle.archive_opening.proofs.PlaceLaws.{answer_and_request}
@@ -161,7 +161,7 @@ some_room book None may = may
 some_room book (Some born) may = let more = length-append book.volumes (new_volume born ∷ []) in omega (arith, more)
 
 pub taking : {D : Type 0} (d : Ghosts D) (seen was : Holdings D) (old now : Volumes D) (text : List ℕ) (group : Group) (first begins : Option ℕ) (ready : Ready)
-    → was ≡ seen → was.journal ≡ old.journal → was.book ≡ book_of old.held → IsArchive d was → IsNotFull (contents_of seen) seen.book
+    → was ≡ seen → was.journal ≡ old.journal → was.book ≡ book_of old.held → IsArchive d was → length (captures seen.book) < seen.limits.captures
     → IsGroup seen.book.namespace (length (captures seen.book)) text group → RefersSo seen.told seen.book group first → MayHold seen.book begins
     → IsWithinBounds group (end_in seen.book (last_len seen.journal) begins) → now.journal ≡ old.journal → book_of now.held ≡ book_of old.held
     → IsReadyGroup text group first ready → MakesRoom old now begins ready.prepared → IsTaking d was now text group first begins ready

@@ -16,7 +16,7 @@ use Rattle.warc_text.specs.Sound.{IsSound}
 use Rattle.warc_scan.specs.Groups.{IsGroup}
 use Rattle.warc_scan.specs.declared.group.Group.{Group}
 use Rattle.archive_shelf.proofs.CallLaws.{keeps_behind, no_more}
-use Rattle.archive_shelf.specs.Answers.{CountsIf, IsDamaged, IsNotFull}
+use Rattle.archive_shelf.specs.Answers.{CountsIf, IsDamaged}
 use Rattle.archive_shelf.specs.Openings.{IsEarlier, LeavesNoMore}
 use Rattle.archive_opening.specs.Revisits.{RefersToNone}
 use Rattle.archive_shelf.specs.Pieces.{IsSomePiece}
@@ -76,11 +76,11 @@ remains_by {D} d was mid looks = record {
   unwritten = looks.unwritten;
 }
 
-pub none_taken : {D : Type 0} (d : Ghosts D) → DiskLaws d → (was : Holdings D) (bytes : List ℕ) → IsNotFull (contents_of was) was.book
+pub none_taken : {D : Type 0} (d : Ghosts D) → DiskLaws d → (was : Holdings D) (bytes : List ℕ) → length (captures was.book) < was.limits.captures
     → (IsTrue was.told → IsNoPiece was.book bytes) → TakesPiece d was was bytes (failed pieces.NotAPiece)
 none_taken d laws was bytes not_full none = record { leaves = (not_full, looks_itself d laws was, none); faults = refl }
 
-pub no_parts : {D : Type 0} (d : Ghosts D) → DiskLaws d → (was : Holdings D) (bytes : List ℕ) → IsNotFull (contents_of was) was.book
+pub no_parts : {D : Type 0} (d : Ghosts D) → DiskLaws d → (was : Holdings D) (bytes : List ℕ) → length (captures was.book) < was.limits.captures
     → (IsTrue was.told → HasNoParts was.book bytes) → TakesPiece d was was bytes (failed pieces.NotAPiece)
 no_parts d laws was bytes not_full none = none_taken d laws was bytes not_full (λ told. no_piece was.book bytes (none told))
 
@@ -94,7 +94,7 @@ memory_exit d laws was bytes (Err other) fault =
 
 -- it passes a bound
 pub past_exit : {D : Type 0} (d : Ghosts D) → DiskLaws d → StoringBasis → (was : Holdings D) → IsArchive d was → (bytes : List ℕ) (begins : Option ℕ) (at : ℕ)
-    (group : Group) → IsReadAs was.book bytes begins at group → IsNotFull (contents_of was) was.book
+    (group : Group) → IsReadAs was.book bytes begins at group → length (captures was.book) < was.limits.captures
     → IsPastBounds group (end_by begins at (last_len was.journal)) → TakesPiece d was was bytes (failed pieces.NotAPiece)
 past_exit {D} d laws basis was is bytes begins at group read not_full past =
     none_taken d laws was bytes not_full (λ told.
@@ -210,11 +210,11 @@ module _ {D : Type 0} (d : Ghosts D) (was mid : Holdings D) (looks : OnlyLooks d
   same_told : mid.told ≡ was.told
   same_told = ap (λ (h : Holdings D). h.told) looks.others
 
-  pub not_full_on : IsNotFull (contents_of was) was.book → IsNotFull (contents_of mid) mid.book
-  not_full_on not_full = subst (λ (h : Holdings D). IsNotFull (contents_of h) h.book) (sym looks.others) not_full
+  pub not_full_on : length (captures was.book) < was.limits.captures → length (captures mid.book) < mid.limits.captures
+  not_full_on not_full = subst (λ (h : Holdings D). length (captures h.book) < h.limits.captures) (sym looks.others) not_full
 
   module _ (bytes : List ℕ) (begins : Option ℕ) (at : ℕ) (group : Group) (read : IsReadAs was.book bytes begins at group)
-      (not_full : IsNotFull (contents_of was) was.book) where
+      (not_full : length (captures was.book) < was.limits.captures) where
     -- ---- a fault was met, or it refers to no capture
 
     met : (sound : IsTrue was.told → IsSound was.book) (fault : PieceFault) → FindsOriginal mid.told mid.book group (Err fault)

@@ -1,5 +1,5 @@
 -- What an archive is after a call that only reads its disk.
-use Rattle.std.specs.Prelude.{◌≡◌, ℕ, ◌<◌, true, IfSome, IsTrue, List, length, Option, Result, Ok, Err, ⊤}
+use Rattle.std.specs.Prelude.{◌≤◌, ◌≡◌, ℕ, ◌<◌, true, IfSome, IsTrue, List, length, Option, Result, Ok, Err, ⊤}
 use Rattle.sha1.specs.Sha1.{sha1}
 use Rattle.capture.specs.Captures.{captures, HasPayload}
 use Rattle.capture.specs.Growth.{Grows}
@@ -7,7 +7,7 @@ use Rattle.capture.specs.Soundness.{HasSoundCaptures}
 use Rattle.capture.specs.declared.captured.Taken.{Taken}
 use Rattle.disk_model.specs.declared.disk.Disk.{Ghosts}
 use Rattle.warc_journal.specs.Journals.{Rests, disk_of, extent_of, texts}
-use Rattle.archive_shelf.specs.Answers.{IsDamaged, IsFull, IsNotFull}
+use Rattle.archive_shelf.specs.Answers.{IsDamaged}
 use Rattle.archive_shelf.specs.Comparing.{CanRefer, IsRight, IsSameAs}
 use Rattle.archive_shelf.specs.Contents.{Contents}
 use Rattle.archive_shelf.specs.Told.{WritesNothing}
@@ -32,12 +32,12 @@ pub record OnlyLooks {D : Type 0} (d : Ghosts D) (was is : Holdings D) : Type 0 
 
 -- what looking for a payload answers: it is full exactly where the book is, and want of memory may be answered anywhere
 abbrev pub Looks : Contents → List ℕ → Result Looked StoreFault → Type 0
-Looks now payload (Ok looked) = IsNotFull now now.seen × IsRight now.tells now.seen payload looked × (looked.upto ≡ length (captures now.seen))
+Looks now payload (Ok looked) = (length (captures now.seen) < now.limits.captures) × IsRight now.tells now.seen payload looked × (looked.upto ≡ length (captures now.seen))
 Looks now payload (Err (stores.Full count limit)) =
-    IsFull now now.seen × (count ≡ length (captures now.seen)) × (limit ≡ now.limits.captures)
-Looks now payload (Err stores.DiskFault) = IsNotFull now now.seen
+    (now.limits.captures ≤ length (captures now.seen)) × (count ≡ length (captures now.seen)) × (limit ≡ now.limits.captures)
+Looks now payload (Err stores.DiskFault) = length (captures now.seen) < now.limits.captures
 Looks now payload (Err (stores.Damaged at kept found)) =
-    IsNotFull now now.seen × (at < length (captures now.seen)) × IsDamaged now.tells kept found
+    (length (captures now.seen) < now.limits.captures) × (at < length (captures now.seen)) × IsDamaged now.tells kept found
 Looks now payload (Err stores.Memory) = ⊤
 
 -- ---- the capture that a new one refers to

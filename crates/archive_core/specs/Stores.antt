@@ -1,12 +1,12 @@
 -- What storing a capture leaves of an archive in which nobody else stores.
-use Rattle.std.specs.Prelude.{◌≡◌, ◌⊎◌, ℕ, ◌+◌, Bool, true, if◌then◌else◌, IsTrue, List, length, OnOk, Option, Result, Ok, Err}
+use Rattle.std.specs.Prelude.{◌≤◌, ◌<◌, ◌≡◌, ◌⊎◌, ℕ, ◌+◌, Bool, true, if◌then◌else◌, IsTrue, List, length, OnOk, Option, Result, Ok, Err}
 use Rattle.capture.specs.Captures.{captures, HasPayload}
 use Rattle.capture.specs.declared.captured.Taken.{Taken}
 use Rattle.disk_model.specs.declared.disk.Disk.{Ghosts}
 use Rattle.warc_journal.specs.Journals.{disk_of, extent_of, last_len, texts}
 use Rattle.warc_journal.specs.Texts.{with_more}
 use Rattle.warc_text.specs.Records.{info_text}
-use Rattle.archive_shelf.specs.Answers.{IsFull, IsNotFull, LeavesReading}
+use Rattle.archive_shelf.specs.Answers.{LeavesReading}
 use Rattle.archive_shelf.specs.Contents.{Contents}
 use Rattle.archive_shelf.specs.Storing.{as_stored, with_capture, with_volume}
 use Rattle.archive_shelf.specs.Told.{StoresOn}
@@ -24,9 +24,9 @@ use Rattle.archive_volumes.specs.Written.{WritesTexts, texts_as}
 
 -- Whether a capture more may be stored: it is full exactly where there are as many as there may be.
 abbrev pub Admits : {T : Type 0} → Contents → Result T StoreFault → Type 0
-Admits now (Ok done) = IsNotFull now now.seen
+Admits now (Ok done) = length (captures now.seen) < now.limits.captures
 Admits now (Err (stores.Full count limit)) =
-    IsFull now now.seen × (count ≡ length (captures now.seen)) × (limit ≡ now.limits.captures)
+    (now.limits.captures ≤ length (captures now.seen)) × (count ≡ length (captures now.seen)) × (limit ≡ now.limits.captures)
 Admits now (Err stores.DiskFault) = ⊥
 Admits now (Err (stores.Damaged at kept found)) = ⊥
 Admits now (Err stores.Memory) = ⊥

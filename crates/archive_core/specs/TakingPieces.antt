@@ -1,5 +1,5 @@
 -- What it is to take the piece of another archive's capture, and what that leaves.
-use Rattle.std.specs.Prelude.{◌≡◌, ◌⊎◌, ℕ, ◌+◌, ◌<◌, true, IsTrue, List, [], ◌∷◌, ◌++◌, length, Option, Result, Ok, Err, ⊤}
+use Rattle.std.specs.Prelude.{◌≤◌, ◌≡◌, ◌⊎◌, ℕ, ◌+◌, ◌<◌, true, IsTrue, List, [], ◌∷◌, ◌++◌, length, Option, Result, Ok, Err, ⊤}
 use Rattle.capture.specs.Captures.{captures}
 use Rattle.capture.specs.Growth.{Grows}
 use Rattle.capture.specs.declared.book.Book.{Book}
@@ -12,7 +12,7 @@ use Rattle.warc_text.specs.Books.{IsGroupText}
 use Rattle.warc_text.specs.Sound.{IsSound}
 use Rattle.warc_text.specs.StandsFor.{IdsDifferIn}
 use Rattle.warc_scan.specs.declared.group.Group.{Group}
-use Rattle.archive_shelf.specs.Answers.{CountsIf, IsDamaged, IsFull, IsNotFull}
+use Rattle.archive_shelf.specs.Answers.{CountsIf, IsDamaged}
 use Rattle.archive_shelf.specs.Openings.{Moves, SameBook}
 use Rattle.archive_shelf.specs.Pieces.{IsPiece, IsSomePiece}
 use Rattle.archive_shelf.specs.Told.{WritesNothing}
@@ -127,15 +127,15 @@ pub record Remains {D : Type 0} (d : Ghosts D) (was is : Holdings D) : Type 0 wh
 
 -- What taking a piece leaves. It is full before the piece is looked at; want of memory may be answered anywhere.
 abbrev pub PieceLeaves : {D : Type 0} → Ghosts D → Holdings D → Holdings D → List ℕ → Result ℕ PieceFault → Type 0
-PieceLeaves d was is bytes (Ok number) = IsNotFull (contents_of was) was.book × HasTaken d was is bytes number
+PieceLeaves d was is bytes (Ok number) = (length (captures was.book) < was.limits.captures) × HasTaken d was is bytes number
 PieceLeaves d was is bytes (Err (pieces.Full count limit)) =
-    IsFull (contents_of was) was.book × (count ≡ length (captures was.book)) × (limit ≡ was.limits.captures) × (is ≡ was)
+    (was.limits.captures ≤ length (captures was.book)) × (count ≡ length (captures was.book)) × (limit ≡ was.limits.captures) × (is ≡ was)
 PieceLeaves d was is bytes (Err pieces.NotAPiece) =
-    IsNotFull (contents_of was) was.book × OnlyLooks d was is × (IsTrue was.told → IsNoPiece was.book bytes)
+    (length (captures was.book) < was.limits.captures) × OnlyLooks d was is × (IsTrue was.told → IsNoPiece was.book bytes)
 PieceLeaves d was is bytes (Err pieces.DiskFault) =
-    IsNotFull (contents_of was) was.book × (OnlyLooks d was is ⊎ IsUntaken d was is bytes)
+    (length (captures was.book) < was.limits.captures) × (OnlyLooks d was is ⊎ IsUntaken d was is bytes)
 PieceLeaves d was is bytes (Err (pieces.Damaged number kept found)) =
-    IsNotFull (contents_of was) was.book × OnlyLooks d was is × (number < length (captures was.book)) × IsDamaged was.told kept found
+    (length (captures was.book) < was.limits.captures) × OnlyLooks d was is × (number < length (captures was.book)) × IsDamaged was.told kept found
 PieceLeaves d was is bytes (Err pieces.Memory) = Remains d was is
 
 -- a piece was taken, or refused

@@ -1,7 +1,7 @@
 //! How a capture is stored whose payload was compared.
-ghost use Rattle.std.specs.Prelude.{◌≡◌, ℕ, IfOk, None, is_some, if◌then◌else◌};
+ghost use Rattle.std.specs.Prelude.{length, ◌<◌, ◌≡◌, ℕ, IfOk, None, is_some, if◌then◌else◌};
+ghost use Rattle.capture.specs.Captures.{captures};
 ghost use Rattle.warc_text.specs.Fits.{Fits};
-ghost use Rattle.archive_shelf.specs.Answers.{IsNotFull};
 ghost use Rattle.archive_core.specs.Basis.{StoringBasis};
 ghost use Rattle.archive_volumes.specs.Choosing.{NoneDamagedBelow};
 ghost use Rattle.archive_core.specs.Holdings.{contents_of};
@@ -55,7 +55,7 @@ impl<D: Disk> Archive<D> {
         digest: &Digest,
         same: Option<u32>,
     ) -> Result<Receipt, StoreFault>
-        requires not_full { IsNotFull (contents_of self.old) self.old.book }
+        requires not_full { length (captures self.old.book) < self.old.limits.captures }
         requires fits { Fits taken.now }
         requires digest { IsDigestOf taken.now digest.now }
         requires refers { RefersTo (contents_of self.old) taken.now same }
@@ -99,7 +99,7 @@ impl<D: Disk> Archive<D> {
         digest: &Digest,
         looked: Looked,
     ) -> Result<Receipt, StoreFault>
-        requires not_full { IsNotFull (contents_of self.old) self.old.book }
+        requires not_full { length (captures self.old.book) < self.old.limits.captures }
         requires fits { Fits taken.now }
         requires digest { IsDigestOf taken.now digest.now }
         requires right { IsRightOf (contents_of self.old) taken.now looked }

@@ -1,9 +1,9 @@
 //! How an archive takes the piece of another one's capture.
-ghost use Rattle.std.specs.Prelude.{◌≡◌, length};
+ghost use Rattle.std.specs.Prelude.{◌<◌, ◌≡◌, length};
 ghost use Rattle.capture.specs.Captures.{captures};
 ghost use Rattle.warc_journal.specs.Journals.{disk_of, last_len};
 ghost use Rattle.warc_scan.specs.Groups.{IsGroup};
-ghost use Rattle.archive_shelf.specs.Answers.{CountsIf, IsNotFull};
+ghost use Rattle.archive_shelf.specs.Answers.{CountsIf};
 ghost use Rattle.archive_core.specs.Holdings.{contents_of};
 ghost use Rattle.archive_pieces.specs.PieceFaults.{is_take_fault, store_fault_as};
 ghost use Rattle.archive_core.specs.Looking.{OnlyLooks};
@@ -59,7 +59,7 @@ impl<D: Disk> Archive<D> {
 
     /// The same in an archive that isn't full.
     fn take_read(&mut self, alloc: Global, bytes: &[u8]) -> Result<u32, PieceFault>
-        requires { IsNotFull (contents_of self.old) self.old.book }
+        requires { length (captures self.old.book) < self.old.limits.captures }
         ensures { TakesPiece D.Disk self.old self.new bytes.now result }
     {
         let number = self.spots.len() as u32;
@@ -72,7 +72,7 @@ impl<D: Disk> Archive<D> {
 
     /// The same of a piece that was read.
     fn take_found(&mut self, alloc: Global, bytes: &[u8], found: Found) -> Result<u32, PieceFault>
-        requires not_full { IsNotFull (contents_of self.old) self.old.book }
+        requires not_full { length (captures self.old.book) < self.old.limits.captures }
         requires read { IsFoundIn self.old.book bytes.now found }
         ensures { TakesPiece D.Disk self.old self.new bytes.now result }
     {
@@ -114,7 +114,7 @@ impl<D: Disk> Archive<D> {
         group: Group,
         first: Option<u32>,
     ) -> Result<u32, PieceFault>
-        requires not_full { IsNotFull (contents_of self.old) self.old.book }
+        requires not_full { length (captures self.old.book) < self.old.limits.captures }
         requires group { IsGroup self.old.book.namespace (length (captures self.old.book)) text.now group }
         requires refers { RefersSo self.old.told self.old.book group first }
         requires holds { MayHold self.old.book begins }

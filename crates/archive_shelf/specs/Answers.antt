@@ -25,13 +25,6 @@ use Rattle.archive_shelf.specs.declared.fault.StoreFault.{StoreFault}
 use Rattle.archive_shelf.specs.declared.fault.StoreFault.TheVariants as stores
 use Rattle.archive_shelf.specs.declared.receipt.Receipt.{Receipt}
 
--- the shelf has no room for a capture more
-abbrev pub IsFull : Contents → Book → Type 0
-IsFull shelf book = shelf.limits.captures ≤ length (captures book)
-
-abbrev pub IsNotFull : Contents → Book → Type 0
-IsNotFull shelf book = length (captures book) < shelf.limits.captures
-
 -- the bytes that were read have another digest than the one kept, or don't decode: never of a disk that is told
 pub record IsDamaged (tells : Bool) (kept : List ℕ) (found : Option (List ℕ)) : Type 0 where
   pub untold : IsFalse tells
@@ -47,7 +40,7 @@ pub record IsByRule (limit : ℕ) (found : Book) (taken : Taken) (receipt : Rece
 pub record HasStored (alone : Bool) (taken : Taken) (was is : Contents) (receipt : Receipt) : Type 0 where
   pub found : Book
   pub led : Leads alone was.seen found
-  pub not_full : IsNotFull was found
+  pub not_full : length (captures found) < was.limits.captures
   pub number : receipt.number ≡ length (captures found)
   pub refers : CanRefer taken.cut found receipt.same_as
   pub gained : Gains found (as_stored taken receipt.same_as) is.seen
@@ -64,7 +57,7 @@ pub record HasVolumeAlone (tells : Bool) (limit : ℕ) (found : Book) (taken : T
 pub record IsRefusedByDisk (alone : Bool) (taken : Taken) (was is : Contents) : Type 0 where
   pub found : Book
   pub led : Leads alone was.seen found
-  pub not_full : IsNotFull was found
+  pub not_full : length (captures found) < was.limits.captures
   pub left : (is.seen ≡ found) ⊎ HasVolumeAlone was.tells was.limits.volume_bytes found taken is.seen
   pub shown : LeadsShown alone was.shown is.shown
   pub others : is ≡ record was { seen = is.seen; shown = is.shown }
@@ -73,10 +66,10 @@ pub record IsRefusedByDisk (alone : Bool) (taken : Taken) (was is : Contents) : 
 abbrev pub StoreLeaves : Bool → Taken → Contents → Contents → Result Receipt StoreFault → Type 0
 StoreLeaves alone taken was is (Ok receipt) = HasStored alone taken was is receipt
 StoreLeaves alone taken was is (Err (stores.Full count limit)) =
-    Stays alone was is × IsFull was is.seen × (count ≡ length (captures is.seen)) × (limit ≡ was.limits.captures)
+    Stays alone was is × (was.limits.captures ≤ length (captures is.seen)) × (count ≡ length (captures is.seen)) × (limit ≡ was.limits.captures)
 StoreLeaves alone taken was is (Err stores.DiskFault) = IsRefusedByDisk alone taken was is
 StoreLeaves alone taken was is (Err (stores.Damaged number kept found)) =
-    Stays alone was is × IsNotFull was is.seen × (number < length (captures is.seen)) × IsDamaged was.tells kept found
+    Stays alone was is × (length (captures is.seen) < was.limits.captures) × (number < length (captures is.seen)) × IsDamaged was.tells kept found
 StoreLeaves alone taken was is (Err stores.Memory) = Stays alone was is
 
 -- what is brought can be replayed: it has the head of a response, and its date has a text

@@ -1,10 +1,10 @@
 -- What the turns of a vault's passes find, add and answer.
-use Rattle.std.specs.Prelude.{◌≡◌, ◌⊎◌, ℕ, ◌<◌, Bool, true, false, IsTrue, List, [], ◌∷◌, ◌++◌, length, Option, Result, Ok, Err}
+use Rattle.std.specs.Prelude.{◌≤◌, ◌≡◌, ◌⊎◌, ℕ, ◌<◌, Bool, true, false, IsTrue, List, [], ◌∷◌, ◌++◌, length, Option, Result, Ok, Err}
 use Rattle.capture.specs.Captures.{captures, HasPayload}
 use Rattle.capture.specs.declared.captured.Brought.{Brought}
 use Rattle.capture.specs.declared.captured.Taken.{Taken}
 use Rattle.warc_text.specs.Sound.{IsSound}
-use Rattle.archive_shelf.specs.Answers.{Brings, HasVolumeAlone, IsByRule, IsDamaged, IsFull, IsNotFull, NamesKeeper, is_bring_fault}
+use Rattle.archive_shelf.specs.Answers.{Brings, HasVolumeAlone, IsByRule, IsDamaged, NamesKeeper, is_bring_fault}
 use Rattle.archive_shelf.specs.Comparing.{CanRefer}
 use Rattle.archive_shelf.specs.Digests.{GoesByDigest, PieceGoesByDigest}
 use Rattle.archive_shelf.specs.Pieces.{GivesPiece}
@@ -67,7 +67,7 @@ pub record AddsFault (at : ℕ) (added : List Noted) : Type 0 where
 -- The capture was stored behind the book found, which wasn't full.
 pub record HasCommitted (tells : Bool) (taken : Taken) (found added : List Noted) (receipt : Receipt) : Type 0 where
   pub adds : AddsCapture taken receipt.same_as added
-  pub not_full : IsNotFull (told_in tells found) (told_book found)
+  pub not_full : length (captures (told_book found)) < (told_in tells found).limits.captures
   pub number : receipt.number ≡ length (captures (told_book found))
   pub refers : CanRefer taken.cut (told_book found) receipt.same_as
   pub gained : Gains (told_book found) (as_stored taken receipt.same_as) (told_book (found ++ added))
@@ -76,7 +76,7 @@ pub record HasCommitted (tells : Bool) (taken : Taken) (found added : List Noted
 -- The disk failed. The book found is left, or it with a volume that was needed.
 pub record HasFailed (tells : Bool) (taken : Taken) (found added : List Noted) : Type 0 where
   pub adds : AddsFault taken.date added
-  pub not_full : IsNotFull (told_in tells found) (told_book found)
+  pub not_full : length (captures (told_book found)) < (told_in tells found).limits.captures
   pub left : (told_book (found ++ added) ≡ told_book found)
       ⊎ HasVolumeAlone tells (told_limits found).volume_bytes (told_book found) taken (told_book (found ++ added))
 
@@ -84,11 +84,11 @@ pub record HasFailed (tells : Bool) (taken : Taken) (found added : List Noted) :
 abbrev pub CommitAnswers : Bool → Taken → List Noted → List Noted → Result Receipt StoreFault → Type 0
 CommitAnswers tells taken found added (Ok receipt) = HasCommitted tells taken found added receipt
 CommitAnswers tells taken found added (Err (stores.Full count limit)) =
-    (added ≡ []) × IsFull (told_in tells found) (told_book found) × (count ≡ length (captures (told_book found)))
+    (added ≡ []) × ((told_in tells found).limits.captures ≤ length (captures (told_book found))) × (count ≡ length (captures (told_book found)))
     × (limit ≡ (told_limits found).captures)
 CommitAnswers tells taken found added (Err stores.DiskFault) = HasFailed tells taken found added
 CommitAnswers tells taken found added (Err (stores.Damaged number kept digest)) =
-    (added ≡ []) × IsNotFull (told_in tells found) (told_book found) × (number < length (captures (told_book found)))
+    (added ≡ []) × (length (captures (told_book found)) < (told_in tells found).limits.captures) × (number < length (captures (told_book found)))
     × IsDamaged tells kept digest
 CommitAnswers tells taken found added (Err stores.Memory) = added ≡ []
 

@@ -1,5 +1,5 @@
 use Rattle.std.proofs.Common.{rules, ◌≡◌, ◌+◌, ℕ, List, length, Some, Ok, Err, refl, sym, ap, subst, ◌∙◌, arith, ◌++◌, [], ◌∷◌}
-use Rattle.std.specs.Prelude.{is_some}
+use Rattle.std.specs.Prelude.{◌<◌, is_some}
 use Rattle.capture.specs.Captures.{captures}
 use Rattle.capture.specs.Message.{IsResponseHeadText}
 use Rattle.capture.specs.declared.book.Book.{Book}
@@ -9,7 +9,6 @@ use Rattle.httparse.specs.Grammar.{ResponseHead}
 use Rattle.cdxj_index.specs.Order.{without}
 use Rattle.time_text.specs.Texts.{InRange}
 use Rattle.warc_journal.specs.Journals.{texts}
-use Rattle.archive_shelf.specs.Answers.{IsNotFull}
 use Rattle.archive_shelf.specs.declared.fault.StoreFault.TheVariants as stores
 use Rattle.archive_shelf.specs.declared.receipt.Receipt.{Receipt}
 use Rattle.archive_volumes.specs.Entries.{EntersAs, entered}
@@ -41,8 +40,8 @@ make_ready-requires-clause-spots g c =
 pub make_ready-requires-clause-few : goal.make_ready-requires-clause-few
 make_ready-requires-clause-few g c =
     let was : Holdings _ = holdings_of c.self.inside in
-    let not_full : IsNotFull (contents_of was) was.book =
-    subst (λ (held : Holdings _). IsNotFull (contents_of held) held.book) (sym c.self.view_is) c.requires.not_full in
+    let not_full : length (captures was.book) < was.limits.captures =
+    subst (λ (held : Holdings _). length (captures held.book) < held.limits.captures) (sym c.self.view_is) c.requires.not_full in
     let given : c.as_slice.result.now ≡ c.self.inside.spots.items = search rules in
     omega (arith, ap (λ (l : List Spot). length l) given, c.self.invariant.spots.count, not_full, c.self.invariant.counted.limits.captures)
 

@@ -1,6 +1,7 @@
 -- A fault was met while the disk was read, or a store follows.
 use Rattle.std.proofs.Common.{ℕ, Option, sym, subst}
-use Rattle.archive_shelf.specs.Answers.{IsNotFull}
+use Rattle.std.specs.Prelude.{length, ◌<◌}
+use Rattle.capture.specs.Captures.{captures}
 use Rattle.archive_core.specs.Holdings.{Holdings, contents_of}
 use Rattle.archive_core.proofs.AfterLaws.{fault_exit, stores_after}
 use Rattle.archive_volumes.proofs.ChangeLaws.{DiskLaws}
@@ -20,7 +21,7 @@ returns-in_err-same-clause-stores g c =
 
 pub store_compared-requires-clause-not_full : goal.store_compared-requires-clause-not_full
 store_compared-requires-clause-not_full g c =
-    subst (λ (held : Holdings _). IsNotFull (contents_of held) held.book) (sym c.in_ok-same.ensures.looks.others) c.requires.not_full
+    subst (λ (held : Holdings _). length (captures held.book) < held.limits.captures) (sym c.in_ok-same.ensures.looks.others) c.requires.not_full
 
 pub returns-clause-stores : goal.returns-clause-stores
 returns-clause-stores g c =

@@ -1,7 +1,8 @@
 -- It is full, or there is no memory, or a fault was met while the disk was read, or a store follows.
 use Rattle.std.proofs.Common.{ℕ, List, refl, sym, ap, subst}
+use Rattle.std.specs.Prelude.{length, ◌<◌}
+use Rattle.capture.specs.Captures.{captures}
 use Rattle.capture.specs.Payload.{IsPayload}
-use Rattle.archive_shelf.specs.Answers.{IsNotFull}
 use Rattle.archive_shelf.specs.declared.looked.Looked.{Looked}
 use Rattle.archive_core.specs.Holdings.{Holdings, contents_of}
 use Rattle.archive_core.proofs.AfterLaws.{fault_exit, full_exit, stores_after}
@@ -42,7 +43,7 @@ returns-in_err-same-clause-stores g c =
 
 pub store_compared-requires-clause-not_full : goal.store_compared-requires-clause-not_full
 store_compared-requires-clause-not_full g c =
-    subst (λ (held : Holdings _). IsNotFull (contents_of held) held.book) (sym c.in_ok-same.ensures.looks.others) c.in_ok-check_room.ensures
+    subst (λ (held : Holdings _). length (captures held.book) < held.limits.captures) (sym c.in_ok-same.ensures.looks.others) c.in_ok-check_room.ensures
 
 pub store_compared-requires-clause-digest : goal.store_compared-requires-clause-digest
 store_compared-requires-clause-digest g c payload has =
