@@ -178,19 +178,19 @@ module _ (book after : Book) (bytes : List ℕ) (takes : Takes book bytes after)
   front_inside : (stored : Stored) → book.volumes ≢ [] → after.volumes ≡ add_to_last book.volumes stored → (filled : Bool) → is_filled book.volumes ≡ filled
       → IsFront after (length (captures book)) takes.piece.front → IsFrontBy book takes.piece.front None
   front_inside stored some new_is true filled (inl b) =
-      absurd (first_of_none book.volumes stored filled b.k b.is.volume
-      (subst (λ (l : List Volume). IsFirstIn book.volumes l b.k b.is.volume) new_is (b.is.placed, b.is.some, b.is.first)))
+      absurd (first_of_none book.volumes stored filled b.0 b.1.volume
+      (subst (λ (l : List Volume). IsFirstIn book.volumes l b.0 b.1.volume) new_is (b.1.placed, b.1.some, b.1.first)))
   front_inside stored some new_is true filled (inr n) = inl (filled, n.1)
   front_inside stored some new_is false empty (inl b) =
-      let e = empty_first book.volumes stored empty b.k b.is.volume
-      (subst (λ (l : List Volume). IsFirstIn book.volumes l b.k b.is.volume) new_is (b.is.placed, b.is.some, b.is.first)) in
+      let e = empty_first book.volumes stored empty b.0 b.1.volume
+      (subst (λ (l : List Volume). IsFirstIn book.volumes l b.0 b.1.volume) new_is (b.1.placed, b.1.some, b.1.first)) in
       inr (record {
-        number = b.k;
+        number = b.0;
         volume = e.was;
         last = e.last;
         placed = e.placed;
         none = e.none;
-        info = b.info ∙ (λ i. info_text (takes.grown.namespace i) b.k (sym e.born i));
+        info = b.2 ∙ (λ i. info_text (takes.grown.namespace i) b.0 (sym e.born i));
       })
   front_inside stored some new_is false empty (inr n) =
       let f = has_first book.volumes stored some empty in
@@ -215,17 +215,17 @@ module _ (book after : Book) (bytes : List ℕ) (takes : Takes book bytes after)
 
     front_beginning : IsFront after (length (captures book)) takes.piece.front → IsFrontBy book takes.piece.front (Some born)
     front_beginning (inl b) =
-        let e = empty_first with_it stored (unfilled_behind book.volumes born) b.k b.is.volume
-        (first_in b.k b.is.volume (b.is.placed, b.is.some, b.is.first)) in
+        let e = empty_first with_it stored (unfilled_behind book.volumes born) b.0 b.1.volume
+        (first_in b.0 b.1.volume (b.1.placed, b.1.some, b.1.first)) in
         let was : e.was ≡ new_volume born
-        = same_some e.was (new_volume born) (sym e.placed ∙ last_behind book.volumes (new_volume born) b.k e.last) in
-        let date : b.is.volume.born ≡ born = sym e.born ∙ ap (λ (v : Volume). v.born) was in
+        = same_some e.was (new_volume born) (sym e.placed ∙ last_behind book.volumes (new_volume born) b.0 e.last) in
+        let date : b.1.volume.born ≡ born = sym e.born ∙ ap (λ (v : Volume). v.born) was in
         let long = length-append book.volumes (new_volume born ∷ []) in
         let last = e.last in
-        let number : b.k ≡ length book.volumes = omega (arith, last, long) in (
+        let number : b.0 ≡ length book.volumes = omega (arith, last, long) in (
           may,
-          subst InRange date (born_there b.k b.is.volume b.is.placed),
-          b.info ∙ (λ i. info_text (takes.grown.namespace i) (number i) (date i)),
+          subst InRange date (born_there b.0 b.1.volume b.1.placed),
+          b.2 ∙ (λ i. info_text (takes.grown.namespace i) (number i) (date i)),
         )
     front_beginning (inr n) =
         let f = has_first with_it stored (some_behind book.volumes (new_volume born)) (unfilled_behind book.volumes born) in

@@ -462,8 +462,8 @@ module _ (book source : Book) (bytes : List ℕ) (sound : IsSound source) (grown
 
   front_next : IsFront source number piece.front → IsFront next number piece.front
   front_next (inl b) =
-      let one = from_source b.k b.is in
-      inl (record { k = b.k; is = one.0; info = b.info ∙ (λ i. info_text (grown.namespace i) b.k (one.1 i)) })
+      let one = from_source b.0 b.1 in
+      inl (b.0, one.0, b.2 ∙ (λ i. info_text (grown.namespace i) b.0 (one.1 i)))
   front_next (inr n) = inr (λ k first. n.0 k (to_source k first), n.1)
 
   takes_next : Takes book bytes next

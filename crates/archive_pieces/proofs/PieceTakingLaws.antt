@@ -69,7 +69,7 @@ unfolding first_in
 front_after book stored front None (inl filled) =
     inr (λ k is. no_first book.volumes stored k is.volume filled.0 is.placed is.first, filled.1)
 front_after book stored front None (inr empty) =
-    inl (record { k = empty.number; is = first_in book stored empty.number empty.volume empty.last empty.placed empty.none; info = empty.info })
+    inl (empty.number, first_in book stored empty.number empty.volume empty.last empty.placed empty.none, empty.info)
 front_after book stored front (Some born) is =
     let room : Book = with_volume book born in
     let more = length-append book.volumes (new_volume born ∷ []) in
@@ -77,16 +77,16 @@ front_after book stored front (Some born) is =
     = get_behind room.volumes book.volumes (new_volume born) [] (length book.volumes) refl refl in
     let first = first_in room stored (length book.volumes) (new_volume born) (omega (arith, more)) at refl in
     let same : length (captures room) ≡ length (captures book) = ap (λ (l : List Stored). length l) (captures_stay book.volumes born) in
-    inl (record {
-      k = length book.volumes;
-      is = record {
+    inl (
+      length book.volumes,
+      record {
         volume = first.volume;
         placed = first.placed;
         some = first.some;
         first = sym same ∙ first.first;
-      };
-      info = is.2;
-    })
+      },
+      is.2,
+    )
 
 -- ---- the book with the capture
 

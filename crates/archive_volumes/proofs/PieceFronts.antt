@@ -104,7 +104,7 @@ pub with_info : (book : Book) (number volume : ℕ) (is : IsFirstOf book number 
     → info ≡ info_text book.namespace volume is.volume.born → bytes ≡ info ++ group → HasFront book number group bytes
 with_info book number volume is info group bytes same composed = record {
   front = info;
-  before = inl (record { k = volume; is = is; info = same });
+  before = inl (volume, is, same);
   composed = composed;
 }
 

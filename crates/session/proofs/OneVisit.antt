@@ -160,12 +160,12 @@ first_once book number k j h f = elim (cases_order k j) [
 
 front_once : (book : Book) (number : ℕ) (a b : List ℕ) → IsFront book number a → IsFront book number b → a ≡ b
 front_once book number a b (inl h) (inl f) =
-    let same : h.k ≡ f.k = first_once book number h.k f.k h.is f.is in
-    let placed : slice_get book.volumes f.k ≡ Some h.is.volume = subst (λ (n : ℕ). slice_get book.volumes n ≡ Some h.is.volume) same h.is.placed in
-    let volume : h.is.volume ≡ f.is.volume = same_Some h.is.volume f.is.volume (sym placed ∙ f.is.placed) in
-    h.info ∙ ap (λ n. info_text book.namespace n h.is.volume.born) same ∙ ap (λ (v : Volume). info_text book.namespace f.k v.born) volume ∙ sym f.info
-front_once book number a b (inl h) (inr (none, e)) = absurd (none h.k h.is)
-front_once book number a b (inr (none, e)) (inl f) = absurd (none f.k f.is)
+    let same : h.0 ≡ f.0 = first_once book number h.0 f.0 h.1 f.1 in
+    let placed : slice_get book.volumes f.0 ≡ Some h.1.volume = subst (λ (n : ℕ). slice_get book.volumes n ≡ Some h.1.volume) same h.1.placed in
+    let volume : h.1.volume ≡ f.1.volume = same_Some h.1.volume f.1.volume (sym placed ∙ f.1.placed) in
+    h.2 ∙ ap (λ n. info_text book.namespace n h.1.volume.born) same ∙ ap (λ (v : Volume). info_text book.namespace f.0 v.born) volume ∙ sym f.2
+front_once book number a b (inl h) (inr (none, e)) = absurd (none h.0 h.1)
+front_once book number a b (inr (none, e)) (inl f) = absurd (none f.0 f.1)
 front_once book number a b (inr (none, e)) (inr (also, d)) = e ∙ sym d
 
 piece_once : NumbersHaveOneGroup → (book : Book) (number : ℕ) (a b : List ℕ) → IsPiece book number a → IsPiece book number b → a ≡ b
