@@ -181,7 +181,7 @@ pub record IsUnderWay {D : Type 0} (d : Ghosts D) (was : Holdings D) (now : Volu
   pub has : HasPayload incoming.taken.cut incoming.taken.method incoming.taken.head incoming.taken.wire payload
   pub digested : incoming.digest ≡ sha1 payload
   pub refers : CanRefer incoming.taken.cut (book_of now.held) incoming.same
-  pub finds : IsTrue was.told → RefersBy incoming.taken.cut (book_of now.held) payload incoming.same
+  pub finds : IsTrue was.told → RefersBy incoming.taken.cut (book_of now.held) (length (captures (book_of now.held))) payload incoming.same
   pub ready_is : IsReady now now was.limits.volume_bytes incoming payload ready
 
 under_way_from : {D : Type 0} (d : Ghosts D) → StoringBasis → (was : Holdings D) (old now : Volumes D) (incoming : Incoming) (ready : Ready)
@@ -206,8 +206,8 @@ under_way_from {D} d basis was old now incoming ready old_journal old_book archi
       refers = subst (λ (b : Book). CanRefer incoming.taken.cut b incoming.same) (sym same_book) refers.can;
       finds = λ told.
           let does = refers.does told in
-          subst (λ (b : Book). RefersBy incoming.taken.cut b there.payload incoming.same) (sym same_book)
-          (subst (λ (p : List ℕ). RefersBy incoming.taken.cut was.book p incoming.same)
+          subst (λ (b : Book). RefersBy incoming.taken.cut b (length (captures b)) there.payload incoming.same) (sym same_book)
+          (subst (λ (p : List ℕ). RefersBy incoming.taken.cut was.book (length (captures was.book)) p incoming.same)
           (one_payload basis.one incoming.taken.cut incoming.taken.method incoming.taken.head incoming.taken.wire does.payload there.payload does.has there.has)
           does.refers);
       ready_is = ready_now old now was.limits.volume_bytes incoming there.payload ready book_is journal_is (ready_is there.payload digested);

@@ -13,7 +13,7 @@ use Rattle.capture.specs.declared.book.Book.{Book}
 use Rattle.capture.specs.declared.captured.Taken.{Taken}
 use Rattle.capture.specs.declared.framing.Framing.{Framing}
 use Rattle.warc_text.specs.Fits.{Fits}
-use Rattle.archive_shelf.specs.Comparing.{CanRefer, Finds, IsRight, KeepsWire, RefersBy}
+use Rattle.archive_shelf.specs.Comparing.{CanRefer, RefersBy, IsRight, KeepsWire}
 use Rattle.archive_shelf.specs.Contents.{Contents}
 use Rattle.archive_shelf.specs.Laws.{LookedStaysRight}
 use Rattle.archive_shelf.specs.declared.fault.StoreFault.{StoreFault}
@@ -103,7 +103,7 @@ refers_cut whole cut_short now taken fits cut =
       does = λ told. record {
         payload = there.payload;
         has = there.has;
-        refers = subst (λ (b : Bool). RefersBy b now.seen there.payload None) (sym cut) refl;
+        refers = subst (λ (b : Bool). RefersBy b now.seen (length (captures now.seen)) there.payload None) (sym cut) refl;
       };
     }
 
@@ -115,8 +115,8 @@ refers_whole now taken payload has cut looked upto right = record {
   does = λ told. record {
     payload = payload;
     has = has;
-    refers = subst (λ (b : Bool). RefersBy b now.seen payload looked.same) (sym cut)
-        (subst (λ (n : ℕ). Finds now.seen n payload looked.same) upto (right.finds told));
+    refers = subst (λ (b : Bool). RefersBy b now.seen (length (captures now.seen)) payload looked.same) (sym cut)
+        (subst (λ (n : ℕ). RefersBy false now.seen n payload looked.same) upto (right.finds told));
   };
 }
   where
@@ -148,7 +148,7 @@ module _ (tells : Bool) (book : Book) (payload : List ℕ) where
   finds_all looked looks = record {
     within = omega arith;
     earlier = subst (λ (n : ℕ). IfSome looked.same (λ number. (number < n) × KeepsWire book number)) looks.1 looks.0.earlier;
-    finds = λ told. subst (λ (n : ℕ). Finds book n payload looked.same) looks.1 (looks.0.finds told);
+    finds = λ told. subst (λ (n : ℕ). RefersBy false book n payload looked.same) looks.1 (looks.0.finds told);
   }
 
   -- a fault that looking met is the answer

@@ -73,7 +73,7 @@ module _ {D : Type 0} (d : Ghosts D) (known : Bool) (now : Volumes D) (limit : �
     (measured : IsMeasured now.journal (book_of now.held)) (fits : Fits incoming.taken)
     (refers : CanRefer incoming.taken.cut (book_of now.held) incoming.same) (digested : incoming.digest ≡ sha1 payload)
     (has : HasPayload incoming.taken.cut incoming.taken.method incoming.taken.head incoming.taken.wire payload)
-    (finds : IsTrue known → RefersBy incoming.taken.cut (book_of now.held) payload incoming.same) where
+    (finds : IsTrue known → RefersBy incoming.taken.cut (book_of now.held) (length (captures (book_of now.held))) payload incoming.same) where
   abbrev book : Book
   book = book_of now.held
 

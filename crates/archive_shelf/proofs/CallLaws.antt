@@ -1,5 +1,6 @@
 -- What follows from what a call of a shelf left, and how calls compose.
 use Rattle.std.proofs.Common.{◌≡◌, ◌⊎◌, ℕ, ◌≤◌, Bool, true, false, IsTrue, List, [], ◌∷◌, ◌++◌, Result, Ok, Err, refl, sym, ◌∙◌, ap, subst, inl, inr, ⊎_elim, arith, append_assoc, append-nil}
+use Rattle.std.specs.Prelude.{Some, None}
 use Rattle.std.proofs.lemmas.Bool.{false≢true}
 use Rattle.capture.proofs.GrowthLaws.{grows_from_itself, growth_goes_on}
 use Rattle.capture.specs.declared.book.Book.{Book}
@@ -8,7 +9,7 @@ use Rattle.cdxj_index.specs.Facts.{Facts}
 use Rattle.disk_model.specs.Image.{Image}
 use Rattle.archive_shelf.proofs.StoringLaws.{leading_grows, leads_itself, stores_grow}
 use Rattle.archive_shelf.specs.Answers.{CountsIf, LeavesReading, StoreLeaves, is_store_fault}
-use Rattle.archive_shelf.specs.Contents.{Begins, Contents, IsConsistent, Leads, LeadsShown, LeadsShownPast, Looks, Stays}
+use Rattle.archive_shelf.specs.Contents.{Begins, Contents, IsConsistent, Leads, LeadsShown, Looks, Stays}
 use Rattle.archive_shelf.specs.Openings.{CrashStates, IsEarlier, Keeps, LeavesNoMore}
 use Rattle.archive_shelf.specs.Told.{GoesOn, LooksOn, ReadsOn, StoreMayLeave, StoresOn, Told, WritesNothing}
 use Rattle.archive_shelf.specs.declared.fault.StoreFault.{StoreFault}
@@ -26,18 +27,18 @@ begins_both {A} a b c h k = record {
   joined = k.joined ∙ ap (λ (x : List A). x ++ k.rest) h.joined ∙ append_assoc a h.rest k.rest;
 }
 
-pub leads_begins : (alone : Bool) (a b : List Facts) → LeadsShown alone a b → Begins a b
+pub leads_begins : (alone : Bool) (a b : List Facts) → LeadsShown alone None a b → Begins a b
 leads_begins true a b e = begins_same a b e
 leads_begins false a b h = h
 
-pub past_begins : (alone : Bool) (number : ℕ) (a b : List Facts) → LeadsShownPast alone number a b → Begins a b
+pub past_begins : (alone : Bool) (number : ℕ) (a b : List Facts) → LeadsShown alone (Some number) a b → Begins a b
 past_begins true number a b (inl e) = begins_same a b e
 past_begins true number a b (inr (entry, number_is, e)) = record { rest = entry ∷ []; joined = e }
 past_begins false number a b h = h
 
 -- ---- what is seen and shown
 
-pub shown_itself : (alone : Bool) (shown : List Facts) → LeadsShown alone shown shown
+pub shown_itself : (alone : Bool) (shown : List Facts) → LeadsShown alone None shown shown
 shown_itself true shown = refl
 shown_itself false shown = begins_same shown shown refl
 
@@ -45,7 +46,7 @@ pub leads_same : (alone : Bool) (a b : Book) → IsTrue alone → Leads alone a 
 leads_same true a b t e = e
 leads_same false a b t h = absurd (false≢true t)
 
-pub shown_same : (alone : Bool) (a b : List Facts) → IsTrue alone → LeadsShown alone a b → b ≡ a
+pub shown_same : (alone : Bool) (a b : List Facts) → IsTrue alone → LeadsShown alone None a b → b ≡ a
 shown_same true a b t e = e
 shown_same false a b t h = absurd (false≢true t)
 
@@ -53,7 +54,7 @@ pub leads_both : (alone : Bool) (a b c : Book) → Leads alone a b → Leads alo
 leads_both true a b c e f = f ∙ e
 leads_both false a b c h k = growth_goes_on a b c h k
 
-pub leads_shown_both : (alone : Bool) (a b c : List Facts) → LeadsShown alone a b → LeadsShown alone b c → LeadsShown alone a c
+pub leads_shown_both : (alone : Bool) (a b c : List Facts) → LeadsShown alone None a b → LeadsShown alone None b c → LeadsShown alone None a c
 leads_shown_both true a b c e f = f ∙ e
 leads_shown_both false a b c h k = begins_both a b c h k
 

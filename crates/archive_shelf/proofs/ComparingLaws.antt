@@ -9,7 +9,7 @@ use Rattle.capture.specs.declared.book.Book.{Book}
 use Rattle.capture.specs.declared.captured.Kept.{Kept}
 use Rattle.capture.specs.declared.captured.Kept.TheVariants.{Wire, Same, Cut}
 use Rattle.capture.specs.declared.captured.Stored.{Stored}
-use Rattle.archive_shelf.specs.Comparing.{Finds, HasWhole, IsRight, KeepsWire}
+use Rattle.archive_shelf.specs.Comparing.{RefersBy, HasWhole, IsRight, KeepsWire}
 use Rattle.archive_shelf.specs.Laws.{FirstKeepsItsWire, IsOriginal, LookedStaysRight}
 
 -- what stands in a list stands there when the list goes on
@@ -83,7 +83,7 @@ module _ (old new : Book) (added : List Stored) (is : captures new ≡ captures 
   )
 
   finds_later : (upto : ℕ) (payload : List ℕ) (same : Option ℕ) → HasSoundCaptures old → upto ≤ length (captures old)
-      → Finds old upto payload same → Finds new upto payload same
+      → RefersBy false old upto payload same → RefersBy false new upto payload same
   finds_later upto payload (Some number) sound within found = (
     found.0,
     found.1,

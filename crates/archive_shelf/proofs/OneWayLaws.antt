@@ -12,10 +12,10 @@ use Rattle.capture.specs.declared.captured.Taken.{Taken}
 use Rattle.warc_text.specs.Books.{IsVolumeText, joined}
 use Rattle.warc_text.specs.Growth.{NumbersHaveOneGroup}
 use Rattle.warc_text.specs.Records.{info_text}
-use Rattle.archive_shelf.specs.Comparing.{Finds, IsSameAs, RefersBy}
+use Rattle.archive_shelf.specs.Comparing.{RefersBy, IsSameAs}
 use Rattle.archive_shelf.specs.Laws.{CapturesAreStoredOneWay, IsOneWay, StoringLeavesNext}
 use Rattle.archive_shelf.specs.Openings.{IsNext, MayLeave, SameBook}
-use Rattle.archive_shelf.specs.Storing.{HasLast, HasRoom, NeedsVolume, Storing, as_stored, kept_of, stored_by, with_capture, with_volume}
+use Rattle.archive_shelf.specs.Storing.{HasLast, NeedsVolume, Storing, as_stored, kept_of, stored_by, with_capture, with_volume}
 use Rattle.archive_shelf.proofs.StoringLaws.{IsUnfilled}
 
 -- one element at one place
@@ -53,7 +53,7 @@ one_payload one cut method head wire payload other has has₂ =
     one (alone_in (of_wire cut method head wire)) 0 payload other
     (payload_alone cut method head wire payload has) (payload_alone cut method head wire other has₂)
 
-finds_one : (book : Book) (upto : ℕ) (payload : List ℕ) (s t : Option ℕ) → Finds book upto payload s → Finds book upto payload t → s ≡ t
+finds_one : (book : Book) (upto : ℕ) (payload : List ℕ) (s t : Option ℕ) → RefersBy false book upto payload s → RefersBy false book upto payload t → s ≡ t
 finds_one book upto payload (Some n) (Some m) found found₂ =
     let le : n ≤ m = found.3 m found₂.2 in
     let ge : m ≤ n = found₂.3 n found.2 in
@@ -63,14 +63,14 @@ finds_one book upto payload (Some n) None found none = absurd (none found.0 n fo
 finds_one book upto payload None (Some m) none found = absurd (none found.0 m found.1 found.2)
 finds_one book upto payload None None none none₂ = refl
 
-refers_one : (cut : Bool) (book : Book) (payload : List ℕ) (s t : Option ℕ) → RefersBy cut book payload s → RefersBy cut book payload t → s ≡ t
+refers_one : (cut : Bool) (book : Book) (payload : List ℕ) (s t : Option ℕ) → RefersBy cut book (length (captures book)) payload s → RefersBy cut book (length (captures book)) payload t → s ≡ t
 refers_one true book payload s t is is₂ = is ∙ sym is₂
 refers_one false book payload s t is is₂ = finds_one book (length (captures book)) payload s t is is₂
 
 same_one : CapturesHaveOnePayload → (book : Book) (taken : Taken) (s t : Option ℕ) → IsSameAs book taken s → IsSameAs book taken t → s ≡ t
 same_one one book taken s t is is₂ =
     let payload : is.payload ≡ is₂.payload = one_payload one taken.cut taken.method taken.head taken.wire is.payload is₂.payload is.has is₂.has in
-    refers_one taken.cut book is₂.payload s t (subst (λ (p : List ℕ). RefersBy taken.cut book p s) payload is.refers) is₂.refers
+    refers_one taken.cut book is₂.payload s t (subst (λ (p : List ℕ). RefersBy taken.cut book (length (captures book)) p s) payload is.refers) is₂.refers
 
 -- ---- it needs a volume, or it doesn't
 
@@ -93,7 +93,7 @@ too_long one limit book stored last last₂ (inr within) some text of past =
     let same : within.0 ≡ text = one_text one (with_capture book stored) last₂.number within.0 text is of in
     omega (arith, within.2, past, ap length same)
 
-not_both : NumbersHaveOneGroup → (limit : ℕ) (book : Book) (stored : Stored) → HasRoom limit book stored → NeedsVolume limit book stored → ⊥
+not_both : NumbersHaveOneGroup → (limit : ℕ) (book : Book) (stored : Stored) → NeedsVolume limit book stored false → NeedsVolume limit book stored true → ⊥
 not_both one limit book stored room (inl none) = omega (arith, room.0.is_last, ap length none)
 not_both one limit book stored room (inr needs) = too_long one limit book stored room.0 needs.0 room.1 needs.1 needs.2 needs.3 needs.4
 

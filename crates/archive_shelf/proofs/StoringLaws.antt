@@ -11,13 +11,13 @@ use Rattle.capture.specs.declared.captured.Stored.{Stored}
 use Rattle.capture.specs.declared.captured.Taken.{Taken}
 use Rattle.archive_shelf.specs.Answers.{HasVolumeAlone}
 use Rattle.archive_shelf.specs.Laws.{BooksLeadToThemselves, GainsGrow, GainsStandBehind, LeadingGrows, StoresGrow, StoringGains}
-use Rattle.archive_shelf.specs.Storing.{add_to_last, as_stored, new_volume, with_capture, with_volume, HasRoom, NeedsVolume}
+use Rattle.archive_shelf.specs.Storing.{add_to_last, as_stored, new_volume, with_capture, with_volume, NeedsVolume}
 use Rattle.archive_shelf.specs.declared.fault.StoreFault.TheVariants.{Full, DiskFault, Damaged, Memory}
 
 -- the book with room for a capture
 abbrev pub IsUnfilled : ℕ → Book → Stored → Book → Type 0
 IsUnfilled limit book stored room =
-    (HasRoom limit book stored × (room ≡ book)) ⊎ (NeedsVolume limit book stored × (room ≡ with_volume book stored.date))
+    (NeedsVolume limit book stored false × (room ≡ book)) ⊎ (NeedsVolume limit book stored true × (room ≡ with_volume book stored.date))
 
 -- ---- leading
 

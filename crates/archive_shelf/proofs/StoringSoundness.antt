@@ -32,9 +32,9 @@ use Rattle.archive_shelf.proofs.GainingTexts.{last_placed, number_in_last, same_
 use Rattle.archive_shelf.proofs.OneWayLaws.{last_volume, one_text}
 use Rattle.archive_shelf.proofs.ShortTexts.{short_group, short_info}
 use Rattle.archive_shelf.proofs.StoringLaws.{captures_more, captures_stay, IsUnfilled}
-use Rattle.archive_shelf.specs.Comparing.{Finds, IsSameAs, RefersBy}
+use Rattle.archive_shelf.specs.Comparing.{RefersBy, IsSameAs}
 use Rattle.archive_shelf.specs.Gaining.{AreFilled, StoringKeepsSoundness}
-use Rattle.archive_shelf.specs.Storing.{HasLast, HasRoom, NeedsVolume, Storing, add_to_last, as_stored, kept_of, new_volume, stored_by, with_capture, with_volume}
+use Rattle.archive_shelf.specs.Storing.{HasLast, NeedsVolume, Storing, add_to_last, as_stored, kept_of, new_volume, stored_by, with_capture, with_volume}
 
 -- ---- what is kept is sound
 
@@ -69,7 +69,7 @@ head_before method head wire payload response has some =
 -- what is kept of a capture that fits, in the book with it
 kept_sound : (book new : Book) (added : List Stored) (is : captures new ≡ captures book ++ added) (method uri : List ℕ) (date : ℕ) (request head wire payload : List ℕ)
     (cut : Bool) (same : Option ℕ) → IsSound book → RespondsTo cut method head wire → HasPayload cut method head wire payload
-    → ((first : ℕ) → same ≡ Some first → cut ≡ false → Finds book (length (captures book)) payload same)
+    → ((first : ℕ) → same ≡ Some first → cut ≡ false → RefersBy false book (length (captures book)) payload same)
     → IsSoundBy new (length (captures book)) (record { method = method; uri = uri; date = date; request = request; head = head; kept = kept_of cut wire same }) (kept_of cut wire same)
 kept_sound book new added is method uri date request head wire payload true same sound responds has finds = responds
 kept_sound book new added is method uri date request head wire payload false None sound responds has finds = responds
@@ -85,8 +85,8 @@ kept_sound book new added is method uri date request head wire payload false (So
       head = head_before method head wire payload responds has found.0;
     }
 
-finds_by : (cut : Bool) (book : Book) (payload : List ℕ) (same : Option ℕ) → RefersBy cut book payload same
-    → (first : ℕ) → same ≡ Some first → cut ≡ false → Finds book (length (captures book)) payload same
+finds_by : (cut : Bool) (book : Book) (payload : List ℕ) (same : Option ℕ) → RefersBy cut book (length (captures book)) payload same
+    → (first : ℕ) → same ≡ Some first → cut ≡ false → RefersBy false book (length (captures book)) payload same
 finds_by true book payload same refers first is whole = cc
 finds_by false book payload same refers first is whole = refers
 
@@ -153,7 +153,7 @@ some_captures [] some = absurd (some refl)
 some_captures (c ∷ cs) some = omega arith
 
 -- where a capture needs a volume, all others hold a capture
-filled_by : (limit : ℕ) (book : Book) (stored : Stored) → IsSound book → NeedsVolume limit book stored → AreFilled book
+filled_by : (limit : ℕ) (book : Book) (stored : Stored) → IsSound book → NeedsVolume limit book stored true → AreFilled book
 filled_by limit book stored sound (inl none) k volume at =
     absurd (omega (arith, slice_get_within book.volumes k volume at, ap length none))
 filled_by limit book stored sound (inr needs) k volume at = ⊎_elim
@@ -202,7 +202,7 @@ few_volumes book sound = few_volumes_in book.volumes sound.sound.filled
 room_short : NumbersHaveOneGroup → SoundVolumesHaveOneText → (limit : ℕ) (book : Book) (stored : Stored) → IsSound book → limit < 2 ^ 62
     → length (captures book) + 1 < 2 ^ 32 - 1
     → ((first : ℕ) → stored.kept ≡ Same first → first < length (captures book)) → IsShort (taken_back stored)
-    → HasRoom limit book stored
+    → NeedsVolume limit book stored false
     → (k : ℕ) (text : List ℕ) → k + 1 ≡ length book.volumes → IsVolumeText (with_capture book stored) k text → length text < 2 ^ 62
 room_short one has limit book stored sound below few earlier short room k text is_last of =
     let last : HasLast book = room.0 in
@@ -248,12 +248,12 @@ unfilled_short stay goes_on one has limit book stored room sound roomy_is below 
     (is_last ∙ ap (λ (b : Book). length b.volumes) new.1)
     (subst (λ (b : Book). IsVolumeText (with_capture b stored) k text) new.1 of)
 
-earlier_by : (cut : Bool) (wire : List ℕ) (book : Book) (payload : List ℕ) (same : Option ℕ) → RefersBy cut book payload same
+earlier_by : (cut : Bool) (wire : List ℕ) (book : Book) (payload : List ℕ) (same : Option ℕ) → RefersBy cut book (length (captures book)) payload same
     → (first : ℕ) → kept_of cut wire same ≡ Same first → first < length (captures book)
 earlier_by cut wire book payload same refers first e =
     let is = kept_earlier cut wire same first e in
-    let found : Finds book (length (captures book)) payload (Some first) =
-    subst (λ (s : Option ℕ). Finds book (length (captures book)) payload s) is.0 (finds_by cut book payload same refers first is.0 is.1) in
+    let found : RefersBy false book (length (captures book)) payload (Some first) =
+    subst (λ (s : Option ℕ). RefersBy false book (length (captures book)) payload s) is.0 (finds_by cut book payload same refers first is.0 is.1) in
     found.1
 
 pub storing_keeps_soundness : SealedVolumesStay → LastVolumeGoesOn → NumbersHaveOneGroup → SoundVolumesHaveOneText → StoringKeepsSoundness

@@ -17,7 +17,7 @@ use Rattle.disk_model.specs.Image.{Image}
 use Rattle.time_text.specs.Texts.{InRange}
 use Rattle.warc_journal.specs.Extents.{cdxj_files}
 use Rattle.archive_shelf.specs.Comparing.{CanRefer, IsSameAs}
-use Rattle.archive_shelf.specs.Contents.{Contents, Leads, LeadsShown, LeadsShownPast, Stays}
+use Rattle.archive_shelf.specs.Contents.{Contents, Leads, LeadsShown, Stays}
 use Rattle.archive_shelf.specs.Storing.{Gains, NeedsVolume, Storing, as_stored, stored_by, with_volume}
 use Rattle.archive_shelf.specs.declared.fault.BringFault.{BringFault}
 use Rattle.archive_shelf.specs.declared.fault.BringFault.TheVariants as brings
@@ -45,13 +45,13 @@ pub record HasStored (alone : Bool) (taken : Taken) (was is : Contents) (receipt
   pub refers : CanRefer taken.cut found receipt.same_as
   pub gained : Gains found (as_stored taken receipt.same_as) is.seen
   pub by_rule : IsTrue was.tells → IsByRule was.limits.volume_bytes found taken receipt is.seen
-  pub shown : LeadsShownPast alone receipt.number was.shown is.shown
+  pub shown : LeadsShown alone (Some receipt.number) was.shown is.shown
   pub others : is ≡ record was { seen = is.seen; shown = is.shown; mine = was.mine ++ receipt.number ∷ [] }
 
 -- a new volume was needed, and it is there without the capture
 pub record HasVolumeAlone (tells : Bool) (limit : ℕ) (found : Book) (taken : Taken) (after : Book) : Type 0 where
   pub volume : after ≡ with_volume found taken.date
-  pub needed : IsTrue tells → (same : Option ℕ) × IsSameAs found taken same × NeedsVolume limit found (as_stored taken same)
+  pub needed : IsTrue tells → (same : Option ℕ) × IsSameAs found taken same × NeedsVolume limit found (as_stored taken same) true
 
 -- The disk failed, and nothing was stored, but a volume that was needed may be there.
 pub record IsRefusedByDisk (alone : Bool) (taken : Taken) (was is : Contents) : Type 0 where
@@ -59,7 +59,7 @@ pub record IsRefusedByDisk (alone : Bool) (taken : Taken) (was is : Contents) : 
   pub led : Leads alone was.seen found
   pub not_full : length (captures found) < was.limits.captures
   pub left : (is.seen ≡ found) ⊎ HasVolumeAlone was.tells was.limits.volume_bytes found taken is.seen
-  pub shown : LeadsShown alone was.shown is.shown
+  pub shown : LeadsShown alone None was.shown is.shown
   pub others : is ≡ record was { seen = is.seen; shown = is.shown }
 
 -- What a store leaves. It is full exactly where the book that the call found is; want of memory may be answered anywhere.

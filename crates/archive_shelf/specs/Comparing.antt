@@ -12,11 +12,13 @@ pub record HasWhole (book : Book) (number : ℕ) (payload : List ℕ) : Type 0 w
   pub has : IsPayloadOf book number payload
   pub whole : is_cut has.stored.kept ≡ false
 
--- among the captures below a number this is the first with the payload, or there is none. An empty payload isn't looked for
-abbrev pub Finds : Book → ℕ → List ℕ → Option ℕ → Type 0
-Finds book upto payload (Some number) =
+-- Which capture one refers to: none where it was cut; else, among those below a number, the first with its payload, or there is none. An empty
+-- payload isn't looked for.
+abbrev pub RefersBy : Bool → Book → ℕ → List ℕ → Option ℕ → Type 0
+RefersBy true book upto payload same = same ≡ None
+RefersBy false book upto payload (Some number) =
     (payload ≢ []) × (number < upto) × HasWhole book number payload × ((other : ℕ) → HasWhole book other payload → number ≤ other)
-Finds book upto payload None = payload ≢ [] → (number : ℕ) → number < upto → HasWhole book number payload → ⊥
+RefersBy false book upto payload None = payload ≢ [] → (number : ℕ) → number < upto → HasWhole book number payload → ⊥
 
 -- the capture with this number keeps its whole wire
 pub record KeepsWire (book : Book) (number : ℕ) : Type 0 where
@@ -30,20 +32,15 @@ pub record KeepsWire (book : Book) (number : ℕ) : Type 0 where
 pub record IsRight (tells : Bool) (book : Book) (payload : List ℕ) (looked : Looked) : Type 0 where
   pub within : looked.upto ≤ length (captures book)
   pub earlier : IfSome looked.same (λ number. (number < looked.upto) × KeepsWire book number)
-  pub finds : IsTrue tells → Finds book looked.upto payload looked.same
+  pub finds : IsTrue tells → RefersBy false book looked.upto payload looked.same
 
 -- what a capture may refer to, whatever the disk tells: nothing where it was cut, else a capture that keeps its whole wire
 abbrev pub CanRefer : Bool → Book → Option ℕ → Type 0
 CanRefer true book same = same ≡ None
 CanRefer false book same = IfSome same (λ number. KeepsWire book number)
 
--- what a capture refers to: nothing where it was cut, else the first capture of the book with its payload
-abbrev pub RefersBy : Bool → Book → List ℕ → Option ℕ → Type 0
-RefersBy true book payload same = same ≡ None
-RefersBy false book payload same = Finds book (length (captures book)) payload same
-
 -- the capture of the book that this one refers to, if there is one
 pub record IsSameAs (book : Book) (taken : Taken) (same : Option ℕ) : Type 0 where
   pub payload : List ℕ
   pub has : HasPayload taken.cut taken.method taken.head taken.wire payload
-  pub refers : RefersBy taken.cut book payload same
+  pub refers : RefersBy taken.cut book (length (captures book)) payload same

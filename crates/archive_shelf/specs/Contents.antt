@@ -1,5 +1,5 @@
 -- What a shelf tells of what it holds, and what its calls change of it.
-use Rattle.std.specs.Prelude.{◌≡◌, ◌⊎◌, ℕ, ◌≤◌, Bool, true, false, IsTrue, List, [], ◌∷◌, ◌++◌, length, Contains}
+use Rattle.std.specs.Prelude.{None, ◌≡◌, ◌⊎◌, ℕ, ◌≤◌, Bool, true, false, IsTrue, List, [], ◌∷◌, ◌++◌, length, Contains}
 use Rattle.std.specs.List.Sorted.{IsStrictlySortedBy}
 use Rattle.capture.specs.Captures.{captures}
 use Rattle.capture.specs.Growth.{Grows}
@@ -28,25 +28,21 @@ abbrev pub Leads : Bool → Book → Book → Type 0
 Leads true old new = new ≡ old
 Leads false old new = Grows old new
 
--- and what is shown: alone it is the same, in company there may be more
-abbrev pub LeadsShown : Bool → List Facts → List Facts → Type 0
-LeadsShown true old new = new ≡ old
-LeadsShown false old new = Begins old new
-
--- what is shown after a capture was stored: alone at most its own entry is new, in company there may be more
-abbrev pub LeadsShownPast : Bool → ℕ → List Facts → List Facts → Type 0
-LeadsShownPast true number old new = (new ≡ old) ⊎ ((entry : Facts) × (entry.number ≡ number) × (new ≡ old ++ entry ∷ []))
-LeadsShownPast false number old new = Begins old new
+-- and what is shown: alone it is the same, or where a capture with this number was stored, at most its own entry is new; in company there may be more
+abbrev pub LeadsShown : Bool → Option ℕ → List Facts → List Facts → Type 0
+LeadsShown true None old new = new ≡ old
+LeadsShown true (Some number) old new = (new ≡ old) ⊎ ((entry : Facts) × (entry.number ≡ number) × (new ≡ old ++ entry ∷ []))
+LeadsShown false stored old new = Begins old new
 
 -- Nothing was looked at but what is shown: all else stays.
 pub record Looks (alone : Bool) (was is : Contents) : Type 0 where
-  pub shown : LeadsShown alone was.shown is.shown
+  pub shown : LeadsShown alone None was.shown is.shown
   pub others : is ≡ record was { shown = is.shown }
 
 -- Nothing was stored: all stays but what others did.
 pub record Stays (alone : Bool) (was is : Contents) : Type 0 where
   pub seen : Leads alone was.seen is.seen
-  pub shown : LeadsShown alone was.shown is.shown
+  pub shown : LeadsShown alone None was.shown is.shown
   pub others : is ≡ record was { seen = is.seen; shown = is.shown }
 
 -- the entries of the book are the first of those that are shown, which stand in order of number; what stands behind them is

@@ -53,16 +53,14 @@ pub record HasLast (book : Book) : Type 0 where
   pub is_last : number + 1 ≡ length book.volumes
   pub placed : slice_get book.volumes number ≡ Some volume
 
--- a capture needs a new volume: there is none, or the last one holds a capture and its text would pass the limit with this one
-abbrev pub NeedsVolume : ℕ → Book → Stored → Type 0
-NeedsVolume limit book stored =
+-- A capture needs a new volume: there is none, or the last one holds a capture and its text would pass the limit with this one. It doesn't: the last
+-- volume holds no capture, or its text stays within the limit with this one.
+abbrev pub NeedsVolume : ℕ → Book → Stored → Bool → Type 0
+NeedsVolume limit book stored true =
     (book.volumes ≡ [])
     ⊎ ((last : HasLast book) × (last.volume.captures ≢ [])
     × (text : List ℕ) × IsVolumeText (with_capture book stored) last.number text × (limit < length text))
-
--- it doesn't: the last volume holds no capture, or its text stays within the limit with this one
-abbrev pub HasRoom : ℕ → Book → Stored → Type 0
-HasRoom limit book stored =
+NeedsVolume limit book stored false =
     (last : HasLast book) × ((last.volume.captures ≡ [])
     ⊎ ((text : List ℕ) × IsVolumeText (with_capture book stored) last.number text × (length text ≤ limit)))
 
@@ -71,8 +69,8 @@ pub record Storing (limit : ℕ) (book : Book) (taken : Taken) : Type 0 where
   pub same : Option ℕ
   pub unfilled : Book
   pub refers : IsSameAs book taken same
-  pub roomy : (HasRoom limit book (as_stored taken same) × (unfilled ≡ book))
-      ⊎ (NeedsVolume limit book (as_stored taken same) × (unfilled ≡ with_volume book taken.date))
+  pub roomy : (NeedsVolume limit book (as_stored taken same) false × (unfilled ≡ book))
+      ⊎ (NeedsVolume limit book (as_stored taken same) true × (unfilled ≡ with_volume book taken.date))
 
 -- the book after it
 abbrev pub stored_by : {limit : ℕ} {book : Book} {taken : Taken} → Storing limit book taken → Book

@@ -19,7 +19,7 @@ use Rattle.capture.specs.declared.framing.Framing.{Framing}
 use Rattle.capture.specs.declared.framing.Framing.TheVariants.{Empty, Length, Chunked, ToEnd}
 use Rattle.revisit_table.specs.Table.{numbers_of}
 use Rattle.warc_text.specs.Sound.{IsSound}
-use Rattle.archive_shelf.specs.Comparing.{Finds, HasWhole, IsRight, KeepsWire}
+use Rattle.archive_shelf.specs.Comparing.{RefersBy, HasWhole, IsRight, KeepsWire}
 use Rattle.archive_shelf.specs.declared.fault.StoreFault.{StoreFault}
 use Rattle.archive_shelf.specs.declared.fault.StoreFault.TheVariants as stores
 use Rattle.archive_shelf.specs.declared.looked.Looked.{Looked}
@@ -379,7 +379,7 @@ module _ (tells : Bool) (book : Book) (spots : List Spot) (are : AreSpotsOf book
         within = omega (arith, are.count);
         earlier = (omega (arith, was.0, right.within, are.count), was.1);
         finds = λ told.
-            let found : Finds book looked.upto payload (Some same) = subst (λ (s : Option ℕ). Finds book looked.upto payload s) is (right.finds told) in
+            let found : RefersBy false book looked.upto payload (Some same) = subst (λ (s : Option ℕ). RefersBy false book looked.upto payload s) is (right.finds told) in
             (found.0, omega (arith, was.0, right.within, are.count), found.2, found.3);
       }
 
@@ -387,7 +387,7 @@ module _ (tells : Bool) (book : Book) (spots : List Spot) (are : AreSpotsOf book
       (candidates : List ℕ) (is : candidates ≡ candidates_of looked.upto payload spots) (rising : IsStrictlyIncreasing candidates)
       (some : payload ≢ []) (none : looked.same ≡ None) where
     none_before : IsTrue tells → NoneBelow book looked.upto payload
-    none_before told = subst (λ (s : Option ℕ). Finds book looked.upto payload s) none (right.finds told) some
+    none_before told = subst (λ (s : Option ℕ). RefersBy false book looked.upto payload s) none (right.finds told) some
 
     -- no candidate has it
     pub right_none : (IsTrue tells → NoneHas book candidates (length candidates) payload) → IsRight tells book payload (record { upto = length spots; same = None })

@@ -109,7 +109,7 @@ module _ (old new : Book) (taken : Taken) (same : Option ℕ) (gains : captures 
   -- ---- where the disk tells
 
   payload_by : (method head wire payload : List ℕ) (cut : Bool) (other : Option ℕ) (stored : Stored) → stored.method ≡ method → stored.head ≡ head → IsSound old
-      → HasPayload cut method head wire payload → RefersBy cut old payload other → IsPayloadBy new stored (kept_of cut wire other) payload
+      → HasPayload cut method head wire payload → RefersBy cut old (length (captures old)) payload other → IsPayloadBy new stored (kept_of cut wire other) payload
   payload_by method head wire payload true other stored is_method is_head sound has refers =
       subst (λ (m : List ℕ). HasPayload true m stored.head wire payload) (sym is_method)
       (subst (λ (h : List ℕ). HasPayload true method h wire payload) (sym is_head) has)
@@ -130,7 +130,7 @@ module _ (old new : Book) (taken : Taken) (same : Option ℕ) (gains : captures 
   -- it stands behind the last text, in its group
   pub spot_placed : (texts : List (List ℕ)) (group payload : List ℕ) (layout : Layout) (end : ℕ) → 0 < length texts
       → length (text_at texts (length texts - 1)) ≡ end → StandsAt taken same group layout → IsSound old → CanRefer taken.cut old same
-      → HasPayload taken.cut taken.method taken.head taken.wire payload → RefersBy taken.cut old payload same → IsGroupText new (length (captures old)) group
+      → HasPayload taken.cut taken.method taken.head taken.wire payload → RefersBy taken.cut old (length (captures old)) payload same → IsGroupText new (length (captures old)) group
       → IsPlaced (with_more texts group) new (length (captures old)) (spot_of (as_stored taken same) (sha1 payload) (length texts - 1) end (end + layout.head_at))
   spot_placed texts group payload layout end some is_end at sound refers has by is_group =
       let k : ℕ = length texts - 1 in

@@ -17,7 +17,7 @@ use Rattle.warc_journal.specs.Texts.{with_more}
 use Rattle.warc_journal.specs.declared.journal.Journal.{Journal}
 use Rattle.warc_text.specs.Books.{AreVolumeTexts, IsGroupText, IsVolumeText}
 use Rattle.archive_shelf.specs.Gaining.{AreFilled, CapturesAddTheirGroup}
-use Rattle.archive_shelf.specs.Storing.{HasLast, HasRoom, NeedsVolume, new_volume, with_capture}
+use Rattle.archive_shelf.specs.Storing.{HasLast, NeedsVolume, new_volume, with_capture}
 use Rattle.archive_volumes.specs.Held.{is_filled}
 use Rattle.archive_volumes.specs.Writing.{IsNeeded}
 use Rattle.archive_volumes.specs.Volumes.{HoldsBook, IsMeasured}
@@ -148,7 +148,7 @@ module _ {D : Type 0} (d : Ghosts D) (journal : Journal D) (book : Book) (stored
   is_last_of : is_filled book.volumes ≡ not (nat_eq (length last.volume.captures) 0)
   is_last_of = last_is book.volumes last.number last.volume last.is_last last.placed
 
-  pub room_within : (limit : ℕ) → (is_filled book.volumes ≡ false) ⊎ (last_len journal + length group ≤ limit) → HasRoom limit book stored
+  pub room_within : (limit : ℕ) → (is_filled book.volumes ≡ false) ⊎ (last_len journal + length group ≤ limit) → NeedsVolume limit book stored false
   room_within limit which = (
     last,
     ⊎_elim
@@ -157,7 +157,7 @@ module _ {D : Type 0} (d : Ghosts D) (journal : Journal D) (book : Book) (stored
         which,
   )
 
-  pub room_past : (limit : ℕ) → is_filled book.volumes ≡ true → limit < last_len journal + length group → NeedsVolume limit book stored
+  pub room_past : (limit : ℕ) → is_filled book.volumes ≡ true → limit < last_len journal + length group → NeedsVolume limit book stored true
   room_past limit full past = inr (
     last,
     (λ none. absurd (omega (arith, some_by last.volume.captures (sym is_last_of ∙ full), ap length none))),

@@ -36,7 +36,7 @@ module _ (book new : Book) (method uri : List ℕ) (date : ℕ) (request head wi
 
   pub group_by : (cut : Bool) (same : Option ℕ) (other : Option SameOf) (group : List ℕ)
       → captures new ≡ captures book ++ as_stored (of_cut cut) same ∷ [] → HasPayload cut method head wire payload
-      → RefersBy cut book payload same → TellsSame book same other
+      → RefersBy cut book (length (captures book)) payload same → TellsSame book same other
       → group ≡ group_text book.namespace (length (captures book)) (of_cut cut) (sha1 payload) (reference_of book.namespace other)
       → IsGroupWith new (length (captures book)) payload group
   group_by true None other group gains has refers tells composed =

@@ -58,17 +58,17 @@ room_gains book prepared stored some =
 -- where a volume was begun for the capture it needed that
 pub needed_by : {D : Type 0} (d : Ghosts D) (limit : ℕ) (book : Book) (taken : Taken) (born : ℕ) (after : Book)
     → IsWay d limit book taken (with_volume book born) after
-    → (same : Option ℕ) × IsSameAs book taken same × NeedsVolume limit book (as_stored taken same)
+    → (same : Option ℕ) × IsSameAs book taken same × NeedsVolume limit book (as_stored taken same) true
 needed_by d limit book taken born after way_is = by way_is.storing.roomy
   where
     by : IsUnfilled limit book (as_stored taken way_is.storing.same) way_is.storing.unfilled
-        → (same : Option ℕ) × IsSameAs book taken same × NeedsVolume limit book (as_stored taken same)
+        → (same : Option ℕ) × IsSameAs book taken same × NeedsVolume limit book (as_stored taken same) true
     by (inl room) = absurd (omega (arith, ap (λ (b : Book). length b.volumes) (way_is.unfilled ∙ room.1), length-append book.volumes (new_volume born ∷ [])))
     by (inr needs) = (way_is.storing.same, way_is.storing.refers, needs.0)
 
 module _ {D : Type 0} (d : Ghosts D) (journal : Journal D) (book : Book) (taken : Taken) (payload : List ℕ) (same : Option ℕ) (group : List ℕ)
     {known : Bool} (told : IsTrue known) (holds : HoldsBook d known journal book) (has : HasPayload taken.cut taken.method taken.head taken.wire payload)
-    (refers : RefersBy taken.cut book payload same) (is : IsGroupFor book taken payload same group) where
+    (refers : RefersBy taken.cut book (length (captures book)) payload same) (is : IsGroupFor book taken payload same group) where
   abbrev stored : Stored
   stored = as_stored taken same
 

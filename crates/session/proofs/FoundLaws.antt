@@ -1,5 +1,6 @@
 -- What is found by its date, and what an address says of it.
-use Rattle.std.proofs.Common.{◌≡◌, inl, ℕ, Bool, true, false, List, Option, Some, None, Result, Ok, Err, refl, sym, ◌∙◌}
+use Rattle.std.proofs.Common.{◌≡◌, inl, ℕ, Bool, true, false, List, Option, Some, Result, Ok, Err, refl, sym, ◌∙◌}
+use Rattle.std.specs.Prelude.{None}
 use Rattle.archive_shelf.proofs.CallLaws.{same_tells, stays_tells}
 use Rattle.archive_shelf.specs.Answers.{Brings, is_bring_fault}
 use Rattle.archive_shelf.specs.Contents.{Contents, LeadsShown}
@@ -36,14 +37,14 @@ by_test result test e f = sym e ∙ f
 
 -- it is there
 pub found_there : {P : Type 0} (alone : Bool) (mid is : Contents) (q : SiteRequest) (sought : Nearest) (number count : ℕ)
-    → ReachesJust q mid.shown sought number → LeadsShown alone mid.shown is.shown
+    → ReachesJust q mid.shown sought number → LeadsShown alone None mid.shown is.shown
     → Brings is number (Err (brings.NoSuch count)) → P
 found_there alone mid is q sought number count h later (count_is, past, none) =
     let bad : ⊥ = none h.entry (shown_on alone mid.shown is.shown h.entry later h.reaches.nearest.member) (sym h.number_is) in absurd bad
 
 -- and replayed
 pub found_replayed : (terms : Terms) (alone : Bool) (q : SiteRequest) (sought : Nearest) (number faults disk : ℕ) (brought : Brought)
-    (mid is : Contents) → ReachesJust q mid.shown sought number → LeadsShown alone mid.shown is.shown
+    (mid is : Contents) → ReachesJust q mid.shown sought number → LeadsShown alone None mid.shown is.shown
     → Brings is number (Ok brought) → is.tells ≡ terms.tells
     → IsReplayed terms q (record { book = is.seen; shown = mid.shown; dialer_faults = faults; disk_faults = disk }) (ForNearest sought) brought
 found_replayed terms alone q sought number faults disk brought mid is h later (there, replayable, named, known, as_shown) same = record {

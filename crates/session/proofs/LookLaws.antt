@@ -1,6 +1,6 @@
 -- What a look at the entries that are shown makes of a round, and what is found by them.
 use Rattle.std.proofs.Common.{◌≡◌, ℕ, Bool, true, false, ◌==◌, IsTrue, IsErr, List, [], ◌∷◌, length, Option, Some, Result, Ok, Err, refl, sym, ◌∙◌, ap, subst, arith}
-use Rattle.std.specs.Prelude.{◌≢◌, IfOk, OnOk, Contains, bytes_eq, nat_eq}
+use Rattle.std.specs.Prelude.{None, ◌≢◌, IfOk, OnOk, Contains, bytes_eq, nat_eq}
 use Rattle.std.specs.List.{starts_with}
 use Rattle.std.proofs.lemmas.Bool.{eqb-true, false≢true}
 use Rattle.std.proofs.lemmas.List.Elements.{Contains-append_left}
@@ -90,7 +90,7 @@ look_lacking alone setting q closes memory was is earlier h = bring_lacking alon
 -- ---- what is found
 
 -- an entry that is shown is shown on
-pub shown_on : (alone : Bool) (a b : List Facts) (entry : Facts) → LeadsShown alone a b → Contains a entry → Contains b entry
+pub shown_on : (alone : Bool) (a b : List Facts) (entry : Facts) → LeadsShown alone None a b → Contains a entry → Contains b entry
 shown_on true a b entry h there = rw h there
 shown_on false a b entry h there = rw h.joined (Contains-append_left a h.rest entry there)
 

@@ -83,7 +83,7 @@ revisit_has laws book after taken first payload grown sound placed known has_kno
 kept_has : Storage → (book after : Book) (taken : Taken) (cut : Bool) (same : Option ℕ) (payload known : List ℕ) → taken.cut ≡ cut
     → Grows book after → HasSoundCaptures after
     → slice_get (captures after) (length (captures book)) ≡ Some (record (as_stored taken same) { kept = kept_of cut taken.wire same })
-    → HasPayload cut taken.method taken.head taken.wire known → RefersBy cut book known same
+    → HasPayload cut taken.method taken.head taken.wire known → RefersBy cut book (length (captures book)) known same
     → HasPayload cut taken.method taken.head taken.wire payload
     → IsPayloadBy after (record (as_stored taken same) { kept = kept_of cut taken.wire same }) (kept_of cut taken.wire same) payload
 kept_has laws book after taken true same payload known e grown sound placed has_known refers has = has

@@ -6,7 +6,7 @@ use Rattle.capture.specs.declared.site.Site.{Site}
 use Rattle.std.proofs.Common.{◌≡◌, ◌≢◌, ◌==◌, inl, inr, ℕ, ◌≤◌, Bool, true, false, IsTrue, IsErr, List, [], ◌++◌, Some, Result, Ok, Err, refl, sym, ◌∙◌, ap, subst, arith}
 use Rattle.std.proofs.lemmas.Bool.{eqb-true, eqb-false, false≢true}
 use Rattle.std.proofs.lemmas.List.{append-nil}
-use Rattle.std.specs.Prelude.{IfOk, MatchBool, Option}
+use Rattle.std.specs.Prelude.{None, IfOk, MatchBool, Option}
 use Rattle.archive_shelf.proofs.CallLaws.{reads_itself, shown_itself, stays_tells}
 use Rattle.archive_shelf.specs.Answers.{Brings, CountsIf, IsDamaged, is_bring_fault}
 use Rattle.archive_shelf.specs.Contents.{Contents, LeadsShown, Shows}
@@ -60,8 +60,8 @@ pub record Visits (alone : Bool) (setting : Setting) (q : SiteRequest) (reply : 
   pub fault : Bool
   pub reads : ReadsOn alone fault was is
   pub met : disk_fault (Visited q reply) ≡ one_if fault
-  pub shows : LeadsShown alone was.contents.shown shown
-  pub later : LeadsShown alone shown is.contents.shown
+  pub shows : LeadsShown alone None was.contents.shown shown
+  pub later : LeadsShown alone None shown is.contents.shown
   pub knows : IsTrue was.contents.tells → IsTrue (is_from_shown (Visited q reply)) → Shows alone was.contents.seen shown
   pub by : (faults : ℕ) → IsSiteReply (terms_at alone setting was) q reply (seen_at shown faults was is)
 
@@ -207,7 +207,7 @@ undecided_round incoming shown faults was is = record {
 pub undecided : (alone : Bool) (setting : Setting) (incoming : Incoming) (q : SiteRequest) (shown : List Facts)
     (was is : Told) (then now : Heard) (answers : List ℕ) (links : Links Transcript) (faults : ℕ)
     → IsEarlier is.crash → IsAsked setting.site incoming.wire q.message (ToSite q.address) → IsInterim setting.site incoming.wire incoming.interim
-    → ReadsOn alone false was is → LeadsShown alone was.contents.shown shown → LeadsShown alone shown is.contents.shown
+    → ReadsOn alone false was is → LeadsShown alone None was.contents.shown shown → LeadsShown alone None shown is.contents.shown
     → MakesRound alone setting incoming true memory_text
     (record { heard = then; answers = answers; links = links; dialer_faults = faults; shelf = was })
     (record { heard = now; answers = answers; links = links; dialer_faults = faults; shelf = is })

@@ -1,9 +1,9 @@
 -- A request that goes to an origin, and how it is answered (RFC 9110, sections 3.7 and 7.6). Refusals come in this order: for the
 -- clock, for the dialer, for what the origin sent, for want of room, for the disk.
-use Rattle.std.specs.Prelude.{◌≡◌, ◌⊎◌, ℕ, ◌<◌, ◌≤◌, List, [], ◌∷◌, length, IsTrue, Result, Ok, Err}
+use Rattle.std.specs.Prelude.{◌≡◌, ◌⊎◌, ℕ, ◌<◌, ◌≤◌, List, [], ◌∷◌, length, IsTrue, Result, Ok, Err, Some, None}
 use Rattle.archive_shelf.specs.Answers.{IsByRule, IsDamaged, HasVolumeAlone}
 use Rattle.archive_shelf.specs.Comparing.{CanRefer}
-use Rattle.archive_shelf.specs.Contents.{LeadsShown, LeadsShownPast}
+use Rattle.archive_shelf.specs.Contents.{LeadsShown}
 use Rattle.archive_shelf.specs.Storing.{Gains, as_stored}
 use Rattle.archive_shelf.specs.declared.receipt.Receipt.{Receipt}
 use Rattle.capture.specs.Captures.{captures, IsPayloadOf}
@@ -73,7 +73,7 @@ pub record IsRefusedByDisk (terms : Terms) (e : Exchange) (traces : Traces) : Ty
   pub room : HasRoom terms e traces
   pub left : (traces.after.book ≡ traces.before.book)
       ⊎ HasVolumeAlone terms.tells terms.limits.volume_bytes traces.before.book (taken_of e room.fetched.date room.received) traces.after.book
-  pub shown : LeadsShown terms.alone traces.before.shown traces.after.shown
+  pub shown : LeadsShown terms.alone None traces.before.shown traces.after.shown
   pub consistent : IsConsistentView terms traces.after
 
 -- ---- the response
@@ -92,7 +92,7 @@ pub record IsPassedOn (terms : Terms) (e : Exchange) (received : Received) (payl
   pub by_rule : IsTrue terms.tells
       → IsByRule terms.limits.volume_bytes traces.before.book (taken_of e fetched.date received) receipt traces.after.book
   pub there : IsTrue terms.tells → IsPayloadOf traces.after.book receipt.number payload
-  pub shown : LeadsShownPast terms.alone receipt.number traces.before.shown traces.after.shown
+  pub shown : LeadsShown terms.alone (Some receipt.number) traces.before.shown traces.after.shown
   pub consistent : IsConsistentView terms traces.after
 
 -- ---- want of memory

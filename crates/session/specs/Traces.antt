@@ -1,5 +1,5 @@
 -- What a request leaves outside of its connection.
-use Rattle.std.specs.Prelude.{◌≡◌, ℕ, Bool, List, [], IsTrue}
+use Rattle.std.specs.Prelude.{None, ◌≡◌, ℕ, Bool, List, [], IsTrue}
 use Rattle.archive_shelf.specs.Contents.{Contents, Leads, LeadsShown}
 use Rattle.capture.specs.Faults.{RoseBy}
 use Rattle.capture.specs.declared.book.Book.{Book}
@@ -48,7 +48,7 @@ pub record Traces : Type 0 where
 -- What is seen leads on, and no fault is met: alone the archive is the same, in company it may have grown.
 pub record LeadsView (terms : Terms) (old new : View) : Type 0 where
   pub book : Leads terms.alone old.book new.book
-  pub shown : LeadsShown terms.alone old.shown new.shown
+  pub shown : LeadsShown terms.alone None old.shown new.shown
   pub same_dialer : new.dialer_faults ≡ old.dialer_faults
   pub same_disk : new.disk_faults ≡ old.disk_faults
 
@@ -64,7 +64,7 @@ IsConsistentView terms view = IsTrue terms.alone → IsTrue terms.tells → AreE
 -- the book is the same, and so are the entries that are shown; in company there may be more of these
 pub record StaysView (terms : Terms) (old new : View) : Type 0 where
   pub book : new.book ≡ old.book
-  pub shown : LeadsShown terms.alone old.shown new.shown
+  pub shown : LeadsShown terms.alone None old.shown new.shown
 
 -- neither clock nor origin was asked, and nothing was stored
 pub record IsIdle (terms : Terms) (traces : Traces) : Type 0 where
