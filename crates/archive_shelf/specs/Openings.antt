@@ -36,10 +36,8 @@ pub record MayHaveCheckpoints {D : Type 0} (tells : Bool) (d : Ghosts D) (disk :
   pub are : cdxj_files image ≡ files
 
 -- the files of the volumes are just the texts of the book, but for one empty file more
-pub record HasJust (image : Image) (book : Book) : Type 0 where
-  pub texts : List (List ℕ)
-  pub are : AreVolumeTexts book texts
-  pub just : AreJust texts (warc_files image)
+abbrev pub HasJust : Image → Book → Type 0
+HasJust image book = (texts : List (List ℕ)) × AreVolumeTexts book texts × AreJust texts (warc_files image)
 
 -- a book, or that with a new volume, with one more capture, or with both
 pub record IsNext (book x : Book) : Type 0 where

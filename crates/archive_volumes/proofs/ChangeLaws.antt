@@ -209,7 +209,7 @@ module _ {D : Type 0} (d : Ghosts D) (laws : DiskLaws d) where
 
     just_by : (r : Result T E) → (IsTrue d.tells → OnOk r ((image : Image) → d.images new.disk image → IsLeft (d.images old.disk) (AreJust texts_after) image))
         → OnOk r (LeavesJust d new.disk after)
-    just_by (Ok v) only = λ told image now. record { texts = texts_after; are = will_be told; just = (only told image now).described }
+    just_by (Ok v) only = λ told image now. (texts_after, will_be told, (only told image now).described)
     just_by (Err e) only = tt
 
     pub makes : Makes d old.disk new.disk before after result

@@ -1,5 +1,5 @@
 -- The volumes on a disk, the book that they hold, and what a change of them may leave.
-use Rattle.std.specs.Prelude.{◌≡◌, ◌⊎◌, ℕ, ◌+◌, ◌^◌, ◌<◌, ◌≤◌, Bool, IsTrue, if◌then◌else◌, [], length, slice_get, OnErr, OnOk, Result, Some, None}
+use Rattle.std.specs.Prelude.{◌≡◌, ◌⊎◌, ℕ, ◌+◌, ◌^◌, ◌<◌, ◌≤◌, Bool, IsTrue, if◌then◌else◌, [], length, slice_get, OnErr, OnOk, Result, Some, None, List}
 use Rattle.capture.specs.Captures.{captures}
 use Rattle.capture.specs.declared.book.Book.{Book}
 use Rattle.capture.specs.declared.book.Volume.{Volume}
@@ -7,10 +7,12 @@ use Rattle.disk_model.specs.Image.{Image}
 use Rattle.disk_model.specs.declared.disk.Disk.{Ghosts}
 use Rattle.warc_journal.specs.Journals.{IsInStep, last_len, texts, volumes}
 use Rattle.warc_journal.specs.declared.journal.Journal.{Journal}
+use Rattle.warc_journal.specs.Texts.{AreJust}
+use Rattle.warc_journal.specs.Extents.{warc_files}
 use Rattle.warc_text.specs.Books.{AreVolumeTexts}
 use Rattle.warc_text.specs.Records.{info_text}
 use Rattle.warc_text.specs.Sound.{IsSound}
-use Rattle.archive_shelf.specs.Openings.{CrashStates, HasIds, HasJust, ImageStandsFor, IsNext, IsState, Keeps, KeepsCheckpoints, LeavesNoMore, MayHaveCheckpoints, Moves, SameBook, StaysCovered}
+use Rattle.archive_shelf.specs.Openings.{CrashStates, HasIds, ImageStandsFor, IsNext, IsState, Keeps, KeepsCheckpoints, LeavesNoMore, MayHaveCheckpoints, Moves, SameBook, StaysCovered}
 use Rattle.archive_shelf.specs.Storing.{new_volume}
 use Rattle.archive_volumes.specs.Held.{HasSpace, volume_of}
 use Rattle.archive_volumes.specs.declared.room.Prepared.{Prepared}
@@ -62,9 +64,11 @@ crash_of d disk = record {
   checkpoints = λ files. MayHaveCheckpoints d.tells d disk files;
 }
 
--- where the disk tells, each image has just the texts of the book
+-- where the disk tells, the files of the volumes are just the texts of the book in each image, but for one empty file more
 abbrev pub LeavesJust : {D : Type 0} → Ghosts D → D → Book → Type 0
-LeavesJust d disk book = IsTrue d.tells → (image : Image) → d.images disk image → HasJust image book
+LeavesJust d disk book =
+    IsTrue d.tells → (image : Image) → d.images disk image
+    → (texts : List (List ℕ)) × AreVolumeTexts book texts × AreJust texts (warc_files image)
 
 -- a call that only reads: nothing more may be opened
 abbrev pub IsQuiet : {D : Type 0} → Ghosts D → D → D → Type 0

@@ -12,7 +12,7 @@ use Rattle.archive_shelf.specs.declared.receipt.Receipt.{Receipt}
 use Rattle.capture.specs.declared.book.Book.{Book}
 use Rattle.capture.specs.declared.captured.Taken.{Taken}
 use Rattle.command.proofs.OpeningLaws.{only_one}
-use Rattle.importing.specs.Keeping.{AreStored, HaveIds, IsOfRefused, IsOnWay, Keeps, OpensAtLast, OpensBehind, OpensPast, Step, intake_of}
+use Rattle.importing.specs.Keeping.{AreStored, HaveIds, IsOfRefused, IsOnWay, Keeps, OpensAtLast, OpensBehind, OpensPast, Step, intake_of, is_denied}
 
 -- ---- steps
 
@@ -164,6 +164,12 @@ past alone Before mid is t (Damaged number kept found) x a tells ids earlier bef
 past alone Before mid is t Memory x a tells ids earlier before stores o =
     before x (opened_then mid.crash is.crash x earlier stores.crash.later (stores.crash.quiet tt) o)
 
+denied_is : (fault : StoreFault) → is_store_fault (Err fault) ≡ is_denied (Some fault)
+denied_is (Full count limit) = refl
+denied_is DiskFault = refl
+denied_is (Damaged number kept found) = refl
+denied_is Memory = refl
+
 keeps_refused_all : (alone : Bool) (takens : List Taken) (count : ℕ) (was mid is : Told) (t : Taken) (fault : StoreFault) → KeepsAll alone takens count was mid
     → IsEarlier is.crash → IsConsistent alone is.contents → StoresOn alone t mid is (Err fault)
     → Keeps alone (intake_of (takens ++ t ∷ []) count (Some fault)) was is
@@ -178,7 +184,8 @@ keeps_refused_all alone takens count was mid is t fault k earlier consistent sto
       stored = k.stored;
       ends = (t, [], refl, stores.leaves);
       goes_on = goes_on_both alone was mid is k.goes_on (stored_goes_on alone t mid is (Err fault) consistent stores);
-      faults = subst (λ (n : ℕ). CountsIf (is_store_fault (Err fault)) n is.faults) k.faults stores.faults;
+      faults = subst (λ (b : Bool). CountsIf b was.faults is.faults) (denied_is fault)
+          (subst (λ (n : ℕ). CountsIf (is_store_fault (Err fault)) n is.faults) k.faults stores.faults);
       moves = λ ids last t₁ x le o. ⊎_elim
           (λ before. ⊎_elim (λ first. inl first) (λ on. inr (inl on)) (k.moves ids last t₁ x le before))
           (λ may. inr (inr may))

@@ -1,6 +1,6 @@
 -- Captures that are stored one after the other, up to a refusal, and what a stop may leave of that.
-use Rattle.std.specs.Prelude.{◌≡◌, ◌⊎◌, ℕ, Bool, false, List, [], ◌∷◌, ◌++◌, map, length, IsTrue, Option, Some, None, Err, ⊤}
-use Rattle.archive_shelf.specs.Answers.{CountsIf, HasStored, StoreLeaves, is_store_fault}
+use Rattle.std.specs.Prelude.{◌≡◌, ◌⊎◌, ℕ, Bool, false, List, [], ◌∷◌, ◌++◌, map, length, IsTrue, Option, Some, None, Err, ⊤, true}
+use Rattle.archive_shelf.specs.Answers.{CountsIf, HasStored, StoreLeaves}
 use Rattle.archive_shelf.specs.Contents.{Contents}
 use Rattle.archive_shelf.specs.Openings.{HasIds, MayLeave, Moves, SameBook}
 use Rattle.archive_shelf.specs.Storing.{Storing, stored_by}
@@ -85,8 +85,8 @@ intake_of takens stored refused = record { takens = takens; stored = stored; ref
 
 -- a fault of the disk refused a capture
 abbrev pub is_denied : Option StoreFault → Bool
-is_denied None = false
-is_denied (Some fault) = is_store_fault (Err fault)
+is_denied (Some DiskFault) = true
+is_denied other = false
 
 -- Of the captures the first so many were stored, in order, and each by the rule. All were, unless one was refused for this cause.
 pub record Keeps (alone : Bool) (intake : Intake) (was is : Told) : Type 0 where

@@ -51,11 +51,7 @@ no_warc_files = refl
 
 -- a new archive has no volumes and no files of them
 pub new_has_just : (image : Image) (book : Book) → length book.volumes ≡ 0 → warc_files image ≡ [] → HasJust image book
-new_has_just image book none files = record {
-  texts = [];
-  are = record { count = sym none; each = λ k lt. absurd (omega (arith, lt)) };
-  just = inl files;
-}
+new_has_just image book none files = ([], record { count = sym none; each = λ k lt. absurd (omega (arith, lt)) }, inl files)
 
 -- what is below the greatest number isn't held down to it
 pub not_held : (sum most bytes : ℕ) → bytes ≡ min sum most → (bytes ≡ most → ⊥) → bytes ≡ sum
@@ -77,9 +73,9 @@ tried_by told seed count bytes counts text filled volume namespace all are sum t
           (subst (λ v. HoldsFirst v filled.namespace seed count book) volume filled.holds);
       all = all;
       payloads = filled.payloads;
-      volumes = filled.just.texts;
-      volumes_are = filled.just.are;
+      volumes = filled.just.0;
+      volumes_are = filled.just.1;
       text_is =
           text_is ∙ ap (λ c. trial_text c bytes count) are
-          ∙ ap (λ (n : ℕ). trial_text (counts_of book) n count) (sum ∙ just_sum filled.just.texts (warc_files told.reading) filled.just.just);
+          ∙ ap (λ (n : ℕ). trial_text (counts_of book) n count) (sum ∙ just_sum filled.just.0 (warc_files told.reading) filled.just.2);
     }
