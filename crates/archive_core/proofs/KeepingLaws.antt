@@ -25,8 +25,8 @@ use Rattle.archive_volumes.specs.Held.{book_of}
 use Rattle.archive_volumes.specs.Volumes.{HoldsBook, IsMeasured, IsQuiet, crash_of, muted}
 use Rattle.archive_volumes.specs.declared.held.Held.{Held}
 use Rattle.archive_volumes.specs.declared.volumes.Volumes.{Volumes}
-use Rattle.archive_core.specs.Settling.{OpensNoMore, Supplies}
-use Rattle.archive_core.specs.steps.Supplying.{KeepsVolumes}
+use Rattle.archive_core.specs.Settling.{Supplies}
+use Rattle.archive_core.specs.steps.Supplying.{KeepsVolumes, OpensNoMore}
 
 -- the files of the volumes stay, at whatever moment a crash stops the call
 pub record StaysWarc {D : Type 0} (d : Ghosts D) (old new : D) : Type 0 where
@@ -84,6 +84,7 @@ module _ {D : Type 0} (d : Ghosts D) where
           let was = all told has.before (laws.now_counts old t has.before (omega (arith, le, moment_told d old told)) has.was) in
           (was.0, stands_beside has.before image was.0 (sym has.same) was.1))
           ((stays told).leaves.adds t image (omega (arith, le, moment_told d old told)) left);
+      kept = λ files has. has;
     }
 
     images_beside : (old new : D) → StaysWarc d old new → Leaves (d.images new) (HasWarcOf (d.images old))
@@ -123,7 +124,7 @@ module _ {D : Type 0} (d : Ghosts D) where
       extent = reads.extent;
       warc = λ tells. ap warc_files (reads.reading tells);
       holds = reads.holds told holds;
-      opens = record { later = reads.quiet.later; moves = reads.quiet.moves; covered = reads.quiet.covered };
+      opens = record { later = reads.quiet.later; moves = reads.quiet.moves; covered = reads.quiet.covered; kept = λ files has. has };
     }
 
     pub keeps_beside : (told : Bool) (old new : Volumes D) → new.held ≡ old.held → extent_of new.journal ≡ extent_of old.journal
@@ -144,7 +145,7 @@ module _ {D : Type 0} (d : Ghosts D) where
       extent = refl;
       warc = λ tells. refl;
       holds = holds;
-      opens = record { later = omega arith; moves = λ t x le o. inl o; covered = λ t le all. all };
+      opens = record { later = omega arith; moves = λ t x le o. inl o; covered = λ t le all. all; kept = λ files has. has };
     }
 
     pub keeps_then : (told : Bool) (old mid new : Volumes D) → KeepsVolumes d told old mid → KeepsVolumes d told mid new → KeepsVolumes d told old new
@@ -157,6 +158,7 @@ module _ {D : Type 0} (d : Ghosts D) where
         later = omega (arith, first.opens.later, second.opens.later);
         moves = λ t x le o. ⊎_elim (first.opens.moves t x le) (λ none. absurd none) (second.opens.moves t x (omega (arith, le, first.opens.later)) o);
         covered = λ t le all. second.opens.covered t (omega (arith, le, first.opens.later)) (first.opens.covered t le all);
+        kept = λ files has. has;
       };
     }
 
@@ -185,6 +187,7 @@ opens_told {D} d told only old new opens = by told only
       later = omega arith;
       moves = λ t x le o. absurd (false≢true o.0);
       covered = λ t le all so. absurd (false≢true so);
+      kept = λ files has. has;
     }
 
 pub quiet_told : {D : Type 0} (d : Ghosts D) (told : Bool) → (IsTrue told → IsTrue d.tells) → (old new : D) → (IsTrue d.tells → IsQuiet d old new)

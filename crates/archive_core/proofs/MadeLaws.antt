@@ -185,7 +185,7 @@ module _ {D : Type 0} (d : Ghosts D) (told : Bool) (journal : Journal D) (book :
       let at = there_is spots entry.number (omega (arith, parts.2.1 entry has, parts.1.count)) in
       let is = parts.1.each entry.number at.0 at.1 in
       let named = parts.2.2 entry has at.0 at.1 in
-      record { stored = is.stored; placed = is.placed; uri = named.uri ∙ is.uri; date = named.date ∙ is.date }
+      (is.stored, is.placed, named.uri ∙ is.uri, named.date ∙ is.date)
 
   pub made_archive : (limits : Limits) (found revisits settled : ℕ) → HoldsBook d told journal book → IsMeasured journal book
       → AreLimits limits → found ≡ length spots → revisits ≡ count_by same_spot spots → settled ≤ length book.volumes - 1

@@ -60,7 +60,7 @@ use Rattle.archive_pieces.specs.PieceFaults.{is_take_fault}
 use Rattle.archive_pieces.specs.PieceParts.{book_by, room_by}
 use Rattle.archive_pieces.specs.PieceReady.{IsReadyGroup, IsWithinBounds, MakesRoom, MayHold, RefersSo, end_in}
 use Rattle.archive_core.specs.Shown.{numbered, numbers_from}
-use Rattle.archive_core.specs.TakingPieces.{IsUntouched, Puts, disk_failed, parts_as}
+use Rattle.archive_core.specs.TakingPieces.{IsUntouched, Puts}
 use Rattle.archive_core.specs.Texts.{texts_room}
 use Rattle.archive_pieces.specs.declared.fault.PieceFault.{PieceFault}
 use Rattle.archive_pieces.specs.declared.fault.PieceFault.TheVariants as pieces
@@ -71,6 +71,7 @@ use Rattle.archive_core.proofs.PieceReadyLaws.{HasRoomBy, can_commit_piece, good
 use Rattle.archive_core.proofs.ReadyLaws.{with_count, with_end}
 use Rattle.archive_core.proofs.StoredLaws.{archive_left, archive_stored}
 use Rattle.archive_core.proofs.NamedLaws.{behind_new, named_after, named_same, numbered_new}
+use Rattle.archive_core.specs.steps.Taking.{disk_failed, parts_as}
 
 -- ---- without memory
 

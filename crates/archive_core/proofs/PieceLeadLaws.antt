@@ -23,8 +23,9 @@ use Rattle.archive_pieces.specs.declared.fault.PieceFault.TheVariants as pieces
 use Rattle.archive_volumes.specs.Volumes.{crash_of, muted}
 use Rattle.archive_volumes.specs.Writing.{Writes, books_as}
 use Rattle.archive_core.specs.Holdings.{Holdings, contents_of}
-use Rattle.archive_core.specs.TakingPieces.{HasTaken, IsNextOf, IsNotRefused, IsUntaken, StaysBeginning, TakenPiecesLeadOn, TakesPiece, disk_failed, took}
+use Rattle.archive_core.specs.TakingPieces.{HasTaken, IsNextOf, IsNotRefused, IsUntaken, StaysBeginning, TakenPiecesLeadOn, TakesPiece}
 use Rattle.archive_core.specs.Told.{told_of}
+use Rattle.archive_core.specs.steps.Taking.{disk_failed, took}
 
 module _ {D : Type 0} (d : Ghosts D) (leads : NextPiecesLeadOn) (was is : Holdings D) (source : Book) (bytes : List ℕ) (next : IsNextOf was source bytes) where
   lead : LeadsOn was.book source bytes

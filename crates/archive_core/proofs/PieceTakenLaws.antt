@@ -40,9 +40,10 @@ use Rattle.archive_pieces.specs.PieceOriginals.{FindsOriginal}
 use Rattle.archive_pieces.specs.PieceParts.{HasNoParts, IsNoPiece, IsReadAs, book_by, room_by}
 use Rattle.archive_pieces.specs.PieceReady.{IsPastBounds, IsWithinBounds, MayHold, RefersSo, end_by, end_in}
 use Rattle.archive_core.specs.Stores.{Admits}
-use Rattle.archive_core.specs.TakingPieces.{HasPut, IsUnput, IsUntouched, PieceLeaves, Puts, Remains, TakesPiece, disk_failed, parts_as, took}
+use Rattle.archive_core.specs.TakingPieces.{HasPut, IsUnput, IsUntouched, PieceLeaves, Puts, Remains, TakesPiece}
 use Rattle.archive_core.specs.Texts.{texts_room}
 use Rattle.archive_core.specs.Told.{told_of, told_on}
+use Rattle.archive_core.specs.steps.Taking.{disk_failed, parts_as, took}
 use Rattle.archive_pieces.specs.declared.fault.PieceFault.{PieceFault}
 use Rattle.archive_pieces.specs.declared.fault.PieceFault.TheVariants as pieces
 use Rattle.archive_pieces.proofs.NextParts.{no_piece}

@@ -65,7 +65,7 @@ none_mine n m same = let none : m - n ≡ 0 = omega (arith, same) in ap (numbers
 names_by : (book : Book) (entries : List Facts) → AreEntries book entries → (entry : Facts) → Contains entries entry → NamesCapture book entry
 names_by book entries are entry has =
     let of = are.of_book.each entry has in
-    record { stored = of.group.stored; placed = of.group.placed; uri = of.uri_is; date = of.date_is }
+    (of.group.stored, of.group.placed, of.uri_is, of.date_is)
 
 -- what an archive is made of, by whether its book is told
 pub record IsBasis {D : Type 0} (d : Ghosts D) (disk : D) (asked : Option (List ℕ)) (told : Bool) (opened : Opened D) : Type 0 where

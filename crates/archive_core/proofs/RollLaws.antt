@@ -1,5 +1,5 @@
 -- An archive that gained a volume, and one whose captures stay.
-use Rattle.std.proofs.Common.{◌≡◌, ℕ, ◌+◌, Bool, true, false, not, nat_eq, if◌then◌else◌, IsTrue, List, [], ◌∷◌, ◌++◌, length, Result, Ok, Err, refl, sym, ap, subst, ◌∙◌, append-nil, length-append, arith}
+use Rattle.std.proofs.Common.{◌≡◌, ℕ, ◌+◌, Bool, true, false, not, nat_eq, if◌then◌else◌, IsTrue, List, [], ◌∷◌, ◌++◌, length, Result, Ok, Err, refl, sym, ap, subst, ◌∙◌, inl, append-nil, length-append, arith}
 use Rattle.std.specs.Prelude.{IsErrAnd, count_by, slice_index_or, ⊤}
 use Rattle.std.proofs.lemmas.List.{get_or_append_left}
 use Rattle.capture.specs.Captures.{captures}
@@ -8,9 +8,11 @@ use Rattle.capture.specs.Growth.{Grows}
 use Rattle.capture.specs.declared.book.Book.{Book}
 use Rattle.capture.specs.declared.book.Volume.{Volume}
 use Rattle.capture.specs.declared.captured.Stored.{Stored}
+use Rattle.disk_model.proofs.MomentLaws.{none_added}
 use Rattle.disk_model.specs.declared.disk.Disk.{Ghosts}
 use Rattle.warc_journal.specs.Extents.{cdxj_files}
-use Rattle.warc_journal.specs.Journals.{Changes, disk_of, last_len, texts}
+use Rattle.warc_journal.specs.Journals.{Changes, IsLeft, disk_of, last_len, texts}
+use Rattle.warc_journal.specs.Texts.{HoldEither}
 use Rattle.warc_journal.specs.declared.journal.Journal.{Journal}
 use Rattle.warc_text.specs.Records.{info_text}
 use Rattle.archive_shelf.specs.Openings.{KeepsCheckpoints}
@@ -126,6 +128,36 @@ module _ {D : Type 0} (d : Ghosts D) (was : Holdings D) (now : ℕ) where
     refused = not_refused (is_filled was.book.volumes);
   }
 
+  -- nor is there memory for it
+  pub rolls_memory : is_filled was.book.volumes ≡ true → Rolls {T = ⊤} d was was now (Err rolls.Memory)
+  rolls_memory filled = record {
+    book = refl;
+    others = refl;
+    ends = refl;
+    faults = refl;
+    makes = λ full. record {
+      later = omega arith;
+      moves = λ ids t x le o. inl o;
+      only = λ ids. tt;
+      refused = λ ids. inl (λ x o. inl o);
+      covered = λ t le all. all;
+      kept = λ files has. has;
+      just = tt;
+    };
+    bytes = λ tells full. record {
+      leaves = none_added d.moment d.images_since (disk_of was.journal)
+          (IsLeft (d.images (disk_of was.journal)) (HoldEither (texts d was.journal) (texts_begun d was now)));
+      added = tt;
+      only = tt;
+      stays = refl;
+      refused = inl (λ image left. inl left);
+      others = refl;
+    };
+    checkpoints = λ told. refl;
+    unwritten = λ none. refl;
+    refused = may_be_refused (Err rolls.Memory) (is_filled was.book.volumes) filled;
+  }
+
   module _ (journal : Journal D) (book : Book) (filled : is_filled was.book.volumes ≡ true)
       (others : IsTrue d.tells → cdxj_files (d.reading (disk_of journal)) ≡ cdxj_files (d.reading (disk_of was.journal))) where
     -- a volume was begun
@@ -193,8 +225,8 @@ pub of_the_same : {D : Type 0} (P : Journal D → Book → ℕ → Type 0) (j k 
 of_the_same P j k a b m n same_journal same_book same_number p =
     subst (λ (x : Journal _). P x b n) same_journal (subst (λ (x : Book). P j x n) same_book (subst (λ (x : ℕ). P j a x) same_number p))
 
--- what a `?` hands out is the disk's fault
-pub at_fault : (P : Result ⊤ RollFault → Type 0) (result : Result ⊤ RollFault) → IsErrAnd result (λ fault. fault ≡ rolls.DiskFault)
-    → P (Err rolls.DiskFault) → P result
-at_fault P (Ok done) is p = absurd is
-at_fault P (Err fault) is p = subst (λ (f : RollFault). P (Err f)) (sym is) p
+-- what a `?` hands out is this fault
+pub at_fault : (P : Result ⊤ RollFault → Type 0) (fault : RollFault) (result : Result ⊤ RollFault) → IsErrAnd result (λ f. f ≡ fault)
+    → P (Err fault) → P result
+at_fault P fault (Ok done) is p = absurd is
+at_fault P fault (Err other) is p = subst (λ (f : RollFault). P (Err f)) (sym is) p

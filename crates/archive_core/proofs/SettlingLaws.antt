@@ -16,8 +16,8 @@ use Rattle.archive_volumes.specs.declared.volumes.Volumes.{Volumes}
 use Rattle.archive_core.specs.Finished.{FirstAreFinished, HasCheckpoint}
 use Rattle.archive_core.specs.Holdings.{Holdings, IsArchive}
 use Rattle.archive_core.specs.Looking.{OnlyLooks}
-use Rattle.archive_core.specs.Settling.{HasWithout, IsAsBefore, LeavesCheckpoints, Settles, SettlesOn, reach, shelved_as}
-use Rattle.archive_core.specs.steps.Supplying.{GoesThrough, KeepsVolumes, KnowsMore}
+use Rattle.archive_core.specs.Settling.{HasWithout, LeavesCheckpoints, Settles, SettlesOn, reach}
+use Rattle.archive_core.specs.steps.Supplying.{GoesThrough, KeepsVolumes, KnowsMore, IsAsBefore, shelved_as}
 use Rattle.archive_core.proofs.KeepingLaws.{measured_kept, opens_told, quiet_told, texts_kept}
 
 answer : Result ℕ CheckpointFault → ℕ

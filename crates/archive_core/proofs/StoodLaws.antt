@@ -34,7 +34,8 @@ use Rattle.archive_opening.specs.declared.opening.Opened.{Opened}
 use Rattle.archive_core.specs.Holdings.{Holdings}
 use Rattle.archive_core.specs.Looking.{OnlyLooks}
 use Rattle.archive_core.specs.Reopening.{IsMadeOf}
-use Rattle.archive_core.specs.Settling.{HasSupplied, SettlesOn, reach, shelved_as}
+use Rattle.archive_core.specs.Settling.{SettlesOn, reach}
+use Rattle.archive_core.specs.steps.Supplying.{HasSupplied, shelved_as}
 use Rattle.archive_core.specs.Stores.{Fills, FillsVolumes, LeavesVolumes, texts_where}
 use Rattle.archive_core.specs.Stood.{BeginWith, KeepsOn, KeepsStood, Lasts, Stood}
 use Rattle.archive_core.proofs.RollLaws.{texts_go_on, texts_stay}
@@ -155,8 +156,8 @@ module _ {D : Type 0} (d : Ghosts D) (laws : DiskLaws d) (stood : Stood) where
       record {
         lasts = lasts_by (disk_of was.journal) (disk_of is.journal)
             (HasSupplied (shelved_as was.told was.book was.spots) upto (d.reading (disk_of was.journal)) (d.images (disk_of was.journal))) keeps.lasts left.leaves
-            (λ image has. subst (BeginWith stood.finished) (sym has.goes.warc)
-            (keeps.lasts.images has.before (laws.now_counts (disk_of was.journal) stood.moment has.before keeps.lasts.later has.was)));
+            (λ image has. subst (BeginWith stood.finished) (sym has.2.warc)
+            (keeps.lasts.images has.0 (laws.now_counts (disk_of was.journal) stood.moment has.0 keeps.lasts.later has.1)));
         begins = subst (BeginWith stood.finished) (sym same) keeps.begins;
       }
 

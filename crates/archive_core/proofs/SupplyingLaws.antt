@@ -2,6 +2,7 @@
 use Rattle.std.proofs.Common.{◌≡◌, ◌≢◌, ◌⊎◌, ℕ, zero, suc, ◌+◌, ◌<◌, ◌≤◌, Bool, true, false, IsTrue, List, length, Result, Ok, Err, refl, sym, ap, subst, ◌∙◌, inl, inr, ⊎_elim, arith}
 use Rattle.std.proofs.lemmas.Bool.{cases_order}
 use Rattle.capture.specs.declared.book.Book.{Book}
+use Rattle.capture.specs.Tails.{IsRest}
 use Rattle.disk_model.specs.Crash.{Leaves}
 use Rattle.disk_model.specs.Image.{Image, file_count}
 use Rattle.disk_model.proofs.MomentLaws.{joined, none_added, now_has, weakened}
@@ -12,15 +13,15 @@ use Rattle.warc_journal.specs.Journals.{Rests}
 use Rattle.cdxj_line.specs.declared.line.Line.{Line}
 use Rattle.checkpoint.specs.Checkpoints.{IsCheckpoint, checkpoint_of}
 use Rattle.checkpoint.specs.OfVolume.{VolumesHaveOneListOfLines}
-use Rattle.checkpoint.specs.Putting.{HasPut, HoldsCheckpoint, IsBeside, IsWrittenFrom, Puts}
+use Rattle.checkpoint.specs.Putting.{HasPut, HoldsCheckpoint, IsBeside, IsWrittenFrom, Puts, commit_byte}
 use Rattle.checkpoint.specs.declared.fault.CheckpointFault.{CheckpointFault}
 use Rattle.checkpoint.specs.declared.fault.CheckpointFault.TheVariants as checkpoints
 use Rattle.archive_volumes.proofs.ChangeLaws.{DiskLaws}
 use Rattle.archive_core.proofs.FinishedLaws.{has_still}
 use Rattle.archive_core.proofs.MissingLaws.{is_there}
 use Rattle.archive_core.specs.Finished.{FirstAreFinished, HasCheckpoint}
-use Rattle.archive_core.specs.Settling.{AreLinesFrom, GoesWith, HasSupplied, HasWithout, IsAsBefore, IsMissing, IsSupplied, LeavesCheckpoints, Shelved, StaysFinished, Supplies, WritesMissing}
-use Rattle.archive_core.specs.steps.Supplying.{GoesTo, Stopped, Went}
+use Rattle.archive_core.specs.Settling.{GoesWith, HasWithout, IsMissing, LeavesCheckpoints, Shelved, StaysFinished, Supplies, WritesMissing}
+use Rattle.archive_core.specs.steps.Supplying.{GoesTo, Stopped, Went, AreLinesFrom, HasSupplied, IsAsBefore}
 
 -- ---- checkpoints that go with those from before
 
@@ -32,18 +33,15 @@ goes_wider : (shelved : Shelved) (upto more : ℕ) (first before image : Image) 
     → GoesWith shelved upto first before image → GoesWith shelved more first before image
 goes_wider shelved upto more first before image le goes = record {
   warc = goes.warc;
-  each = λ k. ⊎_elim (λ e. inl e) (λ s. inr (omega (arith, le, s.0), s.1)) (goes.each k);
+  each = λ k. ⊎_elim (λ e. inl e) (λ s. inr (omega (arith, le, s.0), s.1, s.2, s.3)) (goes.each k);
   no_fewer = goes.no_fewer;
   no_more = goes.no_more;
 }
 
 supplied_wider : (shelved : Shelved) (upto more : ℕ) (first : Image) (images : Image → Type 0) (image : Image) → upto ≤ more
     → HasSupplied shelved upto first images image → HasSupplied shelved more first images image
-supplied_wider shelved upto more first images image le has = record {
-  before = has.before;
-  was = has.was;
-  goes = goes_wider shelved upto more first has.before image le has.goes;
-}
+supplied_wider shelved upto more first images image le has =
+    (has.0, has.1, goes_wider shelved upto more first has.0 image le has.2)
 
 count_rises : (k m i : ℕ) → (i ≡ m) ⊎ ((m ≡ k) × (i ≡ k + 1)) → m ≤ i
 count_rises k m i (inl e) = omega (arith, e)
@@ -53,18 +51,20 @@ module _ (shelved : Shelved) (upto : ℕ) (first : Image) (k : ℕ) (lines : Lis
     (is : IsMissing shelved first k lines) (within : k < upto) where
   -- what stands in the file of a volume, as it was or as it is supplied
   abbrev Stands : Image → Image → ℕ → Type 0
-  Stands before image j = (checkpoint_of image j ≡ checkpoint_of before j) ⊎ ((j < upto) × IsSupplied shelved first j (checkpoint_of image j))
+  Stands before image j = (checkpoint_of image j ≡ checkpoint_of before j)
+      ⊎ ((j < upto) × (own : List Line) × IsMissing shelved first j own
+      × (IsRest commit_byte (checkpoint_of image j) ⊎ IsCheckpoint j own (checkpoint_of image j)))
 
   other_put : (before mid image : Image) (j : ℕ) → checkpoint_of image j ≡ checkpoint_of mid j → Stands before mid j → Stands before image j
   other_put before mid image j same was = ⊎_elim
       (λ e. inl (same ∙ e))
-      (λ s. inr (s.0, subst (IsSupplied shelved first j) (sym same) s.1))
+      (λ s. inr (s.0, s.1, s.2, subst (λ (bytes : List ℕ). IsRest commit_byte bytes ⊎ IsCheckpoint j s.1 bytes) (sym same) s.3))
       was
 
   own_put : (before mid image : Image) → IsWrittenFrom k lines mid image → Stands before mid k → Stands before image k
   own_put before mid image (inl same) was = other_put before mid image k same was
-  own_put before mid image (inr (inl rest)) was = inr (within, record { lines = lines; missed = is; own = inl rest })
-  own_put before mid image (inr (inr done)) was = inr (within, record { lines = lines; missed = is; own = inr done })
+  own_put before mid image (inr (inl rest)) was = inr (within, lines, is, inl rest)
+  own_put before mid image (inr (inr done)) was = inr (within, lines, is, inr done)
 
   apart_below : (j : ℕ) → j < k → j ≢ k
   apart_below j less same = omega (arith, less, same)
@@ -95,7 +95,7 @@ module _ (shelved : Shelved) (upto : ℕ) (first : Image) (k : ℕ) (lines : Lis
       → HasPut k lines mids image → HasSupplied shelved upto first images image
   supplied_put images mids so_far image has =
       let before = so_far has.before has.was in
-      record { before = before.before; was = before.was; goes = goes_put before.before has.before image has.beside has.own before.goes }
+      (before.0, before.1, goes_put before.0 has.before image has.beside has.own before.2)
 
 -- ---- how many were missing
 
@@ -137,7 +137,7 @@ all_there book image (suc k) first = omega (arith, (first k (omega arith)).holds
 missing_in_book : (shelved : Shelved) (first : Image) (k : ℕ) (lines : List Line) → VolumesHaveOneListOfLines → IsTrue shelved.told
     → IsMissing shelved first k lines → HasCheckpoint shelved.book k first → ⊥
 missing_in_book shelved first k lines one so is has = is.missing
-    (subst (λ (all : List Line). IsCheckpoint k all (checkpoint_of first k)) (one shelved.book k has.lines lines has.are (is.own.are so)) has.holds.finished)
+    (subst (λ (all : List Line). IsCheckpoint k all (checkpoint_of first k)) (one shelved.book k has.lines lines has.are (is.are so)) has.holds.finished)
 
 -- ---- on a disk
 
@@ -285,7 +285,10 @@ module _ {D : Type 0} (d : Ghosts D) (laws : DiskLaws d) (tells : IsTrue d.tells
         missed : IsMissing shelved (d.reading from) k lines
         missed = record {
           sealed = sealed;
-          own = own;
+          of = own.of;
+          placed = own.placed;
+          kept = own.kept;
+          are = own.are;
           missing = λ was. writes.missing (subst (λ (bytes : List ℕ). IsCheckpoint k lines bytes) (sym (went.ahead k (omega arith))) was);
         }
 
@@ -354,7 +357,7 @@ module _ {D : Type 0} (d : Ghosts D) (laws : DiskLaws d) (tells : IsTrue d.tells
       warc = refl;
       reading = λ j. inl refl;
       leaves = none_added d.moment d.images_since from (HasSupplied shelved k (d.reading from) (d.images from));
-      images = λ image now. record { before = image; was = now; goes = goes_itself shelved k (d.reading from) image };
+      images = λ image now. (image, now, goes_itself shelved k (d.reading from) image);
     };
     ahead = λ j le. refl;
     settled = first;

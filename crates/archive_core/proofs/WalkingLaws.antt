@@ -14,9 +14,8 @@ use Rattle.cdxj_line.specs.declared.line.Line.{Line}
 use Rattle.checkpoint.specs.OfVolume.{AreLinesOf}
 use Rattle.volume_lines.specs.OfGroups.{IsFactsOf}
 use Rattle.volume_lines.specs.OfSpots.{AreLinesOfSpots}
-use Rattle.archive_core.specs.Settling.{AreLinesFrom, shelved_as}
 use Rattle.archive_core.proofs.FinishedLaws.{volume_at}
-use Rattle.archive_core.specs.steps.Supplying.{GoesOnBy, Stopped, Went}
+use Rattle.archive_core.specs.steps.Supplying.{GoesOnBy, Stopped, Went, AreLinesFrom, shelved_as}
 
 pub many_facts : (volumes : List Volume) (volume first : ℕ) → length (facts_from volume first volumes) ≡ length volumes
 many_facts [] volume first = refl

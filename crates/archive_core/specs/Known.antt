@@ -19,7 +19,7 @@ use Rattle.archive_opening.specs.Counting.{HasCountsOf}
 use Rattle.archive_opening.specs.Opening.{CountsFault, IsCause, IsDamageIn, IsIn, IsOtherIn, IsOutside}
 use Rattle.archive_opening.specs.Refusing.{IsBorneOut}
 use Rattle.archive_opening.specs.Telling.{AreCheckpointsSynced, AreReadOrTold, HasCheckpointsOf, IsAskedFor, IsReadWhole}
-use Rattle.archive_core.specs.Reopening.{IsNotOpened, IsReopened, NamesCapture}
+use Rattle.archive_core.specs.Reopening.{IsNotOpened, IsReopened}
 use Rattle.archive_volumes.specs.Spots.{is_told_form}
 use Rattle.archive_volumes.specs.Volumes.{IsQuiet}
 use Rattle.archive_volumes.specs.declared.spot.Spot.{Spot}
@@ -77,7 +77,8 @@ pub record IsReopenedKnown {D : Type 0} (d : Ghosts D) (opening : Opening D) (li
   -- isn't told, all is as where each was read whole
   pub unsettled : IsTrue d.tells → IsReadWhole (d.reading opening.disk) → IsReopened d opening.disk opening.asked limits (record held { told = d.tells })
   -- whatever is told, each entry that is shown tells the target and the date of the capture with its number
-  pub named : (entry : Facts) → Contains (contents_of held).shown entry → NamesCapture held.book entry
+  pub named : (entry : Facts) → Contains (contents_of held).shown entry
+      → (stored : Stored) × (slice_get (captures held.book) entry.number ≡ Some stored) × (entry.uri ≡ stored.uri) × (entry.date ≡ stored.date)
   -- it has the namespace that is asked for, no capture of its own yet, and the limits that are given
   pub in_namespace : IsIn opening.asked held.book
   pub mine : (contents_of held).mine ≡ []

@@ -19,15 +19,12 @@ use Rattle.archive_volumes.specs.Rereading.{IsChosenThere}
 use Rattle.archive_core.specs.Holdings.{Holdings}
 use Rattle.archive_core.specs.Told.{told_of}
 
--- where the disk tells, whatever is told of the book: a read gives what it gave, and at each moment a crash leaves what it might have left before
-abbrev pub KeepsBytes : {D : Type 0} → Ghosts D → Holdings D → Holdings D → Type 0
-KeepsBytes d was is = IsTrue d.tells → Rests d (disk_of was.journal) (disk_of is.journal)
-
--- All stays but the disk: that keeps its bytes, also where the book isn't told, and nothing more may be opened. The volumes reach as far as they did.
+-- All stays but the disk, and nothing more may be opened. Where the disk tells, whatever is told of the book, a read gives what it gave, and at each
+-- moment a crash leaves what it might have left before. The volumes reach as far as they did.
 pub record OnlyLooks {D : Type 0} (d : Ghosts D) (was is : Holdings D) : Type 0 where
   pub others : is ≡ record was { journal = is.journal }
   pub extent : extent_of is.journal ≡ extent_of was.journal
-  pub bytes : KeepsBytes d was is
+  pub bytes : IsTrue d.tells → Rests d (disk_of was.journal) (disk_of is.journal)
   pub unwritten : WritesNothing true (told_of d was) (told_of d is)
 
 -- what looking for a payload answers: it is full exactly where the book is, and want of memory may be answered anywhere

@@ -51,11 +51,9 @@ pub record IsReopened {D : Type 0} (d : Ghosts D) (disk : D) (asked : Option (Li
   pub state : IdsDifferIn held.book → IsState (told_of d held).crash held.book None
 
 -- an entry tells the target and the date of the book's capture with its number
-pub record NamesCapture (book : Book) (entry : Facts) : Type 0 where
-  pub stored : Stored
-  pub placed : slice_get (captures book) entry.number ≡ Some stored
-  pub uri : entry.uri ≡ stored.uri
-  pub date : entry.date ≡ stored.date
+abbrev pub NamesCapture : Book → Facts → Type 0
+NamesCapture book entry =
+    (stored : Stored) × (slice_get (captures book) entry.number ≡ Some stored) × (entry.uri ≡ stored.uri) × (entry.date ≡ stored.date)
 
 -- where a line alone told of a capture, the checkpoint of its volume is finished in each image
 abbrev pub AreFinishedAsTold : {D : Type 0} → Ghosts D → Opened D → Type 0

@@ -18,7 +18,7 @@ use Rattle.checkpoint.specs.OfVolume.{AreLinesOf}
 use Rattle.checkpoint.specs.Putting.{HoldsCheckpoint, Puts, commit_byte}
 use Rattle.checkpoint.specs.declared.fault.CheckpointFault.{CheckpointFault}
 use Rattle.checkpoint.specs.declared.fault.CheckpointFault.TheVariants as checkpoints
-use Rattle.archive_shelf.specs.Openings.{CrashStates, Moves, StaysCovered}
+use Rattle.archive_shelf.specs.Openings.{LeavesNoMore}
 use Rattle.archive_opening.specs.Telling.{HasCheckpointsOf}
 use Rattle.archive_volumes.specs.declared.spot.Spot.{Spot}
 use Rattle.volume_lines.specs.OfSpots.{AreLinesOfSpots}
@@ -61,53 +61,31 @@ pub record Shelved : Type 0 where
   pub book : Book
   pub spots : List Spot
 
-abbrev pub shelved_as : Bool → Book → List Spot → Shelved
-shelved_as told book spots = record { told = told; book = book; spots = spots }
-
--- The lines of a volume: they tell what is kept of its captures, one for each; where the book is told, they are those of the book's volume.
-pub record AreLinesFrom (shelved : Shelved) (k : ℕ) (lines : List Line) : Type 0 where
+-- A sealed volume with these lines, whose checkpoint wasn't finished with them at first. They tell what is kept of its captures, one for each; where
+-- the book is told, they are those of the book's volume.
+pub record IsMissing (shelved : Shelved) (first : Image) (k : ℕ) (lines : List Line) : Type 0 where
+  pub sealed : k + 1 < length shelved.book.volumes
   pub of : Volume
   pub placed : slice_get shelved.book.volumes k ≡ Some of
   pub kept : AreLinesOfSpots shelved.spots (first_number shelved.book k) (length of.captures) lines
   pub are : IsTrue shelved.told → AreLinesOf shelved.book k lines
-
--- a sealed volume with these lines, whose checkpoint wasn't finished with them at first
-pub record IsMissing (shelved : Shelved) (first : Image) (k : ℕ) (lines : List Line) : Type 0 where
-  pub sealed : k + 1 < length shelved.book.volumes
-  pub own : AreLinesFrom shelved k lines
   pub missing : IsCheckpoint k lines (checkpoint_of first k) → ⊥
 
--- what stands in the file of such a volume: it is unfinished, or finished with its lines
-pub record IsSupplied (shelved : Shelved) (first : Image) (k : ℕ) (bytes : List ℕ) : Type 0 where
-  pub lines : List Line
-  pub missed : IsMissing shelved first k lines
-  pub own : IsRest commit_byte bytes ⊎ IsCheckpoint k lines bytes
-
 -- An image's checkpoints beside those of an image from before, with the same Warc files: each is as it was, or is of one of so many first
--- volumes, was missing at first, and is unfinished or finished. No file is there but for volumes of the book, and none is gone.
+-- volumes, was missing at first, and is unfinished or finished with its lines. No file is there but for volumes of the book, and none is gone.
 pub record GoesWith (shelved : Shelved) (upto : ℕ) (first before image : Image) : Type 0 where
   pub warc : warc_files image ≡ warc_files before
-  pub each : (k : ℕ) → (checkpoint_of image k ≡ checkpoint_of before k) ⊎ ((k < upto) × IsSupplied shelved first k (checkpoint_of image k))
+  pub each : (k : ℕ) → (checkpoint_of image k ≡ checkpoint_of before k)
+      ⊎ ((k < upto) × (lines : List Line) × IsMissing shelved first k lines
+      × (IsRest commit_byte (checkpoint_of image k) ⊎ IsCheckpoint k lines (checkpoint_of image k)))
   pub no_fewer : file_count before Cdxj ≤ file_count image Cdxj
   pub no_more : (file_count image Cdxj ≡ file_count before Cdxj) ⊎ (file_count image Cdxj < length shelved.book.volumes)
-
--- an image that goes with one from before
-pub record HasSupplied (shelved : Shelved) (upto : ℕ) (first : Image) (images : Image → Type 0) (image : Image) : Type 0 where
-  pub before : Image
-  pub was : images before
-  pub goes : GoesWith shelved upto first before image
 
 -- the checkpoints of a book that is told stay right: where those of an image were, those of one that goes with it are
 abbrev pub KeepsSettled : Type 0
 KeepsSettled =
     (shelved : Shelved) (upto : ℕ) (first before image : Image) → IsTrue shelved.told → GoesWith shelved upto first before image
     → HasCheckpointsOf before shelved.book → HasCheckpointsOf image shelved.book
-
--- nothing more may be opened, at whatever moment a crash stops the call
-pub record OpensNoMore (was is : CrashStates) : Type 0 where
-  pub later : was.moment ≤ is.moment
-  pub moves : Moves was is (λ x. ⊥)
-  pub covered : StaysCovered was is
 
 -- so many of the first ones haven't P
 abbrev pub HasWithout : (ℕ → Type 0) → ℕ → ℕ → Type 0
@@ -122,18 +100,15 @@ pub record LeavesCheckpoints {D : Type 0} (d : Ghosts D) (shelved : Shelved) (up
   pub warc : warc_files (d.reading new) ≡ warc_files (d.reading old)
   pub reading : (k : ℕ) → (checkpoint_of (d.reading new) k ≡ checkpoint_of (d.reading old) k)
       ⊎ ((k < upto) × (lines : List Line) × IsMissing shelved (d.reading old) k lines)
-  pub leaves : AddsOnly d.moment d.images_since old new (HasSupplied shelved upto (d.reading old) (d.images old))
-  pub images : Leaves (d.images new) (HasSupplied shelved upto (d.reading old) (d.images old))
+  pub leaves : AddsOnly d.moment d.images_since old new
+      (λ image. (before : Image) × d.images old before × GoesWith shelved upto (d.reading old) before image)
+  pub images : Leaves (d.images new) (λ image. (before : Image) × d.images old before × GoesWith shelved upto (d.reading old) before image)
 
 -- how many of the first volumes may have been written, where so many were gone through: one more where the disk failed
 abbrev pub reach : ℕ → Result ℕ CheckpointFault → ℕ
 reach settled (Ok n) = settled
 reach settled (Err checkpoints.DiskFault) = settled + 1
 reach settled (Err checkpoints.Memory) = settled
-
--- a read gives the checkpoint that it gave
-abbrev pub IsAsBefore : Image → Image → ℕ → Type 0
-IsAsBefore was is k = checkpoint_of is k ≡ checkpoint_of was k
 
 -- All checkpoints are finished, in what a read gives and in each image, and just so many were missing.
 pub record Settles {D : Type 0} (d : Ghosts D) (book : Book) (old new : D) (n : ℕ) : Type 0 where
@@ -154,10 +129,12 @@ pub record SettlesOn {D : Type 0} (d : Ghosts D) (was is : Holdings D) (result :
   pub extent : extent_of is.journal ≡ extent_of was.journal
   pub faults : CountsDisk (d.faults (disk_of was.journal)) (d.faults (disk_of is.journal)) result
   pub leaves : IsTrue d.tells
-      → LeavesCheckpoints d (shelved_as was.told was.book was.spots) (reach is.settled result) (disk_of was.journal) (disk_of is.journal)
-  pub wrote : IsTrue d.tells → IfOk result
-      (HasWithout (IsAsBefore (d.reading (disk_of was.journal)) (d.reading (disk_of is.journal))) (length was.book.volumes - 1))
+      → LeavesCheckpoints d (record { told = was.told; book = was.book; spots = was.spots }) (reach is.settled result)
+      (disk_of was.journal) (disk_of is.journal)
+  pub wrote : IsTrue d.tells → IfOk result (HasWithout
+      (λ k. checkpoint_of (d.reading (disk_of is.journal)) k ≡ checkpoint_of (d.reading (disk_of was.journal)) k) (length was.book.volumes - 1))
   pub first : IsTrue was.told → Leaves (d.images (disk_of is.journal)) (FirstAreFinished was.book is.settled)
-  pub opens : OpensNoMore (told_of d was).crash (told_of d is).crash
+  -- but for its checkpoints
+  pub opens : LeavesNoMore (told_of d was).crash (record (told_of d is).crash { checkpoints = (told_of d was).crash.checkpoints })
   pub settles : IsTrue was.told → IfOk result (Settles d was.book (disk_of was.journal) (disk_of is.journal))
   pub none : result ≡ Ok 0 → OnlyLooks d was (record is { settled = was.settled })

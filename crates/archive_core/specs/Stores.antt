@@ -3,7 +3,7 @@ use Rattle.std.specs.Prelude.{◌≤◌, ◌<◌, ◌≡◌, ◌⊎◌, ℕ, ◌
 use Rattle.capture.specs.Captures.{captures, HasPayload}
 use Rattle.capture.specs.declared.captured.Taken.{Taken}
 use Rattle.disk_model.specs.declared.disk.Disk.{Ghosts}
-use Rattle.warc_journal.specs.Journals.{disk_of, extent_of, last_len, texts}
+use Rattle.warc_journal.specs.Journals.{disk_of, extent_of, last_len, texts, Rests}
 use Rattle.warc_journal.specs.Texts.{with_more}
 use Rattle.warc_text.specs.Records.{info_text}
 use Rattle.archive_shelf.specs.Answers.{LeavesReading}
@@ -14,7 +14,6 @@ use Rattle.archive_shelf.specs.declared.fault.StoreFault.{StoreFault}
 use Rattle.archive_shelf.specs.declared.fault.StoreFault.TheVariants as stores
 use Rattle.archive_shelf.specs.declared.receipt.Receipt.{Receipt}
 use Rattle.archive_core.specs.Holdings.{Holdings}
-use Rattle.archive_core.specs.Looking.{KeepsBytes}
 use Rattle.archive_core.specs.Texts.{texts_begun}
 use Rattle.archive_core.specs.Told.{told_of}
 use Rattle.archive_volumes.specs.Grouping.{IsGroupFor}
@@ -51,9 +50,10 @@ pub record FillsVolumes {D : Type 0} (d : Ghosts D) (was is : Holdings D) (taken
   pub bytes : IsTrue d.tells
       → WritesTexts d was.journal is.journal (texts_as (texts_where d was begun taken.date) (with_more (texts_where d was begun taken.date) group)) result
 
--- nothing was written: all bytes are as they were, and the volumes reach as far
+-- Nothing was written, and the volumes reach as far: where the disk tells, whatever is told of the book, a read gives what it gave, and at
+-- each moment a crash leaves what it might have left before.
 abbrev pub LeavesVolumes : {D : Type 0} → Ghosts D → Holdings D → Holdings D → Type 0
-LeavesVolumes d was is = KeepsBytes d was is × (extent_of is.journal ≡ extent_of was.journal)
+LeavesVolumes d was is = (IsTrue d.tells → Rests d (disk_of was.journal) (disk_of is.journal)) × (extent_of is.journal ≡ extent_of was.journal)
 
 -- what a store leaves of the volumes, by what it answers
 abbrev pub Fills : {D : Type 0} → Ghosts D → Holdings D → Holdings D → Taken → Result Receipt StoreFault → Type 0

@@ -6,7 +6,7 @@ use Rattle.capture.specs.declared.book.Book.{Book}
 use Rattle.cdxj_index.specs.Facts.{Facts}
 use Rattle.disk_model.specs.declared.disk.Disk.{Ghosts}
 use Rattle.warc_journal.specs.Extents.{cdxj_files}
-use Rattle.warc_journal.specs.Journals.{disk_of, last_len}
+use Rattle.warc_journal.specs.Journals.{disk_of, last_len, Rests}
 use Rattle.warc_journal.specs.Texts.{with_more}
 use Rattle.warc_text.specs.Books.{IsGroupText}
 use Rattle.warc_text.specs.Sound.{IsSound}
@@ -20,7 +20,7 @@ use Rattle.archive_volumes.specs.Volumes.{muted}
 use Rattle.archive_volumes.specs.Writing.{Writes, books_as}
 use Rattle.archive_volumes.specs.Written.{WritesTexts, texts_as}
 use Rattle.archive_core.specs.Holdings.{Holdings, contents_of}
-use Rattle.archive_core.specs.Looking.{KeepsBytes, OnlyLooks}
+use Rattle.archive_core.specs.Looking.{OnlyLooks}
 use Rattle.archive_pieces.specs.NextPieces.{Takes}
 use Rattle.archive_pieces.specs.PieceFaults.{is_take_fault}
 use Rattle.archive_pieces.specs.PieceParts.{IsNoPiece, IsReadAs, book_by, room_by}
@@ -31,13 +31,6 @@ use Rattle.archive_core.specs.Told.{told_of}
 use Rattle.archive_pieces.specs.declared.fault.PieceFault.{PieceFault}
 use Rattle.archive_pieces.specs.declared.fault.PieceFault.TheVariants as pieces
 
--- what was answered, with its type
-abbrev pub took : ℕ → Result ℕ PieceFault
-took number = Ok number
-
-abbrev pub disk_failed : Result ℕ PieceFault
-disk_failed = Err pieces.DiskFault
-
 -- ---- the capture of a group
 
 -- the parts of a piece that is put: its group with the text of that, the capture to which it refers, if to any, and when the volume was born that it begins, if it begins one
@@ -46,9 +39,6 @@ pub record Parts : Type 0 where
   pub group : Group
   pub first : Option ℕ
   pub begins : Option ℕ
-
-abbrev pub parts_as : List ℕ → Group → Option ℕ → Option ℕ → Parts
-parts_as text group first begins = record { text = text; group = group; first = first; begins = begins }
 
 -- It stands behind all others of the book. Where the disk tells, whatever is told of the book: its text stands behind the volumes' texts, none of
 -- which loses a byte, at whatever moment a crash stops it.
@@ -63,9 +53,10 @@ pub record HasPut {D : Type 0} (d : Ghosts D) (was is : Holdings D) (parts : Par
   pub others : contents_of is
       ≡ record (contents_of was) { seen = is.book; shown = numbered is.index; mine = (contents_of was).mine ++ number ∷ [] }
   pub ends : last_len is.journal ≡ end_in was.book (last_len was.journal) parts.begins + length parts.text
-  pub writes : Writes (muted was.told d) (disk_of was.journal) (disk_of is.journal) (books_as was.book (room_by was.book parts.begins) is.book is.book) (took number)
-  pub bytes : IsTrue d.tells
-      → WritesTexts d was.journal is.journal (texts_as (texts_room d was parts.begins) (with_more (texts_room d was parts.begins) parts.text)) (took number)
+  pub writes : Writes {E = PieceFault} (muted was.told d) (disk_of was.journal) (disk_of is.journal)
+      (books_as was.book (room_by was.book parts.begins) is.book is.book) (Ok number)
+  pub bytes : IsTrue d.tells → WritesTexts {E = PieceFault} d was.journal is.journal
+      (texts_as (texts_room d was parts.begins) (with_more (texts_room d was parts.begins) parts.text)) (Ok number)
   pub checkpoints : IsTrue d.tells → cdxj_files (d.reading (disk_of is.journal)) ≡ cdxj_files (d.reading (disk_of was.journal))
 
 -- The disk refused it. The book is left, or it with the volume that was to be begun.
@@ -74,10 +65,10 @@ pub record IsUnput {D : Type 0} (d : Ghosts D) (was is : Holdings D) (parts : Pa
   pub group_is : IsTrue was.told → IsGroupText (book_by was.book parts.begins parts.group parts.first) (length (captures was.book)) parts.text
   pub sound : IsTrue was.told → IsSound (book_by was.book parts.begins parts.group parts.first)
   pub others : contents_of is ≡ record (contents_of was) { seen = is.book }
-  pub writes : Writes (muted was.told d) (disk_of was.journal) (disk_of is.journal) (books_as was.book (room_by was.book parts.begins)
-      (book_by was.book parts.begins parts.group parts.first) is.book) disk_failed
-  pub bytes : IsTrue d.tells
-      → WritesTexts d was.journal is.journal (texts_as (texts_room d was parts.begins) (with_more (texts_room d was parts.begins) parts.text)) disk_failed
+  pub writes : Writes {T = ℕ} (muted was.told d) (disk_of was.journal) (disk_of is.journal)
+      (books_as was.book (room_by was.book parts.begins) (book_by was.book parts.begins parts.group parts.first) is.book) (Err pieces.DiskFault)
+  pub bytes : IsTrue d.tells → WritesTexts {T = ℕ} d was.journal is.journal
+      (texts_as (texts_room d was parts.begins) (with_more (texts_room d was parts.begins) parts.text)) (Err pieces.DiskFault)
   pub checkpoints : IsTrue d.tells → cdxj_files (d.reading (disk_of is.journal)) ≡ cdxj_files (d.reading (disk_of was.journal))
 
 -- all is as it was, but for what is reserved
@@ -103,7 +94,7 @@ pub record HasTaken {D : Type 0} (d : Ghosts D) (was is : Holdings D) (bytes : L
   pub first : Option ℕ
   pub read : IsReadAs was.book bytes begins at group
   pub refers : RefersSo was.told was.book group first
-  pub put : HasPut d was is (parts_as read.text group first begins) number
+  pub put : HasPut d was is (record { text = read.text; group = group; first = first; begins = begins }) number
   pub some : IsSomePiece is.book number bytes
   pub takes : IsTrue was.told → Takes was.book bytes is.book
 
@@ -115,14 +106,14 @@ pub record IsUntaken {D : Type 0} (d : Ghosts D) (was is : Holdings D) (bytes : 
   pub first : Option ℕ
   pub read : IsReadAs was.book bytes begins at group
   pub refers : RefersSo was.told was.book group first
-  pub unput : IsUnput d was is (parts_as read.text group first begins)
+  pub unput : IsUnput d was is (record { text = read.text; group = group; first = first; begins = begins })
   pub takes : IsTrue was.told → Takes was.book bytes (book_by was.book begins group first)
 
 -- all that is told of it stays, and nothing was written
 pub record Remains {D : Type 0} (d : Ghosts D) (was is : Holdings D) : Type 0 where
   pub contents : contents_of is ≡ contents_of was
   pub ends : last_len is.journal ≡ last_len was.journal
-  pub bytes : KeepsBytes d was is
+  pub bytes : IsTrue d.tells → Rests d (disk_of was.journal) (disk_of is.journal)
   pub unwritten : WritesNothing true (told_of d was) (told_of d is)
 
 -- What taking a piece leaves. It is full before the piece is looked at; want of memory may be answered anywhere.

@@ -12,4 +12,4 @@ texts_begun d held born = texts d held.journal ++ info_text held.book.namespace 
 -- or without, where none is begun
 abbrev pub texts_room : {D : Type 0} → Ghosts D → Holdings D → Option ℕ → List (List ℕ)
 texts_room d held None = texts d held.journal
-texts_room d held (Some born) = texts_begun d held born
+texts_room d held (Some born) = texts d held.journal ++ info_text held.book.namespace (length held.book.volumes) born ∷ []

@@ -1,2 +1,3 @@
 -- What only proofs read.
 pub mod Supplying
+pub mod Taking

@@ -193,12 +193,8 @@ impl<D: Disk> Finder for Archive<D> {
 
     ghost told = { λ a. told_of D.Disk a };
 
-    ghost earlier = { λ a t s book le opened. record {
-      told = opened.told;
-      image = opened.image;
-      left = D.earlier (disk_of a.journal) t s opened.image le opened.left;
-      stands = opened.stands;
-    } };
+    ghost earlier = { λ a t s book le opened.
+        (opened.0, opened.1, D.earlier (disk_of a.journal) t s opened.1 le opened.2, opened.3) };
 
     ghost covered_later = { λ a t s le all told image left. all told image (D.earlier (disk_of a.journal) t s image le left) };
 

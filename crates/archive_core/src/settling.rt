@@ -8,8 +8,8 @@ ghost use Rattle.archive_volumes.specs.Spots.{AreSpotsOf, ArePlaced, AreWithin};
 ghost use Rattle.archive_volumes.specs.Volumes.{HoldsBook, IsMeasured};
 ghost use Rattle.volume_lines.specs.OfGroups.{IsFactsOf};
 ghost use Rattle.archive_core.specs.Finished.{FirstAreFinished};
-ghost use Rattle.archive_core.specs.Settling.{SettlesOn, shelved_as};
-ghost use Rattle.archive_core.specs.steps.Supplying.{GoesOnBy, GoesThrough, KeepsVolumes, KnowsMore, checkpoint_fault_of};
+ghost use Rattle.archive_core.specs.Settling.{SettlesOn};
+ghost use Rattle.archive_core.specs.steps.Supplying.{GoesOnBy, GoesThrough, KeepsVolumes, KnowsMore, checkpoint_fault_of, shelved_as};
 
 use crate::Archive;
 use crate::missing::supply;

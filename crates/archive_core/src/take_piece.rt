@@ -10,7 +10,8 @@ ghost use Rattle.archive_core.specs.Looking.{OnlyLooks};
 ghost use Rattle.archive_pieces.specs.PieceOriginals.{FindsOriginal, IsNextGroup};
 ghost use Rattle.archive_pieces.specs.PieceParts.{IsFoundIn};
 ghost use Rattle.archive_pieces.specs.PieceReady.{IsWithinBounds, MayHold, RefersSo, end_in};
-ghost use Rattle.archive_core.specs.TakingPieces.{Puts, TakesPiece, parts_as};
+ghost use Rattle.archive_core.specs.TakingPieces.{Puts, TakesPiece};
+ghost use Rattle.archive_core.specs.steps.Taking.{parts_as};
 
 use crate::Archive;
 use crate::index::enter;

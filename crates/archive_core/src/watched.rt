@@ -92,12 +92,8 @@ impl<D: Disk, S: Since> Finder for Watched<D, S> {
 
     ghost told = { λ w. told_of D.Disk w };
 
-    ghost earlier = { λ w t s book le opened. record {
-      told = opened.told;
-      image = opened.image;
-      left = D.earlier (disk_of w.journal) t s opened.image le opened.left;
-      stands = opened.stands;
-    } };
+    ghost earlier = { λ w t s book le opened.
+        (opened.0, opened.1, D.earlier (disk_of w.journal) t s opened.1 le opened.2, opened.3) };
 
     ghost covered_later = { λ w t s le all told image left. all told image (D.earlier (disk_of w.journal) t s image le left) };
 

@@ -6,7 +6,8 @@ use Rattle.archive_core.proofs.FinishedLaws.{same_checkpoints_of}
 use Rattle.archive_core.specs.Holdings.{Holdings, contents_of}
 use Rattle.archive_core.specs.Known.{HasCheckpointsOfKnown, IsReopenedKnown, Opening, by_checkpoints, told_at}
 use Rattle.archive_core.specs.Finished.{IsSettled}
-use Rattle.archive_core.specs.Settling.{KeepsSettled, OpensNoMore, Settles, SettlesOn, reach, shelved_as}
+use Rattle.archive_core.specs.Settling.{KeepsSettled, Settles, SettlesOn, reach}
+use Rattle.archive_core.specs.steps.Supplying.{OpensNoMore, shelved_as}
 use Rattle.archive_volumes.specs.Spots.{AreSpotsOf}
 use Rattle.archive_volumes.specs.Volumes.{OpensNear, crash_of, muted}
 use Rattle.archive_opening.specs.Opening.{IsIn}
@@ -66,15 +67,15 @@ module _ {D : Type 0} (disks : Disks D) (stays : KeepsSettled) (before after : H
   right_still are image left =
       let by = (h.leaves tells).images image left in
       subst (HasCheckpointsOf image) (sym seen)
-      (stays (shelved_as before.told before.book before.spots) (reach after.settled answer) (disks.reading (disk_of before.journal)) by.before image told by.goes
-      (subst (HasCheckpointsOf by.before) seen (are by.before by.was)))
+      (stays (shelved_as before.told before.book before.spots) (reach after.settled answer) (disks.reading (disk_of before.journal)) by.0 image told by.2
+      (subst (HasCheckpointsOf by.0) seen (are by.0 by.1)))
 
   stands_still : Leaves (disks.images (disk_of before.journal)) (λ image. ImageStandsFor image book)
       → Leaves (disks.images (disk_of after.journal)) (λ image. ImageStandsFor image book)
   stands_still are image left =
       let by = (h.leaves tells).images image left in record {
-        for = subst (λ (files : List (List ℕ)). StandsFor files book) (sym by.goes.warc) (are by.before by.was).for;
-        sound = (are by.before by.was).sound;
+        for = subst (λ (files : List (List ℕ)). StandsFor files book) (sym by.2.warc) (are by.0 by.1).for;
+        sound = (are by.0 by.1).sound;
       }
 
   is_of_still : Leaves (disks.images (disk_of before.journal)) (IsOf book) → Leaves (disks.images (disk_of after.journal)) (IsOf book)
@@ -187,7 +188,7 @@ module _ {D : Type 0} (disks : Disks D) {before : Holdings D} {said status : Sta
       → (was : Image) × disks.images (disk_of before.journal) was × (warc_files image ≡ warc_files was)
   closed_from tells image left =
       let by = (c.settles.leaves tells).images image (there image left) in
-      (by.before, by.was, by.goes.warc)
+      (by.0, by.1, by.2.warc)
 
   -- checkpoints that are right stay so
   pub closed_right : KeepsSettled → IsTrue disks.tells → IsTrue before.told

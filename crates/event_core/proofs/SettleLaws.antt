@@ -15,8 +15,9 @@ use Rattle.archive_shelf.specs.Openings.{IsEarlier, Keeps}
 use Rattle.archive_shelf.specs.Told.{ShowsItsBook}
 use Rattle.archive_core.specs.Finished.{HasCheckpoint, IsSettled}
 use Rattle.archive_core.specs.Holdings.{Holdings}
-use Rattle.archive_core.specs.Settling.{HasSupplied, IsSupplied, HasWithout, KeepsSettled, Settles, SettlesOn, Shelved, reach, shelved_as}
+use Rattle.archive_core.specs.Settling.{HasWithout, KeepsSettled, Settles, SettlesOn, Shelved, reach}
 use Rattle.archive_core.specs.Told.{told_of}
+use Rattle.archive_core.specs.steps.Supplying.{HasSupplied, shelved_as}
 use Rattle.event_core.proofs.ImageLaws.{count_files, file_at, finished_of, finished_sealed, right_files, right_image}
 use Rattle.event_core.proofs.StandLaws.{kept_state}
 use Rattle.event_core.proofs.TallyLaws.{counted_may, least_may, open_tallied, open_tally, settled_tallied, settled_tally}
@@ -77,23 +78,23 @@ module _ {D : Type 0} (d : Ghosts D) (was is : Holdings D) (result : Result ℕ 
   new_right image now =
       let by = supplied image now in
       right_files s.book image
-      (basis.stays as_shelved (reach is.settled result) first by.before image told by.goes (right_image s.book by.before (old_right by.before by.was)))
+      (basis.stays as_shelved (reach is.settled result) first by.0 image told by.2 (right_image s.book by.0 (old_right by.0 by.1)))
 
   -- a checkpoint that was finished, in an image from before and in what a read gave, stays so
-  finished_stays : (image : Image) (by : Supplied image) (k : ℕ) → HasFinished (cdxj_files by.before) k → HasFinished (cdxj_files first) k
+  finished_stays : (image : Image) (by : Supplied image) (k : ℕ) → HasFinished (cdxj_files by.0) k → HasFinished (cdxj_files first) k
       → HasFinished (cdxj_files image) k
   finished_stays image by k before reading = ⊎_elim
       (λ same. record {
         lines = before.lines;
-        is = subst (λ (bytes : List ℕ). IsCheckpoint k before.lines bytes) (sym (file_at by.before k) ∙ sym same ∙ file_at image k) before.is;
+        is = subst (λ (bytes : List ℕ). IsCheckpoint k before.lines bytes) (sym (file_at by.0 k) ∙ sym same ∙ file_at image k) before.is;
       })
-      (λ (new : (k < reach is.settled result) × IsSupplied as_shelved first k (checkpoint_of image k)).
-      let same : reading.lines ≡ new.1.lines =
-      basis.one s.book k reading.lines new.1.lines (old_right first first_now k reading.lines reading.is).1 (new.1.missed.own.are told) in
-      absurd (new.1.missed.missing
-      (subst (λ (bytes : List ℕ). IsCheckpoint k new.1.lines bytes) (sym (file_at first k))
+      (λ new.
+      let same : reading.lines ≡ new.1 =
+      basis.one s.book k reading.lines new.1 (old_right first first_now k reading.lines reading.is).1 (new.2.are told) in
+      absurd (new.2.missing
+      (subst (λ (bytes : List ℕ). IsCheckpoint k new.1 bytes) (sym (file_at first k))
       (subst (λ (lines : List Line). IsCheckpoint k lines (get_or (cdxj_files first) k [])) same reading.is))))
-      (by.goes.each k)
+      (by.2.each k)
 
   -- the archive as it is but for its journal
   abbrev here : Holdings D
@@ -135,7 +136,7 @@ module _ {D : Type 0} (d : Ghosts D) (was is : Holdings D) (result : Result ℕ 
         let by = supplied left.image left.left in
         subst (λ (fs : List (List ℕ)). HasFinished fs k) left.are
         (finished_stays left.image by k
-        (stands.tallied.sure (cdxj_files by.before) (old_left by.before by.was) k less has)
+        (stands.tallied.sure (cdxj_files by.0) (old_left by.0 by.1) k less has)
         (stands.tallied.sure (cdxj_files first) (old_left first first_now) k less has)))
         only_sealed);
     steps = λ n may. (

@@ -5,7 +5,7 @@ use Rattle.archive_core.specs.Holdings.{Holdings}
 use Rattle.archive_core.specs.Known.{by_checkpoints}
 use Rattle.archive_core.specs.Stood.{KeepsFinished}
 use Rattle.archive_core.specs.Told.{told_of}
-use Rattle.archive_core.specs.Settling.{OpensNoMore}
+use Rattle.archive_core.specs.steps.Supplying.{OpensNoMore}
 use Rattle.archive_shelf.specs.Openings.{StaysCovered}
 use Rattle.archive_shelf.specs.Told.{GoesOn}
 use Rattle.archive_shelf.specs.declared.depth.Depth.TheVariants.{Checkpoints}

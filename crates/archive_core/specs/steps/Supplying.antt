@@ -1,8 +1,13 @@
 -- How the checkpoints of volumes are written one behind the other.
-use Rattle.std.specs.Prelude.{◌≡◌, ℕ, ◌+◌, ◌-◌, ◌≤◌, Bool, true, false, IsTrue, length, IfOk, OnOk, Result, Ok, Err}
+use Rattle.std.specs.Prelude.{◌≡◌, ℕ, ◌+◌, ◌-◌, ◌≤◌, Bool, true, false, IsTrue, length, IfOk, OnOk, Result, Ok, Err, List, slice_get, Some}
+use Rattle.volume_lines.specs.OfSpots.{AreLinesOfSpots}
+use Rattle.archive_shelf.specs.Openings.{CrashStates, LeavesNoMore}
+use Rattle.cdxj_line.specs.declared.line.Line.{Line}
 use Rattle.capture.specs.declared.book.Book.{Book}
+use Rattle.capture.specs.Captures.{first_number}
+use Rattle.capture.specs.declared.book.Volume.{Volume}
 use Rattle.disk_model.specs.Crash.{Leaves}
-use Rattle.disk_model.specs.Image.{file_count}
+use Rattle.disk_model.specs.Image.{Image, file_count}
 use Rattle.disk_model.specs.declared.disk.Disk.{Ghosts}
 use Rattle.disk_model.specs.declared.kind.Kind.TheVariants.{Cdxj}
 use Rattle.warc_journal.specs.Extents.{warc_files}
@@ -10,13 +15,41 @@ use Rattle.warc_journal.specs.Journals.{Rests, disk_of, extent_of}
 use Rattle.checkpoint.specs.Checkpoints.{checkpoint_of}
 use Rattle.checkpoint.specs.declared.fault.CheckpointFault.{CheckpointFault}
 use Rattle.checkpoint.specs.declared.fault.CheckpointFault.TheVariants as checkpoints
+use Rattle.checkpoint.specs.OfVolume.{AreLinesOf}
 use Rattle.archive_volumes.specs.Held.{book_of}
 use Rattle.archive_volumes.specs.Volumes.{HoldsBook, crash_of}
 use Rattle.archive_volumes.specs.declared.part.ReadFault.{ReadFault}
 use Rattle.archive_volumes.specs.declared.part.ReadFault.TheVariants as reads
 use Rattle.archive_volumes.specs.declared.volumes.Volumes.{Volumes}
+use Rattle.archive_volumes.specs.declared.spot.Spot.{Spot}
 use Rattle.archive_core.specs.Finished.{FirstAreFinished, HasCheckpoint}
-use Rattle.archive_core.specs.Settling.{HasWithout, IsAsBefore, LeavesCheckpoints, OpensNoMore, Shelved, reach}
+use Rattle.archive_core.specs.Settling.{GoesWith, HasWithout, LeavesCheckpoints, Shelved, reach}
+
+-- ---- what is told of checkpoints
+
+abbrev pub shelved_as : Bool → Book → List Spot → Shelved
+shelved_as told book spots = record { told = told; book = book; spots = spots }
+
+-- The lines of a volume: they tell what is kept of its captures, one for each; where the book is told, they are those of the book's volume.
+pub record AreLinesFrom (shelved : Shelved) (k : ℕ) (lines : List Line) : Type 0 where
+  pub of : Volume
+  pub placed : slice_get shelved.book.volumes k ≡ Some of
+  pub kept : AreLinesOfSpots shelved.spots (first_number shelved.book k) (length of.captures) lines
+  pub are : IsTrue shelved.told → AreLinesOf shelved.book k lines
+
+-- an image that goes with one from before
+abbrev pub HasSupplied : Shelved → ℕ → Image → (Image → Type 0) → Image → Type 0
+HasSupplied shelved upto first images image = (before : Image) × images before × GoesWith shelved upto first before image
+
+-- a read gives the checkpoint that it gave
+abbrev pub IsAsBefore : Image → Image → ℕ → Type 0
+IsAsBefore was is k = checkpoint_of is k ≡ checkpoint_of was k
+
+-- nothing more may be opened, at whatever moment a crash stops the call
+abbrev pub OpensNoMore : CrashStates → CrashStates → Type 0
+OpensNoMore was is = LeavesNoMore was (record is { checkpoints = was.checkpoints })
+
+-- ---- one volume behind the other
 
 -- the fault of reading, as that of a checkpoint
 abbrev pub checkpoint_fault_of : ReadFault → CheckpointFault

@@ -4,12 +4,12 @@ use Rattle.warc_journal.specs.Journals.{disk_of}
 use Rattle.archive_volumes.proofs.ChangeLaws.{DiskLaws}
 use Rattle.archive_volumes.specs.Held.{book_of}
 use Rattle.volume_lines.specs.OfSpots.{AreLinesOfSpots}
-use Rattle.archive_core.specs.Settling.{shelved_as}
 use Rattle.archive_core.proofs.KeepingLaws.{keeps_beside, keeps_reads, keeps_then, warc_supplied}
 use Rattle.archive_core.proofs.SupplyingLaws.{goes_refused, goes_supplied, went_past, went_still}
 use Rattle.archive_core.proofs.WalkingLaws.{lines_from}
 use Rattle.archive_core.proofs.settling.settle_volume.Given.{Over}
 use Rattle.archive_core.proofs.settling.settle_volume.Goals as goal
+use Rattle.archive_core.specs.steps.Supplying.{shelved_as}
 
 -- what is asked of the disk
 disk_laws : (g : Over) → DiskLaws g.D.Disk

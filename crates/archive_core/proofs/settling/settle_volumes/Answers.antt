@@ -6,8 +6,7 @@ use Rattle.warc_journal.specs.Journals.{disk_of}
 use Rattle.archive_volumes.proofs.ChangeLaws.{DiskLaws}
 use Rattle.archive_volumes.specs.Held.{book_of}
 use Rattle.archive_volumes.specs.declared.volume_facts.VolumeFacts.{VolumeFacts}
-use Rattle.archive_core.specs.Settling.{shelved_as}
-use Rattle.archive_core.specs.steps.Supplying.{GoesThrough, KnowsMore}
+use Rattle.archive_core.specs.steps.Supplying.{GoesThrough, KnowsMore, shelved_as}
 use Rattle.archive_core.proofs.KeepingLaws.{keeps_itself, keeps_then}
 use Rattle.archive_core.proofs.PieceLaws.{few_volumes}
 use Rattle.archive_core.proofs.SupplyingLaws.{went_none}

@@ -1,8 +1,7 @@
 use Rattle.std.proofs.Common.{◌≡◌, ◌+◌, ◌-◌, ◌≤◌, IsTrue, length}
 use Rattle.warc_journal.specs.Journals.{disk_of}
 use Rattle.archive_volumes.specs.Held.{book_of}
-use Rattle.archive_core.specs.Settling.{shelved_as}
-use Rattle.archive_core.specs.steps.Supplying.{KeepsVolumes, Went}
+use Rattle.archive_core.specs.steps.Supplying.{KeepsVolumes, Went, shelved_as}
 use Rattle.archive_core.proofs.settling.settle_volumes.Given as goal
 
 abbrev pub invariant-volumes : goal.invariant-volumes

@@ -15,12 +15,13 @@ use Rattle.archive_volumes.specs.Spots.{AreHeldWhole, ArePlaced, AreSpotsOf, Are
 use Rattle.archive_volumes.specs.declared.spot.Spot.{Spot}
 use Rattle.archive_core.specs.Holdings.{Holdings}
 use Rattle.archive_pieces.specs.PieceReady.{MayHold}
-use Rattle.archive_core.specs.TakingPieces.{Puts, parts_as}
+use Rattle.archive_core.specs.TakingPieces.{Puts}
 use Rattle.archive_core.specs.View.{holdings_of}
 use Rattle.archive_pieces.specs.declared.fault.PieceFault.TheVariants as pieces
 use Rattle.archive_core.proofs.ExitLaws as exits
 use Rattle.archive_core.proofs.PieceExitLaws as laws
 use Rattle.archive_core.proofs.archive.Archive.put_piece.Goals as goal
+use Rattle.archive_core.specs.steps.Taking.{parts_as}
 use Rattle.archive_volumes.specs.Ready.{spot_in}
 
 pub make_piece_ready-requires-clause-holds : goal.make_piece_ready-requires-clause-holds

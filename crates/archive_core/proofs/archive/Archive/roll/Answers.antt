@@ -45,6 +45,17 @@ returns-then-not-is_filled g c =
     subst (λ (held : Holdings _). Rolls {T = ⊤} g.D.Disk held held c.args.now (Ok tt)) c.self.view_is
     (laws.rolls_none g.D.Disk (holdings_of c.self.inside) c.args.now empty)
 
+pub returns-in_err-prepared : goal.returns-in_err-prepared
+returns-in_err-prepared g c =
+    let filled = sym c.is_filled.ensures ∙ c.if-not-is_filled.false in
+    laws.at_fault (λ (r : Result _ _). Rolls {T = ⊤} g.D.Disk c.args.self.now (record (holdings_of c.self.inside) { journal = c.prepare.new.self.journal; book = book_of c.prepare.new.self.held }) c.args.now r)
+    rolls.Memory c.from_residual.result c.from_residual.ensures.1
+    (subst (λ (held : Holdings _). Rolls {T = ⊤} g.D.Disk held (record (holdings_of c.self.inside) { journal = c.prepare.new.self.journal; book = book_of c.prepare.new.self.held }) c.args.now (Err rolls.Memory)) c.self.view_is
+    (laws.of_the_same (λ j b n. Rolls {T = ⊤} g.D.Disk (holdings_of c.self.inside) (record (holdings_of c.self.inside) { journal = j; book = b }) n (Err rolls.Memory))
+    c.self.inside.volumes.journal c.prepare.new.self.journal (book_of c.self.inside.volumes.held) (book_of c.prepare.new.self.held) c.args.now c.args.now
+    (sym c.prepare.ensures.journal) (sym c.prepare.ensures.book) refl
+    (laws.rolls_memory g.D.Disk (holdings_of c.self.inside) c.args.now filled)))
+
 pub begin-requires-clause-holds : goal.begin-requires-clause-holds
 begin-requires-clause-holds g c =
     let same = c.in_ok-prepared.ensures in
@@ -81,7 +92,7 @@ pub returns-in_err-begin : goal.returns-in_err-begin
 returns-in_err-begin g c =
     let same = c.in_ok-prepared.ensures in
     laws.at_fault (λ (r : Result _ _). Rolls {T = ⊤} g.D.Disk c.args.self.now (record (holdings_of c.self.inside) { journal = c.begin.new.self.journal; book = book_of c.begin.new.self.held }) c.args.now r)
-    c.from_residual-in_err-begin.result c.from_residual-in_err-begin.ensures.1
+    rolls.DiskFault c.from_residual-in_err-begin.result c.from_residual-in_err-begin.ensures.1
     (subst (λ (held : Holdings _). Rolls {T = ⊤} g.D.Disk held (record (holdings_of c.self.inside) { journal = c.begin.new.self.journal; book = book_of c.begin.new.self.held }) c.args.now (Err rolls.DiskFault)) c.self.view_is
     (laws.rolls_err g.D.Disk (holdings_of c.self.inside) c.args.now c.begin.new.self.journal (book_of c.begin.new.self.held)
     (sym c.is_filled.ensures ∙ c.if-not-is_filled.false)

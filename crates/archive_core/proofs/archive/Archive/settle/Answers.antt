@@ -4,9 +4,9 @@ use Rattle.archive_volumes.proofs.ChangeLaws.{DiskLaws}
 use Rattle.archive_volumes.specs.Held.{book_of}
 use Rattle.archive_volumes.specs.declared.spot.Spot.{Spot}
 use Rattle.archive_core.specs.Holdings.{Holdings}
-use Rattle.archive_core.specs.Settling.{SettlesOn, shelved_as}
+use Rattle.archive_core.specs.Settling.{SettlesOn}
 use Rattle.archive_core.specs.View.{holdings_of}
-use Rattle.archive_core.specs.steps.Supplying.{GoesThrough}
+use Rattle.archive_core.specs.steps.Supplying.{GoesThrough, shelved_as}
 use Rattle.archive_core.proofs.SettlingLaws.{over, settled_archive, settles_on}
 use Rattle.archive_core.proofs.archive.Archive.settle.Given.{Over}
 use Rattle.archive_core.proofs.archive.Archive.settle.Goals as goal
