@@ -18,10 +18,6 @@ pub record HasCheckpoint (book : Book) (k : ℕ) (image : Image) : Type 0 where
 abbrev pub FirstAreFinished : Book → ℕ → Image → Type 0
 FirstAreFinished book n image = (k : ℕ) → k < n → HasCheckpoint book k image
 
--- that of each sealed volume is: of each but the last
-abbrev pub IsSettled : Book → Image → Type 0
-IsSettled book image = (k : ℕ) → k + 1 < length book.volumes → HasCheckpoint book k image
-
 -- ---- those that an opening read
 
 -- a line told of a capture of this volume

@@ -22,7 +22,7 @@ use Rattle.archive_shelf.specs.Openings.{LeavesNoMore}
 use Rattle.archive_opening.specs.Telling.{HasCheckpointsOf}
 use Rattle.archive_volumes.specs.declared.spot.Spot.{Spot}
 use Rattle.volume_lines.specs.OfSpots.{AreLinesOfSpots}
-use Rattle.archive_core.specs.Finished.{FirstAreFinished, HasCheckpoint, IsSettled}
+use Rattle.archive_core.specs.Finished.{FirstAreFinished, HasCheckpoint}
 use Rattle.archive_core.specs.Holdings.{Holdings}
 use Rattle.archive_core.specs.Looking.{OnlyLooks}
 use Rattle.archive_core.specs.Told.{told_of}
@@ -110,10 +110,10 @@ reach settled (Ok n) = settled
 reach settled (Err checkpoints.DiskFault) = settled + 1
 reach settled (Err checkpoints.Memory) = settled
 
--- All checkpoints are finished, in what a read gives and in each image, and just so many were missing.
+-- The checkpoints of all sealed volumes are finished, of each but the last, in what a read gives and in each image, and just so many were missing.
 pub record Settles {D : Type 0} (d : Ghosts D) (book : Book) (old new : D) (n : ℕ) : Type 0 where
-  pub reading : IsSettled book (d.reading new)
-  pub images : Leaves (d.images new) (IsSettled book)
+  pub reading : FirstAreFinished book (length book.volumes - 1) (d.reading new)
+  pub images : Leaves (d.images new) (FirstAreFinished book (length book.volumes - 1))
   pub number : HasWithout (λ k. HasCheckpoint book k (d.reading old)) (length book.volumes - 1) n
 
 -- What a call leaves that writes the checkpoints which are missing, and answers how many it wrote, which is how many files are others than

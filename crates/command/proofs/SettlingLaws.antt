@@ -1,11 +1,11 @@
 -- What it leaves of an archive that its checkpoints were written.
-use Rattle.std.proofs.Common.{◌≡◌, ℕ, ◌≤◌, Bool, true, IsTrue, List, [], length, Option, Some, None, Result, Ok, Err, refl, sym, ap, subst, ◌∙◌, ⊎_elim, arith}
+use Rattle.std.proofs.Common.{◌-◌, ◌≡◌, ℕ, ◌≤◌, Bool, true, IsTrue, List, [], length, Option, Some, None, Result, Ok, Err, refl, sym, ap, subst, ◌∙◌, ⊎_elim, arith}
 use Rattle.std.specs.Prelude.{IfOk, IfSome}
 use Rattle.std.proofs.lemmas.Bool.{false≢true}
 use Rattle.archive_core.proofs.FinishedLaws.{same_checkpoints_of}
 use Rattle.archive_core.specs.Holdings.{Holdings, contents_of}
 use Rattle.archive_core.specs.Known.{HasCheckpointsOfKnown, IsReopenedKnown, Opening, by_checkpoints, told_at}
-use Rattle.archive_core.specs.Finished.{IsSettled}
+use Rattle.archive_core.specs.Finished.{FirstAreFinished}
 use Rattle.archive_core.specs.Settling.{KeepsSettled, Settles, SettlesOn, reach}
 use Rattle.archive_core.specs.steps.Supplying.{OpensNoMore, shelved_as}
 use Rattle.archive_volumes.specs.Spots.{AreSpotsOf}
@@ -198,7 +198,7 @@ module _ {D : Type 0} (disks : Disks D) {before : Holdings D} {said status : Sta
       right_still disks stays before c.after c.answer c.settles tells told before.book refl are image (there image left)
 
   -- and where it was done, all are finished
-  pub closed_all : (n : ℕ) → c.answer ≡ Ok n → IsTrue before.told → Leaves (disks.images is) (IsSettled before.book)
+  pub closed_all : (n : ℕ) → c.answer ≡ Ok n → IsTrue before.told → Leaves (disks.images is) (FirstAreFinished before.book (length before.book.volumes - 1))
   closed_all n done told image left =
       let settles = subst (λ (r : Result ℕ CheckpointFault). IfOk r (Settles disks before.book (disk_of before.journal) (disk_of c.after.journal))) done
       (c.settles.settles told) in

@@ -1,5 +1,5 @@
 -- What an archive promises where checkpoints are written is the machine's step.
-use Rattle.std.proofs.Common.{◌≡◌, ℕ, ◌-◌, ◌<◌, true, IsTrue, List, [], get_or, Result, Ok, Err, refl, sym, ap, subst, ◌∙◌, inl, ⊎_elim, arith}
+use Rattle.std.proofs.Common.{length, ◌≡◌, ℕ, ◌-◌, ◌<◌, true, IsTrue, List, [], get_or, Result, Ok, Err, refl, sym, ap, subst, ◌∙◌, inl, ⊎_elim, arith}
 use Rattle.std.specs.Prelude.{IfOk}
 use Rattle.capture.specs.declared.book.Book.{Book}
 use Rattle.capture.specs.declared.limits.Limits.{Limits}
@@ -13,7 +13,7 @@ use Rattle.checkpoint.specs.OfVolume.{VolumesHaveOneListOfLines}
 use Rattle.checkpoint.specs.declared.fault.CheckpointFault.{CheckpointFault}
 use Rattle.archive_shelf.specs.Openings.{IsEarlier, Keeps}
 use Rattle.archive_shelf.specs.Told.{ShowsItsBook}
-use Rattle.archive_core.specs.Finished.{HasCheckpoint, IsSettled}
+use Rattle.archive_core.specs.Finished.{HasCheckpoint, FirstAreFinished}
 use Rattle.archive_core.specs.Holdings.{Holdings}
 use Rattle.archive_core.specs.Settling.{HasWithout, KeepsSettled, Settles, SettlesOn, Shelved, reach}
 use Rattle.archive_core.specs.Told.{told_of}
@@ -162,7 +162,7 @@ module _ {D : Type 0} (d : Ghosts D) (was is : Holdings D) (result : Result ℕ 
             (λ files left k less.
             subst (λ (fs : List (List ℕ)). HasFinished fs k) left.are
             (finished_of s.book left.image k
-            (subst (λ (b : Book). IsSettled b left.image) book (settles.images left.image left.left) k (omega (arith, less)))))
+            (subst (λ (b : Book). FirstAreFinished b (length b.volumes - 1) left.image) book (settles.images left.image left.left) k (omega (arith, less)))))
             only_sealed);
         steps = λ c may. (
           sealed s.book - n,

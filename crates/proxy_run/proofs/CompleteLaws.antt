@@ -3,7 +3,7 @@ use Rattle.std.proofs.Common.{◌≡◌, ◌≢◌, ◌⊎◌, ℕ, ◌-◌, ◌
 use Rattle.std.specs.Prelude.{IfSome, ⊤, MatchResult, codes}
 use Rattle.archive_opening.specs.Opening.{CountsFault, HoldsOther, IsDamageIn, IsOtherIn, IsOutside}
 use Rattle.archive_core.proofs.FinishedLaws.{checkpoints_later, same_checkpoints_of}
-use Rattle.archive_core.specs.Finished.{IsSettled}
+use Rattle.archive_core.specs.Finished.{FirstAreFinished}
 use Rattle.archive_core.specs.Holdings.{Holdings, contents_of}
 use Rattle.archive_core.specs.Known.{by_checkpoints, opening_of, told_at}
 use Rattle.archive_core.specs.Settling.{KeepsSettled}
@@ -372,7 +372,7 @@ module _ {D G L P N M C O : Type 0} (kinds : Kinds D G L P N M C O) where
 
     all_done : (answer : Result ℕ CheckpointFault) → piped.closed.answer ≡ answer → status ≡ settled_status answer piped.said
         → kinds.disks.faults is.disk ≡ kinds.disks.faults (disk_of piped.after.journal) → kinds.disks.faults (disk_of piped.after.journal) < 2 ^ 64 - 1 → status ≢ Memory
-        → Leaves (kinds.disks.images is.disk) (IsSettled piped.after.book)
+        → Leaves (kinds.disks.images is.disk) (FirstAreFinished piped.after.book (length piped.after.book.volumes - 1))
     all_done (Ok n) answers says same below some = closed_all kinds.disks piped.closed n answers told_last
     all_done (Err checkpoints.DiskFault) answers says same below some =
         absurd (not_risen (kinds.disks.faults (disk_of piped.after.journal)) (kinds.disks.faults is.disk) (record { same = same; below = below })

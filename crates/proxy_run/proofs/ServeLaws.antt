@@ -1,11 +1,11 @@
 -- What a server promises, from what it leaves.
-use Rattle.std.proofs.Common.{◌≡◌, ◌⊎◌, ℕ, suc, ◌+◌, ◌≤◌, Bool, true, false, IsTrue, IsPermutation, List, [], ◌∷◌, ◌++◌, drop, length, Option, Some, Result, Ok, Err, refl, sym, ap, ◌∙◌, subst, inl, inr, ⊎_elim, arith, append_assoc}
+use Rattle.std.proofs.Common.{◌-◌, ◌≡◌, ◌⊎◌, ℕ, suc, ◌+◌, ◌≤◌, Bool, true, false, IsTrue, IsPermutation, List, [], ◌∷◌, ◌++◌, drop, length, Option, Some, Result, Ok, Err, refl, sym, ap, ◌∙◌, subst, inl, inr, ⊎_elim, arith, append_assoc}
 use Rattle.std.specs.Prelude.{IfSome, slice_get}
 use Rattle.std.specs.List.{flat_map, range_with_len, sum_by}
 use Rattle.std.proofs.lemmas.List.Sums.{sum_by-cons}
 use Rattle.std.proofs.lemmas.List.{append-nil, length-append}
 use Rattle.std.proofs.lemmas.Option.{same_Some}
-use Rattle.archive_core.specs.Finished.{IsSettled}
+use Rattle.archive_core.specs.Finished.{FirstAreFinished}
 use Rattle.archive_core.specs.Settling.{KeepsSettled}
 use Rattle.archive_shelf.specs.Contents.{Contents}
 use Rattle.archive_shelf.specs.Openings.{ImageStandsFor, SameBook}
@@ -104,7 +104,7 @@ counted_well closed before now Memory printed steady end tells = inr refl
 module _ {D : Type 0} (disks : Disks D) {before : Holdings D} {said status : Status} {is : D} (c : ClosesSettled disks before said is status) where
   -- all checkpoints are finished behind one that wasn't refused
   finished : (answer : Result ℕ CheckpointFault) → c.answer ≡ answer → status ≡ settled_status answer said → IsTrue before.told
-      → (status ≡ Memory → ⊥) → (Rose (disks.faults (disk_of before.journal)) (disks.faults is) → ⊥) → Leaves (disks.images is) (IsSettled before.book)
+      → (status ≡ Memory → ⊥) → (Rose (disks.faults (disk_of before.journal)) (disks.faults is) → ⊥) → Leaves (disks.images is) (FirstAreFinished before.book (length before.book.volumes - 1))
   finished (Ok n) answers same told spared calm = closed_all disks c n answers told
   finished (Err checkpoints.DiskFault) answers same told spared calm = absurd (calm (closed_rose disks c answers))
   finished (Err checkpoints.Memory) answers same told spared calm = absurd (spared same)

@@ -1,6 +1,6 @@
 -- When a run isn't refused, and what the next one finds.
 use Rattle.std.specs.Prelude.{◌≡◌, ◌≢◌, ◌⊎◌, ℕ, ◌-◌, ◌^◌, ◌<◌, ◌≤◌, List, [], ◌++◌, length, true, IsTrue, Option, Some, None, Result, Ok, Err, ⊤}
-use Rattle.archive_core.specs.Finished.{IsSettled}
+use Rattle.archive_core.specs.Finished.{FirstAreFinished}
 use Rattle.archive_core.specs.Holdings.{Holdings, contents_of}
 use Rattle.archive_core.specs.Known.{told_at}
 use Rattle.archive_opening.specs.Opening.{IsIn}
@@ -104,7 +104,7 @@ pub record IsLeftSettled (book : Book) (image : Image) : Type 0 where
   pub x : Book
   pub stands : ImageStandsFor image x
   pub next : IsNext book x
-  pub checkpoints : IsSettled book image
+  pub checkpoints : FirstAreFinished book (length book.volumes - 1) image
 
 module _ {D G L P N M C O : Type 0} (kinds : Kinds D G L P N M C O) where
   -- neither the disk, nor the gate, nor the output failed
