@@ -118,7 +118,7 @@ module _ {D : Type 0} (d : Ghosts D) (leads : NextPiecesLeadOn) (was is : Holdin
         t.leaves.1,
   )
   leads_by (Err (pieces.Damaged number kept found)) t = absurd (false≢true (sym t.leaves.3.untold ∙ next.told))
-  leads_by (Err pieces.Memory) t = (tt, stays_by (ap (λ (c : Contents). c.seen) t.leaves.contents) t.leaves.unwritten)
+  leads_by (Err pieces.Memory) t = (tt, stays_by (ap (λ (c : Contents). c.seen) t.leaves.0) t.leaves.3)
 
 pub taken_pieces : {D : Type 0} (d : Ghosts D) → NextPiecesLeadOn → TakenPiecesLeadOn d
 taken_pieces d leads was is source bytes result next takes = leads_by d leads was is source bytes next result takes

@@ -40,10 +40,10 @@ use Rattle.archive_pieces.specs.PieceOriginals.{FindsOriginal}
 use Rattle.archive_pieces.specs.PieceParts.{HasNoParts, IsNoPiece, IsReadAs, book_by, room_by}
 use Rattle.archive_pieces.specs.PieceReady.{IsPastBounds, IsWithinBounds, MayHold, RefersSo, end_by, end_in}
 use Rattle.archive_core.specs.Stores.{Admits}
-use Rattle.archive_core.specs.TakingPieces.{HasPut, IsUnput, IsUntouched, PieceLeaves, Puts, Remains, TakesPiece}
+use Rattle.archive_core.specs.TakingPieces.{HasPut, IsUnput, IsUntouched, PieceLeaves, Puts, TakesPiece}
 use Rattle.archive_core.specs.Texts.{texts_room}
 use Rattle.archive_core.specs.Told.{told_of, told_on}
-use Rattle.archive_core.specs.steps.Taking.{disk_failed, parts_as, took}
+use Rattle.archive_core.specs.steps.Taking.{disk_failed, parts_as, took, Remains}
 use Rattle.archive_pieces.specs.declared.fault.PieceFault.{PieceFault}
 use Rattle.archive_pieces.specs.declared.fault.PieceFault.TheVariants as pieces
 use Rattle.archive_pieces.proofs.NextParts.{no_piece}
@@ -70,12 +70,8 @@ ends_by : {D : Type 0} (d : Ghosts D) (was mid : Holdings D) → OnlyLooks d was
 ends_by d was mid looks = ap (λ (e : Extent). e.end) looks.extent
 
 pub remains_by : {D : Type 0} (d : Ghosts D) (was mid : Holdings D) → OnlyLooks d was mid → Remains d was mid
-remains_by {D} d was mid looks = record {
-  contents = ap (λ (h : Holdings D). contents_of h) looks.others;
-  ends = ends_by d was mid looks;
-  bytes = looks.bytes;
-  unwritten = looks.unwritten;
-}
+remains_by {D} d was mid looks =
+    (ap (λ (h : Holdings D). contents_of h) looks.others, ends_by d was mid looks, looks.bytes, looks.unwritten)
 
 pub none_taken : {D : Type 0} (d : Ghosts D) → DiskLaws d → (was : Holdings D) (bytes : List ℕ) → length (captures was.book) < was.limits.captures
     → (IsTrue was.told → IsNoPiece was.book bytes) → TakesPiece d was was bytes (failed pieces.NotAPiece)
@@ -300,13 +296,12 @@ module _ {D : Type 0} (d : Ghosts D) (was mid : Holdings D) (looks : OnlyLooks d
       -- all is as it was
       untouched_remains : IsUntouched mid is → Remains d was is
       untouched_remains same =
-          let told_same : told_of d mid ≡ told_of d is = λ i. told_on d (disk_of (sym same.journal i)) (sym same.contents i) in
-          record {
-            contents = same.contents ∙ ap (λ (h : Holdings D). contents_of h) looks.others;
-            ends = ap (λ (j : Journal D). last_len j) same.journal ∙ ends_by d was mid looks;
-            bytes = λ tells. subst (λ (j : Journal D). Rests d (disk_of was.journal) (disk_of j)) (sym same.journal) (looks.bytes tells);
-            unwritten = subst (λ t. WritesNothing true (told_of d was) t) told_same looks.unwritten;
-          }
+          let told_same : told_of d mid ≡ told_of d is = λ i. told_on d (disk_of (sym same.journal i)) (sym same.contents i) in (
+            same.contents ∙ ap (λ (h : Holdings D). contents_of h) looks.others,
+            ap (λ (j : Journal D). last_len j) same.journal ∙ ends_by d was mid looks,
+            λ tells. subst (λ (j : Journal D). Rests d (disk_of was.journal) (disk_of j)) (sym same.journal) (looks.bytes tells),
+            subst (λ t. WritesNothing true (told_of d was) t) told_same looks.unwritten,
+          )
 
       leaves_by : (result : Result ℕ PieceFault) → Puts d mid is (parts_as text group first begins) result → PieceLeaves d was is bytes result
       leaves_by (Ok number) put = (

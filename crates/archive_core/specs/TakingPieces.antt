@@ -109,14 +109,8 @@ pub record IsUntaken {D : Type 0} (d : Ghosts D) (was is : Holdings D) (bytes : 
   pub unput : IsUnput d was is (record { text = read.text; group = group; first = first; begins = begins })
   pub takes : IsTrue was.told → Takes was.book bytes (book_by was.book begins group first)
 
--- all that is told of it stays, and nothing was written
-pub record Remains {D : Type 0} (d : Ghosts D) (was is : Holdings D) : Type 0 where
-  pub contents : contents_of is ≡ contents_of was
-  pub ends : last_len is.journal ≡ last_len was.journal
-  pub bytes : IsTrue d.tells → Rests d (disk_of was.journal) (disk_of is.journal)
-  pub unwritten : WritesNothing true (told_of d was) (told_of d is)
-
--- What taking a piece leaves. It is full before the piece is looked at; want of memory may be answered anywhere.
+-- What taking a piece leaves. It is full before the piece is looked at; want of memory may be answered anywhere, and then all that is told stays, and
+-- nothing was written.
 abbrev pub PieceLeaves : {D : Type 0} → Ghosts D → Holdings D → Holdings D → List ℕ → Result ℕ PieceFault → Type 0
 PieceLeaves d was is bytes (Ok number) = (length (captures was.book) < was.limits.captures) × HasTaken d was is bytes number
 PieceLeaves d was is bytes (Err (pieces.Full count limit)) =
@@ -127,7 +121,9 @@ PieceLeaves d was is bytes (Err pieces.DiskFault) =
     (length (captures was.book) < was.limits.captures) × (OnlyLooks d was is ⊎ IsUntaken d was is bytes)
 PieceLeaves d was is bytes (Err (pieces.Damaged number kept found)) =
     (length (captures was.book) < was.limits.captures) × OnlyLooks d was is × (number < length (captures was.book)) × IsDamaged was.told kept found
-PieceLeaves d was is bytes (Err pieces.Memory) = Remains d was is
+PieceLeaves d was is bytes (Err pieces.Memory) =
+    (contents_of is ≡ contents_of was) × (last_len is.journal ≡ last_len was.journal)
+    × (IsTrue d.tells → Rests d (disk_of was.journal) (disk_of is.journal)) × WritesNothing true (told_of d was) (told_of d is)
 
 -- a piece was taken, or refused
 pub record TakesPiece {D : Type 0} (d : Ghosts D) (was is : Holdings D) (bytes : List ℕ) (result : Result ℕ PieceFault) : Type 0 where

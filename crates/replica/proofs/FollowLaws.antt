@@ -314,9 +314,9 @@ module _ {D : Type 0} (d : Disks D) (source : Target) (tells : Bool) where
         takes.leaves.1
     ended_piece (pieces.Damaged at kept found) takes = ended_looking (pieces.Damaged at kept found) takes takes.leaves.1 (λ Before x same o. o)
     ended_piece pieces.Memory takes =
-        let same = takes.leaves.contents in
+        let same = takes.leaves.0 in
         ended_quietly pieces.Memory takes (ap (λ (c : Contents). c.seen) same) (ap (λ (c : Contents). c.tells) same) (ap (λ (c : Contents). c.limits) same)
-        takes.leaves.unwritten.crash (λ Before x same o. o)
+        takes.leaves.3.crash (λ Before x same o. o)
 
   pub ended_stop : DiskLaws d → (was is : Holdings D) (links links_is : Links Transcript) (stop : Stop) → TakesNext d source tells was is links links_is (Err stop)
       → HasFollowed d source tells was is links links_is (Err stop)

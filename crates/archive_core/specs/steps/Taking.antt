@@ -1,9 +1,14 @@
--- The parts of a piece that is put, and what putting it answers, with its type.
-use Rattle.std.specs.Prelude.{ℕ, List, Option, Result, Ok, Err}
+-- The parts of a piece that is put, what putting it answers, with its type, and what want of memory leaves.
+use Rattle.std.specs.Prelude.{ℕ, List, Option, Result, Ok, Err, ◌≡◌, true, IsTrue}
+use Rattle.archive_shelf.specs.Told.{WritesNothing}
+use Rattle.warc_journal.specs.Journals.{Rests, disk_of, last_len}
+use Rattle.disk_model.specs.declared.disk.Disk.{Ghosts}
 use Rattle.warc_scan.specs.declared.group.Group.{Group}
 use Rattle.archive_pieces.specs.declared.fault.PieceFault.{PieceFault}
 use Rattle.archive_pieces.specs.declared.fault.PieceFault.TheVariants as pieces
 use Rattle.archive_core.specs.TakingPieces.{Parts}
+use Rattle.archive_core.specs.Holdings.{Holdings, contents_of}
+use Rattle.archive_core.specs.Told.{told_of}
 
 abbrev pub took : ℕ → Result ℕ PieceFault
 took number = Ok number
@@ -13,3 +18,9 @@ disk_failed = Err pieces.DiskFault
 
 abbrev pub parts_as : List ℕ → Group → Option ℕ → Option ℕ → Parts
 parts_as text group first begins = record { text = text; group = group; first = first; begins = begins }
+
+-- all that is told of it stays, and nothing was written
+abbrev pub Remains : {D : Type 0} → Ghosts D → Holdings D → Holdings D → Type 0
+Remains d was is =
+    (contents_of is ≡ contents_of was) × (last_len is.journal ≡ last_len was.journal)
+    × (IsTrue d.tells → Rests d (disk_of was.journal) (disk_of is.journal)) × WritesNothing true (told_of d was) (told_of d is)
