@@ -108,10 +108,10 @@ pub first_stay : {D : Type 0} (d : Ghosts D) (told : Bool) (old new : D) (was no
     → KeepsCheckpoints (crash_of (muted told d) old) (crash_of (muted told d) new)
     → (IsTrue told → Leaves (d.images old) (FirstAreFinished was n)) → IsTrue told → Leaves (d.images new) (FirstAreFinished now n)
 first_stay d told old new was now n grows sealed kept first so image left k less =
-    let before = kept (cdxj_files image) (record { told = so; image = image; left = left; are = refl }) in
+    let before = kept (cdxj_files image) (so, image, left, refl) in
     has_later was now k image grows (omega (arith, less, sealed))
-    (has_still was k before.image image (same_checkpoint image before.image (sym before.are) k)
-    (omega (arith, same_count image before.image (sym before.are))) (first so before.image before.left k less))
+    (has_still was k before.1 image (same_checkpoint image before.1 (sym before.3) k)
+    (omega (arith, same_count image before.1 (sym before.3))) (first so before.1 before.2 k less))
 
 -- ---- a book that takes a capture
 

@@ -200,5 +200,5 @@ quiet_told {D} d told only old new quiet = by told only
       later = omega arith;
       moves = λ t x le o. absurd (false≢true o.0);
       covered = λ t le all so. absurd (false≢true so);
-      kept = λ files has. absurd (false≢true has.told);
+      kept = λ files has. absurd (false≢true has.0);
     }

@@ -28,13 +28,6 @@ pub record ImageStandsFor (image : Image) (book : Book) : Type 0 where
   pub for : StandsFor (warc_files image) book
   pub sound : IsSound book
 
--- what is told of the disk: a crash now may leave these files of checkpoints
-pub record MayHaveCheckpoints {D : Type 0} (tells : Bool) (d : Ghosts D) (disk : D) (files : List (List ℕ)) : Type 0 where
-  pub told : IsTrue tells
-  pub image : Image
-  pub left : d.images disk image
-  pub are : cdxj_files image ≡ files
-
 -- the files of the volumes are just the texts of the book, but for one empty file more
 abbrev pub HasJust : Image → Book → Type 0
 HasJust image book = (texts : List (List ℕ)) × AreVolumeTexts book texts × AreJust texts (warc_files image)

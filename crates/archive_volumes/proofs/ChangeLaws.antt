@@ -99,7 +99,7 @@ module _ {D : Type 0} (d : Ghosts D) (laws : DiskLaws d) where
     );
     covered = λ t le all told image left. all told image
         (⊎_elim (λ was. was) (λ none. absurd none) ((rests told).leaves.adds t image (omega (arith, le, moment_told d old told)) left));
-    kept = λ files has. record { told = has.told; image = has.image; left = (rests has.told).crash has.image has.left; are = has.are };
+    kept = λ files has. (has.0, has.1, (rests has.0).crash has.1 has.2, has.3);
   }
 
   pub near_stays : (old new : D) (book : Book) → Rests d old new → OpensNear d old book → OpensNear d new book
@@ -199,13 +199,13 @@ module _ {D : Type 0} (d : Ghosts D) (laws : DiskLaws d) where
     -- an image now has the checkpoints of one from before
     kept_on : KeepsCheckpoints (crash_of d old.disk) (crash_of d new.disk)
     kept_on files has =
-        let made = change has.told in ⊎_elim
-        (λ (was : d.images_since old.disk (d.moment old.disk) has.image).
-        record { told = has.told; image = has.image; left = laws.now_only old.disk has.image was; are = has.are })
-        (λ (left : IsLeft (d.images old.disk) (HoldEither (texts d old) texts_after) has.image).
-        record { told = has.told; image = left.before; left = left.was; are = sym left.others ∙ has.are })
-        (made.leaves.adds (d.moment old.disk) has.image (omega arith)
-        (laws.now_counts new.disk (d.moment old.disk) has.image made.leaves.later has.left))
+        let made = change has.0 in ⊎_elim
+        (λ (was : d.images_since old.disk (d.moment old.disk) has.1).
+        (has.0, has.1, laws.now_only old.disk has.1 was, has.3))
+        (λ (left : IsLeft (d.images old.disk) (HoldEither (texts d old) texts_after) has.1).
+        (has.0, left.before, left.was, sym left.others ∙ has.3))
+        (made.leaves.adds (d.moment old.disk) has.1 (omega arith)
+        (laws.now_counts new.disk (d.moment old.disk) has.1 made.leaves.later has.2))
 
     just_by : (r : Result T E) → (IsTrue d.tells → OnOk r ((image : Image) → d.images new.disk image → IsLeft (d.images old.disk) (AreJust texts_after) image))
         → OnOk r (LeavesJust d new.disk after)

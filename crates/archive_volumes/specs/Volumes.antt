@@ -8,11 +8,11 @@ use Rattle.disk_model.specs.declared.disk.Disk.{Ghosts}
 use Rattle.warc_journal.specs.Journals.{IsInStep, last_len, texts, volumes}
 use Rattle.warc_journal.specs.declared.journal.Journal.{Journal}
 use Rattle.warc_journal.specs.Texts.{AreJust}
-use Rattle.warc_journal.specs.Extents.{warc_files}
+use Rattle.warc_journal.specs.Extents.{warc_files, cdxj_files}
 use Rattle.warc_text.specs.Books.{AreVolumeTexts}
 use Rattle.warc_text.specs.Records.{info_text}
 use Rattle.warc_text.specs.Sound.{IsSound}
-use Rattle.archive_shelf.specs.Openings.{CrashStates, HasIds, ImageStandsFor, IsNext, IsState, Keeps, KeepsCheckpoints, LeavesNoMore, MayHaveCheckpoints, Moves, SameBook, StaysCovered}
+use Rattle.archive_shelf.specs.Openings.{CrashStates, HasIds, ImageStandsFor, IsNext, IsState, Keeps, KeepsCheckpoints, LeavesNoMore, Moves, SameBook, StaysCovered}
 use Rattle.archive_shelf.specs.Storing.{new_volume}
 use Rattle.archive_volumes.specs.Held.{HasSpace, volume_of}
 use Rattle.archive_volumes.specs.declared.room.Prepared.{Prepared}
@@ -61,7 +61,7 @@ crash_of d disk = record {
   moment = if d.tells then d.moment disk else 0;
   openings = λ t book. IsTrue d.tells × (image : Image) × d.images_since disk t image × ImageStandsFor image book;
   covered = λ t. IsTrue d.tells → (image : Image) → d.images_since disk t image → (book : Book) × ImageStandsFor image book;
-  checkpoints = λ files. MayHaveCheckpoints d.tells d disk files;
+  checkpoints = λ files. IsTrue d.tells × (image : Image) × d.images disk image × (cdxj_files image ≡ files);
 }
 
 -- where the disk tells, the files of the volumes are just the texts of the book in each image, but for one empty file more

@@ -103,7 +103,7 @@ module _ (disk : Device) (namespace : List ℕ) (limits : Limits) (start : State
       let right : AreRight start.book (cdxj_files (reading_of disk)) = right_files start.book (reading_of disk) starts.right in
       let tally = first_tally start (reading_of disk) in
       let same : (files : List (List ℕ)) → (told_of ghosts held).crash.checkpoints files → files ≡ cdxj_files (reading_of disk) =
-      (λ files left. sym left.are ∙ (known.lined refl).synced refl left.image left.left) in
+      (λ files left. sym left.3 ∙ (known.lined refl).synced refl left.1 left.2) in
       let tallied : IsTallied (told_of ghosts held).crash.checkpoints (sealed start.book) tally = record {
         missing = sealed start.book - start.settled;
         counted = count_files start.book (reading_of disk) (sealed start.book) (sealed start.book - start.settled) right starts.missing;

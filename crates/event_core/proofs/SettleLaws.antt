@@ -55,7 +55,7 @@ module _ {D : Type 0} (d : Ghosts D) (was is : Holdings D) (result : Result ℕ 
 
   -- the files that a crash might have left
   old_left : (image : Image) → d.images old_disk image → (told_of d was).crash.checkpoints (cdxj_files image)
-  old_left image now = record { told = told; image = image; left = now; are = refl }
+  old_left image now = (told, image, now, refl)
 
   old_right : (image : Image) → d.images old_disk image → AreRight s.book (cdxj_files image)
   old_right image now = stands.right (cdxj_files image) (old_left image now)
@@ -117,14 +117,14 @@ module _ {D : Type 0} (d : Ghosts D) (was is : Holdings D) (result : Result ℕ 
             (subst (λ (held : Holdings D). Keeps (told_of d was).crash (told_of d held).crash s.book) h.others keeps) stands.opens;
         shows = subst (λ (held : Holdings D). ShowsItsBook true (told_of d held)) h.others basis.shows;
         ids = stands.ids;
-        right = λ files left. subst (AreRight s.book) left.are (new_right left.image left.left);
+        right = λ files left. subst (AreRight s.book) left.3 (new_right left.1 left.2);
         tallied = tallied;
       })
 
   -- what is finished is of a sealed volume
   only_sealed : (files : List (List ℕ)) → (told_of d here).crash.checkpoints files → (k : ℕ) → HasFinished files k → k < sealed s.book
   only_sealed files left k has =
-      finished_sealed s.book files k (subst (AreRight s.book) left.are (new_right left.image left.left)) has
+      finished_sealed s.book files k (subst (AreRight s.book) left.3 (new_right left.1 left.2)) has
 
   -- refused
   pub settle_refused : (fault : CheckpointFault) → Answers limits namespace (told_of d is) s events.Settle (settle_reply (Err fault))
@@ -133,9 +133,9 @@ module _ {D : Type 0} (d : Ghosts D) (was is : Holdings D) (result : Result ℕ 
     stands = stands_with (open_tally (sealed s.book) s.tally)
         (open_tallied (told_of d was).crash.checkpoints (told_of d here).crash.checkpoints (sealed s.book) s.tally stands.tallied
         (λ files left k less has.
-        let by = supplied left.image left.left in
-        subst (λ (fs : List (List ℕ)). HasFinished fs k) left.are
-        (finished_stays left.image by k
+        let by = supplied left.1 left.2 in
+        subst (λ (fs : List (List ℕ)). HasFinished fs k) left.3
+        (finished_stays left.1 by k
         (stands.tallied.sure (cdxj_files by.0) (old_left by.0 by.1) k less has)
         (stands.tallied.sure (cdxj_files first) (old_left first first_now) k less has)))
         only_sealed);
@@ -158,11 +158,11 @@ module _ {D : Type 0} (d : Ghosts D) (was is : Holdings D) (result : Result ℕ 
         is = record s { tally = tally };
         stands = stands_with tally
             (settled_tallied (told_of d here).crash.checkpoints (sealed s.book) (cdxj_files (d.reading (disk_of is.journal)))
-            (record { told = told; image = d.reading (disk_of is.journal); left = basis.reads_new d_tells; are = refl })
+            (told, d.reading (disk_of is.journal), basis.reads_new d_tells, refl)
             (λ files left k less.
-            subst (λ (fs : List (List ℕ)). HasFinished fs k) left.are
-            (finished_of s.book left.image k
-            (subst (λ (b : Book). FirstAreFinished b (length b.volumes - 1) left.image) book (settles.images left.image left.left) k (omega (arith, less)))))
+            subst (λ (fs : List (List ℕ)). HasFinished fs k) left.3
+            (finished_of s.book left.1 k
+            (subst (λ (b : Book). FirstAreFinished b (length b.volumes - 1) left.1) book (settles.images left.1 left.2) k (omega (arith, less)))))
             only_sealed);
         steps = λ c may. (
           sealed s.book - n,

@@ -108,12 +108,12 @@ module _ {D : Type 0} (d : Ghosts D) (laws : DiskLaws d) (limits : Limits) (name
 
       -- the files that a crash leaves of it are some that it might have left before
       before : (files : List (List ℕ)) → (crash_of d disk).checkpoints files → (told_of d was).crash.checkpoints files
-      before files has = record {
-        told = stands.tells;
-        image = d.reading disk;
-        left = left;
-        are = sym (alone has.image has.left) ∙ has.are;
-      }
+      before files has = (
+        stands.tells,
+        d.reading disk,
+        left,
+        sym (alone has.1 has.2) ∙ has.3,
+      )
 
       abbrev opened_standing : Standing
       opened_standing = record { book = held.book; other = None; tally = s.tally }
@@ -156,7 +156,7 @@ module _ {D : Type 0} (d : Ghosts D) (laws : DiskLaws d) (limits : Limits) (name
         let holds = image_holds near (d.reading disk) left in
         let x = holds.0.book in
         let grown = next_in_namespace s.book x (holds.1 ∙ sym stands.in_namespace) (next_to x (opened_by x (d.reading disk) left holds.0.stands)) in
-        let right = stands.right (cdxj_files (d.reading disk)) (record { told = stands.tells; image = d.reading disk; left = left; are = refl }) in record {
+        let right = stands.right (cdxj_files (d.reading disk)) (stands.tells, d.reading disk, left, refl) in record {
           book = x;
           settled = record {
             stands = holds.0.stands;
@@ -382,7 +382,7 @@ module _ (limits : Limits) (namespace : List ℕ) (held : Holdings MemoryDisk) (
   pub fused_stands : (s : Standing) → Stands limits namespace (told_of ghosts held) s → Stands limits namespace (told_of ghosts (fused held calls)) s
   fused_stands s stands =
       stands_on limits namespace (told_of ghosts held) (told_of ghosts (fused held calls)) s stands refl (λ x o. inl (still_may x o))
-      (λ files has. record { told = has.told; image = has.image; left = has.left; are = has.are })
+      (λ files has. (has.0, has.1, has.2, has.3))
       (still_shows limits namespace (told_of ghosts held) (told_of ghosts (fused held calls)) refl (λ book x o. inl (still_may x o)) stands.shows)
 
   pub fused_goes : (is : Holdings MemoryDisk) → is ≡ fused held calls → (new : Told) (event : Event) (reply : Reply)

@@ -363,9 +363,9 @@ module _ {D G L P N M C O : Type 0} (kinds : Kinds D G L P N M C O) where
     -- the finished checkpoints are those of the last book, in each image that the connection leaves
     right_then : Leaves (kinds.disks.images (disk_of piped.after.journal)) (λ image. HasCheckpointsOf image piped.after.book)
     right_then image left =
-        let before = piped.goes_on.kept (cdxj_files image) (record { told = told_last; image = image; left = left; are = refl }) in
+        let before = piped.goes_on.kept (cdxj_files image) (told_last, image, left, refl) in
         checkpoints_later piped.before.book piped.after.book image piped.goes_on.grows
-        (same_checkpoints_of image before.image piped.before.book (sym before.are) (piped.opened.left told_first before.image before.left).checkpoints)
+        (same_checkpoints_of image before.1 piped.before.book (sym before.3) (piped.opened.left told_first before.1 before.2).checkpoints)
 
     right_last : KeepsSettled → Leaves (kinds.disks.images is.disk) (λ image. HasCheckpointsOf image piped.after.book)
     right_last stays = closed_right kinds.disks piped.closed stays tells told_last right_then

@@ -79,9 +79,9 @@ follows_left disks dialers sinks tells known laws asked site was is status held 
       closed = refl;
       near = λ told. near (stays ∙ told);
       right = λ told image now.
-          let before = f.goes_on.kept (cdxj_files image) (record { told = stays ∙ told; image = image; left = now; are = refl }) in
+          let before = f.goes_on.kept (cdxj_files image) (stays ∙ told, image, now, refl) in
           checkpoints_later held.book left.book image f.goes_on.grows
-          (same_checkpoints_of image before.image held.book (sym before.are) (are told before.image before.left).checkpoints);
+          (same_checkpoints_of image before.1 held.book (sym before.3) (are told before.1 before.2).checkpoints);
       covered = λ told t le all.
           let tells = (opened.is.whole told).told_is in
           covered_so disks (disk_of held.journal) (disk_of left.journal) held.told left.told tells (stays ∙ tells) f.goes_on.covered t

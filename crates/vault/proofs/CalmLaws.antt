@@ -98,10 +98,10 @@ module _ {D : Type 0} (d : Ghosts D) (laws : DiskLaws d) (history added after : 
 pub stays_right : {D : Type 0} (d : Ghosts D) (history added after : List Noted) (was is : Holdings D) → IsBegun history → after ≡ history ++ added
     → Grows was.book is.book → KeepsCheckpoints (told_of d was).crash (told_of d is).crash → StaysRight d history was → StaysRight d after is
 stays_right d history added after was is begun joined grows kept right sure told image left =
-    let before = kept (cdxj_files image) (record { told = told; image = image; left = left; are = refl }) in
+    let before = kept (cdxj_files image) (told, image, left, refl) in
     let so = subst (λ (s : Sure). IsTrue s.right) (sure_before history added after begun joined) sure in
     checkpoints_later was.book is.book image grows
-    (same_checkpoints_of image before.image was.book (sym before.are) (right so before.told before.image before.left))
+    (same_checkpoints_of image before.1 was.book (sym before.3) (right so before.0 before.1 before.2))
 
 -- behind one that only read
 pub read_right : {D : Type 0} (d : Ghosts D) (history added after : List Noted) (was is : Holdings D) → IsBegun history → after ≡ history ++ added
