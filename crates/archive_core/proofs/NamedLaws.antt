@@ -1,8 +1,7 @@
 -- What the entries of an archive tell is what is kept of its captures, and what is brought of them.
-use Rattle.std.proofs.Common.{◌≡◌, ℕ, ◌+◌, ◌<◌, List, [], ◌∷◌, ◌++◌, length, Option, Some, None, Ok, refl, sym, ap, subst, ◌∙◌, ⊎_elim, arith}
+use Rattle.std.proofs.Common.{◌≡◌, ℕ, ◌<◌, List, [], ◌∷◌, ◌++◌, length, Option, Some, None, Ok, refl, sym, ap, subst, ◌∙◌, ⊎_elim, arith}
 use Rattle.std.specs.Prelude.{Contains, IfSome, slice_get}
 use Rattle.std.proofs.lemmas.Option.{same_Some}
-use Rattle.capture.specs.Captures.{captures}
 use Rattle.capture.specs.declared.captured.Brought.{Brought}
 use Rattle.capture.specs.declared.captured.Stored.{Stored}
 use Rattle.cdxj_index.specs.Facts.{Facts}
@@ -95,8 +94,7 @@ module _ {D : Type 0} (d : Ghosts D) (held : Holdings D) (number : ℕ) (is : Is
   as_shown brought names own entry has at =
       let one = told_by entry has at in
       let its = is.spots.each number one.0 one.1 in
-      let same : its.stored ≡ names.stored = same_Some its.stored names.stored (sym its.placed ∙ names.placed) in
-      (
+      let same : its.stored ≡ names.stored = same_Some its.stored names.stored (sym its.placed ∙ names.placed) in (
         one.2.uri ∙ its.uri ∙ ap (λ (s : Stored). s.uri) same ∙ sym names.uri,
         one.2.date ∙ its.date ∙ ap (λ (s : Stored). s.date) same ∙ sym names.date,
         one.2.digest ∙ sym (own one.0 one.1),

@@ -55,7 +55,7 @@ use Rattle.archive_volumes.specs.declared.room.Prepared.{Prepared}
 use Rattle.archive_volumes.specs.declared.spot.Spot.{Spot}
 use Rattle.archive_volumes.specs.declared.volumes.Volumes.{Volumes}
 use Rattle.archive_core.specs.Basis.{StoringBasis}
-use Rattle.archive_core.specs.Holdings.{Holdings, IsArchive, contents_of}
+use Rattle.archive_core.specs.Holdings.{Holdings, IsArchive}
 use Rattle.archive_pieces.specs.PieceFaults.{is_take_fault}
 use Rattle.archive_pieces.specs.PieceParts.{book_by, room_by}
 use Rattle.archive_pieces.specs.PieceReady.{IsReadyGroup, IsWithinBounds, MakesRoom, MayHold, RefersSo, end_in}

@@ -4,7 +4,6 @@ ghost use Rattle.capture.specs.Captures.{captures};
 ghost use Rattle.warc_journal.specs.Journals.{disk_of, last_len};
 ghost use Rattle.warc_scan.specs.Groups.{IsGroup};
 ghost use Rattle.archive_shelf.specs.Answers.{CountsIf};
-ghost use Rattle.archive_core.specs.Holdings.{contents_of};
 ghost use Rattle.archive_pieces.specs.PieceFaults.{is_take_fault, store_fault_as};
 ghost use Rattle.archive_core.specs.Looking.{OnlyLooks};
 ghost use Rattle.archive_pieces.specs.PieceOriginals.{FindsOriginal, IsNextGroup};

@@ -1,15 +1,15 @@
 -- What was found of a payload, as a book grows.
-use Rattle.std.proofs.Common.{◌≡◌, ◌≢◌, ℕ, zero, suc, ◌+◌, ◌<◌, ◌≤◌, false, List, [], ◌∷◌, ◌++◌, length, Option, Some, None, refl, sym, ap, subst, ◌∙◌, inl, inr, ⊎_elim, arith, length-append}
+use Rattle.std.proofs.Common.{◌≡◌, ℕ, zero, suc, ◌<◌, ◌≤◌, false, List, [], ◌∷◌, ◌++◌, length, Option, Some, None, refl, sym, ap, subst, ◌∙◌, ⊎_elim, arith, length-append}
 use Rattle.std.specs.Prelude.{IfSome, slice_get}
 use Rattle.std.proofs.lemmas.Bool.{cases_lt}
-use Rattle.capture.specs.Captures.{captures, is_cut, IsPayloadBy, IsPayloadOf, KeepsPayload}
+use Rattle.capture.specs.Captures.{captures, is_cut, IsPayloadBy}
 use Rattle.capture.specs.GrowthLaws.{GrowthKeepsCaptures}
 use Rattle.capture.specs.Soundness.{HasSoundCaptures, IsSoundBy}
 use Rattle.capture.specs.declared.book.Book.{Book}
 use Rattle.capture.specs.declared.captured.Kept.{Kept}
 use Rattle.capture.specs.declared.captured.Kept.TheVariants.{Wire, Same, Cut}
 use Rattle.capture.specs.declared.captured.Stored.{Stored}
-use Rattle.archive_shelf.specs.Comparing.{RefersBy, HasWhole, IsRight, KeepsWire}
+use Rattle.archive_shelf.specs.Comparing.{RefersBy, HasWhole, KeepsWire}
 use Rattle.archive_shelf.specs.Laws.{FirstKeepsItsWire, IsOriginal, LookedStaysRight}
 
 -- what stands in a list stands there when the list goes on

@@ -1,41 +1,29 @@
 -- A sound book stays sound when it gains a volume, or a capture that fits.
-use Rattle.std.proofs.Common.{◌≡◌, ◌≢◌, ◌⊎◌, ℕ, zero, suc, ◌+◌, ◌-◌, ◌^◌, ◌<◌, ◌≤◌, Bool, true, false, List, [], ◌∷◌, ◌++◌, length, take, refl, sym, ap, subst, ◌∙◌, inl, inr, ⊎_elim, arith, append-nil, length-append}
-use Rattle.std.specs.Prelude.{All, IsTrue, Option, Some, None, Ok, slice_get, slice_index_or}
+use Rattle.std.proofs.Common.{◌≡◌, ◌≢◌, ◌⊎◌, ℕ, suc, ◌+◌, ◌-◌, ◌^◌, ◌<◌, ◌≤◌, List, [], ◌∷◌, ◌++◌, length, refl, sym, ap, subst, ◌∙◌, ⊎_elim, arith, append-nil, length-append}
+use Rattle.std.specs.Prelude.{All, Some, slice_get}
 use Rattle.std.proofs.lemmas.Bool.{cases_lt}
-use Rattle.std.proofs.lemmas.List.{get_or_push}
 use Rattle.std.proofs.lemmas.List.Elements.{All-append, All-cons, All-head, All-nil, All-tail}
 use Rattle.std.proofs.lemmas.Option.{same_Some, slice_get_within}
-use Rattle.httparse.proofs.GrammarLemmas.{response_unique}
-use Rattle.httparse.specs.Grammar.{ResponseHead, status_code}
-use Rattle.capture.specs.Body.{IsWire}
-use Rattle.capture.specs.Captures.{HasPayload, KeepsPayload, captures, captures_in, first_number, taken_back}
-use Rattle.capture.specs.Payload.{IsPayload}
-use Rattle.capture.specs.Soundness.{HasSoundCaptures, IsSoundBy, IsSoundCapture, IsSoundRevisit}
-use Rattle.capture.specs.WellFormed.{IsHeadBefore, IsResponseTo, RespondsTo}
+use Rattle.capture.specs.Captures.{KeepsPayload, captures, captures_in}
+use Rattle.capture.specs.Soundness.{IsSoundBy, IsSoundCapture}
 use Rattle.capture.specs.declared.book.Book.{Book}
 use Rattle.capture.specs.declared.book.Volume.{Volume}
 use Rattle.capture.specs.declared.captured.Kept.{Kept}
 use Rattle.capture.specs.declared.captured.Kept.TheVariants.{Wire, Same, Cut}
 use Rattle.capture.specs.declared.captured.Stored.{Stored}
-use Rattle.capture.specs.declared.captured.Taken.{Taken}
-use Rattle.capture.specs.declared.framing.Framing.{Framing}
-use Rattle.capture.specs.declared.framing.Framing.TheVariants.{Empty, Length, Chunked, ToEnd}
 use Rattle.time_text.specs.Texts.{InRange}
 use Rattle.warc_text.proofs.BookLaws.{get_behind}
-use Rattle.warc_text.specs.Books.{IsGroupText, IsVolumeText, joined}
-use Rattle.warc_text.specs.Fits.{Fits}
+use Rattle.warc_text.specs.Books.{IsVolumeText, joined}
 use Rattle.warc_text.specs.Growth.{LastVolumeGoesOn, NumbersHaveOneGroup, SealedVolumesStay, SoundVolumesHaveOneText}
-use Rattle.warc_text.specs.Lengths.{IsShort}
 use Rattle.warc_text.specs.Records.{info_text}
 use Rattle.warc_text.specs.Sound.{IsSound}
-use Rattle.archive_shelf.proofs.ComparingLaws.{first_keeps_its_wire, placed_before, placed_later}
-use Rattle.archive_shelf.proofs.GainingTexts.{last_placed, number_in_last, same_length, text_stays}
+use Rattle.archive_shelf.proofs.ComparingLaws.{placed_before, placed_later}
+use Rattle.archive_shelf.proofs.GainingTexts.{same_length, text_stays}
 use Rattle.archive_shelf.proofs.OneWayLaws.{one_text}
-use Rattle.archive_shelf.proofs.ShortTexts.{short_group, short_info}
+use Rattle.archive_shelf.proofs.ShortTexts.{short_info}
 use Rattle.archive_shelf.proofs.StoringLaws.{captures_more, captures_stay, capture_grows, kept_before}
-use Rattle.archive_shelf.specs.Comparing.{Finds, IsSameAs, RefersBy}
-use Rattle.archive_shelf.specs.Gaining.{AreFilled, StoringKeepsSoundness, VolumesKeepSoundness}
-use Rattle.archive_shelf.specs.Storing.{HasLast, HasRoom, NeedsVolume, Storing, add_to_last, as_stored, kept_of, new_volume, stored_by, with_capture, with_volume}
+use Rattle.archive_shelf.specs.Gaining.{VolumesKeepSoundness}
+use Rattle.archive_shelf.specs.Storing.{add_to_last, new_volume, with_capture, with_volume}
 
 -- ---- what is sound stays so when captures come behind
 

@@ -13,9 +13,9 @@ use Rattle.warc_text.specs.Books.{IsVolumeText, joined}
 use Rattle.warc_text.specs.Growth.{NumbersHaveOneGroup}
 use Rattle.warc_text.specs.Records.{info_text}
 use Rattle.archive_shelf.specs.Comparing.{RefersBy, IsSameAs}
-use Rattle.archive_shelf.specs.Laws.{CapturesAreStoredOneWay, IsOneWay, StoringLeavesNext}
-use Rattle.archive_shelf.specs.Openings.{IsNext, MayLeave, SameBook}
-use Rattle.archive_shelf.specs.Storing.{HasLast, NeedsVolume, Storing, as_stored, kept_of, stored_by, with_capture, with_volume}
+use Rattle.archive_shelf.specs.Laws.{CapturesAreStoredOneWay, StoringLeavesNext}
+use Rattle.archive_shelf.specs.Openings.{SameBook}
+use Rattle.archive_shelf.specs.Storing.{HasLast, NeedsVolume, as_stored, kept_of, stored_by, with_capture, with_volume}
 use Rattle.archive_shelf.proofs.StoringLaws.{IsUnfilled}
 
 -- one element at one place

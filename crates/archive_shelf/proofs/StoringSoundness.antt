@@ -1,6 +1,6 @@
 -- A sound book stays sound when a capture that fits is stored.
-use Rattle.std.proofs.Common.{◌≡◌, ◌≢◌, ◌⊎◌, ℕ, zero, suc, ◌+◌, ◌-◌, ◌^◌, ◌<◌, ◌≤◌, Bool, true, false, List, [], ◌∷◌, ◌++◌, length, refl, sym, ap, subst, ◌∙◌, inl, inr, ⊎_elim, arith, append-nil, length-append}
-use Rattle.std.specs.Prelude.{Option, Some, None, Ok, slice_get, slice_index_or}
+use Rattle.std.proofs.Common.{◌≡◌, ◌≢◌, ◌⊎◌, ℕ, suc, ◌+◌, ◌-◌, ◌^◌, ◌<◌, ◌≤◌, Bool, true, false, List, [], ◌∷◌, ◌++◌, length, refl, sym, ap, subst, ◌∙◌, inl, inr, ⊎_elim, arith, append-nil, length-append}
+use Rattle.std.specs.Prelude.{Option, Some, None, slice_get, slice_index_or}
 use Rattle.std.proofs.lemmas.Bool.{cases_lt}
 use Rattle.std.proofs.lemmas.Option.{same_Some, slice_get_within}
 use Rattle.httparse.proofs.GrammarLemmas.{response_unique}
@@ -8,12 +8,11 @@ use Rattle.httparse.specs.Grammar.{ResponseHead, status_code}
 use Rattle.capture.specs.Body.{IsWire}
 use Rattle.capture.specs.Captures.{HasPayload, captures, captures_in, first_number, kept_wire, taken_back}
 use Rattle.capture.specs.Payload.{IsPayload}
-use Rattle.capture.specs.Soundness.{IsSoundBy, IsSoundCapture, IsSoundRevisit}
+use Rattle.capture.specs.Soundness.{IsSoundBy}
 use Rattle.capture.specs.WellFormed.{IsHeadBefore, IsResponseTo, RespondsTo}
 use Rattle.capture.specs.declared.book.Book.{Book}
 use Rattle.capture.specs.declared.book.Volume.{Volume}
-use Rattle.capture.specs.declared.captured.Kept.{Kept}
-use Rattle.capture.specs.declared.captured.Kept.TheVariants.{Wire, Same, Cut}
+use Rattle.capture.specs.declared.captured.Kept.TheVariants.{Same}
 use Rattle.capture.specs.declared.captured.Stored.{Stored}
 use Rattle.capture.specs.declared.captured.Taken.{Taken}
 use Rattle.capture.specs.declared.framing.Framing.{Framing}
@@ -21,20 +20,19 @@ use Rattle.capture.specs.declared.framing.Framing.TheVariants.{Empty, Length, Ch
 use Rattle.time_text.specs.Texts.{InRange}
 use Rattle.warc_text.proofs.BookLaws.{get_behind}
 use Rattle.warc_text.specs.Books.{IsGroupText, IsVolumeText, joined}
-use Rattle.warc_text.specs.Fits.{Fits}
 use Rattle.warc_text.specs.Growth.{LastVolumeGoesOn, NumbersHaveOneGroup, SealedVolumesStay, SoundVolumesHaveOneText}
 use Rattle.warc_text.specs.Lengths.{IsShort}
 use Rattle.warc_text.specs.Records.{info_text}
 use Rattle.warc_text.specs.Sound.{IsSound}
 use Rattle.archive_shelf.proofs.ComparingLaws.{first_keeps_its_wire, placed_before}
 use Rattle.archive_shelf.proofs.GainingSoundness.{captures_keep_soundness, keeps_later, no_volumes, volumes_keep_soundness}
-use Rattle.archive_shelf.proofs.GainingTexts.{last_placed, number_in_last, same_length}
-use Rattle.archive_shelf.proofs.OneWayLaws.{last_volume, one_text}
+use Rattle.archive_shelf.proofs.GainingTexts.{last_placed, number_in_last}
+use Rattle.archive_shelf.proofs.OneWayLaws.{one_text}
 use Rattle.archive_shelf.proofs.ShortTexts.{short_group, short_info}
 use Rattle.archive_shelf.proofs.StoringLaws.{captures_more, captures_stay, IsUnfilled}
-use Rattle.archive_shelf.specs.Comparing.{RefersBy, IsSameAs}
+use Rattle.archive_shelf.specs.Comparing.{RefersBy}
 use Rattle.archive_shelf.specs.Gaining.{AreFilled, StoringKeepsSoundness}
-use Rattle.archive_shelf.specs.Storing.{HasLast, NeedsVolume, Storing, add_to_last, as_stored, kept_of, new_volume, stored_by, with_capture, with_volume}
+use Rattle.archive_shelf.specs.Storing.{HasLast, NeedsVolume, as_stored, kept_of, new_volume, with_capture, with_volume}
 
 -- ---- what is kept is sound
 

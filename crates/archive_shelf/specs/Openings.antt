@@ -1,12 +1,11 @@
 -- Which books an opening may give, at whatever moment a crash stops a call. All are relations: nothing of them is stored.
-use Rattle.std.specs.Prelude.{◌≡◌, ◌⊎◌, ℕ, ◌+◌, ◌≤◌, Bool, IsTrue, List, [], length, Option, Some, None}
+use Rattle.std.specs.Prelude.{◌≡◌, ◌⊎◌, ℕ, ◌+◌, ◌≤◌, List, [], length, Option, Some}
 use Rattle.capture.specs.Captures.{captures}
 use Rattle.capture.specs.declared.book.Book.{Book}
 use Rattle.capture.specs.declared.captured.Stored.{Stored}
 use Rattle.capture.specs.declared.captured.Taken.{Taken}
 use Rattle.disk_model.specs.Image.{Image}
-use Rattle.disk_model.specs.declared.disk.Disk.{Ghosts}
-use Rattle.warc_journal.specs.Extents.{cdxj_files, warc_files}
+use Rattle.warc_journal.specs.Extents.{warc_files}
 use Rattle.warc_journal.specs.Texts.{AreJust}
 use Rattle.warc_text.specs.Books.{AreVolumeTexts}
 use Rattle.warc_text.specs.Groups.{IdsDiffer}

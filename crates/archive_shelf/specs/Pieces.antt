@@ -1,5 +1,5 @@
 -- The piece of a capture: its group, and the warcinfo of its volume before it where it is the first of that.
-use Rattle.std.specs.Prelude.{◌≡◌, ◌≢◌, ◌⊎◌, ℕ, ◌<◌, ◌≤◌, IsTrue, List, [], ◌++◌, length, slice_get, Option, Some, Result, Ok, Err, ⊤, Contains}
+use Rattle.std.specs.Prelude.{◌≡◌, ◌⊎◌, ℕ, ◌<◌, ◌≤◌, IsTrue, List, [], ◌++◌, length, slice_get, Option, Some, Result, Ok, Err, ⊤, Contains}
 use Rattle.capture.specs.Captures.{captures, first_number}
 use Rattle.capture.specs.declared.book.Book.{Book}
 use Rattle.capture.specs.declared.book.Volume.{Volume}

@@ -147,8 +147,7 @@ module _ (book : Book) (number : ℕ) (spot : Spot) (is : IsSpotOf book number s
       has_same : WasRead book number → HasDigestOf book number keeper.digest
       has_same read =
           let kept : HasDigestOf book first keeper.digest =
-          has_own book first keeper its (keeper_keeps book number spot is first form keeper its) (keeper_asked read) in
-          (
+          has_own book first keeper its (keeper_keeps book number spot is first form keeper its) (keeper_asked read) in (
             kept.0,
             record {
               stored = is.stored;

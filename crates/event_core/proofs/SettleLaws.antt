@@ -8,7 +8,7 @@ use Rattle.disk_model.specs.Image.{Image}
 use Rattle.disk_model.specs.declared.disk.Disk.{Ghosts}
 use Rattle.warc_journal.specs.Extents.{cdxj_files}
 use Rattle.warc_journal.specs.Journals.{disk_of}
-use Rattle.checkpoint.specs.Checkpoints.{IsCheckpoint, checkpoint_of}
+use Rattle.checkpoint.specs.Checkpoints.{IsCheckpoint}
 use Rattle.checkpoint.specs.OfVolume.{VolumesHaveOneListOfLines}
 use Rattle.checkpoint.specs.declared.fault.CheckpointFault.{CheckpointFault}
 use Rattle.archive_shelf.specs.Openings.{IsEarlier, Keeps}

@@ -2,7 +2,7 @@
 use Rattle.std.proofs.Common.{ℕ, Option, sym, subst}
 use Rattle.std.specs.Prelude.{length, ◌<◌}
 use Rattle.capture.specs.Captures.{captures}
-use Rattle.archive_core.specs.Holdings.{Holdings, contents_of}
+use Rattle.archive_core.specs.Holdings.{Holdings}
 use Rattle.archive_core.proofs.AfterLaws.{fault_exit, stores_after}
 use Rattle.archive_volumes.proofs.ChangeLaws.{DiskLaws}
 use Rattle.archive_volumes.proofs.SinceLaws.{since_exit}

@@ -4,7 +4,7 @@ use Rattle.std.specs.Prelude.{length, ◌<◌}
 use Rattle.capture.specs.Captures.{captures}
 use Rattle.capture.specs.Payload.{IsPayload}
 use Rattle.archive_shelf.specs.declared.looked.Looked.{Looked}
-use Rattle.archive_core.specs.Holdings.{Holdings, contents_of}
+use Rattle.archive_core.specs.Holdings.{Holdings}
 use Rattle.archive_core.proofs.AfterLaws.{fault_exit, full_exit, stores_after}
 use Rattle.archive_volumes.proofs.ChangeLaws.{DiskLaws}
 use Rattle.archive_core.proofs.ExitLaws.{memory_exit}
