@@ -36,7 +36,7 @@ use Rattle.archive_opening.proofs.FrontLaws.{last_with_more}
 use Rattle.archive_opening.proofs.SealedLaws.{sum_at_least, sum_with_last, with_last}
 use Rattle.archive_opening.proofs.SkipLaws.{file_is, rest_is_drop}
 use Rattle.archive_opening.proofs.TellLaws.{last_long, length_texts}
-use Rattle.archive_opening.specs.Counting.{AreCounted, CountsOn, CountsTo, CountsUpTo, GroupStands, HasCountOf, HasCountsOf, HasInfo, HasItsLines, InfoEndsAt, IsSoundRest, IsUntold, Reaches, StandsUpTo, last_counted}
+use Rattle.archive_opening.specs.Counting.{AreCounted, CountsOn, CountsTo, CountsUpTo, GroupStands, HasCountOf, HasCountsOf, HasInfo, HasItsLines, InfoEndsAt, IsSoundRest, IsUntold, LastEndsAt, Reaches, StandsUpTo, last_counted}
 use Rattle.archive_opening.specs.Telling.{GoesWith, HasBegunOne, HasTakenOne, Shapes, sealed_in, step_of}
 use Rattle.archive_opening.specs.declared.gathered.Gathered.{Gathered}
 
@@ -335,6 +335,12 @@ module _ {D : Type 0} (d : Ghosts D) (known : Option Book) (old new : Scanning D
         ∙ ap (λ (n : ℕ). drop n (get_or texts k [] ++ holds.rest)) (sym (end_is k at_end)) ∙ drop-append_seam (get_or texts k []) holds.rest in
         subst (IsRest commit_byte) (sym same) holds.unfinished
 
+    pub last_end : LastEndsAt image book (position_of new).extent.end
+    last_end k last =
+        subst (λ (n : ℕ). StandsUpTo k book.namespace (length (captures_in (sealed_in book.volumes))) (file_of image Warc k)
+        (length (captures book) - length (captures_in (sealed_in book.volumes))) n) (sym (ap (λ (p : Position). p.extent.end) ends.position))
+        (groups_so_far k last (ends.not_skipped tells))
+
     abbrev by_number : List Volume → ℕ → Bool
     by_number volumes k = nat_eq (suc k) (length volumes)
 
@@ -382,4 +388,6 @@ module _ {D : Type 0} (d : Ghosts D) (known : Option Book) (old new : Scanning D
   pub counts_by : (found : Found) (more : Bool) → Finds d old new found → Shapes was is found more → CountsTo image (position_of new) (book_of is.held) (step_of found)
   counts_by (Info volume namespace born) more one shapes = counts_info volume namespace born one (shapes.1 (one.number ∙ goes.volumes))
   counts_by (Group place read) more on shapes = counts_group place read.group on shapes.1
-  counts_by End more ends shapes = subst (λ (g : Gathered). HasCountsOf image (book_of g.held)) (sym shapes.1) (counts_end ends)
+  counts_by End more ends shapes =
+      subst (λ (g : Gathered). HasCountsOf image (book_of g.held) × LastEndsAt image (book_of g.held) (position_of new).extent.end) (sym shapes.1)
+      (counts_end ends, last_end ends)

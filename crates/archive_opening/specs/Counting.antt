@@ -117,6 +117,12 @@ pub record SameCounts (a b : Book) : Type 0 where
 abbrev pub BytesHaveOneCount : Type 0
 BytesHaveOneCount = (image : Image) (a b : Book) → HasCountsOf image a → HasCountsOf image b → SameCounts a b
 
+-- The groups of the last volume end at this place of its file: as many as the book has captures in it, behind its warcinfo.
+abbrev pub LastEndsAt : Image → Book → ℕ → Type 0
+LastEndsAt image book end = (k : ℕ) → k + 1 ≡ length book.volumes
+    → StandsUpTo k book.namespace (length (captures_in (sealed_in book.volumes))) (file_of image Warc k)
+    (length (captures book) - length (captures_in (sealed_in book.volumes))) end
+
 -- ---- while it reads
 
 -- so it is with each of the first volumes, behind which another one stands
@@ -163,8 +169,8 @@ CountsOn image position book = CountsUpTo image position book × IsReadOn image 
 abbrev pub CountsTo : Image → Position → Book → Step → Type 0
 CountsTo image position book (steps.Begun volume) = CountsUpTo image position book
 CountsTo image position book steps.More = CountsOn image position book
-CountsTo image position book steps.End = HasCountsOf image book
+CountsTo image position book steps.End = HasCountsOf image book × LastEndsAt image book position.extent.end
 
 abbrev pub CountsOnTo : Image → Position → Book → Bool → Type 0
 CountsOnTo image position book true = CountsOn image position book
-CountsOnTo image position book false = HasCountsOf image book
+CountsOnTo image position book false = HasCountsOf image book × LastEndsAt image book position.extent.end

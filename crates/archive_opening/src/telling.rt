@@ -3,14 +3,14 @@
 ghost use Rattle.std.specs.Prelude.{◌≡◌, ◌+◌, ◌<◌, ◌≤◌, ◌^◌, ⊤, IfErr, IfNone, IfOk, IfSome, IsTrue, None, OnOk, Option, length};
 ghost use Rattle.capture.specs.declared.book.Book.{Book as BookValue};
 ghost use Rattle.warc_journal.specs.Extents.{warc_files};
-ghost use Rattle.warc_journal.specs.Journals.{Rests, disk_of as disk_of_journal};
+ghost use Rattle.warc_journal.specs.Journals.{Rests, disk_of as disk_of_journal, last_len};
 ghost use Rattle.volume_scan.specs.Scannings.{IsInPlace, disk_of, file_count, files_in, position_of};
 ghost use Rattle.volume_scan.specs.declared.position.Stage.TheVariants.{Done as IsDone};
 ghost use Rattle.disk_model.specs.Image as images;
 ghost use Rattle.checkpoint.specs.Checkpoints.{AreLinesFor, IsCheckpoint, checkpoint_of};
 ghost use Rattle.checkpoint.specs.Reading.{IsNoCheckpoint};
 ghost use Rattle.warc_text.specs.Ids.{IsUuid};
-ghost use Rattle.archive_opening.specs.Counting.{CountsOn, CountsOnTo, CountsTo, CountsUpTo, HasCountsOf};
+ghost use Rattle.archive_opening.specs.Counting.{CountsOn, CountsOnTo, CountsTo, CountsUpTo, HasCountsOf, LastEndsAt};
 ghost use Rattle.archive_opening.specs.Lines.{FitsVolume, IsReadOf};
 ghost use Rattle.archive_opening.specs.Gathering.{HasAll, IsOpened, IsSteady, left};
 ghost use Rattle.archive_volumes.specs.Held.{book_of};
@@ -301,6 +301,7 @@ fn read_each<D: Disk>(
     requires goes { GoesWith D.Disk known.now.value scanning.old gathered.old }
     requires counts { IsTrue D.tells → CountsOn (D.reading (disk_of scanning.old)) (position_of scanning.old) (book_of gathered.old.held) }
     ensures counts { IsTrue D.tells → OnOk result (HasCountsOf (D.reading (disk_of scanning.new)) (book_of gathered.new.held)) }
+    ensures ends { IsTrue D.tells → OnOk result (LastEndsAt (D.reading (disk_of scanning.new)) (book_of gathered.new.held) (position_of scanning.new).extent.end) }
     ensures all { OnOk result (HasAllOf D.Disk known.now.value scanning.new gathered.new) }
     ensures done { OnOk result ((position_of scanning.new).stage ≡ IsDone) }
     ensures steady { OnOk result (IsSteady gathered.new) }
@@ -333,7 +334,9 @@ fn finish<D: Disk>(
     requires steady { IsSteady gathered }
     requires asked_for { IfSome known.now.value (IsAskedFor asked.now) }
     requires counts { IsTrue D.tells → HasCountsOf (D.reading (disk_of scanning)) (book_of gathered.held) }
+    requires ends { IsTrue D.tells → LastEndsAt (D.reading (disk_of scanning)) (book_of gathered.held) (position_of scanning).extent.end }
     ensures counts { IsTrue D.tells → IfOk result (λ opened. HasCountsOf (D.reading (disk_of scanning)) (book_of opened.gathered.held)) }
+    ensures ends { IsTrue D.tells → IfOk result (λ opened. LastEndsAt (D.reading (disk_of scanning)) (book_of opened.gathered.held) (last_len opened.journal)) }
     ensures opened { IfOk result (IsOpenedBy D.Disk (disk_of scanning) asked.now known.now.value) }
     ensures refused { IfErr result (λ refused. IsKnownRefusal known.now.value refused.0) }
     ensures whole { HasAll D.Disk scanning gathered → IfOk result (IsOpened D.Disk (disk_of scanning) asked.now) }
@@ -379,6 +382,7 @@ pub fn open_by_checkpoints<D: Disk>(
     requires known { MayBeSettled D.Disk disk asked.now known.now.value }
     ensures opened { IfOk result (IsOpenedBy D.Disk disk asked.now (known_to D.tells known.now.value)) }
     ensures counts { IsTrue D.tells → IfOk result (λ opened. HasCountsOf (D.reading disk) (book_of opened.gathered.held)) }
+    ensures ends { IsTrue D.tells → IfOk result (λ opened. LastEndsAt (D.reading disk) (book_of opened.gathered.held) (last_len opened.journal)) }
     ensures refused { IfErr result (λ refused. IsKnownRefusal (known_to D.tells known.now.value) refused.0) }
     ensures whole { IsTrue D.tells → IsReadWhole (D.reading disk) → IfOk result (IsOpened D.Disk disk asked.now) }
     ensures damage { IsTrue D.tells → IsReadWhole (D.reading disk) → IfErr result (λ refused. IsDamageIn (warc_files (D.reading disk)) refused.0) }

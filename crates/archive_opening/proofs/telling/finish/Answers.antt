@@ -6,6 +6,7 @@ use Rattle.warc_journal.specs.declared.extent.Extent.{Extent}
 use Rattle.archive_opening.proofs.BeginLaws.{no_texts}
 use Rattle.archive_opening.proofs.EndLaws.{opened_empty, opened_told, other_isnt_known, some_volumes_told}
 use Rattle.volume_scan.specs.Scannings.{disk_of}
+use Rattle.archive_opening.specs.Counting.{LastEndsAt}
 use Rattle.archive_opening.proofs.LinedLaws.{counts_none}
 use Rattle.archive_opening.proofs.OpenedLaws.{cause_other, opened_by}
 use Rattle.archive_opening.proofs.WholeLaws.{short_whole}
@@ -90,3 +91,13 @@ returns-then-last_len-ge-TEXT_BOUND-clause-borne_out g c = λ tells.
     let long : 2 ^ 62 ≤ last_len c.finish-journal.result = search rules in
     long_borne_out (g.D.Disk.reading (disk_of c.args.scanning)) book file c.damaged.result c.damaged.ensures (c.requires.counts tells) (omega (arith, some, count))
     (long_file g.D.Disk c.args.scanning c.requires.in_place tells file (omega (arith, some, count, c.requires.all.goes.volumes)) (omega (arith, long, ap (λ (e : Extent). e.end) extent)))
+
+pub returns-in-None-clause-ends : goal.returns-in-None-clause-ends
+returns-in-None-clause-ends g c = λ told.
+    subst (λ (e : Extent). LastEndsAt (g.D.Disk.reading (disk_of c.args.scanning)) (book_of c.args.gathered.held) e.end) (sym c.finish-journal.ensures.extent)
+    (c.requires.ends told)
+
+pub returns-then-volumes-eq0-clause-ends : goal.returns-then-volumes-eq0-clause-ends
+returns-then-volumes-eq0-clause-ends g c = λ told k last.
+    let none : length (book_of c.in_namespace.result.held).volumes ≡ 0 = sym (c.in_namespace.ensures.gathered None).read.are.count in
+    absurd (omega (arith, last, none))

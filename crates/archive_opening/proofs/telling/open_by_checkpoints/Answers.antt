@@ -4,7 +4,8 @@ use Rattle.capture.specs.declared.book.Book.{Book}
 use Rattle.disk_model.specs.Image.{Image}
 use Rattle.volume_scan.specs.Scannings.{disk_of, position_of}
 use Rattle.archive_volumes.specs.Held.{book_of}
-use Rattle.archive_opening.specs.Counting.{HasCountsOf}
+use Rattle.archive_opening.specs.Counting.{HasCountsOf, LastEndsAt}
+use Rattle.warc_journal.specs.Journals.{last_len}
 use Rattle.archive_opening.proofs.LinedLaws.{counts_first}
 use Rattle.warc_journal.specs.Extents.{warc_files}
 use Rattle.archive_opening.specs.Opening.{IsDamageIn, IsOtherIn, IsReadRefusal}
@@ -33,6 +34,12 @@ returns-in-Ok-read_each-clause-counts g c = λ tells.
     let d = g.D.Disk in
     let rests = rests_on d c.args.disk (disk_of c.in-Ok.scanning) (disk_of c.read_each.new.scanning) (c.in-Ok.ensures.rests tells) (c.read_each.ensures.rests tells) in
     subst (λ (i : Image). IfOk c.finish.result (λ opened. HasCountsOf i (book_of opened.gathered.held))) rests.read (c.finish.ensures.counts tells)
+
+pub returns-in-Ok-read_each-clause-ends : goal.returns-in-Ok-read_each-clause-ends
+returns-in-Ok-read_each-clause-ends g c = λ tells.
+    let d = g.D.Disk in
+    let rests = rests_on d c.args.disk (disk_of c.in-Ok.scanning) (disk_of c.read_each.new.scanning) (c.in-Ok.ensures.rests tells) (c.read_each.ensures.rests tells) in
+    subst (λ (i : Image). IfOk c.finish.result (λ opened. LastEndsAt i (book_of opened.gathered.held) (last_len opened.journal))) rests.read (c.finish.ensures.ends tells)
 
 pub finish-requires-clause-asked_for : goal.finish-requires-clause-asked_for
 finish-requires-clause-asked_for g c =

@@ -42,8 +42,13 @@ returns-clause-whole g c = λ reads.
 
 pub returns-clause-counts : goal.returns-clause-counts
 returns-clause-counts g c = λ told.
-    subst (CountsOnTo (g.D.Disk.reading (disk_of c.read_next.new.scanning)) (position_of c.read_next.new.scanning) (book_of c.read_next.new.gathered.held)) c.if-branch.false
-    (c.in_ok-read_next.ensures.counts told)
+    (subst (CountsOnTo (g.D.Disk.reading (disk_of c.read_next.new.scanning)) (position_of c.read_next.new.scanning) (book_of c.read_next.new.gathered.held)) c.if-branch.false
+    (c.in_ok-read_next.ensures.counts told)).0
+
+pub returns-clause-ends : goal.returns-clause-ends
+returns-clause-ends g c = λ told.
+    (subst (CountsOnTo (g.D.Disk.reading (disk_of c.read_next.new.scanning)) (position_of c.read_next.new.scanning) (book_of c.read_next.new.gathered.held)) c.if-branch.false
+    (c.in_ok-read_next.ensures.counts told)).1
 
 pub returns-in_err-read_next-clause-borne_out : goal.returns-in_err-read_next-clause-borne_out
 returns-in_err-read_next-clause-borne_out g c = λ tells.

@@ -23,6 +23,11 @@ returns-in-Ok-More-clause-counts g c = λ told.
     let counts = rw c.in-Ok-More.field-0-is at c.in-Ok-More.ensures.counts in
     counts told
 
+pub returns-in-Ok-End-clause-counts : goal.returns-in-Ok-End-clause-counts
+returns-in-Ok-End-clause-counts g c = λ told.
+    let counts = rw c.in-Ok-End.field-0-is at c.in-Ok-End.ensures.counts in
+    counts told
+
 pub returns-in-Err-tell_volume-clause-borne_out : goal.returns-in-Err-tell_volume-clause-borne_out
 returns-in-Err-tell_volume-clause-borne_out g c = λ tells.
     outside_borne_out (g.D.Disk.reading (disk_of c.args.scanning.now)) c.in-Err-tell_volume.fault c.in-Err-tell_volume.ensures.outside
