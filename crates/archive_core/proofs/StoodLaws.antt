@@ -1,16 +1,18 @@
 -- What stood finished in an archive's volumes stays through each call.
-use Rattle.std.proofs.Common.{◌≡◌, ◌⊎◌, ℕ, ◌+◌, ◌<◌, ◌≤◌, Bool, true, false, IsTrue, List, [], length, Option, None, Result, Ok, Err, OnOk, OnErr, refl, sym, ap, subst, ◌∙◌, ⊎_elim, arith}
+use Rattle.std.proofs.Common.{◌≡◌, ◌⊎◌, ℕ, ◌+◌, ◌-◌, ◌<◌, ◌≤◌, Bool, true, false, IsTrue, List, [], length, Option, None, Result, Ok, Err, OnOk, OnErr, refl, sym, ap, subst, ◌∙◌, ⊎_elim, arith}
 use Rattle.std.specs.Prelude.{IfOk, slice_index_or}
 use Rattle.std.proofs.lemmas.Bool.{cases_lt}
 use Rattle.std.proofs.lemmas.List.{append-nil}
+use Rattle.capture.specs.Captures.{captures, captures_in}
 use Rattle.capture.specs.declared.captured.Taken.{Taken}
 use Rattle.capture.specs.declared.limits.Limits.{Limits}
 use Rattle.disk_model.specs.Crash.{Leaves}
-use Rattle.disk_model.specs.Image.{Image}
+use Rattle.disk_model.specs.Image.{Image, file_of}
+use Rattle.disk_model.specs.declared.kind.Kind.TheVariants.{Warc}
 use Rattle.disk_model.specs.Moments.{AddsOnly}
 use Rattle.disk_model.specs.declared.disk.Disk.{Ghosts}
 use Rattle.warc_journal.specs.Extents.{texts_in, warc_files}
-use Rattle.warc_journal.specs.Journals.{IsLeft, Rests, disk_of, extent_of, texts}
+use Rattle.warc_journal.specs.Journals.{IsLeft, Rests, disk_of, extent_of, last_len, texts}
 use Rattle.warc_journal.specs.Texts.{Hold, with_more}
 use Rattle.warc_journal.specs.declared.extent.Extent.{Extent}
 use Rattle.warc_journal.specs.declared.journal.Journal.{Journal}
@@ -23,13 +25,14 @@ use Rattle.archive_shelf.specs.declared.fault.StoreFault.TheVariants as stores
 use Rattle.archive_shelf.specs.declared.receipt.Receipt.{Receipt}
 use Rattle.archive_volumes.proofs.ChangeLaws.{DiskLaws}
 use Rattle.archive_volumes.proofs.KeepLaws.{texts_go_more}
-use Rattle.archive_volumes.proofs.RoomLaws.{texts_count}
+use Rattle.archive_volumes.proofs.RoomLaws.{last_long, texts_count}
 use Rattle.archive_volumes.proofs.SpotLaws.{GoOn}
 use Rattle.archive_volumes.proofs.VolumeLaws.{texts_rest}
 use Rattle.archive_volumes.specs.Held.{book_of}
 use Rattle.archive_volumes.specs.Written.{HoldOneOf, WritesTexts, texts_as}
-use Rattle.archive_opening.specs.Counting.{HasCountsOf}
+use Rattle.archive_opening.specs.Counting.{HasCountsOf, LastEndsAt, StandsUpTo}
 use Rattle.archive_opening.specs.Gathering.{IsUsable}
+use Rattle.archive_opening.specs.Telling.{sealed_in}
 use Rattle.archive_opening.specs.declared.opening.Opened.{Opened}
 use Rattle.archive_core.specs.Holdings.{Holdings}
 use Rattle.archive_core.specs.Looking.{OnlyLooks}
@@ -181,9 +184,9 @@ module _ {D : Type 0} (d : Ghosts D) (laws : DiskLaws d) where
 
   -- and so it does where an archive is made of what was opened
   pub keeps_on : (disk : D) (told : Bool) (opened : Opened D) → IsTrue d.tells → IsUsable d told opened → Rests d disk (disk_of opened.journal)
-      → HasCountsOf (d.reading disk) (book_of opened.gathered.held) → d.images (disk_of opened.journal) (d.reading (disk_of opened.journal))
+      → HasCountsOf (d.reading disk) (book_of opened.gathered.held) → LastEndsAt (d.reading disk) (book_of opened.gathered.held) (last_len opened.journal) → d.images (disk_of opened.journal) (d.reading (disk_of opened.journal))
       → KeepsOn d disk opened.journal
-  keeps_on disk told opened tells usable rests counts now = record {
+  keeps_on disk told opened tells usable rests counts ends now = record {
     stood = standing_on d opened.journal;
     on = record {
       begun = disk_of opened.journal;
@@ -194,6 +197,14 @@ module _ {D : Type 0} (d : Ghosts D) (laws : DiskLaws d) where
       count = texts_count d opened.journal (usable.in_step tells) ∙ usable.measured.count;
       held = subst (λ (i : Image). Hold (texts d opened.journal) (warc_files i)) rests.read
           (usable.left tells (d.reading (disk_of opened.journal)) now);
+      ends = λ k last.
+          let step = usable.in_step tells in
+          let long : length (slice_index_or (texts d opened.journal) (length (texts d opened.journal) - 1) []) ≡ last_len opened.journal =
+          ap (λ (n : ℕ). length (slice_index_or (texts d opened.journal) (n - 1) [])) (texts_count d opened.journal step)
+          ∙ last_long d opened.journal step (omega (arith, last, usable.measured.count)) in
+          subst (λ (n : ℕ). StandsUpTo k (book_of opened.gathered.held).namespace (length (captures_in (sealed_in (book_of opened.gathered.held).volumes)))
+          (file_of (d.reading disk) Warc k)
+          (length (captures (book_of opened.gathered.held)) - length (captures_in (sealed_in (book_of opened.gathered.held).volumes))) n) (sym long) (ends k last);
     };
     keeps = keeps_opened opened.journal (usable.left tells);
   }

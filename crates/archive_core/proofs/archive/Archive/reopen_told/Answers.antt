@@ -58,4 +58,4 @@ pub returns-in-Ok-clause-stood : goal.returns-in-Ok-clause-stood
 returns-in-Ok-clause-stood g c =
     keeps_made g.D.Disk (disk_laws g) c.args.disk c.in-Ok.opened c.args.limits _ c.archive_of.result c.archive_of.ensures.made
     (λ tells. keeps_on g.D.Disk (disk_laws g) c.args.disk _ c.in-Ok.opened tells c.in-Ok.ensures.opened.usable (c.in-Ok.ensures.opened.rests tells)
-    (c.in-Ok.ensures.counts tells) (g.met.D.Disk.reading_is_image (disk_of c.in-Ok.opened.journal) tells))
+    (c.in-Ok.ensures.counts tells) (c.in-Ok.ensures.ends tells) (g.met.D.Disk.reading_is_image (disk_of c.in-Ok.opened.journal) tells))
