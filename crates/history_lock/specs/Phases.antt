@@ -3,7 +3,7 @@ use Rattle.std.specs.Prelude.{◌≡◌, ℕ, ◌%◌, ◌^◌, List, [], ◌∷
 use Rattle.atomic_table.specs.Table.{Me}
 use Rattle.atomic_table.specs.Seated.{TableId}
 use Rattle.atomic_table.specs.declared.shared.Seat.{Seat}
-use Rattle.history_lock.specs.Seen.{All, Shows}
+use Rattle.history_lock.specs.Seen.{All, Shows, Adds}
 use Rattle.history_lock.specs.declared.view.View.{View}
 use Rattle.history_lock.specs.declared.view.Stage.TheVariants.{Idle, Holds}
 
@@ -46,14 +46,20 @@ pub record HasNoted {T E : Type 0} (list : T → List E) (by : E → ℕ) (v w :
   pub left : HasLeft list by 0 w
   pub rest_is : w ≡ (record v.0 { seen = w.0.seen }, v.1)
 
--- The turn of this ticket can end: the value in hand has the list that was seen
-pub record IsDone {T E : Type 0} (list : T → List E) (ticket : ℕ) (w : Me (Option T) (View E)) : Type 0 where
+-- The seat has the turn of this ticket, and the value in hand has the list that was seen
+pub record HoldsSeen {T E : Type 0} (list : T → List E) (ticket : ℕ) (w : Me (Option T) (View E)) : Type 0 where
   pub count : ℕ
   pub value : T
   pub ticket_is : ticket ≡ count % 2 ^ 64
   pub holds : w.0.stage ≡ Holds count
   pub hand : w.1 ≡ (0, Some value) ∷ []
   pub seen_is : w.0.seen ≡ list value
+
+-- Work was done for the pass of this number at the value in hand. The list is seen that it left, and nothing else of the view has changed
+pub record Worked {T E : Type 0} (list : T → List E) (by : E → ℕ) (number : ℕ) (v w : Me (Option T) (View E)) (does : List E → Type 0) : Type 0 where
+  pub holds : (ticket : ℕ) → HoldsSeen list ticket v → HoldsSeen list ticket w
+  pub rest_is : w.0 ≡ record v.0 { seen = w.0.seen }
+  pub adds : Adds by number v.0.seen w.0.seen does
 
 -- the view of the seat that makes the others, when it has made so many
 abbrev pub maker : {E : Type 0} → List E → ℕ → ℕ → View E

@@ -9,7 +9,7 @@ use crate::doors::make_doors;
 use crate::key::{Board, Desk, ENTRIES, Key, Place, SERVING, VALUE};
 use crate::pass::{Pass, take_seat};
 use crate::plays::{Fill, Merges, Opens, Settle};
-use crate::steps::{enter, give, leave_empty, note_all, pass_on, take};
+use crate::steps::{enter, give, leave_empty, pass_on, take, work_at};
 use crate::told::{Told, Work};
 use atomic_table::Table;
 use std::alloc::Global;
@@ -112,12 +112,7 @@ impl<T: Told> HistoryLock<T> {
         let Pass { badge, number } = pass;
         let mut seat = take_seat(badge);
         let ticket = enter(rt, desk, doors, &mut seat);
-        let mut value = take(desk, &mut seat);
-        let found = value.told();
-        let reply = work.act(*number, &mut value);
-        let count = value.told() - found;
-        give(desk, &mut seat, value);
-        note_all(desk, &mut seat, count);
+        let reply = work_at(desk, &mut seat, *number, work);
         pass_on(desk, doors, &mut seat, ticket);
         *badge = seat.into_badge();
         reply

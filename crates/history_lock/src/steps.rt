@@ -1,13 +1,13 @@
 //! The steps of a turn.
-ghost use Rattle.std.specs.Prelude.{◌≡◌, ◌<◌, true, ◌∷◌, [], length, Some, None};
+ghost use Rattle.std.specs.Prelude.{◌≡◌, ◌<◌, ℕ, true, ◌∷◌, [], drop, length, Some, None};
 ghost use Rattle.history_lock.specs.Rule.{has_turn, number_of};
-ghost use Rattle.history_lock.specs.Phases.{IsTable, IsSame, Entered, HasLeft, HasNoted, IsDone};
+ghost use Rattle.history_lock.specs.Phases.{IsTable, IsSame, Entered, HasLeft, HasNoted, HoldsSeen, Worked};
 ghost use Rattle.history_lock.specs.declared.view.Stage.TheVariants.{Idle, Empty};
 
 use crate::doors::door_of;
 use crate::key::{Desk, ENTRIES, Place, SERVING, TICKET, VALUE};
 use crate::plays::{Draw, LeaveEmpty, Look, Note, PassOn};
-use crate::told::Told;
+use crate::told::{Told, Work};
 use std::hint;
 use std::sync::Wait;
 use std::thread::Parker;
@@ -75,6 +75,29 @@ pub(crate) fn give<T: Told>(desk: &Desk<T, T::Entry>, seat: &mut Place<T, T::Ent
     let None = left else { unreachable!() };
 }
 
+/// Does the work at the value in hand, for the pass of this number, and notes the entries that it added.
+pub(crate) fn work_at<T: Told, W: Work<T>>(
+    desk: &Desk<T, T::Entry>,
+    seat: &mut Place<T, T::Entry>,
+    number: u32,
+    work: W,
+) -> W::Reply
+    requires table { IsTable desk.now.table_id × (seat.old.table_id ≡ desk.now.table_id) }
+    requires holds { (ticket : ℕ) × HoldsSeen T.list ticket seat.old.me }
+    requires numbered { seat.old.me.0.numbers ≡ number ∷ drop 1 seat.old.me.0.numbers }
+    requires ready { W.ready work seat.old.me.0.seen }
+    ensures same { IsSame seat.old seat.new }
+    ensures worked { Worked T.list T.by number seat.old.me seat.new.me (λ added. W.does work number seat.old.me.0.seen added result) }
+{
+    let mut value = take(desk, seat);
+    let found = value.told();
+    let reply = work.act(number, &mut value);
+    let count = value.told() - found;
+    give(desk, seat, value);
+    note_all(desk, seat, count);
+    reply
+}
+
 /// Notes so many entries of the value in hand.
 pub(crate) fn note_all<T: Told>(desk: &Desk<T, T::Entry>, seat: &mut Place<T, T::Entry>, count: u64)
     requires table { IsTable desk.now.table_id × (seat.old.table_id ≡ desk.now.table_id) }
@@ -98,7 +121,7 @@ pub(crate) fn pass_on<T: Told>(
 )
     requires doors { 0 < length doors.now }
     requires table { IsTable desk.now.table_id × (seat.old.table_id ≡ desk.now.table_id) }
-    requires done { IsDone T.list ticket seat.old.me }
+    requires holds { HoldsSeen T.list ticket seat.old.me }
     ensures same { IsSame seat.old seat.new }
     ensures rests { seat.new.me ≡ (record seat.old.me.0 { stage = Idle }, []) }
 {
