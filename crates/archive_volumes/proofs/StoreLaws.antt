@@ -1,5 +1,5 @@
 -- What a store leaves to be opened, by where it ends.
-use Rattle.std.proofs.Common.{◌≡◌, ℕ, ◌≤◌, IsTrue, [], ◌∷◌, length, length-append, Some, None, Result, Ok, Err, OnErr, IsErr, is_ok, if◌then◌else◌, refl, sym, ap, subst, ◌∙◌, inl, inr, ⊎_elim, arith}
+use Rattle.std.proofs.Common.{◌≡◌, ◌⊎◌, ℕ, ◌≤◌, IsTrue, [], ◌∷◌, length, length-append, Some, None, Result, Ok, Err, OnErr, OnOk, IsErr, is_ok, if◌then◌else◌, refl, sym, ap, subst, ◌∙◌, inl, inr, ⊎_elim, arith}
 use Rattle.std.proofs.lemmas.Bool.{false≢true}
 use Rattle.capture.specs.Captures.{captures}
 use Rattle.capture.specs.declared.book.Book.{Book}
@@ -18,6 +18,16 @@ use Rattle.archive_volumes.specs.Volumes.{IsQuiet, Makes, crash_of}
 pub stays_refused : {T E : Type 0} (result : Result T E) (now before after : Book) → now ≡ (if is_ok result then after else before) → OnErr result (now ≡ before)
 stays_refused (Ok v) now before after is = tt
 stays_refused (Err e) now before after is = is
+
+-- what is there once a call is done, and what where it is refused: what was there, or what it made ready first
+pub done_is : {A T E : Type 0} (result : Result T E) (now before after : A) → now ≡ (if is_ok result then after else before) → OnOk result (now ≡ after)
+done_is (Ok v) now before after is = is
+done_is (Err e) now before after is = tt
+
+pub left_ready : {A T E : Type 0} (result : Result T E) (now was before after : A) → now ≡ (if is_ok result then after else before)
+    → OnErr result ((now ≡ was) ⊎ (now ≡ before))
+left_ready (Ok v) now was before after is = tt
+left_ready (Err e) now was before after is = inr is
 
 module _ {D : Type 0} (d : Ghosts D) (laws : DiskLaws d) where
   -- ---- quiet calls
