@@ -1,5 +1,6 @@
 -- The group of a capture that is kept, as the disk has it, and its piece.
-use Rattle.std.specs.Prelude.{◌≡◌, ℕ, suc, ◌+◌, ◌≤◌, Bool, IsTrue, List, ◌++◌, length, slice_get, Some, Result, Ok, Err, ⊤}
+use Rattle.std.specs.Prelude.{◌≡◌, ℕ, suc, ◌+◌, ◌≤◌, Bool, IsTrue, List, ◌++◌, length, slice_get, Option, Some, None, Result, Ok, Err, if◌then◌else◌, ⊤}
+use Rattle.std.specs.Str.{bytes_eq}
 use Rattle.sha1.specs.Sha1.{sha1}
 use Rattle.capture.specs.declared.book.Book.{Book}
 use Rattle.warc_scan.specs.Groups.{IsGroup}
@@ -63,6 +64,11 @@ pub record IsGroupOf (book : Book) (number : ℕ) (bytes : List ℕ) (outline : 
 abbrev pub IsKeptGroup : Book → ℕ → KeptGroup → Type 0
 IsKeptGroup book number (kept.Right bytes outline) = IsGroupOf book number bytes outline
 IsKeptGroup book number kept.Damaged = ⊥
+
+-- the bytes of a group that tells this digest; or the digest that it tells, and none where there is no group
+abbrev pub bytes_by : List ℕ → KeptGroup → Result (List ℕ) (Option (List ℕ))
+bytes_by digest (kept.Right bytes outline) = if bytes_eq outline.digest digest then Ok bytes else Err (Some outline.digest)
+bytes_by digest kept.Damaged = Err None
 
 -- the group with what stands before it in the piece of its capture
 pub record HasFront (book : Book) (number : ℕ) (group bytes : List ℕ) : Type 0 where

@@ -1,12 +1,13 @@
 //! The piece of a capture: its group, with the warcinfo of its volume before it where it is the first of that.
-ghost use Rattle.std.specs.Prelude.{◌≡◌, ◌<◌, ℕ, IfOk, IsFalse, IsTrue, Some, length, slice_get};
+ghost use Rattle.std.specs.Prelude.{◌≡◌, ◌<◌, ℕ, if◌then◌else◌, IfOk, IsFalse, IsTrue, Ok, Err, Some, length, slice_get};
+ghost use Rattle.std.specs.Str.{bytes_eq};
 ghost use Rattle.warc_journal.specs.Journals.{disk_of, texts};
 ghost use Rattle.archive_shelf.specs.Answers.{CountsIf, is_bring_fault};
 ghost use Rattle.archive_shelf.specs.Digests.{PieceGoesByDigest};
 ghost use Rattle.archive_shelf.specs.Pieces.{IsFirstOf};
 ghost use Rattle.archive_volumes.specs.Bringing.{OnlyReads};
 ghost use Rattle.archive_volumes.specs.Held.{book_of};
-ghost use Rattle.archive_volumes.specs.KeptGroups.{GivesPieceFrom, HasFront, PieceGoesByKept};
+ghost use Rattle.archive_volumes.specs.KeptGroups.{GivesPieceFrom, HasFront, PieceGoesByKept, bytes_by};
 ghost use Rattle.archive_volumes.specs.Spots.{AreSpotsOf, ArePlaced, AreWithin};
 ghost use Rattle.archive_volumes.specs.Volumes.{HoldsBook, IsMeasured};
 ghost use Rattle.archive_volumes.specs.declared.spot.Spot.{Spot};
@@ -16,10 +17,11 @@ use crate::kept_group::{KeptGroup, volume_at};
 use crate::spot::Spot;
 use crate::volumes::Volumes;
 use archive_shelf::BringFault;
-use capture::{Bytes, Memory};
+use capture::{Bytes, Digest, Memory};
 use disk_model::Disk;
 use shown::Shown;
 use std::alloc::Global;
+use warc_scan::Outline;
 use warc_text::{info_len, put_info};
 
 /// Whether the capture with this number is the first of its volume.
@@ -35,6 +37,34 @@ fn is_first(spots: &[Spot], number: u32) -> bool
     let before = volume_at(spots, number as usize - 1);
     let own = volume_at(spots, number as usize);
     before != own
+}
+
+/// The digest that is told. The rest is let go.
+fn digest_of(outline: Outline) -> Digest
+    ensures { result ≡ outline.digest }
+{
+    outline.digest
+}
+
+/// These bytes, where the digest that they tell is the one that is kept; or the one that they tell.
+fn bytes_with(kept: &Digest, found: Digest, bytes: Bytes) -> Result<Bytes, Option<Digest>>
+    ensures { result ≡ (if bytes_eq found kept.now then Ok bytes else Err (Some found)) }
+{
+    if found == *kept {
+        Ok(bytes)
+    } else {
+        Err(Some(found))
+    }
+}
+
+/// The bytes of a group that tells the digest which is kept; or the digest that it tells, and none where there is no group.
+fn right_bytes(kept: &Digest, read: KeptGroup) -> Result<Bytes, Option<Digest>>
+    ensures { result ≡ bytes_by kept.now read }
+{
+    match read {
+        KeptGroup::Right { bytes, outline } => bytes_with(kept, digest_of(outline), bytes),
+        KeptGroup::Damaged => Err(None),
+    }
 }
 
 impl<D: Disk> Volumes<D> {
@@ -82,24 +112,13 @@ impl<D: Disk> Volumes<D> {
         ensures faults { CountsIf (is_bring_fault result) (D.faults (disk_of self.old.journal)) (D.faults (disk_of self.new.journal)) }
     {
         let read = self.read_group(told, alloc, spots, number)?;
-        let kept = spots[number as usize].digest;
-        match read {
-            KeptGroup::Right { bytes, outline } => {
-                let found = outline.digest;
-                if found != kept {
-                    return Err(BringFault::Damaged {
-                        number,
-                        kept,
-                        found: Some(found),
-                    });
-                }
-                let piece = self.with_front(alloc, spots, number, bytes)?;
-                Ok(piece)
-            }
-            KeptGroup::Damaged => Err(BringFault::Damaged {
+        let spot = &spots[number as usize];
+        match right_bytes(&spot.digest, read) {
+            Ok(group) => Ok(self.with_front(alloc, spots, number, group)?),
+            Err(found) => Err(BringFault::Damaged {
                 number,
-                kept,
-                found: None,
+                kept: spot.digest,
+                found,
             }),
         }
     }
